@@ -1,0 +1,4 @@
+pub mod Fronts
+pub mod LoopCases
+pub mod Candidates
+pub mod Bounds

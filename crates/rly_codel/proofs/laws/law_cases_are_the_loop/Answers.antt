@@ -1,0 +1,5 @@
+use Rattle.rly_codel.proofs.LoopCases.{dequeue_by_loop-cases}
+use Rattle.rly_codel.proofs.laws.law_cases_are_the_loop.Goals as goal
+
+pub returns : goal.returns
+returns g c = dequeue_by_loop-cases _ _ _ _

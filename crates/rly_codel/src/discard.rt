@@ -1,0 +1,178 @@
+ghost use Rattle.std.specs.Prelude.{◌≡◌, ◌+◌, ◌^◌, ◌<◌, ◌≤◌, ◌↔◌, length, All, HoldsAt, IsTrue, max, drop};
+ghost use Rattle.rly_core.specs.Limits.{IsWithinLimits};
+ghost use Rattle.rly_codel.specs.Cases.{dequeue_of};
+ghost use Rattle.rly_codel.specs.Loop.{dequeue_by_loop, dodequeue, drop_loop, drop_turn, enter_dropping, is_below};
+
+use crate::lane::Lane;
+use crate::state::{CodelState, Verdict};
+use rly_core::Params;
+use rly_law::step;
+
+/// Decides how many items at the front of the lane are dropped at `now`, a moment of the lane's
+/// clock, and whether the one behind them is delivered (RFC 8289 section 5, `dequeue`).
+pub fn dequeue<L: Lane>(state: &mut CodelState, lane: &L, now: u64, params: &Params) -> Verdict
+    requires params { IsWithinLimits params.now }
+    requires now { now < 2 ^ 52 }
+    requires stamps { All (λ item. item.stamp ≤ now) (L.waiting lane.now) }
+    requires first_above_time { state.old.first_above_time < 2 ^ 53 }
+    requires drop_next { state.old.drop_next < 2 ^ 53 }
+    requires lastcount { state.old.lastcount ≤ state.old.count }
+    requires count { state.old.count + length (L.waiting lane.now) < 2 ^ 63 }
+
+    ensures state { state.new ≡ (dequeue_of params.now now (L.waiting lane.now) state.old).state }
+    ensures dropped { result.dropped
+        ≡ (dequeue_of params.now now (L.waiting lane.now) state.old).dropped }
+    ensures delivered { IsTrue result.delivered ↔ (result.dropped < length (L.waiting lane.now)) }
+
+    // A lane that isn't empty always delivers.
+    ensures last_is_delivered { 0 < length (L.waiting lane.now)
+        → result.dropped < length (L.waiting lane.now) }
+    ensures empty { length (L.waiting lane.now) ≡ 0 → result.dropped ≡ 0 }
+
+    // What the next call needs.
+    ensures first_above_time { state.new.first_above_time
+        ≤ max state.old.first_above_time (now + params.now.interval) }
+    ensures drop_next { state.new.drop_next ≤ max state.old.drop_next (now + params.now.interval) }
+    ensures lastcount { state.new.lastcount ≤ state.new.count }
+    ensures count { state.new.count ≤ state.old.count + result.dropped }
+{
+    let dropped = drop_from_front(state, lane, now, params);
+    Verdict {
+        dropped,
+        delivered: dropped < lane.count(),
+    }
+}
+
+/// Goes along the candidates as the RFC does, and says how many it drops.
+fn drop_from_front<L: Lane>(state: &mut CodelState, lane: &L, now: u64, params: &Params) -> usize
+    requires params { IsWithinLimits params.now }
+    requires now { now < 2 ^ 52 }
+    requires stamps { All (λ item. item.stamp ≤ now) (L.waiting lane.now) }
+    requires first_above_time { state.old.first_above_time < 2 ^ 53 }
+    requires drop_next { state.old.drop_next < 2 ^ 53 }
+    requires lastcount { state.old.lastcount ≤ state.old.count }
+    requires count { state.old.count + length (L.waiting lane.now) < 2 ^ 63 }
+    ensures state { state.new
+        ≡ (dequeue_by_loop params.now now (L.waiting lane.now) state.old).state }
+    ensures dropped { result
+        ≡ (dequeue_by_loop params.now now (L.waiting lane.now) state.old).dropped }
+{
+    let was_dropping = state.dropping;
+    let ok_to_drop = look_at(state, lane, 0, now, params);
+    if was_dropping {
+        state.dropping = ok_to_drop;
+        drop_while_due(state, lane, now, params)
+    } else if ok_to_drop {
+        enter_phase(state, lane, now, params);
+        1
+    } else {
+        0
+    }
+}
+
+/// Whether the candidate at `index`, those before it being gone, may be dropped (RFC 8289
+/// section 5, `dodequeue`). It keeps `first_above_time`.
+fn look_at<L: Lane>(
+    state: &mut CodelState,
+    lane: &L,
+    index: usize,
+    now: u64,
+    params: &Params,
+) -> bool
+    requires params { IsWithinLimits params.now }
+    requires now { now < 2 ^ 52 }
+    requires stamps { All (λ item. item.stamp ≤ now) (L.waiting lane.now) }
+    requires index { index ≤ length (L.waiting lane.now) }
+    ensures ok_to_drop { result
+        ≡ (dodequeue params.now now (drop index (L.waiting lane.now)) state.old).ok_to_drop }
+    ensures state { state.new
+        ≡ (dodequeue params.now now (drop index (L.waiting lane.now)) state.old).state }
+    ensures keeps { state.new ≡ record state.old { first_above_time = state.new.first_above_time } }
+    ensures is_there { IsTrue result → index < length (L.waiting lane.now) }
+{
+    if index == lane.count() {
+        state.first_above_time = 0;
+        return false;
+    }
+    if is_below_target(lane, index, now, params) {
+        state.first_above_time = 0;
+        false
+    } else if state.first_above_time == 0 {
+        state.first_above_time = now + params.interval;
+        false
+    } else {
+        now >= state.first_above_time
+    }
+}
+
+/// Whether an item has waited for less than target, or has too little behind it to be dropped.
+fn is_below_target<L: Lane>(lane: &L, index: usize, now: u64, params: &Params) -> bool
+    requires stamps { All (λ item. item.stamp ≤ now) (L.waiting lane.now) }
+    requires index { index < length (L.waiting lane.now) }
+    ensures { HoldsAt
+        (λ item. result ≡ is_below params.now now item (drop (index + 1) (L.waiting lane.now)))
+        (L.waiting lane.now) index }
+{
+    let sojourn_time = now - lane.stamp(index);
+    sojourn_time < params.target || lane.bytes_behind(index) <= params.maxpacket
+}
+
+/// Drops what is due in a phase, and says how many items that is. The candidate at the front has
+/// been looked at, and may be dropped where the phase is on.
+fn drop_while_due<L: Lane>(state: &mut CodelState, lane: &L, now: u64, params: &Params) -> usize
+    requires params { IsWithinLimits params.now }
+    requires now { now < 2 ^ 52 }
+    requires stamps { All (λ item. item.stamp ≤ now) (L.waiting lane.now) }
+    requires count { state.old.count + length (L.waiting lane.now) < 2 ^ 63 }
+    requires candidate { IsTrue state.old.dropping → 0 < length (L.waiting lane.now) }
+    ensures state { state.new ≡ (drop_loop params.now now (L.waiting lane.now) state.old).state }
+    ensures dropped { result ≡ (drop_loop params.now now (L.waiting lane.now) state.old).dropped }
+{
+    let mut dropped: usize = 0;
+    while state.dropping && now >= state.drop_next {
+        dropped += 1;
+        count_drop(state, lane, dropped, now, params);
+    }
+    dropped
+}
+
+/// Counts one drop of a phase and looks at the candidate at `next`, behind the item that is
+/// dropped: where it may be dropped the next drop time is set, and else the phase ends.
+fn count_drop<L: Lane>(state: &mut CodelState, lane: &L, next: usize, now: u64, params: &Params)
+    requires params { IsWithinLimits params.now }
+    requires now { now < 2 ^ 52 }
+    requires stamps { All (λ item. item.stamp ≤ now) (L.waiting lane.now) }
+    requires next { next ≤ length (L.waiting lane.now) }
+    requires drop_next { state.old.drop_next ≤ now }
+    requires count { state.old.count < 2 ^ 63 }
+    ensures state { state.new ≡ drop_turn params.now now (drop next (L.waiting lane.now)) state.old }
+    ensures count { state.new.count ≡ state.old.count + 1 }
+    ensures is_there { IsTrue state.new.dropping → next < length (L.waiting lane.now) }
+{
+    state.count += 1;
+    if look_at(state, lane, next, now, params) {
+        state.drop_next += step(params.interval, state.count);
+    } else {
+        state.dropping = false;
+    }
+}
+
+/// Drops the candidate at the front, and begins a phase with the count that the last one came to,
+/// where that was above 1 and is not 16 intervals ago.
+fn enter_phase<L: Lane>(state: &mut CodelState, lane: &L, now: u64, params: &Params)
+    requires params { IsWithinLimits params.now }
+    requires now { now < 2 ^ 52 }
+    requires stamps { All (λ item. item.stamp ≤ now) (L.waiting lane.now) }
+    requires drop_next { state.old.drop_next < 2 ^ 53 }
+    requires lastcount { state.old.lastcount ≤ state.old.count }
+    requires candidate { 0 < length (L.waiting lane.now) }
+    ensures { state.new ≡ enter_dropping params.now now (drop 1 (L.waiting lane.now)) state.old }
+{
+    look_at(state, lane, 1, now, params);
+    let delta = state.count - state.lastcount;
+    let is_recent = now < state.drop_next + 16 * params.interval;
+    state.dropping = true;
+    state.count = if delta > 1 && is_recent { delta } else { 1 };
+    state.drop_next = now + step(params.interval, state.count);
+    state.lastcount = state.count;
+}

@@ -1,0 +1,58 @@
+//! The limits of the specification, each with its unit (`docs/COMMANDS.md`, "Limits").
+
+/// The most hops of a spool.
+pub const MAX_HOPS: u64 = 64;
+
+/// The most peers of a spool.
+pub const MAX_PEERS: u64 = 64;
+
+/// The longest payload, in bytes.
+pub const MAX_PAYLOAD: u64 = 1_200;
+
+/// The most datagrams in flight for one hop.
+pub const MAX_WINDOW: u64 = 64;
+
+/// The most calls in one round of a journal.
+pub const MAX_ROUND: u64 = 64;
+
+/// The most live datagrams of a spool.
+pub const MAX_ITEMS: u64 = 16_384;
+
+/// The most live payload bytes of a spool.
+pub const MAX_BYTES: u64 = 16_777_216;
+
+/// The fewest segments of a device.
+pub const MIN_SEGMENTS: u64 = 2;
+
+/// The most segments of a device.
+pub const MAX_SEGMENTS: u64 = 256;
+
+/// Every segment is shorter than this, in bytes.
+pub const SEGMENT_LENGTH_LIMIT: u64 = 2_147_483_648;
+
+/// The longest interval of CoDel, in microseconds: one hour.
+pub const MAX_INTERVAL: u64 = 3_600_000_000;
+
+/// The greatest `maxpacket` of CoDel, in bytes.
+pub const MAX_MAXPACKET: u64 = 65_535;
+
+/// Every moment is below this, in microseconds: 2 to the power of 52.
+pub const MOMENT_LIMIT: u64 = 4_503_599_627_370_496;
+
+/// The most accepted commands in the life of a spool: 2 to the power of 48, less 1.
+pub const MAX_SEQ: u64 = 281_474_976_710_655;
+
+/// The most seats of a submission line.
+pub const MAX_SEATS: u64 = 256;
+
+/// The most calls that wait in a submission line.
+pub const MAX_CAPACITY: u64 = 256;
+
+/// The most contacts of one hop.
+pub const MAX_CONTACTS: u64 = 4_096;
+
+/// The longest command line, in bytes without its newline.
+pub const MAX_LINE: u64 = 4_096;
+
+/// Fewer messages than this pass through one line between threads: 2 to the power of 61.
+pub const MESSAGE_LIMIT: u64 = 2_305_843_009_213_693_952;
