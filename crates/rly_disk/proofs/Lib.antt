@@ -1,0 +1,9 @@
+-- Composition and Ranges are for the proofs of the crates above.
+pub mod Composition
+mod Crashed
+mod MemSteps
+pub mod Overwritten
+pub mod Ranges
+mod RecordLemmas
+mod Steps
+mod TwoRanges

@@ -1,0 +1,6 @@
+use Rattle.std.proofs.Common.{take}
+use Rattle.rly_disk.specs.Record.{IsFilled}
+use Rattle.rly_disk.proofs.record.fill.Given as goal
+
+abbrev pub invariant-loop-event : goal.invariant-loop-event
+invariant-loop-event l = IsFilled (take l.event-index l.events) l.byte l.fn.bytes l.bytes

@@ -1,0 +1,114 @@
+// The record of a disk in memory: its writes and syncs, each write with the bytes that it replaced.
+ghost use Rattle.std.specs.Prelude.{◌≡◌, ◌≤◌, ◌+◌, ◌∷◌, [], ◌++◌, min, length, drop, slice_range, IsTrue, OnOk, OnErr};
+ghost use Rattle.std.specs.List.{list_all};
+ghost use Rattle.rly_disk.specs.DiskModel.{overwritten};
+ghost use Rattle.rly_disk.specs.Record.{covers, covered, is_within, put_len, before_but, IsFilled};
+ghost use Rattle.rly_disk.specs.declared.record.Event.TheVariants.{Written, Synced};
+
+use std::alloc::{AllocError, Global};
+
+/// What was done to a disk in memory.
+#[derive(Debug, Drop)]
+pub enum Event {
+    /// These bytes stood at the place before the write.
+    Written { place: usize, replaced: Vec<u8> },
+    Synced,
+}
+
+impl Event {
+    /// How many bytes it wrote.
+    fn len(&self) -> usize
+        ensures { result ≡ put_len self.now }
+    {
+        match self {
+            Event::Written { replaced, .. } => replaced.len(),
+            Event::Synced => 0,
+        }
+    }
+
+    fn covers(&self, at: usize) -> bool
+        ensures { result ≡ covers self.now at }
+    {
+        match self {
+            Event::Written { place, replaced } => *place <= at && at - *place < replaced.len(),
+            Event::Synced => false,
+        }
+    }
+
+    // Puts back what it replaced, but for the first bytes, so many of which are kept.
+    fn undo(&self, bytes: &mut [u8], kept: u64)
+        requires { IsTrue (is_within (length bytes.old) self.now) }
+        ensures { bytes.new ≡ before_but kept (self.now ∷ []) bytes.old }
+    {
+        if let Event::Written { place, replaced } = self {
+            let kept = kept.min(replaced.len() as u64) as usize;
+            bytes[*place + kept..*place + replaced.len()].copy_from_slice(&replaced[kept..]);
+        }
+    }
+
+    fn fill(&self, bytes: &mut [u8], byte: u8)
+        requires { IsTrue (is_within (length bytes.old) self.now) }
+        ensures { IsFilled (self.now ∷ []) byte bytes.old bytes.new }
+    {
+        if let Event::Written { place, replaced } = self {
+            bytes[*place..*place + replaced.len()].fill(byte);
+        }
+    }
+}
+
+/// Undoes the writes, the last one first, but for the first bytes that they put, so many of which are kept.
+pub fn restore(bytes: &mut [u8], events: &[Event], kept: u64)
+    requires { IsTrue (list_all (is_within (length bytes.old)) events.now) }
+    ensures { bytes.new ≡ before_but kept events.now bytes.old }
+{
+    if let [first, rest @ ..] = events {
+        restore(bytes, rest, kept.saturating_sub(first.len() as u64));
+        first.undo(bytes, kept);
+    }
+}
+
+/// Writes this byte over each byte that the events wrote.
+pub fn fill(bytes: &mut [u8], events: &[Event], byte: u8)
+    requires { IsTrue (list_all (is_within (length bytes.old)) events.now) }
+    ensures { IsFilled events.now byte bytes.old bytes.new }
+{
+    for event in events {
+        event.fill(bytes, byte);
+    }
+}
+
+/// Whether one of the events wrote the byte at this place.
+pub fn covered(events: &[Event], at: usize) -> bool
+    ensures { result ≡ covered events.now at }
+{
+    events.iter().any(|event| event.covers(at))
+}
+
+/// Writes bytes at a place. The write is recorded before it is made, and isn't made where the record can't grow.
+pub fn write(
+    alloc: Global,
+    events: &mut Vec<Event>,
+    bytes: &mut Vec<u8>,
+    place: usize,
+    new: &[u8],
+) -> Result<(), AllocError>
+    requires { place + length new.now ≤ length bytes.old.items }
+    ensures ok { OnOk result ((v : _) × (v.items ≡ slice_range bytes.old.items place (place + length new.now)) × (events.new.items ≡ events.old.items ++ Written place v ∷ [])) }
+    ensures written { OnOk result (bytes.new.items ≡ overwritten place new.now bytes.old.items) }
+    ensures err { OnErr result (events.new.items ≡ events.old.items) }
+    ensures unwritten { OnErr result (bytes.new.items ≡ bytes.old.items) }
+{
+    let replaced = bytes[place..place + new.len()].to_vec(alloc)?;
+    events.push(Event::Written { place, replaced })?;
+    bytes[place..place + new.len()].copy_from_slice(new);
+    Ok(())
+}
+
+/// Records a sync.
+pub fn record_sync(events: &mut Vec<Event>) -> Result<(), AllocError>
+    ensures ok { OnOk result (events.new.items ≡ events.old.items ++ Synced ∷ []) }
+    ensures err { OnErr result (events.new.items ≡ events.old.items) }
+{
+    events.push(Event::Synced)?;
+    Ok(())
+}

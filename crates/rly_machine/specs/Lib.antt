@@ -1,0 +1,12 @@
+pub mod State
+pub mod Accepted
+pub mod Take
+pub mod Pick
+pub mod Release
+pub mod Step
+pub mod Query
+pub mod Ask
+pub mod Fold
+pub mod Sound
+pub mod Kept
+pub mod Map

@@ -1,0 +1,62 @@
+-- Pick: CoDel drops what is due, and the item behind goes into flight.
+use Rattle.std.specs.Prelude.{ℕ, ◌+◌, ◌^◌, List, [], ◌∷◌, ◌++◌, length, map, take, drop, nat_le, ◌==◌, not, ◌&&◌, max, Bool, if◌then◌else◌, Option, Some, None}
+use Rattle.rly_core.specs.declared.ids.HopId.{HopId}
+use Rattle.rly_core.specs.declared.params.Params.{Params}
+use Rattle.rly_core.specs.declared.refusal.Refusal.TheVariants.{NoSuchHop, BadMoment, WindowFull, Empty, Spent}
+use Rattle.rly_codel.specs.Cases.{Outcome, dequeue_of}
+use Rattle.rly_codel.specs.Waiting.{Waiting}
+use Rattle.rly_machine.specs.declared.hop.Item.{Item}
+use Rattle.rly_machine.specs.declared.reply.Reply.{Reply}
+use Rattle.rly_machine.specs.declared.reply.Reply.TheVariants.{Picked, Nothing, Refused}
+use Rattle.rly_machine.specs.State.{State, HopState, has_hop, hop_at, next_number}
+use Rattle.rly_machine.specs.Accepted.{accept, max_seq, unless}
+
+-- what CoDel sees of a queue
+abbrev pub waiting_of : {P : Type 0} → (P → ℕ) → List (Item P) → List Waiting
+waiting_of len queue = map (λ item. record { stamp = item.stamp; bytes = len item.payload }) queue
+
+-- whether there is nothing that a pick would change: no item waits, and CoDel is idle
+abbrev pub is_idle : {P : Type 0} → HopState P → Bool
+is_idle h = (length h.queue == 0) && ((h.codel.first_above_time == 0) && not h.codel.dropping)
+
+-- the checks of Pick
+abbrev pub pick_refusal : {P : Type 0} → State P → HopId → ℕ → Option Reply
+pick_refusal s hop now =
+    if not (has_hop s hop) then Some (Refused NoSuchHop)
+    else if nat_le (2 ^ 52) now then Some (Refused BadMoment)
+    else if nat_le s.params.window (length (hop_at s hop).flight) then Some (Refused WindowFull)
+    else if is_idle (hop_at s hop) then Some (Refused Empty)
+    else if nat_le max_seq s.seq then Some (Refused Spent)
+    else None
+
+-- what CoDel decides of a hop at a moment, which is not before the hop's last one
+abbrev pub outcome_of : {P : Type 0} → (P → ℕ) → Params → HopState P → ℕ → Outcome
+outcome_of len params h now = dequeue_of params (max now h.moment) (waiting_of len h.queue) h.codel
+
+-- a hop whose first waiting items were dropped
+abbrev pub with_dropped : {P : Type 0} → HopState P → ℕ → HopState P
+with_dropped h count = record h { queue = drop count h.queue; dropped = h.dropped + count }
+
+-- a hop whose first waiting item, if there is one, went into flight
+abbrev pub with_sent : {P : Type 0} → HopState P → HopState P
+with_sent h = record h { queue = drop 1 h.queue; flight = h.flight ++ take 1 h.queue }
+
+-- a hop after CoDel decided: the dropped items are gone, and the one behind them is in flight
+abbrev pub with_picked : {P : Type 0} → HopState P → ℕ → Outcome → HopState P
+with_picked h now outcome = with_sent (with_dropped (record h { codel = outcome.state; moment = max now h.moment }) outcome.dropped)
+
+-- the answer where items are left behind those dropped: the first of them got a number
+abbrev pub picked_reply : {P : Type 0} → ℕ → List ℕ → List (Item P) → Reply
+picked_reply number dropped [] = Nothing
+picked_reply number dropped (item ∷ behind) = Picked number item.id dropped
+
+-- the answer to a pick
+abbrev pub pick_reply : {P : Type 0} → HopState P → ℕ → Reply
+pick_reply h count = picked_reply (next_number h) (map (λ item. item.id) (take count h.queue)) (drop count h.queue)
+
+-- Pick: a contact is open
+abbrev pub pick_step : {P : Type 0} → (P → ℕ) → State P → HopId → ℕ → State P × Reply
+pick_step len s hop now = unless (pick_refusal s hop now) s (
+  accept s hop (with_picked (hop_at s hop) now (outcome_of len s.params (hop_at s hop) now)),
+  pick_reply (hop_at s hop) (outcome_of len s.params (hop_at s hop) now).dropped,
+)

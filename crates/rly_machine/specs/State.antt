@@ -1,0 +1,81 @@
+-- The state of a spool, over any payload P. No index, cache or buffer is part of it.
+use Rattle.std.specs.Prelude.{ℕ, ◌+◌, ◌-◌, List, [], ◌++◌, length, replicate, slice_index, slice_index_or, sum_by, Bool, nat_lt, nat_le, false, ◌&&◌}
+use Rattle.rly_core.specs.declared.ids.HopId.{HopId}
+use Rattle.rly_core.specs.declared.ids.PeerId.{PeerId}
+use Rattle.rly_core.specs.declared.params.Params.{Params}
+use Rattle.rly_codel.specs.declared.state.CodelState.{CodelState}
+use Rattle.rly_machine.specs.declared.hop.Item.{Item}
+
+-- one next hop: what waits, what is in flight, CoDel's state, the last link moment, and the counts
+pub record HopState (P : Type 0) : Type 0 where
+  pub queue : List (Item P)
+  pub flight : List (Item P)
+  pub codel : CodelState
+  pub moment : ℕ
+  pub taken : ℕ
+  pub dropped : ℕ
+  pub released : ℕ
+
+-- a spool: its parameters, its hops, the last number taken from each peer, and the count of accepted commands
+pub record State (P : Type 0) : Type 0 where
+  pub params : Params
+  pub hops : List (HopState P)
+  pub lasts : List ℕ
+  pub seq : ℕ
+
+-- what contracts see of a machine: its state and, for each hop, how many more items its queue and its flight hold without memory
+pub record Spool (P : Type 0) : Type 0 where
+  pub state : State P
+  pub spare : List ℕ
+
+-- CoDel's state before anything was dropped
+abbrev pub idle : CodelState
+idle = record { first_above_time = 0; drop_next = 0; count = 0; lastcount = 0; dropping = false }
+
+-- a hop that nothing has come to
+abbrev pub new_hop : {P : Type 0} → HopState P
+new_hop = record { queue = []; flight = []; codel = idle; moment = 0; taken = 0; dropped = 0; released = 0 }
+
+-- a spool that nothing has come to
+abbrev pub new_state : {P : Type 0} → Params → State P
+new_state params = record { params = params; hops = replicate params.hops new_hop; lasts = replicate params.peers 0; seq = 0 }
+
+-- whether one of so many has this number, counted from 1
+abbrev pub is_among : ℕ → ℕ → Bool
+is_among count number = nat_lt 0 number && nat_le number count
+
+-- whether there is such a hop
+abbrev pub has_hop : {P : Type 0} → State P → HopId → Bool
+has_hop s hop = is_among (length s.hops) hop.0
+
+-- whether there is such a peer
+abbrev pub has_peer : {P : Type 0} → State P → PeerId → Bool
+has_peer s peer = is_among (length s.lasts) peer.0
+
+-- the hop of that number
+abbrev pub hop_at : {P : Type 0} → State P → HopId → HopState P
+hop_at s hop = slice_index_or s.hops (hop.0 - 1) new_hop
+
+-- the last number taken from a peer
+abbrev pub last_at : {P : Type 0} → State P → PeerId → ℕ
+last_at s peer = slice_index s.lasts (peer.0 - 1)
+
+-- a hop's live items in the order of their ids: those in flight, then those that wait
+abbrev pub live_line : {P : Type 0} → HopState P → List (Item P)
+live_line h = h.flight ++ h.queue
+
+-- the payload bytes of items
+abbrev pub bytes_of : {P : Type 0} → (P → ℕ) → List (Item P) → ℕ
+bytes_of len items = sum_by (λ item. len item.payload) items
+
+-- the live items of a spool
+abbrev pub live_items : {P : Type 0} → State P → ℕ
+live_items s = sum_by (λ h. length (live_line h)) s.hops
+
+-- the live payload bytes of a spool
+abbrev pub live_bytes : {P : Type 0} → (P → ℕ) → State P → ℕ
+live_bytes len s = sum_by (λ h. bytes_of len (live_line h)) s.hops
+
+-- the custody number that the next item in flight gets
+abbrev pub next_number : {P : Type 0} → HopState P → ℕ
+next_number h = h.released + length h.flight + 1

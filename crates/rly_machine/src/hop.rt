@@ -1,0 +1,230 @@
+ghost use Rattle.std.specs.Prelude.{◌≡◌, ◌+◌, ◌<◌, ◌≤◌, ◌^◌, [], ◌++◌, IfOk, OnOk, drop, length, map, take, vec_capacity, vec_len};
+ghost use Rattle.std.specs.VecDeque.{deque_capacity, deque_len};
+
+use crate::content::Content;
+use crate::queue::Queue;
+use crate::reply::{HopStatus, Ids, Reply};
+use rly_codel::{CodelState, dequeue};
+use rly_core::Params;
+use std::alloc::{AllocError, Global};
+use std::collections::VecDeque;
+
+/// A datagram in custody.
+#[derive(Debug, Drop)]
+pub struct Item<C> {
+    /// The sequence number of the command that took it.
+    pub id: u64,
+    /// When it came, in microseconds of the hop's link clock.
+    pub stamp: u64,
+    /// What it carries.
+    pub payload: C,
+}
+
+/// What a spool keeps for one next hop.
+#[derive(Debug, Drop)]
+pub struct Hop<C> {
+    /// The datagrams that wait, in order of taking.
+    pub queue: VecDeque<Item<C>>,
+    /// The datagrams in flight, in order; the first has the number `released + 1`.
+    pub flight: VecDeque<Item<C>>,
+    /// CoDel's state.
+    pub codel: CodelState,
+    /// The last link moment, in microseconds.
+    pub moment: u64,
+    /// Datagrams ever taken.
+    pub taken: u64,
+    /// Datagrams dropped by CoDel.
+    pub dropped: u64,
+    /// Datagrams that the next hop took custody of.
+    pub released: u64,
+}
+
+impl<C> Hop<C> {
+    ghost use Rattle.rly_machine.specs.Kept.{hop_of};
+    ghost use Rattle.rly_machine.specs.Pick.{is_idle};
+    ghost use Rattle.rly_machine.specs.State.{new_hop, next_number};
+    ghost use Rattle.rly_machine.specs.Query.{status_of};
+    ghost use Rattle.rly_machine.specs.Take.{with_taken};
+
+    /// A hop that nothing has come to. It takes no memory.
+    pub(crate) fn new(alloc: Global) -> Hop<C>
+        ensures { hop_of result ≡ new_hop }
+    {
+        Hop {
+            queue: VecDeque::new(alloc),
+            flight: VecDeque::new(alloc),
+            codel: CodelState {
+                first_above_time: 0,
+                drop_next: 0,
+                count: 0,
+                lastcount: 0,
+                dropping: false,
+            },
+            moment: 0,
+            taken: 0,
+            dropped: 0,
+            released: 0,
+        }
+    }
+
+    /// All numbers of the hop.
+    pub(crate) fn status(&self) -> HopStatus
+        ensures { result ≡ status_of (hop_of self.now) }
+    {
+        HopStatus {
+            taken: self.taken,
+            queued: self.queue.len() as u64,
+            flight: self.flight.len() as u64,
+            dropped: self.dropped,
+            released: self.released,
+            codel: self.codel,
+            moment: self.moment,
+        }
+    }
+
+    /// Makes room for one more datagram in the queue and one more in flight. Where memory is
+    /// refused, the hop is as it was. Answers how many wait.
+    pub(crate) fn reserve(&mut self) -> Result<usize, AllocError>
+        ensures hop { hop_of self.new ≡ hop_of self.old }
+        ensures queue { OnOk result (deque_len self.new.queue < deque_capacity self.new.queue) }
+        ensures flight { OnOk result (deque_len self.new.flight < deque_capacity self.new.flight) }
+        ensures waiting { IfOk result (λ count. count ≡ length self.new.queue.items) }
+    {
+        self.queue.reserve(1)?;
+        self.flight.reserve(1)?;
+        Ok(self.queue.len())
+    }
+
+    /// The custody number that the next datagram in flight gets.
+    pub(crate) fn next_number(&self) -> u64
+        requires { self.now.released + length self.now.flight.items + 1 < 2 ^ 64 }
+        ensures { result ≡ next_number (hop_of self.now) }
+    {
+        self.released + self.flight.len() as u64 + 1
+    }
+
+    /// Whether there is nothing that a pick would change.
+    pub(crate) fn is_idle(&self) -> bool
+        ensures { result ≡ is_idle (hop_of self.now) }
+    {
+        self.queue.is_empty() && self.codel.first_above_time == 0 && !self.codel.dropping
+    }
+
+    /// Puts a datagram at the back of the queue, not before the last moment.
+    pub(crate) fn take(&mut self, id: u64, stamp: u64, payload: C)
+        requires room { deque_len self.old.queue < deque_capacity self.old.queue }
+        requires count { self.old.taken + 1 < 2 ^ 64 }
+        ensures { hop_of self.new ≡ with_taken (hop_of self.old) id stamp payload }
+    {
+        let stamp = stamp.max(self.moment);
+        self.moment = stamp;
+        self.taken += 1;
+        self.queue.push_back_reserved(Item { id, stamp, payload });
+    }
+}
+
+impl<C: Content> Hop<C> {
+    ghost use Rattle.rly_machine.specs.Kept.{hop_of};
+    ghost use Rattle.rly_machine.specs.Accepted.{max_seq};
+    ghost use Rattle.rly_machine.specs.Pick.{outcome_of, pick_reply, picked_reply, waiting_of, with_dropped, with_picked, with_sent};
+    ghost use Rattle.rly_machine.specs.Sound.{IsSoundHop};
+    ghost use Rattle.rly_machine.specs.Release.{with_released};
+    ghost use Rattle.rly_core.specs.Limits.{IsWithinLimits};
+    ghost use Rattle.rly_machine.specs.State.{bytes_of};
+
+    /// Lets go of the first so many in flight, and answers how many payload bytes they had.
+    pub(crate) fn release(&mut self, count: usize) -> u64
+        requires flight { count ≤ length self.old.flight.items }
+        requires bytes { bytes_of C.length_of self.old.flight.items < 2 ^ 64 }
+        requires count_fits { self.old.released + count < 2 ^ 64 }
+        ensures hop { hop_of self.new ≡ with_released (hop_of self.old) count }
+        ensures bytes { result + bytes_of C.length_of self.new.flight.items ≡ bytes_of C.length_of self.old.flight.items }
+    {
+        let mut bytes = 0;
+        for _item in 0..count {
+            if let Some(item) = self.flight.pop_front() {
+                bytes += item.payload.len() as u64;
+            }
+        }
+        self.released += count as u64;
+        bytes
+    }
+
+    /// Picks at a moment, not before the last one: CoDel drops what is due, and the datagram behind
+    /// goes into flight. Answers the reply, and how many datagrams and payload bytes were dropped.
+    pub(crate) fn pick(&mut self, now: u64, params: &Params, ids: Vec<u64>) -> (Reply, Dropped)
+        requires params { IsWithinLimits params.now }
+        requires moment { now < 2 ^ 52 }
+        requires sound { IsSoundHop C.length_of params.now max_seq (hop_of self.old) }
+        requires bytes { bytes_of C.length_of self.old.queue.items < 2 ^ 64 }
+        requires flight { deque_len self.old.flight < deque_capacity self.old.flight }
+        requires no_ids { ids.items ≡ [] }
+        requires room { length self.old.queue.items ≤ vec_capacity ids }
+        ensures hop { hop_of self.new ≡ with_picked (hop_of self.old) now (outcome_of C.length_of params.now (hop_of self.old) now) }
+        ensures reply { result.0 ≡ pick_reply (hop_of self.old) (outcome_of C.length_of params.now (hop_of self.old) now).dropped }
+        ensures items { result.1.items ≡ (outcome_of C.length_of params.now (hop_of self.old) now).dropped }
+        ensures bytes { result.1.bytes ≡ bytes_of C.length_of (take (outcome_of C.length_of params.now (hop_of self.old) now).dropped self.old.queue.items) }
+    {
+        let now = now.max(self.moment);
+        let number = self.next_number();
+        let mut codel = self.codel;
+        let verdict = dequeue(&mut codel, &Queue::new(&self.queue), now, params);
+        self.codel = codel;
+        self.moment = now;
+        let mut ids = ids;
+        let dropped = self.drop_front(verdict.dropped, &mut ids);
+        (self.send(number, ids), dropped)
+    }
+
+    /// Drops the first so many of the queue, and lists their ids.
+    fn drop_front(&mut self, count: usize, ids: &mut Vec<u64>) -> Dropped
+        requires count { count ≤ length self.old.queue.items }
+        requires bytes { bytes_of C.length_of self.old.queue.items < 2 ^ 64 }
+        requires fits { self.old.dropped + count < 2 ^ 64 }
+        requires no_ids { ids.old.items ≡ [] }
+        requires room { count ≤ vec_capacity ids.old }
+        ensures hop { hop_of self.new ≡ with_dropped (hop_of self.old) count }
+        ensures capacity { deque_capacity self.new.flight ≡ deque_capacity self.old.flight }
+        ensures ids { ids.new.items ≡ map (λ item. item.id) (take count self.old.queue.items) }
+        ensures items { result.items ≡ count }
+        ensures bytes { result.bytes ≡ bytes_of C.length_of (take count self.old.queue.items) }
+    {
+        let mut bytes = 0;
+        for _item in 0..count {
+            if let Some(item) = self.queue.pop_front() {
+                ids.push_reserved(item.id);
+                bytes += item.payload.len() as u64;
+            }
+        }
+        self.dropped += count as u64;
+        Dropped {
+            items: count as u64,
+            bytes,
+        }
+    }
+
+    /// Moves the first of the queue, if there is one, into flight under a number.
+    fn send(&mut self, number: u64, dropped: Vec<u64>) -> Reply
+        requires { deque_len self.old.flight < deque_capacity self.old.flight }
+        ensures hop { hop_of self.new ≡ with_sent (hop_of self.old) }
+        ensures reply { result ≡ picked_reply number dropped.items self.old.queue.items }
+    {
+        let Some(item) = self.queue.pop_front() else {
+            return Reply::Nothing;
+        };
+        let id = item.id;
+        self.flight.push_back_reserved(item);
+        Reply::Picked {
+            number,
+            id,
+            dropped: Ids::new(dropped),
+        }
+    }
+}
+
+/// What CoDel dropped at one pick.
+#[derive(Clone, Copy, Debug, PartialEq, Eq)]
+pub(crate) struct Dropped {
+    pub(crate) items: u64,
+    pub(crate) bytes: u64,
+}

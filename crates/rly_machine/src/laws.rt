@@ -1,0 +1,33 @@
+//! Laws over the definitions, each the clause of a function that does nothing.
+
+ghost use Rattle.std.specs.Prelude.{◌≡◌, List, map};
+ghost use Rattle.rly_core.specs.Limits.{IsWithinLimits};
+ghost use Rattle.rly_core.specs.declared.params.Params.{Params};
+ghost use Rattle.rly_machine.specs.Fold.{fold};
+ghost use Rattle.rly_machine.specs.Map.{map_command, map_state};
+ghost use Rattle.rly_machine.specs.Sound.{IsSound};
+ghost use Rattle.rly_machine.specs.State.{State, new_state};
+ghost use Rattle.rly_machine.specs.Step.{step};
+ghost use Rattle.rly_machine.specs.declared.command.Command.{Command};
+
+use crate::content::Content;
+
+/// Whatever commands come to a new spool, its books balance: what each hop took waits, is in
+/// flight, was dropped or was released, the peers' numbers count what the hops took, and each limit
+/// is kept.
+pub fn law_balance<C: Content>()
+    ensures { (params : Params) (commands : List (Command C)) → IsWithinLimits params
+        → IsSound C.length_of (fold C.length_of (new_state params) commands) }
+{}
+
+/// A map of payloads that keeps their lengths goes through every step, which gives the same reply,
+/// and through every row of commands.
+pub fn law_map<P: Content, Q: Content>()
+    ensures steps { (f : P → Q) → ((payload : P) → Q.length_of (f payload) ≡ P.length_of payload)
+        → (s : State P) (command : Command P)
+        → step Q.length_of (map_state f s) (map_command f command)
+        ≡ (map_state f (step P.length_of s command).0, (step P.length_of s command).1) }
+    ensures folds { (f : P → Q) → ((payload : P) → Q.length_of (f payload) ≡ P.length_of payload)
+        → (s : State P) (commands : List (Command P))
+        → fold Q.length_of (map_state f s) (map (map_command f) commands) ≡ map_state f (fold P.length_of s commands) }
+{}

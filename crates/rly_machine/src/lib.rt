@@ -1,0 +1,27 @@
+//! The plain machine: the state of a spool in memory, and what each command does to it.
+//!
+//! `specs/State.antt` says what a state is and `specs/Step.antt` what a command does to it; both
+//! are over any payload that has a length. `Machine::apply` is that step exactly, and takes no
+//! memory: `Machine::reserve_for` made its room. It takes no handle; the journal and `rly sim` run
+//! their commands on it.
+#![tactic(auto)]
+
+mod command;
+mod content;
+mod hop;
+mod laws;
+mod machine;
+mod queue;
+mod reply;
+mod room;
+#[cfg(test)]
+mod tests;
+
+pub use crate::command::{Ask, Command, Query};
+pub use crate::content::{Content, Payload};
+pub use crate::hop::{Hop, Item};
+pub use crate::laws::{law_balance, law_map};
+pub use crate::machine::Machine;
+pub use crate::reply::{HopStatus, Ids, Reply};
+pub use crate::room::Room;
+pub use rly_codel::CodelState;

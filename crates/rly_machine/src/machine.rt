@@ -1,0 +1,349 @@
+ghost use Rattle.std.specs.Prelude.{◌≡◌, ◌+◌, ◌-◌, ◌<◌, ◌≤◌, Err, IfErr, IfOk, IsTrue, MatchOption, Ok, OnOk, false, length, slice_index};
+ghost use Rattle.std.specs.Option.{SomeIff};
+ghost use Rattle.rly_core.specs.Limits.{IsWithinLimits};
+ghost use Rattle.rly_machine.specs.Kept.{IsHopAt};
+ghost use Rattle.rly_machine.specs.State.{has_hop, has_peer, hop_at, new_state};
+ghost use Rattle.rly_machine.specs.Step.{HasRoom, step};
+ghost use Rattle.rly_machine.specs.Query.{item_of, show_reply, window_reply};
+ghost use Rattle.rly_machine.specs.Take.{take_refusal, take_step};
+ghost use Rattle.rly_machine.specs.Pick.{pick_refusal, pick_step};
+ghost use Rattle.rly_machine.specs.Release.{covered, release_refusal, release_step};
+
+use crate::command::{Ask, Command, Query};
+use crate::content::{Content, Payload};
+use crate::hop::{Hop, Item};
+use crate::reply::Reply;
+use crate::room::Room;
+use rly_core::{HopId, Params, PeerId, Refusal, limits};
+use std::alloc::{AllocError, Global};
+use std::marker::Model;
+
+/// A spool in memory, over payloads of type `C`. Contracts see its state, and how many more items
+/// each queue holds without memory.
+#[derive(Drop)]
+pub struct Machine<C: Content> {
+    params: Params,
+    hops: Vec<Hop<C>>,
+    lasts: Vec<u64>,
+    seq: u64,
+    live_items: u64,
+    live_bytes: u64,
+}
+
+impl<C: Content> Model for Machine<C> {
+    ghost use Rattle.rly_machine.specs.Kept.{IsKept, spare_of, state_of};
+    ghost use Rattle.rly_machine.specs.State.{Spool};
+
+    ghost Value = { Spool C };
+
+    ghost view = { λ m. record { state = state_of m.params m.hops m.lasts m.seq; spare = spare_of m.hops } };
+
+    ghost invariant = { λ m. IsKept C.length_of (state_of m.params m.hops m.lasts m.seq) m.live_items m.live_bytes };
+}
+
+impl<C: Content> Machine<C> {
+    /// A spool that nothing has come to.
+    pub fn new(alloc: Global, params: Params) -> Result<Machine<C>, AllocError>
+        requires { IsWithinLimits params }
+        ensures { IfOk result (λ machine. machine.state ≡ new_state params) }
+    {
+        let mut hops = Vec::with_capacity(alloc, params.hops as usize)?;
+        for _hop in 0..params.hops {
+            hops.push_reserved(Hop::new(alloc));
+        }
+        let lasts = vec![in alloc; 0u64; params.peers as usize]?;
+        Ok(Machine {
+            params,
+            hops,
+            lasts,
+            seq: 0,
+            live_items: 0,
+            live_bytes: 0,
+        })
+    }
+
+    /// Makes the memory that a command may need. Where it is refused, the state is as it was.
+    pub fn reserve_for(&mut self, alloc: Global, command: &Command<C>) -> Result<Room, AllocError>
+        ensures state { self.new.state ≡ self.old.state }
+        ensures room { IfOk result (λ room. HasRoom self.new room command.now) }
+    {
+        match command {
+            Command::Take { hop, .. } => {
+                self.reserve_at(*hop)?;
+                Room::new(alloc, 0)
+            }
+            Command::Pick { hop, .. } => {
+                let waiting = self.reserve_at(*hop)?;
+                Room::new(alloc, waiting)
+            }
+            Command::Release { .. } => Room::new(alloc, 0),
+        }
+    }
+
+    /// Makes one step with a command. It takes no memory.
+    pub fn apply(&mut self, command: Command<C>, room: Room) -> Reply
+        requires room { HasRoom self.old room command }
+        ensures state { self.new.state ≡ (step C.length_of self.old.state command).0 }
+        ensures reply { result ≡ (step C.length_of self.old.state command).1 }
+    {
+        match command {
+            Command::Take {
+                peer,
+                number,
+                hop,
+                stamp,
+                payload,
+            } => self.take(peer, number, hop, stamp, payload),
+            Command::Pick { hop, now } => self.pick(hop, now, room),
+            Command::Release { hop, number } => self.release(hop, number),
+        }
+    }
+
+    /// The item in flight under a custody number, or why there is none. It takes no memory.
+    pub fn item(&self, hop: HopId, number: u64) -> Result<&Item<C>, Refusal>
+        ensures ok { IfOk result (λ item. item_of self.now.state hop number ≡ Ok item.now) }
+        ensures err { IfErr result (λ refusal. item_of self.now.state hop number ≡ Err refusal) }
+    {
+        let Some(line) = self.hop(hop) else {
+            return Err(Refusal::NoSuchHop);
+        };
+        if number >= line.next_number() {
+            return Err(Refusal::NeverSent);
+        }
+        if number <= line.released {
+            return Err(Refusal::NotInFlight);
+        }
+        Ok(&line.flight[(number - line.released - 1) as usize])
+    }
+
+    /// The custody numbers in flight, or that there is no such hop. It takes no memory.
+    pub fn ask_window(&self, hop: HopId) -> Reply
+        ensures { result ≡ window_reply self.now.state hop }
+    {
+        match self.hop(hop) {
+            Some(line) => {
+                let next = line.next_number();
+                Reply::WindowIs {
+                    first: line.released + 1,
+                    next,
+                }
+            }
+            None => Reply::Refused(Refusal::NoSuchHop),
+        }
+    }
+
+    /// All numbers of a hop, or that there is no such hop. It takes no memory.
+    pub fn ask_show(&self, hop: HopId) -> Reply
+        ensures { result ≡ show_reply self.now.state hop }
+    {
+        match self.hop(hop) {
+            Some(line) => Reply::Shown(line.status()),
+            None => Reply::Refused(Refusal::NoSuchHop),
+        }
+    }
+
+    /// A hop, if it is there.
+    fn hop(&self, hop: HopId) -> Option<&Hop<C>>
+        ensures { MatchOption result (has_hop self.now.state hop ≡ false) (λ line. IsHopAt C.length_of self.now.state hop line.now) }
+    {
+        let index = self.hop_index(hop)?;
+        Some(&self.hops[index])
+    }
+
+    /// The place of a hop, if it is there.
+    fn hop_index(&self, hop: HopId) -> Option<usize>
+        ensures { SomeIff result (IsTrue (has_hop self.now.state hop)) (hop.0 - 1) }
+    {
+        let index = (hop.0 as usize).checked_sub(1)?;
+        (index < self.hops.len()).then_some(index)
+    }
+
+    /// The place of a peer, if it is there.
+    fn peer_index(&self, peer: PeerId) -> Option<usize>
+        ensures { SomeIff result (IsTrue (has_peer self.now.state peer)) (peer.0 - 1) }
+    {
+        let index = (peer.0 as usize).checked_sub(1)?;
+        (index < self.lasts.len()).then_some(index)
+    }
+
+    /// Makes room at a hop, if it is there, and answers how many datagrams wait for it.
+    fn reserve_at(&mut self, hop: HopId) -> Result<usize, AllocError>
+        ensures state { self.new.state ≡ self.old.state }
+        ensures spare { OnOk result (IsTrue (has_hop self.new.state hop) → 0 < slice_index self.new.spare (hop.0 - 1)) }
+        ensures waiting { IfOk result (λ count. IsTrue (has_hop self.new.state hop) → count ≡ length (hop_at self.new.state hop).queue) }
+    {
+        let Some(index) = self.hop_index(hop) else {
+            return Ok(0);
+        };
+        self.hops[index].reserve()
+    }
+
+    /// Takes a datagram.
+    fn take(&mut self, peer: PeerId, number: u64, hop: HopId, stamp: u64, payload: C) -> Reply
+        requires { IsTrue (has_hop self.old.state hop) → 0 < slice_index self.old.spare (hop.0 - 1) }
+        ensures state { self.new.state ≡ (take_step C.length_of self.old.state peer number hop stamp payload).0 }
+        ensures reply { result ≡ (take_step C.length_of self.old.state peer number hop stamp payload).1 }
+    {
+        if let Some(reply) = self.take_refusal(peer, number, hop, stamp, payload.len()) {
+            return reply;
+        }
+        self.accept_take(peer, number, hop, stamp, payload)
+    }
+
+    /// The first check of a Take that fails.
+    fn take_refusal(
+        &self,
+        peer: PeerId,
+        number: u64,
+        hop: HopId,
+        stamp: u64,
+        length: usize,
+    ) -> Option<Reply>
+        ensures { result ≡ take_refusal C.length_of self.now.state peer number hop stamp length }
+    {
+        let Some(from) = self.peer_index(peer) else {
+            return Some(Reply::Refused(Refusal::NoSuchPeer));
+        };
+        if self.hop_index(hop).is_none() {
+            return Some(Reply::Refused(Refusal::NoSuchHop));
+        }
+        if stamp >= limits::MOMENT_LIMIT {
+            return Some(Reply::Refused(Refusal::BadMoment));
+        }
+        let length = length as u64;
+        if length > limits::MAX_PAYLOAD {
+            return Some(Reply::Refused(Refusal::TooLong));
+        }
+        let last = self.lasts[from];
+        if number <= last {
+            return Some(Reply::Already(last));
+        }
+        if number > last + 1 {
+            return Some(Reply::Refused(Refusal::Gap(last + 1)));
+        }
+        if self.live_items >= self.params.items || self.live_bytes + length > self.params.bytes {
+            return Some(Reply::Refused(Refusal::Full));
+        }
+        if self.seq >= limits::MAX_SEQ {
+            return Some(Reply::Refused(Refusal::Spent));
+        }
+        None
+    }
+
+    /// Takes a datagram that no check refuses.
+    fn accept_take(
+        &mut self,
+        peer: PeerId,
+        number: u64,
+        hop: HopId,
+        stamp: u64,
+        payload: C,
+    ) -> Reply
+        requires room { 0 < slice_index self.old.spare (hop.0 - 1) }
+        requires accepted { take_refusal C.length_of self.old.state peer number hop stamp (C.length_of payload) ≡ None }
+        ensures state { self.new.state ≡ (take_step C.length_of self.old.state peer number hop stamp payload).0 }
+        ensures reply { result ≡ Reply.Taken (self.old.state.seq + 1) }
+    {
+        let id = self.seq + 1;
+        self.seq = id;
+        self.live_items += 1;
+        self.live_bytes += payload.len() as u64;
+        self.lasts[peer.0 as usize - 1] = number;
+        self.hops[hop.0 as usize - 1].take(id, stamp, payload);
+        Reply::Taken(id)
+    }
+
+    /// Releases what is in flight up to a number.
+    fn release(&mut self, hop: HopId, number: u64) -> Reply
+        ensures state { self.new.state ≡ (release_step self.old.state hop number).0 }
+        ensures reply { result ≡ (release_step self.old.state hop number).1 }
+    {
+        if let Some(reply) = self.release_refusal(hop, number) {
+            return reply;
+        }
+        self.accept_release(hop, number)
+    }
+
+    /// The first check of a Release that fails.
+    fn release_refusal(&self, hop: HopId, number: u64) -> Option<Reply>
+        ensures { result ≡ release_refusal self.now.state hop number }
+    {
+        let Some(line) = self.hop(hop) else {
+            return Some(Reply::Refused(Refusal::NoSuchHop));
+        };
+        if number >= line.next_number() {
+            return Some(Reply::Refused(Refusal::NeverSent));
+        }
+        if number <= line.released {
+            return Some(Reply::Unchanged);
+        }
+        if self.seq >= limits::MAX_SEQ {
+            return Some(Reply::Refused(Refusal::Spent));
+        }
+        None
+    }
+
+    /// Releases what no check refuses.
+    fn accept_release(&mut self, hop: HopId, number: u64) -> Reply
+        requires { release_refusal self.old.state hop number ≡ None }
+        ensures state { self.new.state ≡ (release_step self.old.state hop number).0 }
+        ensures reply { result ≡ Reply.Released (covered (hop_at self.old.state hop) number) }
+    {
+        let line = &mut self.hops[hop.0 as usize - 1];
+        let count = number - line.released;
+        let bytes = line.release(count as usize);
+        self.seq += 1;
+        self.live_items -= count;
+        self.live_bytes -= bytes;
+        Reply::Released(count)
+    }
+
+    /// Picks from a queue.
+    fn pick(&mut self, hop: HopId, now: u64, room: Room) -> Reply
+        requires { IsTrue (has_hop self.old.state hop) → (0 < slice_index self.old.spare (hop.0 - 1)) × (length (hop_at self.old.state hop).queue ≤ room) }
+        ensures state { self.new.state ≡ (pick_step C.length_of self.old.state hop now).0 }
+        ensures reply { result ≡ (pick_step C.length_of self.old.state hop now).1 }
+    {
+        if let Some(reply) = self.pick_refusal(hop, now) {
+            return reply;
+        }
+        self.accept_pick(hop, now, room)
+    }
+
+    /// The first check of a Pick that fails.
+    fn pick_refusal(&self, hop: HopId, now: u64) -> Option<Reply>
+        ensures { result ≡ pick_refusal self.now.state hop now }
+    {
+        let Some(line) = self.hop(hop) else {
+            return Some(Reply::Refused(Refusal::NoSuchHop));
+        };
+        if now >= limits::MOMENT_LIMIT {
+            return Some(Reply::Refused(Refusal::BadMoment));
+        }
+        if line.flight.len() as u64 >= self.params.window {
+            return Some(Reply::Refused(Refusal::WindowFull));
+        }
+        if line.is_idle() {
+            return Some(Reply::Refused(Refusal::Empty));
+        }
+        if self.seq >= limits::MAX_SEQ {
+            return Some(Reply::Refused(Refusal::Spent));
+        }
+        None
+    }
+
+    /// Picks what no check refuses.
+    fn accept_pick(&mut self, hop: HopId, now: u64, room: Room) -> Reply
+        requires accepted { pick_refusal self.old.state hop now ≡ None }
+        requires room { (0 < slice_index self.old.spare (hop.0 - 1)) × (length (hop_at self.old.state hop).queue ≤ room) }
+        ensures state { self.new.state ≡ (pick_step C.length_of self.old.state hop now).0 }
+        ensures reply { result ≡ (pick_step C.length_of self.old.state hop now).1 }
+    {
+        let params = self.params;
+        let (reply, dropped) = self.hops[hop.0 as usize - 1].pick(now, &params, room.into_ids());
+        self.seq += 1;
+        self.live_items -= dropped.items;
+        self.live_bytes -= dropped.bytes;
+        reply
+    }
+}

@@ -1,0 +1,90 @@
+ghost use Rattle.std.specs.Prelude.{◌≡◌, ℕ, List};
+
+use crate::content::Payload;
+use rly_codel::CodelState;
+use rly_core::Refusal;
+use std::marker::Model;
+
+/// The answer to a command or a query.
+#[derive(Debug, Drop)]
+pub enum Reply {
+    /// The datagram was taken, under this id.
+    Taken(u64),
+    /// The datagram was taken before; carries the last number taken from that peer.
+    Already(u64),
+    /// A datagram went into flight.
+    Picked {
+        /// Its custody number.
+        number: u64,
+        /// Its id.
+        id: u64,
+        /// The ids of the datagrams that CoDel dropped in front of it, in order.
+        dropped: Ids,
+    },
+    /// The queue was empty.
+    Nothing,
+    /// So many datagrams were released.
+    Released(u64),
+    /// Nothing in flight has a number that low.
+    Unchanged,
+    /// The payload in flight under the number that was asked for.
+    Bytes(Payload),
+    /// The custody numbers in flight.
+    WindowIs {
+        /// The least of them, or `next` where there is none.
+        first: u64,
+        /// The number that the next datagram in flight gets.
+        next: u64,
+    },
+    /// All numbers of a hop.
+    Shown(HopStatus),
+    /// Nothing was done.
+    Refused(Refusal),
+}
+
+/// All numbers of a hop.
+#[derive(Clone, Copy, Debug, PartialEq, Eq)]
+pub struct HopStatus {
+    /// Datagrams ever taken.
+    pub taken: u64,
+    /// Datagrams that wait in the queue.
+    pub queued: u64,
+    /// Datagrams in flight.
+    pub flight: u64,
+    /// Datagrams dropped by CoDel.
+    pub dropped: u64,
+    /// Datagrams that the next hop took custody of.
+    pub released: u64,
+    /// CoDel's state.
+    pub codel: CodelState,
+    /// The last link moment, in microseconds.
+    pub moment: u64,
+}
+
+/// Ids of datagrams, in order.
+#[derive(Debug, Drop)]
+pub struct Ids {
+    ids: Vec<u64>,
+}
+
+impl Model for Ids {
+    ghost Value = { List ℕ };
+
+    ghost view = { λ i. i.ids.items };
+}
+
+impl Ids {
+    /// These ids.
+    pub fn new(ids: Vec<u64>) -> Ids
+        ensures { result ≡ ids.items }
+    {
+        Ids { ids }
+    }
+
+    /// The ids.
+    pub fn as_slice(&self) -> &[u64]
+        ensures { result.now ≡ self.now }
+    {
+        self.ids.as_slice()
+    }
+}

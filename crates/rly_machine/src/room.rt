@@ -1,0 +1,38 @@
+ghost use Rattle.std.specs.Prelude.{◌≡◌, ◌≤◌, ℕ, [], IfOk, vec_capacity};
+
+use std::alloc::{AllocError, Global};
+use std::marker::Model;
+
+/// The memory for one command, made by `Machine::reserve_for`. Contracts see how many dropped ids
+/// it has room for.
+#[derive(Drop)]
+pub struct Room {
+    ids: Vec<u64>,
+}
+
+impl Model for Room {
+    ghost Value = { ℕ };
+
+    ghost view = { λ room. vec_capacity room.ids };
+
+    ghost invariant = { λ room. room.ids.items ≡ [] };
+}
+
+impl Room {
+    /// Room for so many ids.
+    pub(crate) fn new(alloc: Global, count: usize) -> Result<Room, AllocError>
+        ensures { IfOk result (λ room. count ≤ room) }
+    {
+        Ok(Room {
+            ids: Vec::with_capacity(alloc, count)?,
+        })
+    }
+
+    /// The empty list with that room.
+    pub(crate) fn into_ids(self) -> Vec<u64>
+        ensures empty { result.items ≡ [] }
+        ensures room { vec_capacity result ≡ self }
+    {
+        self.ids
+    }
+}
