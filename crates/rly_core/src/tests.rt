@@ -31,17 +31,41 @@ fn each_limit_is_met_and_not_passed(rt: HostRuntime) {
     assert_eq!(rt; least.check(), Ok(()));
     assert_eq!(rt; greatest.check(), Ok(()));
     for params in [
-        Params { hops: 65_537, ..least },
-        Params { hops: 65, ..greatest },
-        Params { peers: 65, ..greatest },
+        Params {
+            hops: 65_537,
+            ..least
+        },
+        Params {
+            hops: 65,
+            ..greatest
+        },
+        Params {
+            peers: 65,
+            ..greatest
+        },
         Params { peers: 0, ..least },
-        Params { window: 65, ..greatest },
-        Params { items: 16_385, ..greatest },
-        Params { bytes: 16_777_217, ..greatest },
-        Params { maxpacket: 65_536, ..greatest },
+        Params {
+            window: 65,
+            ..greatest
+        },
+        Params {
+            items: 16_385,
+            ..greatest
+        },
+        Params {
+            bytes: 16_777_217,
+            ..greatest
+        },
+        Params {
+            maxpacket: 65_536,
+            ..greatest
+        },
         Params { target: 0, ..least },
         Params { target: 2, ..least },
-        Params { interval: 3_600_000_001, ..greatest },
+        Params {
+            interval: 3_600_000_001,
+            ..greatest
+        },
     ] {
         assert_eq!(rt; params.check(), Err(Refusal::BadGeometry), "{params:?}");
     }

@@ -1,8 +1,8 @@
 -- What a machine's fields stand for after a step.
-use Rattle.std.proofs.Common.{ℕ, ◌*◌, true, lit<, ◌≡◌, ◌+◌, ◌-◌, ◌<◌, ◌≤◌, min, List, [], ◌∷◌, length, get_or, set, take, drop, map, refl, arith, sym, ◌∙◌, ap, subst, Option, None, Vec, sum, sum_by, replicate}
+use Rattle.std.proofs.Common.{ℕ, ◌*◌, true, lit<, ◌≡◌, ◌+◌, ◌-◌, ◌<◌, ◌≤◌, min, List, length, get_or, set, take, drop, map, refl, arith, sym, ◌∙◌, ap, subst, None, Vec, sum, sum_by, replicate}
 use Rattle.std.specs.Vec.{with_item}
 use Rattle.std.specs.VecDeque.{deque_capacity, deque_len}
-use Rattle.std.proofs.lemmas.List.{get_or-set_same, length-map, length-set, map-id, map-set, set-get_or, get_or-map, get_or_default, length-replicate, get_or-replicate}
+use Rattle.std.proofs.lemmas.List.{get_or-set_same, length-map, length-set, map-id, map-set, set-get_or, get_or-map, length-replicate}
 use Rattle.std.proofs.lemmas.List.Elements.{All-get_or, All-nil, All-replicate}
 use Rattle.std.proofs.lemmas.List.Sums.{sum-map, sum_by-take-drop}
 use Rattle.std.proofs.lemmas.List.Folds.{sum_by-replicate}
@@ -14,7 +14,7 @@ use Rattle.rly_machine.specs.declared.hop.Hop.{Hop}
 use Rattle.rly_machine.specs.declared.hop.Item.{Item}
 use Rattle.rly_machine.specs.declared.reply.Reply.{Reply}
 use Rattle.rly_machine.specs.declared.reply.Reply.TheVariants.{Taken, Released}
-use Rattle.rly_machine.specs.State.{State, HopState, has_hop, hop_at, live_line, live_items, live_bytes, bytes_of, new_hop, new_state}
+use Rattle.rly_machine.specs.State.{State, HopState, has_hop, hop_at, live_line, bytes_of, new_hop, new_state}
 use Rattle.rly_machine.specs.Accepted.{accept, unless}
 use Rattle.rly_codel.specs.Cases.{Outcome}
 use Rattle.rly_machine.specs.Pick.{outcome_of, pick_refusal, pick_reply, pick_step, with_picked}

@@ -5,3 +5,4 @@ pub mod Waiting
 pub mod Keeping
 pub mod Runs
 pub mod Mapping
+pub mod CustodyRuns

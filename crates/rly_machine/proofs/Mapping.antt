@@ -1,5 +1,5 @@
 -- A map of payloads that keeps lengths goes through every step.
-use Rattle.std.proofs.Common.{ℕ, ◌≡◌, ◌+◌, ◌-◌, ◌^◌, List, [], ◌∷◌, ◌++◌, Bool, not, cond, ◌||◌, ◌&&◌, take, length, get_or, set, drop, map, refl, arith, sym, ◌∙◌, ap, sum_by, zero, suc, Option, Some, None, max}
+use Rattle.std.proofs.Common.{ℕ, ◌≡◌, ◌+◌, ◌-◌, ◌^◌, List, [], ◌∷◌, ◌++◌, not, cond, ◌||◌, ◌&&◌, take, length, get_or, set, drop, map, refl, arith, sym, ◌∙◌, ap, sum_by, zero, suc, Option, Some, None, max}
 use Rattle.std.specs.Prelude.{nat_lt, nat_le, nat_eq}
 use Rattle.std.proofs.lemmas.List.{length-map, length-append, map-set, map-append, drop-map, take-map}
 use Rattle.std.proofs.lemmas.List.Sums.{sum_by-cons}
@@ -14,7 +14,7 @@ use Rattle.rly_machine.specs.declared.command.Command.TheVariants.{Take, Pick, R
 use Rattle.rly_machine.specs.declared.hop.Item.{Item}
 use Rattle.rly_machine.specs.declared.reply.Reply.{Reply}
 use Rattle.rly_machine.specs.declared.reply.Reply.TheVariants.{Taken, Already, Released, Unchanged, Refused}
-use Rattle.rly_machine.specs.State.{State, HopState, is_among, has_peer, hop_at, last_at, live_line, live_items, live_bytes, bytes_of, new_hop, next_number}
+use Rattle.rly_machine.specs.State.{State, HopState, is_among, has_peer, hop_at, last_at, live_line, live_items, live_bytes, bytes_of, new_hop}
 use Rattle.rly_machine.specs.Accepted.{accept, max_seq, unless}
 use Rattle.rly_machine.specs.Pick.{outcome_of, pick_refusal, pick_reply, picked_reply, waiting_of, with_picked}
 use Rattle.rly_machine.specs.Release.{covered, release_refusal, with_released}

@@ -1,8 +1,8 @@
 -- An accepted Pick keeps a state sound.
-use Rattle.std.proofs.Common.{ℕ, ◌≡◌, ◌+◌, ◌-◌, ◌*◌, ◌^◌, ◌<◌, ◌≤◌, max, List, [], ◌∷◌, ◌++◌, length, get_or, set, take, drop, map, refl, arith, sym, ◌∙◌, ap, sum, sum_by, ◌⊎◌, inl, inr, zero, suc}
+use Rattle.std.proofs.Common.{ℕ, ◌≡◌, ◌+◌, ◌-◌, ◌^◌, ◌<◌, ◌≤◌, max, List, ◌++◌, length, get_or, take, drop, refl, arith, sym, ◌∙◌, ap, inl, inr}
 use Rattle.std.proofs.lemmas.Bool.{cases_lt}
 use Rattle.std.specs.List.{All, AllPairs}
-use Rattle.std.proofs.lemmas.List.{append_assoc, drop-drop, get_or-drop, get_or_append_left, get_or-append-add, get_or-append_right, length-append, length-drop, length-map, length-take, take-append-drop}
+use Rattle.std.proofs.lemmas.List.{append_assoc, get_or-drop, get_or_append_left, get_or-append-add, get_or-append_right, length-append, length-drop, length-map, length-take, take-append-drop}
 use Rattle.std.proofs.lemmas.List.Elements.{All-append, All-drop, All-get_or, All-weaker}
 use Rattle.std.proofs.lemmas.List.Sums.{sum_by-append, sum_by-take-drop}
 use Rattle.rly_codel.proofs.Bounds.{dropped-lt, dropped-empty, first_above_time-le, drop_next-le, lastcount-le, count-le}
@@ -12,7 +12,7 @@ use Rattle.rly_core.specs.declared.ids.HopId.{HopId}
 use Rattle.rly_core.specs.declared.params.Params.{Params}
 use Rattle.rly_core.specs.Limits.{IsWithinLimits}
 use Rattle.rly_machine.specs.declared.hop.Item.{Item}
-use Rattle.rly_machine.specs.Accepted.{accept, max_seq}
+use Rattle.rly_machine.specs.Accepted.{accept}
 use Rattle.rly_machine.specs.Pick.{outcome_of, waiting_of, with_picked}
 use Rattle.rly_machine.specs.Sound.{ComesBefore, IsLive, IsSound, IsSoundHop}
 use Rattle.rly_machine.specs.State.{State, HopState, bytes_of, hop_at, live_bytes, live_items, live_line, new_hop}

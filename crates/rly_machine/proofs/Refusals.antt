@@ -1,7 +1,7 @@
 -- What it means that no check of a command fails.
-use Rattle.std.proofs.Common.{ℕ, ◌≡◌, ◌+◌, ◌-◌, ◌^◌, ◌<◌, ◌≤◌, Bool, true, false, cond, not, Option, Some, None, length, refl, arith, ◌||◌, ◌&&◌, rules}
+use Rattle.std.proofs.Common.{ℕ, ◌≡◌, ◌+◌, ◌-◌, ◌^◌, ◌<◌, ◌≤◌, Bool, true, false, cond, not, Option, Some, None, length, refl, arith, ◌||◌}
 use Rattle.std.specs.Prelude.{nat_lt, nat_le, nat_eq}
-use Rattle.std.proofs.lemmas.Bool.{false≢true, not-false, and_parts, or_parts, ltb-true, ltb-false, leb-true, leb-false, eqb-false}
+use Rattle.std.proofs.lemmas.Bool.{not-false, and_parts, or_parts, ltb-true, ltb-false, leb-true, leb-false, eqb-false}
 use Rattle.rly_core.specs.declared.ids.HopId.{HopId}
 use Rattle.rly_core.specs.declared.ids.PeerId.{PeerId}
 use Rattle.rly_machine.specs.State.{State, is_among, has_hop, has_peer, hop_at, last_at, live_items, live_bytes, next_number}

@@ -1,12 +1,11 @@
 -- What holds over whole runs of commands.
 use Rattle.std.proofs.Common.{ℕ, ◌≡◌, List, [], ◌∷◌, Option, Some, None, refl}
-use Rattle.std.proofs.lemmas.Grind.{common_steps}
 use Rattle.rly_core.specs.Limits.{IsWithinLimits}
 use Rattle.rly_core.specs.declared.params.Params.{Params}
 use Rattle.rly_machine.specs.declared.command.Command.{Command}
 use Rattle.rly_machine.specs.declared.command.Command.TheVariants.{Take, Pick, Release}
 use Rattle.rly_machine.specs.declared.reply.Reply.{Reply}
-use Rattle.rly_machine.specs.State.{State, hop_at, new_state}
+use Rattle.rly_machine.specs.State.{State, new_state}
 use Rattle.rly_machine.specs.Accepted.{unless}
 use Rattle.rly_machine.specs.Pick.{pick_refusal}
 use Rattle.rly_machine.specs.Release.{release_refusal}

@@ -1,11 +1,10 @@
 -- Each accepted command keeps a state sound.
-use Rattle.std.proofs.Common.{ℕ, ◌≡◌, ◌+◌, ◌-◌, ◌*◌, ◌^◌, ◌<◌, ◌≤◌, max, List, [], ◌∷◌, ◌++◌, length, get_or, set, take, drop, refl, arith, sym, ◌∙◌, ap, sum, sum_by, ◌⊎◌, inl, inr, subst}
+use Rattle.std.proofs.Common.{ℕ, ◌≡◌, ◌+◌, ◌-◌, ◌^◌, ◌<◌, ◌≤◌, max, List, [], ◌∷◌, ◌++◌, length, set, take, drop, refl, arith, ◌∙◌, sum, inl, inr}
 use Rattle.std.proofs.lemmas.Bool.{cases_lt}
 use Rattle.std.specs.List.{All, AllPairs}
-use Rattle.std.proofs.lemmas.List.{length-set, length-append, append_assoc, length_push, get_or-drop, length-drop, get_or_append_left, get_or-append_right, get_or_push, drop-append-le}
+use Rattle.std.proofs.lemmas.List.{length-set, length-append, append_assoc, length_push, get_or-drop, length-drop, get_or_append_left, get_or_push, drop-append-le}
 use Rattle.std.proofs.lemmas.List.Elements.{All-set, All-weaker, All-get_or, All-push, All-drop}
 use Rattle.std.proofs.lemmas.List.Sums.{sum_by-set, sum_by_push, sum_by-append, sum_by-take-drop}
-use Rattle.rly_core.specs.Limits.{IsWithinLimits}
 use Rattle.rly_core.specs.declared.ids.HopId.{HopId}
 use Rattle.rly_core.specs.declared.ids.PeerId.{PeerId}
 use Rattle.rly_core.specs.declared.params.Params.{Params}

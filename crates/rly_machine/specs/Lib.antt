@@ -9,4 +9,5 @@ pub mod Ask
 pub mod Fold
 pub mod Sound
 pub mod Kept
+pub mod Custody
 pub mod Map

@@ -1,5 +1,5 @@
 -- A state, and a command, with every payload replaced by what stands for it.
-use Rattle.std.specs.Prelude.{List, map}
+use Rattle.std.specs.Prelude.{map}
 use Rattle.rly_machine.specs.declared.command.Command.{Command}
 use Rattle.rly_machine.specs.declared.command.Command.TheVariants.{Take, Pick, Release}
 use Rattle.rly_machine.specs.declared.hop.Item.{Item}

@@ -1,9 +1,8 @@
 -- Take: a datagram comes in. Its checks stand in a row: the first that fails is answered, and nothing changes.
-use Rattle.std.specs.Prelude.{ℕ, ◌+◌, ◌-◌, ◌^◌, List, [], ◌∷◌, ◌++◌, slice_set, nat_lt, nat_le, ◌||◌, not, max, Bool, if◌then◌else◌, Option, Some, None}
+use Rattle.std.specs.Prelude.{ℕ, ◌+◌, ◌-◌, ◌^◌, [], ◌∷◌, ◌++◌, slice_set, nat_lt, nat_le, ◌||◌, not, max, Bool, if◌then◌else◌, Option, Some, None}
 use Rattle.rly_core.specs.declared.ids.HopId.{HopId}
 use Rattle.rly_core.specs.declared.ids.PeerId.{PeerId}
 use Rattle.rly_core.specs.declared.refusal.Refusal.TheVariants.{NoSuchPeer, NoSuchHop, BadMoment, TooLong, Gap, Full, Spent}
-use Rattle.rly_machine.specs.declared.hop.Item.{Item}
 use Rattle.rly_machine.specs.declared.reply.Reply.{Reply}
 use Rattle.rly_machine.specs.declared.reply.Reply.TheVariants.{Taken, Already, Refused}
 use Rattle.rly_machine.specs.Accepted.{accept, max_seq, unless}

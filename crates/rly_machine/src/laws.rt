@@ -1,12 +1,14 @@
 //! Laws over the definitions, each the clause of a function that does nothing.
 
-ghost use Rattle.std.specs.Prelude.{◌≡◌, List, map};
+ghost use Rattle.std.specs.Prelude.{◌≡◌, IsTrue, List, map};
 ghost use Rattle.rly_core.specs.Limits.{IsWithinLimits};
 ghost use Rattle.rly_core.specs.declared.params.Params.{Params};
+ghost use Rattle.rly_core.specs.declared.ids.HopId.{HopId};
+ghost use Rattle.rly_machine.specs.Custody.{KeepsCustody, told_along};
 ghost use Rattle.rly_machine.specs.Fold.{fold};
 ghost use Rattle.rly_machine.specs.Map.{map_command, map_state};
 ghost use Rattle.rly_machine.specs.Sound.{IsSound};
-ghost use Rattle.rly_machine.specs.State.{State, new_state};
+ghost use Rattle.rly_machine.specs.State.{State, has_hop, hop_at, new_state};
 ghost use Rattle.rly_machine.specs.Step.{step};
 ghost use Rattle.rly_machine.specs.declared.command.Command.{Command};
 
@@ -30,4 +32,12 @@ pub fn law_map<P: Content, Q: Content>()
     ensures folds { (f : P → Q) → ((payload : P) → Q.length_of (f payload) ≡ P.length_of payload)
         → (s : State P) (commands : List (Command P))
         → fold Q.length_of (map_state f s) (map (map_command f) commands) ≡ map_state f (fold P.length_of s commands) }
+{}
+
+/// Whatever commands come to a new spool, at each hop: each id that was answered Taken waits, or was
+/// dropped, or went into flight, as often as it was taken, which is once; those in flight are those
+/// that went into flight less those whose numbers were released; and custody numbers rise by one.
+pub fn law_custody<C: Content>()
+    ensures { (params : Params) (commands : List (Command C)) (hop : HopId) → IsTrue (has_hop (new_state {P = C} params) hop)
+        → KeepsCustody (hop_at (fold C.length_of (new_state params) commands) hop) (told_along C.length_of hop (new_state params) commands) }
 {}

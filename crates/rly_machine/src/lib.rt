@@ -20,7 +20,7 @@ mod tests;
 pub use crate::command::{Ask, Command, Query};
 pub use crate::content::{Content, Payload};
 pub use crate::hop::{Hop, Item};
-pub use crate::laws::{law_balance, law_map};
+pub use crate::laws::{law_balance, law_custody, law_map};
 pub use crate::machine::Machine;
 pub use crate::reply::{HopStatus, Ids, Reply};
 pub use crate::room::Room;

@@ -1,7 +1,7 @@
-use Rattle.std.proofs.Common.{◌≡◌, ◌+◌, drop, map, take, vec_capacity}
+use Rattle.std.proofs.Common.{◌≡◌, drop, map, take, vec_capacity}
 use Rattle.std.specs.VecDeque.{deque_capacity}
 use Rattle.rly_machine.specs.Kept.{hop_of}
-use Rattle.rly_machine.specs.State.{HopState, bytes_of}
+use Rattle.rly_machine.specs.State.{bytes_of}
 use Rattle.rly_machine.proofs.hop.Hop.drop_front.Given as goal
 
 -- so many went from the front of the queue, their ids were listed, and their bytes counted

@@ -1,6 +1,4 @@
-use Rattle.std.proofs.Common.{◌≡◌, ◌≤◌, arith, ℕ, sym, subst, max}
-use Rattle.std.specs.List.{All}
-use Rattle.rly_codel.specs.Waiting.{Waiting}
+use Rattle.std.proofs.Common.{arith, ℕ}
 use Rattle.rly_machine.specs.Accepted.{max_seq}
 use Rattle.rly_machine.proofs.Picking.{back_all}
 use Rattle.rly_machine.specs.Sound.{IsLive}

@@ -1,6 +1,6 @@
 use Rattle.std.proofs.Common.{◌≡◌, ◌+◌, drop}
 use Rattle.rly_machine.specs.Kept.{hop_of}
-use Rattle.rly_machine.specs.State.{HopState, bytes_of}
+use Rattle.rly_machine.specs.State.{bytes_of}
 use Rattle.rly_machine.proofs.hop.Hop.release.Given as goal
 
 -- so many went from the front of the flight, and their bytes were counted

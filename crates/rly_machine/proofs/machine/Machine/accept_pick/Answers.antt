@@ -1,4 +1,4 @@
-use Rattle.std.proofs.Common.{◌≡◌, ◌≤◌, arith, ap, sym, subst, ◌∙◌, None, ℕ}
+use Rattle.std.proofs.Common.{◌≡◌, ap, sym, subst, ◌∙◌, None, ℕ}
 use Rattle.rly_machine.specs.Accepted.{max_seq}
 use Rattle.rly_machine.specs.Pick.{pick_refusal, pick_step}
 use Rattle.rly_machine.specs.State.{Spool, State}

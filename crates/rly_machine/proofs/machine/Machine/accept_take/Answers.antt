@@ -1,6 +1,6 @@
-use Rattle.std.proofs.Common.{◌≡◌, ◌+◌, ◌-◌, ◌<◌, ◌≤◌, length, arith, ap, sym, subst, ◌∙◌, None, ℕ, map}
+use Rattle.std.proofs.Common.{◌≡◌, ◌-◌, ◌<◌, length, arith, ap, sym, subst, ◌∙◌, None, ℕ}
 use Rattle.std.proofs.lemmas.List.{length-map}
-use Rattle.rly_machine.specs.Kept.{IsKept, hop_of, state_of}
+use Rattle.rly_machine.specs.Kept.{hop_of, state_of}
 use Rattle.rly_machine.specs.State.{Spool, State, HopState}
 use Rattle.rly_machine.specs.Take.{take_refusal, take_step}
 use Rattle.rly_machine.specs.declared.hop.Hop.{Hop}

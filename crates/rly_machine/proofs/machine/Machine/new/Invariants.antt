@@ -1,4 +1,4 @@
-use Rattle.std.proofs.Common.{◌≡◌, length, map, replicate, vec_capacity}
+use Rattle.std.proofs.Common.{◌≡◌, map, replicate, vec_capacity}
 use Rattle.rly_machine.specs.Kept.{hop_of}
 use Rattle.rly_machine.specs.State.{new_hop}
 use Rattle.rly_machine.proofs.machine.Machine.new.Given as goal

@@ -1,7 +1,7 @@
-use Rattle.std.proofs.Common.{◌≡◌, ◌+◌, ◌-◌, ◌<◌, ◌≤◌, arith, ap, sym, subst, ◌∙◌, ℕ, length, get_or, map, refl, Ok, Err, Result}
-use Rattle.std.specs.Result.{IfOk, OnOk}
+use Rattle.std.proofs.Common.{◌<◌, ap, sym, subst, ◌∙◌, length, get_or, map, Ok, Err, Result}
+use Rattle.std.specs.Result.{OnOk}
 use Rattle.std.proofs.lemmas.Result.{IfOk-weaker}
-use Rattle.rly_machine.specs.Kept.{IsKept, hop_of, state_of}
+use Rattle.rly_machine.specs.Kept.{IsKept, hop_of}
 use Rattle.rly_machine.specs.State.{Spool, State, HopState, hop_at, new_hop}
 use Rattle.rly_machine.specs.declared.hop.Hop.{Hop}
 use Rattle.rly_machine.proofs.Keeping.{place_of, read_hop, room_made, same_state}

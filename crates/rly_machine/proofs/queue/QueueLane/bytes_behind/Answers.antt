@@ -1,7 +1,6 @@
-use Rattle.std.proofs.Common.{◌≡◌, ◌+◌, ◌<◌, ◌≤◌, arith, ℕ, length, drop, ap}
-use Rattle.rly_codel.specs.Waiting.{bytes_of}
+use Rattle.std.proofs.Common.{◌+◌, ◌<◌, arith, ℕ, length}
 use Rattle.rly_machine.specs.Pick.{waiting_of}
-use Rattle.rly_machine.proofs.Waiting.{waiting_length, behind_step, behind_le}
+use Rattle.rly_machine.proofs.Waiting.{behind_step, behind_le}
 use Rattle.rly_machine.proofs.queue.QueueLane.bytes_behind.Goals as goal
 
 pub overflow_add-bytes : goal.overflow_add-bytes

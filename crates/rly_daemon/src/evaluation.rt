@@ -1,0 +1,93 @@
+ghost use Rattle.std.specs.Prelude.{◌≡◌, ◌∷◌, ◌++◌, [], IfOk, OnErr, OnOk, string_bytes};
+ghost use Rattle.rly_machine.specs.Ask.{ask_step};
+ghost use Rattle.rly_machine.specs.Query.{query_reply};
+ghost use Rattle.rly_daemon.specs.Replies.{reply_text, subject_of};
+ghost use Rattle.rly_daemon.specs.Text.{answer_of};
+
+use crate::grammar::parse_line;
+use crate::reply_line::{ReplyLine, Subject};
+use rly_core::Refusal;
+use rly_machine::{Ask, Machine, Payload, Query, Reply};
+use std::alloc::{AllocError, Global};
+
+/// Evaluates the ask of a line on a machine, and leaves in `text` the reply line with its newline.
+/// Where memory is refused, `text` holds anything.
+pub fn answer_line(
+    alloc: Global,
+    machine: &mut Machine<Payload>,
+    line: &[u8],
+    text: &mut String,
+) -> Result<(), AllocError>
+    ensures state { OnOk result (machine.new.state ≡ (answer_of machine.old.state line.now).0) }
+    ensures text { OnOk result (string_bytes text.new ≡ (answer_of machine.old.state line.now).1 ++ 10 ∷ []) }
+{
+    text.clear();
+    match parse_line(alloc, line)? {
+        Some(ask) => answer_ask(alloc, machine, ask, text),
+        None => {
+            let refusal = Refusal::Line;
+            writeln!(text, "{refusal}")?;
+            Ok(())
+        }
+    }
+}
+
+/// Evaluates an ask, and adds its reply line with the newline.
+fn answer_ask(
+    alloc: Global,
+    machine: &mut Machine<Payload>,
+    ask: Ask,
+    text: &mut String,
+) -> Result<(), AllocError>
+    ensures state { OnOk result (machine.new.state ≡ (ask_step machine.old.state ask).0) }
+    ensures text { OnOk result (string_bytes text.new ≡ string_bytes text.old ++ reply_text (subject_of ask) (ask_step machine.old.state ask).1 ++ 10 ∷ []) }
+{
+    let subject = Subject::of(&ask);
+    let reply = evaluate(alloc, machine, ask)?;
+    let line = ReplyLine {
+        subject,
+        reply: &reply,
+    };
+    writeln!(text, "{line}")?;
+    Ok(())
+}
+
+/// Makes one step of a machine with an ask. Where memory is refused, the state is as it was.
+pub fn evaluate(
+    alloc: Global,
+    machine: &mut Machine<Payload>,
+    ask: Ask,
+) -> Result<Reply, AllocError>
+    ensures state { OnOk result (machine.new.state ≡ (ask_step machine.old.state ask).0) }
+    ensures reply { IfOk result (λ reply. reply ≡ (ask_step machine.old.state ask).1) }
+    ensures err { OnErr result (machine.new.state ≡ machine.old.state) }
+{
+    match ask {
+        Ask::Command(command) => {
+            let room = machine.reserve_for(alloc, &command)?;
+            Ok(machine.apply(command, room))
+        }
+        Ask::Query(query) => answer_query(alloc, machine, query),
+    }
+}
+
+/// The reply to a question. Only Fetch takes memory.
+fn answer_query(
+    alloc: Global,
+    machine: &Machine<Payload>,
+    query: Query,
+) -> Result<Reply, AllocError>
+    ensures { IfOk result (λ reply. reply ≡ query_reply machine.now.state query) }
+{
+    match query {
+        Query::Fetch { hop, number } => match machine.item(hop, number) {
+            Ok(item) => {
+                let bytes = item.payload.as_slice().to_vec(alloc)?;
+                Ok(Reply::Bytes(Payload::new(bytes)))
+            }
+            Err(refusal) => Ok(Reply::Refused(refusal)),
+        },
+        Query::Window { hop } => Ok(machine.ask_window(hop)),
+        Query::Show { hop } => Ok(machine.ask_show(hop)),
+    }
+}

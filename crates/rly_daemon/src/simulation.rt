@@ -1,0 +1,76 @@
+ghost use Rattle.std.specs.Prelude.{◌≡◌, ◌<◌, ◌^◌, IfOk, IfSome, Ok, OnErr, OnOk, true};
+ghost use Rattle.std.specs.Io.KnownBytes.{Appends, Keeps, prepend_known};
+ghost use Rattle.rly_core.specs.Limits.{IsWithinLimits};
+ghost use Rattle.rly_machine.specs.State.{new_state};
+ghost use Rattle.rly_daemon.specs.Text.{AnswersLine, AppendsBeginning, BeginsAnswer, text_of};
+
+use crate::evaluation::answer_line;
+use crate::fault::SimFault;
+use crate::line_reader::LineReader;
+use crate::streams::write_whole;
+use rly_core::Params;
+use rly_machine::{Machine, Payload};
+use std::alloc::Global;
+use std::io::{Read, Write};
+
+/// Runs commands from a reader on a new machine in memory, and writes a reply line for each line.
+/// Memory grows with the live datagrams, never with the length of the input. Replies are flushed
+/// before the reader is waited for, so that commands may be typed one by one.
+pub fn sim<R: Read, W: Write>(
+    alloc: Global,
+    params: Params,
+    reader: &mut R,
+    writer: &mut W,
+) -> Result<(), SimFault>
+    requires { IsWithinLimits params }
+    // What is written is the text of what is read.
+    ensures written { OnOk result (IfSome (R.remaining reader.old) (λ input.
+        Appends (W.contents writer.old) (W.contents writer.new) (text_of (new_state params) input))) }
+    // Where it stops early, a beginning of that text was written.
+    ensures begun { OnErr result (IfSome (R.remaining reader.old) (λ input.
+        AppendsBeginning (W.contents writer.old) (W.contents writer.new) (text_of (new_state params) input))) }
+{
+    let mut machine = Machine::new(alloc, params)?;
+    let mut lines = LineReader::new(alloc)?;
+    let mut text = String::new(alloc);
+    'answers: while answer_next(alloc, &mut machine, &mut lines, &mut text, reader, writer)? {}
+    Ok(())
+}
+
+/// Answers the next line, and says whether there was one.
+fn answer_next<R: Read, W: Write>(
+    alloc: Global,
+    machine: &mut Machine<Payload>,
+    lines: &mut LineReader,
+    text: &mut String,
+    reader: &mut R,
+    writer: &mut W,
+) -> Result<bool, SimFault>
+    ensures answered { IfOk result (λ more. AnswersLine more
+        (prepend_known lines.old.ahead (R.remaining reader.old)) (prepend_known lines.new.ahead (R.remaining reader.new))
+        (W.contents writer.old) (W.contents writer.new) machine.old.state machine.new.state) }
+    ensures begun { OnErr result (BeginsAnswer (prepend_known lines.old.ahead (R.remaining reader.old))
+        (W.contents writer.old) (W.contents writer.new) machine.old.state) }
+    ensures progress { result ≡ Ok true → (lines.old.taken < lines.new.taken) × (lines.new.taken < 2 ^ 64) }
+{
+    hand_on(lines, writer)?;
+    if !lines.next_line(reader)? {
+        return Ok(false);
+    }
+    answer_line(alloc, machine, lines.line(), text)?;
+    write_whole(writer, text.as_bytes())?;
+    Ok(true)
+}
+
+/// Hands on the replies that a writer holds back, if the next line waits for the reader.
+fn hand_on<W: Write>(lines: &LineReader, writer: &mut W) -> Result<(), SimFault>
+    ensures { Keeps (W.contents writer.old) (W.contents writer.new) }
+{
+    if !lines.is_drained() {
+        return Ok(());
+    }
+    match writer.flush() {
+        Ok(()) => Ok(()),
+        Err(_) => Err(SimFault::Output),
+    }
+}

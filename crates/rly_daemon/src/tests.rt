@@ -1,0 +1,3 @@
+mod programs;
+mod rows;
+mod streams;

@@ -1,0 +1,100 @@
+//! Long lines, short reads, and readers and writers that fail.
+
+use super::rows::replies;
+use crate::{SimFault, sim};
+use rly_core::Params;
+use std::io;
+use std::io::{Error, ErrorKind, Read, Write};
+use std::test::Fail;
+
+/// A reader that gives its bytes one at a time, interrupted before each, and then fails.
+#[derive(Drop)]
+struct Failing<'a> {
+    bytes: &'a [u8],
+    interrupted: bool,
+}
+
+impl Read for Failing<'_> {
+    fn read(&mut self, buffer: &mut [u8]) -> io::Result<usize> {
+        self.interrupted = !self.interrupted;
+        if self.interrupted {
+            return Err(Error::from(ErrorKind::Interrupted));
+        }
+        let Some((first, rest)) = self.bytes.split_first() else {
+            return Err(Error::from(ErrorKind::TimedOut));
+        };
+        if buffer.is_empty() {
+            return Ok(0);
+        }
+        buffer[0] = *first;
+        self.bytes = rest;
+        Ok(1)
+    }
+}
+
+/// A writer that takes so many bytes, three at a time, and then fails.
+#[derive(Drop)]
+struct Full {
+    written: Vec<u8>,
+    room: usize,
+}
+
+impl Write for Full {
+    fn write(&mut self, text: &[u8]) -> io::Result<usize> {
+        let count = text.len().min(3).min(self.room);
+        if count == 0 {
+            return Err(Error::from(ErrorKind::TimedOut));
+        }
+        self.written.extend_from_slice(&text[..count])?;
+        self.room -= count;
+        Ok(count)
+    }
+
+    fn flush(&mut self) -> io::Result<()> {
+        Ok(())
+    }
+}
+
+#[test]
+fn a_failed_read_ends_with_a_beginning(rt: HostRuntime) -> Result<(), Fail> {
+    let mut reader = Failing {
+        bytes: b"take 1 1 1 0 41\ndone 1",
+        interrupted: false,
+    };
+    let mut written = Vec::new(rt.alloc());
+    let outcome = sim(rt.alloc(), Params::DEFAULT, &mut reader, &mut written);
+    assert_eq!(rt; outcome, Err(SimFault::Input));
+    assert_eq!(rt; written.as_slice(), b"taken 1 1\n".as_slice());
+    Ok(())
+}
+
+#[test]
+fn a_failed_write_ends_with_a_beginning(rt: HostRuntime) -> Result<(), Fail> {
+    let mut reader = b"take 1 1 1 0 41\ndone 1 0\n".as_slice();
+    let mut writer = Full {
+        written: Vec::new(rt.alloc()),
+        room: 16,
+    };
+    let outcome = sim(rt.alloc(), Params::DEFAULT, &mut reader, &mut writer);
+    assert_eq!(rt; outcome, Err(SimFault::Output));
+    assert_eq!(rt; writer.written.as_slice(), b"taken 1 1\nunchan".as_slice());
+    Ok(())
+}
+
+#[test]
+fn lines_are_bounded(rt: HostRuntime) -> Result<(), Fail> {
+    let mut input = String::new(rt.alloc());
+    for length in [4_096, 4_097, 20_000] {
+        for _byte in 0..length {
+            input.push_str("0")?;
+        }
+        input.push_str("\n")?;
+    }
+    input.push_str("done 1 0")?;
+    let written = replies(rt.alloc(), Params::DEFAULT, input.as_str())?;
+    assert_eq!(rt;
+        written.as_slice(),
+        b"refused 16 line\nrefused 16 line\nrefused 16 line\nunchanged 1\n".as_slice()
+    );
+    Ok(())
+}

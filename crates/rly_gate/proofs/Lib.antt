@@ -1,0 +1,4 @@
+pub mod Frames
+pub mod Appending
+pub mod Rereading
+pub mod Holding

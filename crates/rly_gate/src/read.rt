@@ -1,0 +1,123 @@
+ghost use Rattle.std.specs.Prelude.{◌≡◌, ◌≢◌, ◌+◌, ◌<◌, ◌≤◌, Err, IfOk, IsOkUnless, OnOk, IsTrue, ◌↔◌, length, slice_range};
+ghost use Rattle.byteorder.specs.Endian.{big_bytes};
+ghost use Rattle.rly_disk.specs.DiskModel.{Rose};
+ghost use Rattle.rly_gate.specs.Group.{IsOpen};
+ghost use Rattle.rly_gate.specs.Reading.{IsReadGroup, IsReadLength, OnlyRead};
+
+use crate::gate::{LENGTH_BYTES, OPEN_GATE};
+use byteorder::{BigEndian, ByteOrder};
+use rly_disk::Disk;
+use std::alloc::Global;
+
+/// Why a group was not read. The disk reads as before.
+#[derive(Clone, Copy, Debug, PartialEq, Eq)]
+pub enum GroupFault {
+    /// The memory for the body was refused.
+    OutOfMemory,
+    /// The gate is open, and the group and the gate behind it don't lie before the end.
+    Damaged,
+    /// A read of the device failed.
+    Device,
+}
+
+/// Reads the body of the group at a gate, or `None` where the gate is closed. The group and the
+/// gate behind it lie before `end`.
+pub fn read_group<D: Disk>(
+    alloc: Global,
+    disk: &mut D,
+    at: u64,
+    end: u64,
+) -> Result<Option<Vec<u8>>, GroupFault>
+    requires gate { at < end }
+    requires end { end ≤ (D.state disk.old).size }
+    ensures read { (D.state disk.old).honest → IsReadGroup (D.state disk.old).seen at end result }
+    ensures only { OnlyRead (D.state disk.old) (D.state disk.new) }
+    ensures rise { result ≡ Err GroupFault.Device → Rose (D.state disk.old) (D.state disk.new) }
+{
+    if !is_open(disk, at)? {
+        return Ok(None);
+    }
+    let length = read_length(disk, at, end)?;
+    let body = read_body(alloc, disk, at + 1 + LENGTH_BYTES as u64, length)?;
+    Ok(Some(body))
+}
+
+/// Whether the gate at a place is open.
+fn is_open<D: Disk>(disk: &mut D, at: u64) -> Result<bool, GroupFault>
+    requires { at + 1 ≤ (D.state disk.old).size }
+    ensures read { (D.state disk.old).honest → IfOk result (λ opened. IsTrue opened ↔ IsOpen (D.state disk.old).seen at) }
+    ensures fault { IsOkUnless result GroupFault.Device }
+    ensures only { OnlyRead (D.state disk.old) (D.state disk.new) }
+    ensures rise { result ≡ Err GroupFault.Device → Rose (D.state disk.old) (D.state disk.new) }
+{
+    let mut gate = [0u8; 1];
+    read(disk, at, &mut gate)?;
+    Ok(gate[0] == OPEN_GATE)
+}
+
+/// The length of the body of the group at an open gate, where that group and the gate behind it
+/// lie before the end.
+fn read_length<D: Disk>(disk: &mut D, at: u64, end: u64) -> Result<usize, GroupFault>
+    requires gate { at < end }
+    requires end { end ≤ (D.state disk.old).size }
+    ensures read { (D.state disk.old).honest → IsReadLength (D.state disk.old).seen at end result }
+    ensures memory { result ≢ Err GroupFault.OutOfMemory }
+    ensures only { OnlyRead (D.state disk.old) (D.state disk.new) }
+    ensures rise { result ≡ Err GroupFault.Device → Rose (D.state disk.old) (D.state disk.new) }
+    ensures within { IfOk result (λ n. at + 6 + n ≤ end) }
+{
+    let room = end - at - 1;
+    if room < LENGTH_BYTES as u64 + 1 {
+        return Err(GroupFault::Damaged);
+    }
+    let mut field = [0u8; LENGTH_BYTES];
+    read(disk, at + 1, &mut field)?;
+    let length = length_in(&field);
+    if u64::from(length) > room - LENGTH_BYTES as u64 - 1 {
+        return Err(GroupFault::Damaged);
+    }
+    Ok(length as usize)
+}
+
+/// The length that a field spells.
+fn length_in(field: &[u8; LENGTH_BYTES]) -> u32
+    ensures { big_bytes 4 result ≡ field.now }
+{
+    BigEndian::read_u32(field)
+}
+
+/// Reads so many bytes of a body.
+fn read_body<D: Disk>(
+    alloc: Global,
+    disk: &mut D,
+    place: u64,
+    length: usize,
+) -> Result<Vec<u8>, GroupFault>
+    requires { place + length ≤ (D.state disk.old).size }
+    ensures read { (D.state disk.old).honest
+        → IfOk result (λ body. body.items ≡ slice_range (D.state disk.old).seen place (place + length)) }
+    ensures undamaged { result ≢ Err GroupFault.Damaged }
+    ensures only { OnlyRead (D.state disk.old) (D.state disk.new) }
+    ensures rise { result ≡ Err GroupFault.Device → Rose (D.state disk.old) (D.state disk.new) }
+{
+    let Ok(mut body) = vec![in alloc; 0u8; length] else {
+        return Err(GroupFault::OutOfMemory);
+    };
+    read(disk, place, &mut body)?;
+    Ok(body)
+}
+
+/// Fills a buffer from a place on.
+fn read<D: Disk>(disk: &mut D, place: u64, buffer: &mut [u8]) -> Result<(), GroupFault>
+    requires { place + length buffer.old ≤ (D.state disk.old).size }
+    ensures read { (D.state disk.old).honest
+        → OnOk result (buffer.new ≡ slice_range (D.state disk.old).seen place (place + length buffer.old)) }
+    ensures fault { IsOkUnless result GroupFault.Device }
+    ensures only { OnlyRead (D.state disk.old) (D.state disk.new) }
+    ensures rise { result ≡ Err GroupFault.Device → Rose (D.state disk.old) (D.state disk.new) }
+{
+    match disk.read_at(place, buffer) {
+        Ok(()) => Ok(()),
+        Err(_) => Err(GroupFault::Device),
+    }
+}

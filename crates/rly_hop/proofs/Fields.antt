@@ -1,0 +1,144 @@
+-- The fields of a datagram: their bytes at a place, and what tests of them say.
+use Rattle.std.proofs.Common.{◌≡◌, ℕ, zero, suc, ◌+◌, ◌<◌, ◌≤◌, Bool, true, false, not, ◌||◌, ◌==◌, nat_lt, slice_index, List, [], ◌∷◌, ◌++◌, ◌⊎◌, length, get_or, take, drop, Option, Some, None, Ok, refl, append_assoc, arith, inl, inr}
+use Rattle.std.proofs.lemmas.Bool.{cases_lt, eqb-true, ltb-false, not-false, or_cases, or_parts}
+use Rattle.std.proofs.lemmas.List.{take-append-drop, drop-drop, length-take, length-drop, get_or-drop, get_or-take, get_or_past}
+use Rattle.std.proofs.lemmas.Nat.{be_bytes_2, be_bytes_8}
+use Rattle.byteorder.specs.Endian.{big_bytes}
+use Rattle.rly_core.specs.declared.refusal.Refusal.{Refusal}
+use Rattle.rly_hop.specs.Rows.{first_row}
+use Rattle.rly_hop.specs.Reading.{number_at, unless}
+
+-- each item is a byte
+abbrev pub IsBytes : List ℕ → Type 0
+IsBytes bytes = (i : ℕ) → get_or bytes i 0 < 256
+
+pub IsBytes-drop : (n : ℕ) (bytes : List ℕ) → IsBytes bytes → IsBytes (drop n bytes)
+IsBytes-drop n bytes fits i = rw get_or-drop (fits (n + i))
+
+IsBytes-take : (n : ℕ) (bytes : List ℕ) → IsBytes bytes → IsBytes (take n bytes)
+IsBytes-take n bytes fits i =
+    elim (cases_lt i n) [
+      | inl lt ↦ rw (get_or-take n bytes i 0 lt) (fits i)
+      | inr le ↦ rw (get_or_past (take n bytes) i 0 (omega (arith, length-take n bytes))) (omega arith)
+    ]
+
+-- a field's bytes
+abbrev pub field : ℕ → ℕ → List ℕ → List ℕ
+field width place bytes = take width (drop place bytes)
+
+field-fits : (width place : ℕ) (bytes : List ℕ) → IsBytes bytes → IsBytes (field width place bytes)
+field-fits width place bytes fits = IsBytes-take width (drop place bytes) (IsBytes-drop place bytes fits)
+
+length-field : (width place : ℕ) (bytes : List ℕ) → place + width ≤ length bytes → length (field width place bytes) ≡ width
+length-field width place bytes long = omega (arith, length-take width (drop place bytes), length-drop place bytes)
+
+-- an item of a field
+item : (width k : ℕ) (bytes : List ℕ) → k < width → get_or (take width bytes) k 0 ≡ get_or bytes k 0
+item width k bytes lt = get_or-take width bytes k 0 lt
+
+-- a number of two or eight bytes, spelled again
+pub field_2 : (place : ℕ) (bytes : List ℕ) → IsBytes bytes → place + 2 ≤ length bytes → big_bytes 2 (number_at 2 place bytes) ≡ field 2 place bytes
+field_2 place bytes fits long =
+    let rest : List ℕ = drop place bytes in
+    be_bytes_2 (field 2 place bytes) (number_at 2 place bytes) (length-field 2 place bytes long) (field-fits 2 place bytes fits)
+    (omega (arith, item 2 0 rest (omega arith), item 2 1 rest (omega arith)))
+
+pub field_8 : (place : ℕ) (bytes : List ℕ) → IsBytes bytes → place + 8 ≤ length bytes → big_bytes 8 (number_at 8 place bytes) ≡ field 8 place bytes
+field_8 place bytes fits long =
+    let rest : List ℕ = drop place bytes in
+    be_bytes_8 (field 8 place bytes) (number_at 8 place bytes) (length-field 8 place bytes long) (field-fits 8 place bytes fits)
+    (omega (arith, item 8 0 rest (omega arith), item 8 1 rest (omega arith), item 8 2 rest (omega arith), item 8 3 rest (omega arith), item 8 4 rest (omega arith), item 8 5 rest (omega arith), item 8 6 rest (omega arith), item 8 7 rest (omega arith)))
+
+-- a field and what is behind it
+pub field-append : (width place behind : ℕ) (bytes : List ℕ) → behind ≡ place + width → field width place bytes ++ drop behind bytes ≡ drop place bytes
+field-append width place behind bytes e = rw (e, ← drop-drop) (take-append-drop width (drop place bytes))
+
+-- the front of a message: the protocol's two bytes, the version and the kind
+pub front : (bytes : List ℕ) (kind : ℕ) → IsBytes bytes → 8 ≤ length bytes → number_at 2 0 bytes ≡ 0x524c → slice_index bytes 2 ≡ 1 → slice_index bytes 3 ≡ kind → 0x52 ∷ 0x4c ∷ 1 ∷ kind ∷ [] ≡ take 4 bytes
+front [] kind fits long magic version is = absurd (omega arith)
+front (a ∷ []) kind fits long magic version is = absurd (omega arith)
+front (a ∷ b ∷ []) kind fits long magic version is = absurd (omega arith)
+front (a ∷ b ∷ c ∷ []) kind fits long magic version is = absurd (omega arith)
+front (a ∷ b ∷ c ∷ d ∷ bytes) kind fits long magic version is =
+    let first : a ≡ 0x52 = omega (arith, fits 0, fits 1) in
+    let second : b ≡ 0x4c = omega (arith, fits 0, fits 1) in
+    rw (first, second, version, is) refl
+
+-- parts of which each ends where the next begins
+pub joined_3 : (a b c d r r8 r6 r4 bytes : List ℕ) → d ++ r ≡ r8 → c ++ r8 ≡ r6 → b ++ r6 ≡ r4 → a ++ r4 ≡ bytes → ((a ++ b) ++ c) ++ d ++ r ≡ bytes
+joined_3 a b c d r r8 r6 r4 bytes e8 e6 e4 e0 = simp append_assoc (rw (e8, e6, e4) e0)
+
+-- the tests of the nine rows of faults, none of which is met
+pub record NoFault (a b c d e f g h i : Bool) : Type 0 where
+  pub header : a ≡ false
+  pub magic : b ≡ false
+  pub version : c ≡ false
+  pub kind : d ≡ false
+  pub station : e ≡ false
+  pub fixed : f ≡ false
+  pub payload : g ≡ false
+  pub short : h ≡ false
+  pub long : i ≡ false
+
+pub no_fault : (a b c d e f g h i : Bool) (x1 x2 x3 x4 x5 x6 x7 x8 x9 : Refusal)
+    → first_row ((a, Some x1) ∷ (b, Some x2) ∷ (c, Some x3) ∷ (d, Some x4) ∷ (e, Some x5) ∷ (f, Some x6) ∷ (g, Some x7) ∷ (h, Some x8) ∷ (i, Some x9) ∷ []) None ≡ None
+    → NoFault a b c d e f g h i
+no_fault true b c d e f g h i x1 x2 x3 x4 x5 x6 x7 x8 x9 none = absurd cc
+no_fault false true c d e f g h i x1 x2 x3 x4 x5 x6 x7 x8 x9 none = absurd cc
+no_fault false false true d e f g h i x1 x2 x3 x4 x5 x6 x7 x8 x9 none = absurd cc
+no_fault false false false true e f g h i x1 x2 x3 x4 x5 x6 x7 x8 x9 none = absurd cc
+no_fault false false false false true f g h i x1 x2 x3 x4 x5 x6 x7 x8 x9 none = absurd cc
+no_fault false false false false false true g h i x1 x2 x3 x4 x5 x6 x7 x8 x9 none = absurd cc
+no_fault false false false false false false true h i x1 x2 x3 x4 x5 x6 x7 x8 x9 none = absurd cc
+no_fault false false false false false false false true i x1 x2 x3 x4 x5 x6 x7 x8 x9 none = absurd cc
+no_fault false false false false false false false false true x1 x2 x3 x4 x5 x6 x7 x8 x9 none = absurd cc
+no_fault false false false false false false false false false x1 x2 x3 x4 x5 x6 x7 x8 x9 none =
+    record { header = refl; magic = refl; version = refl; kind = refl; station = refl; fixed = refl; payload = refl; short = refl; long = refl }
+
+pub quiet : (a b c d e f g h i : Bool) (x1 x2 x3 x4 x5 x6 x7 x8 x9 : Refusal)
+    → NoFault a b c d e f g h i
+    → first_row ((a, Some x1) ∷ (b, Some x2) ∷ (c, Some x3) ∷ (d, Some x4) ∷ (e, Some x5) ∷ (f, Some x6) ∷ (g, Some x7) ∷ (h, Some x8) ∷ (i, Some x9) ∷ []) None ≡ None
+quiet a b c d e f g h i x1 x2 x3 x4 x5 x6 x7 x8 x9 none =
+    rw (none.header, none.magic, none.version, none.kind, none.station, none.fixed, none.payload, none.short, none.long) refl
+
+pub ok-is : {A : Type 0} (x y : A) → unless None x ≡ unless None y → x ≡ y
+ok-is x y e = cc
+
+pub unless-is : {A : Type 0} (fault : Option Refusal) (x y : A) → fault ≡ None → x ≡ y → unless fault x ≡ Ok y
+unless-is fault x y e same = rw (e, same) refl
+
+pub unless-ok : {A : Type 0} (fault : Option Refusal) (x y : A) → unless fault x ≡ Ok y → (fault ≡ None) × (x ≡ y)
+unless-ok None x y e = (refl, cc)
+unless-ok (Some fault) x y e = absurd cc
+
+-- what the tests of a datagram's header say
+pub record IsHeader (bytes : List ℕ) : Type 0 where
+  pub length_is : 8 ≤ length bytes
+  pub magic : number_at 2 0 bytes ≡ 0x524c
+  pub version : slice_index bytes 2 ≡ 1
+  pub from : 1 ≤ number_at 2 4 bytes
+  pub to : 1 ≤ number_at 2 6 bytes
+
+-- the kind is one of the three
+pub known_kind : (kind : ℕ) → not ((kind == 1) || (kind == 2) || (kind == 3)) ≡ false → (kind ≡ 1) ⊎ ((kind ≡ 2) ⊎ (kind ≡ 3))
+known_kind kind e =
+    elim (or_cases _ _ (not-false _ e)) [
+      | inl low ↦ elim (or_cases _ _ low) [ inl one ↦ inl (eqb-true _ _ one) | inr two ↦ inr (inl (eqb-true _ _ two)) ]
+      | inr three ↦ inr (inr (eqb-true _ _ three))
+    ]
+
+-- a number that isn't 0
+positive : (n : ℕ) → (n == 0) ≡ false → 1 ≤ n
+positive zero e = absurd cc
+positive (suc n) e = omega arith
+
+pub IsHeader-from : (bytes : List ℕ) → nat_lt (length bytes) 8 ≡ false → not (number_at 2 0 bytes == 0x524c) ≡ false → not (slice_index bytes 2 == 1) ≡ false → ((number_at 2 4 bytes == 0) || (number_at 2 6 bytes == 0)) ≡ false → IsHeader bytes
+IsHeader-from bytes long magic version station =
+    let parts = or_parts (number_at 2 4 bytes == 0) (number_at 2 6 bytes == 0) station in
+    record {
+      length_is = ltb-false _ _ long;
+      magic = eqb-true _ _ (not-false _ magic);
+      version = eqb-true _ _ (not-false _ version);
+      from = positive (number_at 2 4 bytes) parts.0;
+      to = positive (number_at 2 6 bytes) parts.1;
+    }

@@ -1,0 +1,5 @@
+pub mod Fields
+pub mod Messages
+pub mod Parts
+pub mod ReceivingLaws
+pub mod SendingLaws

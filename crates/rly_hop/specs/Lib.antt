@@ -1,0 +1,11 @@
+pub mod Rows
+pub mod Payloads
+pub mod Kinds
+pub mod Spelling
+pub mod Reading
+pub mod Receiver
+pub mod Receiving
+pub mod Sender
+pub mod Sending
+pub mod ReceivingRuns
+pub mod SendingRuns

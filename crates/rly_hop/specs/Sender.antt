@@ -1,0 +1,23 @@
+-- The state of the sending end of custody.
+use Rattle.std.specs.Prelude.{ℕ, Bool, Option, ◌≤◌, ◌<◌}
+use Rattle.std.specs.Option.{ForSome}
+use Rattle.rly_hop.specs.declared.message.StationId.{StationId}
+
+-- The own station, the hop's station, and the most datagrams in flight; whether the window is known; the numbers in
+-- flight that are known, from first to below next; the next of them to be sent; and the greatest of them that the hop's
+-- station has acknowledged since the last release.
+pub record Sender : Type 0 where
+  pub own : StationId
+  pub hop : StationId
+  pub window : ℕ
+  pub ready : Bool
+  pub first : ℕ
+  pub next : ℕ
+  pub cursor : ℕ
+  pub acked : Option ℕ
+
+-- the cursor stands in the flight or right behind it, and what is acknowledged is in the flight
+pub record IsInOrder (s : Sender) : Type 0 where
+  pub begun : s.first ≤ s.cursor
+  pub ended : s.cursor ≤ s.next
+  pub acked : ForSome s.acked (λ a. (s.first ≤ a) × (a < s.next))

@@ -1,0 +1,55 @@
+-- A sending core over a list of events.
+use Rattle.std.specs.Prelude.{◌≡◌, ◌⊎◌, ℕ, ◌≤◌, ◌<◌, true, Option, List, [], ◌∷◌, ◌++◌}
+use Rattle.rly_hop.specs.declared.message.StationId.{StationId}
+use Rattle.rly_hop.specs.declared.message.Message.TheVariants.{Custody}
+use Rattle.rly_hop.specs.declared.sending.event.OutEvent.{OutEvent}
+use Rattle.rly_hop.specs.declared.sending.event.OutEvent.TheVariants.{Turn, WindowIs, Picked, Nothing, Fetched, Released, Unchanged, Refused, Other, Heard, Timeout}
+use Rattle.rly_hop.specs.declared.sending.event.OutAction.{OutAction}
+use Rattle.rly_hop.specs.Sender.{Sender}
+use Rattle.rly_hop.specs.Sending.{sender, sent}
+
+-- the state after these events, one after the other
+abbrev pub sender_after : Sender → List (OutEvent (List ℕ)) → Sender
+sender_after s [] = s
+sender_after s (event ∷ events) = sender_after (sent s event).0 events
+
+-- what was named on each of these events: at most one action
+abbrev pub out_actions : Sender → List (OutEvent (List ℕ)) → List (Option (OutAction (List ℕ)))
+out_actions s [] = []
+out_actions s (event ∷ events) = (sent s event).1 ∷ out_actions (sent s event).0 events
+
+-- the window is known, and this number is in the flight that it shows
+pub record IsInFlight (s : Sender) (n : ℕ) : Type 0 where
+  pub ready : s.ready ≡ true
+  pub begun : s.first ≤ n
+  pub ended : n < s.next
+
+-- among the events the hop's station acknowledged this number, which was in the core's flight at that moment
+pub record IsHeardInFlight (s : Sender) (events : List (OutEvent (List ℕ))) (n : ℕ) : Type 0 where
+  pub earlier : List (OutEvent (List ℕ))
+  pub later : List (OutEvent (List ℕ))
+  pub parts : events ≡ earlier ++ Heard (Custody s.hop s.own n) ∷ later
+  pub in_flight : IsInFlight (sender_after s earlier) n
+
+-- the answer gives this number: it lies in the window, or was picked
+abbrev pub IsGivenBy : OutEvent (List ℕ) → ℕ → Type 0
+IsGivenBy (WindowIs first next) n = (first ≤ n) × (n < next)
+IsGivenBy (Picked number) n = n ≡ number
+IsGivenBy (Turn is_open) n = ⊥
+IsGivenBy (Fetched number payload) n = ⊥
+IsGivenBy Nothing n = ⊥
+IsGivenBy Released n = ⊥
+IsGivenBy Unchanged n = ⊥
+IsGivenBy (Refused refusal) n = ⊥
+IsGivenBy Other n = ⊥
+IsGivenBy (Heard message) n = ⊥
+IsGivenBy Timeout n = ⊥
+
+-- one of the answers gives this number
+abbrev pub IsGiven : List (OutEvent (List ℕ)) → ℕ → Type 0
+IsGiven [] n = ⊥
+IsGiven (event ∷ events) n = IsGivenBy event n ⊎ IsGiven events n
+
+-- what a core of these stations names on an event that comes after others
+abbrev pub out_action_after : StationId → StationId → ℕ → List (OutEvent (List ℕ)) → OutEvent (List ℕ) → Option (OutAction (List ℕ))
+out_action_after own hop window before event = (sent (sender_after (sender own hop window) before) event).1

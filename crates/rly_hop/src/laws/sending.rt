@@ -1,0 +1,45 @@
+ghost use Rattle.std.specs.Prelude.{◌≡◌, ℕ, ◌≤◌, ◌<◌, List, Some};
+ghost use Rattle.rly_hop.specs.declared.message.StationId.{StationId};
+ghost use Rattle.rly_hop.specs.declared.sending.event.OutEvent.{OutEvent};
+ghost use Rattle.rly_hop.specs.Sender.{IsInOrder};
+ghost use Rattle.rly_hop.specs.Sending.{sender};
+ghost use Rattle.rly_hop.specs.SendingRuns.{IsGiven, IsHeardInFlight, IsInFlight, out_action_after, sender_after};
+
+use crate::message::Message;
+use crate::sending::{OutAction, OutEvent};
+
+/// After any events a sending core names the release of a number only if its hop's station acknowledged this very number
+/// to it while the number was in the flight that the core knew, and it is still in that flight.
+pub fn law_release_was_acknowledged()
+    ensures acknowledged { (own hop : StationId) (window : ℕ) (before : List (OutEvent (List ℕ))) (event : OutEvent (List ℕ)) (n : ℕ) →
+        out_action_after own hop window before event ≡ Some (OutAction.Release n) →
+        IsHeardInFlight (sender own hop window) before n }
+    ensures in_flight { (own hop : StationId) (window : ℕ) (before : List (OutEvent (List ℕ))) (event : OutEvent (List ℕ)) (n : ℕ) →
+        out_action_after own hop window before event ≡ Some (OutAction.Release n) →
+        IsInFlight (sender_after (sender own hop window) before) n }
+{}
+
+/// After any events a sending core names the fetch of a number only if an answered window or an answered pick gave it that
+/// number.
+pub fn law_fetch_was_given()
+    ensures { (own hop : StationId) (window : ℕ) (before : List (OutEvent (List ℕ))) (event : OutEvent (List ℕ)) (n : ℕ) →
+        out_action_after own hop window before event ≡ Some (OutAction.Fetch n) →
+        IsGiven before n }
+{}
+
+/// After any events a sending core sends a Data only from its own station to its hop's station, on the answer that fetched
+/// its payload under its number, and only if an answered window or an answered pick gave it that number.
+pub fn law_data_is_what_was_fetched()
+    ensures fetched { (own hop from to : StationId) (window : ℕ) (before : List (OutEvent (List ℕ))) (event : OutEvent (List ℕ)) (n : ℕ) (payload : List ℕ) →
+        out_action_after own hop window before event ≡ Some (OutAction.Send (Message.Data from to n payload)) →
+        (from ≡ own) × (to ≡ hop) × (event ≡ OutEvent.Fetched n payload) }
+    ensures given { (own hop from to : StationId) (window : ℕ) (before : List (OutEvent (List ℕ))) (event : OutEvent (List ℕ)) (n : ℕ) (payload : List ℕ) →
+        out_action_after own hop window before event ≡ Some (OutAction.Send (Message.Data from to n payload)) →
+        IsGiven before n }
+{}
+
+/// After any events the cursor of a sending core lies in the flight that it knows or right behind it, and what it knows to
+/// be acknowledged lies in that flight.
+pub fn law_cursor_is_in_order()
+    ensures { (own hop : StationId) (window : ℕ) (events : List (OutEvent (List ℕ))) → IsInOrder (sender_after (sender own hop window) events) }
+{}

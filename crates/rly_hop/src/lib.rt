@@ -1,0 +1,31 @@
+//! Custody between two neighbouring relays: the messages, each one UDP datagram, and the two ends as pure machines that
+//! call nothing, since they are given events and name actions.
+//!
+//! `read_message` and `write_message` meet the one spelling of each message (`specs/Spelling.antt`, `specs/Reading.antt`),
+//! `Receiving::step` and `Sending::step` the two tables of `docs/PROTOCOL.md` (`specs/Receiving.antt`,
+//! `specs/Sending.antt`). Nothing here takes memory, waits or fails for another cause than the bytes.
+//! Callers: `rly_threads`, whose workers act as the cores say, and `rly_world`, which joins two relays.
+#![tactic(auto)]
+
+mod kind;
+mod laws;
+mod message;
+mod reading;
+mod receiving;
+mod sending;
+mod writing;
+
+pub use crate::laws::{
+    law_cursor_is_in_order, law_custody_follows_an_answer, law_data_is_what_was_fetched,
+    law_fetch_was_given, law_no_fault_is_a_spelling, law_nothing_is_named_while_an_answer_is_due,
+    law_one_spelling, law_refused_follows_an_answer, law_release_was_acknowledged,
+    law_take_follows_data,
+};
+pub use crate::message::{MAX_MESSAGE, Message, StationId};
+pub use crate::reading::read_message;
+pub use crate::receiving::{InAction, InEvent, Receiving, TakeAnswer};
+pub use crate::sending::{OutAction, OutEvent, Sending};
+pub use crate::writing::write_message;
+
+#[cfg(test)]
+mod tests;

@@ -1,0 +1,63 @@
+//! What two neighbouring stations say to each other (`docs/PROTOCOL.md`, "Messages").
+
+/// The number of a station, 1 to 65,535. A `StationId` of 0 names no station: no message that is from or to it is
+/// written or read.
+#[derive(Clone, Copy, Debug, PartialEq, Eq)]
+pub struct StationId(pub u16);
+
+/// One message, which is one datagram. `P` is what is held of a payload: the bytes borrowed from the datagram where a
+/// message is read, and any other form where one is kept.
+#[derive(Clone, Copy, Debug, PartialEq, Eq)]
+pub enum Message<P> {
+    /// Kind 1: hands a datagram to the next station, under the custody number that the sender gave it.
+    Data {
+        from: StationId,
+        to: StationId,
+        number: u64,
+        payload: P,
+    },
+    /// Kind 2: all numbers up to `last` are kept by the station that says so.
+    Custody {
+        from: StationId,
+        to: StationId,
+        last: u64,
+    },
+    /// Kind 3: the Data with this number was refused; `refusal` is the refusal's number. A reader takes any byte.
+    Refused {
+        from: StationId,
+        to: StationId,
+        number: u64,
+        refusal: u8,
+    },
+}
+
+/// The length of the longest message in bytes: a Data with a payload of 1,200.
+pub const MAX_MESSAGE: usize = 1_218;
+
+/// The first two bytes of every message: `RL`.
+pub(crate) const MAGIC: u16 = 0x524c;
+
+/// The version of the protocol.
+pub(crate) const VERSION: u8 = 1;
+
+/// The length in bytes of what every message begins with.
+pub(crate) const HEADER_LENGTH: usize = 8;
+
+/// The places at which the fields of a message begin.
+pub(crate) mod place {
+    pub const VERSION: usize = 2;
+
+    pub const KIND: usize = 3;
+
+    pub const FROM: usize = 4;
+
+    pub const TO: usize = 6;
+
+    pub const NUMBER: usize = 8;
+
+    pub const REFUSAL: usize = 16;
+
+    pub const LENGTH: usize = 16;
+
+    pub const PAYLOAD: usize = 18;
+}

@@ -1,0 +1,174 @@
+ghost use Rattle.std.specs.Prelude.{◌≡◌, List, ℕ};
+ghost use Rattle.std.specs.Option.{option_map};
+ghost use Rattle.rly_hop.specs.Payloads.{out_action_bytes, out_event_bytes};
+ghost use Rattle.rly_hop.specs.Sending.{acknowledged, is_unsure, moved, sender, sent, turn};
+
+mod event;
+
+use crate::message::{Message, StationId};
+pub use crate::sending::event::{OutAction, OutEvent};
+use rly_core::Refusal;
+use std::marker::Model;
+
+/// The sending end of custody, as a machine that calls nothing (`docs/PROTOCOL.md`, "The sending core"). It knows numbers
+/// in flight from answered calls alone, sends their datagrams in order, and releases what the hop's station acknowledged.
+#[derive(Drop)]
+pub struct Sending {
+    own: StationId,
+    hop: StationId,
+    window: u64,
+    ready: bool,
+    first: u64,
+    next: u64,
+    cursor: u64,
+    acked: Option<u64>,
+}
+
+impl Model for Sending {
+    ghost use Rattle.rly_hop.specs.Sender.{IsInOrder, Sender};
+
+    ghost Value = { Sender };
+
+    ghost view = { λ core. record { own = core.own; hop = core.hop; window = core.window; ready = core.ready; first = core.first; next = core.next; cursor = core.cursor; acked = core.acked } };
+
+    ghost invariant = { λ core. IsInOrder (record { own = core.own; hop = core.hop; window = core.window; ready = core.ready; first = core.first; next = core.next; cursor = core.cursor; acked = core.acked }) };
+}
+
+impl Sending {
+    /// The core of the station `own` for the hop whose station is `hop_station`, with at most `window` datagrams in
+    /// flight. It isn't ready: its first turn asks for the window.
+    pub fn new(own: StationId, hop_station: StationId, window: u64) -> Self
+        ensures { result ≡ sender own hop_station window }
+    {
+        Sending {
+            own,
+            hop: hop_station,
+            window,
+            ready: false,
+            first: 1,
+            next: 1,
+            cursor: 1,
+            acked: None,
+        }
+    }
+
+    /// What one event leaves, and the one action that it names, if it names one.
+    pub fn step<'a>(&mut self, event: OutEvent<&'a [u8]>) -> Option<OutAction<&'a [u8]>>
+        ensures state { self.new ≡ (sent self.old (out_event_bytes event.entry)).0 }
+        ensures action { option_map out_action_bytes result ≡ (sent self.old (out_event_bytes event.entry)).1 }
+    {
+        match event {
+            OutEvent::Turn { is_open } => return self.turn(is_open),
+            OutEvent::Fetched { number, payload } => return self.fetched(number, payload),
+            OutEvent::WindowIs { first, next } => self.set_window(first, next),
+            OutEvent::Picked(number) => self.picked(number),
+            OutEvent::Released | OutEvent::Unchanged => self.released(),
+            OutEvent::Heard(Message::Custody { from, to, last }) => self.acknowledged(
+                from, to, last,
+            ),
+            OutEvent::Timeout => self.cursor = self.first,
+            OutEvent::Refused(refusal) => self.ready &= !is_unsure_answer(refusal),
+            OutEvent::Nothing | OutEvent::Other | OutEvent::Heard(_) => {}
+        }
+        None
+    }
+
+    /// The call that a turn names, if it names one.
+    fn turn<'a>(&self, is_open: bool) -> Option<OutAction<&'a [u8]>>
+        ensures { option_map out_action_bytes result ≡ turn self.now is_open }
+    {
+        if !self.ready {
+            return Some(OutAction::AskWindow);
+        }
+        if let Some(number) = self.acked {
+            return Some(OutAction::Release(number));
+        }
+        if !is_open {
+            return None;
+        }
+        if self.cursor < self.next {
+            return Some(OutAction::Fetch(self.cursor));
+        }
+        if self.next - self.first < self.window {
+            return Some(OutAction::Pick);
+        }
+        None
+    }
+
+    /// The window was answered.
+    fn set_window(&mut self, first: u64, next: u64)
+        ensures { self.new ≡ (sent self.old (OutEvent.WindowIs first next)).0 }
+    {
+        if first <= next {
+            self.ready = true;
+            self.first = first;
+            self.next = next;
+            self.cursor = first;
+            self.acked = None;
+        }
+    }
+
+    /// A datagram was picked.
+    fn picked(&mut self, number: u64)
+        ensures { self.new ≡ (sent self.old (OutEvent.Picked number)).0 }
+    {
+        if self.ready && number == self.next && number < u64::MAX {
+            self.next = number + 1;
+        }
+    }
+
+    /// A payload was fetched: the message that sends it, where it is the one that the cursor stands at.
+    fn fetched<'a>(&mut self, number: u64, payload: &'a [u8]) -> Option<OutAction<&'a [u8]>>
+        ensures state { self.new ≡ (sent self.old (OutEvent.Fetched number payload.now)).0 }
+        ensures action { option_map out_action_bytes result ≡ (sent self.old (OutEvent.Fetched number payload.now)).1 }
+    {
+        if !self.ready || number != self.cursor || self.cursor >= self.next {
+            return None;
+        }
+        self.cursor = number + 1;
+        Some(OutAction::Send(Message::Data {
+            from: self.own,
+            to: self.hop,
+            number,
+            payload,
+        }))
+    }
+
+    /// A release was answered: what was acknowledged is no longer in flight.
+    fn released(&mut self)
+        ensures { self.new ≡ moved self.old self.old.acked }
+    {
+        if let Some(number) = self.acked.take() {
+            self.first = number + 1;
+            self.cursor = self.cursor.max(self.first);
+        }
+    }
+
+    /// The hop's station says that it keeps all numbers up to `last`.
+    fn acknowledged(&mut self, from: StationId, to: StationId, last: u64)
+        ensures { self.new ≡ acknowledged self.old from to last }
+    {
+        if from == self.hop
+            && to == self.own
+            && self.ready
+            && self.first <= last
+            && last < self.next
+        {
+            self.acked = Some(self.acked.map_or(last, |number| number.max(last)));
+        }
+    }
+}
+
+/// Whether the window has to be asked for anew after this refusal: what is in flight isn't known for sure.
+fn is_unsure_answer(refusal: Refusal) -> bool
+    ensures { result ≡ is_unsure refusal }
+{
+    matches!(
+        refusal,
+        Refusal::NeverSent
+            | Refusal::NotInFlight
+            | Refusal::Broken
+            | Refusal::Unsure
+            | Refusal::Lost
+    )
+}

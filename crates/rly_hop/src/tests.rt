@@ -1,0 +1,5 @@
+//! The worked rows of `docs/PROTOCOL.md`, and a test for each row of the two tables.
+
+mod messages;
+mod receiving;
+mod sending;

@@ -1,0 +1,189 @@
+use crate::{Message, StationId, read_message, write_message};
+use rly_core::Refusal;
+use std::test::Fail;
+
+/// Data from station 3 to 7, number 1, payload `000c41`.
+const DATA: [u8; 21] = [
+    0x52, 0x4c, 0x01, 0x01, 0x00, 0x03, 0x00, 0x07, 0, 0, 0, 0, 0, 0, 0, 1, 0x00, 0x03, 0x00, 0x0c,
+    0x41,
+];
+
+/// Its custody.
+const CUSTODY: [u8; 16] = [
+    0x52, 0x4c, 0x01, 0x02, 0x00, 0x07, 0x00, 0x03, 0, 0, 0, 0, 0, 0, 0, 1,
+];
+
+/// Full in the place of its custody.
+const FULL: [u8; 17] = [
+    0x52, 0x4c, 0x01, 0x03, 0x00, 0x07, 0x00, 0x03, 0, 0, 0, 0, 0, 0, 0, 1, 0x06,
+];
+
+const DATA_MESSAGE: Message<&[u8]> = Message::Data {
+    from: StationId(3),
+    to: StationId(7),
+    number: 1,
+    payload: &[0x00, 0x0c, 0x41],
+};
+
+const CUSTODY_MESSAGE: Message<&[u8]> = Message::Custody {
+    from: StationId(7),
+    to: StationId(3),
+    last: 1,
+};
+
+const FULL_MESSAGE: Message<&[u8]> = Message::Refused {
+    from: StationId(7),
+    to: StationId(3),
+    number: 1,
+    refusal: 6,
+};
+
+#[test]
+fn the_worked_messages_are_read(rt: HostRuntime) -> Result<(), Fail> {
+    assert_eq!(rt; read_message(&DATA)?, DATA_MESSAGE);
+    assert_eq!(rt; read_message(&CUSTODY)?, CUSTODY_MESSAGE);
+    assert_eq!(rt; read_message(&FULL)?, FULL_MESSAGE);
+    Ok(())
+}
+
+#[test]
+fn the_worked_messages_are_written(rt: HostRuntime) -> Result<(), Fail> {
+    let mut out = [0xee; 1_300];
+    let length = write_message(DATA_MESSAGE, &mut out)?;
+    assert_eq!(rt; length, 21);
+    assert_eq!(rt; &out[..21], DATA.as_slice());
+    assert_eq!(rt; out[21], 0xee);
+    let length = write_message(CUSTODY_MESSAGE, &mut out)?;
+    assert_eq!(rt; length, 16);
+    assert_eq!(rt; &out[..16], CUSTODY.as_slice());
+    let length = write_message(FULL_MESSAGE, &mut out)?;
+    assert_eq!(rt; length, 17);
+    assert_eq!(rt; &out[..17], FULL.as_slice());
+    Ok(())
+}
+
+fn fault(bytes: &[u8]) -> Option<Refusal> {
+    read_message(bytes).err()
+}
+
+#[test]
+fn faults_of_the_header(rt: HostRuntime) -> Result<(), Fail> {
+    assert_eq!(rt; fault(&[]), Some(Refusal::Short));
+    assert_eq!(rt;
+        fault(&[0x52, 0x4c, 0x01, 0x01, 0x00, 0x03, 0x00]),
+        Some(Refusal::Short)
+    );
+    assert_eq!(rt;
+        fault(&[0x52, 0x4d, 0x02, 0x07, 0, 0, 0, 0]),
+        Some(Refusal::Magic)
+    );
+    assert_eq!(rt;
+        fault(&[0x4c, 0x52, 0x01, 0x01, 0, 3, 0, 7]),
+        Some(Refusal::Magic)
+    );
+    assert_eq!(rt;
+        fault(&[0x52, 0x4c, 0x02, 0x07, 0, 0, 0, 0]),
+        Some(Refusal::Version)
+    );
+    assert_eq!(rt;
+        fault(&[0x52, 0x4c, 0x01, 0x07, 0, 0, 0, 0]),
+        Some(Refusal::Kind)
+    );
+    assert_eq!(rt;
+        fault(&[0x52, 0x4c, 0x01, 0x00, 0, 3, 0, 7]),
+        Some(Refusal::Kind)
+    );
+    assert_eq!(rt;
+        fault(&[0x52, 0x4c, 0x01, 0x02, 0, 0, 0, 7]),
+        Some(Refusal::Station)
+    );
+    assert_eq!(rt;
+        fault(&[0x52, 0x4c, 0x01, 0x02, 0, 3, 0, 0]),
+        Some(Refusal::Station)
+    );
+    Ok(())
+}
+
+#[test]
+fn faults_of_the_length(rt: HostRuntime) -> Result<(), Fail> {
+    assert_eq!(rt; fault(&CUSTODY[..15]), Some(Refusal::Short));
+    assert_eq!(rt;
+        fault(&[
+            0x52, 0x4c, 0x01, 0x02, 0x00, 0x07, 0x00, 0x03, 0, 0, 0, 0, 0, 0, 0, 1, 0,
+        ]),
+        Some(Refusal::Long)
+    );
+    assert_eq!(rt; fault(&FULL[..16]), Some(Refusal::Short));
+    assert_eq!(rt;
+        fault(&[
+            0x52, 0x4c, 0x01, 0x03, 0x00, 0x07, 0x00, 0x03, 0, 0, 0, 0, 0, 0, 0, 1, 6, 0,
+        ]),
+        Some(Refusal::Long)
+    );
+    assert_eq!(rt; fault(&DATA[..17]), Some(Refusal::Short));
+    assert_eq!(rt; fault(&DATA[..20]), Some(Refusal::Short));
+    assert_eq!(rt;
+        fault(&[
+            0x52, 0x4c, 0x01, 0x01, 0x00, 0x03, 0x00, 0x07, 0, 0, 0, 0, 0, 0, 0, 1, 0x00, 0x03,
+            0x00, 0x0c, 0x41, 0,
+        ]),
+        Some(Refusal::Long)
+    );
+    assert_eq!(rt;
+        fault(&[
+            0x52, 0x4c, 0x01, 0x01, 0x00, 0x03, 0x00, 0x07, 0, 0, 0, 0, 0, 0, 0, 1, 0x04, 0xb1,
+            0x00, 0x0c, 0x41,
+        ]),
+        Some(Refusal::Long)
+    );
+    assert_eq!(rt;
+        fault(&[
+            0x52, 0x4c, 0x01, 0x01, 0x00, 0x03, 0x00, 0x07, 0, 0, 0, 0, 0, 0, 0, 1, 0x04, 0xb0,
+            0x00, 0x0c, 0x41,
+        ]),
+        Some(Refusal::Short)
+    );
+    Ok(())
+}
+
+#[test]
+fn the_longest_message_is_written_and_read(rt: HostRuntime) -> Result<(), Fail> {
+    let payload = [0x5a; 1_200];
+    let message = Message::Data {
+        from: StationId(1),
+        to: StationId(65_535),
+        number: 0xffff_ffff_ffff_ffff,
+        payload: payload.as_slice(),
+    };
+    let mut out = [0; 1_218];
+    assert_eq!(rt; write_message(message, &mut out)?, 1_218);
+    assert_eq!(rt; read_message(&out)?, message);
+    Ok(())
+}
+
+#[test]
+fn what_has_no_spelling_is_not_written(rt: HostRuntime) {
+    let payload = [0; 1_201];
+    let mut out = [0xee; 1_300];
+    let long = Message::Data {
+        from: StationId(3),
+        to: StationId(7),
+        number: 1,
+        payload: payload.as_slice(),
+    };
+    assert_eq!(rt; write_message(long, &mut out), Err(Refusal::Long));
+    let from_none = Message::Data {
+        from: StationId(0),
+        to: StationId(7),
+        number: 1,
+        payload: payload.as_slice(),
+    };
+    assert_eq!(rt; write_message(from_none, &mut out), Err(Refusal::Station));
+    let to_none = Message::Custody {
+        from: StationId(7),
+        to: StationId(0),
+        last: 1,
+    };
+    assert_eq!(rt; write_message(to_none, &mut out), Err(Refusal::Station));
+    assert_eq!(rt; out[0], 0xee);
+}

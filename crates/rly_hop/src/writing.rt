@@ -1,0 +1,92 @@
+ghost use Rattle.std.specs.Prelude.{◌≡◌, ◌≤◌, ◌+◌, ◌++◌, ◌∷◌, [], drop, length, take, IfOk, OnErr, OnOk};
+ghost use Rattle.std.specs.Result.{result_err};
+ghost use Rattle.byteorder.specs.Endian.{big_bytes};
+ghost use Rattle.rly_hop.specs.Payloads.{message_bytes};
+ghost use Rattle.rly_hop.specs.Spelling.{IsMessage, IsStation, header, lacks_station, spelling, unwritable};
+ghost use Rattle.rly_hop.specs.Kinds.{kind_byte};
+ghost use Rattle.rly_hop.specs.Rows.{first_row};
+
+use crate::kind::Kind;
+use crate::message::{MAGIC, MAX_MESSAGE, Message, StationId, VERSION, place};
+use byteorder::{BigEndian, ByteOrder};
+use rly_core::Refusal;
+use rly_core::limits::MAX_PAYLOAD;
+
+/// Writes the one spelling of a message to the front of `out`, and answers its length in bytes. A message that is from
+/// or to station 0 is refused (45), and so is a payload longer than the limit (41), in this order.
+#[tactic(auto, unfolding(crate::specs::Spelling::spelling))]
+pub fn write_message(message: Message<&[u8]>, out: &mut [u8]) -> Result<usize, Refusal>
+    requires { MAX_MESSAGE ≤ length out.old }
+    ensures fault { result_err result ≡ unwritable (message_bytes message.entry) }
+    ensures message { OnOk result (IsMessage (message_bytes message.entry)) }
+    ensures written { IfOk result (λ written. out.new ≡ spelling (message_bytes message.entry) ++ drop written out.old) }
+    ensures length { IfOk result (λ written. written ≡ length (spelling (message_bytes message.entry))) }
+    ensures err { OnErr result (out.new ≡ out.old) }
+{
+    match message {
+        Message::Data {
+            from,
+            to,
+            number,
+            payload,
+        } => {
+            check_stations(from, to)?;
+            if payload.len() as u64 > MAX_PAYLOAD {
+                return Err(Refusal::Long);
+            }
+            write_front(out, Kind::Data, from, to, number);
+            write_payload(out, payload);
+            Ok(place::PAYLOAD + payload.len())
+        }
+        Message::Custody { from, to, last } => {
+            check_stations(from, to)?;
+            write_front(out, Kind::Custody, from, to, last);
+            Ok(Kind::Custody.fixed_length())
+        }
+        Message::Refused {
+            from,
+            to,
+            number,
+            refusal,
+        } => {
+            check_stations(from, to)?;
+            write_front(out, Kind::Refused, from, to, number);
+            out[place::REFUSAL] = refusal;
+            Ok(Kind::Refused.fixed_length())
+        }
+    }
+}
+
+/// Refuses a message that is from or to no station.
+fn check_stations(from: StationId, to: StationId) -> Result<(), Refusal>
+    ensures fault { result_err result ≡ first_row ((lacks_station from to, Some Refusal.Station) ∷ []) None }
+    ensures ok { OnOk result (IsStation from × IsStation to) }
+{
+    if from.0 == 0 || to.0 == 0 {
+        return Err(Refusal::Station);
+    }
+    Ok(())
+}
+
+/// Writes what is common to all kinds: the header, and the number behind it.
+fn write_front(out: &mut [u8], kind: Kind, from: StationId, to: StationId, number: u64)
+    requires { 16 ≤ length out.old }
+    ensures { out.new ≡ header (kind_byte kind) from to ++ big_bytes 8 number ++ drop 16 out.old }
+{
+    BigEndian::write_u16(out, MAGIC);
+    out[place::VERSION] = VERSION;
+    out[place::KIND] = kind.byte();
+    BigEndian::write_u16(&mut out[place::FROM..], from.0);
+    BigEndian::write_u16(&mut out[place::TO..], to.0);
+    BigEndian::write_u64(&mut out[place::NUMBER..], number);
+}
+
+/// Writes the length of a payload, and the payload behind it.
+fn write_payload(out: &mut [u8], payload: &[u8])
+    requires short { length payload.now ≤ MAX_PAYLOAD }
+    requires room { 18 + length payload.now ≤ length out.old }
+    ensures { out.new ≡ take 16 out.old ++ big_bytes 2 (length payload.now) ++ payload.now ++ drop (18 + length payload.now) out.old }
+{
+    BigEndian::write_u16(&mut out[place::LENGTH..], payload.len() as u16);
+    out[place::PAYLOAD..place::PAYLOAD + payload.len()].copy_from_slice(payload);
+}

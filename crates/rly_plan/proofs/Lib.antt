@@ -1,0 +1,5 @@
+pub mod LinkLaws
+pub mod LinkLemmas
+pub mod PassLemmas
+pub mod DraftLemmas
+pub mod SoundPlans

@@ -1,0 +1,12 @@
+use Rattle.std.proofs.Common.{sym, ◌∙◌, ap, arith}
+use Rattle.rly_plan.specs.Passes.{are_apart}
+use Rattle.rly_plan.proofs.PassLemmas.{adjacent_last, contacts_passed}
+use Rattle.rly_plan.proofs.passes.are_apart.Goals as goal
+
+pub loop-index-preserved : goal.loop-index-preserved
+loop-index-preserved c =
+    contacts_passed (λ d. d.end) c.args.contacts.now c.loop-index.index _ _ _ _ (omega arith) c.loop-index-test.true (ap (λ k. k.begin) c.settled.ensures)
+    (ap (λ k. k.end) c.settled-in-loop-index.ensures) c.if-settled.false c.loop-index.invariant
+
+pub returns : goal.returns
+returns c = sym (adjacent_last are_apart c.args.contacts.now c.loop-index.index (omega arith)) ∙ c.loop-index.invariant

@@ -1,0 +1,43 @@
+-- A plan as contracts see it, and what is read of it.
+use Rattle.std.specs.Prelude.{ℕ, zero, suc, ◌==◌, Bool, List, [], Option, None, option_map, unwrap_or, find, slice_get}
+use Rattle.rly_core.specs.declared.ids.HopId.{HopId}
+use Rattle.rly_core.specs.declared.ids.PeerId.{PeerId}
+use Rattle.rly_plan.specs.declared.contacts.Contact.{Contact}
+use Rattle.rly_plan.specs.declared.neighbour.Neighbour.{Neighbour}
+use Rattle.rly_plan.specs.declared.plan.Hop.{Hop}
+use Rattle.rly_plan.specs.declared.plan.Route.{Route}
+use Rattle.rly_plan.specs.LinkClock as clock
+
+-- this station, its neighbours on both sides in the order of their ids, and the routes in the order of the file
+pub record ContactPlan : Type 0 where
+  pub station : ℕ
+  pub peers : List Neighbour
+  pub hops : List Hop
+  pub routes : List Route
+
+-- the nth of a list, counting from 1
+abbrev pub at_number : {A : Type 0} → List A → ℕ → Option A
+at_number xs zero = None
+at_number xs (suc n) = slice_get xs n
+
+abbrev pub peer_at : ContactPlan → PeerId → Option Neighbour
+peer_at plan peer = at_number plan.peers peer.0
+
+abbrev pub hop_at : ContactPlan → HopId → Option Neighbour
+hop_at plan hop = option_map (λ h. h.neighbour) (at_number plan.hops hop.0)
+
+-- the contacts of a hop: none for a hop that isn't there
+abbrev pub contacts_of : ContactPlan → HopId → List Contact
+contacts_of plan hop = unwrap_or (option_map (λ h. h.contacts) (at_number plan.hops hop.0)) []
+
+-- the hop's link is open at the moment
+abbrev pub is_open : ContactPlan → HopId → ℕ → Bool
+is_open plan hop moment = clock.is_open (contacts_of plan hop) moment
+
+-- the hop's link clock
+abbrev pub link : ContactPlan → HopId → ℕ → ℕ
+link plan hop moment = clock.link (contacts_of plan hop) moment
+
+-- the hop of the route that names the destination
+abbrev pub hop_for : ContactPlan → ℕ → Option HopId
+hop_for plan destination = option_map (λ r. r.hop) (find (λ r. r.destination == destination) plan.routes)

@@ -1,0 +1,94 @@
+-- What a document says where each key is there and each value has its type: a plan whose numbers are yet to be judged.
+use Rattle.std.specs.Prelude.{ℕ, ℤ, List, [], ◌∷◌, codes, Option, Some, None, option_and_then}
+use Rattle.toml.specs.Data.{Data, as_integer, as_str, as_array, as_table, Items, no_items, item, Members, get_member}
+use Rattle.rly_plan.specs.declared.draft.ContactDraft.{ContactDraft}
+use Rattle.rly_plan.specs.declared.draft.NeighbourDraft.{NeighbourDraft}
+use Rattle.rly_plan.specs.declared.draft.RouteDraft.{RouteDraft}
+
+-- a [[hop]] table
+pub record HopText : Type 0 where
+  pub neighbour : NeighbourDraft
+  pub contacts : List ContactDraft
+
+-- a whole plan
+pub record PlanText : Type 0 where
+  pub station : ℤ
+  pub peers : List NeighbourDraft
+  pub hops : List HopText
+  pub routes : List RouteDraft
+
+infixl 10 ◌>>=◌
+abbrev ◌>>=◌ : {A B : Type 0} → Option A → (A → Option B) → Option B
+o >>= f = option_and_then f o
+
+-- the whole number, and the text, at a key
+abbrev pub integer_at : List ℕ → Members → Option ℤ
+integer_at key ms = get_member key ms >>= as_integer
+
+abbrev pub text_at : List ℕ → Members → Option (List ℕ)
+text_at key ms = get_member key ms >>= as_str
+
+-- each item of an array, by what reads one
+abbrev pub each_item : {A : Type 0} → (Data → Option A) → Items → Option (List A)
+each_item read no_items = Some []
+each_item read (item value rest) = do
+  x ← read value
+  xs ← each_item read rest
+  Some (x ∷ xs)
+
+-- the items of an array
+abbrev pub items_at : {A : Type 0} → (Data → Option A) → Option Data → Option (List A)
+items_at read found = found >>= as_array >>= each_item read
+
+-- two whole numbers
+abbrev pub pair_of : Items → Option ContactDraft
+pair_of (item begin (item end no_items)) = do
+  b ← as_integer begin
+  e ← as_integer end
+  Some (record { begin = b; end = e })
+pair_of _ = None
+
+abbrev pub contact_of : Data → Option ContactDraft
+contact_of value = as_array value >>= pair_of
+
+abbrev pub neighbour_of : Members → Option NeighbourDraft
+neighbour_of ms = do
+  id ← integer_at (codes "id") ms
+  station ← integer_at (codes "station") ms
+  listen ← text_at (codes "listen") ms
+  remote ← text_at (codes "remote") ms
+  Some (record { id = id; station = station; addresses = record { listen = listen; remote = remote } })
+
+abbrev pub peer_of : Data → Option NeighbourDraft
+peer_of value = as_table value >>= neighbour_of
+
+abbrev pub hop_in : Members → Option HopText
+hop_in ms = do
+  neighbour ← neighbour_of ms
+  contacts ← items_at contact_of (get_member (codes "contacts") ms)
+  Some (record { neighbour = neighbour; contacts = contacts })
+
+abbrev pub hop_of : Data → Option HopText
+hop_of value = as_table value >>= hop_in
+
+abbrev pub route_in : Members → Option RouteDraft
+route_in ms = do
+  destination ← integer_at (codes "destination") ms
+  hop ← integer_at (codes "hop") ms
+  Some (record { destination = destination; hop = hop })
+
+abbrev pub route_of : Data → Option RouteDraft
+route_of value = as_table value >>= route_in
+
+-- `route` may be left out
+abbrev pub routes_at : Option Data → Option (List RouteDraft)
+routes_at None = Some []
+routes_at (Some value) = items_at route_of (Some value)
+
+abbrev pub draft_of : Members → Option PlanText
+draft_of ms = do
+  station ← integer_at (codes "station") ms
+  peers ← items_at peer_of (get_member (codes "peer") ms)
+  hops ← items_at hop_of (get_member (codes "hop") ms)
+  routes ← routes_at (get_member (codes "route") ms)
+  Some (record { station = station; peers = peers; hops = hops; routes = routes })

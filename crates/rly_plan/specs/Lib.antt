@@ -1,0 +1,9 @@
+pub mod LinkClock
+pub mod Sums
+pub mod Search
+pub mod Endpoints
+pub mod ContactPlan
+pub mod Keys
+pub mod Draft
+pub mod Passes
+pub mod Sound

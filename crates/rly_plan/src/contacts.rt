@@ -1,0 +1,109 @@
+ghost use Rattle.std.specs.Prelude.{◌≡◌, ◌<◌, ◌≤◌, [], ◌∷◌, ◌++◌, IfSome, OnOk, OnErr};
+ghost use Rattle.rly_plan.specs.LinkClock.{end_of, is_open, link};
+ghost use Rattle.rly_plan.specs.Search.{latest, HasBegun};
+ghost use Rattle.rly_plan.specs.Sums.{AreSummed};
+
+use rly_core::limits::MOMENT_LIMIT;
+use std::alloc::{AllocError, Global};
+use std::marker::Model;
+
+/// A time in which a link is open: the moments u with `begin <= u < end`, in microseconds since the
+/// Unix epoch.
+#[derive(Clone, Copy, Debug, PartialEq, Eq)]
+pub(crate) struct Contact {
+    /// The first moment of the contact.
+    pub begin: u64,
+    /// The first moment after it.
+    pub end: u64,
+}
+
+/// A contact, and how long the link was open in the contacts in front of it.
+#[derive(Clone, Copy, Debug)]
+struct Summed {
+    contact: Contact,
+    before: u64,
+}
+
+/// The contacts of one hop, in order. None begins before the one in front of it ends.
+#[derive(Debug, Drop)]
+pub(crate) struct Contacts {
+    entries: Vec<Summed>,
+    /// How long the link is open in all of them.
+    total: u64,
+}
+
+impl Model for Contacts {
+    ghost use Rattle.std.specs.Prelude.{List};
+    ghost use Rattle.rly_plan.specs.declared.contacts.Contact.{Contact};
+
+    ghost Value = { List Contact };
+
+    ghost use Rattle.rly_plan.specs.Sums.{contacts_in, IsKept};
+
+    ghost view = { λ c. contacts_in c.entries.items };
+
+    ghost invariant = { λ c. IsKept c.entries.items c.total };
+}
+
+impl Contacts {
+    /// No contacts.
+    pub(crate) fn new(alloc: Global) -> Contacts
+        ensures { result ≡ [] }
+    {
+        Contacts {
+            entries: Vec::new(alloc),
+            total: 0,
+        }
+    }
+
+    /// Puts a contact behind the others. An `Err` leaves them as they were.
+    pub(crate) fn push(&mut self, contact: Contact) -> Result<(), AllocError>
+        requires behind { end_of self.old ≤ contact.begin }
+        requires lasts { contact.begin < contact.end }
+        requires bounded { contact.end < MOMENT_LIMIT }
+        ensures ok { OnOk result (self.new ≡ self.old ++ contact ∷ []) }
+        ensures err { OnErr result (self.new ≡ self.old) }
+    {
+        let entry = Summed {
+            contact,
+            before: self.total,
+        };
+        self.entries.push(entry)?;
+        self.total += contact.end - contact.begin;
+        Ok(())
+    }
+
+    /// Whether the moment lies in a contact.
+    pub(crate) fn is_open(&self, moment: u64) -> bool
+        ensures { result ≡ is_open self.now moment }
+    {
+        match latest(&self.entries, moment) {
+            Some(entry) => moment < entry.contact.end,
+            None => false,
+        }
+    }
+
+    /// How many of the moments before this one lie in a contact.
+    pub(crate) fn link(&self, moment: u64) -> u64
+        ensures { result ≡ link self.now moment }
+    {
+        match latest(&self.entries, moment) {
+            Some(entry) => { entry.before + (moment.min(entry.contact.end) - entry.contact.begin) }
+            None => 0,
+        }
+    }
+}
+
+/// The last contact that has begun by a moment.
+fn latest(entries: &[Summed], moment: u64) -> Option<Summed>
+    requires { AreSummed 0 0 entries.now }
+    ensures last { result ≡ latest entries.now moment }
+    ensures begun { IfSome result (HasBegun moment) }
+{
+    let begun = entries.partition_point(|entry| entry.contact.begin <= moment);
+    if begun == 0 {
+        None
+    } else {
+        Some(entries[begun - 1])
+    }
+}

@@ -1,0 +1,280 @@
+ghost use Rattle.std.specs.Prelude.{◌≡◌, codes, IfOk, option_copied, option_map};
+ghost use Rattle.toml.specs.View.{array_view, table_view, view};
+ghost use Rattle.toml.specs.Data.{get_member};
+ghost use Rattle.rly_plan.specs.Draft.{draft_of, each_item, integer_at, items_at, neighbour_of, routes_at, text_at};
+
+use crate::contacts::Contact;
+use crate::neighbour::Addresses;
+use crate::passes::number;
+use std::alloc::{AllocError, Global};
+use std::marker::Model;
+use toml::value::Array;
+use toml::{Table, Value};
+
+/// A `[[peer]]` table, or that part of a `[[hop]]` table.
+#[derive(Debug, Drop)]
+pub(crate) struct NeighbourDraft {
+    pub id: i64,
+    pub station: i64,
+    pub addresses: Addresses,
+}
+
+/// A contact as the text writes it.
+#[derive(Clone, Copy, Debug)]
+pub(crate) struct ContactDraft {
+    pub begin: i64,
+    pub end: i64,
+}
+
+impl ContactDraft {
+    ghost use Rattle.std.specs.Prelude.{◌≡◌};
+    ghost use Rattle.rly_plan.specs.Passes.{contact_from};
+
+    /// The contact, with 0 in place of a number below 0.
+    pub(crate) fn settled(&self) -> Contact
+        ensures { result ≡ contact_from self.now }
+    {
+        Contact {
+            begin: number(self.begin),
+            end: number(self.end),
+        }
+    }
+}
+
+/// A `[[hop]]` table.
+#[derive(Debug, Drop)]
+pub(crate) struct HopDraft {
+    pub neighbour: NeighbourDraft,
+    pub contacts: Vec<ContactDraft>,
+}
+
+impl Model for HopDraft {
+    ghost use Rattle.rly_plan.specs.Draft.{HopText};
+
+    ghost Value = { HopText };
+
+    ghost view = { λ h. record { neighbour = h.neighbour; contacts = h.contacts.items } };
+}
+
+/// A `[[route]]` table.
+#[derive(Clone, Copy, Debug)]
+pub(crate) struct RouteDraft {
+    pub destination: i64,
+    pub hop: i64,
+}
+
+/// A plan whose keys are all there with values of their types, and whose numbers are yet to be
+/// judged.
+#[derive(Debug, Drop)]
+pub(crate) struct PlanDraft {
+    pub station: i64,
+    pub peers: Vec<NeighbourDraft>,
+    pub hops: Vec<HopDraft>,
+    pub routes: Vec<RouteDraft>,
+}
+
+impl Model for PlanDraft {
+    ghost use Rattle.rly_plan.specs.Draft.{PlanText};
+
+    ghost Value = { PlanText };
+
+    ghost view = { λ d. record { station = d.station; peers = d.peers.items; hops = d.hops.items; routes = d.routes.items } };
+}
+
+/// What an item of an array is read as.
+trait Item: Drop {
+    ghost use Rattle.std.specs.Prelude.{◌≡◌, IfOk, Option};
+    ghost use Rattle.toml.specs.Data.{Data};
+    ghost use Rattle.toml.specs.View.{view};
+
+    ghost shape: { Data → Option Self };
+
+    /// What the value writes: `None` where it has another shape.
+    fn read(alloc: Global, value: &Value) -> Result<Option<Self>, AllocError>
+        ensures { IfOk result (λ found. found ≡ shape (view value.now)) };
+}
+
+impl Item for ContactDraft {
+    ghost use Rattle.rly_plan.specs.Draft.{contact_of};
+
+    ghost shape = { contact_of };
+
+    fn read(_alloc: Global, value: &Value) -> Result<Option<ContactDraft>, AllocError> {
+        let Some(pair) = value.as_array() else {
+            return Ok(None);
+        };
+        if pair.len() != 2 {
+            return Ok(None);
+        }
+        let (Some(begin), Some(end)) = (pair[0].as_integer(), pair[1].as_integer()) else {
+            return Ok(None);
+        };
+        Ok(Some(ContactDraft { begin, end }))
+    }
+}
+
+impl Item for NeighbourDraft {
+    ghost use Rattle.rly_plan.specs.Draft.{peer_of};
+
+    ghost shape = { peer_of };
+
+    fn read(alloc: Global, value: &Value) -> Result<Option<NeighbourDraft>, AllocError> {
+        match value.as_table() {
+            Some(table) => read_neighbour(alloc, table),
+            None => Ok(None),
+        }
+    }
+}
+
+impl Item for HopDraft {
+    ghost use Rattle.rly_plan.specs.Draft.{hop_of};
+
+    ghost shape = { hop_of };
+
+    fn read(alloc: Global, value: &Value) -> Result<Option<HopDraft>, AllocError> {
+        let Some(table) = value.as_table() else {
+            return Ok(None);
+        };
+        let Some(neighbour) = read_neighbour(alloc, table)? else {
+            return Ok(None);
+        };
+        let Some(contacts) = read_items::<ContactDraft>(alloc, value_at(table, "contacts"))? else {
+            return Ok(None);
+        };
+        Ok(Some(HopDraft {
+            neighbour,
+            contacts,
+        }))
+    }
+}
+
+impl Item for RouteDraft {
+    ghost use Rattle.rly_plan.specs.Draft.{route_of};
+
+    ghost shape = { route_of };
+
+    fn read(_alloc: Global, value: &Value) -> Result<Option<RouteDraft>, AllocError> {
+        let Some(table) = value.as_table() else {
+            return Ok(None);
+        };
+        let Some(destination) = integer(table, "destination") else {
+            return Ok(None);
+        };
+        let Some(hop) = integer(table, "hop") else {
+            return Ok(None);
+        };
+        Ok(Some(RouteDraft { destination, hop }))
+    }
+}
+
+impl PlanDraft {
+    /// What the document writes: `None` where a key is missing or a value has another type.
+    pub(crate) fn read(alloc: Global, document: &Table) -> Result<Option<PlanDraft>, AllocError>
+        ensures { IfOk result (λ found. found ≡ draft_of (table_view document.now)) }
+    {
+        let Some(station) = integer(document, "station") else {
+            return Ok(None);
+        };
+        let Some(peers) = read_items::<NeighbourDraft>(alloc, value_at(document, "peer"))? else {
+            return Ok(None);
+        };
+        let Some(hops) = read_items::<HopDraft>(alloc, value_at(document, "hop"))? else {
+            return Ok(None);
+        };
+        let Some(routes) = read_routes(alloc, value_at(document, "route"))? else {
+            return Ok(None);
+        };
+        Ok(Some(PlanDraft {
+            station,
+            peers,
+            hops,
+            routes,
+        }))
+    }
+}
+
+/// The value at a key.
+fn value_at<'a>(table: &'a Table, key: &str) -> Option<&'a Value>
+    ensures { option_map (λ v. view v.now) result ≡ get_member key.now (table_view table.now) }
+{
+    table.get(key)
+}
+
+/// The whole number at a key.
+fn integer(table: &Table, key: &str) -> Option<i64>
+    ensures { result ≡ integer_at key.now (table_view table.now) }
+{
+    match value_at(table, key) {
+        Some(value) => value.as_integer(),
+        None => None,
+    }
+}
+
+/// The text at a key.
+fn text<'a>(table: &'a Table, key: &str) -> Option<&'a str>
+    ensures { option_copied result ≡ text_at key.now (table_view table.now) }
+{
+    match value_at(table, key) {
+        Some(value) => value.as_str(),
+        None => None,
+    }
+}
+
+fn read_neighbour(alloc: Global, table: &Table) -> Result<Option<NeighbourDraft>, AllocError>
+    ensures { IfOk result (λ found. found ≡ neighbour_of (table_view table.now)) }
+{
+    let Some(id) = integer(table, "id") else {
+        return Ok(None);
+    };
+    let Some(station) = integer(table, "station") else {
+        return Ok(None);
+    };
+    let Some(listen) = text(table, "listen") else {
+        return Ok(None);
+    };
+    let Some(remote) = text(table, "remote") else {
+        return Ok(None);
+    };
+    let addresses = Addresses::copy(alloc, listen, remote)?;
+    Ok(Some(NeighbourDraft {
+        id,
+        station,
+        addresses,
+    }))
+}
+
+/// The items of an array: `None` where it is no array, or an item has another shape.
+fn read_items<I: Item>(alloc: Global, found: Option<&Value>) -> Result<Option<Vec<I>>, AllocError>
+    ensures { IfOk result (λ items. option_map (λ v. v.items) items ≡ items_at I.shape (option_map (λ v. view v.now) found.entry)) }
+{
+    let Some(value) = found else {
+        return Ok(None);
+    };
+    match value.as_array() {
+        Some(values) => read_each(alloc, values),
+        None => Ok(None),
+    }
+}
+
+fn read_each<I: Item>(alloc: Global, values: &Array) -> Result<Option<Vec<I>>, AllocError>
+    ensures { IfOk result (λ items. option_map (λ v. v.items) items ≡ each_item I.shape (array_view values.now)) }
+{
+    let mut items = Vec::new(alloc);
+    for value in values {
+        let Some(item) = I::read(alloc, value)? else {
+            return Ok(None);
+        };
+        items.push(item)?;
+    }
+    Ok(Some(items))
+}
+
+/// The routes, which may be left out.
+fn read_routes(alloc: Global, found: Option<&Value>) -> Result<Option<Vec<RouteDraft>>, AllocError>
+    ensures { IfOk result (λ routes. option_map (λ v. v.items) routes ≡ routes_at (option_map (λ v. view v.now) found.entry)) }
+{
+    match found {
+        Some(_) => read_items::<RouteDraft>(alloc, found),
+        None => Ok(Some(Vec::new(alloc))),
+    }
+}

@@ -1,0 +1,41 @@
+//! Laws of plans and of the link clock, each on a function without a body.
+
+ghost use Rattle.std.specs.Prelude.{◌≡◌, ℕ, List, Ok, ◌+◌, ◌-◌, ◌<◌, ◌≤◌, false, true};
+ghost use Rattle.rly_plan.specs.ContactPlan.{ContactPlan, is_open, link};
+ghost use Rattle.rly_plan.specs.Passes.{plan_of};
+ghost use Rattle.rly_plan.specs.Sound.{IsSound};
+
+use crate::plan::Plan;
+use rly_core::HopId;
+
+/// The link clock never falls.
+pub fn law_link_never_falls(plan: &Plan, hop: HopId, earlier: u64, later: u64)
+    requires { earlier ≤ later }
+    ensures { link plan.now hop earlier ≤ link plan.now hop later }
+{}
+
+/// The link clock grows by at most the time between.
+pub fn law_link_grows_with_time(plan: &Plan, hop: HopId, earlier: u64, later: u64)
+    requires { earlier ≤ later }
+    ensures { link plan.now hop later ≤ link plan.now hop earlier + (later - earlier) }
+{}
+
+/// The link clock stands still while the link is closed.
+pub fn law_link_stands_while_closed(plan: &Plan, hop: HopId, earlier: u64, later: u64)
+    requires order { earlier ≤ later }
+    requires closed { (u : ℕ) → earlier ≤ u → u < later → is_open plan.now hop u ≡ false }
+    ensures { link plan.now hop later ≡ link plan.now hop earlier }
+{}
+
+/// The link clock grows by the time between while the link is open.
+pub fn law_link_runs_while_open(plan: &Plan, hop: HopId, earlier: u64, later: u64)
+    requires order { earlier ≤ later }
+    requires opened { (u : ℕ) → earlier ≤ u → u < later → is_open plan.now hop u ≡ true }
+    ensures { link plan.now hop later ≡ link plan.now hop earlier + (later - earlier) }
+{}
+
+/// Whatever its text, a plan is sound: its numbers are in range, its contacts in order and apart,
+/// its stations and destinations there once, and its routes lead to hops that are there.
+pub fn law_plan_is_sound()
+    ensures { (text : List ℕ) (plan : ContactPlan) → plan_of text ≡ Ok plan → IsSound plan }
+{}

@@ -1,0 +1,273 @@
+ghost use Rattle.std.specs.Prelude.{◌≡◌, ◌≢◌, Err, IfErr, IfOk, map, Ok, option_copied, Some, true};
+ghost use Rattle.std.specs.List.{list_all};
+ghost use Rattle.rly_plan.specs.ContactPlan.{at_number};
+ghost use Rattle.rly_plan.specs.Passes.{all_adjacent, are_apart, contact_from, contact_in_range, hop_from, neighbour_from, plan_from, plan_of_draft, route_from};
+
+use crate::contacts::Contacts;
+use crate::draft::{ContactDraft, HopDraft, NeighbourDraft, PlanDraft, RouteDraft};
+use crate::keys::keys_are_known;
+use crate::neighbour::Neighbour;
+use crate::passes::number_16;
+use rly_core::{HopId, PeerId, Refusal};
+use std::alloc::{AllocError, Global};
+use std::marker::Model;
+
+/// A next hop: the neighbour, and when the link with it is open.
+#[derive(Debug, Drop)]
+pub(crate) struct Hop {
+    /// The neighbour that the hop leads to.
+    pub neighbour: Neighbour,
+    /// When the link is open.
+    pub contacts: Contacts,
+}
+
+/// Where the datagrams for a destination go.
+#[derive(Clone, Copy, Debug, PartialEq, Eq)]
+pub(crate) struct Route {
+    /// The destination's station number.
+    pub destination: u16,
+    /// The next hop on the way to it.
+    pub hop: HopId,
+}
+
+/// A contact plan: this station, its neighbours on both sides, when the link with each next hop is
+/// open, and which hop each destination goes to.
+#[derive(Debug, Drop)]
+pub struct Plan {
+    station: u16,
+    peers: Vec<Neighbour>,
+    hops: Vec<Hop>,
+    routes: Vec<Route>,
+}
+
+impl Model for Plan {
+    ghost use Rattle.rly_plan.specs.ContactPlan.{ContactPlan};
+
+    ghost Value = { ContactPlan };
+
+    ghost view = { λ p. record { station = p.station; peers = p.peers.items; hops = p.hops.items; routes = p.routes.items } };
+}
+
+impl Plan {
+    ghost use Rattle.std.specs.Prelude.{◌≡◌, ◌≢◌, length, IfErr, IfOk, Ok, Err, option_copied};
+    ghost use Rattle.rly_plan.specs.ContactPlan.{hop_at, hop_for, is_open, link, peer_at};
+    ghost use Rattle.rly_plan.specs.Passes.{plan_of};
+
+    /// The plan that a text writes (`docs/FORMATS.md`, "The plan"), or the first fault of its
+    /// passes: 50 to 54. 14 is answered only where memory was refused.
+    #[tactic(auto, unfolding(crate::specs::Passes::plan_of))]
+    pub fn from_toml(alloc: Global, text: &str) -> Result<Plan, Refusal>
+        ensures plan { IfOk result (λ plan. plan_of text.now ≡ Ok plan) }
+        ensures fault { IfErr result (λ fault. fault ≢ Refusal.OutOfMemory → plan_of text.now ≡ Err fault) }
+    {
+        let document = match toml::table_from_str(alloc, text) {
+            Ok(document) => document,
+            Err(error) if error.is_memory() => return Err(Refusal::OutOfMemory),
+            Err(_) => return Err(Refusal::Syntax),
+        };
+        if !keys_are_known(&document) {
+            return Err(Refusal::Unknown);
+        }
+        let draft = match PlanDraft::read(alloc, &document) {
+            Ok(Some(draft)) => draft,
+            Ok(None) => return Err(Refusal::Syntax),
+            Err(_) => return Err(Refusal::OutOfMemory),
+        };
+        judged(alloc, draft)
+    }
+
+    /// This station's number, 1 to 65,535.
+    pub fn station(&self) -> u16
+        ensures { result ≡ self.now.station }
+    {
+        self.station
+    }
+
+    /// How many upstream neighbours there are: their ids are 1, 2, 3, ..
+    pub fn peer_count(&self) -> usize
+        ensures { result ≡ length self.now.peers }
+    {
+        self.peers.len()
+    }
+
+    /// How many next hops there are: their ids are 1, 2, 3, ..
+    pub fn hop_count(&self) -> usize
+        ensures { result ≡ length self.now.hops }
+    {
+        self.hops.len()
+    }
+
+    /// The upstream neighbour of this id.
+    pub fn peer(&self, peer: PeerId) -> Option<&Neighbour>
+        ensures { option_copied result ≡ peer_at self.now peer }
+    {
+        at_number(&self.peers, peer.0)
+    }
+
+    /// The neighbour that the hop of this id leads to.
+    pub fn hop(&self, hop: HopId) -> Option<&Neighbour>
+        ensures { option_copied result ≡ hop_at self.now hop }
+    {
+        match at_number(&self.hops, hop.0) {
+            Some(hop) => Some(&hop.neighbour),
+            None => None,
+        }
+    }
+
+    /// The hop that the datagrams for a destination go to.
+    pub fn hop_for(&self, destination: u16) -> Option<HopId>
+        ensures { result ≡ hop_for self.now destination }
+    {
+        for route in &self.routes {
+            if route.destination == destination {
+                return Some(route.hop);
+            }
+        }
+        None
+    }
+
+    /// Whether the link of a hop is open at a moment: never, for a hop that isn't there.
+    pub fn is_open(&self, hop: HopId, moment: u64) -> bool
+        ensures { result ≡ is_open self.now hop moment }
+    {
+        match at_number(&self.hops, hop.0) {
+            Some(hop) => hop.contacts.is_open(moment),
+            None => false,
+        }
+    }
+
+    /// The link clock of a hop, in microseconds: at how many of the moments before this one its link
+    /// was open. It stays at 0 for a hop that isn't there.
+    pub fn link(&self, hop: HopId, moment: u64) -> u64
+        ensures { result ≡ link self.now hop moment }
+    {
+        match at_number(&self.hops, hop.0) {
+            Some(hop) => hop.contacts.link(moment),
+            None => 0,
+        }
+    }
+}
+
+/// The element of this number, counting from 1.
+fn at_number<T>(items: &[T], number: u16) -> Option<&T>
+    ensures { option_copied result ≡ at_number items.now number }
+{
+    match number {
+        0 => None,
+        _ => items.get(number as usize - 1),
+    }
+}
+
+/// The plan of a draft, or the first fault of the passes over its numbers.
+fn judged(alloc: Global, draft: PlanDraft) -> Result<Plan, Refusal>
+    ensures plan { IfOk result (λ plan. plan_of_draft (Some draft) ≡ Ok plan) }
+    ensures fault { IfErr result (λ fault. fault ≢ Refusal.OutOfMemory → plan_of_draft (Some draft) ≡ Err fault) }
+{
+    if !draft.is_in_range() {
+        return Err(Refusal::Range);
+    }
+    if !draft.is_sorted() {
+        return Err(Refusal::Unsorted);
+    }
+    let overlaps = draft.overlaps(alloc).map_err(|_| Refusal::OutOfMemory)?;
+    if overlaps {
+        return Err(Refusal::Overlap);
+    }
+    if !draft.leads_to_hops() {
+        return Err(Refusal::Unknown);
+    }
+    settled(alloc, draft).map_err(|_| Refusal::OutOfMemory)
+}
+
+/// The plan of a draft whose numbers are in range and whose contacts don't overlap.
+fn settled(alloc: Global, draft: PlanDraft) -> Result<Plan, AllocError>
+    requires ranged { list_all (λ h. list_all contact_in_range h.contacts) draft.hops ≡ true }
+    requires apart { list_all (λ h. all_adjacent are_apart h.contacts) draft.hops ≡ true }
+    ensures { IfOk result (λ plan. plan ≡ plan_from draft) }
+{
+    let PlanDraft {
+        station,
+        peers,
+        hops,
+        routes,
+    } = draft;
+    Ok(Plan {
+        station: number_16(station),
+        peers: settled_peers(alloc, peers)?,
+        hops: settled_hops(alloc, hops)?,
+        routes: settled_routes(alloc, &routes)?,
+    })
+}
+
+fn settled_peers(alloc: Global, drafts: Vec<NeighbourDraft>) -> Result<Vec<Neighbour>, AllocError>
+    ensures { IfOk result (λ peers. peers.items ≡ map neighbour_from drafts.items) }
+{
+    drafts
+        .into_iter()
+        .map(|draft| settled_neighbour(draft))
+        .collect(alloc)
+}
+
+fn settled_neighbour(draft: NeighbourDraft) -> Neighbour
+    ensures { result ≡ neighbour_from draft }
+{
+    let NeighbourDraft {
+        id: _,
+        station,
+        addresses,
+    } = draft;
+    Neighbour {
+        station: number_16(station),
+        addresses,
+    }
+}
+
+fn settled_routes(alloc: Global, drafts: &[RouteDraft]) -> Result<Vec<Route>, AllocError>
+    ensures { IfOk result (λ routes. routes.items ≡ map route_from drafts.now) }
+{
+    drafts
+        .iter()
+        .map(|draft| settled_route(*draft))
+        .collect(alloc)
+}
+
+fn settled_route(draft: RouteDraft) -> Route
+    ensures { result ≡ route_from draft }
+{
+    Route {
+        destination: number_16(draft.destination),
+        hop: HopId(number_16(draft.hop)),
+    }
+}
+
+fn settled_hops(alloc: Global, drafts: Vec<HopDraft>) -> Result<Vec<Hop>, AllocError>
+    requires ranged { list_all (λ h. list_all contact_in_range h.contacts) drafts.items ≡ true }
+    requires apart { list_all (λ h. all_adjacent are_apart h.contacts) drafts.items ≡ true }
+    ensures { IfOk result (λ hops. hops.items ≡ map hop_from drafts.items) }
+{
+    let mut hops = Vec::new(alloc);
+    for draft in drafts {
+        let HopDraft {
+            neighbour,
+            contacts,
+        } = draft;
+        let hop = Hop {
+            neighbour: settled_neighbour(neighbour),
+            contacts: settled_contacts(alloc, &contacts)?,
+        };
+        hops.push(hop)?;
+    }
+    Ok(hops)
+}
+
+fn settled_contacts(alloc: Global, drafts: &[ContactDraft]) -> Result<Contacts, AllocError>
+    requires ranged { list_all contact_in_range drafts.now ≡ true }
+    requires apart { all_adjacent are_apart drafts.now ≡ true }
+    ensures { IfOk result (λ contacts. contacts ≡ map contact_from drafts.now) }
+{
+    let mut contacts = Contacts::new(alloc);
+    for draft in drafts {
+        contacts.push(draft.settled())?;
+    }
+    Ok(contacts)
+}

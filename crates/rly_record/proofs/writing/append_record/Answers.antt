@@ -1,0 +1,15 @@
+use Rattle.std.proofs.Common.{List, ℕ, ◌++◌, ap, sym, ◌∙◌}
+use Rattle.rly_machine.specs.declared.command.Command.{Command}
+use Rattle.rly_machine.specs.declared.command.Command.TheVariants.{Take}
+use Rattle.rly_record.specs.Spelling.{record_of}
+use Rattle.rly_record.proofs.Records.{take_written}
+use Rattle.rly_record.proofs.writing.append_record.Goals as goal
+
+pub returns-in-Take-clause-items : goal.returns-in-Take-clause-items
+returns-in-Take-clause-items c =
+    let old : List ℕ = c.args.out.now.items in
+    let written = take_written c.in-Take.peer c.in-Take.number c.in-Take.hop c.in-Take.stamp c.as_slice-payload.result.now c.take_fields.result old c.append.new.out.items c.append-in-Take.new.out.items
+    c.take_fields.ensures.fields c.append.ensures.items c.append-in-Take.ensures.items in
+    written
+    ∙ ap (λ (payload : List ℕ). old ++ record_of (Take c.in-Take.peer c.in-Take.number c.in-Take.hop c.in-Take.stamp payload)) c.as_slice-payload.ensures
+    ∙ ap (λ (command : Command (List ℕ)). old ++ record_of command) (sym c.in-Take.is)

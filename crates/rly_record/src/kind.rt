@@ -1,0 +1,32 @@
+ghost use Rattle.std.specs.Prelude.{◌≡◌, ◌==◌, ◌||◌, false, IfNone, IfSome};
+ghost use Rattle.rly_record.specs.Kinds.{kind_byte};
+
+/// The kinds of record, each under the byte that a record of it begins with.
+#[derive(Clone, Copy, Debug, PartialEq, Eq)]
+pub(crate) enum Kind {
+    Take = 1,
+    Pick = 2,
+    Release = 3,
+}
+
+impl Kind {
+    /// The kind that the byte says, if it says one.
+    pub(crate) fn from_byte(byte: u8) -> Option<Kind>
+        ensures known { IfSome result (λ kind. byte ≡ kind_byte kind) }
+        ensures unknown { IfNone result (((byte == 1) || (byte == 2) || (byte == 3)) ≡ false) }
+    {
+        match byte {
+            1 => Some(Kind::Take),
+            2 => Some(Kind::Pick),
+            3 => Some(Kind::Release),
+            _ => None,
+        }
+    }
+
+    /// The byte that says it.
+    pub(crate) fn byte(self) -> u8
+        ensures { result ≡ kind_byte self }
+    {
+        self as u8
+    }
+}

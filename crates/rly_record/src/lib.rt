@@ -1,0 +1,22 @@
+//! Commands as bytes: the record of each accepted command, and the body of 1 to 64 records that a group of the journal
+//! holds.
+//!
+//! Writing and reading meet one spelling (`specs/Spelling.antt`; `docs/FORMATS.md`, "Bodies and records"): what is written
+//! is the spelling, what is read is what the bytes spell, and only bytes that spell nothing are malformed. Reading takes
+//! memory for what it answers; writing takes none where the caller's buffer has the room.
+//! Callers: `rly_segment` and `rly_journal`.
+#![tactic(auto)]
+
+mod fault;
+mod kind;
+mod laws;
+mod reading;
+mod writing;
+
+pub use crate::fault::RecordFault;
+pub use crate::laws::{law_lengths, law_no_body_begins_another, law_no_record_begins_another};
+pub use crate::reading::{read_body, read_command};
+pub use crate::writing::{record_len, write_body, write_command};
+
+#[cfg(test)]
+mod tests;

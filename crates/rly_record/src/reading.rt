@@ -1,0 +1,164 @@
+ghost use Rattle.std.specs.Prelude.{◌≡◌, ◌≤◌, ◌<◌, ◌++◌, ◌∷◌, ℕ, List, length, drop, Some, IfOk, MatchResult};
+ghost use Rattle.rly_machine.specs.declared.command.Command.{Command};
+ghost use Rattle.rly_record.specs.Spelling.{HasRecord, HaveBody, body_of, record_of};
+ghost use Rattle.rly_record.specs.Reading.{Gives, command_at, commands_at, number_at, payload_at, pick_at, release_at, take_at, whole_body};
+
+use crate::fault::RecordFault;
+use crate::kind::Kind;
+use byteorder::{BigEndian, ByteOrder};
+use rly_core::limits::{MAX_PAYLOAD, MAX_ROUND};
+use rly_core::{HopId, PeerId};
+use rly_machine::{Command, Payload};
+use std::alloc::Global;
+
+/// The command whose record stands at the front of the bytes, and how many bytes that record takes; other bytes may
+/// follow it.
+pub fn read_command(alloc: Global, bytes: &[u8]) -> Result<(Command<Payload>, usize), RecordFault>
+    ensures command { IfOk result (λ found. HasRecord found.0) }
+    ensures found { IfOk result (λ found. bytes.now ≡ record_of found.0 ++ drop found.1 bytes.now) }
+    ensures length { IfOk result (λ found. found.1 ≡ length (record_of found.0)) }
+
+    // What is spelled at the front is read, unless memory is refused: so Malformed says that nothing is.
+    ensures only { (command : Command (List ℕ)) (rest : List ℕ) → HasRecord command → bytes.now ≡ record_of command ++ rest →
+        MatchResult result (λ found. found.0 ≡ command) (λ fault. fault ≡ RecordFault.OutOfMemory) }
+{
+    let (command, rest) = command_of(alloc, bytes)?;
+    Ok((command, bytes.len() - rest.len()))
+}
+
+/// The commands whose body the bytes are, all of them.
+pub fn read_body(alloc: Global, bytes: &[u8]) -> Result<Vec<Command<Payload>>, RecordFault>
+    ensures commands { IfOk result (λ commands. HaveBody commands.items) }
+    ensures found { IfOk result (λ commands. bytes.now ≡ body_of commands.items) }
+
+    // What is spelled is read, unless memory is refused: so Malformed says that nothing is.
+    ensures only { (commands : List (Command (List ℕ))) → HaveBody commands → bytes.now ≡ body_of commands →
+        MatchResult result (λ found. found.items ≡ commands) (λ fault. fault ≡ RecordFault.OutOfMemory) }
+{
+    body_of_bytes(alloc, bytes)
+}
+
+/// A number of two bytes, and what stands behind it.
+fn u16_of(bytes: &[u8]) -> Result<(u16, &[u8]), RecordFault>
+    ensures { Gives (λ x. (x.0, x.1.now)) result (number_at 2 bytes.now) }
+{
+    if bytes.len() < 2 {
+        return Err(RecordFault::Malformed);
+    }
+    Ok((BigEndian::read_u16(bytes), &bytes[2..]))
+}
+
+/// A number of eight bytes, and what stands behind it.
+fn u64_of(bytes: &[u8]) -> Result<(u64, &[u8]), RecordFault>
+    ensures { Gives (λ x. (x.0, x.1.now)) result (number_at 8 bytes.now) }
+{
+    if bytes.len() < 8 {
+        return Err(RecordFault::Malformed);
+    }
+    Ok((BigEndian::read_u64(bytes), &bytes[8..]))
+}
+
+/// A payload behind its length.
+#[tactic(auto, unfolding(crate::specs::Reading::payload_at))]
+fn payload_of(alloc: Global, bytes: &[u8]) -> Result<(Payload, &[u8]), RecordFault>
+    ensures { Gives (λ x. (x.0, x.1.now)) result (payload_at bytes.now) }
+{
+    let (size, rest) = u16_of(bytes)?;
+    let length = usize::from(size);
+    if u64::from(size) > MAX_PAYLOAD || rest.len() < length {
+        return Err(RecordFault::Malformed);
+    }
+    let (payload, rest) = rest.split_at(length);
+    Ok((Payload::new(Vec::from_slice(alloc, payload)?), rest))
+}
+
+/// The fields of a Take.
+#[tactic(auto, unfolding(crate::specs::Reading::take_at))]
+fn take_of(alloc: Global, bytes: &[u8]) -> Result<(Command<Payload>, &[u8]), RecordFault>
+    ensures { Gives (λ x. (x.0, x.1.now)) result (take_at bytes.now) }
+{
+    let (peer, rest) = u16_of(bytes)?;
+    let (number, rest) = u64_of(rest)?;
+    let (hop, rest) = u16_of(rest)?;
+    let (stamp, rest) = u64_of(rest)?;
+    let (payload, rest) = payload_of(alloc, rest)?;
+    let command = Command::Take {
+        peer: PeerId(peer),
+        number,
+        hop: HopId(hop),
+        stamp,
+        payload,
+    };
+    Ok((command, rest))
+}
+
+/// The fields of a Pick.
+#[tactic(auto, unfolding(crate::specs::Reading::pick_at))]
+fn pick_of(bytes: &[u8]) -> Result<(Command<Payload>, &[u8]), RecordFault>
+    ensures { Gives (λ x. (x.0, x.1.now)) result (pick_at bytes.now) }
+{
+    let (hop, rest) = u16_of(bytes)?;
+    let (now, rest) = u64_of(rest)?;
+    let hop = HopId(hop);
+    Ok((Command::Pick { hop, now }, rest))
+}
+
+/// The fields of a Release.
+#[tactic(auto, unfolding(crate::specs::Reading::release_at))]
+fn release_of(bytes: &[u8]) -> Result<(Command<Payload>, &[u8]), RecordFault>
+    ensures { Gives (λ x. (x.0, x.1.now)) result (release_at bytes.now) }
+{
+    let (hop, rest) = u16_of(bytes)?;
+    let (number, rest) = u64_of(rest)?;
+    let hop = HopId(hop);
+    Ok((Command::Release { hop, number }, rest))
+}
+
+/// The record at the front, and what stands behind it.
+#[tactic(auto, unfolding(crate::specs::Reading::command_at))]
+fn command_of(alloc: Global, bytes: &[u8]) -> Result<(Command<Payload>, &[u8]), RecordFault>
+    ensures { Gives (λ x. (x.0, x.1.now)) result (command_at bytes.now) }
+{
+    let [kind, fields @ ..] = bytes else {
+        return Err(RecordFault::Malformed);
+    };
+    match Kind::from_byte(*kind).ok_or(RecordFault::Malformed)? {
+        Kind::Take => take_of(alloc, fields),
+        Kind::Pick => pick_of(fields),
+        Kind::Release => release_of(fields),
+    }
+}
+
+/// So many records, one behind the other, and what stands behind them.
+fn commands_of(
+    alloc: Global,
+    count: u16,
+    bytes: &[u8],
+) -> Result<(Vec<Command<Payload>>, &[u8]), RecordFault>
+    ensures { Gives (λ x. (x.0.items, x.1.now)) result (commands_at count bytes.now) }
+{
+    let mut commands = Vec::with_capacity(alloc, usize::from(count))?;
+    let mut rest = bytes;
+    for _ in 0..count {
+        let (command, after) = command_of(alloc, rest)?;
+        commands.push_reserved(command);
+        rest = after;
+    }
+    Ok((commands, rest))
+}
+
+/// A body and nothing behind it.
+#[tactic(auto, unfolding(crate::specs::Reading::body_at, crate::specs::Reading::whole_body))]
+fn body_of_bytes(alloc: Global, bytes: &[u8]) -> Result<Vec<Command<Payload>>, RecordFault>
+    ensures { Gives (λ commands. commands.items) result (whole_body bytes.now) }
+{
+    let (count, rest) = u16_of(bytes)?;
+    if count == 0 || u64::from(count) > MAX_ROUND {
+        return Err(RecordFault::Malformed);
+    }
+    let (commands, rest) = commands_of(alloc, count, rest)?;
+    if !rest.is_empty() {
+        return Err(RecordFault::Malformed);
+    }
+    Ok(commands)
+}

@@ -1,0 +1,324 @@
+ghost use Rattle.std.specs.Prelude.{◌≤◌, length, IfOk};
+ghost use Rattle.rly_record.specs.Spelling.{IsShort};
+
+use crate::{RecordFault, read_body, read_command, record_len, write_body, write_command};
+use rly_core::{HopId, PeerId};
+use rly_machine::{Command, Payload};
+use std::alloc::{AllocError, Global};
+use std::test::Fail;
+
+/// The record of `take 1 1 1 0 41`.
+const TAKE: [u8; 24] = [
+    0x01, 0x00, 0x01, 0, 0, 0, 0, 0, 0, 0, 1, 0x00, 0x01, 0, 0, 0, 0, 0, 0, 0, 0, 0x00, 0x01, 0x41,
+];
+
+/// Its body.
+const TAKE_BODY: [u8; 26] = [
+    0x00, 0x01, 0x01, 0x00, 0x01, 0, 0, 0, 0, 0, 0, 0, 1, 0x00, 0x01, 0, 0, 0, 0, 0, 0, 0, 0, 0x00,
+    0x01, 0x41,
+];
+
+/// The record of a Pick of hop 1 at 10,000.
+const PICK: [u8; 11] = [0x02, 0x00, 0x01, 0, 0, 0, 0, 0, 0, 0x27, 0x10];
+
+/// The record of a Release of hop 1 up to 3.
+const RELEASE: [u8; 11] = [0x03, 0x00, 0x01, 0, 0, 0, 0, 0, 0, 0, 0x03];
+
+/// The body of that Pick and that Release.
+const TWO: [u8; 24] = [
+    0x00, 0x02, 0x02, 0x00, 0x01, 0, 0, 0, 0, 0, 0, 0x27, 0x10, 0x03, 0x00, 0x01, 0, 0, 0, 0, 0, 0,
+    0, 0x03,
+];
+
+fn take(alloc: Global, payload: &[u8]) -> Result<Command<Payload>, AllocError>
+    requires { length payload.now ≤ 1200 }
+    ensures { IfOk result IsShort }
+{
+    Ok(Command::Take {
+        peer: PeerId(1),
+        number: 1,
+        hop: HopId(1),
+        stamp: 0,
+        payload: Payload::new(Vec::from_slice(alloc, payload)?),
+    })
+}
+
+fn pick() -> Command<Payload>
+    ensures { IsShort result }
+{
+    Command::Pick {
+        hop: HopId(1),
+        now: 10_000,
+    }
+}
+
+fn release() -> Command<Payload>
+    ensures { IsShort result }
+{
+    Command::Release {
+        hop: HopId(1),
+        number: 3,
+    }
+}
+
+fn write_one(command: Command<Payload>, out: &mut Vec<u8>) -> Result<(), AllocError>
+    requires { IsShort command }
+{
+    write_body(&[command], out)
+}
+
+fn write_two(
+    first: Command<Payload>,
+    second: Command<Payload>,
+    out: &mut Vec<u8>,
+) -> Result<(), AllocError>
+    requires first { IsShort first }
+    requires second { IsShort second }
+{
+    write_body(&[first, second], out)
+}
+
+/// Whether the bytes are refused as no body.
+fn is_malformed(alloc: Global, bytes: &[u8]) -> bool {
+    matches!(read_body(alloc, bytes), Err(RecordFault::Malformed))
+}
+
+/// Whether the bytes are refused as no record.
+fn is_no_record(alloc: Global, bytes: &[u8]) -> bool {
+    matches!(read_command(alloc, bytes), Err(RecordFault::Malformed))
+}
+
+#[test]
+fn the_worked_records_are_written(rt: HostRuntime) -> Result<(), Fail> {
+    let alloc = rt.alloc();
+    let mut out = Vec::new(alloc);
+    let command = take(alloc, &[0x41])?;
+    assert_eq!(rt; record_len(&command), 24);
+    write_command(&command, &mut out)?;
+    assert_eq!(rt; out.as_slice(), TAKE.as_slice());
+    out.clear();
+    assert_eq!(rt; record_len(&pick()), 11);
+    write_command(&pick(), &mut out)?;
+    assert_eq!(rt; out.as_slice(), PICK.as_slice());
+    assert_eq!(rt; record_len(&release()), 11);
+    write_command(&release(), &mut out)?;
+    assert_eq!(rt; &out.as_slice()[11..], RELEASE.as_slice());
+    Ok(())
+}
+
+#[test]
+fn the_worked_bodies_are_written(rt: HostRuntime) -> Result<(), Fail> {
+    let alloc = rt.alloc();
+    let mut out = Vec::with_capacity(alloc, 50)?;
+    write_one(take(alloc, &[0x41])?, &mut out)?;
+    assert_eq!(rt; out.as_slice(), TAKE_BODY.as_slice());
+    out.clear();
+    write_two(pick(), release(), &mut out)?;
+    assert_eq!(rt; out.as_slice(), TWO.as_slice());
+    assert_eq!(rt; out.capacity(), 50);
+    Ok(())
+}
+
+#[test]
+fn a_body_is_written_behind_what_is_there(rt: HostRuntime) -> Result<(), Fail> {
+    let alloc = rt.alloc();
+    let mut out = Vec::from_slice(alloc, &[0xa5, 0xee])?;
+    write_two(pick(), release(), &mut out)?;
+    assert_eq!(rt; out.len(), 26);
+    assert_eq!(rt; &out.as_slice()[..2], [0xa5, 0xee].as_slice());
+    assert_eq!(rt; &out.as_slice()[2..], TWO.as_slice());
+    Ok(())
+}
+
+fn is_worked_take(command: &Command<Payload>) -> bool {
+    match command {
+        Command::Take {
+            peer,
+            number,
+            hop,
+            stamp,
+            payload,
+        } => {
+            *peer == PeerId(1)
+                && *number == 1
+                && *hop == HopId(1)
+                && *stamp == 0
+                && payload.as_slice() == [0x41].as_slice()
+        }
+        _ => false,
+    }
+}
+
+fn is_worked_pick(command: &Command<Payload>) -> bool {
+    match command {
+        Command::Pick { hop, now } => *hop == HopId(1) && *now == 10_000,
+        _ => false,
+    }
+}
+
+fn is_worked_release(command: &Command<Payload>) -> bool {
+    match command {
+        Command::Release { hop, number } => *hop == HopId(1) && *number == 3,
+        _ => false,
+    }
+}
+
+#[test]
+fn the_worked_records_are_read(rt: HostRuntime) -> Result<(), Fail> {
+    let alloc = rt.alloc();
+    let (command, length) = read_command(alloc, &TAKE)?;
+    assert!(rt; is_worked_take(&command));
+    assert_eq!(rt; length, 24);
+    let (command, length) = read_command(alloc, &PICK)?;
+    assert!(rt; is_worked_pick(&command));
+    assert_eq!(rt; length, 11);
+    let (command, length) = read_command(alloc, &RELEASE)?;
+    assert!(rt; is_worked_release(&command));
+    assert_eq!(rt; length, 11);
+    Ok(())
+}
+
+#[test]
+fn other_bytes_may_follow_a_record(rt: HostRuntime) -> Result<(), Fail> {
+    let (command, length) = read_command(rt.alloc(), &TWO[2..])?;
+    assert!(rt; is_worked_pick(&command));
+    assert_eq!(rt; length, 11);
+    Ok(())
+}
+
+#[test]
+fn the_worked_bodies_are_read(rt: HostRuntime) -> Result<(), Fail> {
+    let alloc = rt.alloc();
+    let commands = read_body(alloc, &TAKE_BODY)?;
+    assert_eq!(rt; commands.len(), 1);
+    assert!(rt; is_worked_take(&commands[0]));
+    let commands = read_body(alloc, &TWO)?;
+    assert_eq!(rt; commands.len(), 2);
+    assert!(rt; is_worked_pick(&commands[0]));
+    assert!(rt; is_worked_release(&commands[1]));
+    Ok(())
+}
+
+#[test]
+fn each_cut_of_a_good_body_is_refused(rt: HostRuntime) {
+    for length in 0..TAKE_BODY.len() {
+        assert!(rt; is_malformed(rt.alloc(), &TAKE_BODY[..length]), "{length}");
+    }
+    for length in 0..TWO.len() {
+        assert!(rt; is_malformed(rt.alloc(), &TWO[..length]), "{length}");
+    }
+    for length in 0..TAKE.len() {
+        assert!(rt; is_no_record(rt.alloc(), &TAKE[..length]), "{length}");
+    }
+}
+
+#[test]
+fn a_byte_behind_the_last_record_is_refused(rt: HostRuntime) -> Result<(), Fail> {
+    let alloc = rt.alloc();
+    let mut bytes = Vec::from_slice(alloc, &TAKE_BODY)?;
+    bytes.push(0x00)?;
+    assert!(rt; is_malformed(alloc, &bytes));
+    Ok(())
+}
+
+/// The bytes of a body of so many of the worked Picks.
+fn picks(alloc: Global, count: u8) -> Result<Vec<u8>, AllocError> {
+    let mut bytes = vec![in alloc; 0, count]?;
+    for _ in 0..count {
+        bytes.extend_from_slice(&PICK)?;
+    }
+    Ok(bytes)
+}
+
+#[test]
+fn a_body_has_1_to_64_records(rt: HostRuntime) -> Result<(), Fail> {
+    let alloc = rt.alloc();
+    assert!(rt; is_malformed(alloc, &picks(alloc, 0)?));
+    assert_eq!(rt; read_body(alloc, &picks(alloc, 1)?)?.len(), 1);
+    assert_eq!(rt; read_body(alloc, &picks(alloc, 64)?)?.len(), 64);
+    assert!(rt; is_malformed(alloc, &picks(alloc, 65)?));
+    Ok(())
+}
+
+#[test]
+fn no_other_kind_is_read(rt: HostRuntime) -> Result<(), Fail> {
+    let alloc = rt.alloc();
+    for kind in [0x00, 0x04, 0xff] {
+        let mut bytes = vec![in alloc; kind]?;
+        bytes.extend_from_slice(&PICK[1..])?;
+        assert!(rt; is_no_record(alloc, &bytes));
+        let mut body = vec![in alloc; 0, 1]?;
+        body.extend_from_slice(&bytes)?;
+        assert!(rt; is_malformed(alloc, &body));
+    }
+    Ok(())
+}
+
+/// The bytes of a Take of peer 0xfffe, number 2^64 - 1, hop 0xfffd and stamp 2^64 - 2 with a payload of so many bytes 07.
+fn long_take(alloc: Global, size: u16) -> Result<Vec<u8>, AllocError> {
+    let mut bytes = vec![in alloc;
+        0x01, 0xff, 0xfe, 0xff, 0xff, 0xff, 0xff, 0xff, 0xff, 0xff, 0xff, 0xff, 0xfd, 0xff, 0xff,
+        0xff, 0xff, 0xff, 0xff, 0xff, 0xfe,
+    ]?;
+    bytes.extend_from_slice(&size.to_be_bytes())?;
+    for _ in 0..size {
+        bytes.push(0x07)?;
+    }
+    Ok(bytes)
+}
+
+#[test]
+fn a_payload_has_at_most_1200_bytes(rt: HostRuntime) -> Result<(), Fail> {
+    let alloc = rt.alloc();
+    let bytes = long_take(alloc, 1_200)?;
+    let (command, length) = read_command(alloc, &bytes)?;
+    assert_eq!(rt; length, 1_223);
+    let Command::Take {
+        peer,
+        number,
+        hop,
+        stamp,
+        payload,
+    } = command
+    else {
+        return Err("the record is a Take's".into());
+    };
+    assert_eq!(rt; peer, PeerId(0xfffe));
+    assert_eq!(rt; number, u64::MAX);
+    assert_eq!(rt; hop, HopId(0xfffd));
+    assert_eq!(rt; stamp, u64::MAX - 1);
+    assert_eq!(rt; payload.as_slice(), &bytes.as_slice()[23..]);
+    assert!(rt; is_no_record(alloc, &long_take(alloc, 1_201)?));
+    Ok(())
+}
+
+/// What stands for a payload by its length alone.
+#[derive(Drop)]
+struct Length {
+    length: usize,
+}
+
+impl rly_machine::Content for Length {
+    ghost length_of = { λ content. content.length };
+
+    fn len(&self) -> usize {
+        self.length
+    }
+}
+
+#[test]
+fn lengths_of_records_over_another_content(rt: HostRuntime) {
+    let command = Command::Take {
+        peer: PeerId(1),
+        number: 1,
+        hop: HopId(1),
+        stamp: 0,
+        payload: Length { length: 1_200 },
+    };
+    assert_eq!(rt; record_len(&command), 1_223);
+    let command: Command<Length> = Command::Pick {
+        hop: HopId(1),
+        now: 0,
+    };
+    assert_eq!(rt; record_len(&command), 11);
+}
