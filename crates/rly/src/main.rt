@@ -1,17 +1,39 @@
 //! The program `rly`: its command line, streams and status are those of `rly_daemon::run`.
 #![tactic(auto)]
 
+use rly_daemon::SimFault;
+use std::io::{ErrorKind, Write};
 use std::process::ExitCode;
 use std::{env, io};
 
-fn main(rt: HostRuntime) -> io::Result<ExitCode> {
-    let words: Vec<String> = env::args(&rt)?.collect(rt.alloc())?;
-    let status = rly_daemon::run(
-        &rt,
-        words.as_slice(),
-        &mut rt.reader(),
-        &mut io::writer(&rt),
-        &mut rt.stderr(),
-    );
-    Ok(ExitCode::from(status))
+fn main(rt: HostRuntime) -> ExitCode {
+    let status = match words_of(&rt) {
+        Ok(words) => rly_daemon::run(
+            &rt,
+            words.as_slice(),
+            &mut rt.reader(),
+            &mut io::writer(&rt),
+            &mut rt.stderr(),
+        ),
+        Err(error) => tell(&rt, &error),
+    };
+    ExitCode::from(status)
+}
+
+/// The words of the command line, the program's name first.
+fn words_of(rt: &HostRuntime) -> io::Result<Vec<String>> {
+    let words: Vec<String> = env::args(rt)?.collect(rt.alloc())?;
+    Ok(words)
+}
+
+/// Says on standard error why there are no words, and answers the status: 1 where memory was
+/// refused, 2 where a word is no text.
+fn tell(rt: &HostRuntime, error: &io::Error) -> u8 {
+    // Nothing is left to tell where even this fails.
+    if error.kind() == ErrorKind::OutOfMemory {
+        let _told = writeln!(rt.stderr(), "{}", SimFault::OutOfMemory);
+        return 1;
+    }
+    let _told = writeln!(rt.stderr(), "rly: the command line is not UTF-8");
+    2
 }

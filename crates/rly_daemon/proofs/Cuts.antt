@@ -1,8 +1,8 @@
 -- Where a list is cut at its first element that passes.
-use Rattle.std.proofs.Common.{◌≡◌, ℕ, ◌+◌, ◌<◌, List, [], ◌∷◌, length, take, drop, Bool, true, false, cond, Option, Some, None, MatchOption, refl, sym, ◌∙◌, ap, subst, arith, add-one, ◌==◌}
+use Rattle.std.proofs.Common.{◌≡◌, ℕ, ◌+◌, List, [], ◌∷◌, take, drop, Bool, true, false, Option, Some, None, MatchOption, refl, sym, ◌∙◌, arith, add-one, ◌==◌}
 use Rattle.rly_daemon.specs.Grammar.{words_of, HasTwo}
 use Rattle.std.specs.Option.{is_some}
-use Rattle.std.specs.List.{slice_split, onto_first, position, position_from}
+use Rattle.std.specs.List.{slice_split, position, position_from}
 use Rattle.std.proofs.lemmas.Iterator.Adapters.{position_from-zero}
 
 -- what the place of the first element that passes says of the parts

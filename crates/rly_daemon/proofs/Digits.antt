@@ -1,5 +1,5 @@
 -- Hexadecimal digits, two for each byte.
-use Rattle.std.proofs.Common.{◌≡◌, ℕ, ◌+◌, ◌*◌, ◌-◌, ◌/◌, ◌%◌, ◌<◌, ◌^◌, List, [], ◌∷◌, ◌++◌, length, take, slice_index, get_or, false, refl, sym, ◌∙◌, ap, arith, zero, suc}
+use Rattle.std.proofs.Common.{◌≡◌, ℕ, ◌+◌, ◌-◌, ◌/◌, ◌%◌, ◌<◌, ◌^◌, List, [], ◌∷◌, ◌++◌, length, take, slice_index, get_or, false, refl, sym, ◌∙◌, ap, arith, zero, suc}
 use Rattle.std.specs.Fmt.{digits, digit_glyph, padded_integral, format_spec}
 use Rattle.std.proofs.lemmas.Fmt.{hex_byte}
 use Rattle.std.proofs.lemmas.List.{take_more}

@@ -1,10 +1,10 @@
 -- Where lines end.
-use Rattle.std.proofs.Common.{◌≡◌, ℕ, ◌+◌, ◌-◌, ◌≤◌, ◌<◌, List, [], ◌∷◌, ◌++◌, length, take, drop, slice_range, ◌^◌, min, Bool, true, false, ◌||◌, ◌==◌, cond, Option, Some, None, refl, sym, ◌∙◌, arith, add-one, eqb-true, append_assoc, length-append, length-drop, ap, zero, suc}
-use Rattle.std.specs.List.{list_any, onto_first, position, position_from}
+use Rattle.std.proofs.Common.{◌≡◌, ℕ, ◌+◌, ◌-◌, ◌≤◌, ◌<◌, List, [], ◌∷◌, ◌++◌, length, take, drop, slice_range, ◌^◌, min, Bool, true, false, ◌||◌, ◌==◌, Option, Some, None, refl, sym, ◌∙◌, arith, add-one, eqb-true, length-append, length-drop, ap, zero, suc}
+use Rattle.std.specs.List.{onto_first, position, position_from}
 use Rattle.std.proofs.lemmas.Iterator.Adapters.{position_from-zero}
 use Rattle.std.proofs.lemmas.List.{take_min, length-take, drop-take, drop-drop}
 use Rattle.std.proofs.Math.Seq.{take-append-add}
-use Rattle.rly_daemon.specs.Lines.{lines_of, has_newline, kept_of, longest_line, reading_of, TakesPiece}
+use Rattle.rly_daemon.specs.Lines.{lines_of, has_newline, kept_of, reading_of, TakesPiece}
 
 -- what the place of the first newline says of the parts
 abbrev pub BreaksAt : ℕ → List ℕ → Option ℕ → Type 0

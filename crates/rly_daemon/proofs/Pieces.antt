@@ -1,5 +1,5 @@
 -- What a reader of lines did to the bytes that are left, piece by piece.
-use Rattle.std.proofs.Common.{◌≡◌, ℕ, ◌+◌, ◌≤◌, ◌<◌, List, [], ◌∷◌, ◌++◌, length, take, Bool, true, false, not, ◌==◌, Option, Some, None, refl, sym, ◌∙◌, ap, arith, append_assoc, append-nil, eqb-true}
+use Rattle.std.proofs.Common.{◌≡◌, ℕ, List, [], ◌∷◌, ◌++◌, length, Bool, true, false, not, ◌==◌, Option, Some, None, refl, sym, ◌∙◌, ap, arith, append_assoc, append-nil, eqb-true}
 use Rattle.std.specs.Io.KnownBytes.{IsAtEnd, Keeps, prepend_known}
 use Rattle.rly_daemon.specs.Lines.{Reading, Fills, TakesLine, TakesPart, TakesPiece, lines_of, has_newline, kept_of}
 use Rattle.rly_daemon.proofs.Newlines.{lines_ended, lines_last, no_newline-append, kept_again}

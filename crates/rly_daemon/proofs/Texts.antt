@@ -1,10 +1,9 @@
 -- What is written as lines are answered, one after the other.
-use Rattle.std.proofs.Common.{◌≡◌, ℕ, ◌+◌, ◌*◌, ◌/◌, ◌%◌, ◌≤◌, ◌<◌, ◌^◌, List, [], ◌∷◌, ◌++◌, length, take, get_or, slice_index, min, IfSome, Bool, true, false, nat_lt, Option, Some, None, refl, sym, ◌∙◌, ap, subst, arith, append_assoc, append-nil, zero, suc}
+use Rattle.std.proofs.Common.{◌≡◌, ℕ, ◌+◌, ◌≤◌, List, [], ◌∷◌, ◌++◌, length, take, min, IfSome, Bool, true, false, nat_lt, Option, Some, None, refl, sym, ◌∙◌, ap, arith, append_assoc, append-nil}
 use Rattle.std.specs.Io.KnownBytes.{Appends, Keeps, prepend_known}
 use Rattle.std.proofs.lemmas.Bool.{lt-ltb, ltb-true, ltb-false}
 use Rattle.std.proofs.lemmas.List.{length-take, take_all, take_min, take-append-le}
 use Rattle.std.proofs.Math.Seq.{take-append-add}
-use Rattle.rly_machine.specs.State.{State}
 use Rattle.rly_daemon.specs.Grammar.{ask_of}
 use Rattle.rly_daemon.specs.Lines.{kept_of, lines_of, longest_line, TakesLine}
 use Rattle.rly_daemon.specs.Text.{ByteState, answer_of, text_of, replies_from, AnswersLine, Answered, ask_answer, AppendsBeginning, BeginsAnswer}

@@ -5,7 +5,6 @@ use Rattle.std.specs.List.{flat_map}
 use Rattle.hex.specs.Hex.{encode_lower}
 use Rattle.rly_core.specs.Refusals.{refusal_line}
 use Rattle.rly_core.specs.declared.ids.HopId.{HopId}
-use Rattle.rly_core.specs.declared.ids.PeerId.{PeerId}
 use Rattle.rly_machine.specs.declared.command.Ask.{Ask}
 use Rattle.rly_machine.specs.declared.command.Ask.TheVariants as ask
 use Rattle.rly_machine.specs.declared.command.Command.TheVariants.{Take, Pick, Release}

@@ -1,4 +1,4 @@
-use Rattle.std.proofs.Common.{◌≡◌, ℕ, nat_eq, sym, ◌+◌}
+use Rattle.std.proofs.Common.{sym, ◌+◌}
 use Rattle.std.proofs.lemmas.List.{take_rest}
 use Rattle.rly_daemon.proofs.Cuts.{cut_none, cut_some}
 use Rattle.rly_daemon.proofs.grammar.cut.Goals as goal

@@ -1,4 +1,3 @@
-use Rattle.std.proofs.Common.{◌≡◌, true}
 use Rattle.rly_daemon.proofs.Cuts.{two_words}
 use Rattle.rly_daemon.proofs.grammar.is_word.Goals as goal
 

@@ -1,4 +1,4 @@
-use Rattle.std.proofs.Common.{◌≡◌, sym, ◌∙◌}
+use Rattle.std.proofs.Common.{sym, ◌∙◌}
 use Rattle.rly_daemon.proofs.Numerals.{number_parsed, digits_utf8, never_err, ok_value}
 use Rattle.rly_daemon.proofs.grammar.parse_number.Goals as goal
 

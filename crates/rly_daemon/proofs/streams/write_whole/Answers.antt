@@ -1,4 +1,4 @@
-use Rattle.std.proofs.Common.{◌≤◌, ◌+◌, length, arith, length-drop}
+use Rattle.std.proofs.Common.{arith, length-drop}
 use Rattle.std.proofs.lemmas.List.{take_rest}
 use Rattle.rly_daemon.proofs.Flows.{appends_more}
 use Rattle.rly_daemon.proofs.streams.write_whole.Goals as goal

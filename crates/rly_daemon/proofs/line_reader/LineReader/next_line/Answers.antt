@@ -1,4 +1,4 @@
-use Rattle.std.proofs.Common.{◌≡◌, ◌<◌, ◌≤◌, ◌==◌, [], length, arith, sym, ◌∙◌, ap, refl}
+use Rattle.std.proofs.Common.{◌≡◌, ◌==◌, length, arith, sym, ◌∙◌, ap, refl}
 use Rattle.rly_daemon.proofs.Pieces.{line_begun, line_more, line_last, part_more}
 use Rattle.rly_daemon.proofs.line_reader.LineReader.next_line.Goals as goal
 

@@ -1,4 +1,4 @@
-use Rattle.std.proofs.Common.{◌≡◌, ◌≤◌, ◌==◌, ◌++◌, ℕ, length, take, slice_range, Some, None, arith, vec_len}
+use Rattle.std.proofs.Common.{◌≡◌, ◌≤◌, ◌==◌, ◌++◌, length, take, slice_range, Some, None, arith, vec_len}
 use Rattle.std.specs.List.{position}
 use Rattle.rly_daemon.specs.Lines.{kept_of}
 use Rattle.rly_daemon.proofs.Newlines.{piece_ended, piece_open}

@@ -1,6 +1,6 @@
 use Rattle.std.proofs.Common.{rules, get_or, ◌∷◌, []}
 use Rattle.std.proofs.lemmas.Grind.{put_two}
-use Rattle.hex.specs.Hex.{encode_lower, encode_with}
+use Rattle.hex.specs.Hex.{encode_lower}
 use Rattle.rly_daemon.proofs.Digits.{encode_more}
 use Rattle.rly_daemon.proofs.reply_line.DigitsDisplay.fmt.Goals as goal
 
