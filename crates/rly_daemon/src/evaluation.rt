@@ -1,13 +1,12 @@
 ghost use Rattle.std.specs.Prelude.{◌≡◌, ◌∷◌, ◌++◌, [], IfOk, OnErr, OnOk, string_bytes};
 ghost use Rattle.rly_machine.specs.Ask.{ask_step};
-ghost use Rattle.rly_machine.specs.Query.{query_reply};
 ghost use Rattle.rly_daemon.specs.Replies.{reply_text, subject_of};
 ghost use Rattle.rly_daemon.specs.Text.{answer_of};
 
 use crate::grammar::parse_line;
 use crate::reply_line::{ReplyLine, Subject};
 use rly_core::Refusal;
-use rly_machine::{Ask, Machine, Payload, Query, Reply};
+use rly_machine::{Ask, Machine, Payload, Reply};
 use std::alloc::{AllocError, Global};
 
 /// Evaluates the ask of a line on a machine, and leaves in `text` the reply line with its newline.
@@ -67,27 +66,6 @@ pub fn evaluate(
             let room = machine.reserve_for(alloc, &command)?;
             Ok(machine.apply(command, room))
         }
-        Ask::Query(query) => answer_query(alloc, machine, query),
-    }
-}
-
-/// The reply to a question. Only Fetch takes memory.
-fn answer_query(
-    alloc: Global,
-    machine: &Machine<Payload>,
-    query: Query,
-) -> Result<Reply, AllocError>
-    ensures { IfOk result (λ reply. reply ≡ query_reply machine.now.state query) }
-{
-    match query {
-        Query::Fetch { hop, number } => match machine.item(hop, number) {
-            Ok(item) => {
-                let bytes = item.payload.as_slice().to_vec(alloc)?;
-                Ok(Reply::Bytes(Payload::new(bytes)))
-            }
-            Err(refusal) => Ok(Reply::Refused(refusal)),
-        },
-        Query::Window { hop } => Ok(machine.ask_window(hop)),
-        Query::Show { hop } => Ok(machine.ask_show(hop)),
+        Ask::Query(query) => machine.answer(alloc, query),
     }
 }

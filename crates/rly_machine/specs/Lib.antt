@@ -11,3 +11,4 @@ pub mod Sound
 pub mod Kept
 pub mod Custody
 pub mod Map
+pub mod History

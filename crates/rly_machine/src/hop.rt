@@ -1,5 +1,6 @@
 ghost use Rattle.std.specs.Prelude.{◌≡◌, ◌+◌, ◌<◌, ◌≤◌, ◌^◌, [], ◌++◌, IfOk, OnOk, drop, length, map, take, vec_capacity, vec_len};
 ghost use Rattle.std.specs.VecDeque.{deque_capacity, deque_len};
+ghost use Rattle.rly_machine.specs.State.{bytes_of};
 
 use crate::content::Content;
 use crate::queue::Queue;
@@ -130,7 +131,23 @@ impl<C: Content> Hop<C> {
     ghost use Rattle.rly_machine.specs.Sound.{IsSoundHop};
     ghost use Rattle.rly_machine.specs.Release.{with_released};
     ghost use Rattle.rly_core.specs.Limits.{IsWithinLimits};
-    ghost use Rattle.rly_machine.specs.State.{bytes_of};
+    ghost use Rattle.rly_machine.specs.State.{live_line};
+
+    /// How many datagrams it keeps, in flight and waiting.
+    pub fn live_items(&self) -> u64
+        requires { length (live_line (hop_of self.now)) < 2 ^ 64 }
+        ensures { result ≡ length (live_line (hop_of self.now)) }
+    {
+        self.flight.len() as u64 + self.queue.len() as u64
+    }
+
+    /// How many payload bytes those have.
+    pub fn live_bytes(&self) -> u64
+        requires { bytes_of C.length_of (live_line (hop_of self.now)) < 2 ^ 64 }
+        ensures { result ≡ bytes_of C.length_of (live_line (hop_of self.now)) }
+    {
+        payload_bytes(&self.flight) + payload_bytes(&self.queue)
+    }
 
     /// Lets go of the first so many in flight, and answers how many payload bytes they had.
     pub(crate) fn release(&mut self, count: usize) -> u64
@@ -220,6 +237,19 @@ impl<C: Content> Hop<C> {
             dropped: Ids::new(dropped),
         }
     }
+}
+
+/// How many payload bytes items have.
+fn payload_bytes<C: Content>(items: &VecDeque<Item<C>>) -> u64
+    requires { bytes_of C.length_of items.now.items < 2 ^ 64 }
+    ensures { result ≡ bytes_of C.length_of items.now.items }
+{
+    let count = items.len();
+    let mut bytes = 0;
+    for index in 0..count {
+        bytes += items[index].payload.len() as u64;
+    }
+    bytes
 }
 
 /// What CoDel dropped at one pick.

@@ -6,19 +6,25 @@
 //! their commands on it.
 #![tactic(auto)]
 
+mod call;
 mod command;
 mod content;
+mod history_law;
 mod hop;
 mod laws;
+mod live;
 mod machine;
+mod question;
 mod queue;
 mod reply;
 mod room;
 #[cfg(test)]
 mod tests;
 
+pub use crate::call::{Answer, Call, SeatId};
 pub use crate::command::{Ask, Command, Query};
 pub use crate::content::{Content, Payload};
+pub use crate::history_law::law_history;
 pub use crate::hop::{Hop, Item};
 pub use crate::laws::{law_balance, law_custody, law_map};
 pub use crate::machine::Machine;

@@ -1,8 +1,9 @@
-ghost use Rattle.std.specs.Prelude.{◌≡◌, ◌+◌, ◌-◌, ◌<◌, ◌≤◌, Err, IfErr, IfOk, IsTrue, MatchOption, Ok, OnOk, false, length, slice_index};
+ghost use Rattle.std.specs.Prelude.{◌≡◌, ◌+◌, ◌-◌, ◌<◌, ◌≤◌, Err, IfErr, IfOk, IsTrue, MatchOption, Ok, OnOk, Some, false, length, map, slice_get, slice_index};
 ghost use Rattle.std.specs.Option.{SomeIff};
 ghost use Rattle.rly_core.specs.Limits.{IsWithinLimits};
-ghost use Rattle.rly_machine.specs.Kept.{IsHopAt};
-ghost use Rattle.rly_machine.specs.State.{has_hop, has_peer, hop_at, new_state};
+ghost use Rattle.rly_machine.specs.Kept.{IsHopAt, hop_of};
+ghost use Rattle.rly_machine.specs.Sound.{IsSound};
+ghost use Rattle.rly_machine.specs.State.{has_hop, has_peer, hop_at, last_at, live_bytes, live_items, new_state};
 ghost use Rattle.rly_machine.specs.Step.{HasRoom, step};
 ghost use Rattle.rly_machine.specs.Query.{item_of, show_reply, window_reply};
 ghost use Rattle.rly_machine.specs.Take.{take_refusal, take_step};
@@ -12,6 +13,7 @@ ghost use Rattle.rly_machine.specs.Release.{covered, release_refusal, release_st
 use crate::command::{Ask, Command, Query};
 use crate::content::{Content, Payload};
 use crate::hop::{Hop, Item};
+use crate::live::Live;
 use crate::reply::Reply;
 use crate::room::Room;
 use rly_core::{HopId, Params, PeerId, Refusal, limits};
@@ -42,6 +44,8 @@ impl<C: Content> Model for Machine<C> {
 }
 
 impl<C: Content> Machine<C> {
+    ghost use Rattle.rly_machine.specs.Kept.{state_of};
+
     /// A spool that nothing has come to.
     pub fn new(alloc: Global, params: Params) -> Result<Machine<C>, AllocError>
         requires { IsWithinLimits params }
@@ -60,6 +64,94 @@ impl<C: Content> Machine<C> {
             live_items: 0,
             live_bytes: 0,
         })
+    }
+
+    /// The spool of a state that was kept elsewhere. It takes no memory, and counts what is live.
+    pub fn restore(
+        params: Params,
+        seq: u64,
+        lasts: Vec<u64>,
+        hops: Vec<Hop<C>>,
+    ) -> Result<Machine<C>, AllocError>
+        requires { IsSound C.length_of (state_of params hops lasts seq) }
+        ensures { IfOk result (λ machine. machine.state ≡ state_of params hops lasts seq) }
+    {
+        let live = Live::of(&hops);
+        Ok(Machine {
+            params,
+            hops,
+            lasts,
+            seq,
+            live_items: live.items,
+            live_bytes: live.bytes,
+        })
+    }
+
+    /// What is true of every machine's state.
+    pub fn law_sound(&self)
+        ensures { IsSound C.length_of self.now.state }
+    {
+        let _ = &self.params;
+    }
+
+    /// The spool's parameters.
+    pub fn params(&self) -> Params
+        ensures { result ≡ self.now.state.params }
+    {
+        self.params
+    }
+
+    /// The count of accepted commands.
+    pub fn seq(&self) -> u64
+        ensures { result ≡ self.now.state.seq }
+    {
+        self.seq
+    }
+
+    /// How many datagrams are live.
+    pub fn item_count(&self) -> u64
+        ensures { result ≡ live_items self.now.state }
+    {
+        self.live_items
+    }
+
+    /// How many payload bytes are live.
+    pub fn byte_count(&self) -> u64
+        ensures { result ≡ live_bytes C.length_of self.now.state }
+    {
+        self.live_bytes
+    }
+
+    /// The last number taken from each peer, in the order of their numbers.
+    pub fn lasts(&self) -> &[u64]
+        ensures { result.now ≡ self.now.state.lasts }
+    {
+        self.lasts.as_slice()
+    }
+
+    /// The hops with all that they keep, in the order of their numbers.
+    pub fn hops(&self) -> &[Hop<C>]
+        ensures { map hop_of result.now ≡ self.now.state.hops }
+    {
+        self.hops.as_slice()
+    }
+
+    /// The last number taken from a peer.
+    pub fn last(&self, peer: PeerId) -> u64
+        requires { IsTrue (has_peer self.now.state peer) }
+        ensures { result ≡ last_at self.now.state peer }
+    {
+        let place = peer.0 as usize - 1;
+        self.lasts[place]
+    }
+
+    /// An item that waits at a hop, counted from 0 at the front of its queue.
+    pub fn queued(&self, hop: HopId, index: usize) -> &Item<C>
+        requires there { IsTrue (has_hop self.now.state hop) }
+        requires waits { index < length (hop_at self.now.state hop).queue }
+        ensures { slice_get (hop_at self.now.state hop).queue index ≡ Some result.now }
+    {
+        &self.hops[hop.0 as usize - 1].queue[index]
     }
 
     /// Makes the memory that a command may need. Where it is refused, the state is as it was.

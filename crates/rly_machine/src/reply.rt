@@ -42,6 +42,21 @@ pub enum Reply {
     Refused(Refusal),
 }
 
+impl Reply {
+    ghost use Rattle.std.specs.Prelude.{◌≡◌};
+    ghost use Rattle.rly_machine.specs.Accepted.{is_accepted};
+
+    /// Whether it answers a command that was accepted.
+    pub fn is_accepted(&self) -> bool
+        ensures { result ≡ is_accepted self.now }
+    {
+        matches!(
+            self,
+            Reply::Taken(_) | Reply::Picked { .. } | Reply::Nothing | Reply::Released(_)
+        )
+    }
+}
+
 /// All numbers of a hop.
 #[derive(Clone, Copy, Debug, PartialEq, Eq)]
 pub struct HopStatus {

@@ -1,0 +1,83 @@
+-- Items in a row are live, and each comes before those behind it.
+use Rattle.std.proofs.Common.{◌≡◌, ℕ, suc, ◌+◌, ◌<◌, ◌≤◌, ◌↔◌, Bool, true, false, List, [], ◌∷◌, length, get_or, drop, sym, ap, subst, ◌∙◌, arith}
+use Rattle.std.specs.Prelude.{All, AllPairs}
+use Rattle.std.proofs.lemmas.Bool.{iff_false}
+use Rattle.std.proofs.lemmas.List.{drop_more, drop_all}
+use Rattle.std.proofs.lemmas.List.Elements.{All-nil, All-cons, All-head, All-tail, All-weaker}
+use Rattle.std.proofs.lemmas.List.Kept.{AllPairs-cons}
+use Rattle.rly_machine.specs.declared.hop.Item.{Item}
+use Rattle.rly_machine.specs.Sound.{ComesBefore, IsLive}
+use Rattle.rly_checkpoint.specs.Line.{Follows, IsRow}
+
+-- an item comes behind an id and a stamp
+pub record IsBehind (id stamp : ℕ) (item : Item (List ℕ)) : Type 0 where
+  pub id_rises : id < item.id
+  pub stamp_stays : stamp ≤ item.stamp
+
+-- what is true of the items of a row
+pub record RowIs (moment seq id stamp : ℕ) (items : List (Item (List ℕ))) : Type 0 where
+  pub behind : All (IsBehind id stamp) items
+  pub live : All (IsLive length moment seq) items
+  pub order : AllPairs ComesBefore items
+
+row_there : (moment seq id stamp : ℕ) (items : List (Item (List ℕ))) → IsRow moment seq id stamp items → RowIs moment seq id stamp items
+row_there moment seq id stamp [] row = record {
+  behind = All-nil (IsBehind id stamp);
+  live = All-nil (IsLive length moment seq);
+  order = λ i j d less short. absurd (omega arith);
+}
+row_there moment seq id stamp (item ∷ items) row =
+    let follows = row.0 in
+    let rest = row_there moment seq item.id item.stamp items row.1 in
+    record {
+      behind = All-cons (IsBehind id stamp) item items (record { id_rises = follows.later; stamp_stays = follows.not_before })
+          (All-weaker (IsBehind item.id item.stamp) (IsBehind id stamp) (λ x b. record { id_rises = omega (arith, follows.later, b.id_rises); stamp_stays = omega (arith, follows.not_before, b.stamp_stays) }) items rest.behind);
+      live = All-cons (IsLive length moment seq) item items (record { first = omega (arith, follows.later); last = follows.last; stamp = follows.not_after; length = follows.short }) rest.live;
+      order = AllPairs-cons ComesBefore item items (All-weaker (IsBehind item.id item.stamp) (ComesBefore item) (λ x b. record { id = b.id_rises; stamp = b.stamp_stays }) items rest.behind) rest.order;
+    }
+
+row_back : (moment seq id stamp : ℕ) (items : List (Item (List ℕ))) → All (IsBehind id stamp) items → All (IsLive length moment seq) items → AllPairs ComesBefore items → IsRow moment seq id stamp items
+row_back moment seq id stamp [] behind live order = tt
+row_back moment seq id stamp (item ∷ items) behind live order =
+    let b = All-head (IsBehind id stamp) item items behind in
+    let l = All-head (IsLive length moment seq) item items live in
+    let later : All (IsBehind item.id item.stamp) items = λ k d lt.
+    let pair : ComesBefore item (get_or items k d) = order 0 (suc k) d (omega arith) (omega (arith, lt)) in
+    record { id_rises = pair.id; stamp_stays = pair.stamp } in (
+      record { later = b.id_rises; last = l.last; not_before = b.stamp_stays; not_after = l.stamp; short = l.length },
+      row_back moment seq item.id item.stamp items later (All-tail (IsLive length moment seq) item items live) (λ i j d less short. order (suc i) (suc j) d (omega (arith, less)) (omega (arith, short))),
+    )
+
+-- a row from the start on
+pub row_live : (moment seq : ℕ) (items : List (Item (List ℕ))) → IsRow moment seq 0 0 items → All (IsLive length moment seq) items
+row_live moment seq items row = (row_there moment seq 0 0 items row).live
+
+pub row_order : (moment seq : ℕ) (items : List (Item (List ℕ))) → IsRow moment seq 0 0 items → AllPairs ComesBefore items
+row_order moment seq items row = (row_there moment seq 0 0 items row).order
+
+pub row_from : (moment seq : ℕ) (items : List (Item (List ℕ))) → All (IsLive length moment seq) items → AllPairs ComesBefore items → IsRow moment seq 0 0 items
+row_from moment seq items live order =
+    row_back moment seq 0 0 items (All-weaker (IsLive length moment seq) (IsBehind 0 0) (λ x l. record { id_rises = omega (arith, l.first); stamp_stays = omega arith }) items live) live order
+
+-- ---- looking at the items one behind the other
+
+-- the rest of a row
+pub row_cut : (moment seq id stamp : ℕ) (items : List (Item (List ℕ))) (i : ℕ) (item : Item (List ℕ)) → i < length items → item ≡ get_or items i item
+    → IsRow moment seq id stamp (drop i items) → Follows moment seq id stamp item × IsRow moment seq item.id item.stamp (drop (i + 1) items)
+row_cut moment seq id stamp items i item lt is row =
+    let cut : drop i items ≡ item ∷ drop (i + 1) items = drop_more items i item lt ∙ ap (λ (x : Item (List ℕ)). x ∷ drop (i + 1) items) (sym is) in
+    subst (IsRow moment seq id stamp) cut row
+
+pub row_join : (moment seq id stamp : ℕ) (items : List (Item (List ℕ))) (i : ℕ) (item : Item (List ℕ)) → i < length items → item ≡ get_or items i item
+    → Follows moment seq id stamp item → IsRow moment seq item.id item.stamp (drop (i + 1) items) → IsRow moment seq id stamp (drop i items)
+row_join moment seq id stamp items i item lt is follows row =
+    let cut : drop i items ≡ item ∷ drop (i + 1) items = drop_more items i item lt ∙ ap (λ (x : Item (List ℕ)). x ∷ drop (i + 1) items) (sym is) in
+    subst (IsRow moment seq id stamp) (sym cut) (follows, row)
+
+pub row_end : (moment seq id stamp : ℕ) (items : List (Item (List ℕ))) (i : ℕ) → length items ≤ i → IsRow moment seq id stamp (drop i items)
+row_end moment seq id stamp items i all = subst (IsRow moment seq id stamp) (sym (drop_all i items all)) tt
+
+-- an item that does not follow breaks the row
+pub row_breaks : (moment seq id stamp : ℕ) (items : List (Item (List ℕ))) (i : ℕ) (item : Item (List ℕ)) (follows : Bool) → i < length items → item ≡ get_or items i item
+    → ((follows ≡ true) ↔ Follows moment seq id stamp item) → follows ≡ false → (IsRow moment seq 0 0 items → IsRow moment seq id stamp (drop i items)) → IsRow moment seq 0 0 items → ⊥
+row_breaks moment seq id stamp items i item follows lt is test fails there row = iff_false test fails (row_cut moment seq id stamp items i item lt is (there row)).0

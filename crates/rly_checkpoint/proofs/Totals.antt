@@ -1,0 +1,125 @@
+-- What hops come to, and the bounds of it.
+use Rattle.std.proofs.Common.{◌≡◌, ℕ, ◌+◌, ◌*◌, ◌^◌, ◌<◌, ◌≤◌, ◌↔◌, Bool, true, List, [], ◌∷◌, length, get_or, take, map, leb, sym, ap, subst, ◌∙◌, arith, sum, sum_by}
+use Rattle.std.specs.Prelude.{All}
+use Rattle.std.proofs.lemmas.Bool.{le-leb, leb-true}
+use Rattle.std.proofs.lemmas.List.{length-map}
+use Rattle.std.proofs.lemmas.List.Elements.{All-head, All-more, All-tail}
+use Rattle.std.proofs.lemmas.List.Sums.{sum_by-cons}
+use Rattle.rly_core.specs.Limits.{IsWithinLimits}
+use Rattle.rly_core.specs.declared.params.Params.{Params}
+use Rattle.rly_machine.specs.Accepted.{max_seq}
+use Rattle.rly_machine.specs.declared.hop.Hop.{Hop}
+use Rattle.rly_machine.specs.declared.hop.Item.{Item}
+use Rattle.rly_machine.specs.Kept.{hop_of}
+use Rattle.rly_machine.specs.Sound.{IsLive, IsSound, IsSoundHop}
+use Rattle.rly_machine.specs.State.{HopState, bytes_of, live_line, new_hop}
+use Rattle.rly_machine.proofs.Keeping.{read_hop}
+use Rattle.rly_machine.proofs.Restoring.{counted_le}
+use Rattle.rly_checkpoint.specs.Line.{IsRow}
+use Rattle.rly_checkpoint.proofs.Rows.{row_from, row_live, row_order}
+
+-- what is at most a bound for each is at most so often that bound for all
+pub sum_below : {A : Type 0} (f : A → ℕ) (most : ℕ) (xs : List A) → All (λ x. f x ≤ most) xs → sum_by f xs ≤ most * length xs
+sum_below f most [] all = omega arith
+sum_below f most (x ∷ xs) all =
+    let first : f x ≤ most = All-head (λ y. f y ≤ most) x xs all in
+    let others : sum_by f xs ≤ most * length xs = sum_below f most xs (All-tail (λ y. f y ≤ most) x xs all) in
+    omega (arith, sum_by-cons f x xs, first, others)
+
+-- the payload bytes of live items
+pub bytes_below : (moment seq : ℕ) (items : List (Item (List ℕ))) → All (IsLive length moment seq) items → bytes_of length items ≤ 1200 * length items
+bytes_below moment seq items live = sum_below (λ (item : Item (List ℕ)). length item.payload) 1200 items (λ k d lt. (live k d lt).length)
+
+-- a hop is sound where its numbers are, and its items stand in a row
+pub hop_is : (params : Params) (seq : ℕ) (h : HopState (List ℕ)) (row : Bool)
+    → h.taken ≡ length h.queue + length h.flight + h.dropped + h.released → h.taken ≤ seq → h.moment < 2 ^ 52 → length h.flight ≤ params.window
+    → (h.codel.first_above_time ≤ h.moment + params.interval) × (h.codel.drop_next ≤ h.moment + params.interval) × (h.codel.lastcount ≤ h.codel.count) × (h.codel.count ≤ h.dropped)
+    → ((row ≡ true) ↔ IsRow h.moment seq 0 0 (live_line h)) → (row ≡ true) ↔ IsSoundHop length params seq h
+hop_is params seq h row balance taken moment window codel test = (
+  λ yes. record {
+    balance = balance;
+    taken = taken;
+    moment = moment;
+    window = window;
+    items = row_live h.moment seq (live_line h) (test.0 yes);
+    order = row_order h.moment seq (live_line h) (test.0 yes);
+    first_above_time = codel.0;
+    drop_next = codel.1;
+    lastcount = codel.2;
+    count = codel.3;
+  },
+  λ sound. test.1 (row_from h.moment seq (live_line h) sound.items sound.order),
+)
+
+-- ---- the hops, one behind the other
+
+-- a place among the hops
+pub map_place : (hops : List (Hop (List ℕ))) (i : ℕ) → i < length hops → i < length (map hop_of hops)
+map_place hops i lt =
+    let view : Hop (List ℕ) → HopState (List ℕ) = hop_of in
+    omega (arith, lt, length-map hops view)
+
+-- what is true of all the hops is true of the one that was read
+pub hop_among : (P : HopState (List ℕ) → Type 0) (hops : List (Hop (List ℕ))) (i : ℕ) (old : Hop (List ℕ)) → i < length hops → old ≡ get_or hops i old → All P (map hop_of hops) → P (hop_of old)
+hop_among P hops i old lt is all =
+    subst P (sym (read_hop hops i old lt is)) (all i new_hop (map_place hops i lt))
+
+-- one more hop of which it is true
+pub hop_more : (P : HopState (List ℕ) → Type 0) (hops : List (Hop (List ℕ))) (i : ℕ) (old : Hop (List ℕ)) → i < length hops → old ≡ get_or hops i old → All P (take i (map hop_of hops)) → P (hop_of old) → All P (take (i + 1) (map hop_of hops))
+hop_more P hops i old lt is before here =
+    let view : Hop (List ℕ) → HopState (List ℕ) = hop_of in
+    All-more P (map view hops) i new_hop (map_place hops i lt) before (subst P (read_hop hops i old lt is) here)
+
+-- no hop keeps more than all
+pub too_many : (hops : List (Hop (List ℕ))) (i : ℕ) (old : Hop (List ℕ)) (most : ℕ) → i < length hops → old ≡ get_or hops i old → most < length (live_line (hop_of old)) → sum_by (λ h. length (live_line h)) (map hop_of hops) ≤ most → ⊥
+too_many hops i old most lt is many few = omega (arith, counted_le (λ (h : HopState (List ℕ)). length (live_line h)) hops i old lt is, many, few)
+
+-- the payload bytes of a sound hop
+pub hop_bytes_below : (params : Params) (seq : ℕ) (h : HopState (List ℕ)) → IsWithinLimits params → IsSoundHop length params seq h → length (live_line h) ≤ params.items → bytes_of length (live_line h) ≤ 19660800
+hop_bytes_below params seq h within sound few = omega (arith, bytes_below h.moment seq (live_line h) sound.items, few, within.items.1)
+
+-- ---- whole states
+
+-- numbers up to the greatest count of commands, of which there are few
+pub sum_fits : (seq : ℕ) (numbers : List ℕ) → seq ≤ max_seq → length numbers ≤ 64 → All (λ number. number ≤ seq) numbers → sum numbers < 2 ^ 64
+sum_fits seq numbers top few all =
+    let below : All (λ number. number ≤ max_seq) numbers = λ k d lt. omega (arith, all k d lt, top) in
+    omega (arith, sum_below (λ (number : ℕ). number) max_seq numbers below, few)
+
+-- hops that were found wanting are those of no sound state
+pub not_sound : (params : Params) (hops read : List (Hop (List ℕ))) (lasts : List ℕ) (seq : ℕ) → read ≡ hops
+    → (All (IsSoundHop length params seq) (map hop_of read) × (sum_by (λ h. length (live_line h)) (map hop_of read) ≤ params.items) → ⊥)
+    → IsSound length (record { params = params; hops = map hop_of hops; lasts = lasts; seq = seq }) → ⊥
+not_sound params hops read lasts seq same wanting sound =
+    let view : Hop (List ℕ) → HopState (List ℕ) = hop_of in
+    let e : map view hops ≡ map view read = sym (ap (map view) same) in
+    wanting (subst (All (IsSoundHop length params seq)) e sound.hops, subst (λ (l : List (HopState (List ℕ))). sum_by (λ h. length (live_line h)) l ≤ params.items) e sound.items)
+
+-- a state is sound where its parts are, and it keeps no more bytes than it may
+pub state_is : (params : Params) (hops read : List (Hop (List ℕ))) (lasts numbers : List ℕ) (seq taken items bytes : ℕ) → read ≡ hops → numbers ≡ lasts
+    → IsWithinLimits params → length hops ≡ params.hops → length lasts ≡ params.peers
+    → All (IsSoundHop length params seq) (map hop_of read) → All (λ number. number ≤ seq) numbers
+    → sum numbers ≡ taken → taken ≡ sum_by (λ h. h.taken) (map hop_of read)
+    → items ≡ sum_by (λ h. length (live_line h)) (map hop_of read) → items ≤ params.items
+    → bytes ≡ sum_by (λ h. bytes_of length (live_line h)) (map hop_of read) → seq ≤ max_seq
+    → (leb bytes params.bytes ≡ true) ↔ IsSound length (record { params = params; hops = map hop_of hops; lasts = lasts; seq = seq })
+state_is params hops read lasts numbers seq taken items bytes same same_lasts within hop_count peer_count sound_hops sound_lasts is_sum is_taken is_items few is_bytes top =
+    let view : Hop (List ℕ) → HopState (List ℕ) = hop_of in
+    let e : map view read ≡ map view hops = ap (map view) same in
+    let count : HopState (List ℕ) → ℕ = λ h. length (live_line h) in
+    let weight : HopState (List ℕ) → ℕ = λ h. bytes_of length (live_line h) in
+    let took : HopState (List ℕ) → ℕ = λ h. h.taken in
+    let b : bytes ≡ sum_by weight (map view hops) = is_bytes ∙ ap (sum_by weight) e in (
+      λ light. record {
+        params = within;
+        hop_count = length-map hops view ∙ hop_count;
+        peer_count = peer_count;
+        hops = subst (All (IsSoundHop length params seq)) e sound_hops;
+        lasts = subst (All (λ number. number ≤ seq)) same_lasts sound_lasts;
+        numbers = sym (ap sum same_lasts) ∙ is_sum ∙ is_taken ∙ ap (sum_by took) e;
+        items = subst (λ (n : ℕ). n ≤ params.items) (is_items ∙ ap (sum_by count) e) few;
+        bytes = subst (λ (n : ℕ). n ≤ params.bytes) b (leb-true _ _ light);
+        seq = top;
+      },
+      λ sound. le-leb _ _ (subst (λ (n : ℕ). n ≤ params.bytes) (sym b) sound.bytes),
+    )

@@ -1,0 +1,11 @@
+use Rattle.std.proofs.Common.{◌≡◌, ◌+◌, ◌-◌, ◌≤◌, vec_len}
+use Rattle.std.specs.Vec.{vec_capacity}
+use Rattle.rly_checkpoint.specs.Reading.{entry_at, many_at}
+use Rattle.rly_checkpoint.proofs.Loops.{with_front}
+use Rattle.rly_checkpoint.proofs.reading.entries_of.Given as goal
+
+abbrev pub invariant-loop : goal.invariant-loop
+invariant-loop l = record {
+  so_far : with_front l.entries.items (many_at entry_at (l.count - l.counter) l.rest) ≡ many_at entry_at l.count l.bytes;
+  room : vec_len l.entries + (l.count - l.counter) ≤ vec_capacity l.entries;
+}

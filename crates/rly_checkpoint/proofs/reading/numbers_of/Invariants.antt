@@ -1,0 +1,12 @@
+use Rattle.std.proofs.Common.{◌≡◌, ◌+◌, ◌-◌, ◌≤◌, vec_len}
+use Rattle.std.specs.Vec.{vec_capacity}
+use Rattle.rly_record.specs.Reading.{number_at}
+use Rattle.rly_checkpoint.specs.Reading.{many_at}
+use Rattle.rly_checkpoint.proofs.Loops.{with_front}
+use Rattle.rly_checkpoint.proofs.reading.numbers_of.Given as goal
+
+abbrev pub invariant-loop : goal.invariant-loop
+invariant-loop l = record {
+  so_far : with_front l.numbers.items (many_at (number_at 8) (l.count - l.counter) l.rest) ≡ many_at (number_at 8) l.count l.bytes;
+  room : vec_len l.numbers + (l.count - l.counter) ≤ vec_capacity l.numbers;
+}

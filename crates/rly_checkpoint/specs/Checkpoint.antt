@@ -1,0 +1,33 @@
+-- The bytes of a whole state (docs/FORMATS.md, "Heads"): what a segment's head holds behind its generation and length.
+-- Each state has one checkpoint, since it is a function of the state; which states two checkpoints may share says the law.
+use Rattle.std.specs.Prelude.{ℕ, List, [], ◌∷◌, ◌++◌, length, Bool, true, false}
+use Rattle.std.specs.List.{flat_map}
+use Rattle.byteorder.specs.Endian.{big_bytes}
+use Rattle.rly_codel.specs.declared.state.CodelState.{CodelState}
+use Rattle.rly_machine.specs.declared.hop.Item.{Item}
+use Rattle.rly_machine.specs.State.{State, HopState, live_line}
+
+-- the byte of a flag
+abbrev pub flag_byte : Bool → ℕ
+flag_byte true = 1
+flag_byte false = 0
+
+-- a live datagram: its id, stamp and length, the form of its payload (0: inline), and the payload
+unfoldable pub entry_of : Item (List ℕ) → List ℕ
+entry_of item = big_bytes 8 item.id ++ big_bytes 8 item.stamp ++ big_bytes 2 (length item.payload) ++ 0 ∷ item.payload
+
+-- CoDel's state
+unfoldable pub codel_of : CodelState → List ℕ
+codel_of c = big_bytes 8 c.first_above_time ++ big_bytes 8 c.drop_next ++ big_bytes 8 c.count ++ big_bytes 8 c.lastcount ++ flag_byte c.dropping ∷ []
+
+-- a hop: its last moment, CoDel's state, its counts, how many are in flight and how many wait, and the entries of both
+unfoldable pub hop_bytes : HopState (List ℕ) → List ℕ
+hop_bytes h =
+    big_bytes 8 h.moment ++ codel_of h.codel
+    ++ big_bytes 8 h.taken ++ big_bytes 8 h.dropped ++ big_bytes 8 h.released
+    ++ big_bytes 2 (length h.flight) ++ big_bytes 4 (length h.queue)
+    ++ flat_map entry_of (live_line h)
+
+-- a whole state: the count of accepted commands, each peer's last number, and each hop
+unfoldable pub checkpoint_of : State (List ℕ) → List ℕ
+checkpoint_of s = big_bytes 8 s.seq ++ flat_map (big_bytes 8) s.lasts ++ flat_map hop_bytes s.hops

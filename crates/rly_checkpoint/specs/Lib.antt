@@ -1,0 +1,4 @@
+pub mod Checkpoint
+pub mod Reading
+pub mod Line
+pub mod Fitting

@@ -1,0 +1,103 @@
+-- Reading a checkpoint from left to right: what stands at the front and the bytes behind it, or nothing where no such
+-- thing stands there. What is read here need not be a state that commands lead to.
+use Rattle.std.specs.Prelude.{◌≡◌, ℕ, zero, suc, ◌*◌, ⊤, ◌==◌, ◌||◌, not, nat_lt, if◌then◌else◌, Bool, true, false, List, [], ◌∷◌, length, take, drop, Option, Some, None, Result, Ok, Err}
+use Rattle.rly_core.specs.declared.params.Params.{Params}
+use Rattle.rly_codel.specs.declared.state.CodelState.{CodelState}
+use Rattle.rly_machine.specs.declared.hop.Item.{Item}
+use Rattle.rly_machine.specs.State.{State, HopState}
+use Rattle.rly_record.specs.Reading.{◌>>=◌, number_at}
+use Rattle.rly_checkpoint.specs.declared.fault.CheckpointFault.{CheckpointFault}
+use Rattle.rly_checkpoint.specs.declared.fault.CheckpointFault.TheVariants.{OutOfMemory, Malformed}
+
+-- the fault of a function that should give this reading: memory, or that there is nothing to read
+abbrev pub Fails : {Y : Type 0} → CheckpointFault → Option Y → Type 0
+Fails OutOfMemory read = ⊤
+Fails Malformed read = read ≡ None
+
+-- what a function returned, seen by view, is this reading, unless memory was refused
+abbrev pub Gives : {X Y : Type 0} → (X → Y) → Result X CheckpointFault → Option Y → Type 0
+Gives view (Ok x) read = read ≡ Some (view x)
+Gives view (Err e) read = Fails e read
+
+-- what reads a thing
+abbrev pub Reader : Type 0 → Type 0
+Reader A = List ℕ → Option (A × List ℕ)
+
+-- a thing and, behind it, another that depends on it
+abbrev pub then_at : {A B : Type 0} → Reader A → (A → Reader B) → Reader (A × B)
+then_at one other bytes = do
+  a ← one bytes
+  b ← other a.0 a.1
+  Some ((a.0, b.0), b.1)
+
+-- a thing and, behind it, another
+infixr 20 ◌⊗◌
+abbrev pub ◌⊗◌ : {A B : Type 0} → Reader A → Reader B → Reader (A × B)
+one ⊗ other = then_at one (λ _. other)
+
+-- what is made of a thing
+abbrev pub made_at : {A B : Type 0} → (A → B) → Reader A → Reader B
+made_at made one bytes = do
+  a ← one bytes
+  Some (made a.0, a.1)
+
+-- so many things of a kind, one behind the other
+unfoldable pub many_at : {A : Type 0} → Reader A → ℕ → Reader (List A)
+many_at one zero bytes = Some ([], bytes)
+many_at one (suc n) bytes = do
+  first ← one bytes
+  others ← many_at one n first.1
+  Some (first.0 ∷ others.0, others.1)
+
+-- a flag
+unfoldable pub flag_at : Reader Bool
+flag_at [] = None
+flag_at (flag ∷ bytes) = if flag == 0 then Some (false, bytes) else if flag == 1 then Some (true, bytes) else None
+
+-- CoDel's state
+unfoldable pub codel_at : Reader CodelState
+codel_at = made_at
+    (λ (first_above_time, (drop_next, (count, (lastcount, dropping)))). record { first_above_time = first_above_time; drop_next = drop_next; count = count; lastcount = lastcount; dropping = dropping })
+    (number_at 8 ⊗ number_at 8 ⊗ number_at 8 ⊗ number_at 8 ⊗ flag_at)
+
+-- so many bytes of a payload, behind the byte that says that they are inline
+unfoldable pub inline_at : ℕ → Reader (List ℕ)
+inline_at size [] = None
+inline_at size (form ∷ bytes) = if not (form == 0) || nat_lt (length bytes) size then None else Some (take size bytes, drop size bytes)
+
+-- an entry
+unfoldable pub entry_at : Reader (Item (List ℕ))
+entry_at = made_at
+    (λ (id, (stamp, (size, payload))). record { id = id; stamp = stamp; payload = payload })
+    (number_at 8 ⊗ number_at 8 ⊗ then_at (number_at 2) inline_at)
+
+-- so many entries, of which each has 19 bytes at least
+unfoldable pub line_at : ℕ → Reader (List (Item (List ℕ)))
+line_at count bytes = if nat_lt (length bytes) (19 * count) then None else many_at entry_at count bytes
+
+-- what is in flight and what waits, behind the counts of both
+unfoldable pub lines_at : Reader (List (Item (List ℕ)) × List (Item (List ℕ)))
+lines_at = made_at (λ (in_flight, (waiting, lines)). lines)
+    (then_at (number_at 2) (λ in_flight. then_at (number_at 4) (λ waiting. line_at in_flight ⊗ line_at waiting)))
+
+-- a hop's counts: what it took, dropped and released
+unfoldable pub counts_at : Reader (ℕ × (ℕ × ℕ))
+counts_at = number_at 8 ⊗ number_at 8 ⊗ number_at 8
+
+-- a hop
+unfoldable pub hop_bytes_at : Reader (HopState (List ℕ))
+hop_bytes_at = made_at
+    (λ (moment, (codel, ((taken, (dropped, released)), (flight, queue)))). record { queue = queue; flight = flight; codel = codel; moment = moment; taken = taken; dropped = dropped; released = released })
+    (number_at 8 ⊗ codel_at ⊗ counts_at ⊗ lines_at)
+
+-- a whole state, of which the parameters say how many hops and peers it has
+unfoldable pub state_at : Params → Reader (State (List ℕ))
+state_at params = made_at
+    (λ (seq, (lasts, hops)). record { params = params; hops = hops; lasts = lasts; seq = seq })
+    (number_at 8 ⊗ many_at (number_at 8) params.peers ⊗ many_at hop_bytes_at params.hops)
+
+-- a whole state and nothing behind it
+unfoldable pub whole_state : Params → List ℕ → Option (State (List ℕ))
+whole_state params bytes = do
+  state ← state_at params bytes
+  if length state.1 == 0 then Some state.0 else None

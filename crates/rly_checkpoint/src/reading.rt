@@ -1,0 +1,264 @@
+ghost use Rattle.std.specs.Prelude.{◌≡◌, ◌≤◌, ◌<◌, ◌^◌, ℕ, List, length, map};
+ghost use Rattle.rly_core.specs.Limits.{IsWithinLimits};
+ghost use Rattle.rly_record.specs.Reading.{number_at};
+ghost use Rattle.rly_checkpoint.specs.Reading.{Gives, codel_at, counts_at, entry_at, flag_at, hop_bytes_at, inline_at, line_at, lines_at, many_at, whole_state};
+ghost use Rattle.rly_machine.specs.Kept.{hop_of, state_of};
+
+use crate::fault::CheckpointFault;
+use crate::writing::ENTRY_LENGTH;
+use byteorder::{BigEndian, ByteOrder};
+use rly_core::Params;
+use rly_machine::{CodelState, Hop, Item, Payload};
+use std::alloc::Global;
+use std::collections::VecDeque;
+
+/// The parts of a spool, as a checkpoint has them.
+#[derive(Drop)]
+pub(crate) struct Parts {
+    pub(crate) seq: u64,
+    pub(crate) lasts: Vec<u64>,
+    pub(crate) hops: Vec<Hop<Payload>>,
+}
+
+/// How many datagrams a hop took, dropped and released.
+#[derive(Clone, Copy)]
+struct Counts {
+    taken: u64,
+    dropped: u64,
+    released: u64,
+}
+
+/// What is in flight for a hop, and what waits.
+#[derive(Drop)]
+struct Lines {
+    flight: Vec<Item<Payload>>,
+    queue: Vec<Item<Payload>>,
+}
+
+/// A number of two bytes, and what stands behind it.
+fn u16_of(bytes: &[u8]) -> Result<(u16, &[u8]), CheckpointFault>
+    ensures { Gives (λ x. (x.0, x.1.now)) result (number_at 2 bytes.now) }
+{
+    if bytes.len() < 2 {
+        return Err(CheckpointFault::Malformed);
+    }
+    Ok((BigEndian::read_u16(bytes), &bytes[2..]))
+}
+
+/// A number of four bytes, and what stands behind it.
+fn u32_of(bytes: &[u8]) -> Result<(u32, &[u8]), CheckpointFault>
+    ensures { Gives (λ x. (x.0, x.1.now)) result (number_at 4 bytes.now) }
+{
+    if bytes.len() < 4 {
+        return Err(CheckpointFault::Malformed);
+    }
+    Ok((BigEndian::read_u32(bytes), &bytes[4..]))
+}
+
+/// A number of eight bytes, and what stands behind it.
+fn u64_of(bytes: &[u8]) -> Result<(u64, &[u8]), CheckpointFault>
+    ensures { Gives (λ x. (x.0, x.1.now)) result (number_at 8 bytes.now) }
+{
+    if bytes.len() < 8 {
+        return Err(CheckpointFault::Malformed);
+    }
+    Ok((BigEndian::read_u64(bytes), &bytes[8..]))
+}
+
+/// A flag, and what stands behind it.
+#[tactic(auto, unfolding(crate::specs::Reading::flag_at))]
+fn flag_of(bytes: &[u8]) -> Result<(bool, &[u8]), CheckpointFault>
+    ensures { Gives (λ x. (x.0, x.1.now)) result (flag_at bytes.now) }
+{
+    match bytes {
+        [0, rest @ ..] => Ok((false, rest)),
+        [1, rest @ ..] => Ok((true, rest)),
+        _ => Err(CheckpointFault::Malformed),
+    }
+}
+
+/// CoDel's state, and what stands behind it.
+#[tactic(auto, unfolding(crate::specs::Reading::codel_at))]
+fn codel_of(bytes: &[u8]) -> Result<(CodelState, &[u8]), CheckpointFault>
+    ensures { Gives (λ x. (x.0, x.1.now)) result (codel_at bytes.now) }
+{
+    let (first_above_time, rest) = u64_of(bytes)?;
+    let (drop_next, rest) = u64_of(rest)?;
+    let (count, rest) = u64_of(rest)?;
+    let (lastcount, rest) = u64_of(rest)?;
+    let (dropping, rest) = flag_of(rest)?;
+    let codel = CodelState {
+        first_above_time,
+        drop_next,
+        count,
+        lastcount,
+        dropping,
+    };
+    Ok((codel, rest))
+}
+
+/// So many bytes of a payload behind the byte of its form, and what stands behind them.
+#[tactic(auto, unfolding(crate::specs::Reading::inline_at))]
+fn inline_of(alloc: Global, size: u16, bytes: &[u8]) -> Result<(Payload, &[u8]), CheckpointFault>
+    ensures { Gives (λ x. (x.0, x.1.now)) result (inline_at size bytes.now) }
+{
+    let [form, rest @ ..] = bytes else {
+        return Err(CheckpointFault::Malformed);
+    };
+    let size = usize::from(size);
+    if *form != 0 || rest.len() < size {
+        return Err(CheckpointFault::Malformed);
+    }
+    let (payload, rest) = rest.split_at(size);
+    Ok((Payload::new(Vec::from_slice(alloc, payload)?), rest))
+}
+
+/// An entry, and what stands behind it.
+#[tactic(auto, unfolding(crate::specs::Reading::entry_at))]
+fn entry_of(alloc: Global, bytes: &[u8]) -> Result<(Item<Payload>, &[u8]), CheckpointFault>
+    ensures { Gives (λ x. (x.0, x.1.now)) result (entry_at bytes.now) }
+{
+    let (id, rest) = u64_of(bytes)?;
+    let (stamp, rest) = u64_of(rest)?;
+    let (size, rest) = u16_of(rest)?;
+    let (payload, rest) = inline_of(alloc, size, rest)?;
+    Ok((Item { id, stamp, payload }, rest))
+}
+
+/// How many datagrams a hop took, dropped and released, and what stands behind them.
+#[tactic(auto, unfolding(crate::specs::Reading::counts_at))]
+fn counts_of(bytes: &[u8]) -> Result<(Counts, &[u8]), CheckpointFault>
+    ensures { Gives (λ x. ((x.0.taken, (x.0.dropped, x.0.released)), x.1.now)) result (counts_at bytes.now) }
+{
+    let (taken, rest) = u64_of(bytes)?;
+    let (dropped, rest) = u64_of(rest)?;
+    let (released, rest) = u64_of(rest)?;
+    let counts = Counts {
+        taken,
+        dropped,
+        released,
+    };
+    Ok((counts, rest))
+}
+
+/// So many entries, and what stands behind them.
+#[tactic(auto, unfolding(crate::specs::Reading::line_at))]
+fn line_of(
+    alloc: Global,
+    count: usize,
+    bytes: &[u8],
+) -> Result<(Vec<Item<Payload>>, &[u8]), CheckpointFault>
+    requires { count < 2 ^ 32 }
+    ensures { Gives (λ x. (x.0.items, x.1.now)) result (line_at count bytes.now) }
+{
+    if bytes.len() < ENTRY_LENGTH * count {
+        return Err(CheckpointFault::Malformed);
+    }
+    entries_of(alloc, count, bytes)
+}
+
+/// So many entries, for which memory is reserved, and what stands behind them.
+fn entries_of(
+    alloc: Global,
+    count: usize,
+    bytes: &[u8],
+) -> Result<(Vec<Item<Payload>>, &[u8]), CheckpointFault>
+    ensures { Gives (λ x. (x.0.items, x.1.now)) result (many_at entry_at count bytes.now) }
+{
+    let mut entries = Vec::with_capacity(alloc, count)?;
+    let mut rest = bytes;
+    for _ in 0..count {
+        let (entry, after) = entry_of(alloc, rest)?;
+        entries.push_reserved(entry);
+        rest = after;
+    }
+    Ok((entries, rest))
+}
+
+/// What is in flight and what waits, and what stands behind them.
+#[tactic(auto, unfolding(crate::specs::Reading::lines_at))]
+fn lines_of(alloc: Global, bytes: &[u8]) -> Result<(Lines, &[u8]), CheckpointFault>
+    ensures { Gives (λ x. ((x.0.flight.items, x.0.queue.items), x.1.now)) result (lines_at bytes.now) }
+{
+    let (in_flight, rest) = u16_of(bytes)?;
+    let (waiting, rest) = u32_of(rest)?;
+    let (flight, rest) = line_of(alloc, usize::from(in_flight), rest)?;
+    let (queue, rest) = line_of(alloc, waiting as usize, rest)?;
+    Ok((Lines { flight, queue }, rest))
+}
+
+/// A hop, and what stands behind it.
+#[tactic(auto, unfolding(crate::specs::Reading::hop_bytes_at))]
+fn hop_of_bytes(alloc: Global, bytes: &[u8]) -> Result<(Hop<Payload>, &[u8]), CheckpointFault>
+    ensures { Gives (λ x. (hop_of x.0, x.1.now)) result (hop_bytes_at bytes.now) }
+{
+    let (moment, rest) = u64_of(bytes)?;
+    let (codel, rest) = codel_of(rest)?;
+    let (counts, rest) = counts_of(rest)?;
+    let (lines, rest) = lines_of(alloc, rest)?;
+    let hop = Hop {
+        queue: VecDeque::from_vec(lines.queue),
+        flight: VecDeque::from_vec(lines.flight),
+        codel,
+        moment,
+        taken: counts.taken,
+        dropped: counts.dropped,
+        released: counts.released,
+    };
+    Ok((hop, rest))
+}
+
+/// So many hops, and what stands behind them.
+fn hops_of(
+    alloc: Global,
+    count: usize,
+    bytes: &[u8],
+) -> Result<(Vec<Hop<Payload>>, &[u8]), CheckpointFault>
+    ensures { Gives (λ x. (map hop_of x.0.items, x.1.now)) result (many_at hop_bytes_at count bytes.now) }
+{
+    let mut hops = Vec::with_capacity(alloc, count)?;
+    let mut rest = bytes;
+    for _ in 0..count {
+        let (hop, after) = hop_of_bytes(alloc, rest)?;
+        hops.push_reserved(hop);
+        rest = after;
+    }
+    Ok((hops, rest))
+}
+
+/// So many numbers of eight bytes, and what stands behind them.
+fn numbers_of(
+    alloc: Global,
+    count: usize,
+    bytes: &[u8],
+) -> Result<(Vec<u64>, &[u8]), CheckpointFault>
+    ensures { Gives (λ x. (x.0.items, x.1.now)) result (many_at (number_at 8) count bytes.now) }
+{
+    let mut numbers = Vec::with_capacity(alloc, count)?;
+    let mut rest = bytes;
+    for _ in 0..count {
+        let (number, after) = u64_of(rest)?;
+        numbers.push_reserved(number);
+        rest = after;
+    }
+    Ok((numbers, rest))
+}
+
+/// The parts of a spool with those parameters, and nothing behind them.
+#[tactic(auto, unfolding(crate::specs::Reading::state_at, crate::specs::Reading::whole_state))]
+pub(crate) fn parts_of(
+    alloc: Global,
+    params: Params,
+    bytes: &[u8],
+) -> Result<Parts, CheckpointFault>
+    requires { IsWithinLimits params }
+    ensures { Gives (λ parts. state_of params parts.hops parts.lasts parts.seq) result (whole_state params bytes.now) }
+{
+    let (seq, rest) = u64_of(bytes)?;
+    let (lasts, rest) = numbers_of(alloc, params.peers as usize, rest)?;
+    let (hops, rest) = hops_of(alloc, params.hops as usize, rest)?;
+    if !rest.is_empty() {
+        return Err(CheckpointFault::Malformed);
+    }
+    Ok(Parts { seq, lasts, hops })
+}

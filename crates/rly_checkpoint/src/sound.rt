@@ -1,0 +1,163 @@
+ghost use Rattle.std.specs.Prelude.{◌≡◌, ◌≤◌, ◌<◌, ◌+◌, ◌^◌, ◌↔◌, All, IfSome, IsTrue, MatchOption, length, map, slice_index_or, sum, sum_by};
+ghost use Rattle.rly_core.specs.Limits.{IsWithinLimits};
+ghost use Rattle.rly_machine.specs.Accepted.{max_seq};
+ghost use Rattle.rly_machine.specs.Kept.{hop_of, state_of};
+ghost use Rattle.rly_machine.specs.Sound.{IsSound, IsSoundHop};
+ghost use Rattle.rly_machine.specs.State.{bytes_of, live_line};
+ghost use Rattle.rly_checkpoint.specs.Line.{Follows, IsRow};
+
+use crate::reading::Parts;
+use rly_core::{Params, limits};
+use rly_machine::{CodelState, Content, Hop, Item, Payload};
+
+/// What the hops of a spool come to.
+#[derive(Clone, Copy)]
+struct Totals {
+    taken: u64,
+    items: u64,
+    bytes: u64,
+}
+
+/// Whether a spool of these parts is one that commands lead to.
+pub(crate) fn is_sound(params: &Params, parts: &Parts) -> bool
+    requires params { IsWithinLimits params.now }
+    requires hop_count { length parts.now.hops.items ≡ params.now.hops }
+    requires peer_count { length parts.now.lasts.items ≡ params.now.peers }
+    ensures { IsTrue result ↔ IsSound length (state_of params.now parts.now.hops parts.now.lasts parts.now.seq) }
+{
+    let lasts = parts.lasts.as_slice();
+    if parts.seq > limits::MAX_SEQ || !are_within(lasts, parts.seq) {
+        return false;
+    }
+    let Some(totals) = totals_of(params, parts.seq, parts.hops.as_slice()) else {
+        return false;
+    };
+    if sum_of(lasts) != totals.taken || totals.items > params.items {
+        return false;
+    }
+    totals.bytes <= params.bytes
+}
+
+/// Whether no number is greater than the given one.
+fn are_within(numbers: &[u64], most: u64) -> bool
+    ensures { IsTrue result ↔ All (λ number. number ≤ most) numbers.now }
+{
+    numbers.iter().all(|number| *number <= most)
+}
+
+/// The sum of numbers.
+fn sum_of(numbers: &[u64]) -> u64
+    requires { sum numbers.now < 2 ^ 64 }
+    ensures { result ≡ sum numbers.now }
+{
+    numbers.iter().sum()
+}
+
+/// What the hops come to, where each is sound and no one keeps more than all may.
+fn totals_of(params: &Params, seq: u64, hops: &[Hop<Payload>]) -> Option<Totals>
+    requires params { IsWithinLimits params.now }
+    requires seq { seq ≤ max_seq }
+    requires count { length hops.now ≤ 64 }
+    ensures none { MatchOption result (¬ (All (IsSoundHop length params.now seq) (map hop_of hops.now) × (sum_by (λ h. length (live_line h)) (map hop_of hops.now) ≤ params.now.items))) (λ _. Unit {0}) }
+    ensures hops { IfSome result (λ _. All (IsSoundHop length params.now seq) (map hop_of hops.now)) }
+    ensures taken { IfSome result (λ totals. totals.taken ≡ sum_by (λ h. h.taken) (map hop_of hops.now)) }
+    ensures items { IfSome result (λ totals. totals.items ≡ sum_by (λ h. length (live_line h)) (map hop_of hops.now)) }
+    ensures bytes { IfSome result (λ totals. totals.bytes ≡ sum_by (λ h. bytes_of length (live_line h)) (map hop_of hops.now)) }
+{
+    let mut totals = Totals {
+        taken: 0,
+        items: 0,
+        bytes: 0,
+    };
+    for hop in hops {
+        if !is_sound_hop(params, seq, hop) {
+            return None;
+        }
+        let items = hop.live_items();
+        if items > params.items {
+            return None;
+        }
+        totals.taken += hop.taken;
+        totals.items += items;
+        totals.bytes += hop.live_bytes();
+    }
+    Some(totals)
+}
+
+/// Whether a hop is one that commands lead to.
+fn is_sound_hop(params: &Params, seq: u64, hop: &Hop<Payload>) -> bool
+    requires params { IsWithinLimits params.now }
+    requires seq { seq ≤ max_seq }
+    ensures { IsTrue result ↔ IsSoundHop length params.now seq (hop_of hop.now) }
+{
+    if !balances(hop) || hop.taken > seq {
+        return false;
+    }
+    if hop.moment >= limits::MOMENT_LIMIT || hop.flight.len() as u64 > params.window {
+        return false;
+    }
+    is_codel(&hop.codel, hop.moment + params.interval, hop.dropped) && is_row(hop, seq)
+}
+
+/// Whether what a hop took waits, is in flight, was dropped or was released.
+fn balances(hop: &Hop<Payload>) -> bool
+    ensures { IsTrue result ↔ (hop.now.taken ≡ length hop.now.queue.items + length hop.now.flight.items + hop.now.dropped + hop.now.released) }
+{
+    let live = hop.queue.len() as u64 + hop.flight.len() as u64;
+    hop.dropped <= hop.taken
+        && hop.released <= hop.taken - hop.dropped
+        && hop.taken - hop.dropped - hop.released == live
+}
+
+/// Whether CoDel's moments are at most the latest that they may be, and its counts at most the drops.
+fn is_codel(codel: &CodelState, latest: u64, dropped: u64) -> bool
+    ensures { IsTrue result ↔ (codel.now.first_above_time ≤ latest) × (codel.now.drop_next ≤ latest) × (codel.now.lastcount ≤ codel.now.count) × (codel.now.count ≤ dropped) }
+{
+    codel.first_above_time <= latest
+        && codel.drop_next <= latest
+        && codel.lastcount <= codel.count
+        && codel.count <= dropped
+}
+
+/// Whether a hop's live datagrams stand in order.
+fn is_row(hop: &Hop<Payload>, seq: u64) -> bool
+    requires { length (live_line (hop_of hop.now)) < 2 ^ 64 }
+    ensures { IsTrue result ↔ IsRow hop.now.moment seq 0 0 (live_line (hop_of hop.now)) }
+{
+    let count = hop.flight.len() + hop.queue.len();
+    let mut id = 0;
+    let mut stamp = 0;
+    for index in 0..count {
+        let item = live_at(hop, index);
+        if !follows(item, id, stamp, hop.moment, seq) {
+            return false;
+        }
+        id = item.id;
+        stamp = item.stamp;
+    }
+    true
+}
+
+/// A live datagram of a hop, counted from the first in flight.
+fn live_at(hop: &Hop<Payload>, index: usize) -> &Item<Payload>
+    requires { index < length (live_line (hop_of hop.now)) }
+    ensures { result.now ≡ slice_index_or (live_line (hop_of hop.now)) index result.now }
+{
+    let in_flight = hop.flight.len();
+    if index < in_flight {
+        &hop.flight[index]
+    } else {
+        &hop.queue[index - in_flight]
+    }
+}
+
+/// Whether a datagram may stand behind one with that id and stamp.
+fn follows(item: &Item<Payload>, id: u64, stamp: u64, moment: u64, seq: u64) -> bool
+    ensures { IsTrue result ↔ Follows moment seq id stamp item.now }
+{
+    id < item.id
+        && item.id <= seq
+        && stamp <= item.stamp
+        && item.stamp <= moment
+        && item.payload.len() as u64 <= limits::MAX_PAYLOAD
+}

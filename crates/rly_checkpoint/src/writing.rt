@@ -1,0 +1,192 @@
+ghost use Rattle.std.specs.Prelude.{◌≡◌, ◌≤◌, ◌<◌, ◌+◌, ◌++◌, ◌∷◌, [], All, IsOk, OnErr, OnOk, length, map, vec_len};
+ghost use Rattle.std.specs.List.{AllByRecursion, flat_map};
+ghost use Rattle.std.specs.Vec.{vec_capacity};
+ghost use Rattle.byteorder.specs.Endian.{big_bytes};
+ghost use Rattle.rly_machine.specs.Kept.{hop_of};
+ghost use Rattle.rly_checkpoint.specs.Checkpoint.{checkpoint_of, codel_of, entry_of, hop_bytes};
+ghost use Rattle.rly_checkpoint.specs.Fitting.{EntryFits, HopFits};
+
+use byteorder::{BigEndian, ByteOrder};
+use rly_machine::{CodelState, Hop, Item, Machine, Payload};
+use std::alloc::AllocError;
+use std::collections::VecDeque;
+
+/// The length in bytes of a number: the count of accepted commands, a peer's last number or a hop's last moment.
+const NUMBER_LENGTH: usize = 8;
+
+/// The length in bytes of CoDel's state.
+const CODEL_LENGTH: usize = 33;
+
+/// The length in bytes of a hop's counts.
+const COUNTS_LENGTH: usize = 30;
+
+/// The length in bytes of an entry up to its payload.
+pub(crate) const ENTRY_LENGTH: usize = 19;
+
+/// The length in bytes of a hop, without its entries.
+const HOP_LENGTH: usize = NUMBER_LENGTH + CODEL_LENGTH + COUNTS_LENGTH;
+
+/// How many bytes the checkpoint of a spool has.
+pub fn checkpoint_len(machine: &Machine<Payload>) -> u64
+    ensures { result ≡ length (checkpoint_of machine.now.state) }
+{
+    machine.law_sound();
+    let params = machine.params();
+    let peers = NUMBER_LENGTH as u64 * params.peers;
+    let hops = HOP_LENGTH as u64 * params.hops;
+    let entries = ENTRY_LENGTH as u64 * machine.item_count() + machine.byte_count();
+    NUMBER_LENGTH as u64 + peers + hops + entries
+}
+
+/// Adds the checkpoint of a spool at the end of `out`. It takes memory only where `out` lacks the room for it, and an `Err`
+/// leaves the bytes of `out` as they were.
+pub fn write_checkpoint(machine: &Machine<Payload>, out: &mut Vec<u8>) -> Result<(), AllocError>
+    ensures written { OnOk result (out.new.items ≡ out.old.items ++ checkpoint_of machine.now.state) }
+    ensures err { OnErr result (out.new.items ≡ out.old.items) }
+    ensures reserved { length out.old.items + length (checkpoint_of machine.now.state) ≤ vec_capacity out.old → IsOk result }
+    ensures capacity { vec_capacity out.old ≤ vec_capacity out.new }
+{
+    out.reserve(checkpoint_len(machine) as usize)?;
+    append_checkpoint(machine, out);
+    Ok(())
+}
+
+/// Adds the checkpoint of a spool for which there is room.
+#[tactic(auto, unfolding(crate::specs::Checkpoint::checkpoint_of))]
+fn append_checkpoint(machine: &Machine<Payload>, out: &mut Vec<u8>)
+    requires { vec_len out.old + length (checkpoint_of machine.now.state) ≤ vec_capacity out.old }
+    ensures items { out.new.items ≡ out.old.items ++ checkpoint_of machine.now.state }
+    ensures capacity { vec_capacity out.old ≤ vec_capacity out.new }
+{
+    machine.law_sound();
+    append_number(machine.seq(), out);
+    append_numbers(machine.lasts(), out);
+    append_hops(machine.hops(), out);
+}
+
+/// Adds bytes for which there is room.
+fn append(bytes: &[u8], out: &mut Vec<u8>)
+    requires { vec_len out.old + length bytes.now ≤ vec_capacity out.old }
+    ensures items { out.new.items ≡ out.old.items ++ bytes.now }
+    ensures len { vec_len out.new ≡ vec_len out.old + length bytes.now }
+    ensures capacity { vec_capacity out.old ≤ vec_capacity out.new }
+{
+    out.extend_from_slice(bytes).unwrap();
+}
+
+/// Adds a number for which there is room.
+fn append_number(number: u64, out: &mut Vec<u8>)
+    requires { vec_len out.old + 8 ≤ vec_capacity out.old }
+    ensures items { out.new.items ≡ out.old.items ++ big_bytes 8 number }
+    ensures len { vec_len out.new ≡ vec_len out.old + 8 }
+    ensures capacity { vec_capacity out.old ≤ vec_capacity out.new }
+{
+    let mut bytes = [0; NUMBER_LENGTH];
+    BigEndian::write_u64(&mut bytes, number);
+    append(&bytes, out);
+}
+
+/// Adds numbers for which there is room.
+fn append_numbers(numbers: &[u64], out: &mut Vec<u8>)
+    requires { vec_len out.old + length (flat_map (big_bytes 8) numbers.now) ≤ vec_capacity out.old }
+    ensures items { out.new.items ≡ out.old.items ++ flat_map (big_bytes 8) numbers.now }
+    ensures len { vec_len out.new ≡ vec_len out.old + length (flat_map (big_bytes 8) numbers.now) }
+    ensures capacity { vec_capacity out.old ≤ vec_capacity out.new }
+{
+    for number in numbers {
+        append_number(*number, out);
+    }
+}
+
+/// Adds hops for which there is room.
+fn append_hops(hops: &[Hop<Payload>], out: &mut Vec<u8>)
+    requires fit { All HopFits (map hop_of hops.now) }
+    requires room { vec_len out.old + length (flat_map hop_bytes (map hop_of hops.now)) ≤ vec_capacity out.old }
+    ensures items { out.new.items ≡ out.old.items ++ flat_map hop_bytes (map hop_of hops.now) }
+    ensures capacity { vec_capacity out.old ≤ vec_capacity out.new }
+{
+    for hop in hops {
+        append_hop(hop, out);
+    }
+}
+
+/// Adds a hop for which there is room.
+fn append_hop(hop: &Hop<Payload>, out: &mut Vec<u8>)
+    requires fits { HopFits (hop_of hop.now) }
+    requires room { vec_len out.old + length (hop_bytes (hop_of hop.now)) ≤ vec_capacity out.old }
+    ensures items { out.new.items ≡ out.old.items ++ hop_bytes (hop_of hop.now) }
+    ensures len { vec_len out.new ≡ vec_len out.old + length (hop_bytes (hop_of hop.now)) }
+    ensures capacity { vec_capacity out.old ≤ vec_capacity out.new }
+{
+    append_number(hop.moment, out);
+    append(&codel_bytes(&hop.codel), out);
+    append(&counts_bytes(hop), out);
+    append_entries(&hop.flight, out);
+    append_entries(&hop.queue, out);
+}
+
+/// CoDel's state.
+#[tactic(auto, unfolding(crate::specs::Checkpoint::codel_of))]
+fn codel_bytes(codel: &CodelState) -> [u8; CODEL_LENGTH]
+    ensures { result ≡ codel_of codel.now }
+{
+    let mut bytes = [0; CODEL_LENGTH];
+    BigEndian::write_u64(&mut bytes, codel.first_above_time);
+    BigEndian::write_u64(&mut bytes[8..], codel.drop_next);
+    BigEndian::write_u64(&mut bytes[16..], codel.count);
+    BigEndian::write_u64(&mut bytes[24..], codel.lastcount);
+    bytes[32] = u8::from(codel.dropping);
+    bytes
+}
+
+/// A hop's counts: of what it took, dropped and released, of what is in flight, and of what waits.
+fn counts_bytes(hop: &Hop<Payload>) -> [u8; COUNTS_LENGTH]
+    requires { HopFits (hop_of hop.now) }
+    ensures { let h = hop_of hop.now in result ≡ big_bytes 8 h.taken ++ big_bytes 8 h.dropped ++ big_bytes 8 h.released ++ big_bytes 2 (length h.flight) ++ big_bytes 4 (length h.queue) }
+{
+    let mut bytes = [0; COUNTS_LENGTH];
+    BigEndian::write_u64(&mut bytes, hop.taken);
+    BigEndian::write_u64(&mut bytes[8..], hop.dropped);
+    BigEndian::write_u64(&mut bytes[16..], hop.released);
+    BigEndian::write_u16(&mut bytes[24..], hop.flight.len() as u16);
+    BigEndian::write_u32(&mut bytes[26..], hop.queue.len() as u32);
+    bytes
+}
+
+/// Adds entries for which there is room.
+fn append_entries(items: &VecDeque<Item<Payload>>, out: &mut Vec<u8>)
+    requires fit { AllByRecursion EntryFits items.now.items }
+    requires room { vec_len out.old + length (flat_map entry_of items.now.items) ≤ vec_capacity out.old }
+    ensures items { out.new.items ≡ out.old.items ++ flat_map entry_of items.now.items }
+    ensures len { vec_len out.new ≡ vec_len out.old + length (flat_map entry_of items.now.items) }
+    ensures capacity { vec_capacity out.old ≤ vec_capacity out.new }
+{
+    let count = items.len();
+    for index in 0..count {
+        append_entry(&items[index], out);
+    }
+}
+
+/// Adds an entry for which there is room.
+fn append_entry(item: &Item<Payload>, out: &mut Vec<u8>)
+    requires fits { EntryFits item.now }
+    requires room { vec_len out.old + length (entry_of item.now) ≤ vec_capacity out.old }
+    ensures items { out.new.items ≡ out.old.items ++ entry_of item.now }
+    ensures len { vec_len out.new ≡ vec_len out.old + length (entry_of item.now) }
+    ensures capacity { vec_capacity out.old ≤ vec_capacity out.new }
+{
+    let payload = item.payload.as_slice();
+    append(&entry_head(item.id, item.stamp, payload.len() as u16), out);
+    append(payload, out);
+}
+
+/// An entry up to its payload, which is `size` bytes long and inline.
+fn entry_head(id: u64, stamp: u64, size: u16) -> [u8; ENTRY_LENGTH]
+    ensures { result ≡ big_bytes 8 id ++ big_bytes 8 stamp ++ big_bytes 2 size ++ 0 ∷ [] }
+{
+    let mut bytes = [0; ENTRY_LENGTH];
+    BigEndian::write_u64(&mut bytes, id);
+    BigEndian::write_u64(&mut bytes[8..], stamp);
+    BigEndian::write_u16(&mut bytes[16..], size);
+    bytes
+}

@@ -1,0 +1,67 @@
+-- Images that have the same bytes in a range.
+use Rattle.std.proofs.Common.{◌≡◌, ◌≤◌, ◌<◌, ◌+◌, ◌*◌, ◌^◌, ◌++◌, [], ◌∙◌, ℕ, suc, List, length, take, drop, get_or, arith, sym, ap, refl, inl, inr, length-take, length-drop, length-append}
+use Rattle.std.proofs.Math.Nat.{mul-le-mul_right}
+use Rattle.std.proofs.lemmas.List.{ext_get_or, get_or-take, get_or-drop, drop-drop, drop-take, append-nil, drop_at, take_at, take-take}
+use Rattle.byteorder.specs.Endian.{big_bytes, big_number}
+use Rattle.byteorder.specs.Numbers.{big_number-reads_back}
+use Rattle.rly_disk.specs.DiskModel.{SameOutside}
+use Rattle.rly_gate.specs.Group.{StandsAt}
+use Rattle.rly_segment.specs.Device.{number_in}
+
+-- from one place up to another the bytes are the same
+pub record SameBytes (from end : ℕ) (old new : List ℕ) : Type 0 where
+  pub same_length : length new ≡ length old
+  pub each : (i : ℕ) → from ≤ i → i < end → get_or new i 0 ≡ get_or old i 0
+
+-- a part of the range
+pub part_of : {old new : List ℕ} (from end place k : ℕ) → from ≤ place → place + k ≤ end → SameBytes from end old new → take k (drop place new) ≡ take k (drop place old)
+part_of {old} {new} from end place k begins ends same =
+    ext_get_or 0 _ _ (simp (length-take, length-drop) (omega (arith, same.same_length)))
+    (λ i h.
+    let low : i < k = omega (arith, h, length-take k (drop place new)) in
+    get_or-take k (drop place new) i 0 low ∙ get_or-drop place new i 0 ∙ same.each (place + i) (omega (arith, begins)) (omega (arith, low, ends))
+    ∙ sym (get_or-drop place old i 0) ∙ sym (get_or-take k (drop place old) i 0 low))
+
+-- what stands in the range stands there still
+pub stands_still : {old new : List ℕ} (from end place : ℕ) (bytes : List ℕ) → from ≤ place → place + length bytes ≤ end → SameBytes from end old new → StandsAt old place bytes → StandsAt new place bytes
+stands_still from end place bytes begins ends same stands = part_of from end place (length bytes) begins ends same ∙ stands
+
+-- a number in the range is the same
+pub number_still : {old new : List ℕ} (from end place width : ℕ) → from ≤ place → place + width ≤ end → SameBytes from end old new → number_in new place width ≡ number_in old place width
+number_still from end place width begins ends same = ap (big_number width) (part_of from end place width begins ends same)
+
+-- outside a range the bytes are the same
+pub same_before : {old new : List ℕ} (place n from end : ℕ) → end ≤ place → SameOutside place n old new → SameBytes from end old new
+same_before place n from end ends same = record { same_length = same.same_length; each = λ i low high. same.each i (inl (omega (arith, ends, high))) }
+
+pub same_behind : {old new : List ℕ} (place n from end : ℕ) → place + n ≤ from → SameOutside place n old new → SameBytes from end old new
+same_behind place n from end begins same = record { same_length = same.same_length; each = λ i low high. same.each i (inr (omega (arith, begins, low))) }
+
+-- a part of what stands at a place: the bytes behind a front of it
+pub stands_behind : (image : List ℕ) (place : ℕ) (front bytes : List ℕ) → StandsAt image place (front ++ bytes) → StandsAt image (place + length front) bytes
+stands_behind image place front bytes stands =
+    let whole : ℕ = length (front ++ bytes) in
+    let size : length (front ++ bytes) ≡ length front + length bytes = length-append front bytes in
+    let inner : drop (length front) (take (length (front ++ bytes)) (drop place image)) ≡ bytes = ap (drop (length front)) stands ∙ drop_at front bytes (length front) refl in
+    let moved : drop (length front) (take (length front + length bytes) (drop place image)) ≡ take (length bytes) (drop (length front) (drop place image)) = drop-take (length front) (length bytes) (drop place image) in
+    let joined : drop (length front) (drop place image) ≡ drop (place + length front) image = drop-drop (length front) place image in
+    ap (take (length bytes)) (sym joined) ∙ sym moved ∙ ap (λ k. drop (length front) (take k (drop place image))) (sym size) ∙ inner
+
+-- a front of what stands at a place
+pub stands_front : (image : List ℕ) (place : ℕ) (front bytes : List ℕ) → StandsAt image place (front ++ bytes) → StandsAt image place front
+stands_front image place front bytes stands =
+    let size : length (front ++ bytes) ≡ length front + length bytes = length-append front bytes in
+    sym (take-take (length front) (length (front ++ bytes)) (drop place image) (omega (arith, size)))
+    ∙ ap (take (length front)) stands
+    ∙ take_at front bytes (length front) refl
+
+-- the number that stands at a place
+pub number_of_bytes : (image : List ℕ) (place width n : ℕ) → length (big_bytes width n) ≡ width → n < 256 ^ width → StandsAt image place (big_bytes width n) → number_in image place width ≡ n
+number_of_bytes image place width n size fits stands =
+    ap (λ k. big_number width (take k (drop place image))) (sym size) ∙ ap (big_number width) (stands ∙ sym (append-nil (big_bytes width n))) ∙ big_number-reads_back width n [] fits
+
+-- one segment lies before another
+pub apart : (s t size : ℕ) → s < t → s * size + size ≤ t * size
+apart s t size below =
+    let grown : suc s * size ≤ t * size = mul-le-mul_right size (omega arith) in
+    omega (arith, grown)

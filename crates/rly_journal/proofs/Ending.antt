@@ -1,0 +1,198 @@
+-- The end of the journal as segments are opened and groups are appended.
+use Rattle.std.proofs.Common.{◌≡◌, ◌≢◌, ◌↔◌, ◌≤◌, ◌<◌, ◌+◌, ◌-◌, ◌/◌, ◌∷◌, [], ◌∙◌, ℕ, Bool, true, false, IsTrue, List, length, length-append, take, drop, get_or, set, arith, sym, ap, refl, subst, inl, inr}
+use Rattle.std.proofs.Math.Nat.{div-one}
+use Rattle.std.proofs.lemmas.Bool.{cases_eq}
+use Rattle.std.proofs.lemmas.List.{get_or-set_same, get_or-set_other}
+use Rattle.rly_core.specs.declared.params.Geometry.{Geometry}
+use Rattle.rly_disk.specs.DiskModel.{DiskState, LeavesOnly, SameOutside, Settled, overwritten}
+use Rattle.rly_disk.proofs.Composition.{weaker}
+use Rattle.rly_disk.proofs.Overwritten.{overwritten_outside}
+use Rattle.rly_disk.proofs.Ranges.{part-overwritten, wider}
+use Rattle.rly_machine.specs.Sound.{IsSound}
+use Rattle.rly_machine.specs.State.{State}
+use Rattle.rly_checkpoint.specs.Checkpoint.{checkpoint_of}
+use Rattle.rly_checkpoint.proofs.Sizes.{checkpoint_length}
+use Rattle.rly_gate.specs.Group.{IsClosed, StandsAt, open_gate}
+use Rattle.rly_segment.specs.Answers.{AreClosed}
+use Rattle.rly_segment.specs.Device.{IsGeometry}
+use Rattle.rly_segment.specs.Heads.{IsHead, IsOpening, first_gate, opened_head, segment_place}
+use Rattle.rly_segment.specs.Heads.{head_of as head_of_state}
+use Rattle.rly_segment.proofs.Places.{segment_within}
+use Rattle.rly_journal.specs.declared.tail.Tail.{Tail}
+use Rattle.rly_journal.specs.Log.{EndsAt, IsDurable, IsFull, IsLogged, IsShaped}
+use Rattle.rly_journal.specs.Standing.{Standing, Stands, state_in}
+use Rattle.rly_journal.proofs.Agreeing.{stands_front}
+use Rattle.rly_journal.proofs.Frame.{length-head}
+use Rattle.rly_journal.proofs.Growing.{byte_there, opened, other_bytes, renewed, with_segment}
+
+-- a head that holds a state finds room in any segment
+pub head_for : (g : Geometry) (size t n : ℕ) (s : State (List ℕ)) → IsGeometry g size → IsSound length s → s.params ≡ g.params → n ≤ s.seq → IsHead g t (n + 1) s
+head_for g size t n s geometry sound params few =
+    let whole : g.params.bytes / (g.segments - 1) ≡ g.params.bytes = ap (λ k. g.params.bytes / (k - 1)) geometry.segments ∙ div-one g.params.bytes in
+    let peers : s.params.peers ≡ g.params.peers = ap (λ p. p.peers) params in
+    let hops : s.params.hops ≡ g.params.hops = ap (λ p. p.hops) params in
+    let items : s.params.items ≡ g.params.items = ap (λ p. p.items) params in
+    let bytes : s.params.bytes ≡ g.params.bytes = ap (λ p. p.bytes) params in
+    record {
+      params = params;
+      least = omega arith;
+      most = omega (arith, few);
+      room = omega (arith, geometry.fits, checkpoint_length s sound, sound.items, sound.bytes, whole, peers, hops, items, bytes);
+    }
+
+-- the end behind a new head
+abbrev pub renewed_tail : Tail → ℕ → ℕ → Tail
+renewed_tail tail t gate = record { geometry = tail.geometry; segment = t; generation = tail.generation + 1; gate = gate; closed = set tail.closed t false }
+
+pub renewed_room : (tail : Tail) (s : State (List ℕ)) (t gate : ℕ) → IsHead tail.geometry t (tail.generation + 1) s → gate ≡ first_gate tail.geometry t s
+    → IsFull (renewed_tail tail t gate) → ⊥
+renewed_room tail s t gate head is full = omega (arith, head.room, is, full)
+
+pub renewed_shape : (size : ℕ) (tail : Tail) (s : State (List ℕ)) (t gate : ℕ) → IsShaped size tail s → t < tail.geometry.segments → IsHead tail.geometry t (tail.generation + 1) s
+    → gate ≡ first_gate tail.geometry t s → IsShaped size (renewed_tail tail t gate) s
+renewed_shape size tail s t gate shaped below head is = record {
+  geometry = shaped.geometry;
+  segment = below;
+  params = shaped.params;
+  above = omega (arith, is);
+  within = omega (arith, is, head.room);
+  generation = head.most;
+  full = λ full. absurd (renewed_room tail s t gate head is full);
+}
+
+-- the same opening, told of a standing
+opening_of : (tail : Tail) (x : Standing) (s : State (List ℕ)) (t : ℕ) (old image : List ℕ) → EndsAt tail x → s ≡ state_in x
+    → IsOpening tail.geometry t (tail.generation + 1) s old image → IsOpening x.geometry t (x.generation + 1) (state_in x) old image
+opening_of tail x s t old image ends state left =
+    subst (λ g. IsOpening g t (x.generation + 1) (state_in x) old image) ends.geometry
+    (subst (λ n. IsOpening tail.geometry t (n + 1) (state_in x) old image) ends.generation
+    (subst (λ r. IsOpening tail.geometry t (tail.generation + 1) r old image) state left))
+
+head_of : (tail : Tail) (x : Standing) (s : State (List ℕ)) (t : ℕ) → EndsAt tail x → s ≡ state_in x
+    → IsHead tail.geometry t (tail.generation + 1) s → IsHead x.geometry t (x.generation + 1) (state_in x)
+head_of tail x s t ends state head =
+    subst (λ g. IsHead g t (x.generation + 1) (state_in x)) ends.geometry
+    (subst (λ n. IsHead tail.geometry t (n + 1) (state_in x)) ends.generation
+    (subst (λ r. IsHead tail.geometry t (tail.generation + 1) r) state head))
+
+-- a crash at any moment of the opening leaves what stands for the state
+pub renewed_leaves : {a b : DiskState} (tail : Tail) (s : State (List ℕ)) (t : ℕ) → IsLogged a.seen tail s → IsSound length s
+    → t < tail.geometry.segments → t ≢ tail.segment → IsHead tail.geometry t (tail.generation + 1) s
+    → LeavesOnly a b (IsOpening tail.geometry t (tail.generation + 1) s a.seen) → LeavesOnly a b (λ image. Stands image s)
+renewed_leaves {a} {b} tail s t logged sound below other head leaves =
+    let x : Standing = logged.x in
+    let below_x : t < x.geometry.segments = subst (λ g. t < g.segments) logged.ends.geometry below in
+    let other_x : t ≢ x.segment = λ e. other (e ∙ sym logged.ends.segment) in
+    let sound_x : IsSound length (state_in x) = subst (IsSound length) logged.state sound in
+    let head_x = head_of tail x s t logged.ends logged.state head in
+    weaker (IsOpening tail.geometry t (tail.generation + 1) s a.seen) (λ image. Stands image s)
+    (λ image left. elim (renewed x t logged.stands below_x other_x sound_x head_x (omega (arith, head_x.most, sound_x.seq)) image (opening_of tail x s t a.seen image logged.ends logged.state left)) [
+      | inl before ↦ (x, before, logged.state)
+      | inr after ↦ (with_segment x t, after, logged.state)
+    ])
+    leaves
+
+-- which gates read closed behind a new head
+closed_again : (g : Geometry) (t : ℕ) (closed : List Bool) (old new : List ℕ) → g.segments ≤ length closed → t < g.segments → 1 ≤ g.length
+    → AreClosed old g g.segments closed → SameOutside (segment_place g t) g.length old new → (IsClosed new (segment_place g t) → ⊥)
+    → AreClosed new g g.segments (set closed t false)
+closed_again g t closed old new wide below long before outside now_open u small =
+    elim (cases_eq u t) [
+      | inl same ↦
+          let is : get_or (set closed t false) u false ≡ false = ap (λ k. get_or (set closed t false) k false) same ∙ get_or-set_same closed t false false (omega (arith, below, wide)) in (
+            λ yes. absurd (let e : false ≡ true = sym is ∙ yes in cc),
+            λ shut. absurd (now_open (subst (λ k. IsClosed new (segment_place g k)) same shut)),
+          )
+      | inr differs ↦
+          let is : get_or (set closed t false) u false ≡ get_or closed u false = get_or-set_other closed t u false false differs in
+          let bytes = other_bytes g u t (λ e. differs (sym e)) outside in
+          let byte = bytes.each (segment_place g u) (omega arith) (omega (arith, long)) in
+          let was = before u small in (
+            λ yes opened. was.0 (sym is ∙ yes) (sym byte ∙ opened),
+            λ shut. is ∙ was.1 (λ opened. shut (byte ∙ opened)),
+          )
+    ]
+
+-- the new head stands, and the journal ends behind it
+pub renewed_logged : (tail : Tail) (s : State (List ℕ)) (t gate : ℕ) (old new : List ℕ) → IsLogged old tail s → IsSound length s
+    → t < tail.geometry.segments → t ≢ tail.segment → IsHead tail.geometry t (tail.generation + 1) s → gate ≡ first_gate tail.geometry t s
+    → length tail.closed ≡ 256
+    → new ≡ overwritten (segment_place tail.geometry t) (opened_head (tail.generation + 1) s) old → IsLogged new (renewed_tail tail t gate) s
+renewed_logged tail s t gate old new logged sound below other head is count written =
+    let x : Standing = logged.x in
+    let g : Geometry = tail.geometry in
+    let place : ℕ = segment_place tail.geometry t in
+    let bytes : List ℕ = opened_head (tail.generation + 1) s in
+    let fits : IsGeometry tail.geometry (length old) = subst (λ h. IsGeometry h (length old)) (sym logged.ends.geometry) logged.stands.scanned.fits in
+    let within = segment_within tail.geometry (length old) t fits below in
+    let count_bytes : length (opened_head (tail.generation + 1) s) ≡ 14 + length (checkpoint_of s) =
+    omega (arith, length-append (head_of_state (tail.generation + 1) s) (0 ∷ []), length-head (tail.generation + 1) s) in
+    let room : place + length (opened_head (tail.generation + 1) s) ≤ length old = omega (arith, count_bytes, head.room, within) in
+    let narrow : SameOutside place (length (opened_head (tail.generation + 1) s)) old new = subst (SameOutside place (length (opened_head (tail.generation + 1) s)) old) (sym written) (overwritten_outside place (opened_head (tail.generation + 1) s) old room) in
+    let outside : SameOutside place g.length old new = wider place g.length place (length (opened_head (tail.generation + 1) s)) (omega arith) (omega (arith, count_bytes, head.room)) narrow in
+    let stands : StandsAt new place (opened_head (tail.generation + 1) s) =
+    ap (λ l. take (length (opened_head (tail.generation + 1) s)) (drop place l)) written ∙ part-overwritten place (opened_head (tail.generation + 1) s) old (omega (arith, room)) in
+    let front : StandsAt new place (open_gate ∷ head_of_state (tail.generation + 1) s) = stands_front new place (open_gate ∷ head_of_state (tail.generation + 1) s) (0 ∷ []) stands in
+    let gate_open : get_or new place 0 ≡ open_gate = byte_there new place open_gate (stands_front new place (open_gate ∷ []) (head_of_state (tail.generation + 1) s) front) in
+    let below_x : t < x.geometry.segments = subst (λ h. t < h.segments) logged.ends.geometry below in
+    let other_x : t ≢ x.segment = λ e. other (e ∙ sym logged.ends.segment) in
+    let sound_x : IsSound length (state_in x) = subst (IsSound length) logged.state sound in
+    let head_x = head_of tail x s t logged.ends logged.state head in
+    let outside_x : SameOutside (segment_place x.geometry t) x.geometry.length old new = subst (λ h. SameOutside (segment_place h t) h.length old new) logged.ends.geometry outside in
+    let stands_x : StandsAt new (segment_place x.geometry t) (opened_head (x.generation + 1) (state_in x)) =
+    subst (λ h. StandsAt new (segment_place h t) (opened_head (x.generation + 1) (state_in x))) logged.ends.geometry
+    (subst (λ n. StandsAt new place (opened_head (n + 1) (state_in x))) logged.ends.generation
+    (subst (λ r. StandsAt new place (opened_head (tail.generation + 1) r)) logged.state stands)) in
+    record {
+      x = with_segment x t;
+      stands = opened x t logged.stands below_x other_x sound_x head_x (omega (arith, head_x.most, sound_x.seq)) outside_x stands_x;
+      ends = record {
+        geometry = logged.ends.geometry;
+        segment = refl;
+        generation = ap (λ n. n + 1) logged.ends.generation;
+        gate = is ∙ ap (λ h. first_gate h t s) logged.ends.geometry ∙ ap (first_gate x.geometry t) logged.state;
+      };
+      state = logged.state;
+      gates = closed_again tail.geometry t tail.closed old new (omega (arith, count, fits.segments)) below (omega (arith, fits.fits)) logged.gates outside (λ shut. shut gate_open);
+    }
+
+-- ---- the other of two segments
+
+abbrev pub other : Tail → ℕ
+other tail = 1 - tail.segment
+
+other_there : {size : ℕ} (tail : Tail) (s : State (List ℕ)) → IsShaped size tail s → other tail < tail.geometry.segments
+other_there tail s shaped = omega (arith, shaped.geometry.segments)
+
+other_apart : (tail : Tail) → other tail ≢ tail.segment
+other_apart tail same = omega (arith, same)
+
+pub other_head : {size : ℕ} (tail : Tail) (s : State (List ℕ)) → IsShaped size tail s → IsFull tail → IsSound length s → IsHead tail.geometry (other tail) (tail.generation + 1) s
+other_head {size} tail s shaped full sound = head_for tail.geometry size (other tail) tail.generation s shaped.geometry sound shaped.params (shaped.full full)
+
+pub renew_leaves : {a b : DiskState} (tail : Tail) (s : State (List ℕ)) → IsShaped a.size tail s → IsFull tail → IsSound length s → IsDurable a tail s
+    → (Settled a → (IsTrue (get_or tail.closed (other tail) false) ↔ IsClosed a.seen (segment_place tail.geometry (other tail)))
+    → LeavesOnly a b (IsOpening tail.geometry (other tail) (tail.generation + 1) s a.seen))
+    → LeavesOnly a b (λ image. Stands image s)
+renew_leaves tail s shaped full sound durable leaves =
+    let below = other_there tail s shaped in
+    renewed_leaves tail s (other tail) durable.logged sound below (other_apart tail) (other_head tail s shaped full sound)
+    (leaves durable.settled (durable.logged.gates (other tail) below))
+
+pub renew_shape : {size : ℕ} (tail : Tail) (s : State (List ℕ)) (gate : ℕ) → IsShaped size tail s → IsFull tail → IsSound length s
+    → gate ≡ first_gate tail.geometry (other tail) s → IsShaped size (renewed_tail tail (other tail) gate) s
+renew_shape {size} tail s gate shaped full sound is = renewed_shape size tail s (other tail) gate shaped (other_there tail s shaped) (other_head tail s shaped full sound) is
+
+pub renew_room : {size : ℕ} (tail : Tail) (s : State (List ℕ)) (gate : ℕ) → IsShaped size tail s → IsFull tail → IsSound length s
+    → gate ≡ first_gate tail.geometry (other tail) s → IsFull (renewed_tail tail (other tail) gate) → ⊥
+renew_room tail s gate shaped full sound is = renewed_room tail s (other tail) gate (other_head tail s shaped full sound) is
+
+pub renew_durable : {a b : DiskState} (tail : Tail) (s : State (List ℕ)) (gate : ℕ) → length tail.closed ≡ 256 → IsShaped a.size tail s → IsFull tail → IsSound length s
+    → IsDurable a tail s → gate ≡ first_gate tail.geometry (other tail) s
+    → (Settled a → Settled b) → (Settled a → b.seen ≡ overwritten (segment_place tail.geometry (other tail)) (opened_head (tail.generation + 1) s) a.seen)
+    → IsDurable b (renewed_tail tail (other tail) gate) s
+renew_durable {a} {b} tail s gate count shaped full sound durable is settles writes = record {
+  settled = settles durable.settled;
+  logged = renewed_logged tail s (other tail) gate a.seen b.seen durable.logged sound (other_there tail s shaped) (other_apart tail)
+      (other_head tail s shaped full sound) is count (writes durable.settled);
+}

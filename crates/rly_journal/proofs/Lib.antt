@@ -1,0 +1,11 @@
+pub mod Agreeing
+pub mod Frame
+pub mod Growing
+pub mod Once
+pub mod Gathering
+pub mod Serving
+pub mod Ending
+pub mod Appending
+pub mod Rounding
+pub mod Recovering
+pub mod Refusing

@@ -1,0 +1,391 @@
+-- Calls that are answered one after the other.
+use Rattle.std.proofs.Common.{◌≡◌, ◌⊎◌, ℕ, ◌+◌, ◌-◌, ◌^◌, ◌<◌, ◌≤◌, ◌∙◌, List, [], ◌∷◌, ◌++◌, length, map, take, drop, set, get_or, Bool, true, false, cond, not, Option, Some, None, Result, Err, refl, ap, sym, subst, arith, inl, inr, append_assoc, length-append}
+use Rattle.std.specs.Prelude.{nat_lt, nat_le, nat_eq, slice_get}
+use Rattle.std.specs.List.{AllByRecursion, zip}
+use Rattle.std.specs.Option.{ok_or}
+use Rattle.std.proofs.lemmas.Bool.{false≢true}
+use Rattle.std.proofs.lemmas.List.{append-nil, drop_more, get_or_at, length-map, length-take, map_more, set_at}
+use Rattle.rly_core.specs.declared.refusal.Refusal.{Refusal}
+use Rattle.rly_core.specs.declared.refusal.Refusal.TheVariants.{Broken, Unsure, OutOfMemory, NoSuchHop, NeverSent, NotInFlight}
+use Rattle.rly_machine.specs.declared.call.Answer.{Answer}
+use Rattle.rly_machine.specs.declared.call.Call.{Call}
+use Rattle.rly_machine.specs.declared.command.Ask.TheVariants as ask
+use Rattle.rly_machine.specs.declared.command.Command.{Command}
+use Rattle.rly_machine.specs.declared.command.Command.TheVariants.{Take, Pick, Release}
+use Rattle.rly_machine.specs.declared.command.Query.{Query}
+use Rattle.rly_machine.specs.declared.command.Query.TheVariants.{Fetch, Window, Show}
+use Rattle.rly_machine.specs.declared.hop.Item.{Item}
+use Rattle.rly_machine.specs.declared.reply.Reply.{Reply}
+use Rattle.rly_machine.specs.declared.reply.Reply.TheVariants.{Refused}
+use Rattle.rly_machine.specs.Accepted.{is_accepted, max_seq, unless}
+use Rattle.rly_machine.specs.Ask.{ask_step}
+use Rattle.rly_machine.specs.History.{Entry, IsAnswered, Legal, LegalBy, harm, is_failure, next_state, state_after, harm_after}
+use Rattle.rly_machine.specs.Pick.{is_idle, pick_refusal, picked_reply}
+use Rattle.rly_machine.specs.Query.{fetched, query_reply}
+use Rattle.rly_machine.specs.Release.{covered, release_refusal}
+use Rattle.rly_machine.specs.State.{State, has_hop, has_peer, hop_at, last_at, next_number}
+use Rattle.rly_machine.specs.Step.{step}
+use Rattle.rly_machine.specs.Take.{is_full, take_refusal}
+use Rattle.rly_machine.proofs.Folding.{seq_step, stays}
+use Rattle.rly_machine.proofs.Histories.{legal_push, state_after-append}
+use Rattle.rly_machine.proofs.Refusals.{may_take}
+use Rattle.rly_record.specs.Spelling.{HasRecord, IsShort, record_of}
+use Rattle.rly_journal.specs.Groups.{Gathers, GroupState, IsTaken}
+use Rattle.rly_journal.specs.Rounds.{AreServed, IsDone, OnlyMemory, refusal_of, refusals, unsure_at}
+use Rattle.rly_journal.specs.Standing.{Commands}
+use Rattle.rly_journal.proofs.Gathering.{all_push, group_of, gathers_push, gathers_still}
+
+-- a row of checks that answers no failure
+record IsReal (refusal : Option Reply) : Type 0 where
+  pub real : (reply : Reply) → refusal ≡ Some reply → is_failure reply ≡ false
+
+none_real : IsReal None
+none_real = record { real = λ reply e. absurd (let h : None ≡ Some reply = e in cc) }
+
+row_real : (fails : Bool) (x : Reply) (rest : Option Reply) → is_failure x ≡ false → IsReal rest → IsReal (cond fails (Some x) rest)
+row_real true x rest real_x more = record { real = λ reply e. let same : x ≡ reply = cc in rw (← same) real_x }
+row_real false x rest real_x more = more
+
+unless_real : {P : Type 0} (refusal : Option Reply) (s : State P) (accepted : State P × Reply) → IsReal refusal → is_failure accepted.1 ≡ false
+    → is_failure (unless refusal s accepted).1 ≡ false
+unless_real (Some reply) s accepted row real = row.real reply refl
+unless_real None s accepted row real = real
+
+picked_real : {P : Type 0} (number : ℕ) (dropped : List ℕ) (items : List (Item P)) → is_failure (picked_reply number dropped items) ≡ false
+picked_real number dropped [] = refl
+picked_real number dropped (item ∷ items) = refl
+
+-- a step answers no failure
+pub step_real : (s : State (List ℕ)) (command : Command (List ℕ)) → is_failure (step length s command).1 ≡ false
+step_real s (Take peer number hop stamp payload) = unless_real (take_refusal length s peer number hop stamp (length payload)) s _
+    (row_real (not (has_peer s peer)) _ _ refl
+    (row_real (not (has_hop s hop)) _ _ refl
+    (row_real (nat_le (2 ^ 52) stamp) _ _ refl
+    (row_real (nat_lt 1200 (length payload)) _ _ refl
+    (row_real (nat_le number (last_at s peer)) _ _ refl
+    (row_real (nat_lt (last_at s peer + 1) number) _ _ refl
+    (row_real (is_full length s (length payload)) _ _ refl
+    (row_real (nat_le max_seq s.seq) _ _ refl none_real))))))))
+    refl
+step_real s (Pick hop now) = unless_real (pick_refusal s hop now) s _
+    (row_real (not (has_hop s hop)) _ _ refl
+    (row_real (nat_le (2 ^ 52) now) _ _ refl
+    (row_real (nat_le s.params.window (length (hop_at s hop).flight)) _ _ refl
+    (row_real (is_idle (hop_at s hop)) _ _ refl
+    (row_real (nat_le max_seq s.seq) _ _ refl none_real)))))
+    (picked_real _ _ _)
+step_real s (Release hop number) = unless_real (release_refusal s hop number) s _
+    (row_real (not (has_hop s hop)) _ _ refl
+    (row_real (nat_le (next_number (hop_at s hop)) number) _ _ refl
+    (row_real (nat_eq (covered (hop_at s hop) number) 0) _ _ refl
+    (row_real (nat_le max_seq s.seq) _ _ refl none_real))))
+    refl
+
+-- nor does a question
+fetched_real : (fails : Bool) (refusal : Refusal) (rest : Result (Item (List ℕ)) Refusal) → is_failure (Refused refusal) ≡ false → is_failure (fetched rest) ≡ false
+    → is_failure (fetched (cond fails (Err refusal) rest)) ≡ false
+fetched_real true refusal rest real more = real
+fetched_real false refusal rest real more = more
+
+found_real : (item : Option (Item (List ℕ))) → is_failure (fetched (ok_or item NotInFlight)) ≡ false
+found_real (Some item) = refl
+found_real None = refl
+
+either_real : (there : Bool) (reply : Reply) → is_failure reply ≡ false → is_failure (cond there reply (Refused NoSuchHop)) ≡ false
+either_real true reply real = real
+either_real false reply real = refl
+
+pub query_real : (s : State (List ℕ)) (query : Query) → is_failure (query_reply s query) ≡ false
+query_real s (Fetch hop number) =
+    fetched_real (not (has_hop s hop)) NoSuchHop _ refl
+    (fetched_real (nat_le (next_number (hop_at s hop)) number) NeverSent _ refl
+    (fetched_real (nat_le number (hop_at s hop).released) NotInFlight _ refl
+    (found_real (slice_get (hop_at s hop).flight (number - (hop_at s hop).released - 1)))))
+query_real s (Window hop) = either_real (has_hop s hop) _ refl
+query_real s (Show hop) = either_real (has_hop s hop) _ refl
+
+-- one call was answered in a state, which then was another, and the group is another
+pub record IsServed (call : Call) (answer : Answer) (old new : GroupState) (s t : State (List ℕ)) : Type 0 where
+  pub answered : IsAnswered (λ reply. reply) 0 s (call, answer)
+  pub only : OnlyMemory (call, answer)
+  pub state : t ≡ next_state s (call, answer)
+  pub group : ((command : Command (List ℕ)) × IsTaken command old new s t) ⊎ ((new ≡ old) × (t ≡ s))
+
+-- by a reply of the machine
+real_served : (call : Call) (answer : Answer) (old new : GroupState) (s t : State (List ℕ)) → answer.seat ≡ call.seat → answer.number ≡ call.number
+    → is_failure answer.reply ≡ false → answer.reply ≡ (ask_step s call.ask).1 → t ≡ (ask_step s call.ask).0 → answer.position ≡ t.seq
+    → ((command : Command (List ℕ)) × IsTaken command old new s t) ⊎ ((new ≡ old) × (t ≡ s)) → IsServed call answer old new s t
+real_served call answer old new s t seat number real reply state position group =
+    let next : next_state s (call, answer) ≡ (ask_step s call.ask).0 = ap (λ b. cond b s (ask_step s call.ask).0) real in
+    record {
+      answered = record { seat = seat; number = number; reply = λ _. reply; position = position ∙ ap (λ m. m.seq) (state ∙ sym next); harm = omega arith };
+      only = λ fails. absurd (false≢true (sym real ∙ fails));
+      state = state ∙ sym next;
+      group = group;
+    }
+
+-- for want of memory
+pub starved_served : (call : Call) (answer : Answer) (old new : GroupState) (s t : State (List ℕ)) → answer.seat ≡ call.seat → answer.number ≡ call.number
+    → answer.reply ≡ Refused OutOfMemory → t ≡ s → new ≡ old → answer.position ≡ t.seq → IsServed call answer old new s t
+starved_served call answer old new s t seat number reply state group position =
+    let fails : is_failure answer.reply ≡ true = ap is_failure reply in
+    let next : next_state s (call, answer) ≡ s = ap (λ b. cond b s (ask_step s call.ask).0) fails in
+    record {
+      answered = record { seat = seat; number = number; reply = λ real. absurd (false≢true (sym real ∙ fails)); position = position ∙ ap (λ m. m.seq) (state ∙ sym next); harm = omega arith };
+      only = λ _. reply;
+      state = state ∙ sym next;
+      group = inr (group, state);
+    }
+
+-- a command
+pub command_served : (call : Call) (command : Command (List ℕ)) (answer : Answer) (old new : GroupState) (s t : State (List ℕ)) → call.ask ≡ ask.Command command
+    → answer.seat ≡ call.seat → answer.number ≡ call.number → IsDone command answer.reply old new s t → answer.position ≡ t.seq → IsServed call answer old new s t
+command_served call command answer old new s t asks seat number done position =
+    let by_step : ask_step s call.ask ≡ step length s command = ap (ask_step s) asks in
+    elim done [
+      | inl taken ↦ real_served call answer old new s t seat number (ap is_failure taken.0 ∙ step_real s command) (taken.0 ∙ sym (ap (λ r. r.1) by_step))
+          (taken.1.state ∙ sym (ap (λ r. r.0) by_step)) position (inl (command, taken.1))
+      | inr (inl left) ↦ real_served call answer old new s t seat number (ap is_failure left.reply ∙ step_real s command) (left.reply ∙ sym (ap (λ r. r.1) by_step))
+          (left.state ∙ sym (stays length s command left.leaves) ∙ sym (ap (λ r. r.0) by_step)) position (inr (left.group, left.state))
+      | inr (inr starved) ↦ starved_served call answer old new s t seat number starved.reply starved.state starved.group position
+    ]
+
+-- a question
+pub query_served : (call : Call) (query : Query) (answer : Answer) (group : GroupState) (s : State (List ℕ)) → call.ask ≡ ask.Query query
+    → answer.seat ≡ call.seat → answer.number ≡ call.number → answer.reply ≡ query_reply s query → answer.position ≡ s.seq → IsServed call answer group group s s
+query_served call query answer group s asks seat number reply position =
+    let by_step : ask_step s call.ask ≡ (s, query_reply s query) = ap (ask_step s) asks in
+    real_served call answer group group s s seat number (ap is_failure reply ∙ query_real s query) (reply ∙ sym (ap (λ r. r.1) by_step)) (sym (ap (λ r. r.0) by_step)) position (inr (refl, refl))
+
+-- want of memory is no harm to the device
+harmless : (reply : Reply) → (is_failure reply ≡ true → reply ≡ Refused OutOfMemory) → harm reply ≡ 0
+harmless (Refused Broken) only = absurd (let e : Refused Broken ≡ Refused OutOfMemory = only refl in cc)
+harmless (Refused Unsure) only = absurd (let e : Refused Unsure ≡ Refused OutOfMemory = only refl in cc)
+harmless _ only = refl
+
+no_harm : (entries : List Entry) → AllByRecursion OnlyMemory entries → harm_after 0 entries ≡ 0
+no_harm [] all = refl
+no_harm (entry ∷ entries) all = ap (λ h. harm_after h entries) (harmless entry.1.reply all.0) ∙ no_harm entries all.1
+
+-- one more pair
+zip_push : {A B : Type 0} (xs : List A) (ys : List B) (x : A) (y : B) → length ys ≡ length xs → zip (xs ++ x ∷ []) (ys ++ y ∷ []) ≡ zip xs ys ++ (x, y) ∷ []
+zip_push [] [] x y same = refl
+zip_push [] (b ∷ ys) x y same = absurd (omega (arith, same))
+zip_push (a ∷ xs) [] x y same = absurd (omega (arith, same))
+zip_push (a ∷ xs) (b ∷ ys) x y same = ap (λ l. (a, b) ∷ l) (zip_push xs ys x y (omega (arith, same)))
+
+-- one more call
+pub served_push : (calls : List Call) (given : List Answer) (call : Call) (answer : Answer) (old new : GroupState) (s t u : State (List ℕ))
+    → AreServed calls given s t → IsServed call answer old new t u → AreServed (calls ++ call ∷ []) (given ++ answer ∷ []) s u
+served_push calls given call answer old new s t u served last =
+    let pairs : zip (calls ++ call ∷ []) (given ++ answer ∷ []) ≡ zip calls given ++ (call, answer) ∷ [] = zip_push calls given call answer served.count in
+    let harmed : harm_after 0 (zip calls given) ≡ 0 = no_harm (zip calls given) served.only in
+    let one : IsAnswered (λ reply. reply) (harm_after 0 (zip calls given)) (state_after s (zip calls given)) (call, answer) =
+    subst (λ h. IsAnswered (λ reply. reply) h (state_after s (zip calls given)) (call, answer)) (sym harmed)
+    (subst (λ m. IsAnswered (λ reply. reply) 0 m (call, answer)) served.state last.answered) in
+    record {
+      count = omega (arith, served.count, length-append calls (call ∷ []), length-append given (answer ∷ []));
+      legal = subst (Legal s) (sym pairs) (legal_push (λ reply. reply) 0 s (zip calls given) (call, answer) served.legal one);
+      only = subst (AllByRecursion OnlyMemory) (sym pairs) (all_push OnlyMemory (zip calls given) (call, answer) served.only last.only);
+      state = last.state ∙ ap (λ m. next_state m (call, answer)) served.state ∙ sym (state_after-append s (zip calls given) ((call, answer) ∷ [])) ∙ ap (state_after s) (sym pairs);
+    }
+
+-- no call
+pub served_none : (s : State (List ℕ)) → AreServed [] [] s s
+served_none s = record { count = refl; legal = tt; only = tt; state = refl }
+
+-- a round that answered the first of its calls
+pub record IsServing (all rest : List Call) (before now : List Answer) (group : GroupState) (s t : State (List ℕ)) : Type 0 where
+  pub served : List Call
+  pub given : List Answer
+  pub commands : Commands
+  pub calls : all ≡ served ++ rest
+  pub answers : now ≡ before ++ given
+  pub are_served : AreServed served given s t
+  pub gathers : Gathers commands group s t
+  pub few : length commands ≤ length served
+
+-- it answers one more
+pub serving_next : (all rest more : List Call) (call : Call) (before now next : List Answer) (answer : Answer) (group new : GroupState) (s t u : State (List ℕ))
+    → IsServing all rest before now group s t → rest ≡ call ∷ more → next ≡ now ++ answer ∷ [] → IsServed call answer group new t u
+    → IsServing all more before next new s u
+serving_next all rest more call before now next answer group new s t u serving cut pushed last =
+    let calls : all ≡ (serving.served ++ call ∷ []) ++ more = serving.calls ∙ ap (λ l. serving.served ++ l) cut ∙ sym (append_assoc serving.served (call ∷ []) more) in
+    let answers : next ≡ before ++ (serving.given ++ answer ∷ []) = pushed ∙ ap (λ l. l ++ answer ∷ []) serving.answers ∙ append_assoc before serving.given (answer ∷ []) in
+    let are : AreServed (serving.served ++ call ∷ []) (serving.given ++ answer ∷ []) s u =
+    served_push serving.served serving.given call answer group new s t u serving.are_served last in
+    let size = length-append serving.served (call ∷ []) in
+    elim last.group [
+      | inl taken ↦ record {
+        served = serving.served ++ call ∷ [];
+        given = serving.given ++ answer ∷ [];
+        commands = serving.commands ++ taken.0 ∷ [];
+        calls = calls;
+        answers = answers;
+        are_served = are;
+        gathers = gathers_push serving.commands taken.0 group new s t u serving.gathers taken.1;
+        few = omega (arith, serving.few, size, length-append serving.commands (taken.0 ∷ []));
+      }
+      | inr same ↦ record {
+        served = serving.served ++ call ∷ [];
+        given = serving.given ++ answer ∷ [];
+        commands = serving.commands;
+        calls = calls;
+        answers = answers;
+        are_served = are;
+        gathers = gathers_still serving.commands group new s t u serving.gathers same.0 same.1;
+        few = omega (arith, serving.few, size);
+      }
+    ]
+
+-- there is room in the group while a call is left
+pub serving_room : (all rest more : List Call) (call : Call) (before now : List Answer) (group : GroupState) (s t : State (List ℕ))
+    → IsServing all rest before now group s t → rest ≡ call ∷ more → length all ≤ 64 → group.count < 64
+serving_room all rest more call before now group s t serving cut most =
+    let size : length all ≡ length serving.served + length rest = ap length serving.calls ∙ length-append serving.served rest in
+    let left : length rest ≡ length more + 1 = ap length cut ∙ (let e : length (call ∷ more) ≡ length more + 1 = omega arith in e) in
+    omega (arith, size, left, most, serving.few, serving.gathers.count)
+
+-- all were answered
+pub serving_answers : (all : List Call) (before now : List Answer) (group : GroupState) (s t : State (List ℕ)) → IsServing all [] before now group s t
+    → (given : List Answer) × (now ≡ before ++ given) × AreServed all given s t
+serving_answers all before now group s t serving =
+    let whole : all ≡ serving.served = serving.calls ∙ append-nil serving.served in
+    (serving.given, serving.answers, subst (λ l. AreServed l serving.given s t) (sym whole) serving.are_served)
+
+pub serving_group : (all : List Call) (before now : List Answer) (group : GroupState) (s t : State (List ℕ)) → IsServing all [] before now group s t
+    → (commands : Commands) × Gathers commands group s t × (length commands ≤ length all)
+serving_group all before now group s t serving =
+    let whole : length all ≡ length serving.served + 0 = ap length serving.calls ∙ length-append serving.served [] in
+    (serving.commands, serving.gathers, omega (arith, whole, serving.few))
+
+-- none were answered
+pub serving_none : (all : List Call) (before : List Answer) (group : GroupState) (s : State (List ℕ)) → Gathers [] group s s → IsServing all all before before group s s
+serving_none all before group s gathers = record {
+  served = [];
+  given = [];
+  commands = [];
+  calls = refl;
+  answers = sym (append-nil before);
+  are_served = served_none s;
+  gathers = gathers;
+  few = omega arith;
+}
+
+-- of answers it is said that it is unsure whether they stand: they say nothing else than what was asked
+unsure_by : (harmed : ℕ) (s : State (List ℕ)) (position : ℕ) (calls : List Call) (given : List Answer) → length given ≡ length calls
+    → LegalBy (λ reply. reply) harmed s (zip calls given) → map (unsure_at position) given ≡ refusals Unsure position calls
+unsure_by harmed s position [] [] same legal = refl
+unsure_by harmed s position [] (answer ∷ given) same legal = absurd (omega (arith, same))
+unsure_by harmed s position (call ∷ calls) [] same legal = absurd (omega (arith, same))
+unsure_by harmed s position (call ∷ calls) (answer ∷ given) same legal =
+    let rest = unsure_by (harm answer.reply) (next_state s (call, answer)) position calls given (omega (arith, same)) legal.1 in
+    let same_one : unsure_at position answer ≡ refusal_of Unsure position call =
+    ap (λ n. record (unsure_at position answer) { seat = n }) legal.0.seat
+    ∙ ap (λ n. record (unsure_at position answer) { seat = call.seat; number = n }) legal.0.number in
+    ap (λ a. a ∷ map (unsure_at position) given) same_one ∙ ap (λ l. refusal_of Unsure position call ∷ l) rest
+
+pub made_unsure : (calls : List Call) (given : List Answer) (s t : State (List ℕ)) (position : ℕ) → AreServed calls given s t
+    → map (unsure_at position) given ≡ refusals Unsure position calls
+made_unsure calls given s t position served = unsure_by 0 s position calls given served.count served.legal
+
+-- calls that are all refused memory
+pub served_starved : (s : State (List ℕ)) (calls : List Call) → AreServed calls (refusals OutOfMemory s.seq calls) s s
+served_starved s [] = served_none s
+served_starved s (call ∷ calls) =
+    let rest = served_starved s calls in
+    record {
+      count = omega (arith, rest.count);
+      legal = (record { seat = refl; number = refl; reply = λ real. absurd (false≢true (sym real)); position = refl; harm = omega arith }, rest.legal);
+      only = (λ _. refl, rest.only);
+      state = rest.state;
+    }
+
+-- a list whose elements are changed one after the other
+pub mark_next : {X : Type 0} (f : X → X) (xs now : List X) (i : ℕ) (d x : X) → i < length xs → now ≡ map f (take i xs) ++ drop i xs → x ≡ f (get_or now i d)
+    → set now i x ≡ map f (take (i + 1) xs) ++ drop (i + 1) xs
+mark_next {X} f xs now i d x below same is_x =
+    let y : X = get_or xs i d in
+    let front : List X = map f (take i xs) in
+    let back : List X = drop (i + 1) xs in
+    let size : length front ≡ i = omega (arith, length-map (take i xs) f, length-take i xs, below) in
+    let parts : now ≡ front ++ y ∷ back = same ∙ ap (λ l. front ++ l) (drop_more xs i d below) in
+    let here : get_or now i d ≡ y = ap (λ l. get_or l i d) parts ∙ get_or_at front y back d i size in
+    ap (λ l. set l i x) parts
+    ∙ set_at front y back x i size
+    ∙ ap (λ z. front ++ z ∷ back) (is_x ∙ ap f here)
+    ∙ sym (append_assoc front (f y ∷ []) back)
+    ∙ ap (λ l. l ++ back) (sym (map_more f xs i d below))
+
+-- a call that is refused is no longer among those that are left
+pub refused_next : (refusal : Refusal) (position : ℕ) (now next all : List Answer) (rest more : List Call) (call : Call)
+    → now ++ refusals refusal position rest ≡ all → rest ≡ call ∷ more → next ≡ now ++ refusal_of refusal position call ∷ []
+    → next ++ refusals refusal position more ≡ all
+refused_next refusal position now next all rest more call so_far cut pushed =
+    ap (λ l. l ++ refusals refusal position more) pushed
+    ∙ append_assoc now (refusal_of refusal position call ∷ []) (refusals refusal position more)
+    ∙ ap (λ l. now ++ refusals refusal position l) (sym cut)
+    ∙ so_far
+
+-- a command that some check refuses isn't accepted
+accepted_none : (refusal : Option Reply) (s : State (List ℕ)) (accepted : State (List ℕ) × Reply)
+    → (is_accepted (unless refusal s accepted).1 ≡ true → (unless refusal s accepted).0.seq ≡ s.seq + 1)
+    → is_accepted (unless refusal s accepted).1 ≡ true → refusal ≡ None
+accepted_none None s accepted more accepts = refl
+accepted_none (Some reply) s accepted more accepts = let counts : s.seq ≡ s.seq + 1 = more accepts in absurd (omega (arith, counts))
+
+never_true : (b : Bool) → (b ≡ true → ⊥) → b ≡ false
+never_true true never = absurd (never refl)
+never_true false _ = refl
+
+-- a payload that is too long for a record isn't taken
+pub long_leaves : (s : State (List ℕ)) (command : Command (List ℕ)) → (IsShort command → ⊥) → is_accepted (step length s command).1 ≡ false
+long_leaves s (Take peer number hop stamp payload) long = never_true _ (λ accepts.
+    long (may_take length s peer number hop stamp (length payload)
+    (accepted_none (take_refusal length s peer number hop stamp (length payload)) s _ (seq_step length s (Take peer number hop stamp payload)) accepts)).short)
+long_leaves s (Pick hop now) long = absurd (long tt)
+long_leaves s (Release hop number) long = absurd (long tt)
+
+-- what became of a command, from what was called: the memory for it leaves the state as it was
+pub starved_done : (command : Command (List ℕ)) (reply : Reply) (group : GroupState) (s t : State (List ℕ)) → t ≡ s → reply ≡ Refused OutOfMemory
+    → IsDone command reply group group s t
+starved_done command reply group s t same starved = inr (inr (record { reply = starved; state = same; group = refl }))
+
+pub long_done : (command : Command (List ℕ)) (reply : Reply) (group : GroupState) (s r t : State (List ℕ)) → r ≡ s → (IsShort command → ⊥)
+    → t ≡ (step length r command).0 → reply ≡ (step length r command).1 → IsDone command reply group group s t
+long_done command reply group s r t same long state told =
+    let leaves = long_leaves s command long in
+    inr (inl (record {
+      reply = told ∙ ap (λ m. (step length m command).1) same;
+      leaves = leaves;
+      state = state ∙ ap (λ m. (step length m command).0) same ∙ stays length s command leaves;
+      group = refl;
+    }))
+
+pub left_done : (command : Command (List ℕ)) (reply : Reply) (old mid new : GroupState) (s r t : State (List ℕ)) → r ≡ s → old.staged ≡ []
+    → mid ≡ record old { staged = record_of command } → new ≡ record mid { staged = [] } → is_accepted reply ≡ false
+    → t ≡ (step length r command).0 → reply ≡ (step length r command).1 → IsDone command reply old new s t
+left_done command reply old mid new s r t same nothing staged discarded leaves state told =
+    let by_step : reply ≡ (step length s command).1 = told ∙ ap (λ m. (step length m command).1) same in
+    let not_accepted : is_accepted (step length s command).1 ≡ false = sym (ap is_accepted by_step) ∙ leaves in
+    inr (inl (record {
+      reply = by_step;
+      leaves = not_accepted;
+      state = state ∙ ap (λ m. (step length m command).0) same ∙ stays length s command not_accepted;
+      group = discarded ∙ ap (λ (g : GroupState). record g { staged = [] }) staged ∙ sym (ap (λ l. record old { staged = l }) nothing);
+    }))
+
+pub taken_done : (command : Command (List ℕ)) (reply : Reply) (old mid new : GroupState) (s r t : State (List ℕ)) → r ≡ s → HasRecord command
+    → mid ≡ record old { staged = record_of command } → new ≡ record { records = mid.records ++ mid.staged; count = mid.count + 1; staged = [] }
+    → is_accepted reply ≡ true → t ≡ (step length r command).0 → reply ≡ (step length r command).1 → IsDone command reply old new s t
+taken_done command reply old mid new s r t same has staged kept accepts state told =
+    let by_step : reply ≡ (step length s command).1 = told ∙ ap (λ m. (step length m command).1) same in
+    inl (
+      by_step,
+      record {
+        accepted = sym (ap is_accepted by_step) ∙ accepts;
+        state = state ∙ ap (λ m. (step length m command).0) same;
+        has = has;
+        group = kept ∙ ap (λ (g : GroupState). group_of (g.records ++ g.staged) (g.count + 1) []) staged;
+      },
+    )

@@ -1,0 +1,32 @@
+use Rattle.std.proofs.Common.{subst, sym}
+use Rattle.std.proofs.lemmas.Result.{err_from_is_err_and}
+use Rattle.rly_gate.proofs.Rereading.{only_again}
+use Rattle.rly_journal.specs.Log.{IsReplayed, IsShaped}
+use Rattle.rly_journal.proofs.recovery.recover.Goals as goal
+
+pub returns-in_err-replay_group-clause-refused : goal.returns-in_err-replay_group-clause-refused
+returns-in_err-replay_group-clause-refused g c honest =
+    let same = c.groups.invariant.only.crash honest in
+    let before = subst (λ image. IsReplayed image c.groups.found.tail c.groups.found.machine.state) (sym same.seen) (c.groups.invariant.replayed honest) in
+    let refused = c.in_err-replay_group.ensures.refused same.honest before in
+    let told = err_from_is_err_and c.from_residual-in_err-replay_group.result c.from_residual-in_err-replay_group.ensures.1 in
+    rw (told.1, told.2) (rw same.seen at refused)
+
+pub returns-in_err-replay_group-clause-only : goal.returns-in_err-replay_group-clause-only
+returns-in_err-replay_group-clause-only g c = only_again c.groups.invariant.only c.replay_group.ensures.only
+
+pub groups-preserved : goal.groups-preserved
+groups-preserved g c =
+    let only = only_again c.groups.invariant.only c.replay_group.ensures.only in
+    record {
+      only = only;
+      shaped = subst (λ size. IsShaped size c.replay_group.new.found.tail c.replay_group.new.found.machine.state) only.later.size c.replay_group.ensures.shaped;
+      replayed = λ honest.
+          let same = c.groups.invariant.only.crash honest in
+          let before = subst (λ image. IsReplayed image c.groups.found.tail c.groups.found.machine.state) (sym same.seen) (c.groups.invariant.replayed honest) in
+          let after = c.in_ok-replay_group.ensures.replayed same.honest before in
+          subst (λ image. IsReplayed image c.replay_group.new.found.tail c.replay_group.new.found.machine.state) same.seen after;
+    }
+
+pub returns-clause-only : goal.returns-clause-only
+returns-clause-only g c = only_again c.groups.invariant.only c.replay_group.ensures.only

@@ -1,0 +1,49 @@
+-- Why an image stands for no state: the first check that fails (docs/FORMATS.md, "What opening checks").
+use Rattle.std.specs.Prelude.{◌≡◌, ◌⊎◌, ℕ, List, length}
+use Rattle.rly_core.specs.declared.params.Geometry.{Geometry}
+use Rattle.rly_machine.specs.Fold.{AllAccepted}
+use Rattle.rly_machine.specs.State.{State}
+use Rattle.rly_gate.specs.Group.{IsOpen}
+use Rattle.rly_gate.specs.Reading.{HoldsGroup}
+use Rattle.rly_record.specs.Spelling.{HaveBody, body_of}
+use Rattle.rly_segment.specs.Device.{IsDevice, IsGeometry, geometry_in}
+use Rattle.rly_segment.specs.Heads.{HoldsHead, IsAmbiguous, IsNewest, segment_place}
+use Rattle.rly_journal.specs.declared.fault.OpenFault.{OpenFault}
+use Rattle.rly_journal.specs.declared.fault.OpenFault.TheVariants.{OutOfMemory, NotADevice, BadGeometry, Damaged, Device}
+use Rattle.rly_journal.specs.Standing.{Commands, IsScanned, Standing, end_of, gate_of, state_in}
+
+-- the newest segment has no head that holds a state
+pub record IsHeadless (image : List ℕ) (g : Geometry) (place : ℕ) : Type 0 where
+  pub segment : ℕ
+  pub newest : IsNewest image g segment
+  pub none : (generation : ℕ) (s : State (List ℕ)) → HoldsHead image g segment generation s → ⊥
+  pub at : place ≡ segment_place g segment
+
+-- behind the newest head and whole groups a gate is open, and no group of accepted commands stands there
+pub record IsBroken (image : List ℕ) (place : ℕ) : Type 0 where
+  pub x : Standing
+  pub scanned : IsScanned image x
+  pub at : place ≡ gate_of x
+  pub gate : IsOpen image place
+  pub none : (commands : Commands) → HaveBody commands → HoldsGroup image place (end_of x) (body_of commands)
+      → AllAccepted length (state_in x) commands → ⊥
+
+-- the place of the first thing on a device that stands for nothing
+abbrev pub IsDamagedAt : List ℕ → Geometry → ℕ → Type 0
+IsDamagedAt image g place = IsAmbiguous image g place ⊎ IsHeadless image g place ⊎ IsBroken image place
+
+-- the first check that an image fails
+abbrev pub IsRefused : List ℕ → OpenFault → Type 0
+IsRefused image NotADevice = IsDevice image → ⊥
+IsRefused image BadGeometry = IsDevice image × (IsGeometry (geometry_in image) (length image) → ⊥)
+IsRefused image (Damaged place) = IsDevice image × IsGeometry (geometry_in image) (length image) × IsDamagedAt image (geometry_in image) place
+IsRefused image OutOfMemory = Unit {0}
+IsRefused image Device = Unit {0}
+
+-- the refusals that say something of the image
+abbrev pub IsOfImage : OpenFault → Type 0
+IsOfImage NotADevice = Unit {0}
+IsOfImage BadGeometry = Unit {0}
+IsOfImage (Damaged place) = Unit {0}
+IsOfImage OutOfMemory = ⊥
+IsOfImage Device = ⊥

@@ -1,0 +1,45 @@
+-- The group that a round writes, as far as it is made.
+use Rattle.std.specs.Prelude.{◌≡◌, ℕ, ◌+◌, List, [], ◌++◌, length, IsTrue}
+use Rattle.std.specs.List.{AllByRecursion, flat_map}
+use Rattle.byteorder.specs.Endian.{big_bytes}
+use Rattle.rly_machine.specs.declared.command.Command.{Command}
+use Rattle.rly_machine.specs.Accepted.{is_accepted}
+use Rattle.rly_machine.specs.Fold.{AllAccepted, fold}
+use Rattle.rly_machine.specs.State.{State}
+use Rattle.rly_machine.specs.Step.{step}
+use Rattle.rly_record.specs.Spelling.{HasRecord, record_of}
+use Rattle.rly_journal.specs.Standing.{Commands}
+
+-- the records that the group holds, how many they are, and one more that isn't part of it yet
+pub record GroupState : Type 0 where
+  pub records : List ℕ
+  pub count : ℕ
+  pub staged : List ℕ
+
+-- a group that holds nothing
+abbrev pub empty_group : GroupState
+empty_group = record { records = []; count = 0; staged = [] }
+
+-- a group with the record of one command more
+abbrev pub with_record : GroupState → Command (List ℕ) → GroupState
+with_record group command = record { records = group.records ++ record_of command; count = group.count + 1; staged = [] }
+
+-- the body that the group is written with: the count in two bytes, and the records
+abbrev pub group_body : GroupState → List ℕ
+group_body group = big_bytes 2 group.count ++ group.records
+
+-- a command was accepted and its record is in the group
+pub record IsTaken (command : Command (List ℕ)) (old new : GroupState) (s t : State (List ℕ)) : Type 0 where
+  pub accepted : IsTrue (is_accepted (step length s command).1)
+  pub state : t ≡ (step length s command).0
+  pub has : HasRecord command
+  pub group : new ≡ with_record old command
+
+-- the group holds the records of these commands, which were accepted from a state and led to another
+pub record Gathers (commands : Commands) (group : GroupState) (s t : State (List ℕ)) : Type 0 where
+  pub accepted : AllAccepted length s commands
+  pub state : t ≡ fold length s commands
+  pub have : AllByRecursion HasRecord commands
+  pub records : group.records ≡ flat_map record_of commands
+  pub count : group.count ≡ length commands
+  pub staged : group.staged ≡ []

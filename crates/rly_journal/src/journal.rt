@@ -1,0 +1,297 @@
+ghost use Rattle.std.specs.Prelude.{◌≡◌, ◌⊎◌, ◌+◌, ◌≤◌, ◌++◌, [], Err, IfErr, IfOk, IsOk, IsTrue, List, MatchResult, Ok, OnErr, OnOk, ◌↔◌, length, vec_capacity, true, false, if◌then◌else◌};
+ghost use Rattle.rly_core.specs.Bounds.{IsIn};
+ghost use Rattle.rly_disk.specs.DiskModel.{Later, LeavesOnly, Rose, Settled};
+ghost use Rattle.rly_gate.specs.Reading.{OnlyRead};
+ghost use Rattle.rly_machine.specs.declared.call.Answer.{Answer as AnAnswer};
+ghost use Rattle.rly_machine.specs.declared.reply.Reply.{Reply as AReply};
+ghost use Rattle.rly_machine.specs.State.{has_peer, last_at};
+ghost use Rattle.rly_machine.specs.Query.{fetched, item_of, show_reply};
+ghost use Rattle.rly_journal.specs.Faults.{IsRefused};
+ghost use Rattle.rly_journal.specs.Journal.{Breaks, Goes, IsDueFor, IsRound, IsSafe, holds_command};
+ghost use Rattle.rly_journal.specs.Groups.{empty_group};
+ghost use Rattle.rly_journal.specs.Log.{IsDurable, IsShaped};
+ghost use Rattle.rly_journal.specs.Standing.{Stands};
+
+use crate::evaluation::{answer_calls, make_unsure, refuse_all};
+use crate::fault::OpenFault;
+use crate::group::Group;
+use crate::recovery::{Recovered, recover};
+use crate::tail::{Tail, append, is_full, renew};
+use rly_core::{HopId, Params, PeerId, Refusal};
+use rly_disk::Disk;
+use rly_machine::{Answer, Ask, Call, Machine, Payload, Reply};
+use rly_segment::OpeningFault;
+use std::alloc::{AllocError, Global};
+use std::marker::Model;
+
+/// A spool on a device. Contracts see its disk, where it ends there, its running state, and whether it
+/// is broken.
+#[derive(Drop)]
+pub struct Journal<D: Disk> {
+    disk: D,
+    tail: Tail,
+    machine: Machine<Payload>,
+    group: Group,
+    position: u64,
+    broken: bool,
+}
+
+impl<D: Disk> Model for Journal<D> {
+    ghost use Rattle.std.specs.Prelude.{◌≡◌};
+    ghost use Rattle.rly_journal.specs.Groups.{empty_group};
+    ghost use Rattle.rly_journal.specs.Journal.{IsKept, JournalState};
+
+    ghost Value = { JournalState D };
+
+    ghost view = { λ j. record { disk = j.disk; tail = j.tail; state = j.machine.state; position = j.position; broken = j.broken } };
+
+    ghost invariant = { λ j. IsKept (D.state j.disk) j.tail j.machine.state j.position j.broken × (j.group ≡ empty_group) };
+}
+
+/// What opening a device made.
+#[derive(Drop)]
+struct Begun {
+    found: Recovered,
+    group: Group,
+}
+
+impl<D: Disk> Journal<D> {
+    /// Opens a device: makes its last writes durable, and reads what it stands for. It writes nothing. At every
+    /// refusal the disk is handed back.
+    pub fn open(alloc: Global, disk: D) -> Result<Journal<D>, (OpenFault, D)>
+        // On an honest disk the state is the one that the device stands for.
+        ensures stands { (D.state disk).honest → IfOk result (λ journal. Stands (D.state disk).seen journal.state) }
+        ensures whole { IfOk result (λ journal. (journal.broken ≡ false) × (journal.position ≡ journal.state.seq)) }
+        // A refusal is the first check that fails.
+        ensures refused { (D.state disk).honest → IfErr result (λ failed. IsRefused (D.state disk).seen failed.0) }
+        ensures only { MatchResult result (λ journal. OnlyRead (D.state disk) (D.state journal.disk)) (λ failed. OnlyRead (D.state disk) (D.state failed.1)) }
+        ensures settled { (D.state disk).honest → IfOk result (λ journal. Settled (D.state journal.disk)) }
+        ensures rise { IfErr result (λ failed. failed.0 ≡ OpenFault.Device → Rose (D.state disk) (D.state failed.1)) }
+    {
+        let mut disk = disk;
+        match begin(alloc, &mut disk) {
+            Ok(begun) => {
+                let tail = begun.found.tail;
+                let position = begun.found.machine.seq();
+                Ok(Journal {
+                    disk,
+                    tail,
+                    machine: begun.found.machine,
+                    group: begun.group,
+                    position,
+                    broken: false,
+                })
+            }
+            Err(fault) => Err((fault, disk)),
+        }
+    }
+
+    /// Answers 1 to 64 calls in order, once the commands among them that are accepted are durable. Where memory is
+    /// refused for the answers, nothing changed.
+    pub fn round(
+        &mut self,
+        alloc: Global,
+        calls: &mut Vec<Call>,
+        answers: &mut Vec<Answer>,
+    ) -> Result<(), AllocError>
+        requires { IsIn 1 64 (length calls.old.items) }
+        ensures err { OnErr result ((self.new ≡ self.old) × (calls.new.items ≡ calls.old.items) × (answers.new.items ≡ answers.old.items)) }
+        ensures reserved { length answers.old.items + length calls.old.items ≤ vec_capacity answers.old → IsOk result }
+        ensures emptied { OnOk result (calls.new.items ≡ []) }
+        ensures answers { OnOk result ((given : List AnAnswer) × (answers.new.items ≡ answers.old.items ++ given)
+            × IsRound D.state self.old self.new calls.old.items given) }
+        // A crash at any moment of the round leaves its commands whole or none of them.
+        ensures any_moment { (D.state self.old.disk).honest → self.old.broken ≡ false → OnOk result (IsSafe D.state self.old self.new calls.old.items) }
+        ensures durable { (D.state self.new.disk).honest → self.new.broken ≡ false → OnOk result (Settled (D.state self.new.disk) × Stands (D.state self.new.disk).seen self.new.state) }
+        ensures syncs { (D.state self.new.disk).syncs ≤ (D.state self.old.disk).syncs + 5 }
+        ensures few_syncs { (IsDueFor self.old calls.old.items → ⊥) → (D.state self.new.disk).syncs ≤ (D.state self.old.disk).syncs + 2 }
+        ensures quiet { (IsDueFor self.old calls.old.items → ⊥) → self.new.state ≡ self.old.state → self.new.disk ≡ self.old.disk }
+        ensures later { Later (D.state self.old.disk) (D.state self.new.disk) }
+    {
+        answers.reserve(calls.len())?;
+        if self.broken {
+            refuse_all(calls, answers, Refusal::Broken, self.position);
+            return Ok(());
+        }
+        match self.make_ready(alloc, calls) {
+            Ok(()) => self.serve(alloc, calls, answers),
+            Err(refusal) => refuse_all(calls, answers, refusal, self.position),
+        }
+        self.law_durable();
+        Ok(())
+    }
+
+    /// The payload in flight under a custody number.
+    pub fn fetch(&mut self, alloc: Global, hop: HopId, number: u64) -> Result<Vec<u8>, Refusal>
+        ensures found { IfOk result (λ bytes. (self.old.broken ≡ false) × (fetched (item_of self.old.state hop number) ≡ AReply.Bytes bytes.items)) }
+        ensures refused { IfErr result (λ refusal. ((self.old.broken ≡ true) × (refusal ≡ Refusal.Broken)) ⊎ ((self.old.broken ≡ false)
+            × ((fetched (item_of self.old.state hop number) ≡ AReply.Refused refusal) ⊎ (refusal ≡ Refusal.OutOfMemory)))) }
+        ensures same { self.new ≡ self.old }
+    {
+        if self.broken {
+            return Err(Refusal::Broken);
+        }
+        let item = self.machine.item(hop, number)?;
+        match Vec::from_slice(alloc, item.payload.as_slice()) {
+            Ok(bytes) => Ok(bytes),
+            Err(_) => Err(Refusal::OutOfMemory),
+        }
+    }
+
+    /// All numbers of a hop, or that there is no such hop, or that the journal is broken.
+    pub fn ask_show(&self, hop: HopId) -> Reply
+        ensures { result ≡ (if self.now.broken then AReply.Refused Refusal.Broken else show_reply self.now.state hop) }
+    {
+        if self.broken {
+            return Reply::Refused(Refusal::Broken);
+        }
+        self.machine.ask_show(hop)
+    }
+
+    /// The last number taken from a peer, or that there is no such peer, or that the journal is broken.
+    pub fn last(&self, peer: PeerId) -> Result<u64, Refusal>
+        ensures { result ≡ (if self.now.broken then Err Refusal.Broken
+            else if has_peer self.now.state peer then Ok (last_at self.now.state peer) else Err Refusal.NoSuchPeer) }
+    {
+        if self.broken {
+            return Err(Refusal::Broken);
+        }
+        self.machine.law_sound();
+        if peer.0 == 0 || u64::from(peer.0) > self.machine.params().peers {
+            return Err(Refusal::NoSuchPeer);
+        }
+        Ok(self.machine.last(peer))
+    }
+
+    /// The parameters of the spool.
+    pub fn params(&self) -> Params
+        ensures { result ≡ self.now.state.params }
+    {
+        self.machine.params()
+    }
+
+    /// How many commands were accepted, as far as was answered.
+    pub fn position(&self) -> u64
+        ensures { result ≡ self.now.position }
+    {
+        self.position
+    }
+
+    /// Whether a write or a sync failed: every later call is refused, until the device is opened again.
+    pub fn is_broken(&self) -> bool
+        ensures { result ≡ self.now.broken }
+    {
+        self.broken
+    }
+
+    /// The disk, given back.
+    pub fn into_disk(self) -> D
+        ensures { result ≡ self.disk }
+    {
+        let Journal {
+            disk,
+            tail: _tail,
+            machine: _machine,
+            group: _group,
+            position: _position,
+            broken: _broken,
+        } = self;
+        disk
+    }
+
+    /// What is true of every journal that isn't broken, on an honest disk: nothing is pending, and what the device
+    /// reads stands for the running state.
+    pub fn law_durable(&self)
+        ensures { (D.state self.now.disk).honest → self.now.broken ≡ false → Settled (D.state self.now.disk) × Stands (D.state self.now.disk).seen self.now.state }
+    {
+        let _ = &self.tail;
+    }
+
+    /// Opens a segment where one is due, or says how all calls are refused.
+    fn make_ready(&mut self, alloc: Global, calls: &[Call]) -> Result<(), Refusal>
+        requires { self.old.broken ≡ false }
+        ensures state { self.new.state ≡ self.old.state }
+        ensures position { self.new.position ≡ self.old.position }
+        ensures ready { OnOk result ((self.new.broken ≡ false) × ((D.state self.new.disk).failures ≡ (D.state self.old.disk).failures) × (IsDueFor self.new calls.now → ⊥)) }
+        ensures refused { IfErr result (λ refusal. ((refusal ≡ Refusal.OutOfMemory) × (self.new ≡ self.old))
+            ⊎ ((refusal ≡ Refusal.Unsure) × (self.new.broken ≡ true) × Rose (D.state self.old.disk) (D.state self.new.disk))) }
+        ensures any_moment { (D.state self.old.disk).honest → LeavesOnly (D.state self.old.disk) (D.state self.new.disk) (λ image. Stands image self.old.state) }
+        ensures syncs { (D.state self.new.disk).syncs ≤ (D.state self.old.disk).syncs + 3 }
+        ensures calm { (IsDueFor self.old calls.now → ⊥) → self.new ≡ self.old }
+        ensures later { Later (D.state self.old.disk) (D.state self.new.disk) }
+    {
+        if !holds_command(calls) || !is_full(&self.tail) {
+            return Ok(());
+        }
+        match renew(alloc, &mut self.disk, &mut self.tail, &self.machine) {
+            Ok(()) => Ok(()),
+            Err(OpeningFault::OutOfMemory) => Err(Refusal::OutOfMemory),
+            Err(OpeningFault::Device) => {
+                self.broken = true;
+                Err(Refusal::Unsure)
+            }
+        }
+    }
+
+    /// Evaluates the calls, and makes what they changed durable before they are answered.
+    fn serve(&mut self, alloc: Global, calls: &mut Vec<Call>, answers: &mut Vec<Answer>)
+        requires broken { self.old.broken ≡ false }
+        requires count { length calls.old.items ≤ 64 }
+        requires room { length answers.old.items + length calls.old.items ≤ vec_capacity answers.old }
+        requires ready { IsDueFor self.old calls.old.items → ⊥ }
+        ensures emptied { calls.new.items ≡ [] }
+        ensures answers { (given : List AnAnswer) × (answers.new.items ≡ answers.old.items ++ given)
+            × ((Goes self.old self.new calls.old.items given × ((D.state self.new.disk).failures ≡ (D.state self.old.disk).failures))
+            ⊎ (Breaks self.old self.new calls.old.items given × Rose (D.state self.old.disk) (D.state self.new.disk))) }
+        ensures any_moment { (D.state self.old.disk).honest → IsSafe D.state self.old self.new calls.old.items }
+        ensures syncs { (D.state self.new.disk).syncs ≤ (D.state self.old.disk).syncs + 2 }
+        ensures quiet { self.new.state ≡ self.old.state → self.new.disk ≡ self.old.disk }
+        ensures later { Later (D.state self.old.disk) (D.state self.new.disk) }
+    {
+        let from = answers.len();
+        answer_calls(alloc, &mut self.machine, &mut self.group, calls, answers);
+        if self.group.is_empty() {
+            return;
+        }
+        match append(&mut self.disk, &mut self.tail, &mut self.group) {
+            Ok(()) => self.position = self.machine.seq(),
+            Err(_) => {
+                self.broken = true;
+                make_unsure(answers, from, self.position);
+            }
+        }
+    }
+}
+
+/// Makes a device's last writes durable, and reads what it stands for.
+fn begin<D: Disk>(alloc: Global, disk: &mut D) -> Result<Begun, OpenFault>
+    ensures shaped { IfOk result (λ begun. IsShaped (D.state disk.new).size begun.found.tail begun.found.machine.state) }
+    ensures group { IfOk result (λ begun. begun.group ≡ empty_group) }
+    ensures durable { (D.state disk.old).honest → IfOk result (λ begun. IsDurable (D.state disk.new) begun.found.tail begun.found.machine.state) }
+    ensures stands { (D.state disk.old).honest → IfOk result (λ begun. Stands (D.state disk.old).seen begun.found.machine.state) }
+    ensures refused { (D.state disk.old).honest → IfErr result (λ fault. IsRefused (D.state disk.old).seen fault) }
+    ensures only { OnlyRead (D.state disk.old) (D.state disk.new) }
+    ensures rise { result ≡ Err OpenFault.Device → Rose (D.state disk.old) (D.state disk.new) }
+{
+    let Ok(()) = disk.sync() else {
+        return Err(OpenFault::Device);
+    };
+    match recover(alloc, disk) {
+        Ok(found) => match Group::new(alloc) {
+            Ok(group) => Ok(Begun { found, group }),
+            Err(_) => Err(OpenFault::OutOfMemory),
+        },
+        Err(fault) => Err(fault),
+    }
+}
+
+/// Whether a round holds a command.
+fn holds_command(calls: &[Call]) -> bool
+    ensures { result ≡ holds_command calls.now }
+{
+    let mut found = false;
+    for call in calls {
+        found = found || matches!(call.ask, Ask::Command(_));
+    }
+    found
+}

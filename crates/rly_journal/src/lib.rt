@@ -1,0 +1,22 @@
+//! The journal: a spool on a device, whose state is there again after a crash.
+//!
+//! `specs/Standing.antt` says when the bytes of a device stand for a state, and `specs/Faults.antt` why they
+//! stand for none. `Journal::open` gives that state; `Journal::round` answers 1 to 64 calls on the plain machine
+//! and makes what they changed durable before it answers, so that a crash at any moment leaves the round whole or
+//! none of it (`specs/Journal.antt`). It stands on any disk that keeps to the disk model, and is one thread's.
+#![tactic(auto)]
+
+mod evaluation;
+mod fault;
+mod group;
+mod journal;
+mod laws;
+mod recovery;
+mod tail;
+#[cfg(test)]
+mod tests;
+
+pub use crate::fault::OpenFault;
+pub use crate::journal::Journal;
+pub use crate::laws::{law_formatted_stands, law_refused_stands_for_none, law_stands_for_one};
+pub use crate::tail::Tail;

@@ -1,0 +1,115 @@
+ghost use Rattle.std.specs.Prelude.{◌≡◌, ◌⊎◌, ◌+◌, ◌-◌, ◌<◌, ◌≤◌, ◌^◌, ◌↔◌, [], Err, IsTrue, List, OnErr, OnOk, ℕ, length};
+ghost use Rattle.rly_machine.specs.State.{State};
+ghost use Rattle.rly_core.specs.Bounds.{IsIn};
+ghost use Rattle.rly_disk.specs.DiskModel.{Later, LeavesOnly, Rose};
+ghost use Rattle.rly_reclaim.specs.Room.{IsDue};
+ghost use Rattle.rly_segment.specs.Device.{IsGeometry};
+ghost use Rattle.rly_segment.specs.Heads.{segment_end, segment_place};
+ghost use Rattle.rly_journal.specs.Groups.{Gathers, empty_group, group_body};
+ghost use Rattle.rly_journal.specs.Log.{IsDurable, IsFull, IsShaped, offset};
+ghost use Rattle.rly_journal.specs.Standing.{Commands, Stands};
+
+use crate::group::Group;
+use rly_core::Geometry;
+use rly_disk::{Disk, DiskFault};
+use rly_machine::{Machine, Payload};
+use rly_reclaim::is_due;
+use rly_segment::{OpeningFault, Target, open_segment, segment_place};
+use std::alloc::Global;
+
+/// Where the journal ends on its device.
+#[derive(Clone, Copy, Debug)]
+pub struct Tail {
+    /// The shape of the device.
+    pub geometry: Geometry,
+    /// The segment of the newest head.
+    pub segment: u64,
+    /// The generation of that head.
+    pub generation: u64,
+    /// The place of the first closed gate behind it.
+    pub gate: u64,
+    /// For each segment, whether its gate reads closed.
+    pub closed: [bool; 256],
+}
+
+/// Whether the segment has no room for the largest group.
+pub(crate) fn is_full(tail: &Tail) -> bool
+    requires segment { tail.now.segment < 256 }
+    requires length { tail.now.geometry.length < 2 ^ 31 }
+    requires gate { segment_place tail.now.geometry tail.now.segment ≤ tail.now.gate }
+    requires within { tail.now.gate < segment_end tail.now.geometry tail.now.segment }
+    ensures { IsTrue result ↔ IsFull tail.now }
+{
+    let offset = tail.gate - segment_place(&tail.geometry, tail.segment);
+    is_due(&tail.geometry, offset)
+}
+
+/// Opens the other segment with a head that holds the machine's state. A crash at any moment of the
+/// call leaves what stood for that state, or the new head.
+pub(crate) fn renew<D: Disk>(
+    alloc: Global,
+    disk: &mut D,
+    tail: &mut Tail,
+    machine: &Machine<Payload>,
+) -> Result<(), OpeningFault>
+    requires shaped { IsShaped (D.state disk.old).size tail.old machine.now.state }
+    requires full { IsFull tail.old }
+    ensures shaped { IsShaped (D.state disk.new).size tail.new machine.now.state }
+    ensures room { OnOk result (IsFull tail.new → ⊥) }
+    ensures any_moment { IsDurable (D.state disk.old) tail.old machine.now.state
+        → LeavesOnly (D.state disk.old) (D.state disk.new) (λ image. Stands image machine.now.state) }
+    ensures durable { IsDurable (D.state disk.old) tail.old machine.now.state
+        → OnOk result (IsDurable (D.state disk.new) tail.new machine.now.state) }
+    ensures err { OnErr result (tail.new ≡ tail.old) }
+    ensures memory { result ≡ Err OpeningFault.OutOfMemory → disk.new ≡ disk.old }
+    ensures rise { result ≡ Err OpeningFault.Device → Rose (D.state disk.old) (D.state disk.new) }
+    ensures no_failure { OnOk result ((D.state disk.new).failures ≡ (D.state disk.old).failures) }
+    ensures syncs { (D.state disk.new).syncs ≤ (D.state disk.old).syncs + 3 }
+    ensures later { Later (D.state disk.old) (D.state disk.new) }
+{
+    machine.law_sound();
+    let segment = 1 - tail.segment;
+    let target = Target {
+        segment,
+        closed: tail.closed[segment as usize],
+    };
+    let generation = tail.generation + 1;
+    let gate = open_segment(alloc, disk, &tail.geometry, target, generation, machine)?;
+    tail.segment = segment;
+    tail.generation = generation;
+    tail.gate = gate;
+    tail.closed[segment as usize] = false;
+    Ok(())
+}
+
+/// Writes a group of accepted commands behind the last one. A crash at any moment of the call leaves
+/// what stood for the state before them, or the whole group.
+pub(crate) fn append<D: Disk>(
+    disk: &mut D,
+    tail: &mut Tail,
+    group: &mut Group,
+) -> Result<(), DiskFault>
+    requires something { IsIn 1 64 group.old.count }
+    requires nothing_staged { group.old.staged ≡ [] }
+    requires body { length (group_body group.old) ≤ 78274 }
+    requires geometry { IsGeometry tail.old.geometry (D.state disk.old).size }
+    requires segment { tail.old.segment < tail.old.geometry.segments }
+    requires above { segment_place tail.old.geometry tail.old.segment ≤ tail.old.gate }
+    requires room { IsFull tail.old → ⊥ }
+    ensures shaped { (commands : Commands) (s t : State (List ℕ)) → IsShaped (D.state disk.old).size tail.old s → Gathers commands group.old s t
+        → IsShaped (D.state disk.new).size tail.new t }
+    ensures any_moment { (commands : Commands) (s t : State (List ℕ)) → IsDurable (D.state disk.old) tail.old s → Gathers commands group.old s t
+        → LeavesOnly (D.state disk.old) (D.state disk.new) (λ image. Stands image s ⊎ Stands image t) }
+    ensures durable { (commands : Commands) (s t : State (List ℕ)) → IsDurable (D.state disk.old) tail.old s → Gathers commands group.old s t
+        → OnOk result (IsDurable (D.state disk.new) tail.new t) }
+    ensures emptied { group.new ≡ empty_group }
+    ensures rise { OnErr result (Rose (D.state disk.old) (D.state disk.new)) }
+    ensures no_failure { OnOk result ((D.state disk.new).failures ≡ (D.state disk.old).failures) }
+    ensures syncs { (D.state disk.new).syncs ≤ (D.state disk.old).syncs + 2 }
+    ensures later { Later (D.state disk.old) (D.state disk.new) }
+{
+    let length = group.len();
+    group.write(disk, tail.gate)?;
+    tail.gate += length;
+    Ok(())
+}

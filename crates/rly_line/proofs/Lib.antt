@@ -1,0 +1,6 @@
+pub mod Views
+pub mod Submitting
+pub mod Replying
+pub mod Making
+pub mod Telling
+pub mod Answering

@@ -1,0 +1,31 @@
+-- Lines that are made one after another, one for each seat.
+use Rattle.std.proofs.Common.{ℕ, ◌≡◌, ◌+◌, ◌<◌, List, [], ◌∷◌, ◌++◌, map, length, ap, sym, ◌∙◌, subst, arith}
+use Rattle.std.specs.List.{range_with_len}
+use Rattle.std.proofs.lemmas.List.FromFn.{get_or-map-range_with_len, length-map-range_with_len, map-range_with_len_more}
+use Rattle.rly_line.specs.EndViews.{AreInPlace, line_at, new_teller}
+use Rattle.rly_line.specs.Replies.{Teller}
+use Rattle.rly_line.specs.Submission.{Taker}
+
+-- each of the new lines is new
+pub new_line_at : (count seat : ℕ) → seat < length (map new_teller (range_with_len 0 count)) → line_at (map new_teller (range_with_len 0 count)) seat ≡ new_teller seat
+new_line_at count seat here =
+    let below : seat < count = omega (arith, here, length-map-range_with_len new_teller 0 count) in
+    get_or-map-range_with_len new_teller 0 count seat seat (new_teller seat) below (omega arith)
+
+-- and in its place
+pub new_in_place : (count : ℕ) → AreInPlace (map new_teller (range_with_len 0 count))
+new_in_place count seat here = ap (λ (t : Teller). t.seat) (new_line_at count seat here)
+
+-- so they are the lines of an end that takes the calls of so many seats
+pub new_end : (taker : Taker) (lines : List Teller) (count : ℕ) → taker ≡ record { seats = count; taken = [] } → lines ≡ map new_teller (range_with_len 0 count)
+    → (taker.seats ≡ length lines) × AreInPlace lines
+new_end taker lines count counts made = (
+  ap (λ (t : Taker). t.seats) counts ∙ sym (ap length made ∙ length-map-range_with_len new_teller 0 count),
+  subst AreInPlace (sym made) (new_in_place count),
+)
+
+-- and with one more there is one more
+pub one_more : {X : Type 0} (make : ℕ → X) (before after : List X) (x : X) (count : ℕ) → before ≡ map make (range_with_len 0 count) → after ≡ before ++ x ∷ [] → x ≡ make count
+    → after ≡ map make (range_with_len 0 (count + 1))
+one_more make before after x count made more is =
+    more ∙ ap (λ l. l ++ x ∷ []) made ∙ ap (λ y. map make (range_with_len 0 count) ++ y ∷ []) is ∙ sym (map-range_with_len_more make 0 count count (omega arith))

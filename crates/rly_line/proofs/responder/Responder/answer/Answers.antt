@@ -1,0 +1,28 @@
+use Rattle.rly_line.proofs.Telling.{after_ok, may_ok, seat_ok}
+use Rattle.rly_line.proofs.responder.Responder.answer.Goals as goal
+
+pub tell-requires-clause-seat : goal.tell-requires-clause-seat
+tell-requires-clause-seat g c =
+    let next = rw (← c.self.view_is) at c.requires.next in
+    let answered = rw (← c.self.view_is) at c.requires.answered in
+    seat_ok c.self.inside.line c.self.inside.story c.push.new.self c.args.call.now.value c.args.answer c.self.invariant next answered c.push.ensures
+
+pub tell-requires-clause-may : goal.tell-requires-clause-may
+tell-requires-clause-may g c =
+    let next = rw (← c.self.view_is) at c.requires.next in
+    let answered = rw (← c.self.view_is) at c.requires.answered in
+    may_ok c.self.inside.line c.self.inside.story c.push.new.self c.args.call.now.value c.args.answer c.self.invariant next answered c.push.ensures
+
+pub invariant_of-self : goal.invariant_of-self
+invariant_of-self g c =
+    let next = rw (← c.self.view_is) at c.requires.next in
+    let answered = rw (← c.self.view_is) at c.requires.answered in
+    after_ok c.self.inside.line c.self.inside.story c.push.new.self c.args.call.now.value c.args.answer c.self.invariant next answered c.push.ensures
+    c.tell.new.self c.tell.result c.tell.ensures.taken c.tell.ensures.told
+
+pub returns-clause-holds : goal.returns-clause-holds
+returns-clause-holds g c =
+    let next = rw (← c.self.view_is) at c.requires.next in
+    let answered = rw (← c.self.view_is) at c.requires.answered in
+    after_ok c.self.inside.line c.self.inside.story c.push.new.self c.args.call.now.value c.args.answer c.self.invariant next answered c.push.ensures
+    c.tell.new.self c.tell.result c.tell.ensures.taken c.tell.ensures.told

@@ -1,0 +1,6 @@
+pub mod Submission
+pub mod Replies
+pub mod Story
+pub mod Seats
+pub mod EndViews
+pub mod Responding

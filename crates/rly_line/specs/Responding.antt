@@ -1,0 +1,54 @@
+-- The thread that answers: what it told each seat is a beginning of one legal history, of the calls that it took.
+use Rattle.std.specs.Prelude.{ℕ, ◌≡◌, ◌<◌, ◌⊎◌, List, [], ◌++◌, All, false, Some, None, length, map}
+use Rattle.rly_machine.specs.declared.call.Call.{Call}
+use Rattle.rly_machine.specs.History.{Entry, LegalButForBytes, harm_after, state_after}
+use Rattle.rly_machine.specs.State.{State}
+use Rattle.rly_line.specs.EndViews.{AreInPlace, EndView, line_at}
+use Rattle.rly_line.specs.Replies.{Teller, entries_of}
+use Rattle.rly_line.specs.Story.{StoryView}
+use Rattle.rly_line.specs.Submission.{AreNumbered, calls_of}
+
+-- what contracts see of it: the calls that were taken, the state that it began in, the history that it made, and what
+-- each seat's line was told
+pub record Responding : Type 0 where
+  pub taken : List Call
+  pub start : State (List ℕ)
+  pub history : List Entry
+  pub lines : List Teller
+
+-- its end of all lines and its history, as one value
+abbrev pub responding : EndView → StoryView → Responding
+responding line story = record { taken = line.taken; start = story.start; history = story.history; lines = line.lines }
+
+-- the calls of a history
+abbrev pub asks_of : List Entry → List Call
+asks_of history = map (λ entry. entry.0) history
+
+-- these calls were taken and are not answered yet
+abbrev pub AreLeft : Responding → List Call → Type 0
+AreLeft r left = r.taken ≡ asks_of r.history ++ left
+
+-- a line was told nothing, or the start and a beginning of the history. The rest has no call of its seat, unless the seat is gone
+pub record IsTold (start : State (List ℕ)) (history : List Entry) (line : Teller) : Type 0 where
+  pub base : (line.base ≡ None) ⊎ (line.base ≡ Some start)
+  pub rest : List Entry
+  pub whole : history ≡ line.told ++ rest
+  pub up_to_date : line.gone ≡ false → entries_of line.seat rest ≡ []
+
+abbrev pub AreTold : State (List ℕ) → List Entry → List Teller → Type 0
+AreTold start history lines = (seat : ℕ) → seat < length lines → IsTold start history (line_at lines seat)
+
+-- what holds of the thread at each moment
+pub record IsResponding (r : Responding) : Type 0 where
+  pub legal : LegalButForBytes r.start r.history
+  pub waiting : (left : List Call) × AreLeft r left
+  pub seated : All (λ call. call.seat.0 < length r.lines) r.taken
+  pub numbered : (seat : ℕ) → AreNumbered 0 (calls_of seat r.taken)
+  pub in_place : AreInPlace r.lines
+  pub told : AreTold r.start r.history r.lines
+
+-- all calls were answered, in a history that led to this state and told of no failed device
+pub record IsInStep (s : State (List ℕ)) (r : Responding) : Type 0 where
+  pub answered : AreLeft r []
+  pub state : s ≡ state_after r.start r.history
+  pub unharmed : harm_after 0 r.history ≡ 0

@@ -1,0 +1,67 @@
+-- A caller's seat: what it put, and what it knows.
+use Rattle.std.specs.Prelude.{ℕ, ◌≡◌, ◌+◌, ◌⊎◌, List, [], ◌∷◌, ◌++◌, Bool, true, false, Option, Some, None, length, Result, Ok, Err}
+use Rattle.rly_machine.specs.declared.call.Answer.{Answer}
+use Rattle.rly_machine.specs.declared.call.Call.{Call}
+use Rattle.rly_machine.specs.declared.call.SeatId.{SeatId}
+use Rattle.rly_machine.specs.declared.command.Ask.{Ask}
+use Rattle.rly_machine.specs.History.{Entry, LegalButForBytes}
+use Rattle.rly_machine.specs.State.{State}
+use Rattle.rly_line.specs.declared.call_error.CallError.{CallError}
+use Rattle.rly_line.specs.declared.call_error.CallError.TheVariants.{Closed, Lost}
+use Rattle.rly_line.specs.Replies.{Hearer, entries_of}
+use Rattle.rly_line.specs.Submission.{Putter}
+
+-- what contracts see of a seat: the calls that it put, the base state and the history that it knows, and whether it is shut
+pub record Caller : Type 0 where
+  pub seat : SeatId
+  pub put : List Call
+  pub base : Option (State (List ℕ))
+  pub known : List Entry
+  pub shut : Bool
+
+-- a seat that nothing was asked from
+abbrev pub new_caller : ℕ → Caller
+new_caller number = record { seat = record { 0 = number }; put = []; base = None; known = []; shut = false }
+
+-- the call that puts an ask under the seat's next number
+abbrev pub next_call : Caller → Ask → Call
+next_call c ask = record { seat = c.seat; number = length c.put + 1; ask = ask }
+
+-- a seat after its ask was answered, where it was another before
+pub record Answered (before : Caller) (ask : Ask) (answer : Answer) (after : Caller) : Type 0 where
+  pub seat : after.seat ≡ before.seat
+  pub open_still : after.shut ≡ false
+  -- the calls that it put grew by this ask, under the next number
+  pub put : after.put ≡ before.put ++ next_call before ask ∷ []
+  -- what it knows begins with all that it knew, and ends with its call of that number and this answer; between them are calls of others
+  pub between : List Entry
+  pub call : Call
+  pub known : after.known ≡ (before.known ++ between) ++ (call, answer) ∷ []
+  pub others : entries_of before.seat.0 between ≡ []
+  pub own : call.seat ≡ before.seat
+  pub number : call.number ≡ length before.put + 1
+  -- so it holds of this seat's calls just those that were answered, each once, in order
+  pub calls : entries_of before.seat.0 after.known ≡ entries_of before.seat.0 before.known ++ (call, answer) ∷ []
+  -- it is legal but for bytes, from a base that is the same in all answers
+  pub start : State (List ℕ)
+  pub base : after.base ≡ Some start
+  pub same_base : (before.base ≡ None) ⊎ (before.base ≡ Some start)
+  pub legal : LegalButForBytes start after.known
+
+-- a seat after its ask was not answered: it was handed back and not put, or it was put and no answer came
+abbrev pub IsUnanswered : Caller → Ask → CallError → Caller → Type 0
+IsUnanswered before ask (Closed back) after = (back ≡ ask) × (after ≡ before)
+IsUnanswered before ask Lost after = after ≡ record before { put = before.put ++ next_call before ask ∷ []; shut = true }
+
+-- a call was not put
+abbrev pub IsClosed : Result Answer CallError → Type 0
+IsClosed (Ok _) = ⊥
+IsClosed (Err (Closed _)) = Unit {0}
+IsClosed (Err Lost) = ⊥
+
+-- the two ends of a seat are its own; it counts its calls; and while it is open all of them were answered
+pub record IsSeated (seat : SeatId) (p : Putter) (h : Hearer) (calls : ℕ) (shut : Bool) : Type 0 where
+  pub puts : p.seat ≡ seat.0
+  pub hears : h.seat ≡ seat.0
+  pub count : calls ≡ length p.put
+  pub answered : shut ≡ false → length (entries_of seat.0 h.known) ≡ length p.put

@@ -1,0 +1,26 @@
+//! Seats and the line that they share: callers in threads of their own put calls into one line, and
+//! each is answered in a line of its own.
+//!
+//! `specs/Submission.antt` has the rule of the line that calls go into and `specs/Replies.antt` that
+//! of a line that answers come out of. `Seat::call` is what callers use; `LineEnd` is for the one
+//! thread that answers. Of all threads' calls there is one legal history, and each seat knows a
+//! beginning of it (`docs/PROOFS.md`).
+#![tactic(auto)]
+
+mod call_error;
+mod line_end;
+mod replies;
+mod responder;
+mod seat;
+mod setup;
+mod story;
+mod submission;
+#[cfg(test)]
+mod tests;
+
+pub use crate::call_error::CallError;
+pub use crate::line_end::LineEnd;
+pub use crate::responder::Responder;
+pub use crate::seat::Seat;
+pub use crate::setup::make;
+pub use crate::story::{Standing, Story};

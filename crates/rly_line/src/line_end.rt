@@ -1,0 +1,76 @@
+ghost use Rattle.std.specs.Prelude.{◌≡◌, ◌∷◌, ◌++◌, ◌<◌, [], false, length, slice_set, IfNone, IfSome, MatchBool};
+ghost use Rattle.rly_line.specs.Replies.{MayTell};
+ghost use Rattle.rly_line.specs.Submission.{IsNext};
+
+use crate::replies::TellEnd;
+use crate::story::{Standing, Story};
+use crate::submission::TakeEnd;
+use rly_machine::{Answer, Call};
+use std::marker::Model;
+use std::sync::Wait;
+
+/// The other end of all seats' lines, for the one thread that answers. Contracts see the calls that
+/// were taken and, for each seat, the base and the history that its line was told last, and whether
+/// the seat was found gone.
+#[derive(Drop)]
+pub struct LineEnd {
+    calls: TakeEnd,
+    replies: Vec<TellEnd>,
+}
+
+impl Model for LineEnd {
+    ghost use Rattle.std.specs.Prelude.{◌≡◌, length};
+    ghost use Rattle.rly_line.specs.EndViews.{AreInPlace, EndView};
+
+    ghost Value = { EndView };
+
+    ghost view = { λ e. record { taken = e.calls.taken; lines = e.replies.items } };
+
+    ghost invariant = { λ e. (e.calls.seats ≡ length e.replies.items) × AreInPlace e.replies.items };
+}
+
+impl LineEnd {
+    ghost use Rattle.rly_line.specs.EndViews.{AreInPlace, line_at, with_gone, with_told};
+
+    /// The end of these lines.
+    pub(crate) fn new(calls: TakeEnd, replies: Vec<TellEnd>) -> LineEnd
+        requires { (calls.seats ≡ length replies.items) × AreInPlace replies.items }
+        ensures { result ≡ record { taken = calls.taken; lines = replies.items } }
+    {
+        LineEnd { calls, replies }
+    }
+
+    /// Waits for a call. None: no call was left, and no seat.
+    pub fn wait<R: Wait>(&mut self, rt: &R) -> Option<Call>
+        ensures taken { IfSome result (λ call. (self.new ≡ record self.old { taken = self.old.taken ++ call ∷ [] })
+            × IsNext (record { seats = length self.old.lines; taken = self.old.taken }) call) }
+        ensures none { IfNone result (self.new ≡ self.old) }
+    {
+        self.calls.wait(rt)
+    }
+
+    /// A call that is in the line, if there is one.
+    pub fn more<R: Wait>(&mut self, rt: &R) -> Option<Call>
+        ensures taken { IfSome result (λ call. (self.new ≡ record self.old { taken = self.old.taken ++ call ∷ [] })
+            × IsNext (record { seats = length self.old.lines; taken = self.old.taken }) call) }
+        ensures none { IfNone result (self.new ≡ self.old) }
+    {
+        self.calls.more(rt)
+    }
+
+    /// Puts an answer into its seat's line, which tells a history. It answers whether it did: it does
+    /// not where the seat is gone, and then never again.
+    pub fn tell<T: Standing, R: Wait>(&mut self, rt: &R, answer: Answer, story: &Story<T>) -> bool
+        requires seat { answer.seat.0 < length self.old.lines }
+        requires may { (line_at self.old.lines answer.seat.0).gone ≡ false
+            → MayTell (line_at self.old.lines answer.seat.0) story.now.start answer story.now.history }
+        ensures taken { self.new.taken ≡ self.old.taken }
+        ensures told { MatchBool result
+            (self.new.lines ≡ slice_set self.old.lines answer.seat.0 (with_told (line_at self.old.lines answer.seat.0) story.now))
+            (self.new.lines ≡ slice_set self.old.lines answer.seat.0 (with_gone (line_at self.old.lines answer.seat.0))) }
+    {
+        let seat = answer.seat.0 as usize;
+        let line = &mut self.replies[seat];
+        line.tell(rt, answer, story)
+    }
+}

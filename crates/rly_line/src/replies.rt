@@ -1,0 +1,243 @@
+//! A line that one seat's answers come out of.
+
+ghost use Rattle.std.specs.Prelude.{◌≡◌, ℕ, ◌∷◌, [], None, Some, false, true, IfNone, IfSome, IfOk, MatchBool};
+ghost use Rattle.crossbeam_channel.specs.Claims.{view, IsSeatAt};
+ghost use Rattle.crossbeam_channel.specs.Ends.{sends_on, receives_on};
+ghost use Rattle.rly_line.specs.Replies.{Heard, MayTell};
+
+use crate::story::{Standing, Story};
+use crossbeam_channel::protocol::{Lesson, Outcome, Protocol, Split};
+use crossbeam_channel::{Pass, RuledReceiver, RuledSender, bounded_with};
+use rly_machine::{Answer, Call, Machine, Payload};
+use std::alloc::{AllocError, Global};
+use std::collections::LinkedList;
+use std::marker::{Brand, Model, PhantomData};
+use std::sync::Wait;
+
+/// A state of a spool, which views name. No value of it is made.
+pub struct Start {
+    machine: Machine<Payload>,
+}
+
+impl Model for Start {
+    ghost use Rattle.std.specs.Prelude.{ℕ, List};
+    ghost use Rattle.rly_machine.specs.State.{State};
+
+    ghost Value = { State (List ℕ) };
+
+    ghost view = { λ s. s.machine.state };
+}
+
+/// What a pass knows of the line. No value of it is made.
+pub struct ReplyView {
+    /// Whether it is that of the end that answers.
+    pub tells: bool,
+    /// Whether it is that of the seat.
+    pub hears: bool,
+    /// Which seat's line it is.
+    pub seat: u64,
+    /// The state that the histories begin in, once one was told or heard.
+    pub base: Option<Start>,
+    /// The history that the seat was told with the last answer that it took.
+    pub known: LinkedList<(Call, Answer)>,
+    /// The history that was told last.
+    pub told: LinkedList<(Call, Answer)>,
+}
+
+/// The rule of the line.
+pub struct Replied;
+
+impl Protocol<Answer, ReplyView> for Replied {
+    ghost use Rattle.rly_line.specs.Replies as replies;
+
+    ghost holds = { replies.Replied };
+
+    ghost first = { replies.both_ends };
+}
+
+/// Whose line it is, for the proof alone.
+trait Whose {
+    ghost seat: { ℕ };
+}
+
+impl Whose for Brand {
+    ghost seat = { 0 };
+}
+
+/// The first pass is cut into those of the two ends.
+struct Ends<W> {
+    whose: PhantomData<W>,
+}
+
+impl<W: Whose> Split<ReplyView> for Ends<W> {
+    ghost use Rattle.rly_line.specs.Replies.{telling, hearing};
+
+    ghost left = { λ v. telling W.seat };
+
+    ghost right = { λ v. hearing W.seat };
+}
+
+/// A history that is told, for the proof alone.
+trait Tale {
+    ghost use Rattle.std.specs.Prelude.{ℕ, List};
+    ghost use Rattle.rly_machine.specs.History.{Entry};
+    ghost use Rattle.rly_machine.specs.State.{State};
+
+    ghost start: { State (List ℕ) };
+
+    ghost history: { List Entry };
+}
+
+impl Tale for Brand {
+    ghost use Rattle.std.specs.Prelude.{[]};
+    ghost use Rattle.rly_machine.specs.State.{new_state};
+
+    ghost start = { new_state (record { hops = 0; peers = 0; window = 0; items = 0; bytes = 0; maxpacket = 0; target = 0; interval = 0 }) };
+
+    ghost history = { [] };
+}
+
+/// An answer is put, which tells a history.
+struct Puts<W> {
+    tale: PhantomData<W>,
+}
+
+impl<W: Tale> Outcome<Answer, ReplyView> for Puts<W> {
+    ghost use Rattle.std.specs.Prelude.{◌≡◌, Some};
+
+    ghost then = { λ v answer w. w ≡ record v { base = Some W.start; told = W.history } };
+}
+
+impl<W: Tale> Lesson<Answer, ReplyView> for Puts<W> {
+    ghost fact = { λ v answers. Unit {0} };
+}
+
+/// An answer is taken.
+struct Takes;
+
+impl Outcome<Answer, ReplyView> for Takes {
+    ghost use Rattle.std.specs.Prelude.{◌≡◌};
+    ghost use Rattle.rly_line.specs.Replies.{Heard};
+
+    ghost then = { λ v answer w. (w ≡ record v { base = w.base; known = w.known }) × Heard v.seat v.base w.base v.known answer w.known };
+}
+
+impl Lesson<Answer, ReplyView> for Takes {
+    ghost fact = { λ v answers. Unit {0} };
+}
+
+/// The end of a seat's line that answers are put in. Contracts see whose it is, the base and the
+/// history that it was told last, and whether the seat is gone.
+#[derive(Drop)]
+pub struct TellEnd {
+    line: RuledSender<Answer, ReplyView, Replied>,
+    pass: Pass<Answer, ReplyView>,
+    gone: bool,
+}
+
+impl Model for TellEnd {
+    ghost use Rattle.std.specs.Prelude.{◌≡◌, true};
+    ghost use Rattle.crossbeam_channel.specs.Claims.{view as pass_view, IsSeatAt};
+    ghost use Rattle.crossbeam_channel.specs.Ends.{sends_on};
+    ghost use Rattle.rly_line.specs.Replies.{Teller};
+
+    ghost Value = { Teller };
+
+    ghost view = { λ e. record { seat = (pass_view e.pass).seat; base = (pass_view e.pass).base; told = (pass_view e.pass).told; gone = e.gone } };
+
+    ghost invariant = { λ e. IsSeatAt (sends_on e.line) e.pass × ((pass_view e.pass).tells ≡ true) };
+}
+
+impl TellEnd {
+    /// Puts an answer, which tells a history. It answers whether it did: it does not where the seat
+    /// is gone, and then never again.
+    pub fn tell<T: Standing, R: Wait>(&mut self, rt: &R, answer: Answer, story: &Story<T>) -> bool
+        requires { self.old.gone ≡ false → MayTell self.old story.now.start answer story.now.history }
+        ensures { MatchBool result (self.new ≡ record self.old { base = Some story.now.start; told = story.now.history }) (self.new ≡ record self.old { gone = true }) }
+    {
+        self.tell_as::<Brand, T, R>(rt, answer, story)
+    }
+
+    fn tell_as<W: Tale, T: Standing, R: Wait>(
+        &mut self,
+        rt: &R,
+        answer: Answer,
+        story: &Story<T>,
+    ) -> bool
+        requires tale { (W.start ≡ story.now.start) × (W.history ≡ story.now.history) }
+        requires may { self.old.gone ≡ false → MayTell self.old W.start answer W.history }
+        ensures { MatchBool result (self.new ≡ record self.old { base = Some W.start; told = W.history }) (self.new ≡ record self.old { gone = true }) }
+    {
+        let _ = story;
+        if self.gone {
+            return false;
+        }
+        let put = self
+            .line
+            .send_as::<Puts<W>, R>(rt, &mut self.pass, answer)
+            .is_ok();
+        self.gone = !put;
+        put
+    }
+}
+
+/// A seat's end of the line. Contracts see whose it is, and the base and the history that the seat
+/// knows.
+#[derive(Drop)]
+pub struct HearEnd {
+    line: RuledReceiver<Answer, ReplyView, Replied>,
+    pass: Pass<Answer, ReplyView>,
+}
+
+impl Model for HearEnd {
+    ghost use Rattle.std.specs.Prelude.{◌≡◌, true};
+    ghost use Rattle.crossbeam_channel.specs.Claims.{view as pass_view, IsSeatAt};
+    ghost use Rattle.crossbeam_channel.specs.Ends.{receives_on};
+    ghost use Rattle.rly_line.specs.Replies.{Hearer};
+
+    ghost Value = { Hearer };
+
+    ghost view = { λ e. record { seat = (pass_view e.pass).seat; base = (pass_view e.pass).base; known = (pass_view e.pass).known } };
+
+    ghost invariant = { λ e. IsSeatAt (receives_on e.line) e.pass × ((pass_view e.pass).hears ≡ true) };
+}
+
+impl HearEnd {
+    /// Waits for an answer. None: there was none, and the other end is gone.
+    pub fn hear<R: Wait>(&mut self, rt: &R) -> Option<Answer>
+        ensures seat { self.new.seat ≡ self.old.seat }
+        ensures heard { IfSome result (λ answer. Heard self.old.seat self.old.base self.new.base self.old.known answer self.new.known) }
+        ensures none { IfNone result (self.new ≡ self.old) }
+    {
+        match self.line.recv_as::<Takes, R>(rt, &mut self.pass) {
+            Ok(answer) => Some(answer),
+            Err(_) => None,
+        }
+    }
+}
+
+/// The two ends of a seat's line, in which nothing was told. It holds one answer.
+pub fn reply_line(alloc: Global, seat: u16) -> Result<(TellEnd, HearEnd), AllocError>
+    ensures { IfOk result (λ ends. (ends.0 ≡ record { seat = seat; base = None; told = []; gone = false }) × (ends.1 ≡ record { seat = seat; base = None; known = [] })) }
+{
+    reply_line_of::<Brand>(alloc, seat)
+}
+
+fn reply_line_of<W: Whose>(alloc: Global, seat: u16) -> Result<(TellEnd, HearEnd), AllocError>
+    requires { seat ≡ W.seat }
+    ensures { IfOk result (λ ends. (ends.0 ≡ record { seat = seat; base = None; told = []; gone = false }) × (ends.1 ≡ record { seat = seat; base = None; known = [] })) }
+{
+    let (tells, hears, mut pass) = bounded_with::<Answer, ReplyView, Replied, Global>(alloc, 1)?;
+    let hearing = tells.another::<Ends<W>>(&mut pass);
+    Ok((
+        TellEnd {
+            line: tells,
+            pass,
+            gone: false,
+        },
+        HearEnd {
+            line: hears,
+            pass: hearing,
+        },
+    ))
+}

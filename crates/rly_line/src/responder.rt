@@ -1,0 +1,75 @@
+ghost use Rattle.std.specs.Prelude.{◌≡◌, ℕ, ◌∷◌, ◌++◌, [], List, map, IfNone, IfSome};
+ghost use Rattle.std.specs.List.{range_with_len};
+ghost use Rattle.rly_machine.specs.History.{IsAnswered, harm_after, state_after, without_bytes};
+ghost use Rattle.rly_machine.specs.declared.call.Call.{Call};
+ghost use Rattle.rly_line.specs.EndViews.{new_teller};
+ghost use Rattle.rly_line.specs.Responding.{AreLeft, IsResponding};
+
+use crate::line_end::LineEnd;
+use crate::story::{Standing, Story};
+use rly_machine::{Answer, Call};
+use std::marker::Model;
+use std::snapshot::Snapshot;
+use std::sync::Wait;
+
+/// The one thread that answers: its end of all lines, and the history that it made. Contracts see the
+/// calls that were taken, the state that it began in, the history, and what each seat was told.
+#[derive(Drop)]
+pub struct Responder<T: Standing> {
+    line: LineEnd,
+    story: Story<T>,
+}
+
+impl<T: Standing> Model for Responder<T> {
+    ghost use Rattle.rly_line.specs.Responding.{IsResponding, Responding, responding};
+
+    ghost Value = { Responding };
+
+    ghost view = { λ r. responding r.line r.story };
+
+    ghost invariant = { λ r. IsResponding (responding r.line r.story) };
+}
+
+impl<T: Standing> Responder<T> {
+    /// At the end of new lines, in the state that something stands for.
+    pub fn new(line: LineEnd, at: &T) -> Responder<T>
+        requires { (count : ℕ) × (line ≡ record { taken = []; lines = map new_teller (range_with_len 0 count) }) }
+        ensures same { result ≡ record { taken = []; start = T.state at.now; history = []; lines = line.lines } }
+        ensures holds { IsResponding result }
+    {
+        let story = Story::begin(at);
+        Responder { line, story }
+    }
+
+    /// Waits for a call. None: no call was left, and no seat.
+    pub fn wait<R: Wait>(&mut self, rt: &R) -> Option<Call>
+        ensures taken { IfSome result (λ call. self.new ≡ record self.old { taken = self.old.taken ++ call ∷ [] }) }
+        ensures none { IfNone result (self.new ≡ self.old) }
+        ensures holds { IsResponding self.new }
+    {
+        self.line.wait(rt)
+    }
+
+    /// A call that is in the line, if there is one.
+    pub fn more<R: Wait>(&mut self, rt: &R) -> Option<Call>
+        ensures taken { IfSome result (λ call. self.new ≡ record self.old { taken = self.old.taken ++ call ∷ [] }) }
+        ensures none { IfNone result (self.new ≡ self.old) }
+        ensures holds { IsResponding self.new }
+    {
+        self.line.more(rt)
+    }
+
+    /// Answers the first call that was taken and is not answered yet, and adds both to the history. A
+    /// seat that is gone is told nothing.
+    pub fn answer<R: Wait>(&mut self, rt: &R, call: &Snapshot<Call>, answer: Answer)
+        requires next { (left : List Call) × AreLeft self.old (call.now.value ∷ left) }
+        requires answered { IsAnswered without_bytes (harm_after 0 self.old.history) (state_after self.old.start self.old.history) (call.now.value, answer) }
+        ensures taken { self.new.taken ≡ self.old.taken }
+        ensures start { self.new.start ≡ self.old.start }
+        ensures history { self.new.history ≡ self.old.history ++ (call.now.value, answer) ∷ [] }
+        ensures holds { IsResponding self.new }
+    {
+        self.story.push(call, &answer);
+        self.line.tell(rt, answer, &self.story);
+    }
+}

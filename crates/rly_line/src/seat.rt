@@ -1,0 +1,85 @@
+ghost use Rattle.std.specs.Prelude.{◌≡◌, ◌^◌, ◌≤◌, ◌⊎◌, [], None, true, IfErr, IfOk, length};
+
+use crate::call_error::CallError;
+use crate::replies::HearEnd;
+use crate::submission::SubmitEnd;
+use rly_machine::{Answer, Ask, Call, SeatId};
+use std::marker::Model;
+use std::sync::Wait;
+
+/// So many calls a seat makes in its life.
+const MAX_CALLS: u64 = 1 << 52;
+
+/// The place of one caller at the line. Contracts see its number, the calls that it put, the base
+/// state and the history that it knows, and whether it is shut.
+#[derive(Drop)]
+pub struct Seat {
+    seat: SeatId,
+    line: SubmitEnd,
+    replies: HearEnd,
+    calls: u64,
+    is_shut: bool,
+}
+
+impl Model for Seat {
+    ghost use Rattle.rly_line.specs.Seats.{Caller, IsSeated};
+
+    ghost Value = { Caller };
+
+    ghost view = { λ s. record { seat = s.seat; put = s.line.put; base = s.replies.base; known = s.replies.known; shut = s.is_shut } };
+
+    ghost invariant = { λ s. IsSeated s.seat s.line s.replies s.calls s.is_shut };
+}
+
+impl Seat {
+    ghost use Rattle.rly_line.specs.Seats.{Answered, IsClosed, IsUnanswered, new_caller};
+
+    /// A seat at its two ends, of which nothing was asked.
+    pub(crate) fn new(seat: SeatId, line: SubmitEnd, replies: HearEnd) -> Seat
+        requires line { line ≡ record { seat = seat.0; put = [] } }
+        requires replies { replies ≡ record { seat = seat.0; base = None; known = [] } }
+        ensures { result ≡ new_caller seat.0 }
+    {
+        Seat {
+            seat,
+            line,
+            replies,
+            calls: 0,
+            is_shut: false,
+        }
+    }
+
+    /// Its number.
+    pub fn id(&self) -> SeatId
+        ensures { result ≡ self.now.seat }
+    {
+        self.seat
+    }
+
+    /// Asks, and waits for the answer. Closed: the call was not put, and is handed back. Lost: it was
+    /// put, no answer came, and each later call is Closed; so it is after 2^52 calls.
+    pub fn call<R: Wait>(&mut self, rt: &R, ask: Ask) -> Result<Answer, CallError>
+        ensures ok { IfOk result (λ answer. Answered self.old ask answer self.new) }
+        ensures err { IfErr result (λ error. IsUnanswered self.old ask error self.new) }
+        ensures shut { (self.old.shut ≡ true) ⊎ (2 ^ 52 ≤ length self.old.put) → IsClosed result }
+    {
+        if self.is_shut || self.calls >= MAX_CALLS {
+            return Err(CallError::Closed(ask));
+        }
+        let number = self.calls + 1;
+        let call = Call {
+            seat: self.seat,
+            number,
+            ask,
+        };
+        if let Err(back) = self.line.put(rt, call) {
+            return Err(CallError::Closed(back.ask));
+        }
+        self.calls = number;
+        let Some(answer) = self.replies.hear(rt) else {
+            self.is_shut = true;
+            return Err(CallError::Lost);
+        };
+        Ok(answer)
+    }
+}

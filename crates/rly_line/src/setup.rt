@@ -1,0 +1,34 @@
+ghost use Rattle.std.specs.Prelude.{◌≡◌, ◌<◌, ◌≤◌, [], map, IfOk};
+ghost use Rattle.std.specs.List.{range_with_len};
+ghost use Rattle.rly_line.specs.EndViews.{new_teller};
+ghost use Rattle.rly_line.specs.Seats.{new_caller};
+
+use crate::line_end::LineEnd;
+use crate::replies::reply_line;
+use crate::seat::Seat;
+use crate::submission::Line;
+use rly_machine::SeatId;
+use std::alloc::{AllocError, Global};
+
+/// A line of that capacity, with so many seats and its other end: 1 to 256 each. Each seat is answered
+/// in a line of its own, which holds one answer.
+pub fn make(alloc: Global, capacity: u16, seats: u16) -> Result<(Vec<Seat>, LineEnd), AllocError>
+    requires capacity { (1 ≤ capacity) × (capacity ≤ 256) }
+    requires seats { (1 ≤ seats) × (seats ≤ 256) }
+    ensures seats { IfOk result (λ made. made.0.items ≡ map new_caller (range_with_len 0 seats)) }
+    ensures end { IfOk result (λ made. made.1 ≡ record { taken = []; lines = map new_teller (range_with_len 0 seats) }) }
+{
+    let mut line = Line::new(alloc, capacity as usize)?;
+    let mut made = Vec::with_capacity(alloc, seats as usize)?;
+    let mut replies = Vec::with_capacity(alloc, seats as usize)?;
+    for number in 0..seats {
+        let (tells, hears) = reply_line(alloc, number)?;
+        let puts = line.seat()?;
+        let seat = Seat::new(SeatId(number), puts, hears);
+        replies.push_reserved(tells);
+        made.push_reserved(seat);
+    }
+    let calls = line.into_end();
+    let end = LineEnd::new(calls, replies);
+    Ok((made, end))
+}

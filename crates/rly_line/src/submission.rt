@@ -1,0 +1,212 @@
+//! The line that calls go into.
+
+ghost use Rattle.std.specs.Prelude.{◌≡◌, ◌+◌, ◌∷◌, ◌++◌, ◌<◌, [], length, IfErr, IfNone, IfOk, IfSome, OnErr, OnOk};
+ghost use Rattle.crossbeam_channel.specs.Claims.{view, IsSeatAt};
+ghost use Rattle.crossbeam_channel.specs.Ends.{sends_on, receives_on};
+ghost use Rattle.rly_line.specs.Submission.{IsNext};
+
+use crossbeam_channel::protocol::{Lesson, Outcome, Protocol, Split};
+use crossbeam_channel::{Pass, RuledReceiver, RuledSender, bounded_with};
+use rly_machine::Call;
+use std::alloc::{AllocError, Global};
+use std::collections::LinkedList;
+use std::marker::Model;
+use std::sync::Wait;
+
+/// What a pass knows of the line. No value of it is made.
+pub struct LineView {
+    /// Whether it is a seat's.
+    pub puts: bool,
+    /// Which seat's.
+    pub seat: u64,
+    /// The calls that the seat put.
+    pub put: LinkedList<Call>,
+    /// Whether it is that of the end that takes calls.
+    pub takes: bool,
+    /// How many seats there are.
+    pub seats: u64,
+    /// The calls that were taken.
+    pub taken: LinkedList<Call>,
+}
+
+/// The rule of the line.
+pub struct Lined;
+
+impl Protocol<Call, LineView> for Lined {
+    ghost use Rattle.std.specs.Prelude.{[]};
+    ghost use Rattle.rly_line.specs.Submission as submission;
+
+    ghost holds = { submission.Lined };
+
+    ghost first = { submission.taking 0 [] };
+}
+
+/// A pass of a new seat is cut from the one that takes.
+pub struct Seats;
+
+impl Split<LineView> for Seats {
+    ghost use Rattle.std.specs.Prelude.{◌+◌, []};
+    ghost use Rattle.rly_line.specs.Submission.{putting};
+
+    ghost left = { λ v. record v { seats = v.seats + 1 } };
+
+    ghost right = { λ v. putting v.seats [] };
+}
+
+/// A seat puts a call.
+pub struct Puts;
+
+impl Outcome<Call, LineView> for Puts {
+    ghost use Rattle.std.specs.Prelude.{◌≡◌, ◌∷◌, ◌++◌, []};
+
+    ghost then = { λ v call w. w ≡ record v { put = v.put ++ call ∷ [] } };
+}
+
+impl Lesson<Call, LineView> for Puts {
+    ghost fact = { λ v calls. Unit {0} };
+}
+
+/// A call is taken.
+pub struct Takes;
+
+impl Outcome<Call, LineView> for Takes {
+    ghost use Rattle.std.specs.Prelude.{◌≡◌, ◌∷◌, ◌++◌, []};
+    ghost use Rattle.rly_line.specs.Submission.{IsNext};
+
+    ghost then = { λ v call w. (w ≡ record v { taken = v.taken ++ call ∷ [] }) × IsNext (record { seats = v.seats; taken = v.taken }) call };
+}
+
+impl Lesson<Call, LineView> for Takes {
+    ghost fact = { λ v calls. Unit {0} };
+}
+
+/// The whole line, while seats are given out. Contracts see it as the end that takes calls.
+#[derive(Drop)]
+pub struct Line {
+    puts: RuledSender<Call, LineView, Lined>,
+    takes: RuledReceiver<Call, LineView, Lined>,
+    pass: Pass<Call, LineView>,
+}
+
+impl Model for Line {
+    ghost use Rattle.std.specs.Prelude.{◌≡◌, true};
+    ghost use Rattle.crossbeam_channel.specs.Claims.{view as pass_view, IsSeatAt};
+    ghost use Rattle.crossbeam_channel.specs.Ends.{receives_on, sends_on};
+    ghost use Rattle.rly_line.specs.Submission.{Taker};
+
+    ghost Value = { Taker };
+
+    ghost view = { λ l. record { seats = (pass_view l.pass).seats; taken = (pass_view l.pass).taken } };
+
+    ghost invariant = { λ l. IsSeatAt (sends_on l.puts) l.pass × ((pass_view l.pass).takes ≡ true) × (receives_on l.takes ≡ sends_on l.puts) };
+}
+
+impl Line {
+    /// A line with no seat.
+    pub fn new(alloc: Global, capacity: usize) -> Result<Line, AllocError>
+        requires { 0 < capacity }
+        ensures { IfOk result (λ line. line ≡ record { seats = 0; taken = [] }) }
+    {
+        let (puts, takes, pass) = bounded_with::<Call, LineView, Lined, Global>(alloc, capacity)?;
+        Ok(Line { puts, takes, pass })
+    }
+
+    /// One more seat's end.
+    pub fn seat(&mut self) -> Result<SubmitEnd, AllocError>
+        ensures ok { IfOk result (λ end. (end ≡ record { seat = self.old.seats; put = [] }) × (self.new ≡ record self.old { seats = self.old.seats + 1 })) }
+        ensures err { OnErr result (self.new ≡ self.old) }
+    {
+        let line = self.puts.try_clone()?;
+        let pass = line.another::<Seats>(&mut self.pass);
+        Ok(SubmitEnd { line, pass })
+    }
+
+    /// The end that takes calls. No seat is given out any more.
+    pub fn into_end(self) -> TakeEnd
+        ensures { result ≡ self }
+    {
+        TakeEnd {
+            line: self.takes,
+            pass: self.pass,
+        }
+    }
+}
+
+/// A seat's end of the line. Contracts see the seat's number and the calls that it put.
+#[derive(Drop)]
+pub struct SubmitEnd {
+    line: RuledSender<Call, LineView, Lined>,
+    pass: Pass<Call, LineView>,
+}
+
+impl Model for SubmitEnd {
+    ghost use Rattle.std.specs.Prelude.{◌≡◌, true};
+    ghost use Rattle.crossbeam_channel.specs.Claims.{view as pass_view, IsSeatAt};
+    ghost use Rattle.crossbeam_channel.specs.Ends.{sends_on};
+    ghost use Rattle.rly_line.specs.Submission.{Putter};
+
+    ghost Value = { Putter };
+
+    ghost view = { λ e. record { seat = (pass_view e.pass).seat; put = (pass_view e.pass).put } };
+
+    ghost invariant = { λ e. IsSeatAt (sends_on e.line) e.pass × ((pass_view e.pass).puts ≡ true) };
+}
+
+impl SubmitEnd {
+    /// Puts the seat's next call. Where the other end is gone, it hands the call back.
+    pub fn put<R: Wait>(&mut self, rt: &R, call: Call) -> Result<(), Call>
+        requires seat { call.seat.0 ≡ self.old.seat }
+        requires number { call.number ≡ length self.old.put + 1 }
+        ensures put { OnOk result (self.new ≡ record self.old { put = self.old.put ++ call ∷ [] }) }
+        ensures back { IfErr result (λ back. (back ≡ call) × (self.new ≡ self.old)) }
+    {
+        match self.line.send_as::<Puts, R>(rt, &mut self.pass, call) {
+            Ok(()) => Ok(()),
+            Err(error) => Err(error.into_inner()),
+        }
+    }
+}
+
+/// The end of the line that takes calls. Contracts see how many seats there are, and the calls taken.
+#[derive(Drop)]
+pub struct TakeEnd {
+    line: RuledReceiver<Call, LineView, Lined>,
+    pass: Pass<Call, LineView>,
+}
+
+impl Model for TakeEnd {
+    ghost use Rattle.std.specs.Prelude.{◌≡◌, true};
+    ghost use Rattle.crossbeam_channel.specs.Claims.{view as pass_view, IsSeatAt};
+    ghost use Rattle.crossbeam_channel.specs.Ends.{receives_on};
+    ghost use Rattle.rly_line.specs.Submission.{Taker};
+
+    ghost Value = { Taker };
+
+    ghost view = { λ e. record { seats = (pass_view e.pass).seats; taken = (pass_view e.pass).taken } };
+
+    ghost invariant = { λ e. IsSeatAt (receives_on e.line) e.pass × ((pass_view e.pass).takes ≡ true) };
+}
+
+impl TakeEnd {
+    /// Waits for a call. None: no call was left, and no seat.
+    pub fn wait<R: Wait>(&mut self, rt: &R) -> Option<Call>
+        ensures taken { IfSome result (λ call. (self.new ≡ record self.old { taken = self.old.taken ++ call ∷ [] }) × IsNext self.old call) }
+        ensures none { IfNone result (self.new ≡ self.old) }
+    {
+        match self.line.recv_as::<Takes, R>(rt, &mut self.pass) {
+            Ok(call) => Some(call),
+            Err(_) => None,
+        }
+    }
+
+    /// A call that is in the line, if there is one.
+    pub fn more<R: Wait>(&mut self, rt: &R) -> Option<Call>
+        ensures taken { IfSome result (λ call. (self.new ≡ record self.old { taken = self.old.taken ++ call ∷ [] }) × IsNext self.old call) }
+        ensures none { IfNone result (self.new ≡ self.old) }
+    {
+        match self.line.try_recv_as::<Takes, R>(rt, &mut self.pass) {
+            Ok(call) => Some(call),
+            Err(_) => None,
+        }
+    }
+}

@@ -1,0 +1,144 @@
+ghost use Rattle.std.specs.Prelude.{◌≡◌, ◌⊎◌};
+ghost use Rattle.rly_machine.specs.Ask.{ask_step};
+ghost use Rattle.rly_machine.specs.History.{IsAnswered, harm, next_state, without_bytes};
+ghost use Rattle.rly_line.specs.Responding.{IsInStep};
+
+use crate::{CallError, Responder, Seat, make};
+use rly_core::{HopId, Params, PeerId, Refusal};
+use rly_machine::{Answer, Ask, Call, Command, Machine, Payload, Query, Reply};
+use std::alloc::Global;
+use std::snapshot::Snapshot;
+use std::sync::Wait;
+use std::test::Fail;
+use std::thread;
+
+/// A command's reply is the machine's; a query is refused.
+fn reply_to(alloc: Global, machine: &mut Machine<Payload>, ask: Ask) -> Reply
+    ensures { ((result ≡ Reply.Refused Refusal.OutOfMemory) × (machine.new.state ≡ machine.old.state))
+        ⊎ ((result ≡ (ask_step machine.old.state ask).1) × (machine.new.state ≡ (ask_step machine.old.state ask).0)) }
+{
+    match ask {
+        Ask::Command(command) => match machine.reserve_for(alloc, &command) {
+            Ok(room) => machine.apply(command, room),
+            Err(_) => Reply::Refused(Refusal::OutOfMemory),
+        },
+        Ask::Query(_) => Reply::Refused(Refusal::OutOfMemory),
+    }
+}
+
+fn evaluate(alloc: Global, machine: &mut Machine<Payload>, call: Call) -> Answer
+    ensures answered { IsAnswered without_bytes 0 machine.old.state (call, result) }
+    ensures state { machine.new.state ≡ next_state machine.old.state (call, result) }
+    ensures harmless { harm result.reply ≡ 0 }
+{
+    let Call { seat, number, ask } = call;
+    let reply = reply_to(alloc, machine, ask);
+    let position = machine.seq();
+    Answer {
+        seat,
+        number,
+        reply,
+        position,
+    }
+}
+
+/// Waits for one call and answers it. False: all seats are gone.
+fn answer_one<R: Wait>(
+    rt: &R,
+    alloc: Global,
+    machine: &mut Machine<Payload>,
+    calls: &mut Responder<Machine<Payload>>,
+) -> bool
+    requires { IsInStep machine.old.state calls.old }
+    ensures { IsInStep machine.new.state calls.new }
+{
+    let Some(call) = calls.wait(rt) else {
+        return false;
+    };
+    let said = Snapshot::of(&call);
+    let answer = evaluate(alloc, machine, call);
+    calls.answer(rt, &said, answer);
+    true
+}
+
+/// The reply to `take 1 1 1 0 41`, asked at a seat.
+fn take_at<R: Wait>(rt: &R, alloc: Global, seat: &mut Seat) -> Option<Reply> {
+    let payload = Payload::new(b"A".to_vec(alloc).ok()?);
+    let take = Command::Take {
+        peer: PeerId(1),
+        number: 1,
+        hop: HopId(1),
+        stamp: 0,
+        payload,
+    };
+    let answer = seat.call(rt, Ask::Command(take)).ok()?;
+    Some(answer.reply)
+}
+
+fn window() -> Ask {
+    Ask::Query(Query::Window { hop: HopId(1) })
+}
+
+/// Two seats, each in a thread of its own. The second asks after the first was answered.
+#[test]
+fn line_row_2(rt: HostRuntime) -> Result<(), Fail> {
+    let alloc = rt.alloc();
+    let mut machine: Machine<Payload> = Machine::new(alloc, Params::DEFAULT)?;
+    let (mut seats, line) = make(alloc, 4, 2)?;
+    let mut calls = Responder::new(line, &machine);
+    let mut second = seats.pop().ok_or("two seats")?;
+    let mut first = seats.pop().ok_or("two seats")?;
+    assert_eq!(rt; (first.id().0, second.id().0), (0, 1));
+    let asking = thread::spawn(&rt, move || take_at(&rt, alloc, &mut first))
+        .ok()
+        .ok_or("a thread")?;
+    assert!(rt; answer_one(&rt, alloc, &mut machine, &mut calls));
+    let reply = asking.join(&rt).ok_or("the first is answered")?;
+    assert!(rt; matches!(&reply, Reply::Taken(1)), "{reply:?}");
+    let asking = thread::spawn(&rt, move || take_at(&rt, alloc, &mut second))
+        .ok()
+        .ok_or("a thread")?;
+    assert!(rt; answer_one(&rt, alloc, &mut machine, &mut calls));
+    let reply = asking.join(&rt).ok_or("the second is answered")?;
+    assert!(rt; matches!(&reply, Reply::Already(1)), "{reply:?}");
+    assert!(rt; !answer_one(&rt, alloc, &mut machine, &mut calls));
+    Ok(())
+}
+
+/// Where the other end is gone, a call is handed back.
+#[test]
+fn nobody_answers(rt: HostRuntime) -> Result<(), Fail> {
+    let (mut seats, line) = make(rt.alloc(), 1, 1)?;
+    let mut seat = seats.pop().ok_or("a seat")?;
+    drop(line);
+    match seat.call(&rt, window()) {
+        Err(CallError::Closed(Ask::Query(query))) => {
+            assert_eq!(rt; query, Query::Window { hop: HopId(1) });
+        }
+        other => panic!(rt; "{other:?}"),
+    }
+    Ok(())
+}
+
+/// A call that is taken and never answered is lost, and the seat is shut from then on.
+#[test]
+fn an_answer_is_lost(rt: HostRuntime) -> Result<(), Fail> {
+    let (mut seats, mut line) = make(rt.alloc(), 1, 1)?;
+    let mut seat = seats.pop().ok_or("a seat")?;
+    let asking = thread::spawn(&rt, move || {
+        let first = seat.call(&rt, window());
+        let second = seat.call(&rt, window());
+        (
+            matches!(&first, Err(CallError::Lost)),
+            matches!(&second, Err(CallError::Closed(_))),
+        )
+    })
+    .ok()
+    .ok_or("a thread")?;
+    let call = line.wait(&rt).ok_or("a call")?;
+    assert_eq!(rt; (call.seat.0, call.number), (0, 1));
+    assert!(rt; line.more(&rt).is_none());
+    drop(line);
+    assert_eq!(rt; asking.join(&rt), (true, true));
+    Ok(())
+}

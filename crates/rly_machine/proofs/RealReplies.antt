@@ -1,0 +1,146 @@
+-- No reply of the machine is a failure, and a command changes the state only where its reply says that it was accepted.
+use Rattle.std.proofs.Common.{ℕ, ◌≡◌, ◌+◌, ◌-◌, ◌^◌, ◌||◌, not, map, take, drop, Bool, true, false, true≢false, cond, List, [], ◌∷◌, Option, Some, None, Result, Ok, Err, length, refl, sym, ◌∙◌}
+use Rattle.std.specs.Prelude.{nat_eq, nat_le, nat_lt, slice_get}
+use Rattle.std.specs.Option.{ok_or}
+use Rattle.std.proofs.lemmas.Bool.{or_parts}
+use Rattle.rly_core.specs.declared.refusal.Refusal.{Refusal}
+use Rattle.rly_core.specs.declared.refusal.Refusal.TheVariants.{Broken, Unsure, NoSuchPeer, NoSuchHop, BadMoment, Gap, TooLong, Full, WindowFull, Empty, NeverSent, NotInFlight, Spent}
+use Rattle.rly_core.specs.declared.ids.HopId.{HopId}
+use Rattle.rly_core.specs.declared.ids.PeerId.{PeerId}
+use Rattle.rly_machine.specs.declared.command.Ask.{Ask}
+use Rattle.rly_machine.specs.declared.command.Ask.TheVariants as ask
+use Rattle.rly_machine.specs.declared.command.Command.{Command}
+use Rattle.rly_machine.specs.declared.command.Command.TheVariants.{Take, Pick, Release}
+use Rattle.rly_machine.specs.declared.command.Query.{Query}
+use Rattle.rly_machine.specs.declared.command.Query.TheVariants.{Fetch, Window, Show}
+use Rattle.rly_machine.specs.declared.hop.Item.{Item}
+use Rattle.rly_machine.specs.declared.reply.Reply.{Reply}
+use Rattle.rly_machine.specs.declared.reply.Reply.TheVariants.{Already, Refused, Shown, Unchanged, WindowIs}
+use Rattle.rly_machine.specs.State.{HopState, State, has_hop, has_peer, hop_at, last_at, next_number}
+use Rattle.rly_machine.specs.Accepted.{is_accepted, max_seq, unless}
+use Rattle.rly_machine.specs.Take.{is_full, take_refusal}
+use Rattle.rly_machine.specs.Pick.{is_idle, outcome_of, pick_refusal, pick_reply, picked_reply}
+use Rattle.rly_machine.specs.Release.{covered, release_refusal}
+use Rattle.rly_machine.specs.Step.{step}
+use Rattle.rly_machine.specs.Query.{fetched, item_of, query_reply, status_of}
+use Rattle.rly_machine.specs.Ask.{ask_step}
+use Rattle.rly_machine.specs.History.{is_failure, harm}
+
+-- a check's reply is no failure, and no acceptance
+abbrev Refuses : Option Reply → Type 0
+Refuses None = Unit {0}
+Refuses (Some reply) = is_failure reply || is_accepted reply ≡ false
+
+record Checks (o : Option Reply) : Type 0 where
+  refuses : Refuses o
+
+-- a row of checks
+row : (b : Bool) (reply : Reply) (rest : Option Reply) → is_failure reply || is_accepted reply ≡ false → Checks rest → Checks (cond b (Some reply) rest)
+row true reply rest this others = record { refuses = this }
+row false reply rest this others = others
+
+passes : Checks None
+passes = record { refuses = tt }
+
+checks_take : {P : Type 0} (len : P → ℕ) (s : State P) (peer : PeerId) (number : ℕ) (hop : HopId) (stamp bytes : ℕ) → Checks (take_refusal len s peer number hop stamp bytes)
+checks_take len s peer number hop stamp bytes =
+    row (not (has_peer s peer)) (Refused NoSuchPeer) _ refl (row (not (has_hop s hop)) (Refused NoSuchHop) _ refl (row (nat_le (2 ^ 52) stamp) (Refused BadMoment) _ refl
+    (row (nat_lt 1200 bytes) (Refused TooLong) _ refl (row (nat_le number (last_at s peer)) (Already (last_at s peer)) _ refl
+    (row (nat_lt (last_at s peer + 1) number) (Refused (Gap (last_at s peer + 1))) _ refl (row (is_full len s bytes) (Refused Full) _ refl
+    (row (nat_le max_seq s.seq) (Refused Spent) _ refl passes)))))))
+
+checks_pick : {P : Type 0} (s : State P) (hop : HopId) (now : ℕ) → Checks (pick_refusal s hop now)
+checks_pick s hop now =
+    row (not (has_hop s hop)) (Refused NoSuchHop) _ refl (row (nat_le (2 ^ 52) now) (Refused BadMoment) _ refl
+    (row (nat_le s.params.window (length (hop_at s hop).flight)) (Refused WindowFull) _ refl (row (is_idle (hop_at s hop)) (Refused Empty) _ refl
+    (row (nat_le max_seq s.seq) (Refused Spent) _ refl passes))))
+
+checks_release : {P : Type 0} (s : State P) (hop : HopId) (number : ℕ) → Checks (release_refusal s hop number)
+checks_release s hop number =
+    row (not (has_hop s hop)) (Refused NoSuchHop) _ refl (row (nat_le (next_number (hop_at s hop)) number) (Refused NeverSent) _ refl
+    (row (nat_eq (covered (hop_at s hop) number) 0) Unchanged _ refl (row (nat_le max_seq s.seq) (Refused Spent) _ refl passes)))
+
+-- what a step comes to: a check's reply and the state as it was, or an accepted command's
+record Comes {P : Type 0} (s : State P) (after : State P × Reply) : Type 0 where
+  real : is_failure after.1 ≡ false
+  stays : is_accepted after.1 ≡ false → after.0 ≡ s
+  counts : is_accepted after.1 ≡ true → after.0.seq ≡ s.seq + 1
+
+comes : {P : Type 0} (o : Option Reply) (s : State P) (accepted : State P × Reply) → Checks o
+    → is_failure accepted.1 ≡ false → is_accepted accepted.1 ≡ true → accepted.0.seq ≡ s.seq + 1 → Comes s (unless o s accepted)
+comes None s accepted checks real accepts seq = record { real = real; stays = λ refuses. absurd (true≢false (sym accepts ∙ refuses)); counts = λ _. seq }
+comes (Some reply) s accepted checks real accepts seq =
+    let both = or_parts (is_failure reply) (is_accepted reply) checks.refuses in
+    record { real = both.0; stays = λ _. refl; counts = λ accept. absurd (true≢false (sym accept ∙ both.1)) }
+
+picked_real : {P : Type 0} (number : ℕ) (dropped : List ℕ) (items : List (Item P)) → is_failure (picked_reply number dropped items) ≡ false
+picked_real number dropped [] = refl
+picked_real number dropped (item ∷ items) = refl
+
+picked_counts : {P : Type 0} (number : ℕ) (dropped : List ℕ) (items : List (Item P)) → is_accepted (picked_reply number dropped items) ≡ true
+picked_counts number dropped [] = refl
+picked_counts number dropped (item ∷ items) = refl
+
+pick_real : {P : Type 0} (h : HopState P) (count : ℕ) → is_failure (pick_reply h count) ≡ false
+pick_real {P} h count = picked_real (next_number h) (map (λ (item : Item P). item.id) (take count h.queue)) (drop count h.queue)
+
+pick_counts : {P : Type 0} (h : HopState P) (count : ℕ) → is_accepted (pick_reply h count) ≡ true
+pick_counts {P} h count = picked_counts (next_number h) (map (λ (item : Item P). item.id) (take count h.queue)) (drop count h.queue)
+
+step_comes : {P : Type 0} (len : P → ℕ) (s : State P) (command : Command P) → Comes s (step len s command)
+step_comes len s (Take peer number hop stamp payload) = comes (take_refusal len s peer number hop stamp (len payload)) s _ (checks_take len s peer number hop stamp (len payload)) refl refl refl
+step_comes len s (Pick hop now) =
+    comes (pick_refusal s hop now) s _ (checks_pick s hop now) (pick_real (hop_at s hop) (outcome_of len s.params (hop_at s hop) now).dropped)
+    (pick_counts (hop_at s hop) (outcome_of len s.params (hop_at s hop) now).dropped) refl
+step_comes len s (Release hop number) = comes (release_refusal s hop number) s _ (checks_release s hop number) refl refl refl
+
+-- a command that was not accepted leaves the state
+pub unaccepted : {P : Type 0} (len : P → ℕ) (s : State P) (command : Command P) → is_accepted (step len s command).1 ≡ false → (step len s command).0 ≡ s
+unaccepted len s command = (step_comes len s command).stays
+
+-- one that was adds one to the count
+pub counted : {P : Type 0} (len : P → ℕ) (s : State P) (command : Command P) → is_accepted (step len s command).1 ≡ true → (step len s command).0.seq ≡ s.seq + 1
+counted len s command = (step_comes len s command).counts
+
+abbrev Fetches : {P : Type 0} → Result (Item P) Refusal → Type 0
+Fetches (Ok item) = Unit {0}
+Fetches (Err refusal) = is_failure (Refused refusal) ≡ false
+
+record RealFetch {P : Type 0} (r : Result (Item P) Refusal) : Type 0 where
+  fetches : Fetches r
+
+fetched_real : (r : Result (Item (List ℕ)) Refusal) → RealFetch r → is_failure (fetched r) ≡ false
+fetched_real (Ok item) real = refl
+fetched_real (Err refusal) real = real.fetches
+
+fetch_row : {P : Type 0} (b : Bool) (refusal : Refusal) (rest : Result (Item P) Refusal) → is_failure (Refused refusal) ≡ false → RealFetch rest → RealFetch (cond b (Err refusal) rest)
+fetch_row true refusal rest real others = record { fetches = real }
+fetch_row false refusal rest real others = others
+
+fetch_end : {P : Type 0} (o : Option (Item P)) → RealFetch (ok_or o NotInFlight)
+fetch_end None = record { fetches = refl }
+fetch_end (Some item) = record { fetches = tt }
+
+real_cond : (b : Bool) (x y : Reply) → is_failure x ≡ false → is_failure y ≡ false → is_failure (cond b x y) ≡ false
+real_cond true x y real others = real
+real_cond false x y real others = others
+
+real_query : (s : State (List ℕ)) (query : Query) → is_failure (query_reply s query) ≡ false
+real_query s (Fetch hop number) = fetched_real (item_of s hop number)
+    (fetch_row (not (has_hop s hop)) NoSuchHop _ refl (fetch_row (nat_le (next_number (hop_at s hop)) number) NeverSent _ refl
+    (fetch_row (nat_le number (hop_at s hop).released) NotInFlight _ refl (fetch_end (slice_get (hop_at s hop).flight (number - (hop_at s hop).released - 1))))))
+real_query s (Window hop) =
+    let h = hop_at s hop in
+    real_cond (has_hop s hop) (WindowIs (cond (nat_eq (length h.flight) 0) (next_number h) (h.released + 1)) (next_number h)) (Refused NoSuchHop) refl refl
+real_query s (Show hop) = real_cond (has_hop s hop) (Shown (status_of (hop_at s hop))) (Refused NoSuchHop) refl refl
+
+-- no reply to an ask is a failure
+pub real_reply : (s : State (List ℕ)) (an : Ask) → is_failure (ask_step s an).1 ≡ false
+real_reply s (ask.Command command) = (step_comes length s command).real
+real_reply s (ask.Query query) = real_query s query
+
+-- what is no failure tells of no harm
+pub harmless : (reply : Reply) → is_failure reply ≡ false → harm reply ≡ 0
+harmless (Refused Broken) real = absurd (true≢false real)
+harmless (Refused Unsure) real = absurd (true≢false real)
+harmless _ real = refl

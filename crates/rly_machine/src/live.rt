@@ -1,0 +1,33 @@
+ghost use Rattle.std.specs.Prelude.{◌≡◌, ◌<◌, ◌^◌, length, map, sum_by};
+ghost use Rattle.rly_machine.specs.Kept.{hop_of};
+ghost use Rattle.rly_machine.specs.State.{bytes_of, live_line};
+
+use crate::content::Content;
+use crate::hop::Hop;
+
+/// What hops keep, in flight and waiting.
+#[derive(Clone, Copy, Debug, PartialEq, Eq)]
+pub(crate) struct Live {
+    /// How many datagrams.
+    pub(crate) items: u64,
+    /// How many payload bytes those have.
+    pub(crate) bytes: u64,
+}
+
+impl Live {
+    /// Counts it.
+    pub(crate) fn of<C: Content>(hops: &[Hop<C>]) -> Live
+        requires items { sum_by (λ h. length (live_line h)) (map hop_of hops.now) < 2 ^ 64 }
+        requires bytes { sum_by (λ h. bytes_of C.length_of (live_line h)) (map hop_of hops.now) < 2 ^ 64 }
+        ensures items { result.items ≡ sum_by (λ h. length (live_line h)) (map hop_of hops.now) }
+        ensures bytes { result.bytes ≡ sum_by (λ h. bytes_of C.length_of (live_line h)) (map hop_of hops.now) }
+    {
+        let mut items = 0;
+        let mut bytes = 0;
+        for hop in hops {
+            items += hop.live_items();
+            bytes += hop.live_bytes();
+        }
+        Live { items, bytes }
+    }
+}

@@ -1,0 +1,20 @@
+-- How long segments have to be, and when the next one is due (docs/DEFINITIONS.md, "Room").
+use Rattle.std.specs.Prelude.{ℕ, ◌+◌, ◌*◌, ◌/◌, ◌-◌, ◌<◌, ◌≤◌}
+use Rattle.rly_core.specs.declared.params.Geometry.{Geometry}
+
+-- the bytes of the largest group, 64 Takes of 1,200 bytes with its gate, and one gate more
+abbrev pub group_room : ℕ
+group_room = 78280
+
+-- the least length of a device's segments
+abbrev pub least_length : Geometry → ℕ
+least_length g =
+    21 + 8 * g.params.peers + 71 * g.params.hops + 27 * g.params.items + g.params.bytes / (g.segments - 1) + group_room
+
+-- the segments are long enough: a head and the largest group behind it always find room in one
+abbrev pub Fits : Geometry → Type 0
+Fits g = least_length g ≤ g.length
+
+-- the largest group has no room behind so many bytes of a segment: before a round that holds a command, a new segment is opened
+abbrev pub IsDue : Geometry → ℕ → Type 0
+IsDue g offset = g.length < offset + group_room

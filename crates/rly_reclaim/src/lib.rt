@@ -1,0 +1,11 @@
+//! How a journal finds room in its segments: how long they have to be, and when the next one is due.
+//!
+//! `specs/Room.antt` says both (docs/DEFINITIONS.md, "Room"). It takes no memory and no handle; the
+//! segment and the journal call it.
+#![tactic(auto)]
+
+mod room;
+#[cfg(test)]
+mod tests;
+
+pub use crate::room::{GROUP_ROOM, fits, is_due, least_length};

@@ -1,0 +1,54 @@
+ghost use Rattle.std.specs.Prelude.{◌≡◌, ◌↔◌, ◌+◌, ◌<◌, ◌^◌, IsTrue};
+ghost use Rattle.rly_core.specs.Bounds.{IsIn};
+ghost use Rattle.rly_core.specs.Limits.{IsWithinLimits};
+ghost use Rattle.rly_reclaim.specs.Room.{Fits, IsDue, least_length};
+
+use rly_core::Geometry;
+
+/// The bytes of the largest group, 64 Takes of 1,200 bytes with its gate, and one gate more.
+pub const GROUP_ROOM: u64 = 78_280;
+
+/// The bytes of a head besides what its peers, hops and items take: its gate, generation and
+/// length, and the count of accepted commands.
+const HEAD_BYTES: u64 = 21;
+
+/// The bytes of a peer in a head.
+const PEER_BYTES: u64 = 8;
+
+/// The bytes of a hop in a head, without its items.
+const HOP_BYTES: u64 = 71;
+
+/// The bytes of an item in a head whose payload stands in another segment.
+const ITEM_BYTES: u64 = 27;
+
+/// The least length of the segments of a device, in bytes.
+pub fn least_length(geometry: &Geometry) -> u64
+    requires params { IsWithinLimits geometry.now.params }
+    requires segments { IsIn 2 256 geometry.now.segments }
+    ensures { result ≡ least_length geometry.now }
+{
+    let params = &geometry.params;
+    HEAD_BYTES
+        + PEER_BYTES * params.peers
+        + HOP_BYTES * params.hops
+        + ITEM_BYTES * params.items
+        + params.bytes / (geometry.segments - 1)
+        + GROUP_ROOM
+}
+
+/// Whether the segments are long enough for every head, with the largest group behind it.
+pub fn fits(geometry: &Geometry) -> bool
+    requires params { IsWithinLimits geometry.now.params }
+    requires segments { IsIn 2 256 geometry.now.segments }
+    ensures { IsTrue result ↔ Fits geometry.now }
+{
+    least_length(geometry) <= geometry.length
+}
+
+/// Whether the largest group has no room behind so many bytes of a segment.
+pub fn is_due(geometry: &Geometry, offset: u64) -> bool
+    requires { offset + GROUP_ROOM < 2 ^ 64 }
+    ensures { IsTrue result ↔ IsDue geometry.now offset }
+{
+    geometry.length < offset + GROUP_ROOM
+}

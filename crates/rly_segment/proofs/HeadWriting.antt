@@ -1,0 +1,64 @@
+-- A head as bytes.
+use Rattle.std.proofs.Common.{◌≡◌, ◌≤◌, ◌+◌, ◌*◌, ◌++◌, ◌∙◌, ℕ, zero, suc, List, [], ◌∷◌, length, replicate, arith, ap, refl, length-append}
+use Rattle.std.specs.List.{flat_map}
+use Rattle.byteorder.specs.Endian.{big_bytes}
+use Rattle.rly_core.specs.declared.params.Params.{Params}
+use Rattle.rly_machine.specs.State.{State, new_hop, new_state}
+use Rattle.rly_checkpoint.specs.Checkpoint.{checkpoint_of, codel_of, hop_bytes}
+use Rattle.rly_core.specs.declared.params.Geometry.{Geometry}
+use Rattle.rly_segment.specs.Device.{IsGeometry}
+use Rattle.rly_segment.specs.Heads.{IsHead, head_of}
+
+-- how long a head is
+pub length-head : (generation : ℕ) (s : State (List ℕ)) → length (head_of generation s ++ 0 ∷ []) ≡ 13 + length (checkpoint_of s)
+unfolding head_of
+length-head generation s =
+    omega (
+      arith,
+      length-append (head_of generation s) (0 ∷ []),
+      length-append (big_bytes 8 generation ++ big_bytes 4 (length (checkpoint_of s))) (checkpoint_of s),
+      length-append (big_bytes 8 generation) (big_bytes 4 (length (checkpoint_of s))),
+    )
+
+-- a head from its parts
+pub head_parts : (generation n : ℕ) (s : State (List ℕ)) (body fields : List ℕ) → body ≡ checkpoint_of s → n ≡ length body → fields ≡ big_bytes 8 generation ++ big_bytes 4 n
+    → (fields ++ body) ++ 0 ∷ [] ≡ head_of generation s ++ 0 ∷ []
+unfolding head_of
+head_parts generation n s body fields is_body count is_fields =
+    ap (λ l. (l ++ body) ++ 0 ∷ []) is_fields
+    ∙ ap (λ k. ((big_bytes 8 generation ++ big_bytes 4 k) ++ body) ++ 0 ∷ []) count
+    ∙ ap (λ l. ((big_bytes 8 generation ++ big_bytes 4 (length l)) ++ l) ++ 0 ∷ []) is_body
+
+-- the bytes of numbers that are all 0
+length-lasts : (n : ℕ) → length (flat_map (big_bytes 8) (replicate n 0)) ≡ 8 * n
+length-lasts zero = refl
+length-lasts (suc n) = omega (arith, length-append (big_bytes 8 0) (flat_map (big_bytes 8) (replicate n 0)), length-lasts n)
+
+length-new_hop : length (hop_bytes new_hop) ≡ 71
+unfolding hop_bytes codel_of
+length-new_hop = refl
+
+length-hops : (n : ℕ) → length (flat_map hop_bytes (replicate n new_hop)) ≡ 71 * n
+length-hops zero = refl
+length-hops (suc n) = omega (arith, length-append (hop_bytes new_hop) (flat_map hop_bytes (replicate n new_hop)), length-new_hop, length-hops n)
+
+-- how long the checkpoint of the empty state is
+pub length-new : (p : Params) → length (checkpoint_of (new_state p)) ≡ 8 + 8 * p.peers + 71 * p.hops
+unfolding checkpoint_of
+length-new p =
+    omega (
+      arith,
+      length-append (big_bytes 8 0 ++ flat_map (big_bytes 8) (replicate p.peers 0)) (flat_map hop_bytes (replicate p.hops new_hop)),
+      length-append (big_bytes 8 0) (flat_map (big_bytes 8) (replicate p.peers 0)),
+      length-lasts p.peers,
+      length-hops p.hops,
+    )
+
+-- a head and the gates around it leave the room that the largest group takes
+pub head_room : (g : Geometry) (segment generation : ℕ) (s : State (List ℕ)) (bytes : List ℕ) → IsHead g segment generation s → bytes ≡ head_of generation s ++ 0 ∷ []
+    → 1 + length bytes ≤ g.length
+head_room g segment generation s bytes head is = omega (arith, head.room, ap length is, length-head generation s)
+
+-- the first head has room
+pub new_head_room : (g : Geometry) (size : ℕ) (bytes : List ℕ) → IsGeometry g size → bytes ≡ head_of 1 (new_state g.params) ++ 0 ∷ [] → 1 + length bytes ≤ g.length
+new_head_room g size bytes geometry is = omega (arith, geometry.fits, ap length is, length-head 1 (new_state g.params), length-new g.params)

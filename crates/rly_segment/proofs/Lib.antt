@@ -1,0 +1,12 @@
+pub mod Devices
+pub mod Fields
+pub mod Filling
+pub mod Gates
+pub mod Greater
+pub mod HeadBytes
+pub mod HeadWriting
+pub mod HeaderFields
+pub mod Places
+pub mod Replacing
+pub mod Segments
+pub mod Standing

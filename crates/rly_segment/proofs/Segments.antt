@@ -1,0 +1,22 @@
+-- Where segments lie.
+use Rattle.std.proofs.Common.{◌≤◌, ◌<◌, ◌+◌, ℕ, arith}
+use Rattle.std.proofs.Math.Nat.{mul-le-mul_right}
+use Rattle.rly_core.specs.declared.params.Geometry.{Geometry}
+use Rattle.rly_segment.specs.Device.{IsGeometry}
+use Rattle.rly_segment.specs.Heads.{segment_end, segment_place}
+
+-- each ends before the device does
+pub segment_within : (g : Geometry) (segment size : ℕ) → IsGeometry g size → segment < g.segments → segment_end g segment ≤ size
+segment_within g segment size geometry there =
+    let next : segment + 1 ≤ g.segments = omega arith in
+    omega (arith, geometry.room, mul-le-mul_right g.length next)
+
+-- one behind the other
+pub segment_behind : (g : Geometry) (t segment : ℕ) → t < segment → segment_end g t ≤ segment_place g segment
+segment_behind g t segment before =
+    let next : t + 1 ≤ segment = omega arith in
+    omega (arith, mul-le-mul_right g.length next)
+
+-- none is short
+pub segment_long : (g : Geometry) (size : ℕ) → IsGeometry g size → 78280 ≤ g.length
+segment_long g size geometry = omega (arith, geometry.fits)

@@ -1,0 +1,52 @@
+use Rattle.std.proofs.Common.{◌≡◌, ◌↔◌, ◌∙◌, List, ℕ, IsTrue, length, subst, sym}
+use Rattle.std.proofs.lemmas.Result.{on_ok_weaker}
+use Rattle.rly_gate.specs.Group.{IsClosed}
+use Rattle.rly_segment.specs.Device.{IsGeometry}
+use Rattle.rly_segment.proofs.Devices.{format_closed, format_done, format_filled, format_leaves}
+use Rattle.rly_segment.proofs.HeadWriting.{new_head_room}
+use Rattle.rly_segment.proofs.formatting.write_device.Goals as goal
+
+pub returns-in_err-close_gate-clause-any_moment : goal.returns-in_err-close_gate-clause-any_moment
+returns-in_err-close_gate-clause-any_moment g c settled =
+    let only = c.reads_closed.ensures.only in
+    let read = c.in_ok-closed.ensures.read settled.honest in
+    let closed = subst (λ (l : List ℕ). IsTrue c.in_ok-closed.closed ↔ IsClosed l 0) (sym (only.crash settled.honest).seen) read in
+    format_closed c.args.geometry.now settled only (c.close_gate.ensures.any_moment (only.settled settled) closed)
+
+pub write_contents-requires-clause-room : goal.write_contents-requires-clause-room
+write_contents-requires-clause-room g c = new_head_room c.args.geometry.now (g.D.Disk.state c.args.disk.now).size c.args.head.now c.requires.geometry c.requires.head
+
+pub returns-in_err-write_contents-clause-any_moment : goal.returns-in_err-write_contents-clause-any_moment
+returns-in_err-write_contents-clause-any_moment g c settled =
+    let only = c.reads_closed.ensures.only in
+    let read = c.in_ok-closed.ensures.read settled.honest in
+    let closed = subst (λ (l : List ℕ). IsTrue c.in_ok-closed.closed ↔ IsClosed l 0) (sym (only.crash settled.honest).seen) read in
+    let first = only.settled settled in
+    format_filled c.args.geometry.now settled only (c.close_gate.ensures.any_moment first closed)
+    (c.write_contents.ensures.any_moment (c.in_ok-close_gate.ensures.ok first) (c.in_ok-close_gate.ensures.closed first closed))
+
+pub returns-clause-any_moment : goal.returns-clause-any_moment
+returns-clause-any_moment g c settled =
+    let only = c.reads_closed.ensures.only in
+    let read = c.in_ok-closed.ensures.read settled.honest in
+    let closed = subst (λ (l : List ℕ). IsTrue c.in_ok-closed.closed ↔ IsClosed l 0) (sym (only.crash settled.honest).seen) read in
+    let first = only.settled settled in
+    let second = c.in_ok-close_gate.ensures.ok first in
+    let third = c.in_ok-write_contents.ensures.ok second in
+    let count : (g.D.Disk.state c.args.disk.now).size ≡ length (g.D.Disk.state c.write_contents.new.disk).seen =
+    sym (third.consistent.seen_size ∙ c.write_contents.ensures.later.size ∙ c.close_gate.ensures.later.size ∙ only.later.size) in
+    format_leaves c.args.geometry.now settled only (c.close_gate.ensures.any_moment first closed) c.args.head.now c.requires.head
+    (subst (IsGeometry c.args.geometry.now) count c.requires.geometry) (c.in_ok-write_contents.ensures.filled second)
+    (c.write_contents.ensures.any_moment second (c.in_ok-close_gate.ensures.closed first closed)) (c.settle.ensures.any_moment third)
+
+pub returns-clause-formatted : goal.returns-clause-formatted
+returns-clause-formatted g c settled =
+    let only = c.reads_closed.ensures.only in
+    let first = only.settled settled in
+    let second = c.in_ok-close_gate.ensures.ok first in
+    let third = c.in_ok-write_contents.ensures.ok second in
+    let count : (g.D.Disk.state c.args.disk.now).size ≡ length (g.D.Disk.state c.write_contents.new.disk).seen =
+    sym (third.consistent.seen_size ∙ c.write_contents.ensures.later.size ∙ c.close_gate.ensures.later.size ∙ only.later.size) in
+    on_ok_weaker c.settle.result
+    (format_done c.args.geometry.now c.args.head.now _ _ c.requires.head (subst (IsGeometry c.args.geometry.now) count c.requires.geometry) (c.in_ok-write_contents.ensures.filled second))
+    (c.settle.ensures.written third)

@@ -1,0 +1,28 @@
+use Rattle.std.proofs.Common.{◌≡◌, arith, length, rules, sym, true, ◌∙◌, subst}
+use Rattle.rly_core.specs.declared.params.Geometry.{Geometry}
+use Rattle.rly_segment.specs.Device.{IsGeometry}
+use Rattle.rly_segment.proofs.Fields.{device_from_front, geometry_in_front}
+use Rattle.rly_segment.proofs.header.read_header.Goals as goal
+
+pub returns-then-is_geometry-clause-read : goal.returns-then-is_geometry-clause-read
+returns-then-is_geometry-clause-read g c honest =
+    let is = c.in-Ok.ensures.read honest in
+    let size = (g.met.D.Disk.consistent c.args.disk.now honest).seen_size in (
+      device_from_front (g.D.Disk.state c.args.disk.now).seen c.fill.new.buffer is (omega (arith, size)) (c.is_device.ensures.0 (search rules)),
+      c.geometry_in-geometry.ensures ∙ geometry_in_front (g.D.Disk.state c.args.disk.now).seen c.fill.new.buffer is,
+      subst (IsGeometry c.geometry_in-geometry.result) (let e : c.size-size.result ≡ length (g.D.Disk.state c.args.disk.now).seen = omega (arith, size) in e) (c.is_geometry.ensures.0 (search rules)),
+    )
+
+pub returns-else-is_geometry-clause-read : goal.returns-else-is_geometry-clause-read
+returns-else-is_geometry-clause-read g c honest =
+    let is = c.in-Ok.ensures.read honest in
+    let size = (g.met.D.Disk.consistent c.args.disk.now honest).seen_size in
+    let named = c.geometry_in-geometry.ensures ∙ geometry_in_front (g.D.Disk.state c.args.disk.now).seen c.fill.new.buffer is in (
+      device_from_front (g.D.Disk.state c.args.disk.now).seen c.fill.new.buffer is (omega (arith, size)) (c.is_device.ensures.0 (search rules)),
+      λ has.
+          let as_read : IsGeometry c.geometry_in-geometry.result c.size-size.result =
+          subst (IsGeometry c.geometry_in-geometry.result) (let e : length (g.D.Disk.state c.args.disk.now).seen ≡ c.size-size.result = omega (arith, size) in e)
+          (subst (λ (geometry : Geometry). IsGeometry geometry (length (g.D.Disk.state c.args.disk.now).seen)) (sym named) has) in
+          let fits : c.is_geometry.result ≡ true = c.is_geometry.ensures.1 as_read in
+          absurd cc,
+    )

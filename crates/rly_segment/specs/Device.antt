@@ -1,0 +1,57 @@
+-- The header of a device: what it is, and its geometry (docs/FORMATS.md, "The device").
+use Rattle.std.specs.Prelude.{◌≡◌, ℕ, ◌+◌, ◌*◌, ◌<◌, ◌≤◌, ◌^◌, List, [], ◌∷◌, ◌++◌, length, take, drop}
+use Rattle.byteorder.specs.Endian.{big_bytes, big_number}
+use Rattle.rly_core.specs.Limits.{IsWithinLimits}
+use Rattle.rly_core.specs.declared.params.Geometry.{Geometry}
+use Rattle.rly_gate.specs.Group.{IsOpen, StandsAt}
+use Rattle.rly_reclaim.specs.Room.{Fits}
+
+-- RLYDEV01 and the version, 1
+abbrev pub device_mark : List ℕ
+device_mark = 0x52 ∷ 0x4c ∷ 0x59 ∷ 0x44 ∷ 0x45 ∷ 0x56 ∷ 0x30 ∷ 0x31 ∷ 0 ∷ 1 ∷ []
+
+-- what stands behind the header's gate
+unfoldable pub header_of : Geometry → List ℕ
+header_of g =
+    device_mark ++ big_bytes 2 g.params.hops ++ big_bytes 2 g.params.peers ++ big_bytes 2 g.params.window
+    ++ big_bytes 2 g.segments ++ big_bytes 4 g.length ++ big_bytes 4 g.params.items ++ big_bytes 4 g.params.bytes
+    ++ big_bytes 4 g.params.maxpacket ++ big_bytes 8 g.params.target ++ big_bytes 8 g.params.interval
+
+-- the number that stands in so many bytes at a place
+abbrev pub number_in : List ℕ → ℕ → ℕ → ℕ
+number_in image place width = big_number width (take width (drop place image))
+
+-- the geometry that the fields of a header name
+unfoldable pub geometry_in : List ℕ → Geometry
+geometry_in image = record {
+  params = record {
+    hops = number_in image 11 2;
+    peers = number_in image 13 2;
+    window = number_in image 15 2;
+    items = number_in image 23 4;
+    bytes = number_in image 27 4;
+    maxpacket = number_in image 31 4;
+    target = number_in image 35 8;
+    interval = number_in image 43 8;
+  };
+  segments = number_in image 17 2;
+  length = number_in image 19 4;
+}
+
+-- the bytes of a device that has a header: the gate is open, and the mark stands behind it
+pub record IsDevice (image : List ℕ) : Type 0 where
+  pub long : 64 ≤ length image
+  pub gate : IsOpen image 0
+  pub mark : StandsAt image 1 device_mark
+
+-- how many bytes of a device are used
+abbrev pub device_length : Geometry → ℕ
+device_length g = 64 + g.segments * g.length
+
+-- a geometry that a device of so many bytes may have; the segments are two until payloads stand by place
+pub record IsGeometry (g : Geometry) (size : ℕ) : Type 0 where
+  pub params : IsWithinLimits g.params
+  pub segments : g.segments ≡ 2
+  pub length : g.length < 2 ^ 31
+  pub fits : Fits g
+  pub room : device_length g ≤ size

@@ -1,0 +1,88 @@
+-- Segments and their heads: which is the newest, and what it holds (docs/FORMATS.md, "Heads").
+use Rattle.std.specs.Prelude.{◌≡◌, ◌≢◌, ◌⊎◌, ℕ, ◌+◌, ◌*◌, ◌<◌, ◌≤◌, List, [], ◌∷◌, ◌++◌, length}
+use Rattle.byteorder.specs.Endian.{big_bytes}
+use Rattle.rly_core.specs.declared.params.Geometry.{Geometry}
+use Rattle.rly_disk.specs.DiskModel.{SameOutside}
+use Rattle.rly_machine.specs.Sound.{IsSound}
+use Rattle.rly_machine.specs.State.{State}
+use Rattle.rly_checkpoint.specs.Checkpoint.{checkpoint_of}
+use Rattle.rly_gate.specs.Group.{IsClosed, IsOpen, StandsAt, open_gate}
+use Rattle.rly_reclaim.specs.Room.{group_room}
+use Rattle.rly_segment.specs.Device.{number_in}
+
+-- the place of a segment: its gate
+abbrev pub segment_place : Geometry → ℕ → ℕ
+segment_place g segment = 64 + segment * g.length
+
+-- the place behind a segment
+abbrev pub segment_end : Geometry → ℕ → ℕ
+segment_end g segment = segment_place g segment + g.length
+
+-- the generation of a segment's head
+abbrev pub generation_in : List ℕ → Geometry → ℕ → ℕ
+generation_in image g segment = number_in image (segment_place g segment + 1) 8
+
+-- no segment's gate is open
+abbrev pub NoneIsOpen : List ℕ → Geometry → Type 0
+NoneIsOpen image g = (t : ℕ) → t < g.segments → IsClosed image (segment_place g t)
+
+-- of the open heads this one alone has the greatest generation
+pub record IsNewest (image : List ℕ) (g : Geometry) (segment : ℕ) : Type 0 where
+  pub there : segment < g.segments
+  pub gate : IsOpen image (segment_place g segment)
+  pub newest : (t : ℕ) → t < g.segments → t ≢ segment → IsOpen image (segment_place g t)
+      → generation_in image g t < generation_in image g segment
+
+-- several open heads share the greatest generation, and this is the last of them
+pub record IsLastOfTie (image : List ℕ) (g : Geometry) (segment : ℕ) : Type 0 where
+  pub there : segment < g.segments
+  pub gate : IsOpen image (segment_place g segment)
+  pub greatest : (t : ℕ) → t < g.segments → IsOpen image (segment_place g t)
+      → generation_in image g t ≤ generation_in image g segment
+  pub last : (t : ℕ) → t < g.segments → segment < t → IsOpen image (segment_place g t)
+      → generation_in image g t < generation_in image g segment
+  pub other : ℕ
+  pub before : other < segment
+  pub other_gate : IsOpen image (segment_place g other)
+  pub shared : generation_in image g other ≡ generation_in image g segment
+
+-- the place that is answered where no open head alone has the greatest generation
+abbrev pub IsAmbiguous : List ℕ → Geometry → ℕ → Type 0
+IsAmbiguous image g place =
+    (NoneIsOpen image g × (place ≡ 64))
+    ⊎ ((segment : ℕ) × IsLastOfTie image g segment × (place ≡ segment_place g segment))
+
+-- what stands behind the gate of a segment whose head holds a state
+unfoldable pub head_of : ℕ → State (List ℕ) → List ℕ
+head_of generation s = big_bytes 8 generation ++ big_bytes 4 (length (checkpoint_of s)) ++ checkpoint_of s
+
+-- a whole head: its gate, and the closed gate of the first group behind it
+abbrev pub opened_head : ℕ → State (List ℕ) → List ℕ
+opened_head generation s = open_gate ∷ head_of generation s ++ 0 ∷ []
+
+-- the place of the first group's gate, behind a head that holds a state
+abbrev pub first_gate : Geometry → ℕ → State (List ℕ) → ℕ
+first_gate g segment s = segment_place g segment + 13 + length (checkpoint_of s)
+
+-- a head of this generation may hold a state there
+pub record IsHead (g : Geometry) (segment generation : ℕ) (s : State (List ℕ)) : Type 0 where
+  pub params : s.params ≡ g.params
+  pub least : 1 ≤ generation
+  pub most : generation ≤ s.seq + 1
+  pub room : first_gate g segment s + group_room ≤ segment_end g segment
+
+-- the head of a segment holds a state
+pub record HoldsHead (image : List ℕ) (g : Geometry) (segment generation : ℕ) (s : State (List ℕ)) : Type 0 where
+  pub bytes : StandsAt image (segment_place g segment + 1) (head_of generation s)
+  pub sound : IsSound length s
+  pub head : IsHead g segment generation s
+
+-- the head of a segment is open only where it was, with the generation that it had
+abbrev pub IsPassedOver : Geometry → ℕ → List ℕ → List ℕ → Type 0
+IsPassedOver g segment old image = IsOpen image (segment_place g segment)
+    → IsOpen old (segment_place g segment) × (generation_in image g segment ≡ generation_in old g segment)
+
+-- what a crash within the opening of a segment may leave: all bytes outside it as they were, and the whole head, or none that is newer
+pub record IsOpening (g : Geometry) (segment generation : ℕ) (s : State (List ℕ)) (old image : List ℕ) : Type 0 where
+  pub outside : SameOutside (segment_place g segment) g.length old image
+  pub whole : IsPassedOver g segment old image ⊎ StandsAt image (segment_place g segment) (opened_head generation s)

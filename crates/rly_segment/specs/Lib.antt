@@ -1,0 +1,5 @@
+pub mod Answers
+pub mod Device
+pub mod Formatted
+pub mod Heads
+pub mod Writing

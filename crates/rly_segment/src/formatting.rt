@@ -1,0 +1,187 @@
+ghost use Rattle.std.specs.Prelude.{◌^◌, ◌≡◌, ◌+◌, ◌<◌, ◌≤◌, ◌↔◌, ◌∷◌, ◌++◌, [], ℕ, Err, IfOk, IsTrue, OnErr, OnOk, length};
+ghost use Rattle.rly_disk.specs.DiskModel.{Later, LeavesOnly, Rose, Settled};
+ghost use Rattle.rly_gate.specs.Group.{IsClosed, IsOpen};
+ghost use Rattle.rly_gate.specs.Reading.{OnlyRead};
+ghost use Rattle.rly_core.specs.Limits.{IsWithinLimits};
+ghost use Rattle.rly_machine.specs.State.{new_state};
+ghost use Rattle.rly_segment.specs.Device.{IsGeometry, header_of};
+ghost use Rattle.rly_segment.specs.Formatted.{IsFormatted, IsFormatting};
+ghost use Rattle.rly_segment.specs.Heads.{NoneIsOpen, head_of, segment_place};
+ghost use Rattle.rly_segment.specs.Writing.{IsFilled, limits_of, shape_of};
+
+use crate::head_bytes::{CLOSED_GATE, head_bytes};
+use crate::header::{DEVICE_MARK, is_geometry};
+use crate::layout::{FIRST_SEGMENT, segment_place};
+use crate::opening::close_gate;
+use byteorder::{BigEndian, ByteOrder};
+use rly_core::{Geometry, Params};
+use rly_disk::{Disk, DiskFault};
+use rly_gate::{OPEN_GATE, settle};
+use rly_machine::Machine;
+use std::alloc::{AllocError, Global};
+
+/// The bytes of the header behind its gate.
+const FIELDS_LENGTH: usize = SHAPE_LENGTH + LIMITS_LENGTH;
+
+/// The bytes of the mark, the counts and the segments' length.
+const SHAPE_LENGTH: usize = 22;
+
+/// The bytes of the fields behind them.
+const LIMITS_LENGTH: usize = 28;
+
+/// Why a device was not formatted.
+#[derive(Clone, Copy, Debug, PartialEq, Eq)]
+pub enum FormatFault {
+    /// The memory for the first head was refused. The disk is as it was.
+    OutOfMemory,
+    /// The geometry is out of its limits, or the device is too short for it. The disk is as it was.
+    BadGeometry,
+    /// A call of the device failed.
+    Device,
+}
+
+/// Makes a new device with no datagram in it. A crash at any moment of the call leaves the old
+/// device, none, or the new one.
+pub fn format<D: Disk>(alloc: Global, disk: &mut D, geometry: &Geometry) -> Result<(), FormatFault>
+    ensures geometry { result ≡ Err FormatFault.BadGeometry ↔ ¬ IsGeometry geometry.now (D.state disk.old).size }
+    ensures any_moment { Settled (D.state disk.old)
+        → LeavesOnly (D.state disk.old) (D.state disk.new) (IsFormatting geometry.now (D.state disk.old).seen) }
+    ensures ok { Settled (D.state disk.old) → OnOk result (Settled (D.state disk.new)) }
+    ensures formatted { Settled (D.state disk.old) → OnOk result (IsFormatted geometry.now (D.state disk.new).seen) }
+    ensures untouched { result ≡ Err FormatFault.BadGeometry → disk.new ≡ disk.old }
+    ensures memory { result ≡ Err FormatFault.OutOfMemory → disk.new ≡ disk.old }
+    ensures rise { result ≡ Err FormatFault.Device → Rose (D.state disk.old) (D.state disk.new) }
+    ensures no_failure { OnOk result ((D.state disk.new).failures ≡ (D.state disk.old).failures) }
+    ensures later { Later (D.state disk.old) (D.state disk.new) }
+{
+    if !is_geometry(geometry, disk.size()) {
+        return Err(FormatFault::BadGeometry);
+    }
+    let Ok(head) = new_head(alloc, geometry) else {
+        return Err(FormatFault::OutOfMemory);
+    };
+    match write_device(disk, geometry, &head) {
+        Ok(()) => Ok(()),
+        Err(_) => Err(FormatFault::Device),
+    }
+}
+
+/// What stands behind the first segment's gate in a new device.
+fn new_head(alloc: Global, geometry: &Geometry) -> Result<Vec<u8>, AllocError>
+    requires { IsWithinLimits geometry.now.params }
+    ensures { IfOk result (λ head. head.items ≡ head_of 1 (new_state geometry.now.params) ++ 0 ∷ []) }
+{
+    let machine = Machine::new(alloc, geometry.params)?;
+    head_bytes(alloc, 1, &machine)
+}
+
+/// Makes a new device, with these bytes behind the first segment's gate.
+fn write_device<D: Disk>(disk: &mut D, geometry: &Geometry, head: &[u8]) -> Result<(), DiskFault>
+    requires geometry { IsGeometry geometry.now (D.state disk.old).size }
+    requires head { head.now ≡ head_of 1 (new_state geometry.now.params) ++ 0 ∷ [] }
+    ensures any_moment { Settled (D.state disk.old)
+        → LeavesOnly (D.state disk.old) (D.state disk.new) (IsFormatting geometry.now (D.state disk.old).seen) }
+    ensures ok { Settled (D.state disk.old) → OnOk result (Settled (D.state disk.new)) }
+    ensures formatted { Settled (D.state disk.old) → OnOk result (IsFormatted geometry.now (D.state disk.new).seen) }
+    ensures rise { OnErr result (Rose (D.state disk.old) (D.state disk.new)) }
+    ensures no_failure { OnOk result ((D.state disk.new).failures ≡ (D.state disk.old).failures) }
+    ensures later { Later (D.state disk.old) (D.state disk.new) }
+{
+    let closed = reads_closed(disk, 0)?;
+    close_gate(disk, 0, closed)?;
+    write_contents(disk, geometry, head)?;
+    settle(disk, 0, &[OPEN_GATE])
+}
+
+/// Whether a gate reads closed.
+fn reads_closed<D: Disk>(disk: &mut D, place: u64) -> Result<bool, DiskFault>
+    requires { place + 1 ≤ (D.state disk.old).size }
+    ensures read { (D.state disk.old).honest → IfOk result (λ closed. IsTrue closed ↔ IsClosed (D.state disk.old).seen place) }
+    ensures only { OnlyRead (D.state disk.old) (D.state disk.new) }
+    ensures rise { OnErr result (Rose (D.state disk.old) (D.state disk.new)) }
+    ensures no_failure { OnOk result ((D.state disk.new).failures ≡ (D.state disk.old).failures) }
+{
+    let mut gate = [0u8; 1];
+    disk.read_at(place, &mut gate)?;
+    Ok(gate[0] != OPEN_GATE)
+}
+
+/// Writes all of a new device but the header's gate, which stays closed.
+fn write_contents<D: Disk>(disk: &mut D, geometry: &Geometry, head: &[u8]) -> Result<(), DiskFault>
+    requires geometry { IsGeometry geometry.now (D.state disk.old).size }
+    requires room { 1 + length head.now ≤ geometry.now.length }
+    ensures any_moment { Settled (D.state disk.old) → IsClosed (D.state disk.old).seen 0
+        → LeavesOnly (D.state disk.old) (D.state disk.new) (λ image. IsClosed image 0) }
+    ensures ok { Settled (D.state disk.old) → OnOk result (Settled (D.state disk.new)) }
+    ensures filled { Settled (D.state disk.old) → OnOk result (IsFilled geometry.now head.now (D.state disk.new).seen) }
+    ensures rise { OnErr result (Rose (D.state disk.old) (D.state disk.new)) }
+    ensures no_failure { OnOk result ((D.state disk.new).failures ≡ (D.state disk.old).failures) }
+    ensures later { Later (D.state disk.old) (D.state disk.new) }
+{
+    close_gates(disk, geometry)?;
+    settle(disk, FIRST_SEGMENT + 1, head)?;
+    settle(disk, 1, &header_fields(geometry))?;
+    settle(disk, FIRST_SEGMENT, &[OPEN_GATE])
+}
+
+/// Closes the gates of all segments, each by itself. The header's gate is closed, so that a torn
+/// write of a gate does no harm.
+fn close_gates<D: Disk>(disk: &mut D, geometry: &Geometry) -> Result<(), DiskFault>
+    requires { IsGeometry geometry.now (D.state disk.old).size }
+    ensures any_moment { Settled (D.state disk.old) → IsClosed (D.state disk.old).seen 0
+        → LeavesOnly (D.state disk.old) (D.state disk.new) (λ image. IsClosed image 0) }
+    ensures ok { Settled (D.state disk.old) → OnOk result (Settled (D.state disk.new)) }
+    ensures closed { Settled (D.state disk.old) → OnOk result (NoneIsOpen (D.state disk.new).seen geometry.now) }
+    ensures rise { OnErr result (Rose (D.state disk.old) (D.state disk.new)) }
+    ensures no_failure { OnOk result ((D.state disk.new).failures ≡ (D.state disk.old).failures) }
+    ensures later { Later (D.state disk.old) (D.state disk.new) }
+{
+    for segment in 0..geometry.segments {
+        settle(disk, segment_place(geometry, segment), &[CLOSED_GATE])?;
+    }
+    Ok(())
+}
+
+/// What stands behind the header's gate.
+fn header_fields(geometry: &Geometry) -> [u8; FIELDS_LENGTH]
+    requires params { IsWithinLimits geometry.now.params }
+    requires segments { geometry.now.segments < 2 ^ 16 }
+    requires length { geometry.now.length < 2 ^ 32 }
+    ensures { result ≡ header_of geometry.now }
+{
+    let mut fields = [0; FIELDS_LENGTH];
+    fields[..SHAPE_LENGTH].copy_from_slice(&shape_fields(geometry));
+    fields[SHAPE_LENGTH..].copy_from_slice(&limit_fields(&geometry.params));
+    fields
+}
+
+/// The mark, and how many of each there are.
+fn shape_fields(geometry: &Geometry) -> [u8; SHAPE_LENGTH]
+    requires params { IsWithinLimits geometry.now.params }
+    requires segments { geometry.now.segments < 2 ^ 16 }
+    requires length { geometry.now.length < 2 ^ 32 }
+    ensures { result ≡ shape_of geometry.now }
+{
+    let mut fields = [0; SHAPE_LENGTH];
+    fields[..10].copy_from_slice(&DEVICE_MARK);
+    BigEndian::write_u16(&mut fields[10..], geometry.params.hops as u16);
+    BigEndian::write_u16(&mut fields[12..], geometry.params.peers as u16);
+    BigEndian::write_u16(&mut fields[14..], geometry.params.window as u16);
+    BigEndian::write_u16(&mut fields[16..], geometry.segments as u16);
+    BigEndian::write_u32(&mut fields[18..], geometry.length as u32);
+    fields
+}
+
+/// The limits of what waits.
+fn limit_fields(params: &Params) -> [u8; LIMITS_LENGTH]
+    requires { IsWithinLimits params.now }
+    ensures { result ≡ limits_of params.now }
+{
+    let mut fields = [0; LIMITS_LENGTH];
+    BigEndian::write_u32(&mut fields, params.items as u32);
+    BigEndian::write_u32(&mut fields[4..], params.bytes as u32);
+    BigEndian::write_u32(&mut fields[8..], params.maxpacket as u32);
+    BigEndian::write_u64(&mut fields[12..], params.target);
+    BigEndian::write_u64(&mut fields[20..], params.interval);
+    fields
+}

@@ -1,0 +1,119 @@
+ghost use Rattle.std.specs.Prelude.{◌≡◌, ◌+◌, ◌<◌, ◌≤◌, Err, IfOk, IfSome, List, OnErr, ℕ};
+ghost use Rattle.rly_core.specs.declared.params.Geometry.{Geometry};
+ghost use Rattle.rly_disk.specs.DiskModel.{Rose};
+ghost use Rattle.rly_gate.specs.Reading.{OnlyRead};
+ghost use Rattle.rly_segment.specs.Answers.{IsFound, IsReadGate, IsReadNewest};
+ghost use Rattle.rly_segment.specs.Device.{IsGeometry};
+ghost use Rattle.rly_segment.specs.Heads.{segment_place};
+
+use crate::layout::{FIRST_SEGMENT, fill, number_in, segment_place};
+use rly_core::Geometry;
+use rly_disk::{Disk, DiskFault};
+use rly_gate::OPEN_GATE;
+
+/// The bytes of a head's gate and generation.
+const GENERATION_END: usize = 9;
+
+/// The most segments of a device.
+const MAX_SEGMENTS: usize = 256;
+
+/// The newest head, and which segments' gates read closed.
+#[derive(Clone, Copy, Debug)]
+pub struct NewestHead {
+    /// The segment whose head is the newest.
+    pub segment: u64,
+    /// For each segment of the device, whether its gate reads closed.
+    pub closed: [bool; MAX_SEGMENTS],
+}
+
+/// Why no head is the newest.
+#[derive(Clone, Copy, Debug, PartialEq, Eq)]
+pub enum NewestFault {
+    /// No head is open, or several share the greatest generation: the place of the first segment, or
+    /// that of the last of these heads.
+    Damaged(u64),
+    /// A read of the device failed.
+    Device,
+}
+
+/// An open head with the greatest generation, the last where several share it.
+#[derive(Clone, Copy)]
+pub(crate) struct Greatest {
+    pub(crate) segment: u64,
+    pub(crate) generation: u64,
+    pub(crate) is_shared: bool,
+}
+
+/// Tells which head is the newest. It reads each segment's gate and generation, and takes no memory.
+pub fn newest<D: Disk>(disk: &mut D, geometry: &Geometry) -> Result<NewestHead, NewestFault>
+    requires { IsGeometry geometry.now (D.state disk.old).size }
+    ensures within { IfOk result (λ newest. newest.segment < geometry.now.segments) }
+    ensures read { (D.state disk.old).honest → IsReadNewest (D.state disk.old).seen geometry.now result }
+    ensures only { OnlyRead (D.state disk.old) (D.state disk.new) }
+    ensures rise { result ≡ Err NewestFault.Device → Rose (D.state disk.old) (D.state disk.new) }
+{
+    let mut closed = [false; MAX_SEGMENTS];
+    let mut found = None;
+    for segment in 0..geometry.segments {
+        let Ok(gate) = read_gate(disk, segment_place(geometry, segment)) else {
+            return Err(NewestFault::Device);
+        };
+        closed[segment as usize] = gate.is_none();
+        found = greater(found, segment, gate);
+    }
+    let Some(greatest) = found else {
+        return Err(NewestFault::Damaged(FIRST_SEGMENT));
+    };
+    if greatest.is_shared {
+        let place = segment_place(geometry, greatest.segment);
+        return Err(NewestFault::Damaged(place));
+    }
+    Ok(NewestHead {
+        segment: greatest.segment,
+        closed,
+    })
+}
+
+/// The generation of the head at a place, or `None` where its gate is closed.
+fn read_gate<D: Disk>(disk: &mut D, place: u64) -> Result<Option<u64>, DiskFault>
+    requires { place + GENERATION_END ≤ (D.state disk.old).size }
+    ensures read { (D.state disk.old).honest
+        → IfOk result (λ gate. IsReadGate (D.state disk.old).seen place gate) }
+    ensures only { OnlyRead (D.state disk.old) (D.state disk.new) }
+    ensures rise { OnErr result (Rose (D.state disk.old) (D.state disk.new)) }
+{
+    let mut start = [0u8; GENERATION_END];
+    fill(disk, place, &mut start)?;
+    if start[0] == OPEN_GATE {
+        Ok(Some(number_in(&start, 1, 8)))
+    } else {
+        Ok(None)
+    }
+}
+
+/// What was found of the segments up to and with this one, behind what was found before it.
+fn greater(found: Option<Greatest>, segment: u64, gate: Option<u64>) -> Option<Greatest>
+    ensures found { (image : List ℕ) (g : Geometry) → IsFound image g segment found
+        → IsReadGate image (segment_place g segment) gate → IsFound image g (segment + 1) result }
+    ensures within { IfSome found (λ greatest. greatest.segment < segment)
+        → IfSome result (λ greatest. greatest.segment < segment + 1) }
+{
+    let Some(generation) = gate else {
+        return found;
+    };
+    let Some(greatest) = found else {
+        return Some(Greatest {
+            segment,
+            generation,
+            is_shared: false,
+        });
+    };
+    if generation < greatest.generation {
+        return found;
+    }
+    Some(Greatest {
+        segment,
+        generation,
+        is_shared: generation == greatest.generation,
+    })
+}

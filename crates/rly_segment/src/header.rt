@@ -1,0 +1,97 @@
+ghost use Rattle.std.specs.Prelude.{◌≡◌, ◌↔◌, Err, IfOk, IsTrue, length};
+ghost use Rattle.rly_disk.specs.DiskModel.{Rose};
+ghost use Rattle.rly_gate.specs.Group.{IsOpen, StandsAt};
+ghost use Rattle.rly_gate.specs.Reading.{OnlyRead};
+ghost use Rattle.rly_segment.specs.Answers.{IsReadHeader};
+ghost use Rattle.rly_segment.specs.Device.{IsGeometry, device_mark, geometry_in};
+
+use crate::layout::{FIRST_SEGMENT, fill, number_in};
+use rly_core::limits::SEGMENT_LENGTH_LIMIT;
+use rly_core::{Geometry, Params};
+use rly_disk::Disk;
+use rly_gate::OPEN_GATE;
+use rly_reclaim::fits;
+
+/// How many segments a device has until payloads stand by place.
+const SEGMENTS: u64 = 2;
+
+/// The bytes of the header's gate, mark and fields. What stands behind them is not read.
+pub(crate) const HEADER_BYTES: usize = 51;
+
+/// `RLYDEV01` and the version, 1.
+pub(crate) const DEVICE_MARK: [u8; 10] = [0x52, 0x4c, 0x59, 0x44, 0x45, 0x56, 0x30, 0x31, 0, 1];
+
+/// Why a device's header was not read.
+#[derive(Clone, Copy, Debug, PartialEq, Eq)]
+pub enum HeaderFault {
+    /// It is shorter than a header, its gate is closed, or another mark stands behind the gate.
+    NotADevice,
+    /// No device of its size has the geometry that it names.
+    BadGeometry,
+    /// A read of the device failed.
+    Device,
+}
+
+/// Reads the geometry of a device.
+pub fn read_header<D: Disk>(disk: &mut D) -> Result<Geometry, HeaderFault>
+    ensures geometry { IfOk result (λ geometry. IsGeometry geometry (D.state disk.old).size) }
+    ensures read { (D.state disk.old).honest → IsReadHeader (D.state disk.old).seen result }
+    ensures only { OnlyRead (D.state disk.old) (D.state disk.new) }
+    ensures rise { result ≡ Err HeaderFault.Device → Rose (D.state disk.old) (D.state disk.new) }
+{
+    let size = disk.size();
+    if size < FIRST_SEGMENT {
+        return Err(HeaderFault::NotADevice);
+    }
+    let mut header = [0u8; HEADER_BYTES];
+    let Ok(()) = fill(disk, 0, &mut header) else {
+        return Err(HeaderFault::Device);
+    };
+    if !is_device(&header) {
+        return Err(HeaderFault::NotADevice);
+    }
+    let geometry = geometry_in(&header);
+    if is_geometry(&geometry, size) {
+        Ok(geometry)
+    } else {
+        Err(HeaderFault::BadGeometry)
+    }
+}
+
+/// Whether the gate is open and the mark stands behind it.
+fn is_device(header: &[u8; HEADER_BYTES]) -> bool
+    ensures { IsTrue result ↔ (IsOpen header.now 0 × StandsAt header.now 1 device_mark) }
+{
+    header[0] == OPEN_GATE && &header[1..11] == DEVICE_MARK.as_slice()
+}
+
+/// The geometry that the fields name.
+fn geometry_in(header: &[u8; HEADER_BYTES]) -> Geometry
+    ensures { result ≡ geometry_in header.now }
+{
+    Geometry {
+        params: Params {
+            hops: number_in(header, 11, 2),
+            peers: number_in(header, 13, 2),
+            window: number_in(header, 15, 2),
+            items: number_in(header, 23, 4),
+            bytes: number_in(header, 27, 4),
+            maxpacket: number_in(header, 31, 4),
+            target: number_in(header, 35, 8),
+            interval: number_in(header, 43, 8),
+        },
+        segments: number_in(header, 17, 2),
+        length: number_in(header, 19, 4),
+    }
+}
+
+/// Whether a device of so many bytes may have a geometry.
+pub(crate) fn is_geometry(geometry: &Geometry, size: u64) -> bool
+    ensures { IsTrue result ↔ IsGeometry geometry.now size }
+{
+    geometry.params.check().is_ok()
+        && geometry.segments == SEGMENTS
+        && geometry.length < SEGMENT_LENGTH_LIMIT
+        && fits(geometry)
+        && FIRST_SEGMENT + geometry.segments * geometry.length <= size
+}

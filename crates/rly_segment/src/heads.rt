@@ -1,0 +1,142 @@
+ghost use Rattle.std.specs.Prelude.{◌≡◌, ◌≢◌, ◌+◌, ◌<◌, ◌≤◌, ◌^◌, ◌++◌, ◌↔◌, Err, IfOk, IsTrue, OnErr, length, take, drop};
+ghost use Rattle.byteorder.specs.Endian.{big_bytes};
+ghost use Rattle.rly_core.specs.Bounds.{IsIn};
+ghost use Rattle.rly_disk.specs.DiskModel.{Rose};
+ghost use Rattle.rly_gate.specs.Group.{StandsAt};
+ghost use Rattle.rly_gate.specs.Reading.{OnlyRead};
+ghost use Rattle.rly_segment.specs.Answers.{IsReadHead};
+ghost use Rattle.rly_segment.specs.Device.{IsGeometry};
+ghost use Rattle.rly_segment.specs.Heads.{IsHead, first_gate};
+
+use crate::layout::{fill, number_of_4, number_of_8, segment_place};
+use rly_checkpoint::{CheckpointFault, read_checkpoint};
+use rly_core::Geometry;
+use rly_disk::{Disk, DiskFault};
+use rly_machine::{Machine, Payload};
+use rly_reclaim::GROUP_ROOM;
+use std::alloc::Global;
+
+/// The bytes of a head's generation and of its body's length, which stand behind its gate.
+const START_BYTES: usize = 12;
+
+/// The bytes of a head in front of its body.
+const BODY_OFFSET: u64 = 13;
+
+/// What a head holds, and the gate behind it.
+#[derive(Drop)]
+pub struct Head {
+    /// The number of the opening that wrote the head, counted from 1.
+    pub generation: u64,
+    /// The state, in a machine.
+    pub machine: Machine<Payload>,
+    /// The place of the gate of the first group.
+    pub gate: u64,
+}
+
+/// Why a head was not read. The disk reads as before.
+#[derive(Clone, Copy, Debug, PartialEq, Eq)]
+pub enum HeadFault {
+    /// The memory for the head was refused.
+    OutOfMemory,
+    /// The bytes behind the gate are not the head of a sound state.
+    Damaged,
+    /// A read of the device failed.
+    Device,
+}
+
+/// What stands in front of a head's body.
+#[derive(Clone, Copy)]
+struct Start {
+    generation: u64,
+    length: u32,
+}
+
+/// Reads the state that the head of a segment holds. It takes no memory beyond the segment's length
+/// and what the state needs.
+pub fn read_head<D: Disk>(
+    alloc: Global,
+    disk: &mut D,
+    geometry: &Geometry,
+    segment: u64,
+) -> Result<Head, HeadFault>
+    requires geometry { IsGeometry geometry.now (D.state disk.old).size }
+    requires segment { segment < geometry.now.segments }
+    ensures head { IfOk result (λ head. IsHead geometry.now segment head.generation head.machine.state) }
+    ensures gate { IfOk result (λ head. head.gate ≡ first_gate geometry.now segment head.machine.state) }
+    ensures read { (D.state disk.old).honest → IsReadHead (D.state disk.old).seen geometry.now segment result }
+    ensures only { OnlyRead (D.state disk.old) (D.state disk.new) }
+    ensures rise { result ≡ Err HeadFault.Device → Rose (D.state disk.old) (D.state disk.new) }
+{
+    let place = segment_place(geometry, segment);
+    let Ok(start) = read_start(disk, place) else {
+        return Err(HeadFault::Device);
+    };
+    let end = BODY_OFFSET + u64::from(start.length);
+    if geometry.length < end + GROUP_ROOM {
+        return Err(HeadFault::Damaged);
+    }
+    let body = read_body(alloc, disk, place + BODY_OFFSET, start.length as usize)?;
+    let machine = match read_checkpoint(alloc, geometry.params, &body) {
+        Ok(machine) => machine,
+        Err(CheckpointFault::Malformed) => return Err(HeadFault::Damaged),
+        Err(CheckpointFault::OutOfMemory) => return Err(HeadFault::OutOfMemory),
+    };
+    machine.law_sound();
+    if !is_generation(start.generation, machine.seq()) {
+        return Err(HeadFault::Damaged);
+    }
+    Ok(Head {
+        generation: start.generation,
+        machine,
+        gate: place + end,
+    })
+}
+
+/// Reads the generation and the length behind the gate of a head.
+fn read_start<D: Disk>(disk: &mut D, place: u64) -> Result<Start, DiskFault>
+    requires place_fits { place + 1 < 2 ^ 64 }
+    requires room { place + 13 ≤ (D.state disk.old).size }
+    ensures read { (D.state disk.old).honest
+        → IfOk result (λ start. StandsAt (D.state disk.old).seen (place + 1) (big_bytes 8 start.generation ++ big_bytes 4 start.length)) }
+    ensures fits { IfOk result (λ start. (start.generation < 2 ^ 64) × (start.length < 2 ^ 32)) }
+    ensures only { OnlyRead (D.state disk.old) (D.state disk.new) }
+    ensures rise { OnErr result (Rose (D.state disk.old) (D.state disk.new)) }
+{
+    let mut start = [0u8; START_BYTES];
+    fill(disk, place + 1, &mut start)?;
+    Ok(Start {
+        generation: number_of_8(&start[..8]),
+        length: number_of_4(&start[8..]),
+    })
+}
+
+/// Reads so many bytes of a head's body.
+fn read_body<D: Disk>(
+    alloc: Global,
+    disk: &mut D,
+    place: u64,
+    size: usize,
+) -> Result<Vec<u8>, HeadFault>
+    requires { place + size ≤ (D.state disk.old).size }
+    ensures read { (D.state disk.old).honest
+        → IfOk result (λ body. body.items ≡ take size (drop place (D.state disk.old).seen)) }
+    ensures length { IfOk result (λ body. length body.items ≡ size) }
+    ensures undamaged { result ≢ Err HeadFault.Damaged }
+    ensures only { OnlyRead (D.state disk.old) (D.state disk.new) }
+    ensures rise { result ≡ Err HeadFault.Device → Rose (D.state disk.old) (D.state disk.new) }
+{
+    let Ok(mut body) = vec![in alloc; 0u8; size] else {
+        return Err(HeadFault::OutOfMemory);
+    };
+    if fill(disk, place, &mut body).is_err() {
+        return Err(HeadFault::Device);
+    }
+    Ok(body)
+}
+
+/// Whether a head may have a generation where so many commands were accepted.
+fn is_generation(generation: u64, seq: u64) -> bool
+    ensures { IsTrue result ↔ IsIn 1 (seq + 1) generation }
+{
+    1 <= generation && generation - 1 <= seq
+}

@@ -1,0 +1,68 @@
+ghost use Rattle.std.specs.Prelude.{◌≡◌, ◌+◌, ◌<◌, ◌≤◌, ◌^◌, length, take, drop, OnErr, OnOk};
+ghost use Rattle.byteorder.specs.Endian.{big_bytes};
+ghost use Rattle.rly_disk.specs.DiskModel.{Rose};
+ghost use Rattle.rly_gate.specs.Reading.{OnlyRead};
+ghost use Rattle.rly_segment.specs.Device.{number_in};
+ghost use Rattle.rly_segment.specs.Heads.{segment_end, segment_place};
+
+use byteorder::{BigEndian, ByteOrder};
+use rly_core::Geometry;
+use rly_disk::{Disk, DiskFault};
+
+/// The place of the first segment.
+pub(crate) const FIRST_SEGMENT: u64 = 64;
+
+/// The place of a segment: its gate.
+pub fn segment_place(geometry: &Geometry, segment: u64) -> u64
+    requires segment { segment < 256 }
+    requires length { geometry.now.length < 2 ^ 31 }
+    ensures { result ≡ segment_place geometry.now segment }
+{
+    FIRST_SEGMENT + segment * geometry.length
+}
+
+/// The place behind a segment.
+pub fn segment_end(geometry: &Geometry, segment: u64) -> u64
+    requires segment { segment < 256 }
+    requires length { geometry.now.length < 2 ^ 31 }
+    ensures { result ≡ segment_end geometry.now segment }
+{
+    segment_place(geometry, segment) + geometry.length
+}
+
+/// Fills a buffer from a place on.
+pub(crate) fn fill<D: Disk>(disk: &mut D, place: u64, buffer: &mut [u8]) -> Result<(), DiskFault>
+    requires { place + length buffer.old ≤ (D.state disk.old).size }
+    ensures read { (D.state disk.old).honest
+        → OnOk result (buffer.new ≡ take (length buffer.old) (drop place (D.state disk.old).seen)) }
+    ensures only { OnlyRead (D.state disk.old) (D.state disk.new) }
+    ensures rise { OnErr result (Rose (D.state disk.old) (D.state disk.new)) }
+{
+    disk.read_at(place, buffer)
+}
+
+/// The number in so many bytes at a place.
+pub(crate) fn number_in(bytes: &[u8], place: usize, width: usize) -> u64
+    requires within { place + width ≤ length bytes.now }
+    requires least { 1 ≤ width }
+    requires most { width ≤ 8 }
+    ensures { result ≡ number_in bytes.now place width }
+{
+    BigEndian::read_uint(&bytes[place..place + width], width)
+}
+
+/// The number that 8 bytes spell.
+pub(crate) fn number_of_8(bytes: &[u8]) -> u64
+    requires { length bytes.now ≡ 8 }
+    ensures { big_bytes 8 result ≡ bytes.now }
+{
+    BigEndian::read_u64(bytes)
+}
+
+/// The number that 4 bytes spell.
+pub(crate) fn number_of_4(bytes: &[u8]) -> u32
+    requires { length bytes.now ≡ 4 }
+    ensures { big_bytes 4 result ≡ bytes.now }
+{
+    BigEndian::read_u32(bytes)
+}
