@@ -3,8 +3,8 @@
 //!
 //! `specs/Submission.antt` has the rule of the line that calls go into and `specs/Replies.antt` that
 //! of a line that answers come out of. `Seat::call` is what callers use; `LineEnd` is for the one
-//! thread that answers. Of all threads' calls there is one legal history, and each seat knows a
-//! beginning of it (`docs/PROOFS.md`).
+//! thread that answers. What it told each seat is a beginning of one history that is legal but for
+//! bytes (`docs/PROOFS.md`).
 #![tactic(auto)]
 
 mod call_error;
