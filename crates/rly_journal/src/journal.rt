@@ -4,6 +4,7 @@ ghost use Rattle.rly_disk.specs.DiskModel.{Later, LeavesOnly, Rose, Settled};
 ghost use Rattle.rly_gate.specs.Reading.{OnlyRead};
 ghost use Rattle.rly_machine.specs.declared.call.Answer.{Answer as AnAnswer};
 ghost use Rattle.rly_machine.specs.declared.reply.Reply.{Reply as AReply};
+ghost use Rattle.rly_machine.specs.Sound.{IsSound};
 ghost use Rattle.rly_machine.specs.State.{has_peer, last_at};
 ghost use Rattle.rly_machine.specs.Query.{fetched, item_of, show_reply};
 ghost use Rattle.rly_journal.specs.Faults.{IsRefused};
@@ -107,6 +108,9 @@ impl<D: Disk> Journal<D> {
         ensures few_syncs { (IsDueFor self.old calls.old.items → ⊥) → (D.state self.new.disk).syncs ≤ (D.state self.old.disk).syncs + 2 }
         ensures quiet { (IsDueFor self.old calls.old.items → ⊥) → self.new.state ≡ self.old.state → self.new.disk ≡ self.old.disk }
         ensures later { Later (D.state self.old.disk) (D.state self.new.disk) }
+        // Both lists keep the memory that they have.
+        ensures calls_capacity { vec_capacity calls.new ≡ vec_capacity calls.old }
+        ensures answers_capacity { vec_capacity answers.old ≤ vec_capacity answers.new }
     {
         answers.reserve(calls.len())?;
         if self.broken {
@@ -207,6 +211,28 @@ impl<D: Disk> Journal<D> {
         let _ = &self.tail;
     }
 
+    /// What is true of every journal that isn't broken: it stands at the position of its running state.
+    pub fn law_counted(&self)
+        ensures { self.now.broken ≡ false → self.now.position ≡ self.now.state.seq }
+    {
+        let _ = &self.tail;
+    }
+
+    /// What is true of every journal's running state, on any disk.
+    pub fn law_sound(&self)
+        ensures { IsSound length self.now.state }
+    {
+        self.machine.law_sound();
+    }
+
+    /// Where a journal ends that isn't broken, on an honest disk: in the newest segment, at the first closed gate
+    /// behind the head there. So a segment is due, as `round` says it, exactly where it is due by what the device reads.
+    pub fn law_tail(&self)
+        ensures { (D.state self.now.disk).honest → self.now.broken ≡ false → IsDurable (D.state self.now.disk) self.now.tail self.now.state }
+    {
+        let _ = &self.tail;
+    }
+
     /// Opens a segment where one is due, or says how all calls are refused.
     fn make_ready(&mut self, alloc: Global, calls: &[Call]) -> Result<(), Refusal>
         requires { self.old.broken ≡ false }
@@ -247,6 +273,8 @@ impl<D: Disk> Journal<D> {
         ensures syncs { (D.state self.new.disk).syncs ≤ (D.state self.old.disk).syncs + 2 }
         ensures quiet { self.new.state ≡ self.old.state → self.new.disk ≡ self.old.disk }
         ensures later { Later (D.state self.old.disk) (D.state self.new.disk) }
+        ensures calls_capacity { vec_capacity calls.new ≡ vec_capacity calls.old }
+        ensures answers_capacity { vec_capacity answers.new ≡ vec_capacity answers.old }
     {
         let from = answers.len();
         answer_calls(alloc, &mut self.machine, &mut self.group, calls, answers);
