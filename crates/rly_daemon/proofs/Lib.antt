@@ -2,6 +2,9 @@ pub mod Cuts
 pub mod Numerals
 pub mod Newlines
 pub mod Pieces
-pub mod Flows
 pub mod Texts
 pub mod Digits
+pub mod Rounds
+pub mod Gathering
+pub mod Courses
+pub mod Commands

@@ -1,13 +1,13 @@
 -- What is written as lines are answered, one after the other.
-use Rattle.std.proofs.Common.{◌≡◌, ℕ, ◌+◌, ◌≤◌, List, [], ◌∷◌, ◌++◌, length, take, min, IfSome, Bool, true, false, nat_lt, Option, Some, None, refl, sym, ◌∙◌, ap, arith, append_assoc, append-nil}
+use Rattle.std.proofs.Common.{◌≡◌, ℕ, List, [], ◌∷◌, ◌++◌, length, IfSome, Bool, true, false, nat_lt, Option, Some, None, refl, sym, ◌∙◌, ap, arith, append_assoc, append-nil}
 use Rattle.std.specs.Io.KnownBytes.{Appends, Keeps, prepend_known}
 use Rattle.std.proofs.lemmas.Bool.{lt-ltb, ltb-true, ltb-false}
-use Rattle.std.proofs.lemmas.List.{length-take, take_all, take_min, take-append-le}
-use Rattle.std.proofs.Math.Seq.{take-append-add}
+use Rattle.std.proofs.lemmas.List.{length-take, take_all}
 use Rattle.rly_daemon.specs.Grammar.{ask_of}
 use Rattle.rly_daemon.specs.Lines.{kept_of, lines_of, longest_line, TakesLine}
-use Rattle.rly_daemon.specs.Text.{ByteState, answer_of, text_of, replies_from, AnswersLine, Answered, ask_answer, AppendsBeginning, BeginsAnswer}
-use Rattle.rly_daemon.proofs.Flows.{appends_none, keeps_appends}
+use Rattle.rly_daemon.specs.Text.{ByteState, answer_of, text_of, replies_from, AnswersLine, Answered, ask_answer, BeginsAnswer}
+use Rattle.rly_stream.specs.Beginnings.{AppendsBeginning}
+use Rattle.rly_stream.proofs.Flows.{appends_appends, appends_keeps, appends_none, begins_front, begins_kept, begins_more, keeps_appends, keeps_begins}
 
 -- a line that is kept in part asks what the whole line asks
 by_length : (line : List ℕ) (long : Bool) → nat_lt longest_line (length line) ≡ long → ask_of (kept_of line) ≡ ask_of line
@@ -20,47 +20,6 @@ by_length line false short =
 
 pub kept_asks : (line : List ℕ) → ask_of (kept_of line) ≡ ask_of line
 kept_asks line = by_length line (nat_lt longest_line (length line)) refl
-
-appends_appends : (a b c : Option (List ℕ)) (x y : List ℕ) → Appends a b x → Appends b c y → Appends a c (x ++ y)
-appends_appends None b c x y h k = tt
-appends_appends (Some us) None c x y h k = absurd h
-appends_appends (Some us) (Some vs) None x y h k = absurd k
-appends_appends (Some us) (Some vs) (Some ws) x y h k =
-    let regrouped : vs ++ y ≡ us ++ (x ++ y) = rw h (append_assoc us x y) in
-    k ∙ regrouped
-
-appends_keeps : (a b c : Option (List ℕ)) (x : List ℕ) → Appends a b x → Keeps b c → Appends a c x
-appends_keeps None b c x h k = tt
-appends_keeps (Some us) None c x h k = absurd h
-appends_keeps (Some us) (Some vs) None x h k = absurd k
-appends_keeps (Some us) (Some vs) (Some ws) x h k = k ∙ h
-
-keeps_begins : (a b c : Option (List ℕ)) (text : List ℕ) → Keeps a b → AppendsBeginning b c text → AppendsBeginning a c text
-keeps_begins None b c text h k = tt
-keeps_begins (Some us) None c text h k = absurd h
-keeps_begins (Some us) (Some vs) None text h k = absurd k
-keeps_begins (Some us) (Some vs) (Some ws) text h k = let moved : vs ++ take k.0 text ≡ us ++ take k.0 text = rw h refl in (k.0, k.1 ∙ moved)
-
-begins_kept : (a b : Option (List ℕ)) (text : List ℕ) → Keeps a b → AppendsBeginning a b text
-begins_kept None b text h = tt
-begins_kept (Some us) None text h = absurd h
-begins_kept (Some us) (Some vs) text h = (0, h ∙ sym (append-nil us))
-
-begins_more : (a b c : Option (List ℕ)) (front rest : List ℕ) → Appends a b front → AppendsBeginning b c rest → AppendsBeginning a c (front ++ rest)
-begins_more None b c front rest h k = tt
-begins_more (Some us) None c front rest h k = absurd h
-begins_more (Some us) (Some vs) None front rest h k = absurd k
-begins_more (Some us) (Some vs) (Some ws) front rest h k =
-    let grown : vs ++ take k.0 rest ≡ us ++ take (length front + k.0) (front ++ rest) = rw (h, take-append-add front rest k.0) (append_assoc us front (take k.0 rest)) in
-    (length front + k.0, k.1 ∙ grown)
-
-begins_front : (a b : Option (List ℕ)) (front rest : List ℕ) → AppendsBeginning a b front → AppendsBeginning a b (front ++ rest)
-begins_front None b front rest h = tt
-begins_front (Some us) None front rest h = absurd h
-begins_front (Some us) (Some vs) front rest h =
-    let within : min h.0 (length front) ≤ length front = omega arith in
-    let same : take h.0 front ≡ take (min h.0 (length front)) (front ++ rest) = sym (take-append-le (min h.0 (length front)) front rest within ∙ take_min h.0 front) in
-    (min h.0 (length front), h.1 ∙ ap (λ zs. us ++ zs) same)
 
 -- nothing is answered yet
 pub answered_start : (known writer : Option (List ℕ)) (s : ByteState) → Answered known (prepend_known [] known) writer writer s s

@@ -1,11 +1,16 @@
 -- The text that is written for an input, from a state: a reply line for each line.
-use Rattle.std.specs.Prelude.{◌≡◌, ℕ, List, [], ◌∷◌, ◌++◌, take, Bool, true, false, Option, Some, None, ⊤}
+use Rattle.std.specs.Prelude.{◌≡◌, ℕ, List, [], ◌∷◌, ◌++◌, Bool, true, false, Option, Some, None, ⊤}
 use Rattle.std.specs.Io.KnownBytes.{Appends, Keeps}
 use Rattle.rly_core.specs.Refusals.{refusal_line}
 use Rattle.rly_core.specs.declared.refusal.Refusal.TheVariants.{Line}
 use Rattle.rly_machine.specs.State.{State}
 use Rattle.rly_machine.specs.Ask.{ask_step}
 use Rattle.rly_machine.specs.declared.command.Ask.{Ask}
+use Rattle.rly_stream.specs.Beginnings.{AppendsBeginning}
+use Rattle.rly_stream.specs.declared.fault.StreamFault.{StreamFault}
+use Rattle.rly_stream.specs.declared.fault.StreamFault.TheVariants as stream
+use Rattle.rly_daemon.specs.declared.fault.SimFault.{SimFault}
+use Rattle.rly_daemon.specs.declared.fault.SimFault.TheVariants as sim
 use Rattle.rly_daemon.specs.Grammar.{ask_of}
 use Rattle.rly_daemon.specs.Lines.{lines_of}
 use Rattle.rly_daemon.specs.Replies.{subject_of, reply_text}
@@ -32,12 +37,6 @@ replies_from s (line ∷ lines) = (answer_of s line).1 ++ 10 ∷ replies_from (a
 abbrev pub text_of : ByteState → List ℕ → List ℕ
 text_of s input = replies_from s (lines_of input)
 
--- known bytes grow by a beginning of a text
-abbrev pub AppendsBeginning : Option (List ℕ) → Option (List ℕ) → List ℕ → Type 0
-AppendsBeginning None new text = ⊤
-AppendsBeginning (Some xs) None text = ⊥
-AppendsBeginning (Some xs) (Some ys) text = (count : ℕ) × (ys ≡ xs ++ take count text)
-
 -- what answering the next line does, where the bytes that are left are known: there was none, or its reply line was written
 abbrev pub AnswersLine : Bool → Option (List ℕ) → Option (List ℕ) → Option (List ℕ) → Option (List ℕ) → ByteState → ByteState → Type 0
 AnswersLine more None left old new s t = ⊤
@@ -55,3 +54,8 @@ abbrev pub Answered : Option (List ℕ) → Option (List ℕ) → Option (List �
 Answered None left old new s t = ⊤
 Answered (Some xs) None old new s t = ⊥
 Answered (Some xs) (Some ys) old new s t = (written : List ℕ) × Appends old new written × (text_of s xs ≡ written ++ text_of t ys)
+
+-- how a command on text says that a stream failed
+abbrev pub fault_of : StreamFault → SimFault
+fault_of stream.Input = sim.Input
+fault_of stream.Output = sim.Output

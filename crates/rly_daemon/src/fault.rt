@@ -1,3 +1,4 @@
+use rly_stream::StreamFault;
 use std::alloc::AllocError;
 use thiserror::Error;
 
@@ -24,5 +25,19 @@ impl From<AllocError> for SimFault {
 
     fn from(_refused: AllocError) -> SimFault {
         SimFault::OutOfMemory
+    }
+}
+
+impl From<StreamFault> for SimFault {
+    ghost use Rattle.std.specs.Prelude.{◌≡◌};
+    ghost use Rattle.rly_daemon.specs.Text.{fault_of};
+
+    ghost from_gives = { λ stream fault. fault ≡ fault_of stream };
+
+    fn from(stream: StreamFault) -> SimFault {
+        match stream {
+            StreamFault::Input => SimFault::Input,
+            StreamFault::Output => SimFault::Output,
+        }
     }
 }

@@ -3,14 +3,37 @@ use rly_core::Params;
 use std::alloc::AllocError;
 use thiserror::Error;
 
-/// What the words of a command line ask for.
+/// What the words of a command line ask for. Numbers are as they were given: whether they are
+/// within the limits is still to be checked.
 #[derive(Clone, Copy, Debug, PartialEq, Eq)]
-pub enum Settings {
-    /// Commands from the standard input on a machine in memory. The parameters are as they were
-    /// given: whether they are within the limits is still to be checked.
+pub enum Settings<'a> {
+    /// Commands from the standard input on a machine in memory.
     Sim {
         /// The parameters of the spool.
         params: Params,
+    },
+    /// A new device in a file.
+    Format {
+        /// The path of the file.
+        file: &'a str,
+        /// The parameters of the spool.
+        params: Params,
+        /// Segments of the device.
+        segments: u64,
+        /// The length of each segment in bytes: `None` for the least that fits.
+        length: Option<u64>,
+    },
+    /// Commands from the standard input on the device in a file.
+    Play {
+        /// The path of the file.
+        file: &'a str,
+        /// How many lines make a round, 1 to 64.
+        batch: u64,
+    },
+    /// A report on the device in a file.
+    Audit {
+        /// The path of the file.
+        file: &'a str,
     },
 }
 

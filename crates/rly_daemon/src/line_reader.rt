@@ -3,8 +3,8 @@ ghost use Rattle.rly_daemon.specs.Lines.{kept_of};
 
 use crate::bytes::position_of;
 use crate::fault::SimFault;
-use crate::streams::read_some;
 use rly_core::limits;
+use rly_stream::read_some;
 use std::alloc::{AllocError, Global};
 use std::io::Read;
 use std::marker::Model;

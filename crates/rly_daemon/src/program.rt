@@ -1,11 +1,18 @@
 use crate::command_line::settings;
 use crate::fault::SimFault;
+use crate::file_disk::FileDisk;
+use crate::geometry::{device_size, geometry_of};
 use crate::given::{Settings, SettingsFault};
+use crate::playing::play;
 use crate::simulation::sim;
+use rly_audit::{AuditFault, audit};
 use rly_core::{Params, Refusal};
+use rly_journal::{Journal, OpenFault};
+use rly_segment::{FormatFault, format};
 use std::alloc::Global;
 use std::convert::AsStr;
 use std::fmt::Display;
+use std::fs::{File, Files};
 use std::io::{BufWriter, Read, Write};
 use thiserror::Error;
 
@@ -20,10 +27,13 @@ enum CommandFault {
     Refused(Refusal),
 }
 
+/// The most lines of a round.
+const MAX_BATCH: u64 = 64;
+
 /// Runs the whole program on a command line, the program's name first, and answers its exit
-/// status: 0, also where reply lines refuse; 1 where a command failed; 2 for a bad command line.
-/// Replies, help and version go to `writer`, why it failed to `errors`.
-pub fn run<H: AllocGlobal, S: AsStr, R: Read, W: Write, E: Write>(
+/// status: 0, also where reply lines refuse; 1 where a command failed, or a journal ended Broken;
+/// 2 for a bad command line. Replies, help and version go to `writer`, why it failed to `errors`.
+pub fn run<H: AllocGlobal + Files<File = File>, S: AsStr, R: Read, W: Write, E: Write>(
     rt: &H,
     words: &[S],
     reader: &mut R,
@@ -31,12 +41,36 @@ pub fn run<H: AllocGlobal, S: AsStr, R: Read, W: Write, E: Write>(
     errors: &mut E,
 ) -> u8 {
     match settings(rt.alloc(), words) {
-        Ok(Settings::Sim { params }) => {
-            let outcome = run_sim(rt.alloc(), params, reader, writer);
-            status_of(outcome, errors)
-        }
+        Ok(settings) => match obey(rt, settings, reader, writer) {
+            Ok(()) => 0,
+            Err(fault) => fail(&fault, errors),
+        },
         Err(SettingsFault::CommandLine(error)) => show(&error, writer, errors),
         Err(fault) => fail(&fault, errors),
+    }
+}
+
+/// Runs one command.
+fn obey<H: AllocGlobal + Files<File = File>, R: Read, W: Write>(
+    rt: &H,
+    settings: Settings<'_>,
+    reader: &mut R,
+    writer: &mut W,
+) -> Result<(), CommandFault> {
+    match settings {
+        Settings::Sim { params } => run_sim(rt.alloc(), params, reader, writer),
+        Settings::Format {
+            file,
+            params,
+            segments,
+            length,
+        } => {
+            let size = format_file(rt, file, params, segments, length);
+            let size = size.map_err(CommandFault::Refused)?;
+            print_size(size, writer)
+        }
+        Settings::Play { file, batch } => run_play(rt, file, batch, reader, writer),
+        Settings::Audit { file } => run_audit(rt, file, writer),
     }
 }
 
@@ -52,16 +86,93 @@ fn run_sim<R: Read, W: Write>(
         return Err(CommandFault::Refused(Refusal::OutOfMemory));
     };
     let outcome = sim(alloc, params, reader, &mut output);
+    ended(outcome, &mut output)
+}
+
+/// Hands on the output that a command leaves in its buffer, and answers its outcome.
+fn ended<W: Write>(outcome: Result<(), SimFault>, output: &mut W) -> Result<(), CommandFault> {
     let flushed = output.flush();
     outcome.map_err(CommandFault::Sim)?;
     flushed.map_err(|_| CommandFault::Sim(SimFault::Output))
 }
 
-/// The status of a command's outcome; why it failed is written to `errors`.
-fn status_of<E: Write>(outcome: Result<(), CommandFault>, errors: &mut E) -> u8 {
-    match outcome {
-        Ok(()) => 0,
-        Err(fault) => fail(&fault, errors),
+/// Makes a new device in a file, and answers how many bytes it takes. Values out of their limits
+/// are refused before the file is touched.
+fn format_file<H: AllocGlobal + Files<File = File>>(
+    rt: &H,
+    file: &str,
+    params: Params,
+    segments: u64,
+    length: Option<u64>,
+) -> Result<u64, Refusal> {
+    let geometry = geometry_of(params, segments, length)?;
+    let size = device_size(&geometry);
+    let mut disk = FileDisk::make(rt, file, size)?;
+    match format(rt.alloc(), &mut disk, &geometry) {
+        Ok(()) => Ok(size),
+        Err(FormatFault::OutOfMemory) => Err(Refusal::OutOfMemory),
+        Err(FormatFault::BadGeometry) => Err(Refusal::BadGeometry),
+        Err(FormatFault::Device) => Err(Refusal::Device),
+    }
+}
+
+/// Prints how many bytes a new device takes.
+fn print_size<W: Write>(size: u64, writer: &mut W) -> Result<(), CommandFault> {
+    let printed = writeln!(writer, "formatted {size}").and_then(|()| writer.flush());
+    printed.map_err(|_| CommandFault::Sim(SimFault::Output))
+}
+
+/// Runs `play` on the device in a file, with its output in a buffer.
+fn run_play<H: AllocGlobal + Files<File = File>, R: Read, W: Write>(
+    rt: &H,
+    file: &str,
+    batch: u64,
+    reader: &mut R,
+    writer: &mut W,
+) -> Result<(), CommandFault> {
+    let disk = FileDisk::open(rt, file).map_err(CommandFault::Refused)?;
+    let mut journal = match Journal::open(rt.alloc(), disk) {
+        Ok(journal) => journal,
+        Err((fault, _disk)) => return Err(CommandFault::Refused(refusal_of(fault))),
+    };
+    let Ok(mut output) = BufWriter::new(rt.alloc(), &mut *writer) else {
+        return Err(CommandFault::Refused(Refusal::OutOfMemory));
+    };
+    // The command line was refused for any other number.
+    let batch = batch.clamp(1, MAX_BATCH);
+    let outcome = play(rt.alloc(), reader, &mut output, &mut journal, batch);
+    ended(outcome, &mut output)?;
+    if journal.is_broken() {
+        return Err(CommandFault::Refused(Refusal::Broken));
+    }
+    Ok(())
+}
+
+/// Writes the report on the device in a file, with its output in a buffer.
+fn run_audit<H: AllocGlobal + Files<File = File>, W: Write>(
+    rt: &H,
+    file: &str,
+    writer: &mut W,
+) -> Result<(), CommandFault> {
+    let disk = FileDisk::open(rt, file).map_err(CommandFault::Refused)?;
+    let Ok(mut output) = BufWriter::new(rt.alloc(), &mut *writer) else {
+        return Err(CommandFault::Refused(Refusal::OutOfMemory));
+    };
+    match audit(rt.alloc(), disk, &mut output) {
+        Ok(_disk) => ended(Ok(()), &mut output),
+        Err((AuditFault::Output, _disk)) => Err(CommandFault::Sim(SimFault::Output)),
+        Err((AuditFault::Refused(refusal), _disk)) => Err(CommandFault::Refused(refusal)),
+    }
+}
+
+/// The refusal that says why a device was not opened.
+fn refusal_of(fault: OpenFault) -> Refusal {
+    match fault {
+        OpenFault::OutOfMemory => Refusal::OutOfMemory,
+        OpenFault::NotADevice => Refusal::NotADevice,
+        OpenFault::BadGeometry => Refusal::BadGeometry,
+        OpenFault::Damaged(place) => Refusal::Damaged(place),
+        OpenFault::Device => Refusal::Device,
     }
 }
 

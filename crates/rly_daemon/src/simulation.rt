@@ -2,14 +2,15 @@ ghost use Rattle.std.specs.Prelude.{◌≡◌, ◌<◌, ◌^◌, IfOk, IfSome, O
 ghost use Rattle.std.specs.Io.KnownBytes.{Appends, Keeps, prepend_known};
 ghost use Rattle.rly_core.specs.Limits.{IsWithinLimits};
 ghost use Rattle.rly_machine.specs.State.{new_state};
-ghost use Rattle.rly_daemon.specs.Text.{AnswersLine, AppendsBeginning, BeginsAnswer, text_of};
+ghost use Rattle.rly_stream.specs.Beginnings.{AppendsBeginning};
+ghost use Rattle.rly_daemon.specs.Text.{AnswersLine, BeginsAnswer, text_of};
 
 use crate::evaluation::answer_line;
 use crate::fault::SimFault;
 use crate::line_reader::LineReader;
-use crate::streams::write_whole;
 use rly_core::Params;
 use rly_machine::{Machine, Payload};
+use rly_stream::write_whole;
 use std::alloc::Global;
 use std::io::{Read, Write};
 
@@ -63,7 +64,7 @@ fn answer_next<R: Read, W: Write>(
 }
 
 /// Hands on the replies that a writer holds back, if the next line waits for the reader.
-fn hand_on<W: Write>(lines: &LineReader, writer: &mut W) -> Result<(), SimFault>
+pub(crate) fn hand_on<W: Write>(lines: &LineReader, writer: &mut W) -> Result<(), SimFault>
     ensures { Keeps (W.contents writer.old) (W.contents writer.new) }
 {
     if !lines.is_drained() {

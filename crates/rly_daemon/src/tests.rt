@@ -1,3 +1,5 @@
+mod devices;
+mod playing;
 mod programs;
 mod rows;
 mod streams;

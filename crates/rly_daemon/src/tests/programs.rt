@@ -1,17 +1,22 @@
 //! Whole runs of the program, up to the status.
 
 use crate::run;
+use std::fs::{File, Files};
 use std::test::Fail;
 
 /// The status of a run, its output and its errors.
 #[derive(Drop)]
-struct Finished {
-    status: u8,
-    output: Vec<u8>,
-    errors: Vec<u8>,
+pub(super) struct Finished {
+    pub(super) status: u8,
+    pub(super) output: Vec<u8>,
+    pub(super) errors: Vec<u8>,
 }
 
-fn finish(rt: &HostRuntime, words: &[&str], input: &[u8]) -> Finished {
+pub(super) fn finish(
+    rt: &(impl AllocGlobal + Files<File = File>),
+    words: &[&str],
+    input: &[u8],
+) -> Finished {
     let mut reader = input;
     let mut output = Vec::new(rt.alloc());
     let mut errors = Vec::new(rt.alloc());

@@ -6,6 +6,27 @@ use std::alloc::Global;
 use std::process::Abort;
 use std::test::Fail;
 
+/// What follows six takes of 1,000 bytes.
+pub(super) const THREE_PICKS: &str =
+    "pick 1 10000\nshow 1\npick 1 110000\nshow 1\npick 1 210000\nshow 1\ndone 1 3\ndone 1 3\nwindow 1\ndone 1 4\nfetch 1 3\npick 1 300000\npick 1 300000\n";
+
+/// Its reply lines.
+pub(super) const THREE_PICKS_ANSWERED: &str = "picked 1 1 1\n\
+hop 1 taken 6 queued 5 flight 1 dropped 0 released 0 first 110000 next 0 count 0 last 0 dropping no moment 10000\n\
+picked 1 2 3 dropped 2\n\
+hop 1 taken 6 queued 3 flight 2 dropped 1 released 0 first 110000 next 210000 count 1 last 1 dropping yes moment 110000\n\
+picked 1 3 5 dropped 4\n\
+hop 1 taken 6 queued 1 flight 3 dropped 2 released 0 first 0 next 210000 count 2 last 1 dropping no moment 210000\n\
+released 1 3\nunchanged 1\nwindow 1 4 4\nrefused 9 neversent\nrefused 10 notinflight\npicked 1 4 6\nrefused 8 empty\n";
+
+/// What follows ten takes of 1,000 bytes.
+pub(super) const LATE_PICK: &str = "pick 1 10000\npick 1 110000\npick 1 400000\nshow 1\n";
+
+/// Its reply lines.
+pub(super) const LATE_PICK_ANSWERED: &str =
+    "picked 1 1 1\npicked 1 2 3 dropped 2\npicked 1 3 8 dropped 4 5 6 7\n\
+hop 1 taken 10 queued 2 flight 3 dropped 5 released 0 first 110000 next 433166 count 5 last 1 dropping yes moment 400000\n";
+
 /// What `sim` writes for an input.
 pub(super) fn replies(alloc: Global, params: Params, input: &str) -> Result<Vec<u8>, Fail> {
     params.check()?;
@@ -28,7 +49,7 @@ fn expect(
 }
 
 /// Takes 1 to `count` of `bytes` zero bytes each, from peer 1 to hop 1 at moment 0.
-fn takes(alloc: Global, count: u64, bytes: usize) -> Result<String, Fail> {
+pub(super) fn takes(alloc: Global, count: u64, bytes: usize) -> Result<String, Fail> {
     let mut text = String::new(alloc);
     for number in 1..=count {
         write!(text, "take 1 {number} 1 0 ")?;
@@ -50,12 +71,18 @@ fn expect_behind(
 ) -> Result<(), Fail> {
     let mut text = takes(rt.alloc(), count, 1_000)?;
     text.push_str(input)?;
-    let mut expected = String::new(rt.alloc());
+    let expected = behind_taken(rt.alloc(), count, output)?;
+    expect(rt, params, text.as_str(), expected.as_str())
+}
+
+/// The reply lines of such takes, and what stands behind them.
+pub(super) fn behind_taken(alloc: Global, count: u64, output: &str) -> Result<String, Fail> {
+    let mut expected = String::new(alloc);
     for id in 1..=count {
         writeln!(expected, "taken 1 {id}")?;
     }
     expected.push_str(output)?;
-    expect(rt, params, text.as_str(), expected.as_str())
+    Ok(expected)
 }
 
 #[test]
@@ -187,31 +214,12 @@ fn a_last_line_without_a_newline_counts(rt: HostRuntime) -> Result<(), Fail> {
 
 #[test]
 fn six_takes_and_three_picks(rt: HostRuntime) -> Result<(), Fail> {
-    expect_behind(
-        &rt,
-        Params::DEFAULT,
-        6,
-        "pick 1 10000\nshow 1\npick 1 110000\nshow 1\npick 1 210000\nshow 1\ndone 1 3\ndone 1 3\nwindow 1\ndone 1 4\nfetch 1 3\npick 1 300000\npick 1 300000\n",
-        "picked 1 1 1\n\
-hop 1 taken 6 queued 5 flight 1 dropped 0 released 0 first 110000 next 0 count 0 last 0 dropping no moment 10000\n\
-picked 1 2 3 dropped 2\n\
-hop 1 taken 6 queued 3 flight 2 dropped 1 released 0 first 110000 next 210000 count 1 last 1 dropping yes moment 110000\n\
-picked 1 3 5 dropped 4\n\
-hop 1 taken 6 queued 1 flight 3 dropped 2 released 0 first 0 next 210000 count 2 last 1 dropping no moment 210000\n\
-released 1 3\nunchanged 1\nwindow 1 4 4\nrefused 9 neversent\nrefused 10 notinflight\npicked 1 4 6\nrefused 8 empty\n",
-    )
+    expect_behind(&rt, Params::DEFAULT, 6, THREE_PICKS, THREE_PICKS_ANSWERED)
 }
 
 #[test]
 fn ten_takes_and_a_late_pick(rt: HostRuntime) -> Result<(), Fail> {
-    expect_behind(
-        &rt,
-        Params::DEFAULT,
-        10,
-        "pick 1 10000\npick 1 110000\npick 1 400000\nshow 1\n",
-        "picked 1 1 1\npicked 1 2 3 dropped 2\npicked 1 3 8 dropped 4 5 6 7\n\
-hop 1 taken 10 queued 2 flight 3 dropped 5 released 0 first 110000 next 433166 count 5 last 1 dropping yes moment 400000\n",
-    )
+    expect_behind(&rt, Params::DEFAULT, 10, LATE_PICK, LATE_PICK_ANSWERED)
 }
 
 #[test]

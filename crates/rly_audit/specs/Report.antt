@@ -1,0 +1,68 @@
+-- The report on a state (docs/COMMANDS.md, "rly audit"): a line for each hop, then one for each peer, then the count of
+-- accepted commands, and, where the books balance, that they do.
+use Rattle.std.specs.Prelude.{ℕ, ◌+◌, ◌==◌, Bool, true, false, ◌&&◌, List, [], ◌∷◌, ◌++◌, codes, map, sum, sum_by}
+use Rattle.std.specs.Fmt.{decimal}
+use Rattle.std.specs.List.{enumerate_from, flat_map, list_all}
+use Rattle.rly_machine.specs.declared.reply.HopStatus.{HopStatus}
+use Rattle.rly_machine.specs.Query.{status_of}
+use Rattle.rly_machine.specs.State.{State}
+
+-- the numbers that a report tells: those of each hop, the last one taken from each peer, and how many commands were accepted
+pub record BooksState : Type 0 where
+  pub hops : List HopStatus
+  pub lasts : List ℕ
+  pub seq : ℕ
+
+-- the numbers of a state
+abbrev pub books_of : State (List ℕ) → BooksState
+books_of s = record { hops = map status_of s.hops; lasts = s.lasts; seq = s.seq }
+
+-- what became of a hop's datagrams
+unfoldable pub counts_text : HopStatus → List ℕ
+counts_text h =
+    codes " taken " ++ decimal h.taken
+    ++ codes " queued " ++ decimal h.queued
+    ++ codes " flight " ++ decimal h.flight
+    ++ codes " dropped " ++ decimal h.dropped
+    ++ codes " released " ++ decimal h.released
+
+-- hop H taken A queued B flight C dropped D released E
+abbrev pub hop_line : ℕ × HopStatus → List ℕ
+hop_line (number, h) = codes "hop " ++ decimal number ++ counts_text h ++ 10 ∷ []
+
+-- peer P last N
+abbrev pub peer_line : ℕ × ℕ → List ℕ
+peer_line (number, last) = codes "peer " ++ decimal number ++ codes " last " ++ decimal last ++ 10 ∷ []
+
+-- seq N
+abbrev pub seq_line : ℕ → List ℕ
+seq_line seq = codes "seq " ++ decimal seq ++ 10 ∷ []
+
+-- what a hop took waits, is in flight, was dropped or was released
+abbrev pub hop_balances : HopStatus → Bool
+hop_balances h = h.taken == h.queued + h.flight + h.dropped + h.released
+
+-- each hop's books balance, and what the peers' numbers count is what the hops took
+unfoldable pub balances : BooksState → Bool
+balances b = list_all hop_balances b.hops && sum b.lasts == sum_by (λ h. h.taken) b.hops
+
+-- that the books balance, where they do
+abbrev pub balance_line : Bool → List ℕ
+balance_line true = codes "balance ok" ++ 10 ∷ []
+balance_line false = []
+
+-- the hops' lines, each with its number, counted from 1
+abbrev pub hop_lines : List HopStatus → List ℕ
+hop_lines hops = flat_map hop_line (enumerate_from 1 hops)
+
+-- the peers' lines, each with its number, counted from 1
+abbrev pub peer_lines : List ℕ → List ℕ
+peer_lines lasts = flat_map peer_line (enumerate_from 1 lasts)
+
+-- the report on numbers
+abbrev pub report_text : BooksState → List ℕ
+report_text b = hop_lines b.hops ++ peer_lines b.lasts ++ seq_line b.seq ++ balance_line (balances b)
+
+-- the report on a state
+abbrev pub report_of : State (List ℕ) → List ℕ
+report_of s = report_text (books_of s)

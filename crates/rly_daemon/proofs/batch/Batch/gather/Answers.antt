@@ -1,0 +1,33 @@
+use Rattle.std.proofs.Common.{◌≡◌, ◌≤◌, ◌+◌, ◌<◌, length, length-append, ap, arith, ◌∙◌, ◌∷◌, [], Ok, refl}
+use Rattle.std.specs.Io.KnownBytes.{Keeps, prepend_known}
+use Rattle.rly_daemon.specs.Grammar.{ask_of}
+use Rattle.rly_daemon.specs.Playing.{asks_of, subject_in}
+use Rattle.rly_daemon.proofs.Gathering.{ends, few_calls, gathers_more, keeps_keeps}
+use Rattle.rly_daemon.proofs.batch.Batch.gather.Goals as goal
+
+pub returns-then-not-branch-clause-ended : goal.returns-then-not-branch-clause-ended
+returns-then-not-branch-clause-ended g c =
+    let none = rw c.if-not-branch.true at c.in_ok-take_line.ensures.line in
+    λ _. ends (prepend_known c.args.lines.now.ahead (g.R.Read.remaining c.args.reader.now)) (prepend_known c.loop-self.lines.ahead (g.R.Read.remaining c.loop-self.reader))
+    (prepend_known c.take_line.new.lines.ahead (g.R.Read.remaining c.take_line.new.reader)) c.take_line.new.lines.line c.loop-self.self.slots.items (asks_of c.loop-self.self.calls.items)
+    c.loop-self.invariant.0 none
+
+pub loop-self-preserved : goal.loop-self-preserved
+loop-self-preserved g c =
+    let line = rw c.if-not-branch.false at c.in_ok-take_line.ensures.line in
+    let put = c.in_ok-take_line.ensures.put (ap Ok c.if-not-branch.false) in
+    let more = c.in_ok-take_line.ensures.progress (ap Ok c.if-not-branch.false) in
+    let count : length c.take_line.new.self.slots.items ≡ length c.loop-self.self.slots.items + 1 =
+    ap length put.slots ∙ length-append c.loop-self.self.slots.items (subject_in (ask_of c.take_line.new.lines.line) ∷ []) in (
+      gathers_more (prepend_known c.args.lines.now.ahead (g.R.Read.remaining c.args.reader.now)) (prepend_known c.loop-self.lines.ahead (g.R.Read.remaining c.loop-self.reader))
+          (prepend_known c.take_line.new.lines.ahead (g.R.Read.remaining c.take_line.new.reader)) c.take_line.new.lines.line c.loop-self.self.slots.items c.take_line.new.self.slots.items
+          (asks_of c.loop-self.self.calls.items) (asks_of c.take_line.new.self.calls.items) c.loop-self.invariant.0 line put.slots put.asks,
+      few_calls c.loop-self.self.calls.items c.take_line.new.self.calls.items c.loop-self.self.slots.items c.take_line.new.self.slots.items (ask_of c.take_line.new.lines.line)
+          c.loop-self.invariant.1 put.slots put.asks,
+      omega (arith, count, c.len.ensures, c.loop-self-test.true, c.loop-self.invariant.6, c.requires.most.1),
+      (λ _. (omega (arith, more.0, c.loop-self.invariant.4), more.1)),
+      omega (arith, more.0, c.loop-self.invariant.4),
+      c.in_ok-take_line.ensures.answers ∙ c.loop-self.invariant.5,
+      c.in_ok-take_line.ensures.most ∙ c.loop-self.invariant.6,
+      keeps_keeps (g.W.Write.contents c.args.writer.now) (g.W.Write.contents c.loop-self.writer) (g.W.Write.contents c.take_line.new.writer) c.loop-self.invariant.7 c.in_ok-take_line.ensures.keeps,
+    )

@@ -1,0 +1,50 @@
+ghost use Rattle.std.specs.Prelude.{◌≡◌, ◌↔◌, IfOk, IsOk, IsOkUnless};
+ghost use Rattle.rly_segment.specs.Device.{IsGeometry, device_length};
+ghost use Rattle.rly_daemon.specs.Formatting.{wanted};
+
+use rly_core::limits::SEGMENT_LENGTH_LIMIT;
+use rly_core::{Geometry, Params, Refusal};
+use rly_reclaim::{fits, least_length};
+use rly_segment::segment_end;
+
+/// How many segments a device has.
+const SEGMENTS: u64 = 2;
+
+/// The geometry of a new device. Without a length its segments have the least that fits. The only
+/// refusal is `BadGeometry`.
+pub(crate) fn geometry_of(
+    params: Params,
+    segments: u64,
+    length: Option<u64>,
+) -> Result<Geometry, Refusal>
+    ensures geometry { IfOk result (λ geometry. geometry ≡ wanted params segments length) }
+    ensures exactly { IsOk result ↔ IsGeometry (wanted params segments length) (device_length (wanted params segments length)) }
+    ensures refusal { IsOkUnless result Refusal.BadGeometry }
+{
+    params.check()?;
+    if segments != SEGMENTS {
+        return Err(Refusal::BadGeometry);
+    }
+    let least = least_length(&Geometry {
+        params,
+        segments,
+        length: 0,
+    });
+    let geometry = Geometry {
+        params,
+        segments,
+        length: length.unwrap_or(least),
+    };
+    if SEGMENT_LENGTH_LIMIT <= geometry.length || !fits(&geometry) {
+        return Err(Refusal::BadGeometry);
+    }
+    Ok(geometry)
+}
+
+/// How many bytes a device of a geometry takes.
+pub(crate) fn device_size(geometry: &Geometry) -> u64
+    requires { IsGeometry geometry.now (device_length geometry.now) }
+    ensures { result ≡ device_length geometry.now }
+{
+    segment_end(geometry, geometry.segments - 1)
+}

@@ -1,0 +1,62 @@
+ghost use Rattle.std.specs.Prelude.{◌≡◌, ◌^◌, ◌<◌, OnErr, OnOk, Ok, true, IfOk, false};
+ghost use Rattle.std.specs.Io.KnownBytes.{prepend_known};
+ghost use Rattle.rly_core.specs.Bounds.{IsIn};
+ghost use Rattle.rly_daemon.specs.Playing.{EndsAt, IsReady, PlaysAll, PlaysFront, PlaysSome};
+
+use crate::batch::Batch;
+use crate::fault::SimFault;
+use crate::line_reader::LineReader;
+use rly_disk::Disk;
+use rly_journal::Journal;
+use std::alloc::Global;
+use std::io::{Read, Write};
+
+/// Runs commands from a reader on a journal, and writes a reply line for each line. So many lines
+/// make one round of the journal, fewer at the end; a line that is no command counts among them.
+/// Replies are flushed before the reader is waited for. Where it stops early, the lines that were
+/// gathered for a round that wasn't made are lost.
+pub fn play<D: Disk, R: Read, W: Write>(
+    alloc: Global,
+    reader: &mut R,
+    writer: &mut W,
+    journal: &mut Journal<D>,
+    batch: u64,
+) -> Result<(), SimFault>
+    requires { IsIn 1 64 batch }
+    // What is written is the text of what is read.
+    ensures written { OnOk result (PlaysAll D.state journal.old journal.new
+        (R.remaining reader.old) (W.contents writer.old) (W.contents writer.new)) }
+    // Where it stops early, a beginning of such a text was written.
+    ensures begun { OnErr result (PlaysFront D.state journal.old journal.new
+        (R.remaining reader.old) (W.contents writer.old) (W.contents writer.new)) }
+{
+    let mut lines = LineReader::new(alloc)?;
+    let mut round = Batch::new(alloc, batch)?;
+    'rounds: while play_round(alloc, journal, &mut round, &mut lines, reader, writer)? {}
+    Ok(())
+}
+
+/// Plays the lines of one round, and says whether there may be more.
+fn play_round<D: Disk, R: Read, W: Write>(
+    alloc: Global,
+    journal: &mut Journal<D>,
+    round: &mut Batch,
+    lines: &mut LineReader,
+    reader: &mut R,
+    writer: &mut W,
+) -> Result<bool, SimFault>
+    requires { IsReady round.old }
+    ensures ready { OnOk result (IsReady round.new) }
+    ensures played { OnOk result (PlaysSome D.state journal.old journal.new
+        (prepend_known lines.old.ahead (R.remaining reader.old)) (prepend_known lines.new.ahead (R.remaining reader.new))
+        (W.contents writer.old) (W.contents writer.new)) }
+    ensures ended { result ≡ Ok false → EndsAt (prepend_known lines.old.ahead (R.remaining reader.old)) (prepend_known lines.new.ahead (R.remaining reader.new)) }
+    ensures begun { OnErr result (PlaysFront D.state journal.old journal.new
+        (prepend_known lines.old.ahead (R.remaining reader.old)) (W.contents writer.old) (W.contents writer.new)) }
+    ensures progress { result ≡ Ok true → (lines.old.taken < lines.new.taken) × (lines.new.taken < 2 ^ 64) }
+{
+    let full = round.gather(alloc, lines, reader, writer)?;
+    round.answer(alloc, journal)?;
+    round.tell(writer)?;
+    Ok(full)
+}

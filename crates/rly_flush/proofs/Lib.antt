@@ -1,0 +1,5 @@
+pub mod Refusing
+pub mod Answering
+pub mod Joining
+pub mod Crashing
+pub mod Serving

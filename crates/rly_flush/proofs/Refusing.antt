@@ -1,0 +1,131 @@
+-- Answers that refuse all calls, and those of a served round, behind a history.
+use Rattle.std.proofs.Common.{ℕ, suc, ◌≡◌, ◌≤◌, ◌++◌, ◌∷◌, [], List, Bool, true, false, true≢false, cond, length, refl, sym, ap, subst, ◌∙◌, arith}
+use Rattle.std.specs.List.{AllByRecursion, zip}
+use Rattle.std.proofs.lemmas.List.{map-append}
+use Rattle.std.proofs.lemmas.Slice.Zip.{firsts-zip}
+use Rattle.rly_core.specs.declared.refusal.Refusal.{Refusal}
+use Rattle.rly_core.specs.declared.refusal.Refusal.TheVariants.{Broken, DeviceRead, OutOfMemory, Unsure}
+use Rattle.rly_machine.specs.declared.call.Answer.{Answer}
+use Rattle.rly_machine.specs.declared.call.Call.{Call}
+use Rattle.rly_machine.specs.declared.reply.Reply.{Reply}
+use Rattle.rly_machine.specs.declared.reply.Reply.TheVariants.{Refused}
+use Rattle.rly_machine.specs.Ask.{ask_step}
+use Rattle.rly_machine.specs.History.{Entry, IsAnswered, LegalBy, harm, harm_after, is_failure, next_state, state_after, without_bytes}
+use Rattle.rly_machine.specs.State.{State}
+use Rattle.rly_machine.proofs.Histories.{folds}
+use Rattle.rly_machine.proofs.RealReplies.{harmless}
+use Rattle.rly_journal.specs.Rounds.{OnlyMemory, refusal_of, refusals}
+use Rattle.rly_line.specs.Responding.{asks_of}
+use Rattle.rly_flush.specs.Flushing.{IsTruthful}
+
+-- the calls of a history that goes on
+pub asks_append : (xs ys : List Entry) → asks_of (xs ++ ys) ≡ asks_of xs ++ asks_of ys
+asks_append xs ys = map-append (λ (e : Entry). e.0) xs ys
+
+pub asks_zip : (calls : List Call) (given : List Answer) → length given ≡ length calls → asks_of (zip calls given) ≡ calls
+asks_zip calls given count = firsts-zip calls given count
+
+pub count_refusals : (refusal : Refusal) (p : ℕ) (calls : List Call) → length (refusals refusal p calls) ≡ length calls
+count_refusals refusal p [] = refl
+count_refusals refusal p (call ∷ calls) = ap suc (count_refusals refusal p calls)
+
+-- what holds of each entry may hold of it for a weaker reason
+pub all_weaker : (P Q : Entry → Type 0) → ((x : Entry) → P x → Q x) → (xs : List Entry) → AllByRecursion P xs → AllByRecursion Q xs
+all_weaker P Q more [] all = tt
+all_weaker P Q more (x ∷ xs) all = (more x all.0, all_weaker P Q more xs all.1)
+
+pub all_append : (P : Entry → Type 0) (xs ys : List Entry) → AllByRecursion P xs → AllByRecursion P ys → AllByRecursion P (xs ++ ys)
+all_append P [] ys all more = more
+all_append P (x ∷ xs) ys all more = (all.0, all_append P xs ys all.1 more)
+
+-- a call that is refused leaves the state
+stays_at : (refusal : Refusal) (p : ℕ) (s : State (List ℕ)) (call : Call) → is_failure (Refused refusal) ≡ true → next_state s (call, refusal_of refusal p call) ≡ s
+stays_at refusal p s call fails = ap (λ b. cond b s (ask_step s call.ask).0) fails
+
+pub refused_stays : (refusal : Refusal) (p : ℕ) (s : State (List ℕ)) (calls : List Call) → is_failure (Refused refusal) ≡ true
+    → state_after s (zip calls (refusals refusal p calls)) ≡ s
+refused_stays refusal p s [] fails = refl
+refused_stays refusal p s (call ∷ calls) fails =
+    ap (λ x. state_after x (zip calls (refusals refusal p calls))) (stays_at refusal p s call fails) ∙ refused_stays refusal p s calls fails
+
+-- at the position of that state it may stand in a history, where no more harm was told before
+refused_answer : (refusal : Refusal) (p harmed : ℕ) (s : State (List ℕ)) (call : Call) → is_failure (Refused refusal) ≡ true → harmed ≤ harm (Refused refusal) → p ≡ s.seq
+    → IsAnswered (λ reply. reply) harmed s (call, refusal_of refusal p call)
+refused_answer refusal p harmed s call fails low at = record {
+  seat = refl;
+  number = refl;
+  reply = λ real. absurd (true≢false (sym fails ∙ real));
+  position = at ∙ ap (λ (x : State (List ℕ)). x.seq) (sym (stays_at refusal p s call fails));
+  harm = low;
+}
+
+pub refused_legal : (refusal : Refusal) (p harmed : ℕ) (s : State (List ℕ)) (calls : List Call) → is_failure (Refused refusal) ≡ true → harmed ≤ harm (Refused refusal) → p ≡ s.seq
+    → LegalBy (λ reply. reply) harmed s (zip calls (refusals refusal p calls))
+refused_legal refusal p harmed s [] fails low at = tt
+refused_legal refusal p harmed s (call ∷ calls) fails low at = (
+  refused_answer refusal p harmed s call fails low at,
+  subst (λ (x : State (List ℕ)). LegalBy (λ reply. reply) (harm (Refused refusal)) x (zip calls (refusals refusal p calls))) (sym (stays_at refusal p s call fails))
+      (refused_legal refusal p (harm (Refused refusal)) s calls fails (omega arith) at),
+)
+
+-- the refusals of a round are true
+pub unsure_truthful : (failed broken : Type 0) (p : ℕ) (calls : List Call) → failed → AllByRecursion (IsTruthful failed broken) (zip calls (refusals Unsure p calls))
+unsure_truthful failed broken p [] rose = tt
+unsure_truthful failed broken p (call ∷ calls) rose = (
+  record { unsure = λ _. rose; broken_before = λ e. absurd (let h : Refused Unsure ≡ Refused Broken = e in cc); readable = λ e. let h : Refused Unsure ≡ Refused DeviceRead = e in cc },
+  unsure_truthful failed broken p calls rose,
+)
+
+pub broken_truthful : (failed broken : Type 0) (p : ℕ) (calls : List Call) → broken → AllByRecursion (IsTruthful failed broken) (zip calls (refusals Broken p calls))
+broken_truthful failed broken p [] was = tt
+broken_truthful failed broken p (call ∷ calls) was = (
+  record { unsure = λ e. absurd (let h : Refused Broken ≡ Refused Unsure = e in cc); broken_before = λ _. was; readable = λ e. let h : Refused Broken ≡ Refused DeviceRead = e in cc },
+  broken_truthful failed broken p calls was,
+)
+
+-- where want of memory is the only failure, no device failed
+memory_truthful : (failed broken : Type 0) (x : Entry) → OnlyMemory x → IsTruthful failed broken x
+memory_truthful failed broken x only = record {
+  unsure = λ e. absurd (let h : Refused Unsure ≡ Refused OutOfMemory = sym e ∙ only (ap is_failure e) in cc);
+  broken_before = λ e. absurd (let h : Refused Broken ≡ Refused OutOfMemory = sym e ∙ only (ap is_failure e) in cc);
+  readable = λ e. let h : Refused DeviceRead ≡ Refused OutOfMemory = sym e ∙ only (ap is_failure e) in cc;
+}
+
+pub served_truthful : (failed broken : Type 0) (xs : List Entry) → AllByRecursion OnlyMemory xs → AllByRecursion (IsTruthful failed broken) xs
+served_truthful failed broken xs only = all_weaker OnlyMemory (IsTruthful failed broken) (memory_truthful failed broken) xs only
+
+harmless_by : (reply : Reply) (fails : Bool) → is_failure reply ≡ fails → (is_failure reply ≡ true → reply ≡ Refused OutOfMemory) → harm reply ≡ 0
+harmless_by reply true is only = ap harm (only is)
+harmless_by reply false is only = harmless reply is
+
+pub served_unharmed : (harmed : ℕ) (xs : List Entry) → AllByRecursion OnlyMemory xs → harmed ≡ 0 → harm_after harmed xs ≡ 0
+served_unharmed harmed [] only none = none
+served_unharmed harmed (x ∷ xs) only none = served_unharmed (harm x.1.reply) xs only.1 (harmless_by x.1.reply (is_failure x.1.reply) refl only.0)
+
+-- no harm is above that of a journal that is broken
+most : (reply : Reply) → harm reply ≤ harm (Refused Broken)
+most (Refused Broken) = omega arith
+most (Refused Unsure) = omega arith
+most (Refused _) = omega arith
+most _ = omega arith
+
+pub most_after : (harmed : ℕ) (xs : List Entry) → harmed ≤ harm (Refused Broken) → harm_after harmed xs ≤ harm (Refused Broken)
+most_after harmed [] low = low
+most_after harmed (x ∷ xs) low = most_after (harm x.1.reply) xs (most x.1.reply)
+
+-- no position is above that of the state that a history leads to
+pub up_to : (harmed : ℕ) (s : State (List ℕ)) (history : List Entry) → LegalBy without_bytes harmed s history
+    → AllByRecursion (λ entry. entry.1.position ≤ (state_after s history).seq) history
+up_to harmed s [] legal = tt
+up_to harmed s (x ∷ xs) legal = (
+  (let rest = (folds (harm x.1.reply) (next_state s x) xs legal.1).2 in omega (arith, legal.0.position, rest)),
+  up_to (harm x.1.reply) (next_state s x) xs legal.1,
+)
+
+pub up_to_more : (most least : ℕ) (history : List Entry) → least ≤ most → AllByRecursion (λ entry. entry.1.position ≤ least) history
+    → AllByRecursion (λ entry. entry.1.position ≤ most) history
+up_to_more most least history low all = all_weaker (λ e. e.1.position ≤ least) (λ e. e.1.position ≤ most) (λ e below. omega (arith, below, low)) history all
+
+-- a history leads to no lower position
+pub grows : (harmed : ℕ) (s : State (List ℕ)) (history : List Entry) → LegalBy without_bytes harmed s history → s.seq ≤ (state_after s history).seq
+grows harmed s history legal = let rest = (folds harmed s history legal).2 in omega (arith, rest)

@@ -1,0 +1,26 @@
+use Rattle.std.proofs.Common.{subst, sym}
+use Rattle.rly_flush.specs.Flushing.{IsContinued}
+use Rattle.rly_flush.proofs.Serving.{continued_first, continued_next}
+use Rattle.rly_flush.proofs.flusher.Flusher.serve.Goals.{in-None, in-Some+then-not-round}
+use Rattle.rly_flush.proofs.flusher.Flusher.serve.Goals as goal
+
+pub loop-count-init : goal.loop-count-init
+loop-count-init g c = continued_first g.D.Disk.state g.met.D.Disk.consistent c.args.self c.law_history.ensures
+
+pub loop-count-preserved : goal.loop-count-preserved
+loop-count-preserved g c =
+    continued_next g.D.Disk.state g.met.D.Disk.consistent c.args.self c.loop-count.flusher c.round.new.self c.loop-count.invariant c.round.result
+    c.round.ensures.took c.round.ensures.first c.round.ensures.start c.round.ensures.history c.round.ensures.failures c.round.ensures.later c.round.ensures.any_moment
+
+pub returns-clause-ends : goal.returns-clause-ends
+returns-clause-ends g c = (
+  c.match-next.flusher,
+  sym c.into_finished.ensures.journal,
+  (elim c.match-next.branch [
+    | in-None w ↦ subst (IsContinued g.D.Disk.state c.args.self) (sym w.flusher-is) c.loop-count.invariant
+    | in-Some+then-not-round w ↦
+        subst (IsContinued g.D.Disk.state c.args.self) (sym w.flusher-is)
+        (continued_next g.D.Disk.state g.met.D.Disk.consistent c.args.self c.loop-count.flusher w.round.new.self c.loop-count.invariant w.round.result
+        w.round.ensures.took w.round.ensures.first w.round.ensures.start w.round.ensures.history w.round.ensures.failures w.round.ensures.later w.round.ensures.any_moment)
+  ]),
+)

@@ -1,0 +1,177 @@
+ghost use Rattle.std.specs.Prelude.{◌≡◌, ◌≤◌, ℕ, [], false, length, map, vec_capacity, IfErr, IfOk, MatchBool};
+ghost use Rattle.std.specs.List.{range_with_len};
+ghost use Rattle.rly_core.specs.Bounds.{IsIn};
+ghost use Rattle.rly_disk.specs.DiskModel.{Later, Settled};
+ghost use Rattle.rly_journal.specs.Journal.{IsRound, IsSafe};
+ghost use Rattle.rly_journal.specs.Standing.{Stands};
+ghost use Rattle.rly_line.specs.EndViews.{new_teller};
+ghost use Rattle.rly_flush.specs.Flushing.{GrewInRound, IsCrashSafe, IsOneHistory, IsOneRound, IsServed, new_flusher};
+
+use crate::batch::{answer_all, collect, reserve};
+use crate::spool::Spool;
+use rly_disk::Disk;
+use rly_journal::Journal;
+use rly_line::{LineEnd, Responder};
+use rly_machine::{Answer, Call};
+use std::alloc::Global;
+use std::marker::Model;
+use std::snapshot::Snapshot;
+use std::sync::Wait;
+
+/// The one thread that owns the journal, at the end of all seats' lines. Contracts see the journal that it was given,
+/// that journal now, and what became of the calls.
+#[derive(Drop)]
+pub struct Flusher<D: Disk> {
+    alloc: Global,
+    first: Snapshot<Spool<D>>,
+    spool: Spool<D>,
+    line: Responder<Spool<D>>,
+    calls: Vec<Call>,
+    said: Vec<Snapshot<Call>>,
+    answers: Vec<Answer>,
+}
+
+impl<D: Disk> Model for Flusher<D> {
+    ghost use Rattle.std.specs.Prelude.{◌≡◌, ◌≤◌, [], vec_capacity};
+    ghost use Rattle.rly_flush.specs.Flushing.{FlusherState, IsFlushing};
+    ghost use Rattle.rly_flush.specs.Batches.{AreReady};
+
+    ghost Value = { FlusherState D };
+
+    ghost view = { λ f. record { first = f.first.value.journal; journal = f.spool.journal; line = f.line } };
+
+    ghost invariant = { λ f. IsFlushing D.state (record { first = f.first.value.journal; journal = f.spool.journal; line = f.line })
+        × AreReady f.calls f.said f.answers };
+}
+
+/// What a flusher leaves once all seats are gone.
+#[derive(Drop)]
+pub struct Finished<D: Disk> {
+    /// Whether a write or a sync failed: the journal refuses every call until the device is opened again.
+    pub broken: bool,
+    pub journal: Journal<D>,
+}
+
+impl<D: Disk> Flusher<D> {
+    /// Owns a journal, at the end of new lines. Where memory is refused for one round of 64 calls, both are handed
+    /// back; no later round needs any for its calls and answers.
+    pub fn new(
+        alloc: Global,
+        journal: Journal<D>,
+        line_end: LineEnd,
+    ) -> Result<Flusher<D>, (Journal<D>, LineEnd)>
+        requires { (count : ℕ) × (line_end ≡ record { taken = []; lines = map new_teller (range_with_len 0 count) }) }
+        ensures begins { IfOk result (λ flusher. flusher ≡ new_flusher journal line_end.lines) }
+        ensures history { IfOk result (λ flusher. IsOneHistory D.state flusher) }
+        ensures refused { IfErr result (λ back. (back.0 ≡ journal) × (back.1 ≡ line_end)) }
+    {
+        let Ok((calls, said, answers)) = reserve(alloc) else {
+            return Err((journal, line_end));
+        };
+        journal.law_durable();
+        journal.law_counted();
+        let spool = Spool { journal };
+        let first = Snapshot::of(&spool);
+        let line = Responder::new(line_end, &spool);
+        Ok(Flusher {
+            alloc,
+            first,
+            spool,
+            line,
+            calls,
+            said,
+            answers,
+        })
+    }
+
+    /// Waits for a call, takes more while there are any, 64 at most, makes one round of the journal for them, and
+    /// answers each in its seat's line. False: no call was left, and no seat.
+    pub fn round<R: Wait>(&mut self, rt: &R) -> bool
+        // It answers true exactly where it took calls, and made one round of the journal for them.
+        ensures took { MatchBool result (IsOneRound D.state self.old self.new) (self.new ≡ self.old) }
+        ensures first { self.new.first ≡ self.old.first }
+        ensures start { self.new.line.start ≡ self.old.line.start }
+        ensures history { IsOneHistory D.state self.new }
+        // What this round adds tells of a failure only where there was one.
+        ensures failures { GrewInRound D.state self.old self.new }
+        ensures any_moment { (D.state self.old.journal.disk).honest → self.old.first.broken ≡ false → IsCrashSafe D.state self.old self.new }
+        ensures later { Later (D.state self.old.journal.disk) (D.state self.new.journal.disk) }
+    {
+        if !collect(rt, &mut self.line, &mut self.calls, &mut self.said) {
+            return false;
+        }
+        commit(
+            self.alloc,
+            &mut self.spool.journal,
+            &mut self.calls,
+            &mut self.answers,
+        );
+        answer_all(rt, &mut self.line, &mut self.said, &mut self.answers);
+        true
+    }
+
+    /// Makes rounds until all seats are gone, and gives the journal back.
+    pub fn serve<R: Wait>(self, rt: &R) -> Finished<D>
+        ensures broken { result.broken ≡ result.journal.broken }
+        ensures ends { IsServed D.state self result.journal }
+    {
+        let mut flusher = self;
+        flusher.law_history();
+        for _count in rt.forever() {
+            if !flusher.round(rt) {
+                break;
+            }
+        }
+        flusher.into_finished()
+    }
+
+    /// What is true of every flusher at each moment.
+    pub fn law_history(&self)
+        ensures { IsOneHistory D.state self.now }
+    {
+        let _ = &self.line;
+    }
+
+    /// The journal, given back.
+    fn into_finished(self) -> Finished<D>
+        ensures broken { result.broken ≡ result.journal.broken }
+        ensures journal { result.journal ≡ self.journal }
+    {
+        let Flusher {
+            alloc: _alloc,
+            first: _first,
+            spool,
+            line: _line,
+            calls: _calls,
+            said: _said,
+            answers: _answers,
+        } = self;
+        let Spool { journal } = spool;
+        Finished {
+            broken: journal.is_broken(),
+            journal,
+        }
+    }
+}
+
+/// Makes one round of a journal, for which there is room.
+fn commit<D: Disk>(
+    alloc: Global,
+    journal: &mut Journal<D>,
+    calls: &mut Vec<Call>,
+    answers: &mut Vec<Answer>,
+)
+    requires count { IsIn 1 64 (length calls.old.items) }
+    requires empty { answers.old.items ≡ [] }
+    requires room { 64 ≤ vec_capacity answers.old }
+    ensures emptied { calls.new.items ≡ [] }
+    ensures round { IsRound D.state journal.old journal.new calls.old.items answers.new.items }
+    ensures any_moment { (D.state journal.old.disk).honest → journal.old.broken ≡ false → IsSafe D.state journal.old journal.new calls.old.items }
+    ensures durable { (D.state journal.new.disk).honest → journal.new.broken ≡ false → Settled (D.state journal.new.disk) × Stands (D.state journal.new.disk).seen journal.new.state }
+    ensures later { Later (D.state journal.old.disk) (D.state journal.new.disk) }
+    ensures calls_capacity { vec_capacity calls.new ≡ vec_capacity calls.old }
+    ensures answers_capacity { vec_capacity answers.old ≤ vec_capacity answers.new }
+{
+    let made = journal.round(alloc, calls, answers);
+    prove!(made.is_ok());
+}

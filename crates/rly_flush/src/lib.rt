@@ -1,0 +1,16 @@
+//! The flusher: the one thread that owns the journal. It takes the calls of all seats, makes one round of the
+//! journal for many of them, and answers each in its seat's line.
+//!
+//! `specs/Flushing.antt` says what holds of it: there is one history, of the calls that were taken, in their order,
+//! which is legal from the state of the journal that it was given; what each seat was told is a beginning of it;
+//! and a crash leaves all that was answered. `Flusher::round` makes one round, and `Flusher::serve` rounds until all
+//! seats are gone.
+#![tactic(auto)]
+
+mod batch;
+mod flusher;
+mod spool;
+#[cfg(test)]
+mod tests;
+
+pub use crate::flusher::{Finished, Flusher};

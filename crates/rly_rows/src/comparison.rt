@@ -1,0 +1,199 @@
+//! The plain machine beside a journal: the same steps, and the same answers.
+use crate::device::DEVICE_E;
+use crate::script::{HOP, PEER, Script, Step, ask_all};
+use rly_core::Refusal;
+use rly_disk::Disk;
+use rly_journal::Journal;
+use rly_machine::{Answer, Ask, Machine, Payload, Reply};
+use std::alloc::{AllocError, Global};
+use std::process::Abort;
+
+/// The plain machine that the first rounds of a script were asked of.
+pub(crate) fn machine_after(
+    alloc: Global,
+    script: Script,
+    rounds: usize,
+) -> Result<Machine<Payload>, AllocError> {
+    let mut machine = Machine::new(alloc, DEVICE_E.params)?;
+    for index in 0..rounds {
+        for step in script.round(index) {
+            let _ = reply_of(alloc, &mut machine, *step)?;
+        }
+    }
+    Ok(machine)
+}
+
+/// The plain machine's reply to a step, which it makes.
+pub(crate) fn reply_of(
+    alloc: Global,
+    machine: &mut Machine<Payload>,
+    step: Step,
+) -> Result<Reply, AllocError> {
+    match step.ask(alloc)? {
+        Ask::Command(command) => {
+            let room = machine.reserve_for(alloc, &command)?;
+            Ok(machine.apply(command, room))
+        }
+        Ask::Query(query) => machine.answer(alloc, query),
+    }
+}
+
+/// Makes the steps on the plain machine, and expects each of its replies, at its position, of a journal.
+pub(crate) fn expect_replies(
+    rt: &impl Abort,
+    alloc: Global,
+    machine: &mut Machine<Payload>,
+    steps: &[Step],
+    answers: &[Answer],
+) -> Result<(), AllocError> {
+    assert_eq!(rt; answers.len(), steps.len());
+    for (step, answer) in steps.iter().zip(answers) {
+        let reply = reply_of(alloc, machine, *step)?;
+        assert!(rt;
+            is_same(&answer.reply, &reply),
+            "{step:?}: {answer:?}, not {reply:?}"
+        );
+        assert_eq!(rt; answer.position, machine.seq(), "{step:?}");
+    }
+    Ok(())
+}
+
+/// Whether two replies are the same.
+pub(crate) fn is_same(one: &Reply, other: &Reply) -> bool {
+    match (one, other) {
+        (Reply::Taken(a), Reply::Taken(b)) => a == b,
+        (Reply::Already(a), Reply::Already(b)) => a == b,
+        (
+            Reply::Picked {
+                number,
+                id,
+                dropped,
+            },
+            Reply::Picked {
+                number: other_number,
+                id: other_id,
+                dropped: other_dropped,
+            },
+        ) => {
+            number == other_number
+                && id == other_id
+                && dropped.as_slice() == other_dropped.as_slice()
+        }
+        (Reply::Nothing, Reply::Nothing) => true,
+        (Reply::Released(a), Reply::Released(b)) => a == b,
+        (Reply::Unchanged, Reply::Unchanged) => true,
+        (Reply::Bytes(a), Reply::Bytes(b)) => a.as_slice() == b.as_slice(),
+        (
+            Reply::WindowIs { first, next },
+            Reply::WindowIs {
+                first: other_first,
+                next: other_next,
+            },
+        ) => first == other_first && next == other_next,
+        (Reply::Shown(a), Reply::Shown(b)) => a == b,
+        (Reply::Refused(a), Reply::Refused(b)) => a == b,
+        _ => false,
+    }
+}
+
+/// Expects of a journal all that a machine's state tells: its numbers, what is in flight, and, by picks at a late moment until
+/// nothing is left, what waits. Both go on from there.
+pub(crate) fn expect_state<D: Disk>(
+    rt: &impl Abort,
+    alloc: Global,
+    journal: &mut Journal<D>,
+    machine: &mut Machine<Payload>,
+) -> Result<(), AllocError> {
+    expect_numbers(rt, alloc, journal, machine)?;
+    for turn in 0..40 {
+        if machine.item_count() == 0 {
+            return Ok(());
+        }
+        expect_turn(rt, alloc, journal, machine, turn)?;
+    }
+    panic!(rt; "something is always left")
+}
+
+/// Picks, fetches and releases one datagram of both.
+fn expect_turn<D: Disk>(
+    rt: &impl Abort,
+    alloc: Global,
+    journal: &mut Journal<D>,
+    machine: &mut Machine<Payload>,
+    turn: u64,
+) -> Result<(), AllocError> {
+    let Reply::WindowIs { first, .. } = machine.ask_window(HOP) else {
+        panic!(rt; "no window");
+    };
+    let steps = [
+        Step::Pick {
+            now: 1_000_000 + 60_000 * turn.min(40),
+        },
+        Step::Show,
+        Step::Fetch { number: first },
+        Step::Release { number: first },
+        Step::Show,
+    ];
+    let answers = ask_all(rt, alloc, journal, &steps)?;
+    expect_replies(rt, alloc, machine, &steps, &answers)
+}
+
+/// Expects of a journal a machine's numbers and payloads in flight.
+pub(crate) fn expect_numbers<D: Disk>(
+    rt: &impl Abort,
+    alloc: Global,
+    journal: &mut Journal<D>,
+    machine: &mut Machine<Payload>,
+) -> Result<(), AllocError> {
+    assert_eq!(rt; journal.position(), machine.seq());
+    assert_eq!(rt; journal.last(PEER).ok().as_ref(), machine.lasts().first());
+    assert!(rt; is_same(&journal.ask_show(HOP), &machine.ask_show(HOP)));
+    let Reply::WindowIs { first, next } = machine.ask_window(HOP) else {
+        panic!(rt; "no window");
+    };
+    let steps = [
+        Step::Show,
+        Step::Window,
+        Step::Fetch { number: first },
+        Step::Fetch { number: next },
+    ];
+    let answers = ask_all(rt, alloc, journal, &steps)?;
+    expect_replies(rt, alloc, machine, &steps, &answers)?;
+    for number in 0..=next {
+        match (journal.fetch(alloc, HOP, number), machine.item(HOP, number)) {
+            (Ok(bytes), Ok(item)) => assert!(rt; bytes.as_slice() == item.payload.as_slice()),
+            (Err(refusal), Err(other)) => assert_eq!(rt; refusal, other),
+            _ => panic!(rt; "number {number}"),
+        }
+    }
+    Ok(())
+}
+
+/// Expects one refusal of all, at one position.
+pub(crate) fn expect_refused(rt: &impl Abort, answers: &[Answer], refusal: Refusal, position: u64) {
+    for answer in answers {
+        assert!(rt;
+            is_same(&answer.reply, &Reply::Refused(refusal)),
+            "{answer:?}"
+        );
+        assert_eq!(rt; answer.position, position);
+    }
+}
+
+/// Expects of a journal that it is broken: every call is refused, at the position before the round in which it broke.
+pub(crate) fn expect_broken<D: Disk>(
+    rt: &impl Abort,
+    alloc: Global,
+    journal: &mut Journal<D>,
+    steps: &[Step],
+    position: u64,
+) -> Result<(), AllocError> {
+    let answers = ask_all(rt, alloc, journal, steps)?;
+    expect_refused(rt, &answers, Refusal::Broken, position);
+    assert!(rt; journal.is_broken());
+    assert_eq!(rt; journal.position(), position);
+    assert_eq!(rt; journal.last(PEER), Err(Refusal::Broken));
+    assert_eq!(rt; journal.fetch(alloc, HOP, 1).err(), Some(Refusal::Broken));
+    assert!(rt; is_same(&journal.ask_show(HOP), &Reply::Refused(Refusal::Broken)));
+    Ok(())
+}

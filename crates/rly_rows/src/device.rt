@@ -1,0 +1,84 @@
+//! Device E, a small device of two segments, and its bytes.
+use crate::script::{Step, ask_all};
+use rly_core::{Geometry, Params};
+use rly_disk::{Disk, MemDisk};
+use rly_journal::Journal;
+use rly_machine::Reply;
+use rly_segment::format;
+use std::alloc::{AllocError, Global};
+use std::process::Abort;
+
+/// One hop, one peer, a window of 8, 16 items and 4,096 bytes, on two segments of the least length.
+pub(crate) const DEVICE_E: Geometry = Geometry {
+    params: Params {
+        hops: 1,
+        peers: 1,
+        window: 8,
+        items: 16,
+        bytes: 4_096,
+        maxpacket: 1_500,
+        target: 5_000,
+        interval: 100_000,
+    },
+    segments: 2,
+    length: 82_908,
+};
+
+/// How many bytes it has.
+pub(crate) const SIZE: usize = 165_880;
+
+/// The place of its second segment's gate.
+pub(crate) const SECOND_GATE: usize = 82_972;
+
+/// Device E as it was formatted, on zeroed bytes.
+pub(crate) fn device_e(rt: &impl Abort, alloc: Global) -> Result<MemDisk, AllocError> {
+    let mut disk = MemDisk::new(alloc, vec![in alloc; 0u8; SIZE]?);
+    assert!(rt; format(alloc, &mut disk, &DEVICE_E) == Ok(()));
+    Ok(disk)
+}
+
+/// Its bytes.
+pub(crate) fn formatted(rt: &impl Abort, alloc: Global) -> Result<Vec<u8>, AllocError> {
+    let mut disk = device_e(rt, alloc)?;
+    bytes_of(rt, alloc, &mut disk)
+}
+
+/// Its bytes once the first datagram was taken: the line `take 1 1 1 0 41`.
+pub(crate) fn taken(rt: &impl Abort, alloc: Global) -> Result<Vec<u8>, AllocError> {
+    let mut journal = opened(rt, alloc, device_e(rt, alloc)?);
+    let answers = ask_all(rt, alloc, &mut journal, &[FIRST_TAKE])?;
+    assert!(rt;
+        answers
+            .iter()
+            .all(|answer| matches!(answer.reply, Reply::Taken(1)))
+    );
+    let mut disk = journal.into_disk();
+    bytes_of(rt, alloc, &mut disk)
+}
+
+/// The line `take 1 1 1 0 41`.
+pub(crate) const FIRST_TAKE: Step = Step::Take {
+    number: 1,
+    stamp: 0,
+    byte: 0x41,
+    length: 1,
+};
+
+/// The journal of a device that opens.
+pub(crate) fn opened<D: Disk>(rt: &impl Abort, alloc: Global, disk: D) -> Journal<D> {
+    match Journal::open(alloc, disk) {
+        Ok(journal) => journal,
+        Err((fault, _disk)) => panic!(rt; "{fault:?}"),
+    }
+}
+
+/// All bytes that a disk reads.
+pub(crate) fn bytes_of<D: Disk>(
+    rt: &impl Abort,
+    alloc: Global,
+    disk: &mut D,
+) -> Result<Vec<u8>, AllocError> {
+    let mut bytes = vec![in alloc; 0u8; disk.size() as usize]?;
+    assert!(rt; disk.read_at(0, &mut bytes).is_ok());
+    Ok(bytes)
+}

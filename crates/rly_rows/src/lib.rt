@@ -1,0 +1,25 @@
+//! Tests that cross crates: stored devices byte by byte, worked rounds, and the journal stopped at each call of its device.
+//!
+//! A contract says what one call does. These tests say of several crates together what a person wrote down: the bytes of a
+//! device, the answer of each changed device, and, after a stop and a crash of each kind, the state of the plain machine
+//! (docs/FORMATS.md, docs/DEFINITIONS.md). No crate may call it: it has no code but tests, on devices in memory.
+#![tactic(auto)]
+
+#[cfg(test)]
+mod comparison;
+#[cfg(test)]
+mod device;
+#[cfg(test)]
+mod faults;
+#[cfg(test)]
+mod refused_devices;
+#[cfg(test)]
+mod refused_memory;
+#[cfg(test)]
+mod script;
+#[cfg(test)]
+mod stored_devices;
+#[cfg(test)]
+mod walks;
+#[cfg(test)]
+mod worked_rounds;

@@ -1,0 +1,147 @@
+//! Changed devices, and what opening answers to each.
+use crate::comparison::expect_state;
+use crate::device::{DEVICE_E, SIZE, bytes_of, formatted, taken};
+use rly_disk::MemDisk;
+use rly_journal::{Journal, OpenFault};
+use rly_machine::Machine;
+use std::alloc::{AllocError, Global};
+use std::process::Abort;
+use std::test::Fail;
+
+/// A device that a row begins with.
+#[derive(Clone, Copy, Debug, PartialEq, Eq)]
+enum Base {
+    /// Device E as it was formatted.
+    Formatted,
+    /// Device E once the first datagram was taken.
+    Taken,
+}
+
+/// Changes of device E, and of device E after its first take: how many bytes stay, which bytes are set, and why it isn't
+/// opened. `None` opens to the empty state.
+const ROWS: [(Base, usize, &[(usize, u8)], Option<OpenFault>); 15] = [
+    (Base::Formatted, SIZE, &[], None),
+    (Base::Formatted, 63, &[], Some(OpenFault::NotADevice)),
+    (
+        Base::Formatted,
+        SIZE,
+        &[(0, 0x00)],
+        Some(OpenFault::NotADevice),
+    ),
+    (
+        Base::Formatted,
+        SIZE,
+        &[(10, 0x02)],
+        Some(OpenFault::NotADevice),
+    ),
+    (
+        Base::Formatted,
+        SIZE,
+        &[(12, 0x00)],
+        Some(OpenFault::BadGeometry),
+    ),
+    (Base::Formatted, 165_879, &[], Some(OpenFault::BadGeometry)),
+    (
+        Base::Formatted,
+        SIZE,
+        &[(64, 0x00)],
+        Some(OpenFault::Damaged(64)),
+    ),
+    (
+        Base::Formatted,
+        SIZE,
+        &[(72, 0x00)],
+        Some(OpenFault::Damaged(64)),
+    ),
+    (
+        Base::Formatted,
+        SIZE,
+        &[(72, 0x02)],
+        Some(OpenFault::Damaged(64)),
+    ),
+    (Base::Formatted, SIZE, &[(82_972, 0xa5)], None),
+    (
+        Base::Formatted,
+        SIZE,
+        &[(82_972, 0xa5), (82_980, 0x01)],
+        Some(OpenFault::Damaged(82_972)),
+    ),
+    (
+        Base::Formatted,
+        SIZE,
+        &[(82_972, 0xa5), (82_980, 0x02)],
+        Some(OpenFault::Damaged(82_972)),
+    ),
+    // a group with a count of 0
+    (
+        Base::Formatted,
+        SIZE,
+        &[(164, 0xa5), (168, 0x02)],
+        Some(OpenFault::Damaged(164)),
+    ),
+    (Base::Taken, SIZE, &[(164, 0xa4)], None),
+    (
+        Base::Taken,
+        SIZE,
+        &[(168, 0x1b)],
+        Some(OpenFault::Damaged(164)),
+    ),
+];
+
+/// Opens a device, and expects the empty state, or a refusal that hands back the disk as it was.
+fn expect_opening(
+    rt: &impl Abort,
+    alloc: Global,
+    bytes: &[u8],
+    want: Option<OpenFault>,
+) -> Result<(), AllocError> {
+    let disk = MemDisk::new(alloc, Vec::from_slice(alloc, bytes)?);
+    match (Journal::open(alloc, disk), want) {
+        (Ok(journal), None) => {
+            let mut journal = journal;
+            let mut machine = Machine::new(alloc, DEVICE_E.params)?;
+            assert!(rt; journal.params() == DEVICE_E.params && !journal.is_broken());
+            expect_state(rt, alloc, &mut journal, &mut machine)
+        }
+        (Err((fault, disk)), Some(other)) => {
+            let mut disk = disk;
+            assert_eq!(rt; fault, other);
+            let read = bytes_of(rt, alloc, &mut disk)?;
+            assert!(rt; read.as_slice() == bytes);
+            Ok(())
+        }
+        (Ok(_), Some(fault)) => panic!(rt; "opened, not {fault:?}"),
+        (Err((fault, _)), None) => panic!(rt; "{fault:?}"),
+    }
+}
+
+#[test]
+fn changed_devices(rt: HostRuntime) -> Result<(), Fail> {
+    let alloc = rt.alloc();
+    let new = formatted(&rt, alloc)?;
+    let used = taken(&rt, alloc)?;
+    for (base, size, changes, want) in ROWS {
+        let device = if base == Base::Taken { &used } else { &new };
+        let mut bytes = Vec::from_slice(alloc, device)?;
+        for (place, byte) in changes {
+            assert!(rt; *place < bytes.len());
+            bytes[*place] = *byte;
+        }
+        bytes.truncate(size);
+        expect_opening(&rt, alloc, &bytes, want)?;
+    }
+    Ok(())
+}
+
+/// A group that was made before is refused at its own gate: its Take is not accepted again.
+#[test]
+fn a_group_that_stands_twice(rt: HostRuntime) -> Result<(), Fail> {
+    let alloc = rt.alloc();
+    let mut bytes = taken(&rt, alloc)?;
+    assert!(rt; bytes.len() == SIZE);
+    for place in 164..195 {
+        bytes[place + 31] = bytes[place];
+    }
+    expect_opening(&rt, alloc, &bytes, Some(OpenFault::Damaged(195)))?;
+    Ok(())
+}

@@ -1,0 +1,276 @@
+//! Calls that take memory, where one growth of memory is refused: each says so and keeps what it promises. With ample memory
+//! each succeeds; `rt try --test --fail-alloc N` refuses the Nth growth of each test. A growth of the test's own is then asked
+//! for again, and one of the disk in memory is a failure of the device.
+use crate::comparison::{expect_broken, expect_refused, is_same, machine_after, reply_of};
+use crate::device::{DEVICE_E, SIZE, bytes_of};
+use crate::script::{HOP, Script, Step, calls_of, take};
+use rly_checkpoint::{CheckpointFault, read_checkpoint, write_checkpoint};
+use rly_core::Refusal;
+use rly_disk::{Disk, MemDisk};
+use rly_journal::{Journal, OpenFault};
+use rly_machine::{Answer, Machine, Payload, Reply};
+use rly_segment::{FormatFault, format};
+use std::alloc::{AllocError, Global};
+use std::process::Abort;
+use std::test::Fail;
+
+/// Five datagrams are taken, of which the second is in flight in the end, and a segment is opened before the last.
+fn steps() -> [Step; 10] {
+    [
+        take(1, 0, 1_200),
+        take(2, 100, 1_200),
+        take(3, 200, 1_200),
+        Step::Pick { now: 10_000 },
+        Step::Release { number: 1 },
+        take(4, 10_000, 1_200),
+        Step::Pick { now: 20_000 },
+        Step::Fetch { number: 2 },
+        take(5, 20_000, 40),
+        take(5, 20_000, 40),
+    ]
+}
+
+/// A disk of zeroes.
+fn zeroed(alloc: Global) -> Result<MemDisk, AllocError> {
+    Ok(MemDisk::new(alloc, vec![in alloc; 0u8; SIZE]?))
+}
+
+/// All that a disk reads.
+fn read(rt: &impl Abort, alloc: Global, disk: &mut MemDisk) -> Result<Vec<u8>, AllocError> {
+    match bytes_of(rt, alloc, disk) {
+        Ok(bytes) => Ok(bytes),
+        Err(_) => bytes_of(rt, alloc, disk),
+    }
+}
+
+/// Formats a disk of zeroes. Where memory is refused, no call of the disk was made, and the next try succeeds.
+fn expect_format(rt: &impl Abort, alloc: Global) -> Result<MemDisk, AllocError> {
+    let mut disk = match zeroed(alloc) {
+        Ok(disk) => disk,
+        Err(_) => zeroed(alloc)?,
+    };
+    match format(alloc, &mut disk, &DEVICE_E) {
+        Ok(()) => return Ok(disk),
+        Err(FormatFault::OutOfMemory) => {
+            assert_eq!(rt; disk.calls(), 0);
+            let bytes = read(rt, alloc, &mut disk)?;
+            assert!(rt; bytes.iter().all(|byte| *byte == 0));
+        }
+        Err(fault) => {
+            assert_eq!(rt; fault, FormatFault::Device);
+            assert!(rt; disk.failures() > 0);
+        }
+    }
+    assert_eq!(rt; format(alloc, &mut disk, &DEVICE_E), Ok(()));
+    Ok(disk)
+}
+
+/// Opens a device. Where memory is refused, the disk that is handed back reads as before, and the next try succeeds.
+fn expect_opening(
+    rt: &impl Abort,
+    alloc: Global,
+    disk: MemDisk,
+) -> Result<Journal<MemDisk>, AllocError> {
+    let mut disk = disk;
+    let bytes = read(rt, alloc, &mut disk)?;
+    let failures = disk.failures();
+    let mut disk = match Journal::open(alloc, disk) {
+        Ok(journal) => return Ok(journal),
+        Err((OpenFault::OutOfMemory, disk)) => disk,
+        Err((fault, disk)) => {
+            assert_eq!(rt; fault, OpenFault::Device);
+            assert!(rt; disk.failures() > failures);
+            disk
+        }
+    };
+    let same = read(rt, alloc, &mut disk)?;
+    assert!(rt; same.as_slice() == bytes.as_slice());
+    match Journal::open(alloc, disk) {
+        Ok(journal) => Ok(journal),
+        Err((fault, _)) => panic!(rt; "{fault:?}"),
+    }
+}
+
+/// Asks a round. Where memory is refused for the answers, nothing changed, and the next try succeeds.
+fn expect_round(
+    rt: &impl Abort,
+    alloc: Global,
+    journal: &mut Journal<MemDisk>,
+    steps: &[Step],
+) -> Result<Vec<Answer>, AllocError> {
+    let mut calls = match calls_of(alloc, steps) {
+        Ok(calls) => calls,
+        Err(_) => calls_of(alloc, steps)?,
+    };
+    let mut answers = Vec::new(alloc);
+    let position = journal.position();
+    assert!(rt; 1 <= calls.len() && calls.len() <= 64);
+    if journal.round(alloc, &mut calls, &mut answers).is_err() {
+        assert!(rt; calls.len() == steps.len() && answers.is_empty());
+        assert_eq!(rt; journal.position(), position);
+        assert!(rt; 1 <= calls.len() && calls.len() <= 64);
+        journal.round(alloc, &mut calls, &mut answers)?;
+    }
+    assert!(rt; calls.is_empty() && answers.len() == steps.len());
+    Ok(answers)
+}
+
+/// The plain machine's reply to a step, which it makes.
+fn expected(
+    alloc: Global,
+    machine: &mut Machine<Payload>,
+    step: Step,
+) -> Result<Reply, AllocError> {
+    match reply_of(alloc, machine, step) {
+        Ok(reply) => Ok(reply),
+        Err(_) => reply_of(alloc, machine, step),
+    }
+}
+
+/// Makes the steps on the plain machine but for those whose growth was refused, and expects its replies. Answers how many were
+/// refused.
+fn expect_answers(
+    rt: &impl Abort,
+    alloc: Global,
+    machine: &mut Machine<Payload>,
+    steps: &[Step],
+    answers: &[Answer],
+) -> Result<usize, AllocError> {
+    let mut refused = 0usize;
+    for (step, answer) in steps.iter().zip(answers) {
+        if is_same(&answer.reply, &Reply::Refused(Refusal::OutOfMemory)) {
+            refused = refused.saturating_add(1);
+        } else {
+            let reply = expected(alloc, machine, *step)?;
+            assert!(rt;
+                is_same(&answer.reply, &reply),
+                "{step:?}: {answer:?}, not {reply:?}"
+            );
+        }
+        assert_eq!(rt; answer.position, machine.seq());
+    }
+    Ok(refused)
+}
+
+/// Asks a round, and says how many of its calls were refused memory: one at most, or all where a segment is due. Where the disk
+/// in memory couldn't grow, the journal is opened again, and the round stands or not.
+fn expect_served(
+    rt: &impl Abort,
+    alloc: Global,
+    journal: Journal<MemDisk>,
+    machine: &mut Machine<Payload>,
+    steps: &[Step],
+) -> Result<Journal<MemDisk>, AllocError> {
+    let mut journal = journal;
+    let answers = expect_round(rt, alloc, &mut journal, steps)?;
+    if journal.is_broken() {
+        return expect_reopening(rt, alloc, journal, machine, steps, &answers);
+    }
+    let refused = expect_answers(rt, alloc, machine, steps, &answers)?;
+    assert!(rt; refused <= 1 || refused == steps.len());
+    Ok(journal)
+}
+
+/// Opens a journal again whose device failed in a round, which stands or not.
+fn expect_reopening(
+    rt: &impl Abort,
+    alloc: Global,
+    journal: Journal<MemDisk>,
+    machine: &mut Machine<Payload>,
+    steps: &[Step],
+    answers: &[Answer],
+) -> Result<Journal<MemDisk>, AllocError> {
+    let mut journal = journal;
+    let position = machine.seq();
+    expect_refused(rt, answers, Refusal::Unsure, position);
+    expect_broken(rt, alloc, &mut journal, steps, position)?;
+    let disk = journal.into_disk();
+    assert!(rt; disk.failures() > 0);
+    let journal = expect_opening(rt, alloc, disk)?;
+    if journal.position() != position {
+        for step in steps {
+            let _ = expected(alloc, machine, *step)?;
+        }
+    }
+    Ok(journal)
+}
+
+/// Expects of a journal a machine's numbers and payloads in flight, asked twice.
+fn expect_same(
+    rt: &impl Abort,
+    alloc: Global,
+    journal: Journal<MemDisk>,
+    machine: &mut Machine<Payload>,
+) -> Result<Journal<MemDisk>, AllocError> {
+    let mut journal = journal;
+    let questions = [
+        Step::Show,
+        Step::Window,
+        Step::Fetch { number: 2 },
+        Step::Fetch { number: 1 },
+    ];
+    for _ in 0..2 {
+        assert_eq!(rt; journal.position(), machine.seq());
+        journal = expect_served(rt, alloc, journal, machine, &questions)?;
+        match (journal.fetch(alloc, HOP, 2), machine.item(HOP, 2)) {
+            (Ok(bytes), Ok(item)) => assert!(rt; bytes.as_slice() == item.payload.as_slice()),
+            (Err(Refusal::OutOfMemory), Ok(_)) => {}
+            (Err(refusal), Err(other)) => assert_eq!(rt; refusal, other),
+            _ => panic!(rt; "one of them has it"),
+        }
+    }
+    Ok(journal)
+}
+
+#[test]
+fn a_journal_in_scarce_memory(rt: HostRuntime) -> Result<(), Fail> {
+    let alloc = rt.alloc();
+    let steps = steps();
+    let script = Script {
+        steps: &steps,
+        calls: 3,
+    };
+    let mut machine = match machine_after(alloc, script, 0) {
+        Ok(machine) => machine,
+        Err(_) => machine_after(alloc, script, 0)?,
+    };
+    let disk = expect_format(&rt, alloc)?;
+    let mut journal = expect_opening(&rt, alloc, disk)?;
+    for index in 0..4 {
+        let round = script.round(index);
+        journal = expect_served(&rt, alloc, journal, &mut machine, round)?;
+    }
+    journal = expect_same(&rt, alloc, journal, &mut machine)?;
+    journal = expect_opening(&rt, alloc, journal.into_disk())?;
+    let _ = expect_same(&rt, alloc, journal, &mut machine)?;
+    Ok(())
+}
+
+#[test]
+fn a_checkpoint_in_scarce_memory(rt: HostRuntime) -> Result<(), Fail> {
+    let alloc = rt.alloc();
+    let steps = steps();
+    let script = Script {
+        steps: &steps,
+        calls: 7,
+    };
+    let machine = match machine_after(alloc, script, 1) {
+        Ok(machine) => machine,
+        Err(_) => machine_after(alloc, script, 1)?,
+    };
+    let mut out = Vec::new(alloc);
+    if write_checkpoint(&machine, &mut out).is_err() {
+        assert!(rt; out.is_empty());
+        write_checkpoint(&machine, &mut out)?;
+    }
+    let again = match read_checkpoint(alloc, DEVICE_E.params, &out) {
+        Ok(machine) => machine,
+        Err(fault) => {
+            assert_eq!(rt; fault, CheckpointFault::OutOfMemory);
+            read_checkpoint(alloc, DEVICE_E.params, &out)?
+        }
+    };
+    assert_eq!(rt; again.seq(), machine.seq());
+    assert!(rt; is_same(&again.ask_show(HOP), &machine.ask_show(HOP)));
+    Ok(())
+}

@@ -1,0 +1,55 @@
+//! Devices byte by byte, as docs/FORMATS.md writes them out.
+use crate::device::{SECOND_GATE, SIZE, formatted, taken};
+use std::test::Fail;
+
+/// Places 0 to 50, the header: the gate, the mark, the counts, the segments' length, and the limits.
+const HEADER: [u8; 51] = [
+    0xa5, 0x52, 0x4c, 0x59, 0x44, 0x45, 0x56, 0x30, 0x31, 0x00, 0x01, 0x00, 0x01, 0x00, 0x01, 0x00,
+    0x08, 0x00, 0x02, 0x00, 0x01, 0x43, 0xdc, 0x00, 0x00, 0x00, 0x10, 0x00, 0x00, 0x10, 0x00, 0x00,
+    0x00, 0x05, 0xdc, 0x00, 0x00, 0x00, 0x00, 0x00, 0x00, 0x13, 0x88, 0x00, 0x00, 0x00, 0x00, 0x00,
+    0x01, 0x86, 0xa0,
+];
+
+/// Places 64 to 76, the head of the empty state up to its body, which is 87 bytes 00.
+const HEAD: [u8; 13] = [0xa5, 0, 0, 0, 0, 0, 0, 0, 1, 0, 0, 0, 0x57];
+
+/// Places 164 to 195 once the first datagram was taken: a group of one Take, and the closed gate behind it.
+const FIRST_GROUP: [u8; 32] = [
+    0xa5, 0, 0, 0, 0x1a, 0, 1, 1, 0, 1, 0, 0, 0, 0, 0, 0, 0, 1, 0, 1, 0, 0, 0, 0, 0, 0, 0, 0, 0, 1,
+    0x41, 0,
+];
+
+/// Whether so many bytes from a place on are 00.
+fn are_zero(bytes: &[u8], place: usize, count: usize) -> bool {
+    bytes.iter().skip(place).take(count).all(|byte| *byte == 0)
+}
+
+/// Whether these bytes stand from a place on.
+fn stand_at(bytes: &[u8], place: usize, want: &[u8]) -> bool {
+    bytes.iter().skip(place).take(want.len()).eq(want.iter())
+}
+
+#[test]
+fn a_device_that_was_formatted(rt: HostRuntime) -> Result<(), Fail> {
+    let bytes = formatted(&rt, rt.alloc())?;
+    assert_eq!(rt; bytes.len(), SIZE);
+    assert!(rt; stand_at(&bytes, 0, &HEADER));
+    assert!(rt; are_zero(&bytes, 51, 13));
+    assert!(rt; stand_at(&bytes, 64, &HEAD));
+    assert!(rt; are_zero(&bytes, 77, 87));
+    assert!(rt; are_zero(&bytes, 164, SIZE - 164));
+    assert_eq!(rt; bytes.get(SECOND_GATE), Some(&0));
+    Ok(())
+}
+
+#[test]
+fn a_device_that_took_one_datagram(rt: HostRuntime) -> Result<(), Fail> {
+    let bytes = taken(&rt, rt.alloc())?;
+    assert_eq!(rt; bytes.len(), SIZE);
+    assert!(rt; stand_at(&bytes, 0, &HEADER));
+    assert!(rt; stand_at(&bytes, 64, &HEAD));
+    assert!(rt; are_zero(&bytes, 77, 87));
+    assert!(rt; stand_at(&bytes, 164, &FIRST_GROUP));
+    assert!(rt; are_zero(&bytes, 196, SIZE - 196));
+    Ok(())
+}

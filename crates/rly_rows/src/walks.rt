@@ -1,0 +1,224 @@
+//! Scripts on a device that is stopped at each of its calls in turn, and then crashes, or goes on.
+use crate::comparison::{expect_numbers, expect_state, machine_after};
+use crate::device::{SECOND_GATE, bytes_of, formatted, opened};
+use crate::faults::{Ended, KINDS, TORN_WRITES, run, standing};
+use crate::script::{Script, Step, take};
+use rly_disk::{After, Disk, FaultDisk, MemDisk, Torn};
+use std::alloc::{AllocError, Global};
+use std::process::Abort;
+use std::test::Fail;
+
+/// No script here makes so many device calls.
+const MOST_CALLS: u64 = 200;
+
+/// A device with these bytes that fails at a call.
+fn failing(
+    alloc: Global,
+    image: &[u8],
+    at: u64,
+    torn: u64,
+    after: After,
+) -> Result<FaultDisk<MemDisk>, AllocError> {
+    let disk = MemDisk::new(alloc, Vec::from_slice(alloc, image)?);
+    Ok(FaultDisk::new(disk, at, torn, after))
+}
+
+/// Stops the script at a call, crashes, and opens. Answers how many rounds stand that were not answered, `None` where the device
+/// did not fail.
+fn stop_at(
+    rt: &impl Abort,
+    alloc: Global,
+    script: Script,
+    disk: FaultDisk<MemDisk>,
+    at: u64,
+    kind: Torn,
+) -> Result<Option<usize>, AllocError> {
+    let ended = run(rt, alloc, disk, script, 0)?;
+    let Ended {
+        disk,
+        answered,
+        failed,
+    } = ended;
+    assert!(rt; !failed || disk.calls() == at, "calls after the failed one");
+    let mut journal = opened(rt, alloc, disk.into_inner().crash(kind));
+    let (stand, mut machine) = standing(rt, alloc, &journal, script, (answered, failed))?;
+    expect_state(rt, alloc, &mut journal, &mut machine)?;
+    Ok(failed.then_some(stand.saturating_sub(answered)))
+}
+
+/// Stops a script at each device call in turn, with each torn write, and crashes in each way. Answers how many there are.
+fn stop_at_each_call(rt: &impl Abort, alloc: Global, script: Script) -> Result<u64, AllocError> {
+    let image = formatted(rt, alloc)?;
+    let mut left = [false; 2];
+    for at in 1..MOST_CALLS {
+        let mut failed = false;
+        for torn in TORN_WRITES {
+            for kind in KINDS {
+                let disk = failing(alloc, &image, at, torn, After::Stops)?;
+                let more = stop_at(rt, alloc, script, disk, at, kind)?;
+                failed = more.is_some();
+                left[usize::from(more == Some(1))] = true;
+            }
+        }
+        if !failed {
+            assert!(rt;
+                left == [true; 2],
+                "a round that was stopped stands now and then"
+            );
+            return Ok(at - 1);
+        }
+    }
+    panic!(rt; "no run without a failure")
+}
+
+/// Fails the device at one call, opens it again, and goes on from the state that was found to the end of the script.
+fn go_on(
+    rt: &impl Abort,
+    alloc: Global,
+    script: Script,
+    disk: FaultDisk<MemDisk>,
+    at: u64,
+) -> Result<bool, AllocError> {
+    let ended = run(rt, alloc, disk, script, 0)?;
+    if !ended.failed {
+        return Ok(false);
+    }
+    assert_eq!(rt; ended.disk.calls(), at, "calls after the failed one");
+    let mut journal = opened(rt, alloc, ended.disk);
+    let (from, mut machine) = standing(rt, alloc, &journal, script, (ended.answered, true))?;
+    expect_numbers(rt, alloc, &mut journal, &mut machine)?;
+    let ended = run(rt, alloc, journal.into_disk(), script, from)?;
+    assert!(rt; !ended.failed);
+    let mut journal = opened(rt, alloc, ended.disk.into_inner().crash(Torn::AsSynced));
+    let mut machine = machine_after(alloc, script, ended.answered)?;
+    expect_state(rt, alloc, &mut journal, &mut machine)?;
+    Ok(true)
+}
+
+/// Fails the device at each call of a script in turn, with each torn write, and goes on. Answers how many there are.
+fn go_on_at_each_call(rt: &impl Abort, alloc: Global, script: Script) -> Result<u64, AllocError> {
+    let image = formatted(rt, alloc)?;
+    for at in 1..MOST_CALLS {
+        let mut failed = false;
+        for torn in TORN_WRITES {
+            let disk = failing(alloc, &image, at, torn, After::GoesOn)?;
+            failed = go_on(rt, alloc, script, disk, at)?;
+        }
+        if !failed {
+            return Ok(at - 1);
+        }
+    }
+    panic!(rt; "no run without a failure")
+}
+
+/// Expects of a script without a failure so many syncs, its opening's among them, and these generations in the two segments in
+/// the end. Answers how many device calls it made.
+fn expect_syncs(
+    rt: &impl Abort,
+    alloc: Global,
+    script: Script,
+    syncs: u64,
+    generations: [u8; 2],
+) -> Result<u64, AllocError> {
+    let image = formatted(rt, alloc)?;
+    let disk = failing(alloc, &image, 0, 0, After::Stops)?;
+    let mut ended = run(rt, alloc, disk, script, 0)?;
+    assert_eq!(rt; (ended.failed, ended.disk.syncs()), (false, syncs));
+    let calls = ended.disk.calls();
+    let bytes = bytes_of(rt, alloc, &mut ended.disk)?;
+    assert_eq!(rt; bytes.get(SECOND_GATE), Some(&0xa5));
+    assert_eq!(rt;
+        (bytes.get(72), bytes.get(SECOND_GATE + 8)),
+        (generations.first(), generations.last())
+    );
+    Ok(calls)
+}
+
+/// Commands one by one: three datagrams are taken, CoDel begins to drop, and two segments are opened, the first where the
+/// second datagram waits, the second where one is in flight and its gate is open from before.
+fn commands() -> [Step; 15] {
+    [
+        take(1, 0, 1_200),
+        take(2, 100, 1_200),
+        take(3, 200, 1_200),
+        Step::Pick { now: 10_000 },
+        Step::Release { number: 1 },
+        take(4, 10_000, 1_200),
+        take(5, 20_000, 400),
+        Step::Pick { now: 120_000 },
+        take(5, 20_000, 400),
+        Step::Pick { now: 130_000 },
+        Step::Release { number: 2 },
+        take(6, 140_000, 1_200),
+        take(8, 140_000, 1),
+        Step::Release { number: 3 },
+        Step::Pick { now: 500_000 },
+    ]
+}
+
+#[test]
+fn rounds_of_one_call(rt: HostRuntime) -> Result<(), Fail> {
+    let alloc = rt.alloc();
+    let script = Script {
+        steps: &commands(),
+        calls: 1,
+    };
+    let calls = expect_syncs(&rt, alloc, script, 33, [3, 2])?;
+    assert_eq!(rt; stop_at_each_call(&rt, alloc, script)?, calls);
+    assert_eq!(rt; go_on_at_each_call(&rt, alloc, script)?, calls);
+    Ok(())
+}
+
+/// Step number `index` of full rounds. Three datagrams of each ten steps are taken, picked and released.
+fn mixed(index: u8, length: usize) -> Step {
+    let first = 3 * (index / 10);
+    let moment = 1_000 * u64::from(index);
+    match index % 10 {
+        0 => take(first + 1, moment, length),
+        1 => take(first + 2, moment, length),
+        2 | 6 | 8 => Step::Pick { now: moment },
+        3 => Step::Window,
+        4 | 5 => take(first + 3, moment, length),
+        7 => Step::Release {
+            number: u64::from(first) + 2,
+        },
+        _ => take(first + 5, moment, length),
+    }
+}
+
+/// So many of these steps.
+fn many_mixed(alloc: Global, count: u8, length: usize) -> Result<Vec<Step>, AllocError> {
+    let mut steps = Vec::new(alloc);
+    for index in 0..count {
+        steps.push(mixed(index, length))?;
+    }
+    Ok(steps)
+}
+
+#[test]
+fn rounds_of_seven_calls(rt: HostRuntime) -> Result<(), Fail> {
+    let alloc = rt.alloc();
+    let steps = many_mixed(alloc, 35, 900)?;
+    let script = Script {
+        steps: &steps,
+        calls: 7,
+    };
+    let calls = expect_syncs(&rt, alloc, script, 17, [3, 2])?;
+    assert_eq!(rt; stop_at_each_call(&rt, alloc, script)?, calls);
+    assert_eq!(rt; go_on_at_each_call(&rt, alloc, script)?, calls);
+    Ok(())
+}
+
+#[test]
+fn rounds_of_sixty_four_calls(rt: HostRuntime) -> Result<(), Fail> {
+    let alloc = rt.alloc();
+    let steps = many_mixed(alloc, 180, 300)?;
+    let script = Script {
+        steps: &steps,
+        calls: 64,
+    };
+    let calls = expect_syncs(&rt, alloc, script, 13, [3, 2])?;
+    assert_eq!(rt; stop_at_each_call(&rt, alloc, script)?, calls);
+    assert_eq!(rt; go_on_at_each_call(&rt, alloc, script)?, calls);
+    Ok(())
+}

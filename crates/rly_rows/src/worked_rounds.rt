@@ -1,0 +1,131 @@
+//! Rounds on device E, with and without a failed sync.
+use crate::comparison::{expect_broken, expect_refused, expect_state, is_same};
+use crate::device::{FIRST_TAKE, device_e, opened};
+use crate::faults::{KINDS, standing};
+use crate::script::{PEER, Script, Step, ask_all};
+use rly_core::Refusal;
+use rly_disk::{After, Disk, FaultDisk, MemDisk};
+use rly_journal::Journal;
+use rly_machine::Reply;
+use std::alloc::{AllocError, Global};
+use std::process::Abort;
+use std::test::Fail;
+
+/// The first datagram twice.
+const TWICE: [Step; 2] = [FIRST_TAKE, FIRST_TAKE];
+
+/// A second datagram.
+const SECOND_TAKE: Step = Step::Take {
+    number: 2,
+    stamp: 0,
+    byte: 0x42,
+    length: 2,
+};
+
+/// A third.
+const THIRD_TAKE: Step = Step::Take {
+    number: 3,
+    stamp: 0,
+    byte: 0x43,
+    length: 3,
+};
+
+/// All three.
+const THREE: [Step; 3] = [FIRST_TAKE, SECOND_TAKE, THIRD_TAKE];
+
+/// How many device calls the opening of device E makes.
+fn calls_of_opening(rt: &impl Abort, alloc: Global) -> Result<u64, AllocError> {
+    let disk = FaultDisk::new(device_e(rt, alloc)?, 0, 0, After::GoesOn);
+    let disk = opened(rt, alloc, disk).into_disk();
+    Ok(disk.calls())
+}
+
+/// A journal of device E whose device fails at a sync of its first round: the round writes, syncs, writes and syncs.
+fn failing_at_the_second_sync(
+    rt: &impl Abort,
+    alloc: Global,
+) -> Result<Journal<FaultDisk<MemDisk>>, AllocError> {
+    let calls = calls_of_opening(rt, alloc)?;
+    assert!(rt; calls < 100);
+    let disk = FaultDisk::new(device_e(rt, alloc)?, calls + 4, 0, After::GoesOn);
+    Ok(opened(rt, alloc, disk))
+}
+
+/// Asks a round in which the device fails, and one more, of a device that fails once.
+fn expect_unsure(
+    rt: &impl Abort,
+    alloc: Global,
+    steps: &[Step],
+) -> Result<FaultDisk<MemDisk>, AllocError> {
+    let mut journal = failing_at_the_second_sync(rt, alloc)?;
+    let answers = ask_all(rt, alloc, &mut journal, steps)?;
+    expect_refused(rt, &answers, Refusal::Unsure, 0);
+    expect_broken(rt, alloc, &mut journal, steps, 0)?;
+    let disk = journal.into_disk();
+    assert_eq!(rt; (disk.failures(), disk.syncs()), (1, 3));
+    assert_eq!(rt;
+        disk.calls(),
+        calls_of_opening(rt, alloc)?.saturating_add(4)
+    );
+    Ok(disk)
+}
+
+/// Expects of a journal the state before a round or after it.
+fn expect_whole<D: Disk>(
+    rt: &impl Abort,
+    alloc: Global,
+    journal: &mut Journal<D>,
+    steps: &[Step],
+) -> Result<(), AllocError> {
+    let script = Script { steps, calls: 64 };
+    let (_, mut machine) = standing(rt, alloc, journal, script, (0, true))?;
+    expect_state(rt, alloc, journal, &mut machine)
+}
+
+#[test]
+fn two_copies_in_one_round(rt: HostRuntime) -> Result<(), Fail> {
+    let alloc = rt.alloc();
+    let disk = FaultDisk::new(device_e(&rt, alloc)?, 0, 0, After::GoesOn);
+    let disk = opened(&rt, alloc, disk).into_disk();
+    let syncs = disk.syncs();
+    let mut journal = opened(&rt, alloc, disk);
+    let answers = ask_all(&rt, alloc, &mut journal, &TWICE)?;
+    assert_eq!(rt; answers.len(), 2);
+    assert!(rt; is_same(&answers[0].reply, &Reply::Taken(1)) && answers[0].position == 1);
+    assert!(rt; is_same(&answers[1].reply, &Reply::Already(1)) && answers[1].position == 1);
+    // each opening makes one sync
+    assert_eq!(rt; journal.into_disk().syncs(), syncs.saturating_add(1 + 2));
+    Ok(())
+}
+
+#[test]
+fn two_copies_and_a_failed_sync(rt: HostRuntime) -> Result<(), Fail> {
+    let alloc = rt.alloc();
+    let disk = expect_unsure(&rt, alloc, &TWICE)?;
+    let mut journal = opened(&rt, alloc, disk);
+    assert!(rt; matches!(journal.last(PEER), Ok(0 | 1)));
+    expect_whole(&rt, alloc, &mut journal, &TWICE)?;
+    for kind in KINDS {
+        let disk = expect_unsure(&rt, alloc, &TWICE)?;
+        let mut journal = opened(&rt, alloc, disk.into_inner().crash(kind));
+        assert!(rt; matches!(journal.last(PEER), Ok(0 | 1)), "{kind:?}");
+        expect_whole(&rt, alloc, &mut journal, &TWICE)?;
+    }
+    Ok(())
+}
+
+#[test]
+fn three_takes_and_a_failed_sync(rt: HostRuntime) -> Result<(), Fail> {
+    let alloc = rt.alloc();
+    let disk = expect_unsure(&rt, alloc, &THREE)?;
+    let mut journal = opened(&rt, alloc, disk);
+    assert!(rt; matches!(journal.last(PEER), Ok(0 | 3)));
+    expect_whole(&rt, alloc, &mut journal, &THREE)?;
+    for kind in KINDS {
+        let disk = expect_unsure(&rt, alloc, &THREE)?;
+        let mut journal = opened(&rt, alloc, disk.into_inner().crash(kind));
+        assert!(rt; matches!(journal.last(PEER), Ok(0 | 3)), "{kind:?}");
+        expect_whole(&rt, alloc, &mut journal, &THREE)?;
+    }
+    Ok(())
+}

@@ -1,0 +1,14 @@
+//! One read and one write of a stream, with what each leaves where it fails.
+//!
+//! `read_some` and `write_whole` say what they do to the bytes that a reader has left and a writer holds,
+//! where those are known. `specs/Beginnings.antt` says what a write that failed leaves. The crates that
+//! write text to any writer stand on it.
+#![tactic(auto)]
+
+mod fault;
+mod streams;
+#[cfg(test)]
+mod tests;
+
+pub use crate::fault::StreamFault;
+pub use crate::streams::{read_some, write_whole};

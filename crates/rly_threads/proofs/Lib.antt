@@ -1,0 +1,4 @@
+pub mod Packets
+pub mod Grown
+pub mod Receivers
+pub mod Senders

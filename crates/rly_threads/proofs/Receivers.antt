@@ -1,0 +1,56 @@
+-- A receiving worker within a turn.
+use Rattle.std.proofs.Common.{◌≡◌, ◌∙◌, ℕ, List, [], ◌∷◌, ap, false, subst, sym}
+use Rattle.std.specs.Prelude.{Option, Some, None}
+use Rattle.rly_core.specs.declared.refusal.Refusal.TheVariants as refusal
+use Rattle.rly_hop.specs.declared.receiving.event.InAction.{InAction}
+use Rattle.rly_hop.specs.declared.receiving.event.InEvent.{InEvent}
+use Rattle.rly_hop.specs.declared.receiving.event.InEvent.TheVariants.{Answered}
+use Rattle.rly_hop.specs.declared.receiving.event.TakeAnswer.TheVariants as answer
+use Rattle.rly_hop.specs.Receiver.{Receiver}
+use Rattle.rly_hop.specs.Receiving.{received}
+use Rattle.rly_machine.specs.declared.command.Ask.{Ask}
+use Rattle.rly_threads.specs.declared.turn.Worker.TheVariants as worker
+use Rattle.rly_threads.specs.Ends.{Tells}
+use Rattle.rly_threads.specs.Intake.{Intake, event_of, intake_done, on_action, on_answer, on_call, on_hearing, on_take, packets_in, take_named, take_of}
+use Rattle.rly_threads.specs.Runs.{Did, Grew, Told}
+use Rattle.rly_threads.specs.Turns.{Given, Made, around_call, message_in, nothing_done}
+use Rattle.rly_threads.proofs.Grown.{did_ask, did_nothing, did_turn, no_call, refused_call}
+
+pub asked : (w : Intake) (old mid new : Told) (r left : Receiver) (made : Made) (ask : Ask) (event : InEvent (List ℕ)) (action : Option (InAction (List ℕ)))
+    → event ≡ event_of made.outcome → left ≡ (received r event).0 → action ≡ (received r event).1
+    → Tells old.asked mid.asked ((ask, made.outcome) ∷ []) → Tells old.handed mid.handed (around_call (worker.Receiver w.peer) made)
+    → mid ≡ record old { asked = mid.asked; handed = mid.handed } → Tells mid.sent new.sent (packets_in action) → new ≡ record mid { sent = new.sent }
+    → Did old new left (on_answer w made ask (received r (event_of made.outcome)))
+asked w old mid new r left made ask event action told after named made_call around quiet sent quiet_end =
+    did_ask old mid new left (received r (event_of made.outcome)).0 ask made.outcome (packets_in (received r (event_of made.outcome)).1) (around_call (worker.Receiver w.peer) made)
+    (after ∙ ap (λ e. (received r e).0) told) made_call around quiet
+    (subst (λ a. Tells mid.sent new.sent (packets_in a)) (named ∙ ap (λ e. (received r e).1) told) sent) quiet_end
+
+pub turned : (w : Intake) (old mid new : Told) (r core left : Receiver) (given : Given) (action : Option (InAction (List ℕ)))
+    → Tells old.heard mid.heard (given.heard ∷ []) → mid ≡ record old { heard = mid.heard }
+    → core ≡ (on_hearing r (message_in given.heard)).0 → action ≡ (on_hearing r (message_in given.heard)).1
+    → Did mid new left (on_action w given.now given.made core action)
+    → (left ≡ (intake_done w r given).core) × Grew old new (given ∷ []) (intake_done w r given)
+turned w old mid new r core left given action heard quiet hearing named did =
+    let same : on_action w given.now given.made core action ≡ intake_done w r given = λ i. on_action w given.now given.made (hearing i) (named i) in
+    let whole : Did mid new left (intake_done w r given) = subst (Did mid new left) same did in
+    (whole.left, did_turn old mid new left (intake_done w r given) given heard quiet whole)
+
+-- the core named no Take
+pub nothing_taken : (w : Intake) (told : Told) (now : ℕ) (r : Receiver) (action : Option (InAction (List ℕ))) → None ≡ take_named action
+    → Did told told r (on_action w now no_call r action)
+nothing_taken w told now r action none = subst (λ t. Did told told r (on_take w now no_call r t)) none (did_nothing told r)
+
+-- memory was refused for the payload of its Take
+pub refused : (w : Intake) (told : Told) (now : ℕ) (r left : Receiver) (action : Option (InAction (List ℕ))) (taken : ℕ × List ℕ) → Some taken ≡ take_named action
+    → left ≡ (received r (Answered (answer.Refused refusal.OutOfMemory))).0 → Did told told left (on_action w now refused_call r action)
+refused w told now r left action taken some after =
+    subst (λ t. Did told told left (on_take w now refused_call r t)) some (subst (λ l. Did told told left (nothing_done l)) after (did_nothing told left))
+
+-- its Take was asked
+pub took : (w : Intake) (old new : Told) (now : ℕ) (r left : Receiver) (action : Option (InAction (List ℕ))) (taken : ℕ × List ℕ) (made : Made) → Some taken ≡ take_named action
+    → made.refused ≡ false → Did old new left (on_answer w made (take_of w now taken.0 taken.1) (received r (event_of made.outcome)))
+    → Did old new left (on_action w now made r action)
+took w old new now r left action taken made some memory did =
+    subst (λ t. Did old new left (on_take w now made r t)) some
+    (subst (λ refused. Did old new left (on_call w made r (take_of w now taken.0 taken.1) refused)) (sym memory) did)

@@ -1,0 +1,22 @@
+-- What a worker's link, desk and turn tell of what they gave and were given.
+use Rattle.std.specs.Prelude.{◌≡◌, ◌⊎◌, ℕ, ◌<◌, ◌-◌, ◌^◌, List, ◌++◌, take, Option, Some, None, Result, Ok, Err, ⊤}
+use Rattle.rly_threads.specs.declared.link.LinkFault.{LinkFault}
+
+-- what was told grew by these; who tells nothing may tell anything later
+abbrev pub Tells : {A : Type 0} → Option (List A) → Option (List A) → List A → Type 0
+Tells None new more = ⊤
+Tells (Some told) new more = new ≡ Some (told ++ more)
+
+-- a count of failures rose, or stands at its last value
+abbrev pub Rose : ℕ → ℕ → Type 0
+Rose old new = (old < new) ⊎ (old ≡ 2 ^ 64 - 1)
+
+-- the packet that a receive put at the front of a buffer, if it did
+abbrev pub packet_in : Option ℕ → List ℕ → Option (List ℕ)
+packet_in (Some count) buffer = Some (take count buffer)
+packet_in None buffer = None
+
+-- the same of a receive that may have failed, which gives nothing
+abbrev pub packet_of : Result (Option ℕ) LinkFault → List ℕ → Option (List ℕ)
+packet_of (Ok found) buffer = packet_in found buffer
+packet_of (Err _) buffer = None

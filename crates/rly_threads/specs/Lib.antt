@@ -1,0 +1,6 @@
+pub mod Ends
+pub mod Turns
+pub mod Intake
+pub mod Outlet
+pub mod Runs
+pub mod Memory

@@ -1,0 +1,115 @@
+-- A sending worker, turn by turn (docs/PROTOCOL.md, "The sending core").
+use Rattle.std.specs.Prelude.{ℕ, ◌+◌, List, [], ◌∷◌, ◌==◌, if◌then◌else◌, Option, Some, None, Ok, Err}
+use Rattle.rly_core.specs.declared.ids.HopId.{HopId}
+use Rattle.rly_core.specs.declared.refusal.Refusal.TheVariants as refusal
+use Rattle.rly_hop.specs.declared.message.Message.{Message}
+use Rattle.rly_hop.specs.declared.sending.event.OutAction.{OutAction}
+use Rattle.rly_hop.specs.declared.sending.event.OutAction.TheVariants as action
+use Rattle.rly_hop.specs.declared.sending.event.OutEvent.{OutEvent}
+use Rattle.rly_hop.specs.declared.sending.event.OutEvent.TheVariants as event
+use Rattle.rly_hop.specs.Sender.{Sender}
+use Rattle.rly_hop.specs.Sending.{Sent, sent}
+use Rattle.rly_line.specs.declared.call_error.CallError.TheVariants as error
+use Rattle.rly_machine.specs.declared.command.Ask.{Ask}
+use Rattle.rly_machine.specs.declared.command.Ask.TheVariants.{Command, Query}
+use Rattle.rly_machine.specs.declared.command.Command.TheVariants as command
+use Rattle.rly_machine.specs.declared.command.Query.TheVariants as query
+use Rattle.rly_machine.specs.declared.reply.Reply.{Reply}
+use Rattle.rly_machine.specs.declared.reply.Reply.TheVariants as reply
+use Rattle.rly_plan.specs.ContactPlan.{ContactPlan, is_open, link}
+use Rattle.rly_threads.specs.declared.turn.Worker.TheVariants as worker
+use Rattle.rly_threads.specs.Turns.{Done, Given, Made, Outcome, around_call, message_in, nothing_done, packets_of, started}
+
+-- the hop that is sent to, and the plan that says when its link is open
+pub record Outlet : Type 0 where
+  pub plan : ContactPlan
+  pub hop : HopId
+
+abbrev pub outlet : ContactPlan → HopId → Outlet
+outlet plan hop = record { plan = plan; hop = hop }
+
+-- the core, and how many turns it took since it was last told to send again
+pub record Ticking : Type 0 where
+  pub core : Sender
+  pub turns : ℕ
+
+abbrev pub ticking : Sender → ℕ → Ticking
+ticking core turns = record { core = core; turns = turns }
+
+-- what hearing a message leaves, or nothing
+abbrev pub on_hearing : Sender → Option (Message (List ℕ)) → Sender
+on_hearing s None = s
+on_hearing s (Some m) = (sent s (event.Heard m)).0
+
+-- the call that the core names on its turn
+abbrev pub ask_of : Outlet → ℕ → OutAction (List ℕ) → Option Ask
+ask_of w now action.AskWindow = Some (Query (query.Window w.hop))
+ask_of w now (action.Release number) = Some (Command (command.Release w.hop number))
+ask_of w now (action.Fetch number) = Some (Query (query.Fetch w.hop number))
+ask_of w now action.Pick = Some (Command (command.Pick w.hop (link w.plan w.hop now)))
+ask_of w now (action.Send m) = None
+
+-- what the core is told of a reply: bytes are those of the number that it asked for
+abbrev pub fetched : OutAction (List ℕ) → List ℕ → OutEvent (List ℕ)
+fetched (action.Fetch number) payload = event.Fetched number payload
+fetched action.AskWindow payload = event.Other
+fetched (action.Release number) payload = event.Other
+fetched action.Pick payload = event.Other
+fetched (action.Send m) payload = event.Other
+
+abbrev pub event_in : OutAction (List ℕ) → Reply → OutEvent (List ℕ)
+event_in named (reply.WindowIs first next) = event.WindowIs first next
+event_in named (reply.Picked number id dropped) = event.Picked number
+event_in named reply.Nothing = event.Nothing
+event_in named (reply.Bytes payload) = fetched named payload
+event_in named (reply.Released count) = event.Released
+event_in named reply.Unchanged = event.Unchanged
+event_in named (reply.Refused refusal) = event.Refused refusal
+event_in named (reply.Taken id) = event.Other
+event_in named (reply.Already last) = event.Other
+event_in named (reply.Shown status) = event.Other
+
+abbrev pub event_of : OutAction (List ℕ) → Outcome → OutEvent (List ℕ)
+event_of named (Ok a) = event_in named a.reply
+event_of named (Err (error.Closed back)) = event.Refused refusal.Closed
+event_of named (Err error.Lost) = event.Refused refusal.Lost
+
+-- what is sent by an action
+abbrev pub packets_in : Option (OutAction (List ℕ)) → List (List ℕ)
+packets_in (Some (action.Send m)) = packets_of m
+packets_in (Some action.AskWindow) = []
+packets_in (Some (action.Release number)) = []
+packets_in (Some (action.Fetch number)) = []
+packets_in (Some action.Pick) = []
+packets_in None = []
+
+-- the answer is given to the core, and what it names then is sent
+abbrev pub on_answer : Outlet → Made → Ask → Sent → Done Sender
+on_answer w made ask left =
+    record { core = left.0; asked = (ask, made.outcome) ∷ []; sent = packets_in left.1; handed = around_call (worker.Sender w.hop) made }
+
+-- the call is made
+abbrev pub on_call : Outlet → Made → Sender → OutAction (List ℕ) → Option Ask → Done Sender
+on_call w made s named None = nothing_done s
+on_call w made s named (Some ask) = on_answer w made ask (sent s (event_of named made.outcome))
+
+abbrev pub on_action : Outlet → ℕ → Made → Sender → Option (OutAction (List ℕ)) → Done Sender
+on_action w now made s None = nothing_done s
+on_action w now made s (Some named) = on_call w made s named (ask_of w now named)
+
+-- one turn, behind its start
+abbrev pub outlet_done : Outlet → Sender → Given → Done Sender
+outlet_done w s given =
+    let left = sent (on_hearing s (message_in given.heard)) (event.Turn (is_open w.plan w.hop given.now)) in
+    on_action w given.now given.made left.0 left.1
+
+-- the core after a turn: after every 16th it is told to send again
+abbrev pub tick : ℕ → Sender → Ticking
+tick turns s = if turns + 1 == 16 then ticking (sent s event.Timeout).0 0 else ticking s (turns + 1)
+
+abbrev pub ticked : ℕ → Done Sender → Done Ticking
+ticked turns d = record { core = tick turns d.core; asked = d.asked; sent = d.sent; handed = d.handed }
+
+-- one turn
+abbrev pub send_out : Outlet → Ticking → Given → Done Ticking
+send_out w t given = started (worker.Sender w.hop) given (ticked t.turns (outlet_done w t.core given))

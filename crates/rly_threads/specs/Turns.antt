@@ -1,0 +1,78 @@
+-- A worker over its turns: what it was given, and what it did.
+use Rattle.std.specs.Prelude.{ℕ, List, [], ◌∷◌, ◌++◌, Bool, true, Option, Some, None, Result}
+use Rattle.std.specs.Result.{result_ok}
+use Rattle.rly_core.specs.declared.refusal.Refusal.{Refusal}
+use Rattle.rly_hop.specs.declared.message.Message.{Message}
+use Rattle.rly_hop.specs.Reading.{reading}
+use Rattle.rly_hop.specs.Spelling.{spelling, unwritable}
+use Rattle.rly_line.specs.declared.call_error.CallError.{CallError}
+use Rattle.rly_machine.specs.declared.call.Answer.{Answer}
+use Rattle.rly_machine.specs.declared.command.Ask.{Ask}
+use Rattle.rly_threads.specs.declared.turn.Go.{Go}
+use Rattle.rly_threads.specs.declared.turn.Point.{Point}
+use Rattle.rly_threads.specs.declared.turn.Point.TheVariants as point
+use Rattle.rly_threads.specs.declared.turn.Worker.{Worker}
+
+-- what became of a call
+abbrev pub Outcome : Type 0
+Outcome = Result Answer CallError
+
+-- what a worker was handed, where
+abbrev pub Handed : Type 0
+Handed = Worker × Point × Go
+
+-- What became of the call that a worker made in a turn, if it made one, and what it was handed before it and behind it. Where
+-- memory was refused for a payload the call was not made.
+pub record Made : Type 0 where
+  pub refused : Bool
+  pub outcome : Outcome
+  pub before : Go
+  pub behind : Go
+
+-- what a worker was given in a turn: its moment, the packet that its link gave, if it gave one, and what became of its call
+pub record Given : Type 0 where
+  pub now : ℕ
+  pub heard : Option (List ℕ)
+  pub made : Made
+
+-- what a worker did: the state that it is left in, what it asked, what it sent, and where it was handed what
+pub record Done (C : Type 0) : Type 0 where
+  pub core : C
+  pub asked : List (Ask × Outcome)
+  pub sent : List (List ℕ)
+  pub handed : List Handed
+
+-- it did nothing
+abbrev pub nothing_done : {C : Type 0} → C → Done C
+nothing_done c = record { core = c; asked = []; sent = []; handed = [] }
+
+-- it did this, and then that
+abbrev pub joined : {C : Type 0} → Done C → Done C → Done C
+joined d e = record { core = e.core; asked = d.asked ++ e.asked; sent = d.sent ++ e.sent; handed = d.handed ++ e.handed }
+
+-- what it does in turn after turn, where it does so in one
+abbrev pub done_in : {C : Type 0} → (C → Given → Done C) → C → List Given → Done C
+done_in act c [] = nothing_done c
+done_in act c (given ∷ turns) = joined (act c given) (done_in act (act c given).core turns)
+
+-- the message in what a link gave, if it is one
+abbrev pub message_in : Option (List ℕ) → Option (Message (List ℕ))
+message_in None = None
+message_in (Some packet) = result_ok (reading packet)
+
+-- a packet, unless there is a fault
+abbrev pub packet_unless : Option Refusal → List ℕ → List (List ℕ)
+packet_unless None packet = packet ∷ []
+packet_unless (Some fault) packet = []
+
+-- the packet of a message: none where it has no spelling
+abbrev pub packets_of : Message (List ℕ) → List (List ℕ)
+packets_of m = packet_unless (unwritable m) (spelling m)
+
+-- what a worker does in a turn, behind what it was handed at its start
+abbrev pub started : {C : Type 0} → Worker → Given → Done C → Done C
+started worker given d = record { core = d.core; asked = d.asked; sent = d.sent; handed = (worker, point.Start, record { now = given.now; on = true }) ∷ d.handed }
+
+-- what a worker is handed before a call and behind it
+abbrev pub around_call : Worker → Made → List Handed
+around_call worker made = (worker, point.Call, made.before) ∷ (worker, point.Answered, made.behind) ∷ []

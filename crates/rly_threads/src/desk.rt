@@ -1,0 +1,30 @@
+// The interface of what answers a worker's calls.
+ghost use Rattle.std.specs.Prelude.{◌∷◌, [], List, Option, Result};
+ghost use Rattle.rly_line.specs.declared.call_error.CallError.{CallError as AnError};
+ghost use Rattle.rly_machine.specs.declared.call.Answer.{Answer as AnAnswer};
+ghost use Rattle.rly_machine.specs.declared.command.Ask.{Ask as AnAsk};
+ghost use Rattle.rly_threads.specs.Ends.{Tells};
+
+use rly_line::{CallError, Seat};
+use rly_machine::{Answer, Ask};
+use std::sync::Wait;
+
+/// Where a worker's calls are answered. A `Seat` is one.
+pub trait Desk {
+    /// What was asked and what became of it, if the desk tells.
+    ghost asked: { Self → Option (List (AnAsk × Result AnAnswer AnError)) };
+
+    /// Asks, and waits for the answer.
+    fn call<R: Wait>(&mut self, rt: &R, ask: Ask) -> Result<Answer, CallError>
+        ensures { Tells (asked self.old) (asked self.new) ((ask, result) ∷ []) };
+}
+
+impl Desk for Seat {
+    ghost use Rattle.std.specs.Prelude.{None};
+
+    ghost asked = { λ _. None };
+
+    fn call<R: Wait>(&mut self, rt: &R, ask: Ask) -> Result<Answer, CallError> {
+        Seat::call(self, rt, ask)
+    }
+}

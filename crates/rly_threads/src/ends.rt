@@ -1,0 +1,106 @@
+ghost use Rattle.std.specs.Prelude.{◌≡◌, ◌≤◌, ◌∷◌, [], IfSome, length};
+ghost use Rattle.std.specs.Option.{option_map};
+ghost use Rattle.rly_hop.specs.Payloads.{message_bytes};
+ghost use Rattle.rly_threads.specs.declared.turn.Go.{Go as AGo};
+ghost use Rattle.rly_threads.specs.declared.turn.Point.{Point as APoint};
+ghost use Rattle.rly_threads.specs.Ends.{Tells, packet_in};
+ghost use Rattle.rly_threads.specs.Turns.{message_in, packets_of};
+
+use crate::desk::Desk;
+use crate::link::Link;
+use crate::turn::{Go, Point, Turn, Worker};
+use rly_hop::{MAX_MESSAGE, Message, read_message, write_message};
+use rly_line::CallError;
+use rly_machine::{Answer, Ask};
+use std::marker::Model;
+use std::sync::Wait;
+
+/// The bytes of the buffer that a worker receives into. A packet that fills it is no message.
+pub const MAX_PACKET: usize = 1_300;
+
+/// What a worker works with. Contracts see what its parts tell.
+#[derive(Drop)]
+pub struct Ends<L: Link, K: Desk, T: Turn> {
+    /// Its link.
+    pub link: L,
+    /// Where its calls are answered.
+    pub desk: K,
+    /// Who hands it its moments.
+    pub turn: T,
+}
+
+impl<L: Link, K: Desk, T: Turn> Model for Ends<L, K, T> {
+    ghost use Rattle.rly_threads.specs.Runs.{Told};
+
+    ghost Value = { Told };
+
+    ghost view = { λ e. record { heard = L.heard e.link; sent = L.sent e.link; asked = K.asked e.desk; handed = T.told e.turn } };
+}
+
+impl<L: Link, K: Desk, T: Turn> Ends<L, K, T> {
+    /// A worker has come to a point.
+    pub(crate) fn between<R: Wait>(&mut self, rt: &R, worker: Worker, point: Point) -> Go
+        ensures told { Tells self.old.handed self.new.handed ((worker, point, result) ∷ []) }
+        ensures same { self.new ≡ record self.old { handed = self.new.handed } }
+    {
+        self.turn.between(rt, worker, point)
+    }
+
+    /// Asks the link once for a packet, and answers how many bytes it put at the front of the buffer, if it did. A link
+    /// that fails gave nothing.
+    pub(crate) fn hear(&mut self, buffer: &mut [u8]) -> Option<usize>
+        ensures bound { IfSome result (λ count. count ≤ length buffer.new) }
+        ensures told { Tells self.old.heard self.new.heard (packet_in result buffer.new ∷ []) }
+        ensures same { self.new ≡ record self.old { heard = self.new.heard } }
+    {
+        match self.link.recv(buffer) {
+            Ok(found) => found,
+            Err(_) => None,
+        }
+    }
+
+    /// Sends a message that has a spelling. Where the link fails nothing is left to do: what is sent may be lost on
+    /// its way as well.
+    pub(crate) fn send(&mut self, message: Message<&[u8]>)
+        ensures told { Tells self.old.sent self.new.sent (packets_of (message_bytes message.entry)) }
+        ensures same { self.new ≡ record self.old { sent = self.new.sent } }
+    {
+        let mut packet = [0; MAX_MESSAGE];
+        let Ok(length) = write_message(message, &mut packet) else {
+            return;
+        };
+        let _sent = self.link.send(&packet[..length]);
+    }
+
+    /// Makes a worker's call.
+    pub(crate) fn call<R: Wait>(
+        &mut self,
+        rt: &R,
+        worker: Worker,
+        ask: Ask,
+    ) -> Result<Answer, CallError>
+        ensures asked { Tells self.old.asked self.new.asked ((ask, result) ∷ []) }
+        ensures told { (before : AGo) × (behind : AGo)
+            × Tells self.old.handed self.new.handed ((worker, APoint.Call, before) ∷ (worker, APoint.Answered, behind) ∷ []) }
+        ensures same { self.new ≡ record self.old { asked = self.new.asked; handed = self.new.handed } }
+    {
+        self.between(rt, worker, Point::Call);
+        let outcome = self.desk.call(rt, ask);
+        self.between(rt, worker, Point::Answered);
+        outcome
+    }
+}
+
+/// The message that a link put at the front of a buffer, if there is one.
+pub(crate) fn message_in<'a>(buffer: &'a [u8], found: Option<usize>) -> Option<Message<&'a [u8]>>
+    requires { IfSome found (λ count. count ≤ length buffer.now) }
+    ensures { option_map message_bytes result ≡ message_in (packet_in found buffer.now) }
+{
+    let Some(count) = found else {
+        return None;
+    };
+    match read_message(&buffer[..count]) {
+        Ok(message) => Some(message),
+        Err(_) => None,
+    }
+}

@@ -1,0 +1,28 @@
+//! The workers: a receiving one for each upstream neighbour and a sending one for each next hop. In each turn
+//! a worker asks its link once, gives its core what it heard, makes the call that the core names and sends what
+//! it says.
+//!
+//! `receiver_run` and `sender_run` stand on any `Link`, `Desk` and `Turn`. Where these tell what they gave and
+//! were given, what a worker asked and sent is what `specs/Intake.antt` and `specs/Outlet.antt` make of it, and
+//! nothing else. What ties the threads together is shown by tests alone. The program calls it.
+#![tactic(auto)]
+
+mod desk;
+mod ends;
+mod link;
+mod memory;
+mod receiver;
+mod relay;
+mod sender;
+#[cfg(test)]
+mod tests;
+mod turn;
+
+pub use crate::desk::Desk;
+pub use crate::ends::{Ends, MAX_PACKET};
+pub use crate::link::{Link, LinkFault};
+pub use crate::memory::{MemDesk, MemLink, MemTurn};
+pub use crate::receiver::receiver_run;
+pub use crate::relay::{Post, Relayed, run_relay};
+pub use crate::sender::sender_run;
+pub use crate::turn::{Go, Point, Turn, Worker};

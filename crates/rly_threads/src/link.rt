@@ -1,0 +1,37 @@
+// The interface of a link to one neighbour.
+ghost use Rattle.std.specs.Prelude.{◌≡◌, ◌≤◌, ◌∷◌, [], IfOk, IfSome, List, OnErr, Option, length, ℕ};
+ghost use Rattle.rly_threads.specs.Ends.{Rose, Tells, packet_of};
+
+/// A call of a link failed.
+#[derive(Clone, Copy, Debug, PartialEq, Eq, Drop)]
+pub struct LinkFault;
+
+/// A link to one neighbour, which carries packets, each whole or not at all, in any order.
+pub trait Link {
+    /// What each receive gave, if the link tells: a packet, or nothing.
+    ghost heard: { Self → Option (List (Option (List ℕ))) };
+
+    /// The packets that were given to be sent, if the link tells.
+    ghost sent: { Self → Option (List (List ℕ)) };
+
+    /// How many of its calls failed.
+    ghost failed: { Self → ℕ };
+
+    /// Waits a short time for a packet, puts it at the front of the buffer, and answers its length in bytes. What
+    /// doesn't fit into the buffer is lost.
+    fn recv(&mut self, buffer: &mut [u8]) -> Result<Option<usize>, LinkFault>
+        ensures bound { IfOk result (λ found. IfSome found (λ count. count ≤ length buffer.new)) }
+        ensures heard { Tells (heard self.old) (heard self.new) (packet_of result buffer.new ∷ []) }
+        ensures sent { sent self.new ≡ sent self.old }
+        ensures rise { OnErr result (Rose (failed self.old) (failed self.new)) };
+
+    /// Sends a packet, which may be lost on its way.
+    fn send(&mut self, packet: &[u8]) -> Result<(), LinkFault>
+        ensures sent { Tells (sent self.old) (sent self.new) (packet.now ∷ []) }
+        ensures heard { heard self.new ≡ heard self.old }
+        ensures rise { OnErr result (Rose (failed self.old) (failed self.new)) };
+
+    /// How many of its calls failed. The count has 64 bits: where it stands at its last value each call fails.
+    fn failures(&self) -> u64
+        ensures { result ≡ failed self.now };
+}

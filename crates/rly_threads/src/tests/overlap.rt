@@ -1,0 +1,171 @@
+ghost use Rattle.std.specs.Prelude.{None};
+
+use crate::tests::script;
+use crate::{Go, MemLink, Point, Post, Turn, Worker, run_relay};
+use rly_core::{Geometry, HopId, Params, PeerId};
+use rly_disk::MemDisk;
+use rly_journal::Journal;
+use rly_plan::Plan;
+use rly_segment::format;
+use std::alloc::{AllocError, Global};
+use std::sync::Wait;
+use std::sync::atomic::{AtomicU64, Ordering};
+use std::test::Fail;
+use std::thread;
+use std::time::{Clock, Duration};
+
+/// Station 7, with stations 3 and 4 upstream and station 9 as the next hop.
+const PLAN: &str = r#"
+station = 7
+[[peer]]
+id = 1
+station = 3
+listen = "127.0.0.1:4001"
+remote = "127.0.0.1:4002"
+[[peer]]
+id = 2
+station = 4
+listen = "127.0.0.1:4005"
+remote = "127.0.0.1:4006"
+[[hop]]
+id = 1
+station = 9
+listen = "127.0.0.1:4003"
+remote = "127.0.0.1:4004"
+contacts = [[100, 200]]
+[[route]]
+destination = 12
+hop = 1
+"#;
+
+const RECEIVERS: [Worker; 2] = [Worker::Receiver(PeerId(1)), Worker::Receiver(PeerId(2))];
+
+const SENDER: Worker = Worker::Sender(HopId(1));
+
+/// Data number 1 with payload `000c41` to station 7, from station 3 and from station 4.
+const DATA: [&[u8]; 2] = [
+    b"\x52\x4c\x01\x01\x00\x03\x00\x07\x00\x00\x00\x00\x00\x00\x00\x01\x00\x03\x00\x0c\x41",
+    b"\x52\x4c\x01\x01\x00\x04\x00\x07\x00\x00\x00\x00\x00\x00\x00\x01\x00\x03\x00\x0c\x41",
+];
+
+const DEVICE: Geometry = Geometry {
+    params: Params {
+        hops: 1,
+        peers: 4,
+        window: 8,
+        items: 1_024,
+        bytes: 4_096,
+        maxpacket: 1_500,
+        target: 5_000,
+        interval: 100_000,
+    },
+    segments: 2,
+    length: 110_148,
+};
+
+/// Eight turns. One worker is held before its first call until two others were answered.
+#[derive(Drop)]
+struct Held<'a, C: Clock + Drop> {
+    clock: C,
+    is_held: bool,
+    /// How many workers were answered.
+    answered: &'a AtomicU64,
+    /// How many gave up waiting.
+    gave_up: &'a AtomicU64,
+    calls: u64,
+    turns: u64,
+}
+
+impl<'a, C: Clock + Drop> Held<'a, C> {
+    /// Waits for the other two, 1,000 times 10 ms at most.
+    fn wait(&self) {
+        for _wait in 0..1_000 {
+            if self.answered.load(Ordering::SeqCst) >= 2 {
+                return;
+            }
+            thread::sleep(&self.clock, Duration::from_millis(10));
+        }
+        self.gave_up.fetch_add(1, Ordering::SeqCst);
+    }
+}
+
+impl<'a, C: Clock + Drop> Turn for Held<'a, C> {
+    ghost told = { λ _. None };
+
+    fn between<R: Wait>(&mut self, rt: &R, worker: Worker, point: Point) -> Go {
+        let _ = rt;
+        let _ = worker;
+        match point {
+            Point::Start => self.turns = self.turns.saturating_add(1),
+            Point::Call => {
+                self.calls = self.calls.saturating_add(1);
+                if self.is_held && self.calls == 1 {
+                    self.wait();
+                }
+            }
+            Point::Answered => {
+                if self.calls == 1 {
+                    self.answered.fetch_add(1, Ordering::SeqCst);
+                }
+            }
+        }
+        Go {
+            now: 150,
+            on: self.turns <= 8,
+        }
+    }
+}
+
+/// An empty journal on a device in memory.
+fn journal(alloc: Global) -> Result<Journal<MemDisk>, Fail> {
+    let mut disk = MemDisk::new(alloc, vec![in alloc; 0u8; 220_360]?);
+    format(alloc, &mut disk, &DEVICE).ok().ok_or("a device")?;
+    Ok(Journal::open(alloc, disk).ok().ok_or("a journal")?)
+}
+
+/// The link of a worker: a receiver hears one datagram at first.
+fn link_of(alloc: Global, worker: Worker) -> Result<MemLink, AllocError> {
+    let coming = match worker {
+        Worker::Receiver(PeerId(1)) => script(alloc, 1, &[0], DATA[0])?,
+        Worker::Receiver(_) => script(alloc, 1, &[0], DATA[1])?,
+        Worker::Sender(_) => Vec::new(alloc),
+    };
+    Ok(MemLink::new(alloc, coming, 0))
+}
+
+/// Two receivers and a sender run side by side: whichever is held before its first call, the other two are answered
+/// meanwhile, and then it is.
+#[test]
+fn receivers_overlap(rt: HostRuntime) -> Result<(), Fail> {
+    let alloc = rt.alloc();
+    let plan = Plan::from_toml(alloc, PLAN)?;
+    for held in [RECEIVERS[0], RECEIVERS[1], SENDER] {
+        let answered = AtomicU64::new(0);
+        let gave_up = AtomicU64::new(0);
+        let mut posts = Vec::new(alloc);
+        for worker in [RECEIVERS[0], RECEIVERS[1], SENDER] {
+            let turn = Held {
+                clock: rt,
+                is_held: worker == held,
+                answered: &answered,
+                gave_up: &gave_up,
+                calls: 0,
+                turns: 0,
+            };
+            let link = link_of(alloc, worker)?;
+            posts.push(Post { worker, link, turn })?;
+        }
+        assert!(rt; posts.len() == 3);
+        let relayed = run_relay(&rt, alloc, journal(alloc)?, &plan, posts)
+            .ok()
+            .ok_or("a relay")?;
+        assert!(rt; relayed.complete);
+        assert_eq!(rt; gave_up.load(Ordering::SeqCst), 0);
+        assert_eq!(rt; answered.load(Ordering::SeqCst), 3);
+        assert!(rt; !relayed.finished.broken);
+        for peer in [PeerId(1), PeerId(2)] {
+            assert!(rt; matches!(relayed.finished.journal.last(peer), Ok(1)));
+        }
+    }
+    Ok(())
+}
