@@ -3,7 +3,7 @@ ghost use Rattle.std.specs.Io.KnownBytes.{Appends, Keeps};
 ghost use Rattle.rly_core.specs.declared.refusal.Refusal.{Refusal as ARefusal};
 ghost use Rattle.rly_disk.specs.DiskModel.{Rose, Settled};
 ghost use Rattle.rly_gate.specs.Reading.{OnlyRead};
-ghost use Rattle.rly_stream.specs.Beginnings.{AppendsBeginning};
+ghost use Rattle.rly_stream.specs.Beginnings.{BreaksOff};
 ghost use Rattle.rly_audit.specs.Audit.{IsBegun, IsRefusal, IsReported};
 ghost use Rattle.rly_audit.specs.Report.{balances, books_of, report_of};
 
@@ -26,7 +26,7 @@ pub fn audit<D: Disk, W: Write>(
 ) -> Result<D, (AuditFault, D)>
     // What is written is the report on the state that the device stands for.
     ensures written { OnOk result (IsReported (D.state disk) (W.contents writer.old) (W.contents writer.new)) }
-    // Where the writer fails, a beginning of that report was written.
+    // Where the writer fails, a beginning of that report was written, and never all.
     ensures begun { IfErr result (λ failed. failed.0 ≡ AuditFault.Output → IsBegun (D.state disk) (W.contents writer.old) (W.contents writer.new)) }
     // At a refusal nothing was written; it is that of the first check of opening that fails, or 14 or 23.
     ensures silent { IfErr result (λ failed. (refusal : ARefusal) → failed.0 ≡ AuditFault.Refused refusal → Keeps (W.contents writer.old) (W.contents writer.new)) }
@@ -59,7 +59,7 @@ fn report<D: Disk, W: Write>(
     requires counted { journal.now.position ≡ journal.now.state.seq }
     ensures written { OnOk result (Appends (W.contents writer.old) (W.contents writer.new) (report_of journal.now.state)) }
     ensures balance { balances (books_of journal.now.state) ≡ true }
-    ensures fault { IfErr result (λ fault. ((fault ≡ AuditFault.Output) × AppendsBeginning (W.contents writer.old) (W.contents writer.new) (report_of journal.now.state))
+    ensures fault { IfErr result (λ fault. ((fault ≡ AuditFault.Output) × BreaksOff (W.contents writer.old) (W.contents writer.new) (report_of journal.now.state))
         ⊎ ((fault ≡ AuditFault.Refused Refusal.OutOfMemory) × Keeps (W.contents writer.old) (W.contents writer.new))) }
 {
     journal.law_sound();

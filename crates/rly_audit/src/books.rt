@@ -115,7 +115,7 @@ fn write_hops(text: &mut String, hops: &[HopStatus]) -> Result<(), AllocError>
 fn write_hop(text: &mut String, number: u64, status: &HopStatus) -> Result<(), AllocError>
     ensures { OnOk result (string_bytes text.new ≡ string_bytes text.old ++ hop_line (number, status.now)) }
 {
-    writeln!(text, "hop {number}{}", Counts { status })?;
+    writeln!(text, "hop {number}{}", HopCounts { status })?;
     Ok(())
 }
 
@@ -179,13 +179,14 @@ fn total(numbers: &[u64]) -> u128
     total
 }
 
-/// What became of a hop's datagrams.
+/// What became of a hop's datagrams. It displays as their counts, each behind its name.
 #[derive(Drop)]
-struct Counts<'a> {
-    status: &'a HopStatus,
+pub struct HopCounts<'a> {
+    /// All numbers of the hop.
+    pub status: &'a HopStatus,
 }
 
-impl fmt::Display for Counts<'_> {
+impl fmt::Display for HopCounts<'_> {
     ghost use Rattle.std.specs.Prelude.{Some};
     ghost use Rattle.rly_audit.specs.Report.{counts_text};
 

@@ -10,7 +10,7 @@ pub enum AuditFault {
     /// The device wasn't opened (20 to 23), or a growth of memory was refused (14). Nothing was written.
     #[error("{0}")]
     Refused(Refusal),
-    /// The writer failed. A beginning of the report was written.
+    /// The writer failed. A beginning of the report was written, but not all.
     #[error("rly: output failed")]
     Output,
 }
@@ -18,18 +18,12 @@ pub enum AuditFault {
 impl From<OpenFault> for AuditFault {
     ghost use Rattle.std.specs.Prelude.{◌≡◌};
     ghost use Rattle.rly_audit.specs.declared.fault.AuditFault.TheVariants.{Refused};
-    ghost use Rattle.rly_audit.specs.Audit.{refusal_of};
+    ghost use Rattle.rly_journal.specs.Faults.{opening_refusal};
 
-    ghost from_gives = { λ cause fault. fault ≡ Refused (refusal_of cause) };
+    ghost from_gives = { λ cause fault. fault ≡ Refused (opening_refusal cause) };
 
     fn from(cause: OpenFault) -> AuditFault {
-        AuditFault::Refused(match cause {
-            OpenFault::OutOfMemory => Refusal::OutOfMemory,
-            OpenFault::NotADevice => Refusal::NotADevice,
-            OpenFault::BadGeometry => Refusal::BadGeometry,
-            OpenFault::Damaged(place) => Refusal::Damaged(place),
-            OpenFault::Device => Refusal::Device,
-        })
+        AuditFault::Refused(Refusal::from(cause))
     }
 }
 

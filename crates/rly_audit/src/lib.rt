@@ -12,4 +12,5 @@ mod fault;
 mod tests;
 
 pub use crate::auditing::audit;
+pub use crate::books::HopCounts;
 pub use crate::fault::AuditFault;

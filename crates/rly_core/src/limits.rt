@@ -1,4 +1,6 @@
-//! The limits of the specification, each with its unit (`docs/COMMANDS.md`, "Limits").
+//! The limits of the specification, each with its unit (`docs/DEFINITIONS.md`, "Limits and refusals").
+
+ghost use Rattle.std.specs.Prelude.{◌≡◌, ◌-◌, ◌^◌};
 
 /// The most hops of a spool.
 pub const MAX_HOPS: u64 = 64;
@@ -56,3 +58,27 @@ pub const MAX_LINE: u64 = 4_096;
 
 /// Fewer messages than this pass through one line between threads: 2 to the power of 61.
 pub const MESSAGE_LIMIT: u64 = 2_305_843_009_213_693_952;
+
+/// Each limit is the number that the specification gives. Definitions of the crates above name some of these constants,
+/// and other limits are compared with nothing, so that no contract there would refuse another number.
+pub fn law_limits()
+    ensures hops { MAX_HOPS ≡ 64 }
+    ensures peers { MAX_PEERS ≡ 64 }
+    ensures payload { MAX_PAYLOAD ≡ 1200 }
+    ensures window { MAX_WINDOW ≡ 64 }
+    ensures round { MAX_ROUND ≡ 64 }
+    ensures items { MAX_ITEMS ≡ 16384 }
+    ensures bytes { MAX_BYTES ≡ 16777216 }
+    ensures fewest_segments { MIN_SEGMENTS ≡ 2 }
+    ensures most_segments { MAX_SEGMENTS ≡ 256 }
+    ensures segment_length { SEGMENT_LENGTH_LIMIT ≡ 2 ^ 31 }
+    ensures interval { MAX_INTERVAL ≡ 3600000000 }
+    ensures maxpacket { MAX_MAXPACKET ≡ 65535 }
+    ensures moment { MOMENT_LIMIT ≡ 2 ^ 52 }
+    ensures seq { MAX_SEQ ≡ 2 ^ 48 - 1 }
+    ensures seats { MAX_SEATS ≡ 256 }
+    ensures capacity { MAX_CAPACITY ≡ 256 }
+    ensures contacts { MAX_CONTACTS ≡ 4096 }
+    ensures line { MAX_LINE ≡ 4096 }
+    ensures messages { MESSAGE_LIMIT ≡ 2 ^ 61 }
+{}

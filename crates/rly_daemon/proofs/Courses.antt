@@ -1,5 +1,5 @@
 -- How rounds make up the play of all lines.
-use Rattle.std.proofs.Common.{◌≡◌, ◌⊎◌, ◌+◌, ℕ, List, [], ◌∷◌, ◌++◌, length, map, Bool, true, false, true≢false, cond, Option, Some, None, refl, sym, ◌∙◌, ap, subst, arith, append_assoc, append-nil, inl, inr, ⊎_elim}
+use Rattle.std.proofs.Common.{◌≡◌, ◌⊎◌, ◌+◌, ◌≤◌, ℕ, List, [], ◌∷◌, ◌++◌, length, map, Bool, true, false, true≢false, cond, Option, Some, None, refl, sym, ◌∙◌, ap, subst, arith, append_assoc, append-nil, inl, inr, ⊎_elim}
 use Rattle.std.proofs.lemmas.List.{length-map, map-append}
 use Rattle.std.specs.Io.KnownBytes.{Appends, Keeps, prepend_known}
 use Rattle.std.specs.List.{AllByRecursion, zip}
@@ -71,9 +71,9 @@ text_exact s t (line ∷ lines) (one ∷ told) asked h fed =
 
 -- ---- the play of lines
 
-module _ {D : Type 0} (state : D → DiskState) where
+module _ {D : Type 0} (batch : ℕ) (state : D → DiskState) where
   pub plays_of : (old new : JournalState D) (lines : List (List ℕ)) (text : List ℕ) (told : List Told) → map (λ one. one.0) told ≡ map ask_of lines
-      → text ≡ told_text told → Course state old new told → Later (state old.disk) (state new.disk) → Plays state old new lines text
+      → text ≡ told_text told → Course batch state old new told → Later (state old.disk) (state new.disk) → Plays batch state old new lines text
   plays_of old new lines text told asked written course later = record {
     told = told;
     asked = asked;
@@ -103,7 +103,7 @@ module _ {D : Type 0} (state : D → DiskState) where
     failed_reads = omega arith;
   }
 
-  pub plays_none : (j : JournalState D) → Plays state j j [] []
+  pub plays_none : (j : JournalState D) → Plays batch state j j [] []
   plays_none j = plays_of j j [] [] [] refl refl
       (elim (by_flag j.broken) [
         | inl broken ↦ inr (inr (record { broken = broken; refused = tt; same = refl }))
@@ -112,7 +112,7 @@ module _ {D : Type 0} (state : D → DiskState) where
       (later_same (state j.disk))
 
   course_append : (i j k : JournalState D) (xs ys : List Told) → Later (state i.disk) (state j.disk) → Later (state j.disk) (state k.disk)
-      → Course state i j xs → Course state j k ys → Course state i k (xs ++ ys)
+      → Course batch state i j xs → Course batch state j k ys → Course batch state i k (xs ++ ys)
   course_append i j k xs ys before after h c =
       elim h [
         | inl goes ↦ elim c [
@@ -128,6 +128,7 @@ module _ {D : Type 0} (state : D → DiskState) where
               broken = breaks.broken;
               front = xs ++ breaks.front;
               round = breaks.round;
+              few = breaks.few;
               rest = breaks.rest;
               parts = ap (λ l. xs ++ l) breaks.parts ∙ sym (append_assoc xs breaks.front (breaks.round ++ breaks.rest));
               last = breaks.last;
@@ -149,6 +150,7 @@ module _ {D : Type 0} (state : D → DiskState) where
                 broken = ap (λ m. m.broken) rejects.same ∙ breaks.broken;
                 front = breaks.front;
                 round = breaks.round;
+                few = breaks.few;
                 rest = breaks.rest ++ ys;
                 parts = ap (λ l. l ++ ys) breaks.parts ∙ append_assoc breaks.front (breaks.round ++ breaks.rest) ys
                     ∙ ap (λ l. breaks.front ++ l) (append_assoc breaks.round breaks.rest ys);
@@ -174,7 +176,7 @@ module _ {D : Type 0} (state : D → DiskState) where
         ]
       ]
 
-  pub plays_append : (i j k : JournalState D) (ls ms : List (List ℕ)) (t u : List ℕ) → Plays state i j ls t → Plays state j k ms u → Plays state i k (ls ++ ms) (t ++ u)
+  pub plays_append : (i j k : JournalState D) (ls ms : List (List ℕ)) (t u : List ℕ) → Plays batch state i j ls t → Plays batch state j k ms u → Plays batch state i k (ls ++ ms) (t ++ u)
   plays_append i j k ls ms t u h m =
       plays_of i k (ls ++ ms) (t ++ u) (h.told ++ m.told)
       (map-append (λ one. one.0) h.told m.told ∙ ap (λ l. l ++ map (λ one. one.0) m.told) h.asked ∙ ap (λ l. map ask_of ls ++ l) m.asked ∙ sym (map-append ask_of ls ms))
@@ -237,10 +239,10 @@ merge_refused refusal position (Some ask ∷ asked) (call ∷ calls) same =
 
 -- ---- one round, from a batch of lines
 
-module _ {D : Type 0} (state : D → DiskState) where
-  round_course : (j k : JournalState D) (asked : List (Option Ask)) (calls : List Call) (given : List Answer) → asks_of calls ≡ asks_in asked
-      → IsRound state j k calls given → Course state j k (merge asked given)
-  round_course j k asked calls given same round =
+module _ {D : Type 0} (batch : ℕ) (state : D → DiskState) where
+  round_course : (j k : JournalState D) (asked : List (Option Ask)) (calls : List Call) (given : List Answer) → length (merge asked given) ≤ batch → asks_of calls ≡ asks_in asked
+      → IsRound state j k calls given → Course batch state j k (merge asked given)
+  round_course j k asked calls given few same round =
       elim round [
         | inl rejected ↦ inr (inr (record {
           broken = rejected.0;
@@ -260,6 +262,7 @@ module _ {D : Type 0} (state : D → DiskState) where
             broken = breaks.1.broken;
             front = [];
             round = merge asked given;
+            few = few;
             rest = [];
             parts = sym (append-nil (merge asked given));
             last = j.state;
@@ -282,21 +285,21 @@ module _ {D : Type 0} (state : D → DiskState) where
   idle_refused refusal (None ∷ asked) none = (refl, idle_refused refusal asked none)
   idle_refused refusal (Some ask ∷ asked) none = absurd (omega (arith, ap length none))
 
-  idle_course : (j : JournalState D) (asked : List (Option Ask)) → asks_in asked ≡ [] → Course state j j (merge asked [])
+  idle_course : (j : JournalState D) (asked : List (Option Ask)) → asks_in asked ≡ [] → Course batch state j j (merge asked [])
   idle_course j asked none =
-      elim (by_flag state j.broken) [
+      elim (by_flag batch state j.broken) [
         | inl broken ↦ inr (inr (record { broken = broken; refused = idle_refused Broken asked none; same = refl }))
         | inr running ↦ inl (record { running = running; goes = running; served = idle_served j.state asked none; calm = refl })
       ]
 
-  answered_course : (j k : JournalState D) (asked : List (Option Ask)) (calls : List Call) (given : List Answer) → asks_of calls ≡ asks_in asked
-      → IsAnsweredBy state j k calls given → Course state j k (merge asked given)
-  answered_course j k asked calls given same answered =
+  answered_course : (j k : JournalState D) (asked : List (Option Ask)) (calls : List Call) (given : List Answer) → length (merge asked given) ≤ batch → asks_of calls ≡ asks_in asked
+      → IsAnsweredBy state j k calls given → Course batch state j k (merge asked given)
+  answered_course j k asked calls given few same answered =
       elim answered [
         | inl idle ↦
             let none : asks_in asked ≡ [] = sym same ∙ ap asks_of idle.0 in
-            subst (λ gs. Course state j k (merge asked gs)) (sym idle.1) (subst (λ m. Course state j m (merge asked [])) (sym idle.2) (idle_course j asked none))
-        | inr round ↦ round_course j k asked calls given same round
+            subst (λ gs. Course batch state j k (merge asked gs)) (sym idle.1) (subst (λ m. Course batch state j m (merge asked [])) (sym idle.2) (idle_course j asked none))
+        | inr round ↦ round_course j k asked calls given few same round
       ]
 
   answered_count : (j k : JournalState D) (calls : List Call) (given : List Answer) → IsAnsweredBy state j k calls given → length given ≡ length calls
@@ -314,45 +317,47 @@ module _ {D : Type 0} (state : D → DiskState) where
 
   -- the lines that were gathered for a round were played
   pub plays_round : (j k : JournalState D) (front : List (List ℕ)) (slots : List (Option Subject)) (calls : List Call) (given : List Answer)
-      → slots ≡ map subject_in (map ask_of front) → asks_of calls ≡ asks_in (map ask_of front) → IsAnsweredBy state j k calls given
-      → Later (state j.disk) (state k.disk) → Plays state j k front (round_text slots given)
-  plays_round j k front slots calls given slot same answered later =
+      → length slots ≤ batch → slots ≡ map subject_in (map ask_of front) → asks_of calls ≡ asks_in (map ask_of front) → IsAnsweredBy state j k calls given
+      → Later (state j.disk) (state k.disk) → Plays batch state j k front (round_text slots given)
+  plays_round j k front slots calls given lines slot same answered later =
       let asked = map ask_of front in
+      let as_many : length (merge asked given) ≡ length slots =
+      sym (length-map (merge asked given) (λ one. one.0)) ∙ ap length (merge_asked asked given) ∙ sym (length-map asked subject_in) ∙ ap length (sym slot) in
       let count : length given ≡ length (asks_in asked) = answered_count j k calls given answered ∙ sym (length-map calls (λ call. call.ask)) ∙ ap length same in
-      plays_of state j k front (round_text slots given) (merge asked given) (merge_asked asked given)
+      plays_of batch state j k front (round_text slots given) (merge asked given) (merge_asked asked given)
       (ap (λ ss. round_text ss given) slot ∙ merge_text asked given count)
-      (answered_course j k asked calls given same answered) later
+      (answered_course j k asked calls given (omega (arith, as_many, lines)) same answered) later
 
   -- ---- with the bytes that are left, and what is written
 
   pub some_round : (j k : JournalState D) (left rest old mid new : Option (List ℕ)) (slots : List (Option Subject)) (calls : List Call) (given : List Answer)
-      → Gathers left rest slots (asks_of calls) → IsAnsweredBy state j k calls given → Later (state j.disk) (state k.disk)
-      → Keeps old mid → Appends mid new (round_text slots given) → PlaysSome state j k left rest old new
-  some_round j k None rest old mid new slots calls given h answered later keeps told = tt
-  some_round j k (Some xs) None old mid new slots calls given h answered later keeps told = absurd h
-  some_round j k (Some xs) (Some ys) old mid new slots calls given h answered later keeps told =
-      (h.0, h.1, round_text slots given, plays_round j k h.0 slots calls given h.2 h.3 answered later, keeps_appends old mid new (round_text slots given) keeps told)
+      → Gathers left rest slots (asks_of calls) → length slots ≤ batch → IsAnsweredBy state j k calls given → Later (state j.disk) (state k.disk)
+      → Keeps old mid → Appends mid new (round_text slots given) → PlaysSome batch state j k left rest old new
+  some_round j k None rest old mid new slots calls given h few answered later keeps told = tt
+  some_round j k (Some xs) None old mid new slots calls given h few answered later keeps told = absurd h
+  some_round j k (Some xs) (Some ys) old mid new slots calls given h few answered later keeps told =
+      (h.0, h.1, round_text slots given, plays_round j k h.0 slots calls given few h.2 h.3 answered later, keeps_appends old mid new (round_text slots given) keeps told)
 
   pub front_round : (j k : JournalState D) (left rest old mid new : Option (List ℕ)) (slots : List (Option Subject)) (calls : List Call) (given : List Answer)
-      → Gathers left rest slots (asks_of calls) → IsAnsweredBy state j k calls given → Later (state j.disk) (state k.disk)
-      → Keeps old mid → AppendsBeginning mid new (round_text slots given) → PlaysFront state j k left old new
-  front_round j k None rest old mid new slots calls given h answered later keeps told = tt
-  front_round j k (Some xs) None old mid new slots calls given h answered later keeps told = absurd h
-  front_round j k (Some xs) (Some ys) old mid new slots calls given h answered later keeps told =
-      (h.0, lines_of ys, h.1, round_text slots given, plays_round j k h.0 slots calls given h.2 h.3 answered later, keeps_begins old mid new (round_text slots given) keeps told)
+      → Gathers left rest slots (asks_of calls) → length slots ≤ batch → IsAnsweredBy state j k calls given → Later (state j.disk) (state k.disk)
+      → Keeps old mid → AppendsBeginning mid new (round_text slots given) → PlaysFront batch state j k left old new
+  front_round j k None rest old mid new slots calls given h few answered later keeps told = tt
+  front_round j k (Some xs) None old mid new slots calls given h few answered later keeps told = absurd h
+  front_round j k (Some xs) (Some ys) old mid new slots calls given h few answered later keeps told =
+      (h.0, lines_of ys, h.1, round_text slots given, plays_round j k h.0 slots calls given few h.2 h.3 answered later, keeps_begins old mid new (round_text slots given) keeps told)
 
   -- a failure before the round
-  pub front_none : (j k : JournalState D) (left old new : Option (List ℕ)) → k ≡ j → Keeps old new → PlaysFront state j k left old new
+  pub front_none : (j k : JournalState D) (left old new : Option (List ℕ)) → k ≡ j → Keeps old new → PlaysFront batch state j k left old new
   front_none j k None old new same keeps = tt
   front_none j k (Some xs) old new same keeps =
-      ([], lines_of xs, refl, [], subst (λ m. Plays state j m [] []) (sym same) (plays_none state j), begins_kept old new [] keeps)
+      ([], lines_of xs, refl, [], subst (λ m. Plays batch state j m [] []) (sym same) (plays_none batch state j), begins_kept old new [] keeps)
 
-  pub some_none : (j : JournalState D) (left writer : Option (List ℕ)) → PlaysSome state j j left (prepend_known [] left) writer writer
+  pub some_none : (j : JournalState D) (left writer : Option (List ℕ)) → PlaysSome batch state j j left (prepend_known [] left) writer writer
   some_none j None writer = tt
-  some_none j (Some xs) writer = ([], refl, [], plays_none state j, appends_none writer)
+  some_none j (Some xs) writer = ([], refl, [], plays_none batch state j, appends_none writer)
 
-  pub some_more : (i j k : JournalState D) (all left rest first old new : Option (List ℕ)) → PlaysSome state i j all left first old → PlaysSome state j k left rest old new
-      → PlaysSome state i k all rest first new
+  pub some_more : (i j k : JournalState D) (all left rest first old new : Option (List ℕ)) → PlaysSome batch state i j all left first old → PlaysSome batch state j k left rest old new
+      → PlaysSome batch state i k all rest first new
   some_more i j k None left rest first old new h m = tt
   some_more i j k (Some xs) None rest first old new h m = absurd h
   some_more i j k (Some xs) (Some ys) None first old new h m = absurd m
@@ -360,22 +365,22 @@ module _ {D : Type 0} (state : D → DiskState) where
     h.0 ++ m.0,
     h.1 ∙ ap (λ ls. h.0 ++ ls) m.1 ∙ sym (append_assoc h.0 m.0 (lines_of zs)),
     h.2 ++ m.2,
-    plays_append state i j k h.0 m.0 h.2 m.2 h.3 m.3,
+    plays_append batch state i j k h.0 m.0 h.2 m.2 h.3 m.3,
     appends_appends first old new h.2 m.2 h.4 m.4,
   )
 
-  pub some_all : (i j k : JournalState D) (all left rest first old new : Option (List ℕ)) → PlaysSome state i j all left first old → PlaysSome state j k left rest old new
-      → EndsAt left rest → PlaysAll state i k all first new
+  pub some_all : (i j k : JournalState D) (all left rest first old new : Option (List ℕ)) → PlaysSome batch state i j all left first old → PlaysSome batch state j k left rest old new
+      → EndsAt left rest → PlaysAll batch state i k all first new
   some_all i j k None left rest first old new h m end = tt
   some_all i j k (Some xs) None rest first old new h m end = absurd h
   some_all i j k (Some xs) (Some ys) None first old new h m end = absurd m
   some_all i j k (Some xs) (Some ys) (Some zs) first old new h m end =
       let more = some_more i j k (Some xs) (Some ys) (Some zs) first old new h m in
       let whole : lines_of xs ≡ more.0 = more.1 ∙ ap (λ ls. more.0 ++ ls) end ∙ append-nil more.0 in
-      (more.2, subst (λ ls. Plays state i k ls more.2) (sym whole) more.3, more.4)
+      (more.2, subst (λ ls. Plays batch state i k ls more.2) (sym whole) more.3, more.4)
 
-  pub some_front : (i j k : JournalState D) (all left first old new : Option (List ℕ)) → PlaysSome state i j all left first old → PlaysFront state j k left old new
-      → PlaysFront state i k all first new
+  pub some_front : (i j k : JournalState D) (all left first old new : Option (List ℕ)) → PlaysSome batch state i j all left first old → PlaysFront batch state j k left old new
+      → PlaysFront batch state i k all first new
   some_front i j k None left first old new h m = tt
   some_front i j k (Some xs) None first old new h m = absurd h
   some_front i j k (Some xs) (Some ys) first old new h m = (
@@ -383,9 +388,9 @@ module _ {D : Type 0} (state : D → DiskState) where
     m.1,
     h.1 ∙ ap (λ ls. h.0 ++ ls) m.2 ∙ sym (append_assoc h.0 m.0 m.1),
     h.2 ++ m.3,
-    plays_append state i j k h.0 m.0 h.2 m.3 h.3 m.4,
+    plays_append batch state i j k h.0 m.0 h.2 m.3 h.3 m.4,
     begins_more first old new h.2 m.3 h.4 m.5,
   )
 
-  pub front_start : (j : JournalState D) (all writer : Option (List ℕ)) → PlaysFront state j j all writer writer
+  pub front_start : (j : JournalState D) (all writer : Option (List ℕ)) → PlaysFront batch state j j all writer writer
   front_start j all writer = front_none j j all writer writer refl (keeps_same writer)

@@ -1,3 +1,5 @@
+pub mod Places
+pub mod HexDigits
 pub mod Cuts
 pub mod Numerals
 pub mod Newlines
@@ -7,4 +9,4 @@ pub mod Digits
 pub mod Rounds
 pub mod Gathering
 pub mod Courses
-pub mod Commands
+pub mod Workers

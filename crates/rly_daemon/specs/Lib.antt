@@ -5,4 +5,5 @@ pub mod Text
 pub mod Playing
 pub mod FileDisk
 pub mod Formatting
-pub mod CommandLine
+pub mod WallClock
+pub mod Serving

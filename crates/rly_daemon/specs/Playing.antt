@@ -1,5 +1,5 @@
 -- What `play` writes for lines, and what becomes of its journal.
-use Rattle.std.specs.Prelude.{◌≡◌, ◌⊎◌, ℕ, List, [], ◌∷◌, ◌++◌, length, map, take, Bool, true, false, if◌then◌else◌, Option, Some, None, ⊤}
+use Rattle.std.specs.Prelude.{◌≡◌, ◌⊎◌, ◌≤◌, ℕ, List, [], ◌∷◌, ◌++◌, length, map, take, Bool, true, false, if◌then◌else◌, Option, Some, None, ⊤}
 use Rattle.std.specs.Io.KnownBytes.{Appends}
 use Rattle.std.specs.List.{AllByRecursion}
 use Rattle.rly_core.specs.Bounds.{IsIn}
@@ -68,13 +68,14 @@ pub record Goes {D : Type 0} (state : D → DiskState) (old new : JournalState D
   pub served : AreServed old.state told new.state
   pub calm : (state new.disk).failures ≡ (state old.disk).failures
 
--- the device failed: the lines before that round were served, those of the round may or may not stand, and the
--- journal is broken for all behind them
-pub record Breaks {D : Type 0} (state : D → DiskState) (old new : JournalState D) (told : List Told) : Type 0 where
+-- the device failed: the lines before that round were served, those of the round, no more than a round has, may or may
+-- not stand, and the journal is broken for all behind them
+pub record Breaks {D : Type 0} (batch : ℕ) (state : D → DiskState) (old new : JournalState D) (told : List Told) : Type 0 where
   pub running : old.broken ≡ false
   pub broken : new.broken ≡ true
   pub front : List Told
   pub round : List Told
+  pub few : length round ≤ batch
   pub rest : List Told
   pub parts : told ≡ front ++ (round ++ rest)
   pub last : ByteState
@@ -90,40 +91,40 @@ pub record Rejects {D : Type 0} (old new : JournalState D) (told : List Told) : 
   pub same : new ≡ old
 
 -- what may become of lines
-abbrev pub Course : {D : Type 0} → (D → DiskState) → JournalState D → JournalState D → List Told → Type 0
-Course state old new told = Goes state old new told ⊎ Breaks state old new told ⊎ Rejects old new told
+abbrev pub Course : {D : Type 0} → ℕ → (D → DiskState) → JournalState D → JournalState D → List Told → Type 0
+Course batch state old new told = Goes state old new told ⊎ Breaks batch state old new told ⊎ Rejects old new told
 
 -- no line was refused for want of memory
 abbrev pub NoneStarved : List Told → Type 0
 NoneStarved told = AllByRecursion (λ one. one.1 ≡ Refused OutOfMemory → ⊥) told
 
--- lines were played on a journal, and this is the text for them. Where the journal is whole, its device does not fail
+-- lines were played on a journal, so many a round, and this is the text for them. Where the journal is whole, its device does not fail
 -- and no memory is refused, it is the text of the machine
-pub record Plays {D : Type 0} (state : D → DiskState) (old new : JournalState D) (lines : List (List ℕ)) (text : List ℕ) : Type 0 where
+pub record Plays {D : Type 0} (batch : ℕ) (state : D → DiskState) (old new : JournalState D) (lines : List (List ℕ)) (text : List ℕ) : Type 0 where
   pub told : List Told
   pub asked : map (λ one. one.0) told ≡ map ask_of lines
   pub written : text ≡ told_text told
-  pub course : Course state old new told
+  pub course : Course batch state old new told
   pub later : Later (state old.disk) (state new.disk)
   pub exact : old.broken ≡ false → (Rose (state old.disk) (state new.disk) → ⊥) → NoneStarved told → text ≡ replies_from old.state lines
 
 -- all lines of the known bytes that were left were played, and their text was written
-abbrev pub PlaysAll : {D : Type 0} → (D → DiskState) → JournalState D → JournalState D → Option (List ℕ) → Option (List ℕ) → Option (List ℕ) → Type 0
-PlaysAll state j k None old new = ⊤
-PlaysAll state j k (Some xs) old new = (text : List ℕ) × Plays state j k (lines_of xs) text × Appends old new text
+abbrev pub PlaysAll : {D : Type 0} → ℕ → (D → DiskState) → JournalState D → JournalState D → Option (List ℕ) → Option (List ℕ) → Option (List ℕ) → Type 0
+PlaysAll batch state j k None old new = ⊤
+PlaysAll batch state j k (Some xs) old new = (text : List ℕ) × Plays batch state j k (lines_of xs) text × Appends old new text
 
 -- the first of them were played, and a beginning of their text was written
-abbrev pub PlaysFront : {D : Type 0} → (D → DiskState) → JournalState D → JournalState D → Option (List ℕ) → Option (List ℕ) → Option (List ℕ) → Type 0
-PlaysFront state j k None old new = ⊤
-PlaysFront state j k (Some xs) old new = (front rest : List (List ℕ)) × (lines_of xs ≡ front ++ rest)
-    × (text : List ℕ) × Plays state j k front text × AppendsBeginning old new text
+abbrev pub PlaysFront : {D : Type 0} → ℕ → (D → DiskState) → JournalState D → JournalState D → Option (List ℕ) → Option (List ℕ) → Option (List ℕ) → Type 0
+PlaysFront batch state j k None old new = ⊤
+PlaysFront batch state j k (Some xs) old new = (front rest : List (List ℕ)) × (lines_of xs ≡ front ++ rest)
+    × (text : List ℕ) × Plays batch state j k front text × AppendsBeginning old new text
 
 -- the same with the bytes that are still left: the first lines were played, their text was written, and the others are left
-abbrev pub PlaysSome : {D : Type 0} → (D → DiskState) → JournalState D → JournalState D → Option (List ℕ) → Option (List ℕ) → Option (List ℕ) → Option (List ℕ) → Type 0
-PlaysSome state j k None left old new = ⊤
-PlaysSome state j k (Some xs) None old new = ⊥
-PlaysSome state j k (Some xs) (Some ys) old new = (front : List (List ℕ)) × (lines_of xs ≡ front ++ lines_of ys)
-    × (text : List ℕ) × Plays state j k front text × Appends old new text
+abbrev pub PlaysSome : {D : Type 0} → ℕ → (D → DiskState) → JournalState D → JournalState D → Option (List ℕ) → Option (List ℕ) → Option (List ℕ) → Option (List ℕ) → Type 0
+PlaysSome batch state j k None left old new = ⊤
+PlaysSome batch state j k (Some xs) None old new = ⊥
+PlaysSome batch state j k (Some xs) (Some ys) old new = (front : List (List ℕ)) × (lines_of xs ≡ front ++ lines_of ys)
+    × (text : List ℕ) × Plays batch state j k front text × Appends old new text
 
 -- the lines end there, where the bytes that were left are known
 abbrev pub EndsAt : Option (List ℕ) → Option (List ℕ) → Type 0

@@ -3,6 +3,7 @@ use Rattle.std.specs.Prelude.{ℕ, List, [], ◌∷◌, ◌++◌, Bool, true, fa
 use Rattle.std.specs.Fmt.{decimal}
 use Rattle.std.specs.List.{flat_map}
 use Rattle.hex.specs.Hex.{encode_lower}
+use Rattle.rly_audit.specs.Report.{counts_text}
 use Rattle.rly_core.specs.Refusals.{refusal_line}
 use Rattle.rly_core.specs.declared.ids.HopId.{HopId}
 use Rattle.rly_machine.specs.declared.command.Ask.{Ask}
@@ -27,15 +28,6 @@ subject_of (ask.Query (Show hop)) = record { peer = record { 0 = 0 }; hop = hop;
 abbrev pub yes_or_no : Bool → List ℕ
 yes_or_no true = codes "yes"
 yes_or_no false = codes "no"
-
--- the counts of a hop's datagrams
-unfoldable pub counts_text : HopStatus → List ℕ
-counts_text s =
-    codes " taken " ++ decimal s.taken
-    ++ codes " queued " ++ decimal s.queued
-    ++ codes " flight " ++ decimal s.flight
-    ++ codes " dropped " ++ decimal s.dropped
-    ++ codes " released " ++ decimal s.released
 
 -- CoDel's state of a hop
 unfoldable pub discards_text : CodelState → List ℕ

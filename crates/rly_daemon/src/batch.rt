@@ -35,7 +35,8 @@ impl Batch {
     /// A batch for so many lines.
     pub(crate) fn new(alloc: Global, most: u64) -> Result<Batch, AllocError>
         requires { IsIn 1 64 most }
-        ensures { IfOk result (λ batch. IsReady batch) }
+        ensures ready { IfOk result (λ batch. IsReady batch) }
+        ensures most { IfOk result (λ batch. batch.most ≡ most) }
     {
         Ok(Batch {
             most,
@@ -57,6 +58,7 @@ impl Batch {
         requires { IsReady self.old }
         ensures gathered { OnOk result (Gathers (prepend_known lines.old.ahead (R.remaining reader.old))
             (prepend_known lines.new.ahead (R.remaining reader.new)) self.new.slots.items (asks_of self.new.calls.items)) }
+        ensures lines { OnOk result (length self.new.slots.items ≤ self.old.most) }
         ensures count { OnOk result (length self.new.calls.items ≤ 64) }
         ensures ended { result ≡ Ok false → EndsAt (prepend_known lines.old.ahead (R.remaining reader.old)) (prepend_known lines.new.ahead (R.remaining reader.new)) }
         ensures progress { result ≡ Ok true → (lines.old.taken < lines.new.taken) × (lines.new.taken < 2 ^ 64) }
@@ -173,6 +175,7 @@ fn write_replies<W: Write>(
 }
 
 /// Writes the reply line of one line, and answers which answers are left.
+#[tactic(auto, using(rly_stream::proofs::Flows::begins_broken))]
 fn write_reply<'a, W: Write>(
     slot: Option<Subject>,
     answers: &'a [Answer],
@@ -199,6 +202,7 @@ fn write_reply<'a, W: Write>(
 }
 
 /// Writes the line of a reply.
+#[tactic(auto, using(rly_stream::proofs::Flows::begins_broken))]
 fn write_answer<W: Write>(
     subject: Subject,
     reply: &Reply,

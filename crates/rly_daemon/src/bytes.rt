@@ -1,10 +1,53 @@
-ghost use Rattle.std.specs.Prelude.{◌≡◌, ◌==◌, ◌<◌, IfSome, length};
-ghost use Rattle.std.specs.List.{position};
+ghost use Rattle.std.specs.Prelude.{◌≡◌, ◌==◌, ◌*◌, ◌<◌, IfSome, length, Some, true};
+ghost use Rattle.std.specs.List.{list_all, position};
+ghost use Rattle.std.specs.Result.{is_ok};
+ghost use Rattle.hex.specs.Hex.{decode_of, hex_digit_value, is_hex_digit};
+
+use memchr::memchr;
 
 /// The first place of a byte.
 pub fn position_of(bytes: &[u8], byte: u8) -> Option<usize>
     ensures place { result ≡ position (λ b. b == byte) bytes.now }
     ensures within { IfSome result (λ at. at < length bytes.now) }
 {
-    bytes.iter().position(|b| *b == byte)
+    memchr(byte, bytes)
+}
+
+/// Whether a text is pairs of hexadecimal digits, as `hex` reads them.
+pub fn is_hexadecimal(text: &[u8]) -> bool
+    ensures { result ≡ is_ok (decode_of text.now) }
+{
+    text.len() % 2 == 0 && has_hex_digits_alone(text)
+}
+
+/// Whether each byte of a text is a hexadecimal digit. It looks at all of them, with no branch at
+/// each: in a payload these would seldom be foretold, and take most of the time of reading it.
+fn has_hex_digits_alone(text: &[u8]) -> bool
+    ensures { result ≡ list_all is_hex_digit text.now }
+{
+    let mut alone = true;
+    for byte in text {
+        alone = alone & byte.is_ascii_hexdigit();
+    }
+    alone
+}
+
+/// Fills a buffer with the bytes that pairs of hexadecimal digits spell: those of `hex::decode`.
+pub fn decode_hexadecimal(text: &[u8], bytes: &mut [u8])
+    requires spelled { is_ok (decode_of text.now) ≡ true }
+    requires room { length text.now ≡ 2 * length bytes.old }
+    ensures { decode_of text.now ≡ Ok bytes.new }
+{
+    for i in 0..bytes.len() {
+        bytes[i] = digit_value(text[2 * i]) * 16 + digit_value(text[2 * i + 1]);
+    }
+}
+
+/// The value of a hexadecimal digit.
+fn digit_value(digit: u8) -> u8
+    requires { is_hex_digit digit ≡ true }
+    ensures value { hex_digit_value digit ≡ Some result }
+    ensures small { result < 16 }
+{
+    digit % 16 + 9 * (digit / 64)
 }

@@ -3,8 +3,7 @@ ghost use Rattle.std.specs.Char.{is_ascii_digit};
 ghost use Rattle.std.specs.List.{list_all};
 ghost use Rattle.rly_daemon.specs.Grammar.{HasTwo, ask_of, done_of, fetch_of, hop_of, id_of, is_numeral, number_of, payload_of, peer_of, pick_of, show_of, take_of, window_of, words_ask, words_of};
 
-use crate::bytes::position_of;
-use hex::FromHexError;
+use crate::bytes::{decode_hexadecimal, is_hexadecimal, position_of};
 use rly_core::{HopId, PeerId, limits};
 use rly_machine::{Ask, Command, Payload, Query};
 use std::alloc::{AllocError, Global};
@@ -232,12 +231,10 @@ fn parse_payload(alloc: Global, word: &[u8]) -> Result<Option<Payload>, AllocErr
     if word == b"-".as_slice() {
         return Ok(Some(Payload::new(Vec::new(alloc))));
     }
-    if word.is_empty() {
+    if word.is_empty() || !is_hexadecimal(word) {
         return Ok(None);
     }
-    match hex::decode(alloc, word) {
-        Ok(bytes) => Ok(Some(Payload::new(bytes))),
-        Err(FromHexError::OutOfMemory) => Err(AllocError),
-        Err(_) => Ok(None),
-    }
+    let mut bytes = vec![in alloc; 0u8; word.len() / 2]?;
+    decode_hexadecimal(word, &mut bytes);
+    Ok(Some(Payload::new(bytes)))
 }

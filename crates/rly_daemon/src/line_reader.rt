@@ -10,7 +10,7 @@ use std::io::Read;
 use std::marker::Model;
 
 /// How many bytes are read at once.
-const CHUNK: usize = 8_192;
+const CHUNK: usize = 65_536;
 
 /// How many bytes are kept of a line: one more than a command may have.
 const KEPT: usize = limits::MAX_LINE as usize + 1;

@@ -24,10 +24,10 @@ pub fn play<D: Disk, R: Read, W: Write>(
 ) -> Result<(), SimFault>
     requires { IsIn 1 64 batch }
     // What is written is the text of what is read.
-    ensures written { OnOk result (PlaysAll D.state journal.old journal.new
+    ensures written { OnOk result (PlaysAll batch D.state journal.old journal.new
         (R.remaining reader.old) (W.contents writer.old) (W.contents writer.new)) }
     // Where it stops early, a beginning of such a text was written.
-    ensures begun { OnErr result (PlaysFront D.state journal.old journal.new
+    ensures begun { OnErr result (PlaysFront batch D.state journal.old journal.new
         (R.remaining reader.old) (W.contents writer.old) (W.contents writer.new)) }
 {
     let mut lines = LineReader::new(alloc)?;
@@ -47,11 +47,12 @@ fn play_round<D: Disk, R: Read, W: Write>(
 ) -> Result<bool, SimFault>
     requires { IsReady round.old }
     ensures ready { OnOk result (IsReady round.new) }
-    ensures played { OnOk result (PlaysSome D.state journal.old journal.new
+    ensures most { OnOk result (round.new.most ≡ round.old.most) }
+    ensures played { OnOk result (PlaysSome round.old.most D.state journal.old journal.new
         (prepend_known lines.old.ahead (R.remaining reader.old)) (prepend_known lines.new.ahead (R.remaining reader.new))
         (W.contents writer.old) (W.contents writer.new)) }
     ensures ended { result ≡ Ok false → EndsAt (prepend_known lines.old.ahead (R.remaining reader.old)) (prepend_known lines.new.ahead (R.remaining reader.new)) }
-    ensures begun { OnErr result (PlaysFront D.state journal.old journal.new
+    ensures begun { OnErr result (PlaysFront round.old.most D.state journal.old journal.new
         (prepend_known lines.old.ahead (R.remaining reader.old)) (W.contents writer.old) (W.contents writer.new)) }
     ensures progress { result ≡ Ok true → (lines.old.taken < lines.new.taken) × (lines.new.taken < 2 ^ 64) }
 {

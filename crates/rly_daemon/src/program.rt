@@ -1,19 +1,23 @@
-use crate::command_line::settings;
-use crate::fault::SimFault;
+use crate::fault::{ServeFault, SimFault};
 use crate::file_disk::FileDisk;
 use crate::geometry::{device_size, geometry_of};
-use crate::given::{Settings, SettingsFault};
 use crate::playing::play;
+use crate::serving::{read_plan, serve};
 use crate::simulation::sim;
 use rly_audit::{AuditFault, audit};
 use rly_core::{Params, Refusal};
-use rly_journal::{Journal, OpenFault};
+use rly_journal::Journal;
 use rly_segment::{FormatFault, format};
+use rly_settings::{Settings, SettingsFault, settings};
 use std::alloc::Global;
 use std::convert::AsStr;
 use std::fmt::Display;
 use std::fs::{File, Files};
 use std::io::{BufWriter, Read, Write};
+use std::net::Net;
+use std::sync::Wait;
+use std::thread::Threads;
+use std::time::Clock;
 use thiserror::Error;
 
 /// Why a command of the program failed; displays as the line for standard error.
@@ -22,10 +26,19 @@ enum CommandFault {
     /// The input, the output or the memory failed.
     #[error("{0}")]
     Sim(SimFault),
+    /// The relay wasn't started, or didn't end well.
+    #[error("{0}")]
+    Serve(ServeFault),
     /// Something was refused.
     #[error("{0}")]
     Refused(Refusal),
 }
+
+/// What the whole program needs of its runtime. Only `rly serve` uses the network, and starts threads
+/// and waits for them.
+pub trait Host: AllocGlobal + Files<File = File> + Net + Threads + Wait + Clock + Sync {}
+
+impl<H: AllocGlobal + Files<File = File> + Net + Threads + Wait + Clock + Sync> Host for H {}
 
 /// The most lines of a round.
 const MAX_BATCH: u64 = 64;
@@ -33,7 +46,7 @@ const MAX_BATCH: u64 = 64;
 /// Runs the whole program on a command line, the program's name first, and answers its exit
 /// status: 0, also where reply lines refuse; 1 where a command failed, or a journal ended Broken;
 /// 2 for a bad command line. Replies, help and version go to `writer`, why it failed to `errors`.
-pub fn run<H: AllocGlobal + Files<File = File>, S: AsStr, R: Read, W: Write, E: Write>(
+pub fn run<H: Host, S: AsStr, R: Read, W: Write, E: Write>(
     rt: &H,
     words: &[S],
     reader: &mut R,
@@ -45,13 +58,14 @@ pub fn run<H: AllocGlobal + Files<File = File>, S: AsStr, R: Read, W: Write, E: 
             Ok(()) => 0,
             Err(fault) => fail(&fault, errors),
         },
-        Err(SettingsFault::CommandLine(error)) => show(&error, writer, errors),
+        Err(SettingsFault::Asked(text)) => show(&text, writer, errors),
+        Err(SettingsFault::CommandLine(text)) => complain(&text, errors),
         Err(fault) => fail(&fault, errors),
     }
 }
 
 /// Runs one command.
-fn obey<H: AllocGlobal + Files<File = File>, R: Read, W: Write>(
+fn obey<H: Host, R: Read, W: Write>(
     rt: &H,
     settings: Settings<'_>,
     reader: &mut R,
@@ -71,6 +85,9 @@ fn obey<H: AllocGlobal + Files<File = File>, R: Read, W: Write>(
         }
         Settings::Play { file, batch } => run_play(rt, file, batch, reader, writer),
         Settings::Audit { file } => run_audit(rt, file, writer),
+        Settings::Serve { file, plan, turns } => {
+            run_serve(rt, file, plan, turns).map_err(CommandFault::Serve)
+        }
     }
 }
 
@@ -130,11 +147,7 @@ fn run_play<H: AllocGlobal + Files<File = File>, R: Read, W: Write>(
     reader: &mut R,
     writer: &mut W,
 ) -> Result<(), CommandFault> {
-    let disk = FileDisk::open(rt, file).map_err(CommandFault::Refused)?;
-    let mut journal = match Journal::open(rt.alloc(), disk) {
-        Ok(journal) => journal,
-        Err((fault, _disk)) => return Err(CommandFault::Refused(refusal_of(fault))),
-    };
+    let mut journal = open_journal(rt, file).map_err(CommandFault::Refused)?;
     let Ok(mut output) = BufWriter::new(rt.alloc(), &mut *writer) else {
         return Err(CommandFault::Refused(Refusal::OutOfMemory));
     };
@@ -165,29 +178,39 @@ fn run_audit<H: AllocGlobal + Files<File = File>, W: Write>(
     }
 }
 
-/// The refusal that says why a device was not opened.
-fn refusal_of(fault: OpenFault) -> Refusal {
-    match fault {
-        OpenFault::OutOfMemory => Refusal::OutOfMemory,
-        OpenFault::NotADevice => Refusal::NotADevice,
-        OpenFault::BadGeometry => Refusal::BadGeometry,
-        OpenFault::Damaged(place) => Refusal::Damaged(place),
-        OpenFault::Device => Refusal::Device,
+/// Runs the relay of a plan on the device in a file. The plan is read before the file is touched.
+fn run_serve<H: Host>(rt: &H, file: &str, plan: &str, turns: u64) -> Result<(), ServeFault> {
+    let plan = read_plan(rt, plan)?;
+    let journal = open_journal(rt, file)?;
+    serve(rt, journal, &plan, turns)
+}
+
+/// Opens the journal on the device in a file.
+fn open_journal<H: AllocGlobal + Files<File = File>>(
+    rt: &H,
+    file: &str,
+) -> Result<Journal<FileDisk>, Refusal> {
+    let disk = FileDisk::open(rt, file)?;
+    match Journal::open(rt.alloc(), disk) {
+        Ok(journal) => Ok(journal),
+        Err((fault, _disk)) => Err(Refusal::from(fault)),
     }
 }
 
-/// Shows help or the version as output, and what is wrong with a command line as an error.
-fn show<W: Write, E: Write>(error: &clap::Error, writer: &mut W, errors: &mut E) -> u8 {
-    if error.use_stderr() {
-        // Nothing is left to tell where even this fails.
-        let _told = write!(errors, "{error}");
-        return 2;
-    }
-    let shown = write!(writer, "{error}").and_then(|()| writer.flush());
+/// Shows help or the version, and answers the status.
+fn show<T: Display, W: Write, E: Write>(text: &T, writer: &mut W, errors: &mut E) -> u8 {
+    let shown = write!(writer, "{text}").and_then(|()| writer.flush());
     match shown {
         Ok(()) => 0,
         Err(_) => fail(&SimFault::Output, errors),
     }
+}
+
+/// Writes what is wrong with a command line, and answers the status.
+fn complain<T: Display, E: Write>(text: &T, errors: &mut E) -> u8 {
+    // Nothing is left to tell where even this fails.
+    let _told = write!(errors, "{text}");
+    2
 }
 
 /// Writes why a command failed, and answers its status.

@@ -1,5 +1,6 @@
 ghost use Rattle.std.specs.Prelude.{◌≡◌, Some};
 
+use rly_audit::HopCounts;
 use rly_core::{HopId, PeerId};
 use rly_machine::{Ask, CodelState, Command, HopStatus, Ids, Payload, Query, Reply};
 use std::fmt;
@@ -202,37 +203,11 @@ impl fmt::Display for StatusLine<'_> {
 
     fn fmt<W: fmt::Write>(&self, f: &mut fmt::Formatter<W>) -> fmt::Result {
         let (hop, status) = (self.hop, self.status);
-        let counts = Counts { status };
+        let counts = HopCounts { status };
         let codel = Discards {
             codel: &status.codel,
         };
         write!(f, "hop {hop}{counts}{codel} moment {}", status.moment)
-    }
-}
-
-/// The counts of a hop's datagrams.
-#[derive(Drop)]
-struct Counts<'a> {
-    status: &'a HopStatus,
-}
-
-impl fmt::Display for Counts<'_> {
-    ghost use Rattle.rly_daemon.specs.Replies.{counts_text};
-
-    ghost output = { λ counts. Some (counts_text counts.status.now) };
-
-    #[tactic(auto, unfolding(crate::specs::Replies::counts_text))]
-    fn fmt<W: fmt::Write>(&self, f: &mut fmt::Formatter<W>) -> fmt::Result {
-        let HopStatus {
-            taken,
-            queued,
-            flight,
-            dropped,
-            released,
-            ..
-        } = *self.status;
-        write!(f, " taken {taken} queued {queued} flight {flight}")?;
-        write!(f, " dropped {dropped} released {released}")
     }
 }
 

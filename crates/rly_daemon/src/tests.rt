@@ -1,5 +1,7 @@
 mod devices;
+mod links;
 mod playing;
 mod programs;
 mod rows;
+mod serving;
 mod streams;

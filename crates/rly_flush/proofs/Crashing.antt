@@ -16,6 +16,7 @@ use Rattle.rly_journal.specs.Rounds.{AreServed, refusal_of, refusals}
 use Rattle.rly_journal.specs.Standing.{Stands}
 use Rattle.rly_line.specs.Replies.{Teller}
 use Rattle.rly_line.specs.Responding.{IsResponding, Responding, asks_of}
+use Rattle.rly_line.specs.Submission.{LineId}
 use Rattle.rly_flush.specs.Flushing.{FlusherState, GrewInRound, HoldsAnswered, IsBreach, IsCrashSafe, IsFlushing, IsOneHistory, KeepsAnswered, answered_state, fallen, reached}
 use Rattle.rly_flush.proofs.Joining.{GoesOn, goes_on}
 use Rattle.rly_flush.proofs.Refusing.{asks_append, asks_zip, grows, up_to, up_to_more}
@@ -25,7 +26,7 @@ abbrev pub next_of : {D : Type 0} → FlusherState D → JournalState D → List
 next_of old journal lines calls given = record {
   first = old.first;
   journal = journal;
-  line = record { taken = old.line.taken ++ calls; start = old.line.start; history = old.line.history ++ zip calls given; lines = lines };
+  line = record { of = old.line.of; taken = old.line.taken ++ calls; start = old.line.start; history = old.line.history ++ zip calls given; lines = lines };
 }
 
 -- what is known of the journal's round for them
@@ -240,13 +241,14 @@ same_line old collected calls is none =
 
 -- what became of the calls once all were answered
 pub line_now : (old collected new : Responding) (calls said : List Call) (given : List Answer) → collected ≡ record old { taken = old.taken ++ calls } → said ≡ calls
-    → new.taken ≡ collected.taken → new.start ≡ collected.start → new.history ≡ collected.history ++ zip said given
-    → new ≡ record { taken = old.taken ++ calls; start = old.start; history = old.history ++ zip calls given; lines = new.lines }
-line_now old collected new calls said given is same taken start history =
+    → new.of ≡ collected.of → new.taken ≡ collected.taken → new.start ≡ collected.start → new.history ≡ collected.history ++ zip said given
+    → new ≡ record { of = old.of; taken = old.taken ++ calls; start = old.start; history = old.history ++ zip calls given; lines = new.lines }
+line_now old collected new calls said given is same from taken start history =
+    let at = from ∙ ap (λ (r : Responding). r.of) is in
     let all = taken ∙ ap (λ (r : Responding). r.taken) is in
     let begun = start ∙ ap (λ (r : Responding). r.start) is in
     let longer = history ∙ ap (λ (r : Responding). r.history ++ zip said given) is ∙ ap (λ l. old.history ++ zip l given) same in
-    λ i. record { taken = all i; start = begun i; history = longer i; lines = new.lines }
+    λ i. record { of = at i; taken = all i; start = begun i; history = longer i; lines = new.lines }
 
 -- the answers may be told
 pub legal_now : (old collected : Responding) (calls said : List Call) (given : List Answer) → collected ≡ record old { taken = old.taken ++ calls } → said ≡ calls
@@ -258,12 +260,12 @@ legal_now old collected calls said given is same legal =
     (legal_but_for_bytes (harm_after 0 old.history) (state_after old.start old.history) (zip calls given) legal)
 
 -- nothing was taken yet
-pub at_first : {D : Type 0} (state : D → DiskState) (journal : JournalState D) (line : Responding) (lines : List Teller)
-    → line ≡ record { taken = []; start = answered_state journal; history = []; lines = lines } → IsResponding line
+pub at_first : {D : Type 0} (state : D → DiskState) (journal : JournalState D) (of : LineId) (line : Responding) (lines : List Teller)
+    → line ≡ record { of = of; taken = []; start = answered_state journal; history = []; lines = lines } → IsResponding line
     → (journal.broken ≡ false → journal.position ≡ journal.state.seq)
     → ((state journal.disk).honest → journal.broken ≡ false → Settled (state journal.disk) × Stands (state journal.disk).seen journal.state)
     → IsFlushing state (record { first = journal; journal = journal; line = line })
-at_first {D} state journal line lines is responding counted durable =
+at_first {D} state journal of line lines is responding counted durable =
     let same : journal.broken ≡ false → answered_state journal ≡ journal.state = λ whole. ap (λ n. record journal.state { seq = n }) (counted whole) in
     subst (λ (l : Responding). IsFlushing state (record { first = journal; journal = journal; line = l })) (sym is)
     (record {

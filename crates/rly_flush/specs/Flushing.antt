@@ -13,7 +13,7 @@ use Rattle.rly_machine.specs.State.{State}
 use Rattle.rly_journal.specs.Journal.{IsRound, JournalState}
 use Rattle.rly_journal.specs.Rounds.{AreServed, refusals}
 use Rattle.rly_journal.specs.Standing.{Stands}
-use Rattle.rly_line.specs.Replies.{Teller}
+use Rattle.rly_line.specs.EndViews.{EndView}
 use Rattle.rly_line.specs.Responding.{AreTold, IsResponding, Responding, asks_of}
 
 -- what contracts see of a flusher: the journal that it was given, that journal now, and what became of the calls
@@ -27,8 +27,8 @@ abbrev pub answered_state : {D : Type 0} → JournalState D → State (List ℕ)
 answered_state j = record j.state { seq = j.position }
 
 -- a flusher with this journal at the end of new lines, which took no call yet
-abbrev pub new_flusher : {D : Type 0} → JournalState D → List Teller → FlusherState D
-new_flusher given lines = record { first = given; journal = given; line = record { taken = []; start = answered_state given; history = []; lines = lines } }
+abbrev pub new_flusher : {D : Type 0} → JournalState D → EndView → FlusherState D
+new_flusher given end = record { first = given; journal = given; line = record { of = end.of; taken = []; start = answered_state given; history = []; lines = end.lines } }
 
 -- the state that the history led to
 abbrev pub reached : {D : Type 0} → FlusherState D → State (List ℕ)

@@ -86,6 +86,7 @@ pub(crate) fn answer_all<T: Standing, R: Wait>(
     requires left { AreLeft line.old (said_of said.old) }
     requires count { length answers.old.items ≡ length said.old.items }
     requires legal { LegalBy without_bytes (harm_after 0 line.old.history) (state_after line.old.start line.old.history) (zip (said_of said.old) answers.old.items) }
+    ensures of { line.new.of ≡ line.old.of }
     ensures taken { line.new.taken ≡ line.old.taken }
     ensures start { line.new.start ≡ line.old.start }
     ensures history { line.new.history ≡ line.old.history ++ zip (said_of said.old) answers.old.items }

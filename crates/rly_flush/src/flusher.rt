@@ -5,13 +5,15 @@ ghost use Rattle.rly_disk.specs.DiskModel.{Later, Settled};
 ghost use Rattle.rly_journal.specs.Journal.{IsRound, IsSafe};
 ghost use Rattle.rly_journal.specs.Standing.{Stands};
 ghost use Rattle.rly_line.specs.EndViews.{new_teller};
+ghost use Rattle.rly_line.specs.Responding.{asks_of};
+ghost use Rattle.rly_line.specs.Submission.{IsBeginning};
 ghost use Rattle.rly_flush.specs.Flushing.{GrewInRound, IsCrashSafe, IsOneHistory, IsOneRound, IsServed, new_flusher};
 
 use crate::batch::{answer_all, collect, reserve};
 use crate::spool::Spool;
 use rly_disk::Disk;
 use rly_journal::Journal;
-use rly_line::{LineEnd, Responder};
+use rly_line::{LineEnd, Responder, Seat};
 use rly_machine::{Answer, Call};
 use std::alloc::Global;
 use std::marker::Model;
@@ -60,8 +62,8 @@ impl<D: Disk> Flusher<D> {
         journal: Journal<D>,
         line_end: LineEnd,
     ) -> Result<Flusher<D>, (Journal<D>, LineEnd)>
-        requires { (count : ℕ) × (line_end ≡ record { taken = []; lines = map new_teller (range_with_len 0 count) }) }
-        ensures begins { IfOk result (λ flusher. flusher ≡ new_flusher journal line_end.lines) }
+        requires { (count : ℕ) × (line_end ≡ record line_end { taken = []; lines = map new_teller (range_with_len 0 count) }) }
+        ensures begins { IfOk result (λ flusher. flusher ≡ new_flusher journal line_end) }
         ensures history { IfOk result (λ flusher. IsOneHistory D.state flusher) }
         ensures refused { IfErr result (λ back. (back.0 ≡ journal) × (back.1 ≡ line_end)) }
     {
@@ -90,6 +92,7 @@ impl<D: Disk> Flusher<D> {
         // It answers true exactly where it took calls, and made one round of the journal for them.
         ensures took { MatchBool result (IsOneRound D.state self.old self.new) (self.new ≡ self.old) }
         ensures first { self.new.first ≡ self.old.first }
+        ensures of { self.new.line.of ≡ self.old.line.of }
         ensures start { self.new.line.start ≡ self.old.line.start }
         ensures history { IsOneHistory D.state self.new }
         // What this round adds tells of a failure only where there was one.
@@ -130,6 +133,16 @@ impl<D: Disk> Flusher<D> {
         ensures { IsOneHistory D.state self.now }
     {
         let _ = &self.line;
+    }
+
+    /// What is true of each seat at this line, at each moment: the asks that the history has of it are a beginning, ask for
+    /// ask, of those that it put.
+    pub fn law_beginning(&mut self, seat: Seat) -> Seat
+        requires { seat.of ≡ self.old.line.of }
+        ensures same { (self.new ≡ self.old) × (result ≡ seat) }
+        ensures begins { IsBeginning seat.seat.0 (asks_of self.old.line.history) seat.put }
+    {
+        self.line.law_beginning(seat)
     }
 
     /// The journal, given back.

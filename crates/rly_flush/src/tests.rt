@@ -80,6 +80,18 @@ fn take_at<R: Wait>(
     Some(answer.reply)
 }
 
+/// The reply to the take of number 1 from peer 1 at the first of two seats, and the second seat. Without a reply both are
+/// let go, so that who waits for calls finds all seats gone.
+fn take_first<R: Wait>(
+    rt: &R,
+    alloc: Global,
+    mut first: Seat,
+    second: Seat,
+) -> Option<(Reply, Seat)> {
+    let reply = take_at(rt, alloc, &mut first, 1, 1)?;
+    Some((reply, second))
+}
+
 /// Takes of one peer, one after the other, up to the first that is not taken. How many were taken.
 fn takes_at<R: Wait>(rt: &R, alloc: Global, seat: &mut Seat, peer: u16) -> u64 {
     let mut taken = 0;
@@ -121,13 +133,13 @@ fn four_seats<D: Disk + Drop, R: Threads + Wait + Copy + Send + 'static>(
 fn line_row_2(rt: HostRuntime) -> Result<(), Fail> {
     let alloc = rt.alloc();
     let (mut seats, mut flusher) = flusher_on(alloc, device(&rt, alloc)?, 2)?;
-    let mut second = seats.pop().ok_or("two seats")?;
-    let mut first = seats.pop().ok_or("two seats")?;
-    let asking = thread::spawn(&rt, move || take_at(&rt, alloc, &mut first, 1, 1))
+    let second = seats.pop().ok_or("two seats")?;
+    let first = seats.pop().ok_or("two seats")?;
+    let asking = thread::spawn(&rt, move || take_first(&rt, alloc, first, second))
         .ok()
         .ok_or("a thread")?;
     assert!(rt; flusher.round(&rt));
-    let reply = asking.join(&rt).ok_or("the first is answered")?;
+    let (reply, mut second) = asking.join(&rt).ok_or("the first is answered")?;
     assert!(rt; matches!(&reply, Reply::Taken(1)), "{reply:?}");
     let asking = thread::spawn(&rt, move || take_at(&rt, alloc, &mut second, 1, 1))
         .ok()

@@ -1,7 +1,7 @@
 -- What it is to read a group.
-use Rattle.std.specs.Prelude.{ℕ, ◌+◌, ◌<◌, ◌≤◌, ◌^◌, List, ◌∷◌, ◌++◌, length, Option, Some, None, Result, Ok, Err, Vec}
+use Rattle.std.specs.Prelude.{ℕ, ◌≡◌, ◌+◌, ◌<◌, ◌≤◌, ◌^◌, List, ◌∷◌, ◌++◌, length, Option, Some, None, Result, Ok, Err, Vec}
 use Rattle.byteorder.specs.Endian.{big_bytes}
-use Rattle.rly_disk.specs.DiskModel.{DiskState, Later, NothingNew, Settled}
+use Rattle.rly_disk.specs.DiskModel.{DiskState, Later, NothingNew, Settled, SettlesNothing}
 use Rattle.rly_gate.specs.declared.read.GroupFault.{GroupFault}
 use Rattle.rly_gate.specs.declared.read.GroupFault.TheVariants.{OutOfMemory, Damaged, Device}
 use Rattle.rly_gate.specs.Group.{IsClosed, IsOpen, StandsAt, frame_of, open_gate}
@@ -31,8 +31,18 @@ IsReadLength image at end (Err Damaged) = HoldsNone image at end
 IsReadLength image at end (Err OutOfMemory) = Unit {0}
 IsReadLength image at end (Err Device) = Unit {0}
 
--- a disk was read and nothing else: nothing that a crash might not have left before, and nothing is pending where nothing was
+-- nothing was written to a disk: it reads as before, a crash leaves nothing that it might not have left before, and nothing is
+-- pending where nothing was; a sync may have been made
 pub record OnlyRead (old new : DiskState) : Type 0 where
   pub crash : old.honest → NothingNew old new
   pub settled : Settled old → Settled new
   pub later : Later old new
+
+-- no sync was made: a crash may leave all that it might have left before
+pub record SyncsNothing (old new : DiskState) : Type 0 where
+  pub crash : old.honest → SettlesNothing old new
+  pub syncs : new.syncs ≡ old.syncs
+
+-- some body stands at a gate
+abbrev pub HoldsSome : List ℕ → ℕ → ℕ → Type 0
+HoldsSome image at end = (body : List ℕ) × HoldsGroup image at end body

@@ -19,12 +19,15 @@ pub fn append_group<D: Disk>(disk: &mut D, at: u64, frame: &mut [u8]) -> Result<
     ensures any_moment { Settled (D.state disk.old) → IsClosed (D.state disk.old).seen at
         → LeavesOnly (D.state disk.old) (D.state disk.new) (IsAppended at (body_of frame.old) (D.state disk.old).seen) }
     ensures ok { Settled (D.state disk.old) → OnOk result (Settled (D.state disk.new)) }
+    ensures durable { (D.state disk.old).honest → OnOk result (Settled (D.state disk.new)) }
     ensures written { Settled (D.state disk.old)
         → OnOk result ((D.state disk.new).seen ≡ overwritten at (group_of (body_of frame.old)) (D.state disk.old).seen) }
     ensures rise { OnErr result (Rose (D.state disk.old) (D.state disk.new)) }
     ensures no_failure { OnOk result ((D.state disk.new).failures ≡ (D.state disk.old).failures) }
     ensures syncs { (D.state disk.new).syncs ≤ (D.state disk.old).syncs + 2 }
+    ensures synced { OnOk result ((D.state disk.new).syncs ≡ (D.state disk.old).syncs + 2) }
     ensures calls { (D.state disk.new).calls ≤ (D.state disk.old).calls + 4 }
+    ensures made { OnOk result ((D.state disk.new).calls ≡ (D.state disk.old).calls + 4) }
     ensures later { Later (D.state disk.old) (D.state disk.new) }
     ensures frame { frame.new ≡ frame_of (body_of frame.old) }
 {

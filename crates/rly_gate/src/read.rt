@@ -1,8 +1,8 @@
-ghost use Rattle.std.specs.Prelude.{◌≡◌, ◌≢◌, ◌+◌, ◌<◌, ◌≤◌, Err, IfOk, IsOkUnless, OnOk, IsTrue, ◌↔◌, length, slice_range};
+ghost use Rattle.std.specs.Prelude.{◌≡◌, ◌≢◌, ◌+◌, ◌<◌, ◌≤◌, Err, IfOk, IfSome, IsOkUnless, OnOk, IsTrue, ◌↔◌, length, slice_range, vec_len};
 ghost use Rattle.byteorder.specs.Endian.{big_bytes};
 ghost use Rattle.rly_disk.specs.DiskModel.{Rose};
 ghost use Rattle.rly_gate.specs.Group.{IsOpen};
-ghost use Rattle.rly_gate.specs.Reading.{IsReadGroup, IsReadLength, OnlyRead};
+ghost use Rattle.rly_gate.specs.Reading.{HoldsSome, IsReadGroup, IsReadLength, OnlyRead, SyncsNothing};
 
 use crate::gate::{LENGTH_BYTES, OPEN_GATE};
 use byteorder::{BigEndian, ByteOrder};
@@ -31,8 +31,12 @@ pub fn read_group<D: Disk>(
     requires gate { at < end }
     requires end { end ≤ (D.state disk.old).size }
     ensures read { (D.state disk.old).honest → IsReadGroup (D.state disk.old).seen at end result }
+    ensures within { IfOk result (λ found. IfSome found (λ body. at + 6 + vec_len body ≤ end)) }
+    ensures memory { (D.state disk.old).honest → result ≡ Err GroupFault.OutOfMemory → HoldsSome (D.state disk.old).seen at end }
     ensures only { OnlyRead (D.state disk.old) (D.state disk.new) }
+    ensures unsynced { SyncsNothing (D.state disk.old) (D.state disk.new) }
     ensures rise { result ≡ Err GroupFault.Device → Rose (D.state disk.old) (D.state disk.new) }
+    ensures no_failure { result ≢ Err GroupFault.Device → (D.state disk.new).failures ≡ (D.state disk.old).failures }
 {
     if !is_open(disk, at)? {
         return Ok(None);
@@ -48,7 +52,9 @@ fn is_open<D: Disk>(disk: &mut D, at: u64) -> Result<bool, GroupFault>
     ensures read { (D.state disk.old).honest → IfOk result (λ opened. IsTrue opened ↔ IsOpen (D.state disk.old).seen at) }
     ensures fault { IsOkUnless result GroupFault.Device }
     ensures only { OnlyRead (D.state disk.old) (D.state disk.new) }
+    ensures unsynced { SyncsNothing (D.state disk.old) (D.state disk.new) }
     ensures rise { result ≡ Err GroupFault.Device → Rose (D.state disk.old) (D.state disk.new) }
+    ensures no_failure { result ≢ Err GroupFault.Device → (D.state disk.new).failures ≡ (D.state disk.old).failures }
 {
     let mut gate = [0u8; 1];
     read(disk, at, &mut gate)?;
@@ -63,7 +69,9 @@ fn read_length<D: Disk>(disk: &mut D, at: u64, end: u64) -> Result<usize, GroupF
     ensures read { (D.state disk.old).honest → IsReadLength (D.state disk.old).seen at end result }
     ensures memory { result ≢ Err GroupFault.OutOfMemory }
     ensures only { OnlyRead (D.state disk.old) (D.state disk.new) }
+    ensures unsynced { SyncsNothing (D.state disk.old) (D.state disk.new) }
     ensures rise { result ≡ Err GroupFault.Device → Rose (D.state disk.old) (D.state disk.new) }
+    ensures no_failure { result ≢ Err GroupFault.Device → (D.state disk.new).failures ≡ (D.state disk.old).failures }
     ensures within { IfOk result (λ n. at + 6 + n ≤ end) }
 {
     let room = end - at - 1;
@@ -96,9 +104,12 @@ fn read_body<D: Disk>(
     requires { place + length ≤ (D.state disk.old).size }
     ensures read { (D.state disk.old).honest
         → IfOk result (λ body. body.items ≡ slice_range (D.state disk.old).seen place (place + length)) }
+    ensures len { IfOk result (λ body. vec_len body ≡ length) }
     ensures undamaged { result ≢ Err GroupFault.Damaged }
     ensures only { OnlyRead (D.state disk.old) (D.state disk.new) }
+    ensures unsynced { SyncsNothing (D.state disk.old) (D.state disk.new) }
     ensures rise { result ≡ Err GroupFault.Device → Rose (D.state disk.old) (D.state disk.new) }
+    ensures no_failure { result ≢ Err GroupFault.Device → (D.state disk.new).failures ≡ (D.state disk.old).failures }
 {
     let Ok(mut body) = vec![in alloc; 0u8; length] else {
         return Err(GroupFault::OutOfMemory);
@@ -114,7 +125,9 @@ fn read<D: Disk>(disk: &mut D, place: u64, buffer: &mut [u8]) -> Result<(), Grou
         → OnOk result (buffer.new ≡ slice_range (D.state disk.old).seen place (place + length buffer.old)) }
     ensures fault { IsOkUnless result GroupFault.Device }
     ensures only { OnlyRead (D.state disk.old) (D.state disk.new) }
+    ensures unsynced { SyncsNothing (D.state disk.old) (D.state disk.new) }
     ensures rise { result ≡ Err GroupFault.Device → Rose (D.state disk.old) (D.state disk.new) }
+    ensures no_failure { result ≢ Err GroupFault.Device → (D.state disk.new).failures ≡ (D.state disk.old).failures }
 {
     match disk.read_at(place, buffer) {
         Ok(()) => Ok(()),

@@ -1,4 +1,4 @@
-ghost use Rattle.std.specs.Prelude.{◌≡◌, ◌+◌, ◌≤◌, length, OnErr, OnOk};
+ghost use Rattle.std.specs.Prelude.{◌≡◌, ◌==◌, ◌+◌, ◌≤◌, length, OnErr, OnOk, if◌then◌else◌};
 ghost use Rattle.rly_disk.specs.DiskModel.{Later, LeavesOnly, Rose, SameOutside, Settled, overwritten};
 
 use rly_disk::{Disk, DiskFault};
@@ -10,12 +10,17 @@ pub fn settle<D: Disk>(disk: &mut D, at: u64, bytes: &[u8]) -> Result<(), DiskFa
     ensures any_moment { Settled (D.state disk.old)
         → LeavesOnly (D.state disk.old) (D.state disk.new) (SameOutside at (length bytes.now) (D.state disk.old).seen) }
     ensures ok { Settled (D.state disk.old) → OnOk result (Settled (D.state disk.new)) }
+
+    // Whatever was pending before is made durable too.
+    ensures durable { (D.state disk.old).honest → OnOk result (Settled (D.state disk.new)) }
     ensures written { Settled (D.state disk.old)
         → OnOk result ((D.state disk.new).seen ≡ overwritten at bytes.now (D.state disk.old).seen) }
     ensures rise { OnErr result (Rose (D.state disk.old) (D.state disk.new)) }
     ensures no_failure { OnOk result ((D.state disk.new).failures ≡ (D.state disk.old).failures) }
     ensures syncs { (D.state disk.new).syncs ≤ (D.state disk.old).syncs + 1 }
+    ensures synced { OnOk result ((D.state disk.new).syncs ≡ (D.state disk.old).syncs + 1) }
     ensures calls { (D.state disk.new).calls ≤ (D.state disk.old).calls + 2 }
+    ensures made { OnOk result ((D.state disk.new).calls ≡ (D.state disk.old).calls + (if length bytes.now == 0 then 1 else 2)) }
     ensures later { Later (D.state disk.old) (D.state disk.new) }
 {
     if !bytes.is_empty() {

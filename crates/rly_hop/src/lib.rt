@@ -4,7 +4,7 @@
 //! `read_message` and `write_message` meet the one spelling of each message (`specs/Spelling.antt`, `specs/Reading.antt`),
 //! `Receiving::step` and `Sending::step` the two tables of `docs/PROTOCOL.md` (`specs/Receiving.antt`,
 //! `specs/Sending.antt`). Nothing here takes memory, waits or fails for another cause than the bytes.
-//! Callers: `rly_threads`, whose workers act as the cores say, and `rly_world`, which joins two relays.
+//! Callers: `rly_threads`, whose workers act as the cores say.
 #![tactic(auto)]
 
 mod kind;

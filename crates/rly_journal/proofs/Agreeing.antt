@@ -1,7 +1,7 @@
 -- Images that have the same bytes in a range.
-use Rattle.std.proofs.Common.{◌≡◌, ◌≤◌, ◌<◌, ◌+◌, ◌*◌, ◌^◌, ◌++◌, [], ◌∙◌, ℕ, suc, List, length, take, drop, get_or, arith, sym, ap, refl, inl, inr, length-take, length-drop, length-append}
+use Rattle.std.proofs.Common.{◌≡◌, ◌≤◌, ◌<◌, ◌+◌, ◌*◌, ◌^◌, [], ◌∙◌, ℕ, suc, List, length, take, drop, get_or, arith, sym, ap, inl, inr, length-take, length-drop}
 use Rattle.std.proofs.Math.Nat.{mul-le-mul_right}
-use Rattle.std.proofs.lemmas.List.{ext_get_or, get_or-take, get_or-drop, drop-drop, drop-take, append-nil, drop_at, take_at, take-take}
+use Rattle.std.proofs.lemmas.List.{ext_get_or, get_or-take, get_or-drop, append-nil}
 use Rattle.byteorder.specs.Endian.{big_bytes, big_number}
 use Rattle.byteorder.specs.Numbers.{big_number-reads_back}
 use Rattle.rly_disk.specs.DiskModel.{SameOutside}
@@ -36,24 +36,6 @@ same_before place n from end ends same = record { same_length = same.same_length
 
 pub same_behind : {old new : List ℕ} (place n from end : ℕ) → place + n ≤ from → SameOutside place n old new → SameBytes from end old new
 same_behind place n from end begins same = record { same_length = same.same_length; each = λ i low high. same.each i (inr (omega (arith, begins, low))) }
-
--- a part of what stands at a place: the bytes behind a front of it
-pub stands_behind : (image : List ℕ) (place : ℕ) (front bytes : List ℕ) → StandsAt image place (front ++ bytes) → StandsAt image (place + length front) bytes
-stands_behind image place front bytes stands =
-    let whole : ℕ = length (front ++ bytes) in
-    let size : length (front ++ bytes) ≡ length front + length bytes = length-append front bytes in
-    let inner : drop (length front) (take (length (front ++ bytes)) (drop place image)) ≡ bytes = ap (drop (length front)) stands ∙ drop_at front bytes (length front) refl in
-    let moved : drop (length front) (take (length front + length bytes) (drop place image)) ≡ take (length bytes) (drop (length front) (drop place image)) = drop-take (length front) (length bytes) (drop place image) in
-    let joined : drop (length front) (drop place image) ≡ drop (place + length front) image = drop-drop (length front) place image in
-    ap (take (length bytes)) (sym joined) ∙ sym moved ∙ ap (λ k. drop (length front) (take k (drop place image))) (sym size) ∙ inner
-
--- a front of what stands at a place
-pub stands_front : (image : List ℕ) (place : ℕ) (front bytes : List ℕ) → StandsAt image place (front ++ bytes) → StandsAt image place front
-stands_front image place front bytes stands =
-    let size : length (front ++ bytes) ≡ length front + length bytes = length-append front bytes in
-    sym (take-take (length front) (length (front ++ bytes)) (drop place image) (omega (arith, size)))
-    ∙ ap (take (length front)) stands
-    ∙ take_at front bytes (length front) refl
 
 -- the number that stands at a place
 pub number_of_bytes : (image : List ℕ) (place width n : ℕ) → length (big_bytes width n) ≡ width → n < 256 ^ width → StandsAt image place (big_bytes width n) → number_in image place width ≡ n

@@ -16,7 +16,7 @@ use Rattle.rly_reclaim.specs.Room.{group_room}
 use Rattle.rly_segment.specs.Answers.{AreClosed}
 use Rattle.rly_segment.specs.Device.{IsGeometry}
 use Rattle.rly_segment.specs.Heads.{segment_end, segment_place}
-use Rattle.rly_segment.proofs.Places.{segment_within}
+use Rattle.rly_segment.proofs.Segments.{segment_within}
 use Rattle.rly_journal.specs.declared.tail.Tail.{Tail}
 use Rattle.rly_journal.specs.Groups.{Gathers, GroupState, group_body}
 use Rattle.rly_journal.specs.Log.{IsDurable, IsFull, IsShaped, offset}
@@ -107,7 +107,7 @@ append_durable {a} {b} tail group commands s t durable gathers least most few ro
     let fits : IsGeometry tail.geometry (length a.seen) = subst (λ h. IsGeometry h (length a.seen)) (sym logged.ends.geometry) logged.stands.scanned.fits in
     let below : tail.segment < tail.geometry.segments = subst (λ k. k < tail.geometry.segments) (sym logged.ends.segment)
     (subst (λ h. x.segment < h.segments) (sym logged.ends.geometry) logged.stands.scanned.newest.there) in
-    let inside = segment_within tail.geometry (length a.seen) tail.segment fits below in
+    let inside = segment_within tail.geometry tail.segment (length a.seen) fits below in
     let long : length (group_of (group_body group)) ≡ 6 + length (group_body group) = omega (arith, length-frame (group_body group)) in
     let fit : tail.gate + length (group_of (group_body group)) ≤ length a.seen = omega (arith, long, room, inside) in
     let written = writes durable.settled in

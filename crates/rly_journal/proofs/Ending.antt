@@ -17,11 +17,11 @@ use Rattle.rly_segment.specs.Answers.{AreClosed}
 use Rattle.rly_segment.specs.Device.{IsGeometry}
 use Rattle.rly_segment.specs.Heads.{IsHead, IsOpening, first_gate, opened_head, segment_place}
 use Rattle.rly_segment.specs.Heads.{head_of as head_of_state}
-use Rattle.rly_segment.proofs.Places.{segment_within}
+use Rattle.rly_segment.proofs.Segments.{segment_within}
+use Rattle.rly_segment.proofs.Standing.{stands_front}
 use Rattle.rly_journal.specs.declared.tail.Tail.{Tail}
 use Rattle.rly_journal.specs.Log.{EndsAt, IsDurable, IsFull, IsLogged, IsShaped}
 use Rattle.rly_journal.specs.Standing.{Standing, Stands, state_in}
-use Rattle.rly_journal.proofs.Agreeing.{stands_front}
 use Rattle.rly_journal.proofs.Frame.{length-head}
 use Rattle.rly_journal.proofs.Growing.{byte_there, opened, other_bytes, renewed, with_segment}
 
@@ -124,7 +124,7 @@ renewed_logged tail s t gate old new logged sound below other head is count writ
     let place : ℕ = segment_place tail.geometry t in
     let bytes : List ℕ = opened_head (tail.generation + 1) s in
     let fits : IsGeometry tail.geometry (length old) = subst (λ h. IsGeometry h (length old)) (sym logged.ends.geometry) logged.stands.scanned.fits in
-    let within = segment_within tail.geometry (length old) t fits below in
+    let within = segment_within tail.geometry t (length old) fits below in
     let count_bytes : length (opened_head (tail.generation + 1) s) ≡ 14 + length (checkpoint_of s) =
     omega (arith, length-append (head_of_state (tail.generation + 1) s) (0 ∷ []), length-head (tail.generation + 1) s) in
     let room : place + length (opened_head (tail.generation + 1) s) ≤ length old = omega (arith, count_bytes, head.room, within) in

@@ -17,8 +17,9 @@ use Rattle.rly_gate.proofs.Frames.{length-frame}
 use Rattle.rly_segment.specs.Device.{IsGeometry, number_in}
 use Rattle.rly_segment.specs.Formatted.{IsFormatted}
 use Rattle.rly_segment.specs.Heads.{IsHead, IsOpening, IsPassedOver, first_gate, generation_in, head_of, opened_head, segment_end, segment_place}
+use Rattle.rly_segment.proofs.Standing.{stands_back, stands_front}
 use Rattle.rly_journal.specs.Standing.{AreAccepted, Commands, HoldGroups, IsScanned, IsStanding, Standing, behind, end_of, first_of, gate_behind, gate_of, replayed, state_in}
-use Rattle.rly_journal.proofs.Agreeing.{SameBytes, apart, number_of_bytes, number_still, same_before, same_behind, stands_behind, stands_front}
+use Rattle.rly_journal.proofs.Agreeing.{SameBytes, apart, number_of_bytes, number_still, same_before, same_behind}
 use Rattle.rly_journal.proofs.Frame.{SameReads, device_still, frame, frame_scanned, gate_above, geometry_still, length-group, length-head}
 
 -- the byte that stands at a place
@@ -91,7 +92,7 @@ appended {old} {new} x commands stands body accepted fits within outside group =
     let whole : List ℕ = open_gate ∷ (big_bytes 4 (length (body_of commands)) ++ body_of commands) in
     let reads : SameReads x old new = reads_before x (length (group_of (body_of commands))) stands.scanned (omega (arith, within)) outside in
     let front : StandsAt new (gate_of x) (open_gate ∷ (big_bytes 4 (length (body_of commands)) ++ body_of commands)) = stands_front new (gate_of x) whole (0 ∷ []) group in
-    let last : StandsAt new (gate_of x + length whole) (0 ∷ []) = stands_behind new (gate_of x) whole (0 ∷ []) group in
+    let last : StandsAt new (gate_of x + length whole) (0 ∷ []) = stands_back new (gate_of x) whole (0 ∷ []) group in
     let place : gate_of x + length whole ≡ gate_of (with_group x commands) =
     (let e : gate_of x + length whole ≡ behind (gate_of x) commands = omega (arith, length-group (body_of commands)) in e)
     ∙ sym (gate_behind-more (first_of x) x.groups commands) in
@@ -146,10 +147,10 @@ opened {old} {new} x t stands below other sound head small outside whole =
     let header : SameBytes 0 64 old new = same_before place g.length 0 64 (omega arith) outside in
     let both : StandsAt new place (open_gate ∷ head_of (x.generation + 1) (state_in x)) = stands_front new place front (0 ∷ []) whole in
     let gate : StandsAt new place (open_gate ∷ []) = stands_front new place (open_gate ∷ []) (head_of (x.generation + 1) (state_in x)) both in
-    let bytes : StandsAt new (place + 1) (head_of (x.generation + 1) (state_in x)) = stands_behind new place (open_gate ∷ []) (head_of (x.generation + 1) (state_in x)) both in
+    let bytes : StandsAt new (place + 1) (head_of (x.generation + 1) (state_in x)) = stands_back new place (open_gate ∷ []) (head_of (x.generation + 1) (state_in x)) both in
     let number : generation_in new g t ≡ x.generation + 1 = generation_there new (place + 1) (x.generation + 1) (state_in x) small bytes in
     let before : generation_in old g x.segment ≡ x.generation = generation_there old (segment_place g x.segment + 1) x.generation x.checkpoint (omega (arith, small)) stands.scanned.head.bytes in
-    let last : StandsAt new (place + length front) (0 ∷ []) = stands_behind new place front (0 ∷ []) whole in
+    let last : StandsAt new (place + length front) (0 ∷ []) = stands_back new place front (0 ∷ []) whole in
     let ends : place + length front ≡ first_gate g t (state_in x) = omega (arith, length-head (x.generation + 1) (state_in x)) in
     record {
       scanned = record {
@@ -231,8 +232,8 @@ formatted {image} g is head sound =
     let front : List ℕ = open_gate ∷ head_of 1 (new_state g.params) in
     let both : StandsAt image place (open_gate ∷ head_of 1 (new_state g.params)) = stands_front image place front (0 ∷ []) is.head in
     let gate : StandsAt image place (open_gate ∷ []) = stands_front image place (open_gate ∷ []) (head_of 1 (new_state g.params)) both in
-    let bytes : StandsAt image (place + 1) (head_of 1 (new_state g.params)) = stands_behind image place (open_gate ∷ []) (head_of 1 (new_state g.params)) both in
-    let last : StandsAt image (place + length front) (0 ∷ []) = stands_behind image place front (0 ∷ []) is.head in
+    let bytes : StandsAt image (place + 1) (head_of 1 (new_state g.params)) = stands_back image place (open_gate ∷ []) (head_of 1 (new_state g.params)) both in
+    let last : StandsAt image (place + length front) (0 ∷ []) = stands_back image place front (0 ∷ []) is.head in
     let ends : place + length front ≡ first_gate g 0 (new_state g.params) = omega (arith, length-head 1 (new_state g.params)) in
     record {
       scanned = record {

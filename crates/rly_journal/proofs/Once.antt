@@ -14,7 +14,7 @@ use Rattle.rly_record.proofs.Bodies.{body_once}
 use Rattle.rly_checkpoint.specs.Checkpoint.{checkpoint_of}
 use Rattle.rly_segment.specs.Heads.{HoldsHead, IsNewest, head_of, segment_place}
 use Rattle.rly_journal.specs.Standing.{Commands, HoldGroups, IsStanding, Standing, Stands, behind, end_of, first_of, gate_behind, state_in}
-use Rattle.rly_journal.proofs.Agreeing.{stands_behind, stands_front}
+use Rattle.rly_segment.proofs.Standing.{stands_back, stands_front}
 use Rattle.rly_journal.proofs.Growing.{byte_there, generation_there}
 
 -- two lists of one length that stand at one place
@@ -39,8 +39,8 @@ unfolding head_of
 length_there image place generation s stands =
     let regrouped : StandsAt image place (big_bytes 8 generation ++ (big_bytes 4 (length (checkpoint_of s)) ++ checkpoint_of s)) =
     subst (StandsAt image place) (append_assoc (big_bytes 8 generation) (big_bytes 4 (length (checkpoint_of s))) (checkpoint_of s)) stands in
-    let rest : StandsAt image (place + 8) (big_bytes 4 (length (checkpoint_of s)) ++ checkpoint_of s) = stands_behind image place (big_bytes 8 generation) (big_bytes 4 (length (checkpoint_of s)) ++ checkpoint_of s) regrouped in
-    let last : StandsAt image (place + 8 + 4) (checkpoint_of s) = stands_behind image (place + 8) (big_bytes 4 (length (checkpoint_of s))) (checkpoint_of s) rest in (
+    let rest : StandsAt image (place + 8) (big_bytes 4 (length (checkpoint_of s)) ++ checkpoint_of s) = stands_back image place (big_bytes 8 generation) (big_bytes 4 (length (checkpoint_of s)) ++ checkpoint_of s) regrouped in
+    let last : StandsAt image (place + 8 + 4) (checkpoint_of s) = stands_back image (place + 8) (big_bytes 4 (length (checkpoint_of s))) (checkpoint_of s) rest in (
       stands_front image (place + 8) (big_bytes 4 (length (checkpoint_of s))) (checkpoint_of s) rest,
       subst (λ k. StandsAt image k (checkpoint_of s)) (let e : place + 8 + 4 ≡ place + 12 = omega arith in e) last,
     )
@@ -68,8 +68,8 @@ body_there_once {image} at end a b first second =
     (sym (group_length image at (length a) a first.bytes) ∙ group_length image at (length b) b second.bytes) in
     let rest : (body : List ℕ) → HoldsGroup image at end body → StandsAt image (at + 5) body = λ body holds.
     subst (λ k. StandsAt image k body) (let e : at + 1 + 4 ≡ at + 5 = omega arith in e)
-    (stands_behind image (at + 1) (big_bytes 4 (length body)) body
-    (stands_behind image at (open_gate ∷ []) (big_bytes 4 (length body) ++ body) holds.bytes)) in
+    (stands_back image (at + 1) (big_bytes 4 (length body)) body
+    (stands_back image at (open_gate ∷ []) (big_bytes 4 (length body) ++ body) holds.bytes)) in
     same_bytes image (at + 5) a b size (rest a first) (rest b second)
 
 -- the gate of a group is open

@@ -1,6 +1,8 @@
 -- Why an image stands for no state: the first check that fails (docs/FORMATS.md, "What opening checks").
 use Rattle.std.specs.Prelude.{◌≡◌, ◌⊎◌, ℕ, List, length}
 use Rattle.rly_core.specs.declared.params.Geometry.{Geometry}
+use Rattle.rly_core.specs.declared.refusal.Refusal.{Refusal}
+use Rattle.rly_core.specs.declared.refusal.Refusal.TheVariants as refusal
 use Rattle.rly_machine.specs.Fold.{AllAccepted}
 use Rattle.rly_machine.specs.State.{State}
 use Rattle.rly_gate.specs.Group.{IsOpen}
@@ -47,3 +49,11 @@ IsOfImage BadGeometry = Unit {0}
 IsOfImage (Damaged place) = Unit {0}
 IsOfImage OutOfMemory = ⊥
 IsOfImage Device = ⊥
+
+-- the refusal that a device which was not opened is answered with
+abbrev pub opening_refusal : OpenFault → Refusal
+opening_refusal OutOfMemory = refusal.OutOfMemory
+opening_refusal NotADevice = refusal.NotADevice
+opening_refusal BadGeometry = refusal.BadGeometry
+opening_refusal (Damaged place) = refusal.Damaged place
+opening_refusal Device = refusal.Device

@@ -17,6 +17,11 @@ offset tail = tail.gate - segment_place tail.geometry tail.segment
 abbrev pub IsFull : Tail → Type 0
 IsFull tail = IsDue tail.geometry (offset tail)
 
+-- the journal ends behind the same head as before
+pub record IsSameHead (old new : Tail) : Type 0 where
+  pub segment : new.segment ≡ old.segment
+  pub generation : new.generation ≡ old.generation
+
 -- what holds of the end on any disk of so many bytes
 pub record IsShaped (size : ℕ) (tail : Tail) (s : State (List ℕ)) : Type 0 where
   pub geometry : IsGeometry tail.geometry size

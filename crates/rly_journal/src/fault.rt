@@ -1,3 +1,5 @@
+use rly_core::Refusal;
+
 /// Why a device was not opened. The device reads as before.
 #[derive(Clone, Copy, Debug, PartialEq, Eq)]
 pub enum OpenFault {
@@ -11,4 +13,21 @@ pub enum OpenFault {
     Damaged(u64),
     /// A call of the device failed.
     Device,
+}
+
+impl From<OpenFault> for Refusal {
+    ghost use Rattle.std.specs.Prelude.{◌≡◌};
+    ghost use Rattle.rly_journal.specs.Faults.{opening_refusal};
+
+    ghost from_gives = { λ fault refusal. refusal ≡ opening_refusal fault };
+
+    fn from(fault: OpenFault) -> Refusal {
+        match fault {
+            OpenFault::OutOfMemory => Refusal::OutOfMemory,
+            OpenFault::NotADevice => Refusal::NotADevice,
+            OpenFault::BadGeometry => Refusal::BadGeometry,
+            OpenFault::Damaged(place) => Refusal::Damaged(place),
+            OpenFault::Device => Refusal::Device,
+        }
+    }
 }

@@ -1,4 +1,4 @@
-ghost use Rattle.std.specs.Prelude.{◌≡◌, ◌⊎◌, ◌+◌, ◌≤◌, ◌++◌, [], Err, IfErr, IfOk, IsOk, IsTrue, List, MatchResult, Ok, OnErr, OnOk, ◌↔◌, length, vec_capacity, true, false, if◌then◌else◌};
+ghost use Rattle.std.specs.Prelude.{◌≡◌, ◌≢◌, ◌⊎◌, ◌+◌, ◌≤◌, ◌++◌, [], Err, IfErr, IfOk, IsOk, IsTrue, List, MatchResult, Ok, OnErr, OnOk, ◌↔◌, length, vec_capacity, true, false, if◌then◌else◌};
 ghost use Rattle.rly_core.specs.Bounds.{IsIn};
 ghost use Rattle.rly_disk.specs.DiskModel.{Later, LeavesOnly, Rose, Settled};
 ghost use Rattle.rly_gate.specs.Reading.{OnlyRead};
@@ -10,7 +10,7 @@ ghost use Rattle.rly_machine.specs.Query.{fetched, item_of, show_reply};
 ghost use Rattle.rly_journal.specs.Faults.{IsRefused};
 ghost use Rattle.rly_journal.specs.Journal.{Breaks, Goes, IsDueFor, IsRound, IsSafe, holds_command};
 ghost use Rattle.rly_journal.specs.Groups.{empty_group};
-ghost use Rattle.rly_journal.specs.Log.{IsDurable, IsShaped};
+ghost use Rattle.rly_journal.specs.Log.{IsDurable, IsSameHead, IsShaped};
 ghost use Rattle.rly_journal.specs.Standing.{Stands};
 
 use crate::evaluation::{answer_calls, make_unsure, refuse_all};
@@ -67,6 +67,8 @@ impl<D: Disk> Journal<D> {
         ensures refused { (D.state disk).honest → IfErr result (λ failed. IsRefused (D.state disk).seen failed.0) }
         ensures only { MatchResult result (λ journal. OnlyRead (D.state disk) (D.state journal.disk)) (λ failed. OnlyRead (D.state disk) (D.state failed.1)) }
         ensures settled { (D.state disk).honest → IfOk result (λ journal. Settled (D.state journal.disk)) }
+        // What is refused is durable: it is refused again after a crash.
+        ensures stays_refused { (D.state disk).honest → IfErr result (λ failed. failed.0 ≢ OpenFault.Device → Settled (D.state failed.1)) }
         ensures rise { IfErr result (λ failed. failed.0 ≡ OpenFault.Device → Rose (D.state disk) (D.state failed.1)) }
     {
         let mut disk = disk;
@@ -107,6 +109,12 @@ impl<D: Disk> Journal<D> {
         ensures syncs { (D.state self.new.disk).syncs ≤ (D.state self.old.disk).syncs + 5 }
         ensures few_syncs { (IsDueFor self.old calls.old.items → ⊥) → (D.state self.new.disk).syncs ≤ (D.state self.old.disk).syncs + 2 }
         ensures quiet { (IsDueFor self.old calls.old.items → ⊥) → self.new.state ≡ self.old.state → self.new.disk ≡ self.old.disk }
+        ensures calls { (D.state self.new.disk).calls ≤ (D.state self.old.disk).calls + 10 }
+        ensures few_calls { (IsDueFor self.old calls.old.items → ⊥) → (D.state self.new.disk).calls ≤ (D.state self.old.disk).calls + 4 }
+        // A segment is opened where one is due, also where its commands are then refused, and only there.
+        ensures opened { IsDueFor self.old calls.old.items → OnOk result (self.new.broken ≡ false
+            → (self.new ≡ self.old) ⊎ (self.new.tail.generation ≡ self.old.tail.generation + 1)) }
+        ensures stays { (IsDueFor self.old calls.old.items → ⊥) → IsSameHead self.old.tail self.new.tail }
         ensures later { Later (D.state self.old.disk) (D.state self.new.disk) }
         // Both lists keep the memory that they have.
         ensures calls_capacity { vec_capacity calls.new ≡ vec_capacity calls.old }
@@ -242,7 +250,9 @@ impl<D: Disk> Journal<D> {
         ensures refused { IfErr result (λ refusal. ((refusal ≡ Refusal.OutOfMemory) × (self.new ≡ self.old))
             ⊎ ((refusal ≡ Refusal.Unsure) × (self.new.broken ≡ true) × Rose (D.state self.old.disk) (D.state self.new.disk))) }
         ensures any_moment { (D.state self.old.disk).honest → LeavesOnly (D.state self.old.disk) (D.state self.new.disk) (λ image. Stands image self.old.state) }
+        ensures opened { IsDueFor self.old calls.now → OnOk result (self.new.tail.generation ≡ self.old.tail.generation + 1) }
         ensures syncs { (D.state self.new.disk).syncs ≤ (D.state self.old.disk).syncs + 3 }
+        ensures calls { (D.state self.new.disk).calls ≤ (D.state self.old.disk).calls + 6 }
         ensures calm { (IsDueFor self.old calls.now → ⊥) → self.new ≡ self.old }
         ensures later { Later (D.state self.old.disk) (D.state self.new.disk) }
     {
@@ -271,6 +281,8 @@ impl<D: Disk> Journal<D> {
             ⊎ (Breaks self.old self.new calls.old.items given × Rose (D.state self.old.disk) (D.state self.new.disk))) }
         ensures any_moment { (D.state self.old.disk).honest → IsSafe D.state self.old self.new calls.old.items }
         ensures syncs { (D.state self.new.disk).syncs ≤ (D.state self.old.disk).syncs + 2 }
+        ensures head { IsSameHead self.old.tail self.new.tail }
+        ensures calls { (D.state self.new.disk).calls ≤ (D.state self.old.disk).calls + 4 }
         ensures quiet { self.new.state ≡ self.old.state → self.new.disk ≡ self.old.disk }
         ensures later { Later (D.state self.old.disk) (D.state self.new.disk) }
         ensures calls_capacity { vec_capacity calls.new ≡ vec_capacity calls.old }
@@ -299,6 +311,7 @@ fn begin<D: Disk>(alloc: Global, disk: &mut D) -> Result<Begun, OpenFault>
     ensures stands { (D.state disk.old).honest → IfOk result (λ begun. Stands (D.state disk.old).seen begun.found.machine.state) }
     ensures refused { (D.state disk.old).honest → IfErr result (λ fault. IsRefused (D.state disk.old).seen fault) }
     ensures only { OnlyRead (D.state disk.old) (D.state disk.new) }
+    ensures settled { (D.state disk.old).honest → result ≢ Err OpenFault.Device → Settled (D.state disk.new) }
     ensures rise { result ≡ Err OpenFault.Device → Rose (D.state disk.old) (D.state disk.new) }
 {
     let Ok(()) = disk.sync() else {

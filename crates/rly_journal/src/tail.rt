@@ -6,7 +6,7 @@ ghost use Rattle.rly_reclaim.specs.Room.{IsDue};
 ghost use Rattle.rly_segment.specs.Device.{IsGeometry};
 ghost use Rattle.rly_segment.specs.Heads.{segment_end, segment_place};
 ghost use Rattle.rly_journal.specs.Groups.{Gathers, empty_group, group_body};
-ghost use Rattle.rly_journal.specs.Log.{IsDurable, IsFull, IsShaped, offset};
+ghost use Rattle.rly_journal.specs.Log.{IsDurable, IsFull, IsSameHead, IsShaped, offset};
 ghost use Rattle.rly_journal.specs.Standing.{Commands, Stands};
 
 use crate::group::Group;
@@ -64,7 +64,9 @@ pub(crate) fn renew<D: Disk>(
     ensures memory { result ≡ Err OpeningFault.OutOfMemory → disk.new ≡ disk.old }
     ensures rise { result ≡ Err OpeningFault.Device → Rose (D.state disk.old) (D.state disk.new) }
     ensures no_failure { OnOk result ((D.state disk.new).failures ≡ (D.state disk.old).failures) }
+    ensures opened { OnOk result (tail.new.generation ≡ tail.old.generation + 1) }
     ensures syncs { (D.state disk.new).syncs ≤ (D.state disk.old).syncs + 3 }
+    ensures calls { (D.state disk.new).calls ≤ (D.state disk.old).calls + 6 }
     ensures later { Later (D.state disk.old) (D.state disk.new) }
 {
     machine.law_sound();
@@ -105,7 +107,9 @@ pub(crate) fn append<D: Disk>(
     ensures emptied { group.new ≡ empty_group }
     ensures rise { OnErr result (Rose (D.state disk.old) (D.state disk.new)) }
     ensures no_failure { OnOk result ((D.state disk.new).failures ≡ (D.state disk.old).failures) }
+    ensures head { IsSameHead tail.old tail.new }
     ensures syncs { (D.state disk.new).syncs ≤ (D.state disk.old).syncs + 2 }
+    ensures calls { (D.state disk.new).calls ≤ (D.state disk.old).calls + 4 }
     ensures later { Later (D.state disk.old) (D.state disk.new) }
 {
     let length = group.len();

@@ -8,7 +8,7 @@ pub const LONGEST_INTERVAL: u64 = 3_600_000_000;
 /// How long after drop number `count` of a dropping phase the next one is due, in microseconds as
 /// `interval` is (RFC 8289 section 5, `control_law`, rounded down to a whole number).
 ///
-/// It looks for a whole root by halving, in 32 turns; a step of 0 is an answer like any other.
+/// A step of 0 is an answer like any other.
 pub fn step(interval: u64, count: u64) -> u64
     requires interval { interval ≤ LONGEST_INTERVAL }
     requires count { 1 ≤ count }

@@ -1,14 +1,14 @@
 -- Each step keeps the rule of the line that calls go into.
-use Rattle.std.proofs.Common.{◌≡◌, ◌≢◌, ◌==◌, ℕ, ◌+◌, ◌<◌, ◌≤◌, true, true≢false, cond, List, [], ◌∷◌, ◌++◌, length, set, sym, refl, ap, ◌∙◌, subst, append_assoc, append-nil, eq-eqb, ne_eqb, lt_of_not-le, length-append, arith}
+use Rattle.std.proofs.Common.{◌≡◌, ◌≢◌, ◌==◌, ℕ, ◌+◌, ◌<◌, ◌≤◌, true, true≢false, cond, List, [], ◌∷◌, ◌++◌, length, set, sym, refl, ap, ◌∙◌, subst, append_assoc, append-nil, eq-eqb, ne_eqb, lt_of_not-le, length-append, ⊎_elim, arith}
 use Rattle.std.proofs.lemmas.List.Elements.{filter-append}
 use mathlib.Core.Option.{some}
 use lib.ListN.{get_elem?}
 use native.Mathlib.Decide.{dec_le, ℕ_discrete}
-use Rattle.crossbeam_channel.specs.Fifo.{Pushes, Pops, Forks}
+use Rattle.crossbeam_channel.specs.Fifo.{Pushes, Pops, Forks, Learns, Merges}
 use Rattle.rly_machine.specs.declared.call.Call.{Call}
 use Rattle.rly_line.specs.declared.submission.LineView.{LineView}
-use Rattle.rly_line.specs.Submission.{calls_of, AreNumbered, Lined, IsNext, taking, putting}
-use Rattle.rly_line.proofs.Views.{alone, each_set, each_push}
+use Rattle.rly_line.specs.Submission.{AreBeside, calls_of, AreNumbered, Lined, IsBeginning, IsNext, idle, taking, together, putting}
+use Rattle.rly_line.proofs.Views.{alone, at_set, each_set, each_push}
 
 -- a call behind others is the last of its own seat's, and none of another's
 pub calls_of_own : (seat : ℕ) (calls : List Call) (x : Call) → x.seat.0 ≡ seat → calls_of seat (calls ++ x ∷ []) ≡ calls_of seat calls ++ x ∷ []
@@ -105,7 +105,7 @@ there count seat front x behind calls none is (yes past) =
 
 -- the head takes the first call of the line, which is its seat's next
 pub takes : (pass : ℕ) (v : LineView) → v.takes ≡ true
-    → Pops Lined pass v (λ call w. (w ≡ record v { taken = v.taken ++ call ∷ [] }) × IsNext (record { seats = v.seats; taken = v.taken }) call)
+    → Pops Lined pass v (λ call w. (w ≡ record v { taken = v.taken ++ call ∷ [] }) × IsNext v.seats v.taken call)
 takes pass v may call items views rule at =
     let owner = rule.0 in let head = rule.1 in let count = rule.2 in let gone = rule.3 in let line = rule.4 in
     let w : LineView = record v { taken = v.taken ++ call ∷ [] } in
@@ -174,3 +174,85 @@ forks pass v may items views rule at =
             (λ t. absurd (true≢false (sym t)));
       },
     )
+
+-- the pass that takes is put together with a seat's
+pub merges : (pass : ℕ) (v : LineView) (other : ℕ) (u : LineView) → v.takes ≡ true → u.puts ≡ true → Merges Lined pass v other u (together v u) idle
+merges pass v other u may theirs items views rule at apart now =
+    let owner = rule.0 in let head = rule.1 in let count = rule.2 in let gone = rule.3 in let line = rule.4 in
+    let both : LineView = together v u in
+    let vs : List LineView = set views pass both in
+    let mine = line.takes pass v at may in
+    let was : get_elem? views other ≡ some u = ⊎_elim (λ x. absurd (apart x.0)) (λ x. x.1) (at_set views pass other both u now) in
+    let its = line.puts other u was theirs in
+    let known : ℕ → ℕ = λ seat. cond (seat == u.seat) pass (owner seat) in
+    let all : List Call = gone ++ items in
+    let Puts : ℕ → LineView → Type 0 = λ j w. w.puts ≡ true → (known w.seat ≡ j) × (w.seat < count) × (calls_of w.seat all ≡ w.put) in
+    let Takes : ℕ → LineView → Type 0 = λ j w. w.takes ≡ true → (j ≡ head) × (w.seats ≡ count) × (w.taken ≡ gone) in
+    let Others : ℕ → LineView → Type 0 = λ j w. j ≢ other → Puts j w in
+    let old = λ (j : ℕ) (w : LineView) (e : get_elem? views j ≡ some w) (there : j ≢ other) (p : w.puts ≡ true).
+    let had = line.puts j w e p in
+    let its : known w.seat ≡ j = ap (λ b. cond b pass (owner w.seat)) (ne_eqb w.seat u.seat (λ s. there (sym had.0 ∙ ap owner s ∙ its.0))) ∙ had.0 in
+    let whole : (known w.seat ≡ j) × (w.seat < count) × (calls_of w.seat all ≡ w.put) = (its, had.1, had.2) in whole in (
+      known,
+      head,
+      count,
+      gone,
+      record {
+        seated = line.seated;
+        numbered = line.numbered;
+        puts = each_set Puts vs other idle (λ p. absurd (true≢false (sym p)))
+            (λ j w there e. each_set Others views pass both
+            (λ _ _. (ap (λ b. cond b pass (owner u.seat)) (eq-eqb u.seat u.seat refl), its.1, its.2))
+            (λ k y _ e' there' p. old k y e' there' p) j w e there);
+        takes = each_set Takes vs other idle (λ t. absurd (true≢false (sym t)))
+            (λ j w _ e. each_set Takes views pass both (λ _. mine) (λ k y _ e' t. line.takes k y e' t) j w e);
+      },
+    )
+
+-- and cut again
+pub parts : (pass : ℕ) (v : LineView) → v.takes ≡ true → v.puts ≡ true → Forks Lined pass v (taking v.seats v.taken) (putting v.seat v.put)
+parts pass v may puts items views rule at =
+    let owner = rule.0 in let head = rule.1 in let count = rule.2 in let gone = rule.3 in let line = rule.4 in
+    let left : LineView = taking v.seats v.taken in
+    let right : LineView = putting v.seat v.put in
+    let vs : List LineView = set views pass left in
+    let mine = line.takes pass v at may in
+    let its = line.puts pass v at puts in
+    let known : ℕ → ℕ = λ seat. cond (seat == v.seat) (length vs) (owner seat) in
+    let all : List Call = gone ++ items in
+    let Puts : ℕ → LineView → Type 0 = λ j u. u.puts ≡ true → (known u.seat ≡ j) × (u.seat < count) × (calls_of u.seat all ≡ u.put) in
+    let Takes : ℕ → LineView → Type 0 = λ j u. u.takes ≡ true → (j ≡ head) × (u.seats ≡ count) × (u.taken ≡ gone) in
+    let old = λ (j : ℕ) (u : LineView) (apart : j ≢ pass) (e : get_elem? views j ≡ some u) (p : u.puts ≡ true).
+    let had = line.puts j u e p in
+    let same : known u.seat ≡ j = ap (λ b. cond b (length vs) (owner u.seat)) (ne_eqb u.seat v.seat (λ s. apart (sym had.0 ∙ ap owner s ∙ its.0))) ∙ had.0 in
+    let whole : (known u.seat ≡ j) × (u.seat < count) × (calls_of u.seat all ≡ u.put) = (same, had.1, had.2) in whole in (
+      known,
+      head,
+      count,
+      gone,
+      record {
+        seated = line.seated;
+        numbered = line.numbered;
+        puts = each_push Puts vs right (each_set Puts views pass left (λ p. absurd (true≢false (sym p))) (λ j u apart e p. old j u apart e p))
+            (λ _. (ap (λ b. cond b (length vs) (owner v.seat)) (eq-eqb v.seat v.seat refl), its.1, its.2));
+        takes = each_push Takes vs right (each_set Takes views pass left (λ _. mine) (λ j u apart e t. line.takes j u e t)) (λ t. absurd (true≢false (sym t)));
+      },
+    )
+
+-- what both tell together
+pub learns : (pass : ℕ) (v : LineView) → v.takes ≡ true → v.puts ≡ true → Learns Lined pass v (λ calls. calls_of v.seat (v.taken ++ calls) ≡ v.put)
+learns pass v may puts items views rule at =
+    let line = rule.4 in
+    ap (λ l. calls_of v.seat (l ++ items)) (line.takes pass v at may).2 ∙ (line.puts pass v at puts).2
+
+-- so the calls taken are a beginning
+pub beginning : (seat : ℕ) (taken items put : List Call) → calls_of seat (taken ++ items) ≡ put → put ≡ calls_of seat taken ++ calls_of seat items
+beginning seat taken items put is = sym is ∙ filter-append (λ (c : Call). c.seat.0 == seat) taken items
+
+pub line_law : (items : List Call) (views : List LineView) (taker putter : LineView) → Lined items views → AreBeside views taker putter
+    → putter.put ≡ calls_of putter.seat taker.taken ++ calls_of putter.seat items
+line_law items views taker putter rule beside =
+    let line = rule.4 in
+    beginning putter.seat taker.taken items putter.put
+    (ap (λ l. calls_of putter.seat (l ++ items)) (line.takes beside.head taker beside.head_is beside.takes).2
+    ∙ (line.puts beside.owner putter beside.owner_is beside.puts).2)

@@ -15,8 +15,8 @@ use Rattle.rly_line.specs.EndViews.{EndView, line_at, new_teller, with_gone, wit
 use Rattle.rly_line.specs.Replies.{MayTell, Teller, entries_of}
 use Rattle.rly_line.specs.Responding.{AreLeft, IsInStep, IsResponding, IsTold, Responding, asks_of, responding}
 use Rattle.rly_line.specs.Story.{StoryView}
-use Rattle.rly_line.specs.Submission.{AreNumbered, IsNext, calls_of}
-use Rattle.rly_line.proofs.Making.{new_in_place, new_line_at}
+use Rattle.rly_line.specs.Submission.{AreNumbered, IsNext, LineId, calls_of}
+use Rattle.rly_line.proofs.Making.{between, new_in_place, new_line_at}
 use Rattle.rly_line.proofs.Submitting.{numbered_at, numbered_more}
 
 -- the calls of a seat's entries are the seat's calls
@@ -44,10 +44,6 @@ entries_other seat history x other =
     ∙ ap (λ b. entries_of seat history ++ cond b (x ∷ []) []) (ne_eqb x.0.seat.0 seat other) ∙ append-nil (entries_of seat history)
 
 -- what holds of each call holds of one among them
-between : (front : List Call) (x : Call) (behind : List Call) (d : Call) → get_or (front ++ x ∷ behind) (length front) d ≡ x
-between [] x behind d = refl
-between (c ∷ front) x behind d = between front x behind d
-
 all_at : (P : Call → Type 0) (front : List Call) (x : Call) (behind : List Call) → All P (front ++ x ∷ behind) → P x
 all_at P front x behind all = subst P (between front x behind x) (all (length front) x (omega (arith, length-append front (x ∷ behind))))
 
@@ -139,7 +135,7 @@ module _ (r : Responding) (call : Call) (answer : Answer) (left : List Call) (ho
 
   -- with one line told or found gone, all goes on
   pub goes_on : (now : Teller) → IsTold r.start History now → now.seat ≡ its_line.seat → IsAnswered without_bytes (harm_after 0 r.history) (state_after r.start r.history) (call, answer)
-      → IsResponding (record { taken = r.taken; start = r.start; history = History; lines = set r.lines call.seat.0 now })
+      → IsResponding (record { of = r.of; taken = r.taken; start = r.start; history = History; lines = set r.lines call.seat.0 now })
   goes_on now told mine answered = record {
     legal = legal_push without_bytes 0 r.start r.history (call, answer) holds.legal answered;
     waiting = (left, next ∙ sym (append_assoc (asks_of r.history) (call ∷ []) left) ∙ ap (λ l. l ++ left) (sym (asks_push r.history (call, answer))));
@@ -150,7 +146,7 @@ module _ (r : Responding) (call : Call) (answer : Answer) (left : List Call) (ho
   }
 
 -- one more call was taken
-pub took : (r : Responding) (call : Call) → IsResponding r → IsNext (record { seats = length r.lines; taken = r.taken }) call
+pub took : (r : Responding) (call : Call) → IsResponding r → IsNext (length r.lines) r.taken call
     → IsResponding (record r { taken = r.taken ++ call ∷ [] })
 took r call holds next = record {
   legal = holds.legal;
@@ -162,8 +158,8 @@ took r call holds next = record {
 }
 
 -- nothing was taken or told yet
-pub none_yet : (start : State (List ℕ)) (count : ℕ) → IsResponding (record { taken = []; start = start; history = []; lines = map new_teller (range_with_len 0 count) })
-none_yet start count = record {
+pub none_yet : (of : LineId) (start : State (List ℕ)) (count : ℕ) → IsResponding (record { of = of; taken = []; start = start; history = []; lines = map new_teller (range_with_len 0 count) })
+none_yet of start count = record {
   legal = tt;
   waiting = ([], refl);
   seated = λ k d lt. absurd (omega arith);
@@ -173,14 +169,14 @@ none_yet start count = record {
 }
 
 -- at new lines
-pub at_first : (line : EndView) (story : StoryView) (start : State (List ℕ)) → (count : ℕ) × (line ≡ record { taken = []; lines = map new_teller (range_with_len 0 count) })
+pub at_first : (line : EndView) (story : StoryView) (start : State (List ℕ)) → (count : ℕ) × (line ≡ record line { taken = []; lines = map new_teller (range_with_len 0 count) })
     → story ≡ record { start = start; history = [] } → IsResponding (responding line story)
 at_first line story start made begun =
-    subst (λ (y : EndView × StoryView). IsResponding (responding y.0 y.1)) (λ i. (sym made.1 i, sym begun i)) (none_yet start made.0)
+    subst (λ (y : EndView × StoryView). IsResponding (responding y.0 y.1)) (λ i. (sym made.1 i, sym begun i)) (none_yet line.of start made.0)
 
 -- a call was taken, if there was one
 pub took_any : (line now : EndView) (story : StoryView) (result : Option Call) → IsResponding (responding line story)
-    → IfSome result (λ call. (now ≡ record line { taken = line.taken ++ call ∷ [] }) × IsNext (record { seats = length line.lines; taken = line.taken }) call)
+    → IfSome result (λ call. (now ≡ record line { taken = line.taken ++ call ∷ [] }) × IsNext (length line.lines) line.taken call)
     → IfNone result (now ≡ line) → IsResponding (responding now story)
 took_any line now story (Some call) holds taken none =
     subst (λ (e : EndView). IsResponding (responding e story)) (sym taken.0) (took (responding line story) call holds taken.1)
@@ -200,21 +196,21 @@ module _ (line : EndView) (story pushed : StoryView) (call : Call) (answer : Ans
   may_ok = subst (λ (y : SeatId × StoryView). (line_at line.lines y.0.0).gone ≡ false → MayTell (line_at line.lines y.0.0) y.1.start answer y.1.history)
       (λ i. (sym answered.seat i, sym is i)) (may_tell (responding line story) call answer next.0 holds next.1 answered)
 
-  put_back : (taken : List Call) (lines : List Teller) (now : Teller) → taken ≡ line.taken → lines ≡ set line.lines call.seat.0 now
+  put_back : (of : LineId) (taken : List Call) (lines : List Teller) (now : Teller) → of ≡ line.of → taken ≡ line.taken → lines ≡ set line.lines call.seat.0 now
       → IsTold story.start Longer.history now → now.seat ≡ (line_at line.lines call.seat.0).seat
-      → IsResponding (record { taken = taken; start = pushed.start; history = pushed.history; lines = lines })
-  put_back taken lines now same lines_are told mine =
-      subst (λ (y : List Call × StoryView × List Teller). IsResponding (record { taken = y.0; start = y.1.start; history = y.1.history; lines = y.2 }))
-      (λ i. (sym same i, sym is i, sym lines_are i)) (goes_on (responding line story) call answer next.0 holds next.1 now told mine answered)
+      → IsResponding (record { of = of; taken = taken; start = pushed.start; history = pushed.history; lines = lines })
+  put_back of taken lines now at same lines_are told mine =
+      subst (λ (y : LineId × List Call × StoryView × List Teller). IsResponding (record { of = y.0; taken = y.1; start = y.2.start; history = y.2.history; lines = y.3 }))
+      (λ i. (sym at i, sym same i, sym is i, sym lines_are i)) (goes_on (responding line story) call answer next.0 holds next.1 now told mine answered)
 
-  pub after_ok : (after : EndView) (told : Bool) → after.taken ≡ line.taken
+  pub after_ok : (after : EndView) (told : Bool) → after.of ≡ line.of → after.taken ≡ line.taken
       → MatchBool told (after.lines ≡ set line.lines answer.seat.0 (with_told (line_at line.lines answer.seat.0) pushed))
       (after.lines ≡ set line.lines answer.seat.0 (with_gone (line_at line.lines answer.seat.0)))
       → IsResponding (responding after pushed)
-  after_ok after true taken lines = put_back after.taken after.lines (with_told (line_at line.lines call.seat.0) Longer) taken
+  after_ok after true at taken lines = put_back after.of after.taken after.lines (with_told (line_at line.lines call.seat.0) Longer) at taken
       (lines ∙ ap (λ (y : SeatId × StoryView). set line.lines y.0.0 (with_told (line_at line.lines y.0.0) y.1)) (λ i. (answered.seat i, is i)))
       (told_now (responding line story) call answer next.0 holds next.1) refl
-  after_ok after false taken lines = put_back after.taken after.lines (with_gone (line_at line.lines call.seat.0)) taken
+  after_ok after false at taken lines = put_back after.of after.taken after.lines (with_gone (line_at line.lines call.seat.0)) at taken
       (lines ∙ ap (λ (s : SeatId). set line.lines s.0 (with_gone (line_at line.lines s.0))) answered.seat)
       (gone_now (responding line story) call answer next.0 holds next.1) refl
 
@@ -244,5 +240,5 @@ module _ (s : State (List ℕ)) (r now : Responding) (call : Call) (kept : IsInS
       }
 
 -- nothing was asked yet
-pub in_step_first : (s : State (List ℕ)) (r : Responding) (lines : List Teller) → r ≡ record { taken = []; start = s; history = []; lines = lines } → IsInStep s r
-in_step_first s r lines is = subst (λ (x : Responding). IsInStep s x) (sym is) (record { answered = refl; state = refl; unharmed = refl })
+pub in_step_first : (s : State (List ℕ)) (of : LineId) (r : Responding) (lines : List Teller) → r ≡ record { of = of; taken = []; start = s; history = []; lines = lines } → IsInStep s r
+in_step_first s of r lines is = subst (λ (x : Responding). IsInStep s x) (sym is) (record { answered = refl; state = refl; unharmed = refl })

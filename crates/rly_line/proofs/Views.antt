@@ -8,7 +8,7 @@ module _ {V : Type 0} where
   abbrev pub Each : (ℕ → V → Type 0) → List V → Type 0
   Each F views = (pass : ℕ) (v : V) → get_elem? views pass ≡ some v → F pass v
 
-  at_set : (l : List V) (i j : ℕ) (a b : V) → get_elem? (set l i a) j ≡ some b → ((j ≡ i) × (a ≡ b)) ⊎ ((j ≢ i) × (get_elem? l j ≡ some b))
+  pub at_set : (l : List V) (i j : ℕ) (a b : V) → get_elem? (set l i a) j ≡ some b → ((j ≡ i) × (a ≡ b)) ⊎ ((j ≢ i) × (get_elem? l j ≡ some b))
   at_set [] i j a b e = absurd (some-ne-none b (sym e))
   at_set (x ∷ xs) zero zero a b e = inl (refl, some-injective a b e)
   at_set (x ∷ xs) zero (suc j) a b e = inr ((λ h. omega arith), e)

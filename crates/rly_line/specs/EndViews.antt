@@ -3,9 +3,11 @@ use Rattle.std.specs.Prelude.{ℕ, ◌≡◌, ◌<◌, List, [], length, slice_i
 use Rattle.rly_machine.specs.declared.call.Call.{Call}
 use Rattle.rly_line.specs.Replies.{Teller}
 use Rattle.rly_line.specs.Story.{StoryView}
+use Rattle.rly_line.specs.Submission.{LineId}
 
--- what contracts see of it: the calls that were taken, and what each seat's line was told
+-- what contracts see of it: which line it takes calls from, the calls that were taken, and what each seat's line was told
 pub record EndView : Type 0 where
+  pub of : LineId
   pub taken : List Call
   pub lines : List Teller
 

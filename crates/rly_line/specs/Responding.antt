@@ -6,11 +6,12 @@ use Rattle.rly_machine.specs.State.{State}
 use Rattle.rly_line.specs.EndViews.{AreInPlace, EndView, line_at}
 use Rattle.rly_line.specs.Replies.{Teller, entries_of}
 use Rattle.rly_line.specs.Story.{StoryView}
-use Rattle.rly_line.specs.Submission.{AreNumbered, calls_of}
+use Rattle.rly_line.specs.Submission.{AreNumbered, LineId, calls_of}
 
--- what contracts see of it: the calls that were taken, the state that it began in, the history that it made, and what
+-- what contracts see of it: which line it takes calls from, the calls that were taken, the state that it began in, the history that it made, and what
 -- each seat's line was told
 pub record Responding : Type 0 where
+  pub of : LineId
   pub taken : List Call
   pub start : State (List ℕ)
   pub history : List Entry
@@ -18,7 +19,7 @@ pub record Responding : Type 0 where
 
 -- its end of all lines and its history, as one value
 abbrev pub responding : EndView → StoryView → Responding
-responding line story = record { taken = line.taken; start = story.start; history = story.history; lines = line.lines }
+responding line story = record { of = line.of; taken = line.taken; start = story.start; history = story.history; lines = line.lines }
 
 -- the calls of a history
 abbrev pub asks_of : List Entry → List Call

@@ -9,10 +9,11 @@ use Rattle.rly_machine.specs.State.{State}
 use Rattle.rly_line.specs.declared.call_error.CallError.{CallError}
 use Rattle.rly_line.specs.declared.call_error.CallError.TheVariants.{Closed, Lost}
 use Rattle.rly_line.specs.Replies.{Hearer, entries_of}
-use Rattle.rly_line.specs.Submission.{Putter}
+use Rattle.rly_line.specs.Submission.{LineId, Putter}
 
--- what contracts see of a seat: the calls that it put, the base state and the history that it knows, and whether it is shut
+-- what contracts see of a seat: which line it puts calls into, the calls that it put, the base state and the history that it knows, and whether it is shut
 pub record Caller : Type 0 where
+  pub of : LineId
   pub seat : SeatId
   pub put : List Call
   pub base : Option (State (List ℕ))
@@ -20,8 +21,8 @@ pub record Caller : Type 0 where
   pub shut : Bool
 
 -- a seat that nothing was asked from
-abbrev pub new_caller : ℕ → Caller
-new_caller number = record { seat = record { 0 = number }; put = []; base = None; known = []; shut = false }
+abbrev pub new_caller : LineId → ℕ → Caller
+new_caller of number = record { of = of; seat = record { 0 = number }; put = []; base = None; known = []; shut = false }
 
 -- the call that puts an ask under the seat's next number
 abbrev pub next_call : Caller → Ask → Call
@@ -29,6 +30,7 @@ next_call c ask = record { seat = c.seat; number = length c.put + 1; ask = ask }
 
 -- a seat after its ask was answered, where it was another before
 pub record Answered (before : Caller) (ask : Ask) (answer : Answer) (after : Caller) : Type 0 where
+  pub of : after.of ≡ before.of
   pub seat : after.seat ≡ before.seat
   pub open_still : after.shut ≡ false
   -- the calls that it put grew by this ask, under the next number

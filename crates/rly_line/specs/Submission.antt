@@ -2,6 +2,10 @@
 use Rattle.std.specs.Prelude.{ℕ, ◌≡◌, ◌+◌, ◌<◌, ◌≤◌, ◌==◌, List, [], ◌∷◌, ◌++◌, true, false, filter, length}
 use mathlib.Core.Option.{some}
 use lib.ListN.{get_elem?}
+use Rattle.atomic_table.specs.Seated.{TableId}
+use Rattle.atomic_table.specs.declared.badge.Badge.{Badge}
+use Rattle.crossbeam_channel.specs.Claims.{Pass}
+use Rattle.crossbeam_channel.specs.declared.flavors.array.Key.{Key}
 use Rattle.rly_machine.specs.declared.call.Call.{Call}
 use Rattle.rly_line.specs.declared.submission.LineView.{LineView}
 
@@ -35,16 +39,47 @@ taking seats taken = record { puts = false; seat = 0; put = []; takes = true; se
 abbrev pub putting : ℕ → List Call → LineView
 putting seat put = record { puts = true; seat = seat; put = put; takes = false; seats = 0; taken = [] }
 
+-- what both know together, and what is left of the view of a pass that was given up
+abbrev pub together : LineView → LineView → LineView
+together taker putter = record taker { puts = true; seat = putter.seat; put = putter.put }
+
+abbrev pub idle : LineView
+idle = record { puts = false; seat = 0; put = []; takes = false; seats = 0; taken = [] }
+
+-- which line it is, as the channel names itself
+pub record LineId : Type 0 where
+  pub table : TableId
+  pub key : Badge (Key Call)
+
+-- the line that a pass is of
+abbrev pub line_of : Pass Call LineView → LineId
+line_of pass = record { table = pass.table_id; key = pass.me.0.of }
+
 -- what contracts see of a seat's end of the line, and of the other end
 pub record Putter : Type 0 where
+  pub of : LineId
   pub seat : ℕ
   pub put : List Call
 
 pub record Taker : Type 0 where
+  pub of : LineId
   pub seats : ℕ
   pub taken : List Call
 
--- a call is the next of its seat behind those taken
-pub record IsNext (t : Taker) (call : Call) : Type 0 where
-  pub seat : call.seat.0 < t.seats
-  pub number : call.number ≡ length (calls_of call.seat.0 t.taken) + 1
+-- a call is the next of its seat, one of so many, behind those taken
+pub record IsNext (seats : ℕ) (taken : List Call) (call : Call) : Type 0 where
+  pub seat : call.seat.0 < seats
+  pub number : call.number ≡ length (calls_of call.seat.0 taken) + 1
+
+-- the views of one line at one moment: that of the pass that takes, and that of a seat's pass
+pub record AreBeside (views : List LineView) (taker putter : LineView) : Type 0 where
+  pub head : ℕ
+  pub owner : ℕ
+  pub head_is : get_elem? views head ≡ some taker
+  pub owner_is : get_elem? views owner ≡ some putter
+  pub takes : taker.takes ≡ true
+  pub puts : putter.puts ≡ true
+
+-- of a seat's calls, those that were taken are a beginning, ask for ask, of those that it put
+abbrev pub IsBeginning : ℕ → List Call → List Call → Type 0
+IsBeginning seat taken put = (left : List Call) × (put ≡ calls_of seat taken ++ left)

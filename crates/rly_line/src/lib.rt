@@ -8,6 +8,7 @@
 #![tactic(auto)]
 
 mod call_error;
+mod laws;
 mod line_end;
 mod replies;
 mod responder;
@@ -19,6 +20,7 @@ mod submission;
 mod tests;
 
 pub use crate::call_error::CallError;
+pub use crate::laws::law_line;
 pub use crate::line_end::LineEnd;
 pub use crate::responder::Responder;
 pub use crate::seat::Seat;

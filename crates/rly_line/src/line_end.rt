@@ -1,17 +1,18 @@
 ghost use Rattle.std.specs.Prelude.{◌≡◌, ◌∷◌, ◌++◌, ◌<◌, [], false, length, slice_set, IfNone, IfSome, MatchBool};
 ghost use Rattle.rly_line.specs.Replies.{MayTell};
-ghost use Rattle.rly_line.specs.Submission.{IsNext};
+ghost use Rattle.rly_line.specs.Submission.{IsBeginning, IsNext};
 
 use crate::replies::TellEnd;
+use crate::seat::Seat;
 use crate::story::{Standing, Story};
 use crate::submission::TakeEnd;
 use rly_machine::{Answer, Call};
 use std::marker::Model;
 use std::sync::Wait;
 
-/// The other end of all seats' lines, for the one thread that answers. Contracts see the calls that
-/// were taken and, for each seat, the base and the history that its line was told last, and whether
-/// the seat was found gone.
+/// The other end of all seats' lines, for the one thread that answers. Contracts see which line it takes
+/// calls from, the calls that were taken and, for each seat, the base and the history that its line was
+/// told last, and whether the seat was found gone.
 #[derive(Drop)]
 pub struct LineEnd {
     calls: TakeEnd,
@@ -24,7 +25,7 @@ impl Model for LineEnd {
 
     ghost Value = { EndView };
 
-    ghost view = { λ e. record { taken = e.calls.taken; lines = e.replies.items } };
+    ghost view = { λ e. record { of = e.calls.of; taken = e.calls.taken; lines = e.replies.items } };
 
     ghost invariant = { λ e. (e.calls.seats ≡ length e.replies.items) × AreInPlace e.replies.items };
 }
@@ -35,7 +36,7 @@ impl LineEnd {
     /// The end of these lines.
     pub(crate) fn new(calls: TakeEnd, replies: Vec<TellEnd>) -> LineEnd
         requires { (calls.seats ≡ length replies.items) × AreInPlace replies.items }
-        ensures { result ≡ record { taken = calls.taken; lines = replies.items } }
+        ensures { result ≡ record { of = calls.of; taken = calls.taken; lines = replies.items } }
     {
         LineEnd { calls, replies }
     }
@@ -43,7 +44,7 @@ impl LineEnd {
     /// Waits for a call. None: no call was left, and no seat.
     pub fn wait<R: Wait>(&mut self, rt: &R) -> Option<Call>
         ensures taken { IfSome result (λ call. (self.new ≡ record self.old { taken = self.old.taken ++ call ∷ [] })
-            × IsNext (record { seats = length self.old.lines; taken = self.old.taken }) call) }
+            × IsNext (length self.old.lines) self.old.taken call) }
         ensures none { IfNone result (self.new ≡ self.old) }
     {
         self.calls.wait(rt)
@@ -52,7 +53,7 @@ impl LineEnd {
     /// A call that is in the line, if there is one.
     pub fn more<R: Wait>(&mut self, rt: &R) -> Option<Call>
         ensures taken { IfSome result (λ call. (self.new ≡ record self.old { taken = self.old.taken ++ call ∷ [] })
-            × IsNext (record { seats = length self.old.lines; taken = self.old.taken }) call) }
+            × IsNext (length self.old.lines) self.old.taken call) }
         ensures none { IfNone result (self.new ≡ self.old) }
     {
         self.calls.more(rt)
@@ -64,6 +65,7 @@ impl LineEnd {
         requires seat { answer.seat.0 < length self.old.lines }
         requires may { (line_at self.old.lines answer.seat.0).gone ≡ false
             → MayTell (line_at self.old.lines answer.seat.0) story.now.start answer story.now.history }
+        ensures of { self.new.of ≡ self.old.of }
         ensures taken { self.new.taken ≡ self.old.taken }
         ensures told { MatchBool result
             (self.new.lines ≡ slice_set self.old.lines answer.seat.0 (with_told (line_at self.old.lines answer.seat.0) story.now))
@@ -72,5 +74,15 @@ impl LineEnd {
         let seat = answer.seat.0 as usize;
         let line = &mut self.replies[seat];
         line.tell(rt, answer, story)
+    }
+
+    /// What is true of each seat at this line, at each moment: of the calls that it put, those that were
+    /// taken are a beginning, ask for ask.
+    pub fn law_beginning(&mut self, seat: Seat) -> Seat
+        requires { seat.of ≡ self.old.of }
+        ensures same { (self.new ≡ self.old) × (result ≡ seat) }
+        ensures begins { IsBeginning seat.seat.0 self.old.taken seat.put }
+    {
+        seat.beside(&mut self.calls)
     }
 }

@@ -4,16 +4,19 @@ ghost use Rattle.rly_machine.specs.History.{IsAnswered, harm_after, state_after,
 ghost use Rattle.rly_machine.specs.declared.call.Call.{Call};
 ghost use Rattle.rly_line.specs.EndViews.{new_teller};
 ghost use Rattle.rly_line.specs.Responding.{AreLeft, IsResponding};
+ghost use Rattle.rly_line.specs.Submission.{IsBeginning};
 
 use crate::line_end::LineEnd;
+use crate::seat::Seat;
 use crate::story::{Standing, Story};
 use rly_machine::{Answer, Call};
 use std::marker::Model;
 use std::snapshot::Snapshot;
 use std::sync::Wait;
 
-/// The one thread that answers: its end of all lines, and the history that it made. Contracts see the
-/// calls that were taken, the state that it began in, the history, and what each seat was told.
+/// The one thread that answers: its end of all lines, and the history that it made. Contracts see which
+/// line it takes calls from, the calls that were taken, the state that it began in, the history, and
+/// what each seat was told.
 #[derive(Drop)]
 pub struct Responder<T: Standing> {
     line: LineEnd,
@@ -33,8 +36,8 @@ impl<T: Standing> Model for Responder<T> {
 impl<T: Standing> Responder<T> {
     /// At the end of new lines, in the state that something stands for.
     pub fn new(line: LineEnd, at: &T) -> Responder<T>
-        requires { (count : ℕ) × (line ≡ record { taken = []; lines = map new_teller (range_with_len 0 count) }) }
-        ensures same { result ≡ record { taken = []; start = T.state at.now; history = []; lines = line.lines } }
+        requires { (count : ℕ) × (line ≡ record line { taken = []; lines = map new_teller (range_with_len 0 count) }) }
+        ensures same { result ≡ record { of = line.of; taken = []; start = T.state at.now; history = []; lines = line.lines } }
         ensures holds { IsResponding result }
     {
         let story = Story::begin(at);
@@ -64,6 +67,7 @@ impl<T: Standing> Responder<T> {
     pub fn answer<R: Wait>(&mut self, rt: &R, call: &Snapshot<Call>, answer: Answer)
         requires next { (left : List Call) × AreLeft self.old (call.now.value ∷ left) }
         requires answered { IsAnswered without_bytes (harm_after 0 self.old.history) (state_after self.old.start self.old.history) (call.now.value, answer) }
+        ensures of { self.new.of ≡ self.old.of }
         ensures taken { self.new.taken ≡ self.old.taken }
         ensures start { self.new.start ≡ self.old.start }
         ensures history { self.new.history ≡ self.old.history ++ (call.now.value, answer) ∷ [] }
@@ -71,5 +75,15 @@ impl<T: Standing> Responder<T> {
     {
         self.story.push(call, &answer);
         self.line.tell(rt, answer, &self.story);
+    }
+
+    /// What is true of each seat at this line, at each moment: of the calls that it put, those that were
+    /// taken are a beginning, ask for ask.
+    pub fn law_beginning(&mut self, seat: Seat) -> Seat
+        requires { seat.of ≡ self.old.of }
+        ensures same { (self.new ≡ self.old) × (result ≡ seat) }
+        ensures begins { IsBeginning seat.seat.0 self.old.taken seat.put }
+    {
+        self.line.law_beginning(seat)
     }
 }

@@ -2,7 +2,7 @@ ghost use Rattle.std.specs.Prelude.{◌≡◌, ◌^◌, ◌≤◌, ◌⊎◌, []
 
 use crate::call_error::CallError;
 use crate::replies::HearEnd;
-use crate::submission::SubmitEnd;
+use crate::submission::{SubmitEnd, TakeEnd};
 use rly_machine::{Answer, Ask, Call, SeatId};
 use std::marker::Model;
 use std::sync::Wait;
@@ -10,8 +10,8 @@ use std::sync::Wait;
 /// So many calls a seat makes in its life.
 const MAX_CALLS: u64 = 1 << 52;
 
-/// The place of one caller at the line. Contracts see its number, the calls that it put, the base
-/// state and the history that it knows, and whether it is shut.
+/// The place of one caller at the line. Contracts see which line it is, its number, the calls that it
+/// put, the base state and the history that it knows, and whether it is shut.
 #[derive(Drop)]
 pub struct Seat {
     seat: SeatId,
@@ -26,19 +26,20 @@ impl Model for Seat {
 
     ghost Value = { Caller };
 
-    ghost view = { λ s. record { seat = s.seat; put = s.line.put; base = s.replies.base; known = s.replies.known; shut = s.is_shut } };
+    ghost view = { λ s. record { of = s.line.of; seat = s.seat; put = s.line.put; base = s.replies.base; known = s.replies.known; shut = s.is_shut } };
 
     ghost invariant = { λ s. IsSeated s.seat s.line s.replies s.calls s.is_shut };
 }
 
 impl Seat {
     ghost use Rattle.rly_line.specs.Seats.{Answered, IsClosed, IsUnanswered, new_caller};
+    ghost use Rattle.rly_line.specs.Submission.{IsBeginning};
 
     /// A seat at its two ends, of which nothing was asked.
     pub(crate) fn new(seat: SeatId, line: SubmitEnd, replies: HearEnd) -> Seat
-        requires line { line ≡ record { seat = seat.0; put = [] } }
+        requires line { line ≡ record line { seat = seat.0; put = [] } }
         requires replies { replies ≡ record { seat = seat.0; base = None; known = [] } }
-        ensures { result ≡ new_caller seat.0 }
+        ensures { result ≡ new_caller line.of seat.0 }
     {
         Seat {
             seat,
@@ -46,6 +47,29 @@ impl Seat {
             replies,
             calls: 0,
             is_shut: false,
+        }
+    }
+
+    /// Of the calls that it put, those that were taken are a beginning.
+    pub(crate) fn beside(self, end: &mut TakeEnd) -> Seat
+        requires { self.of ≡ end.old.of }
+        ensures same { (end.new ≡ end.old) × (result ≡ self) }
+        ensures begins { IsBeginning self.seat.0 end.old.taken self.put }
+    {
+        let Seat {
+            seat,
+            line,
+            replies,
+            calls,
+            is_shut,
+        } = self;
+        let line = end.law_beginning(line);
+        Seat {
+            seat,
+            line,
+            replies,
+            calls,
+            is_shut,
         }
     }
 

@@ -15,8 +15,8 @@ use std::alloc::{AllocError, Global};
 pub fn make(alloc: Global, capacity: u16, seats: u16) -> Result<(Vec<Seat>, LineEnd), AllocError>
     requires capacity { (1 ≤ capacity) × (capacity ≤ 256) }
     requires seats { (1 ≤ seats) × (seats ≤ 256) }
-    ensures seats { IfOk result (λ made. made.0.items ≡ map new_caller (range_with_len 0 seats)) }
-    ensures end { IfOk result (λ made. made.1 ≡ record { taken = []; lines = map new_teller (range_with_len 0 seats) }) }
+    ensures seats { IfOk result (λ made. made.0.items ≡ map (new_caller made.1.of) (range_with_len 0 seats)) }
+    ensures end { IfOk result (λ made. made.1 ≡ record made.1 { taken = []; lines = map new_teller (range_with_len 0 seats) }) }
 {
     let mut line = Line::new(alloc, capacity as usize)?;
     let mut made = Vec::with_capacity(alloc, seats as usize)?;

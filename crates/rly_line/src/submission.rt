@@ -3,9 +3,9 @@
 ghost use Rattle.std.specs.Prelude.{◌≡◌, ◌+◌, ◌∷◌, ◌++◌, ◌<◌, [], length, IfErr, IfNone, IfOk, IfSome, OnErr, OnOk};
 ghost use Rattle.crossbeam_channel.specs.Claims.{view, IsSeatAt};
 ghost use Rattle.crossbeam_channel.specs.Ends.{sends_on, receives_on};
-ghost use Rattle.rly_line.specs.Submission.{IsNext};
+ghost use Rattle.rly_line.specs.Submission.{IsBeginning, IsNext};
 
-use crossbeam_channel::protocol::{Lesson, Outcome, Protocol, Split};
+use crossbeam_channel::protocol::{Join, Lesson, Outcome, Protocol, Split};
 use crossbeam_channel::{Pass, RuledReceiver, RuledSender, bounded_with};
 use rly_machine::Call;
 use std::alloc::{AllocError, Global};
@@ -73,11 +73,37 @@ impl Outcome<Call, LineView> for Takes {
     ghost use Rattle.std.specs.Prelude.{◌≡◌, ◌∷◌, ◌++◌, []};
     ghost use Rattle.rly_line.specs.Submission.{IsNext};
 
-    ghost then = { λ v call w. (w ≡ record v { taken = v.taken ++ call ∷ [] }) × IsNext (record { seats = v.seats; taken = v.taken }) call };
+    ghost then = { λ v call w. (w ≡ record v { taken = v.taken ++ call ∷ [] }) × IsNext v.seats v.taken call };
 }
 
 impl Lesson<Call, LineView> for Takes {
     ghost fact = { λ v calls. Unit {0} };
+}
+
+/// A seat's pass and the one that takes are put together, and cut again.
+struct Together;
+
+impl Join<LineView> for Together {
+    ghost use Rattle.rly_line.specs.Submission.{idle, together};
+
+    ghost both = { λ v w. together v w };
+
+    ghost spent = { idle };
+}
+
+impl Split<LineView> for Together {
+    ghost use Rattle.rly_line.specs.Submission.{putting, taking};
+
+    ghost left = { λ v. taking v.seats v.taken };
+
+    ghost right = { λ v. putting v.seat v.put };
+}
+
+impl Lesson<Call, LineView> for Together {
+    ghost use Rattle.std.specs.Prelude.{◌≡◌, ◌++◌};
+    ghost use Rattle.rly_line.specs.Submission.{calls_of};
+
+    ghost fact = { λ v calls. calls_of v.seat (v.taken ++ calls) ≡ v.put };
 }
 
 /// The whole line, while seats are given out. Contracts see it as the end that takes calls.
@@ -92,11 +118,11 @@ impl Model for Line {
     ghost use Rattle.std.specs.Prelude.{◌≡◌, true};
     ghost use Rattle.crossbeam_channel.specs.Claims.{view as pass_view, IsSeatAt};
     ghost use Rattle.crossbeam_channel.specs.Ends.{receives_on, sends_on};
-    ghost use Rattle.rly_line.specs.Submission.{Taker};
+    ghost use Rattle.rly_line.specs.Submission.{Taker, line_of};
 
     ghost Value = { Taker };
 
-    ghost view = { λ l. record { seats = (pass_view l.pass).seats; taken = (pass_view l.pass).taken } };
+    ghost view = { λ l. record { of = line_of l.pass; seats = (pass_view l.pass).seats; taken = (pass_view l.pass).taken } };
 
     ghost invariant = { λ l. IsSeatAt (sends_on l.puts) l.pass × ((pass_view l.pass).takes ≡ true) × (receives_on l.takes ≡ sends_on l.puts) };
 }
@@ -105,7 +131,7 @@ impl Line {
     /// A line with no seat.
     pub fn new(alloc: Global, capacity: usize) -> Result<Line, AllocError>
         requires { 0 < capacity }
-        ensures { IfOk result (λ line. line ≡ record { seats = 0; taken = [] }) }
+        ensures { IfOk result (λ line. line ≡ record line { seats = 0; taken = [] }) }
     {
         let (puts, takes, pass) = bounded_with::<Call, LineView, Lined, Global>(alloc, capacity)?;
         Ok(Line { puts, takes, pass })
@@ -113,7 +139,7 @@ impl Line {
 
     /// One more seat's end.
     pub fn seat(&mut self) -> Result<SubmitEnd, AllocError>
-        ensures ok { IfOk result (λ end. (end ≡ record { seat = self.old.seats; put = [] }) × (self.new ≡ record self.old { seats = self.old.seats + 1 })) }
+        ensures ok { IfOk result (λ end. (end ≡ record { of = self.old.of; seat = self.old.seats; put = [] }) × (self.new ≡ record self.old { seats = self.old.seats + 1 })) }
         ensures err { OnErr result (self.new ≡ self.old) }
     {
         let line = self.puts.try_clone()?;
@@ -143,11 +169,11 @@ impl Model for SubmitEnd {
     ghost use Rattle.std.specs.Prelude.{◌≡◌, true};
     ghost use Rattle.crossbeam_channel.specs.Claims.{view as pass_view, IsSeatAt};
     ghost use Rattle.crossbeam_channel.specs.Ends.{sends_on};
-    ghost use Rattle.rly_line.specs.Submission.{Putter};
+    ghost use Rattle.rly_line.specs.Submission.{Putter, line_of};
 
     ghost Value = { Putter };
 
-    ghost view = { λ e. record { seat = (pass_view e.pass).seat; put = (pass_view e.pass).put } };
+    ghost view = { λ e. record { of = line_of e.pass; seat = (pass_view e.pass).seat; put = (pass_view e.pass).put } };
 
     ghost invariant = { λ e. IsSeatAt (sends_on e.line) e.pass × ((pass_view e.pass).puts ≡ true) };
 }
@@ -178,11 +204,11 @@ impl Model for TakeEnd {
     ghost use Rattle.std.specs.Prelude.{◌≡◌, true};
     ghost use Rattle.crossbeam_channel.specs.Claims.{view as pass_view, IsSeatAt};
     ghost use Rattle.crossbeam_channel.specs.Ends.{receives_on};
-    ghost use Rattle.rly_line.specs.Submission.{Taker};
+    ghost use Rattle.rly_line.specs.Submission.{Taker, line_of};
 
     ghost Value = { Taker };
 
-    ghost view = { λ e. record { seats = (pass_view e.pass).seats; taken = (pass_view e.pass).taken } };
+    ghost view = { λ e. record { of = line_of e.pass; seats = (pass_view e.pass).seats; taken = (pass_view e.pass).taken } };
 
     ghost invariant = { λ e. IsSeatAt (receives_on e.line) e.pass × ((pass_view e.pass).takes ≡ true) };
 }
@@ -190,7 +216,7 @@ impl Model for TakeEnd {
 impl TakeEnd {
     /// Waits for a call. None: no call was left, and no seat.
     pub fn wait<R: Wait>(&mut self, rt: &R) -> Option<Call>
-        ensures taken { IfSome result (λ call. (self.new ≡ record self.old { taken = self.old.taken ++ call ∷ [] }) × IsNext self.old call) }
+        ensures taken { IfSome result (λ call. (self.new ≡ record self.old { taken = self.old.taken ++ call ∷ [] }) × IsNext self.old.seats self.old.taken call) }
         ensures none { IfNone result (self.new ≡ self.old) }
     {
         match self.line.recv_as::<Takes, R>(rt, &mut self.pass) {
@@ -201,12 +227,25 @@ impl TakeEnd {
 
     /// A call that is in the line, if there is one.
     pub fn more<R: Wait>(&mut self, rt: &R) -> Option<Call>
-        ensures taken { IfSome result (λ call. (self.new ≡ record self.old { taken = self.old.taken ++ call ∷ [] }) × IsNext self.old call) }
+        ensures taken { IfSome result (λ call. (self.new ≡ record self.old { taken = self.old.taken ++ call ∷ [] }) × IsNext self.old.seats self.old.taken call) }
         ensures none { IfNone result (self.new ≡ self.old) }
     {
         match self.line.try_recv_as::<Takes, R>(rt, &mut self.pass) {
             Ok(call) => Some(call),
             Err(_) => None,
         }
+    }
+
+    /// Of the calls that a seat of this line put, those that were taken are a beginning.
+    pub fn law_beginning(&mut self, end: SubmitEnd) -> SubmitEnd
+        requires { end.of ≡ self.old.of }
+        ensures same { (self.new ≡ self.old) × (result ≡ end) }
+        ensures begins { IsBeginning end.seat self.old.taken end.put }
+    {
+        let SubmitEnd { line, pass } = end;
+        line.absorb::<Together>(&mut self.pass, pass);
+        line.learn_as::<Together>(&mut self.pass);
+        let pass = line.another::<Together>(&mut self.pass);
+        SubmitEnd { line, pass }
     }
 }

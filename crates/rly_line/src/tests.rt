@@ -75,6 +75,18 @@ fn take_at<R: Wait>(rt: &R, alloc: Global, seat: &mut Seat) -> Option<Reply> {
     Some(answer.reply)
 }
 
+/// The reply to that take at the first of two seats, and the second seat. Without a reply both are let go, so that
+/// who waits for calls finds all seats gone.
+fn take_first<R: Wait>(
+    rt: &R,
+    alloc: Global,
+    mut first: Seat,
+    second: Seat,
+) -> Option<(Reply, Seat)> {
+    let reply = take_at(rt, alloc, &mut first)?;
+    Some((reply, second))
+}
+
 fn window() -> Ask {
     Ask::Query(Query::Window { hop: HopId(1) })
 }
@@ -86,14 +98,14 @@ fn line_row_2(rt: HostRuntime) -> Result<(), Fail> {
     let mut machine: Machine<Payload> = Machine::new(alloc, Params::DEFAULT)?;
     let (mut seats, line) = make(alloc, 4, 2)?;
     let mut calls = Responder::new(line, &machine);
-    let mut second = seats.pop().ok_or("two seats")?;
-    let mut first = seats.pop().ok_or("two seats")?;
+    let second = seats.pop().ok_or("two seats")?;
+    let first = seats.pop().ok_or("two seats")?;
     assert_eq!(rt; (first.id().0, second.id().0), (0, 1));
-    let asking = thread::spawn(&rt, move || take_at(&rt, alloc, &mut first))
+    let asking = thread::spawn(&rt, move || take_first(&rt, alloc, first, second))
         .ok()
         .ok_or("a thread")?;
     assert!(rt; answer_one(&rt, alloc, &mut machine, &mut calls));
-    let reply = asking.join(&rt).ok_or("the first is answered")?;
+    let (reply, mut second) = asking.join(&rt).ok_or("the first is answered")?;
     assert!(rt; matches!(&reply, Reply::Taken(1)), "{reply:?}");
     let asking = thread::spawn(&rt, move || take_at(&rt, alloc, &mut second))
         .ok()
@@ -102,6 +114,17 @@ fn line_row_2(rt: HostRuntime) -> Result<(), Fail> {
     let reply = asking.join(&rt).ok_or("the second is answered")?;
     assert!(rt; matches!(&reply, Reply::Already(1)), "{reply:?}");
     assert!(rt; !answer_one(&rt, alloc, &mut machine, &mut calls));
+    Ok(())
+}
+
+/// Both ends of the line come back as they were from the law that they meet.
+#[test]
+fn both_ends_agree(rt: HostRuntime) -> Result<(), Fail> {
+    let (mut seats, mut line) = make(rt.alloc(), 1, 2)?;
+    let seat = seats.pop().ok_or("a seat")?;
+    let seat = line.law_beginning(seat);
+    assert_eq!(rt; seat.id().0, 1);
+    assert!(rt; line.more(&rt).is_none());
     Ok(())
 }
 

@@ -1,8 +1,9 @@
 -- The state of a spool, over any payload P. No index, cache or buffer is part of it.
-use Rattle.std.specs.Prelude.{ℕ, ◌+◌, ◌-◌, List, [], ◌++◌, length, replicate, slice_index, slice_index_or, sum_by, Bool, nat_lt, nat_le, false, ◌&&◌}
+use Rattle.std.specs.Prelude.{ℕ, ◌+◌, ◌-◌, List, [], ◌++◌, length, replicate, slice_index, slice_index_or, sum_by, Bool, nat_lt, nat_le, ◌&&◌}
 use Rattle.rly_core.specs.declared.ids.HopId.{HopId}
 use Rattle.rly_core.specs.declared.ids.PeerId.{PeerId}
 use Rattle.rly_core.specs.declared.params.Params.{Params}
+use Rattle.rly_codel.specs.Start as start
 use Rattle.rly_codel.specs.declared.state.CodelState.{CodelState}
 use Rattle.rly_machine.specs.declared.hop.Item.{Item}
 
@@ -28,13 +29,9 @@ pub record Spool (P : Type 0) : Type 0 where
   pub state : State P
   pub spare : List ℕ
 
--- CoDel's state before anything was dropped
-abbrev pub idle : CodelState
-idle = record { first_above_time = 0; drop_next = 0; count = 0; lastcount = 0; dropping = false }
-
 -- a hop that nothing has come to
 abbrev pub new_hop : {P : Type 0} → HopState P
-new_hop = record { queue = []; flight = []; codel = idle; moment = 0; taken = 0; dropped = 0; released = 0 }
+new_hop = record { queue = []; flight = []; codel = start.new_state; moment = 0; taken = 0; dropped = 0; released = 0 }
 
 -- a spool that nothing has come to
 abbrev pub new_state : {P : Type 0} → Params → State P

@@ -54,13 +54,7 @@ impl<C> Hop<C> {
         Hop {
             queue: VecDeque::new(alloc),
             flight: VecDeque::new(alloc),
-            codel: CodelState {
-                first_above_time: 0,
-                drop_next: 0,
-                count: 0,
-                lastcount: 0,
-                dropping: false,
-            },
+            codel: CodelState::NEW,
             moment: 0,
             taken: 0,
             dropped: 0,

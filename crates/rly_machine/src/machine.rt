@@ -1,4 +1,4 @@
-ghost use Rattle.std.specs.Prelude.{◌≡◌, ◌+◌, ◌-◌, ◌<◌, ◌≤◌, Err, IfErr, IfOk, IsTrue, MatchOption, Ok, OnOk, Some, false, length, map, slice_get, slice_index};
+ghost use Rattle.std.specs.Prelude.{◌≡◌, ◌+◌, ◌-◌, ◌<◌, ◌≤◌, Err, IfErr, IfOk, IsOk, IsTrue, MatchOption, Ok, OnOk, Some, false, length, map, slice_get, slice_index};
 ghost use Rattle.std.specs.Option.{SomeIff};
 ghost use Rattle.rly_core.specs.Limits.{IsWithinLimits};
 ghost use Rattle.rly_machine.specs.Kept.{IsHopAt, hop_of};
@@ -66,7 +66,7 @@ impl<C: Content> Machine<C> {
         })
     }
 
-    /// The spool of a state that was kept elsewhere. It takes no memory, and counts what is live.
+    /// The spool of a state that was kept elsewhere. It takes no memory, so it is always `Ok`, and counts what is live.
     pub fn restore(
         params: Params,
         seq: u64,
@@ -74,7 +74,8 @@ impl<C: Content> Machine<C> {
         hops: Vec<Hop<C>>,
     ) -> Result<Machine<C>, AllocError>
         requires { IsSound C.length_of (state_of params hops lasts seq) }
-        ensures { IfOk result (λ machine. machine.state ≡ state_of params hops lasts seq) }
+        ensures succeeds { IsOk result }
+        ensures state { IfOk result (λ machine. machine.state ≡ state_of params hops lasts seq) }
     {
         let live = Live::of(&hops);
         Ok(Machine {

@@ -10,7 +10,7 @@ use std::alloc::{AllocError, Global};
 impl Machine<Payload> {
     /// The reply to a question. Only Fetch takes memory.
     pub fn answer(&self, alloc: Global, query: Query) -> Result<Reply, AllocError>
-        ensures { IfOk result (λ reply. reply ≡ query_reply self.now.state query) }
+        ensures reply { IfOk result (λ reply. reply ≡ query_reply self.now.state query) }
     {
         match query {
             Query::Fetch { hop, number } => match self.item(hop, number) {

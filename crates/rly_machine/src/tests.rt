@@ -120,15 +120,6 @@ fn a_payload_gives_its_bytes_back(rt: HostRuntime) -> Result<(), Fail> {
     Ok(())
 }
 
-/// CoDel's state before anything was dropped.
-const IDLE: CodelState = CodelState {
-    first_above_time: 0,
-    drop_next: 0,
-    count: 0,
-    lastcount: 0,
-    dropping: false,
-};
-
 /// A spool of one hop and one peer, for five bytes.
 const SMALL: Params = Params {
     hops: 1,
@@ -161,7 +152,7 @@ fn restored(alloc: Global) -> Result<Machine<Payload>, AllocError>
     let hop = Hop {
         queue,
         flight,
-        codel: IDLE,
+        codel: CodelState::NEW,
         moment: 20,
         taken: 3,
         dropped: 0,
@@ -175,7 +166,7 @@ fn restored_empty(alloc: Global) -> Result<Machine<Payload>, AllocError> {
     let hop = Hop {
         queue: VecDeque::new(alloc),
         flight: VecDeque::new(alloc),
-        codel: IDLE,
+        codel: CodelState::NEW,
         moment: 0,
         taken: 0,
         dropped: 0,

@@ -1,3 +1,4 @@
+pub mod Beside
 pub mod Devices
 pub mod Fields
 pub mod Filling
@@ -6,7 +7,6 @@ pub mod Greater
 pub mod HeadBytes
 pub mod HeadWriting
 pub mod HeaderFields
-pub mod Places
 pub mod Replacing
 pub mod Segments
 pub mod Standing

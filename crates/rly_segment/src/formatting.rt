@@ -5,7 +5,7 @@ ghost use Rattle.rly_gate.specs.Reading.{OnlyRead};
 ghost use Rattle.rly_core.specs.Limits.{IsWithinLimits};
 ghost use Rattle.rly_machine.specs.State.{new_state};
 ghost use Rattle.rly_segment.specs.Device.{IsGeometry, header_of};
-ghost use Rattle.rly_segment.specs.Formatted.{IsFormatted, IsFormatting};
+ghost use Rattle.rly_segment.specs.Formatted.{IsFormatted, IsFormatting, IsSameBeside};
 ghost use Rattle.rly_segment.specs.Heads.{NoneIsOpen, head_of, segment_place};
 ghost use Rattle.rly_segment.specs.Writing.{IsFilled, limits_of, shape_of};
 
@@ -41,11 +41,12 @@ pub enum FormatFault {
 }
 
 /// Makes a new device with no datagram in it. A crash at any moment of the call leaves the old
-/// device, none, or the new one.
+/// device, none, or the new one. Bytes behind the header's fields and behind the last segment stay.
 pub fn format<D: Disk>(alloc: Global, disk: &mut D, geometry: &Geometry) -> Result<(), FormatFault>
     ensures geometry { result ≡ Err FormatFault.BadGeometry ↔ ¬ IsGeometry geometry.now (D.state disk.old).size }
     ensures any_moment { Settled (D.state disk.old)
         → LeavesOnly (D.state disk.old) (D.state disk.new) (IsFormatting geometry.now (D.state disk.old).seen) }
+    ensures beside { Settled (D.state disk.old) → LeavesOnly (D.state disk.old) (D.state disk.new) (IsSameBeside geometry.now (D.state disk.old).seen) }
     ensures ok { Settled (D.state disk.old) → OnOk result (Settled (D.state disk.new)) }
     ensures formatted { Settled (D.state disk.old) → OnOk result (IsFormatted geometry.now (D.state disk.new).seen) }
     ensures untouched { result ≡ Err FormatFault.BadGeometry → disk.new ≡ disk.old }
@@ -81,6 +82,7 @@ fn write_device<D: Disk>(disk: &mut D, geometry: &Geometry, head: &[u8]) -> Resu
     requires head { head.now ≡ head_of 1 (new_state geometry.now.params) ++ 0 ∷ [] }
     ensures any_moment { Settled (D.state disk.old)
         → LeavesOnly (D.state disk.old) (D.state disk.new) (IsFormatting geometry.now (D.state disk.old).seen) }
+    ensures beside { Settled (D.state disk.old) → LeavesOnly (D.state disk.old) (D.state disk.new) (IsSameBeside geometry.now (D.state disk.old).seen) }
     ensures ok { Settled (D.state disk.old) → OnOk result (Settled (D.state disk.new)) }
     ensures formatted { Settled (D.state disk.old) → OnOk result (IsFormatted geometry.now (D.state disk.new).seen) }
     ensures rise { OnErr result (Rose (D.state disk.old) (D.state disk.new)) }
@@ -112,6 +114,7 @@ fn write_contents<D: Disk>(disk: &mut D, geometry: &Geometry, head: &[u8]) -> Re
     requires room { 1 + length head.now ≤ geometry.now.length }
     ensures any_moment { Settled (D.state disk.old) → IsClosed (D.state disk.old).seen 0
         → LeavesOnly (D.state disk.old) (D.state disk.new) (λ image. IsClosed image 0) }
+    ensures beside { Settled (D.state disk.old) → LeavesOnly (D.state disk.old) (D.state disk.new) (IsSameBeside geometry.now (D.state disk.old).seen) }
     ensures ok { Settled (D.state disk.old) → OnOk result (Settled (D.state disk.new)) }
     ensures filled { Settled (D.state disk.old) → OnOk result (IsFilled geometry.now head.now (D.state disk.new).seen) }
     ensures rise { OnErr result (Rose (D.state disk.old) (D.state disk.new)) }
@@ -130,6 +133,7 @@ fn close_gates<D: Disk>(disk: &mut D, geometry: &Geometry) -> Result<(), DiskFau
     requires { IsGeometry geometry.now (D.state disk.old).size }
     ensures any_moment { Settled (D.state disk.old) → IsClosed (D.state disk.old).seen 0
         → LeavesOnly (D.state disk.old) (D.state disk.new) (λ image. IsClosed image 0) }
+    ensures beside { Settled (D.state disk.old) → LeavesOnly (D.state disk.old) (D.state disk.new) (IsSameBeside geometry.now (D.state disk.old).seen) }
     ensures ok { Settled (D.state disk.old) → OnOk result (Settled (D.state disk.new)) }
     ensures closed { Settled (D.state disk.old) → OnOk result (NoneIsOpen (D.state disk.new).seen geometry.now) }
     ensures rise { OnErr result (Rose (D.state disk.old) (D.state disk.new)) }

@@ -3,7 +3,7 @@ use Rattle.std.proofs.Common.{◌≡◌, ℕ, ◌+◌, ◌≤◌, List, [], ◌+
 use Rattle.std.specs.Io.KnownBytes.{Appends, Consumes, Keeps}
 use Rattle.std.proofs.Math.Seq.{take-add, take-append-add}
 use Rattle.std.proofs.lemmas.List.{take_min, take-append-le}
-use Rattle.rly_stream.specs.Beginnings.{AppendsBeginning}
+use Rattle.rly_stream.specs.Beginnings.{AppendsBeginning, BreaksOff}
 
 pub keeps_consumes : (a b c : Option (List ℕ)) (bs : List ℕ) → Keeps a b → Consumes b c bs → Consumes a c bs
 keeps_consumes None b c bs h k = tt
@@ -24,11 +24,10 @@ appends_more (Some xs) (Some ys) None text written count h k = k
 appends_more (Some xs) (Some ys) (Some zs) text written count h k =
     k ∙ rw h (append_assoc xs (take written text) (take count (drop written text))) ∙ ap (λ bs. xs ++ bs) (sym (take-add written count text))
 
-pub begun_at : (a b c : Option (List ℕ)) (text : List ℕ) (written : ℕ) → Appends a b (take written text) → Keeps b c → AppendsBeginning a c text
-begun_at None b c text written h k = tt
-begun_at (Some xs) None c text written h k = absurd h
-begun_at (Some xs) (Some ys) None text written h k = absurd k
-begun_at (Some xs) (Some ys) (Some zs) text written h k = (written, k ∙ h)
+pub begins_broken : (a b : Option (List ℕ)) (text : List ℕ) → BreaksOff a b text → AppendsBeginning a b text
+begins_broken None b text h = tt
+begins_broken (Some xs) None text h = absurd h.2
+begins_broken (Some xs) (Some ys) text h = (h.0, h.2)
 
 pub keeps_same : (a : Option (List ℕ)) → Keeps a a
 keeps_same None = tt

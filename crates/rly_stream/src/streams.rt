@@ -1,16 +1,17 @@
 ghost use Rattle.std.specs.Prelude.{◌≡◌, ◌<◌, ◌≤◌, length, take, IfErr, IfOk, OnErr, OnOk};
 ghost use Rattle.std.specs.Io.KnownBytes.{Appends, Consumes, IsAtEnd, Keeps};
-ghost use Rattle.rly_stream.specs.Beginnings.{AppendsBeginning};
+ghost use Rattle.rly_stream.specs.Beginnings.{BreaksOff};
 
 use crate::fault::StreamFault;
 use std::io::{Error, ErrorKind, Read, Write};
 
-/// Reads what there is now, at least one byte but at the end of the input. A read that a signal
-/// interrupts is made again.
+/// Reads what there is now, at least one byte but at the end of the input. A read that failed took
+/// nothing. A read that a signal interrupts is made again.
 pub fn read_some<R: Read>(reader: &mut R, buffer: &mut [u8]) -> Result<usize, StreamFault>
     ensures bound { IfOk result (λ count. count ≤ length buffer.new) }
     ensures bytes { IfOk result (λ count. Consumes (R.remaining reader.old) (R.remaining reader.new) (take count buffer.new)) }
     ensures end { IfOk result (λ count. count ≡ 0 → 0 < length buffer.old → IsAtEnd (R.remaining reader.new)) }
+    ensures err { OnErr result (Keeps (R.remaining reader.old) (R.remaining reader.new)) }
     ensures fault { IfErr result (λ fault. fault ≡ StreamFault.Input) }
 {
     for _try in 0..u64::MAX {
@@ -26,11 +27,11 @@ pub fn read_some<R: Read>(reader: &mut R, buffer: &mut [u8]) -> Result<usize, St
     Err(StreamFault::Input)
 }
 
-/// Writes all of some text. Where the writer fails, a beginning of it was written. A write that a
-/// signal interrupts is made again.
+/// Writes all of some text. Where the writer fails, a beginning of it was written, and never all. A
+/// write that a signal interrupts is made again.
 pub fn write_whole<W: Write>(writer: &mut W, text: &[u8]) -> Result<(), StreamFault>
     ensures whole { OnOk result (Appends (W.contents writer.old) (W.contents writer.new) text.now) }
-    ensures begun { OnErr result (AppendsBeginning (W.contents writer.old) (W.contents writer.new) text.now) }
+    ensures begun { OnErr result (BreaksOff (W.contents writer.old) (W.contents writer.new) text.now) }
     ensures fault { IfErr result (λ fault. fault ≡ StreamFault.Output) }
 {
     let mut written = 0;

@@ -1,6 +1,7 @@
 // The interface of what answers a worker's calls.
-ghost use Rattle.std.specs.Prelude.{◌∷◌, [], List, Option, Result};
+ghost use Rattle.std.specs.Prelude.{◌≡◌, ◌^◌, ◌≤◌, ◌⊎◌, ◌∷◌, [], true, IfErr, IfOk, List, Option, Result, length};
 ghost use Rattle.rly_line.specs.declared.call_error.CallError.{CallError as AnError};
+ghost use Rattle.rly_line.specs.Seats.{Answered, IsClosed, IsUnanswered};
 ghost use Rattle.rly_machine.specs.declared.call.Answer.{Answer as AnAnswer};
 ghost use Rattle.rly_machine.specs.declared.command.Ask.{Ask as AnAsk};
 ghost use Rattle.rly_threads.specs.Ends.{Tells};
@@ -24,7 +25,11 @@ impl Desk for Seat {
 
     ghost asked = { λ _. None };
 
-    fn call<R: Wait>(&mut self, rt: &R, ask: Ask) -> Result<Answer, CallError> {
+    fn call<R: Wait>(&mut self, rt: &R, ask: Ask) -> Result<Answer, CallError>
+        ensures ok { IfOk result (λ answer. Answered self.old ask answer self.new) }
+        ensures err { IfErr result (λ error. IsUnanswered self.old ask error self.new) }
+        ensures shut { (self.old.shut ≡ true) ⊎ (2 ^ 52 ≤ length self.old.put) → IsClosed result }
+    {
         Seat::call(self, rt, ask)
     }
 }

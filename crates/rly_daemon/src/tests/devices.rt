@@ -2,14 +2,13 @@
 
 use super::programs::finish;
 use super::rows::takes;
-use crate::FileDisk;
-use std::fs::{File, Files};
+use crate::{FileDisk, Host};
 use std::process::Abort;
 use std::test::Fail;
 use std::{fs, process};
 
 /// A path for the file of a test, which is not there yet.
-fn path_of(rt: &HostRuntime, name: &str) -> Result<String, Fail> {
+pub(super) fn path_of(rt: &HostRuntime, name: &str) -> Result<String, Fail> {
     let folder = std::env::temp_dir(rt)?;
     let path = format!(in rt.alloc();
         "{}/rly-{}-{name}",
@@ -21,7 +20,7 @@ fn path_of(rt: &HostRuntime, name: &str) -> Result<String, Fail> {
 }
 
 /// Formats a file as the small device: one hop, one peer, 16 items, 4,096 bytes.
-fn make_small(rt: &(impl Abort + AllocGlobal + Files<File = File>), path: &str) {
+pub(super) fn make_small(rt: &(impl Abort + Host), path: &str) {
     let run = finish(
         rt,
         [
@@ -42,11 +41,7 @@ fn make_small(rt: &(impl Abort + AllocGlobal + Files<File = File>), path: &str) 
 }
 
 /// Checks that a run is refused.
-fn expect_refused(
-    rt: &(impl Abort + AllocGlobal + Files<File = File>),
-    words: &[&str],
-    errors: &[u8],
-) {
+fn expect_refused(rt: &(impl Abort + Host), words: &[&str], errors: &[u8]) {
     let run = finish(rt, words, b"show 1\n".as_slice());
     assert_eq!(rt; run.status, 1, "{words:?}");
     assert!(rt; run.output.is_empty(), "{words:?}");
@@ -99,11 +94,7 @@ fn play_goes_on_where_it_stopped(rt: HostRuntime) -> Result<(), Fail> {
 }
 
 /// Checks that `format` is refused for an option, and makes no file.
-fn expect_untouched(
-    rt: &(impl Abort + AllocGlobal + Files<File = File>),
-    path: &str,
-    option: &str,
-) {
+fn expect_untouched(rt: &(impl Abort + Host), path: &str, option: &str) {
     expect_refused(
         rt,
         ["rly", "format", path, option].as_slice(),

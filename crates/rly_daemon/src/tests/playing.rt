@@ -30,7 +30,7 @@ const NARROW: Params = Params {
 };
 
 /// The geometry of two segments of the least length.
-fn geometry_of(rt: &impl Abort, params: Params) -> Geometry {
+pub(super) fn geometry_of(rt: &impl Abort, params: Params) -> Geometry {
     assert!(rt; params.check().is_ok());
     let mut geometry = Geometry {
         params,
@@ -42,7 +42,10 @@ fn geometry_of(rt: &impl Abort, params: Params) -> Geometry {
 }
 
 /// A new device of that geometry.
-fn formatted(rt: &(impl Abort + AllocGlobal), geometry: &Geometry) -> Result<MemDisk, Fail> {
+pub(super) fn formatted(
+    rt: &(impl Abort + AllocGlobal),
+    geometry: &Geometry,
+) -> Result<MemDisk, Fail> {
     let size = 64u64.saturating_add(geometry.length.saturating_mul(2));
     let mut disk = MemDisk::new(rt.alloc(), vec![in rt.alloc(); 0u8; size as usize]?);
     assert!(rt; format(rt.alloc(), &mut disk, geometry).is_ok());

@@ -1,7 +1,6 @@
 //! Whole runs of the program, up to the status.
 
-use crate::run;
-use std::fs::{File, Files};
+use crate::{Host, run};
 use std::test::Fail;
 
 /// The status of a run, its output and its errors.
@@ -12,11 +11,7 @@ pub(super) struct Finished {
     pub(super) errors: Vec<u8>,
 }
 
-pub(super) fn finish(
-    rt: &(impl AllocGlobal + Files<File = File>),
-    words: &[&str],
-    input: &[u8],
-) -> Finished {
+pub(super) fn finish(rt: &impl Host, words: &[&str], input: &[u8]) -> Finished {
     let mut reader = input;
     let mut output = Vec::new(rt.alloc());
     let mut errors = Vec::new(rt.alloc());

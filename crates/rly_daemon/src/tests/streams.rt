@@ -84,7 +84,7 @@ fn a_failed_write_ends_with_a_beginning(rt: HostRuntime) -> Result<(), Fail> {
 #[test]
 fn lines_are_bounded(rt: HostRuntime) -> Result<(), Fail> {
     let mut input = String::new(rt.alloc());
-    for length in [4_096, 4_097, 20_000] {
+    for length in [4_096, 4_097, 150_000] {
         for _byte in 0..length {
             input.push_str("0")?;
         }

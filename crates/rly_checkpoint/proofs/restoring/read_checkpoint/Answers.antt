@@ -32,9 +32,9 @@ returns-then-not-is_sound-clause-only c s sound given same =
 pub returns-clause-found : goal.returns-clause-found
 returns-clause-found c =
     let parts = c.in_ok-parts.parts in
-    (whole_takes c.args.params c.args.bytes.now (state_of c.args.params parts.hops parts.lasts parts.seq) (λ i. omega (arith, c.type_inv.bytes i)) c.in_ok-parts.ensures).0 ∙ ap checkpoint_of (sym c.in_ok-restore.ensures)
+    (whole_takes c.args.params c.args.bytes.now (state_of c.args.params parts.hops parts.lasts parts.seq) (λ i. omega (arith, c.type_inv.bytes i)) c.in_ok-parts.ensures).0 ∙ ap checkpoint_of (sym c.in_ok-restore.ensures.state)
 
 pub returns-clause-only : goal.returns-clause-only
 returns-clause-only c s sound given same =
     let parts = c.in_ok-parts.parts in
-    c.in_ok-restore.ensures ∙ same_state c.args.params c.args.bytes.now (state_of c.args.params parts.hops parts.lasts parts.seq) s c.in_ok-parts.ensures sound given same
+    c.in_ok-restore.ensures.state ∙ same_state c.args.params c.args.bytes.now (state_of c.args.params parts.hops parts.lasts parts.seq) s c.in_ok-parts.ensures sound given same

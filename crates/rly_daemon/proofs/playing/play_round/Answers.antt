@@ -8,14 +8,14 @@ pub returns-in_err-full-clause-begun : goal.returns-in_err-full-clause-begun
 returns-in_err-full-clause-begun g c =
     let failed = err_from_is_err_and c.from_residual.result c.from_residual.ensures.1 in
     rw failed.1
-    (front_none g.D.Disk.state c.args.journal.now c.args.journal.now (prepend_known c.args.lines.now.ahead (g.R.Read.remaining c.args.reader.now))
+    (front_none c.args.round.now.most g.D.Disk.state c.args.journal.now c.args.journal.now (prepend_known c.args.lines.now.ahead (g.R.Read.remaining c.args.reader.now))
     (g.W.Write.contents c.args.writer.now) (g.W.Write.contents c.gather.new.writer) refl c.in_err-full.ensures.keeps)
 
 pub returns-in_err-answer-clause-begun : goal.returns-in_err-answer-clause-begun
 returns-in_err-answer-clause-begun g c =
     let failed = err_from_is_err_and c.from_residual-in_err-answer.result c.from_residual-in_err-answer.ensures.1 in
     rw failed.1
-    (front_none g.D.Disk.state c.args.journal.now c.answer.new.journal (prepend_known c.args.lines.now.ahead (g.R.Read.remaining c.args.reader.now))
+    (front_none c.args.round.now.most g.D.Disk.state c.args.journal.now c.answer.new.journal (prepend_known c.args.lines.now.ahead (g.R.Read.remaining c.args.reader.now))
     (g.W.Write.contents c.args.writer.now) (g.W.Write.contents c.gather.new.writer) c.in_err-answer.ensures.err c.in_ok-full.ensures.keeps)
 
 pub returns-in_err-tell-clause-begun : goal.returns-in_err-tell-clause-begun
@@ -24,16 +24,16 @@ returns-in_err-tell-clause-begun g c =
     let slots : c.answer.new.self.slots.items ≡ c.gather.new.self.slots.items = ap (λ v. v.items) c.in_ok-answer.ensures.slots in
     let begun = rw slots at c.in_err-tell.ensures.begun in
     rw failed.1
-    (front_round g.D.Disk.state c.args.journal.now c.answer.new.journal (prepend_known c.args.lines.now.ahead (g.R.Read.remaining c.args.reader.now))
+    (front_round c.args.round.now.most g.D.Disk.state c.args.journal.now c.answer.new.journal (prepend_known c.args.lines.now.ahead (g.R.Read.remaining c.args.reader.now))
     (prepend_known c.gather.new.lines.ahead (g.R.Read.remaining c.gather.new.reader)) (g.W.Write.contents c.args.writer.now) (g.W.Write.contents c.gather.new.writer)
     (g.W.Write.contents c.tell.new.writer) c.gather.new.self.slots.items c.gather.new.self.calls.items c.answer.new.self.answers.items
-    c.in_ok-full.ensures.gathered c.in_ok-answer.ensures.answered c.in_ok-answer.ensures.later c.in_ok-full.ensures.keeps begun)
+    c.in_ok-full.ensures.gathered c.in_ok-full.ensures.lines c.in_ok-answer.ensures.answered c.in_ok-answer.ensures.later c.in_ok-full.ensures.keeps begun)
 
 pub returns-clause-played : goal.returns-clause-played
 returns-clause-played g c =
     let slots : c.answer.new.self.slots.items ≡ c.gather.new.self.slots.items = ap (λ v. v.items) c.in_ok-answer.ensures.slots in
     let told = rw slots at c.in_ok-tell.ensures.told in
-    some_round g.D.Disk.state c.args.journal.now c.answer.new.journal (prepend_known c.args.lines.now.ahead (g.R.Read.remaining c.args.reader.now))
+    some_round c.args.round.now.most g.D.Disk.state c.args.journal.now c.answer.new.journal (prepend_known c.args.lines.now.ahead (g.R.Read.remaining c.args.reader.now))
     (prepend_known c.gather.new.lines.ahead (g.R.Read.remaining c.gather.new.reader)) (g.W.Write.contents c.args.writer.now) (g.W.Write.contents c.gather.new.writer)
     (g.W.Write.contents c.tell.new.writer) c.gather.new.self.slots.items c.gather.new.self.calls.items c.answer.new.self.answers.items
-    c.in_ok-full.ensures.gathered c.in_ok-answer.ensures.answered c.in_ok-answer.ensures.later c.in_ok-full.ensures.keeps told
+    c.in_ok-full.ensures.gathered c.in_ok-full.ensures.lines c.in_ok-answer.ensures.answered c.in_ok-answer.ensures.later c.in_ok-full.ensures.keeps told

@@ -1,6 +1,7 @@
 use Rattle.std.specs.Io.KnownBytes.{prepend_known}
 use Rattle.std.specs.String.{string_bytes}
 use Rattle.std.proofs.lemmas.Result.{err_from_is_err_and}
+use Rattle.rly_stream.proofs.Flows.{begins_broken}
 use Rattle.rly_daemon.proofs.Texts.{answers_line, begins_line, begins_answer}
 use Rattle.rly_daemon.proofs.simulation.answer_next.Goals as goal
 
@@ -17,7 +18,8 @@ returns-in_err-write_whole-clause-begun g c =
     let line = rw c.if-not-branch.false at c.in_ok-next_line.ensures.line in
     let state = rw c.line.ensures at c.in_ok-answer_line.ensures.state in
     let text = rw c.line.ensures at c.in_ok-answer_line.ensures.text in
-    let begun = rw c.as_bytes.ensures.value at c.in_err-write_whole.ensures.begun in
+    let broken = rw c.as_bytes.ensures.value at c.in_err-write_whole.ensures.begun in
+    let begun = begins_broken (g.W.Write.contents c.hand_on.new.writer) (g.W.Write.contents c.write_whole.new.writer) (string_bytes c.answer_line.new.text) broken in
     rw failed.1
     (begins_line (prepend_known c.args.lines.now.ahead (g.R.Read.remaining c.args.reader.now)) (prepend_known c.next_line.new.self.ahead (g.R.Read.remaining c.next_line.new.reader))
     (g.W.Write.contents c.args.writer.now) (g.W.Write.contents c.hand_on.new.writer) (g.W.Write.contents c.write_whole.new.writer)

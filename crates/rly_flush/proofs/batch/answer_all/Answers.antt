@@ -44,6 +44,7 @@ loop-answer-preserved g c =
             (drain_items c.next.new.self) here cut kept.left kept.legal c.answer.new.self c.answer.ensures.taken c.answer.ensures.start c.answer.ensures.history;
         history = then_history c.loop-answer.line (drop c.loop-answer.next (said_of c.args.said.now)) c.index.result.now.value rest (drain_items c.loop-answer.answer-iterator) c.in-Some.answer
             (drain_items c.next.new.self) here cut kept.left kept.legal c.answer.new.self c.answer.ensures.taken c.answer.ensures.start c.answer.ensures.history ∙ kept.history;
+        of = c.answer.ensures.of ∙ kept.of;
         taken = c.answer.ensures.taken ∙ kept.taken;
         start = c.answer.ensures.start ∙ kept.start;
         holds = c.answer.ensures.holds;

@@ -15,6 +15,7 @@ invariant-loop-answer g l =
       left : AreLeft l.line (drop l.next (said_of l.fn.said));
       legal : LegalBy without_bytes (harm_after 0 l.line.history) (state_after l.line.start l.line.history) (zip (drop l.next (said_of l.fn.said)) (drain_items l.answer-iterator));
       history : l.line.history ++ zip (drop l.next (said_of l.fn.said)) (drain_items l.answer-iterator) ≡ l.fn.line.history ++ zip (said_of l.fn.said) l.fn.answers.items;
+      of : l.line.of ≡ l.fn.line.of;
       taken : l.line.taken ≡ l.fn.line.taken;
       start : l.line.start ≡ l.fn.line.start;
       holds : IsResponding l.line;

@@ -22,7 +22,7 @@ served c = elim c.match-ask.branch [
       subst (λ h. IsServed c.args.call (answer_of c) c.args.group.now h c.args.machine.now.state c.match-ask.machine.state) (sym w.group-is)
       (subst (λ m. IsServed c.args.call (answer_of c) c.args.group.now c.args.group.now c.args.machine.now.state m.state) (sym w.machine-is)
       (query_served c.args.call w.in-Query.query (answer_of c) c.args.group.now c.args.machine.now.state w.in-Query.is refl refl
-      (w.reply-is ∙ w.in-Ok.ensures) (c.seq.ensures ∙ ap (λ m. m.state.seq) w.machine-is)))
+      (w.reply-is ∙ w.in-Ok.ensures.reply) (c.seq.ensures ∙ ap (λ m. m.state.seq) w.machine-is)))
   | in-Query+in-Err w ↦
       starved_served c.args.call (answer_of c) c.args.group.now c.match-ask.group c.args.machine.now.state c.match-ask.machine.state
       refl refl w.reply-is (ap (λ m. m.state) w.machine-is) w.group-is c.seq.ensures

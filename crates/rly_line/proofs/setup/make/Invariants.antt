@@ -7,8 +7,8 @@ use Rattle.rly_line.proofs.setup.make.Given as goal
 -- so many seats, their lines, and room for the others
 abbrev pub invariant-loop-number : goal.invariant-loop-number
 invariant-loop-number l = record {
-  line : l.line ≡ record { seats = l.number; taken = [] };
-  made : l.made.items ≡ map new_caller (range_with_len 0 l.number);
+  line : l.line ≡ record l.line { seats = l.number; taken = [] };
+  made : l.made.items ≡ map (new_caller l.line.of) (range_with_len 0 l.number);
   replies : l.replies.items ≡ map new_teller (range_with_len 0 l.number);
   count : vec_len l.made ≡ l.number;
   reply_count : vec_len l.replies ≡ l.number;

@@ -5,4 +5,4 @@ pub new-calls-requires : goal.new-calls-requires
 new-calls-requires g c = (2, c.in_ok-seats.ensures.end)
 
 pub answer_one-requires : goal.answer_one-requires
-answer_one-requires g c = in_step_first _ _ _ c.new-calls.ensures.same
+answer_one-requires g c = in_step_first _ _ _ _ c.new-calls.ensures.same

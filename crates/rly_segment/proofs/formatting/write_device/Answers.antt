@@ -1,7 +1,8 @@
-use Rattle.std.proofs.Common.{◌≡◌, ◌↔◌, ◌∙◌, List, ℕ, IsTrue, length, subst, sym}
+use Rattle.std.proofs.Common.{◌≡◌, ◌↔◌, ◌∙◌, List, ℕ, IsTrue, arith, inl, length, subst, sym}
 use Rattle.std.proofs.lemmas.Result.{on_ok_weaker}
 use Rattle.rly_gate.specs.Group.{IsClosed}
 use Rattle.rly_segment.specs.Device.{IsGeometry}
+use Rattle.rly_segment.proofs.Beside.{beside_closed, beside_next, beside_row}
 use Rattle.rly_segment.proofs.Devices.{format_closed, format_done, format_filled, format_leaves}
 use Rattle.rly_segment.proofs.HeadWriting.{new_head_room}
 use Rattle.rly_segment.proofs.formatting.write_device.Goals as goal
@@ -50,3 +51,33 @@ returns-clause-formatted g c settled =
     on_ok_weaker c.settle.result
     (format_done c.args.geometry.now c.args.head.now _ _ c.requires.head (subst (IsGeometry c.args.geometry.now) count c.requires.geometry) (c.in_ok-write_contents.ensures.filled second))
     (c.settle.ensures.written third)
+
+pub returns-in_err-close_gate-clause-beside : goal.returns-in_err-close_gate-clause-beside
+returns-in_err-close_gate-clause-beside g c settled =
+    let only = c.reads_closed.ensures.only in
+    let read = c.in_ok-closed.ensures.read settled.honest in
+    let closed = subst (λ (l : List ℕ). IsTrue c.in_ok-closed.closed ↔ IsClosed l 0) (sym (only.crash settled.honest).seen) read in
+    let first = only.settled settled in
+    let begun = beside_closed c.args.geometry.now settled only (c.close_gate.ensures.any_moment first closed) in
+    begun
+
+pub returns-in_err-write_contents-clause-beside : goal.returns-in_err-write_contents-clause-beside
+returns-in_err-write_contents-clause-beside g c settled =
+    let only = c.reads_closed.ensures.only in
+    let read = c.in_ok-closed.ensures.read settled.honest in
+    let closed = subst (λ (l : List ℕ). IsTrue c.in_ok-closed.closed ↔ IsClosed l 0) (sym (only.crash settled.honest).seen) read in
+    let first = only.settled settled in
+    let begun = beside_closed c.args.geometry.now settled only (c.close_gate.ensures.any_moment first closed) in
+    beside_row c.args.geometry.now (c.in_ok-close_gate.ensures.ok first) begun (c.write_contents.ensures.beside (c.in_ok-close_gate.ensures.ok first))
+
+pub returns-clause-beside : goal.returns-clause-beside
+returns-clause-beside g c settled =
+    let only = c.reads_closed.ensures.only in
+    let read = c.in_ok-closed.ensures.read settled.honest in
+    let closed = subst (λ (l : List ℕ). IsTrue c.in_ok-closed.closed ↔ IsClosed l 0) (sym (only.crash settled.honest).seen) read in
+    let first = only.settled settled in
+    let begun = beside_closed c.args.geometry.now settled only (c.close_gate.ensures.any_moment first closed) in
+    let second = c.in_ok-close_gate.ensures.ok first in
+    beside_next c.args.geometry.now 0 1 (inl (omega arith)) (c.in_ok-write_contents.ensures.ok second)
+    (beside_row c.args.geometry.now second begun (c.write_contents.ensures.beside second))
+    (c.settle.ensures.any_moment (c.in_ok-write_contents.ensures.ok second))

@@ -24,7 +24,7 @@ loop-self-preserved g c =
           (asks_of c.loop-self.self.calls.items) (asks_of c.take_line.new.self.calls.items) c.loop-self.invariant.0 line put.slots put.asks,
       few_calls c.loop-self.self.calls.items c.take_line.new.self.calls.items c.loop-self.self.slots.items c.take_line.new.self.slots.items (ask_of c.take_line.new.lines.line)
           c.loop-self.invariant.1 put.slots put.asks,
-      omega (arith, count, c.len.ensures, c.loop-self-test.true, c.loop-self.invariant.6, c.requires.most.1),
+      omega (arith, count, c.len.ensures, c.loop-self-test.true, c.in_ok-take_line.ensures.most),
       (λ _. (omega (arith, more.0, c.loop-self.invariant.4), more.1)),
       omega (arith, more.0, c.loop-self.invariant.4),
       c.in_ok-take_line.ensures.answers ∙ c.loop-self.invariant.5,

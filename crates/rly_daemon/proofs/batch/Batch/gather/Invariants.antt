@@ -8,7 +8,7 @@ invariant-loop-self g l =
     Gathers (prepend_known l.fn.lines.ahead (g.R.Read.remaining l.fn.reader)) (prepend_known l.lines.ahead (g.R.Read.remaining l.reader))
     l.self.slots.items (asks_of l.self.calls.items)
     × (length l.self.calls.items ≤ length l.self.slots.items)
-    × (length l.self.slots.items ≤ 64)
+    × (length l.self.slots.items ≤ l.self.most)
     × (0 < length l.self.slots.items → (l.fn.lines.taken < l.lines.taken) × (l.lines.taken < 2 ^ 64))
     × (l.fn.lines.taken ≤ l.lines.taken)
     × (l.self.answers ≡ l.fn.self.answers)

@@ -60,7 +60,7 @@ invariant_of-self-2 g c =
     let calls : List Call = c.collect.new.calls.items in
     let given : List Answer = c.commit.new.answers.items in
     let line = line_now old.line c.collect.new.line c.answer_all.new.line calls (said_of c.collect.new.said) given c.collect.ensures.taken c.collect.ensures.said
-    c.answer_all.ensures.taken c.answer_all.ensures.start c.answer_all.ensures.history in
+    c.answer_all.ensures.of c.answer_all.ensures.taken c.answer_all.ensures.start c.answer_all.ensures.history in
     let lines = c.answer_all.new.line.lines in
     let kept = kept_next g.D.Disk.state g.met.D.Disk.consistent old c.self.invariant.0 c.commit.new.journal lines calls given now
     (subst IsResponding line c.answer_all.ensures.holds) in (
@@ -87,7 +87,7 @@ returns-clause-history g c =
     let calls : List Call = c.collect.new.calls.items in
     let given : List Answer = c.commit.new.answers.items in
     let line = line_now old.line c.collect.new.line c.answer_all.new.line calls (said_of c.collect.new.said) given c.collect.ensures.taken c.collect.ensures.said
-    c.answer_all.ensures.taken c.answer_all.ensures.start c.answer_all.ensures.history in
+    c.answer_all.ensures.of c.answer_all.ensures.taken c.answer_all.ensures.start c.answer_all.ensures.history in
     let lines = c.answer_all.new.line.lines in
     let kept = kept_next g.D.Disk.state g.met.D.Disk.consistent old c.self.invariant.0 c.commit.new.journal lines calls given now
     (subst IsResponding line c.answer_all.ensures.holds) in
@@ -106,7 +106,7 @@ returns-clause-failures g c =
     let calls : List Call = c.collect.new.calls.items in
     let given : List Answer = c.commit.new.answers.items in
     let line = line_now old.line c.collect.new.line c.answer_all.new.line calls (said_of c.collect.new.said) given c.collect.ensures.taken c.collect.ensures.said
-    c.answer_all.ensures.taken c.answer_all.ensures.start c.answer_all.ensures.history in
+    c.answer_all.ensures.of c.answer_all.ensures.taken c.answer_all.ensures.start c.answer_all.ensures.history in
     let lines = c.answer_all.new.line.lines in
     subst (λ (f : FlusherState g.row.D.Denot). GrewInRound g.D.Disk.state f (record { first = old.first; journal = c.commit.new.journal; line = c.answer_all.new.line })) c.self.view_is
     (subst (λ (l : Responding). GrewInRound g.D.Disk.state old (record { first = old.first; journal = c.commit.new.journal; line = l })) (sym line)
@@ -124,7 +124,7 @@ returns-clause-any_moment g c =
     let calls : List Call = c.collect.new.calls.items in
     let given : List Answer = c.commit.new.answers.items in
     let line = line_now old.line c.collect.new.line c.answer_all.new.line calls (said_of c.collect.new.said) given c.collect.ensures.taken c.collect.ensures.said
-    c.answer_all.ensures.taken c.answer_all.ensures.start c.answer_all.ensures.history in
+    c.answer_all.ensures.of c.answer_all.ensures.taken c.answer_all.ensures.start c.answer_all.ensures.history in
     let lines = c.answer_all.new.line.lines in
     let last : FlusherState g.row.D.Denot = record { first = old.first; journal = c.commit.new.journal; line = c.answer_all.new.line } in
     subst (λ (f : FlusherState g.row.D.Denot). (g.D.Disk.state f.journal.disk).honest → f.first.broken ≡ false → IsCrashSafe g.D.Disk.state f last) c.self.view_is

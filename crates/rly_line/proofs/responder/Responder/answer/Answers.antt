@@ -18,11 +18,11 @@ invariant_of-self g c =
     let next = rw (← c.self.view_is) at c.requires.next in
     let answered = rw (← c.self.view_is) at c.requires.answered in
     after_ok c.self.inside.line c.self.inside.story c.push.new.self c.args.call.now.value c.args.answer c.self.invariant next answered c.push.ensures
-    c.tell.new.self c.tell.result c.tell.ensures.taken c.tell.ensures.told
+    c.tell.new.self c.tell.result c.tell.ensures.of c.tell.ensures.taken c.tell.ensures.told
 
 pub returns-clause-holds : goal.returns-clause-holds
 returns-clause-holds g c =
     let next = rw (← c.self.view_is) at c.requires.next in
     let answered = rw (← c.self.view_is) at c.requires.answered in
     after_ok c.self.inside.line c.self.inside.story c.push.new.self c.args.call.now.value c.args.answer c.self.invariant next answered c.push.ensures
-    c.tell.new.self c.tell.result c.tell.ensures.taken c.tell.ensures.told
+    c.tell.new.self c.tell.result c.tell.ensures.of c.tell.ensures.taken c.tell.ensures.told

@@ -1,7 +1,0 @@
-use Rattle.std.proofs.Common.{◌∙◌, ap}
-use Rattle.rly_daemon.specs.CommandLine.{sim_app, with_param_rules}
-use Rattle.rly_daemon.proofs.command_line.sim.Goals as goal
-
-pub returns : goal.returns
-unfolding sim_app
-returns c = c.in_ok-with_options.ensures ∙ ap with_param_rules c.named-bare.ensures

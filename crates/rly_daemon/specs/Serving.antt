@@ -1,0 +1,53 @@
+-- What a relay needs of its device, and the workers that it starts.
+use Rattle.std.specs.Prelude.{◌⊎◌, ℕ, ◌<◌, ◌≤◌, List, ◌++◌, map, length, Option}
+use Rattle.std.specs.List.{range_with_len}
+use Rattle.std.specs.Option.{option_map}
+use Rattle.rly_core.specs.declared.params.Params.{Params}
+use Rattle.rly_daemon.specs.WallClock.{turns_left}
+use Rattle.rly_plan.specs.ContactPlan.{ContactPlan, hop_at, peer_at}
+use Rattle.rly_plan.specs.Endpoints.{Endpoints}
+use Rattle.rly_threads.specs.declared.turn.Worker.{Worker}
+use Rattle.rly_threads.specs.declared.turn.Worker.TheVariants as worker
+
+-- a device has each peer and each hop of a plan
+pub record HasRoom (plan : ContactPlan) (params : Params) : Type 0 where
+  pub peers : length plan.peers ≤ params.peers
+  pub hops : length plan.hops ≤ params.hops
+
+-- a plan has more peers or more hops than a device
+abbrev pub LacksRoom : ContactPlan → Params → Type 0
+LacksRoom plan params = (params.peers < length plan.peers) ⊎ (params.hops < length plan.hops)
+
+-- the receivers of so many peers, whose ids are 1, 2, 3, ..
+abbrev pub receivers : ℕ → List Worker
+receivers count = map (λ id. worker.Receiver (record { 0 = id })) (range_with_len 1 count)
+
+-- the senders to so many hops
+abbrev pub senders : ℕ → List Worker
+senders count = map (λ id. worker.Sender (record { 0 = id })) (range_with_len 1 count)
+
+-- a receiver for each peer of a plan, and a sender for each hop
+abbrev pub workers_of : ContactPlan → List Worker
+workers_of plan = receivers (length plan.peers) ++ senders (length plan.hops)
+
+-- the addresses of the link with a worker's neighbour, if the plan has that neighbour
+abbrev pub addresses_of : ContactPlan → Worker → Option Endpoints
+addresses_of plan (worker.Receiver peer) = option_map (λ n. n.addresses) (peer_at plan peer)
+addresses_of plan (worker.Sender hop) = option_map (λ n. n.addresses) (hop_at plan hop)
+
+-- a worker, the addresses of its link, and how many turns it has
+pub record Duty : Type 0 where
+  pub worker : Worker
+  pub addresses : Option Endpoints
+  pub left : Option ℕ
+
+abbrev pub duty : Worker → Option Endpoints → Option ℕ → Duty
+duty w addresses left = record { worker = w; addresses = addresses; left = left }
+
+-- what a plan says of a worker
+abbrev pub duty_of : ContactPlan → ℕ → Worker → Duty
+duty_of plan turns w = duty w (addresses_of plan w) (turns_left turns)
+
+-- what a plan says of all workers, in the order of their ids, the receivers first
+abbrev pub duties : ContactPlan → ℕ → List Duty
+duties plan turns = map (duty_of plan turns) (workers_of plan)

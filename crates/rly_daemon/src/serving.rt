@@ -1,0 +1,171 @@
+//! The running relay: what it needs of its device, its workers, and how it ends.
+
+ghost use Rattle.std.specs.Prelude.{◌≡◌, ◌++◌, Err, IfErr, IfOk, IsOk, OnOk, Some, false, map, option_copied, true};
+ghost use Rattle.rly_core.specs.declared.refusal.Refusal.TheVariants as refusal;
+ghost use Rattle.rly_daemon.specs.declared.fault.ServeFault.TheVariants as fault;
+ghost use Rattle.rly_daemon.specs.Serving.{HasRoom, LacksRoom, addresses_of, duties, duty, duty_of, receivers, senders, workers_of};
+ghost use Rattle.rly_plan.specs.Sound.{IsSound};
+
+use crate::fault::ServeFault;
+use crate::udp_link::UdpLink;
+use crate::wall_clock::WallClock;
+use rly_core::{HopId, Params, PeerId, Refusal};
+use rly_disk::Disk;
+use rly_journal::Journal;
+use rly_plan::{Addresses, Plan, law_plan_is_sound};
+use rly_threads::{LinkFault, Post, Worker, run_relay};
+use std::alloc::{AllocError, Global};
+use std::fs;
+use std::fs::{File, Files};
+use std::io::ErrorKind;
+use std::net::Net;
+use std::sync::Wait;
+use std::thread::Threads;
+use std::time::Clock;
+
+/// A worker of the relay, its link and its turns.
+type UdpPost<'a, H> = Post<UdpLink<&'a H>, WallClock<&'a H>>;
+
+/// Reads a plan from a file.
+pub(crate) fn read_plan<H: AllocGlobal + Files<File = File>>(
+    rt: &H,
+    path: &str,
+) -> Result<Plan, ServeFault>
+    ensures { IfOk result (λ plan. IsSound plan) }
+{
+    match fs::read_to_string(rt, path) {
+        Ok(text) => {
+            law_plan_is_sound();
+            Ok(Plan::from_toml(rt.alloc(), text.as_str())?)
+        }
+        Err(error) if error.kind() == ErrorKind::OutOfMemory => {
+            Err(ServeFault::Refused(Refusal::OutOfMemory))
+        }
+        Err(_) => Err(ServeFault::Plan),
+    }
+}
+
+/// Runs the relay of a plan on a journal until each worker had its turns: without end, where they are 0.
+pub(crate) fn serve<H: AllocGlobal + Net + Threads + Wait + Clock + Sync, D: Disk + Drop>(
+    rt: &H,
+    journal: Journal<D>,
+    plan: &Plan,
+    turns: u64,
+) -> Result<(), ServeFault>
+    requires sound { IsSound plan.now }
+    ensures room { OnOk result (HasRoom plan.now journal.state.params) }
+    ensures lacks { LacksRoom plan.now journal.state.params → result ≡ Err (fault.Refused refusal.BadGeometry) }
+{
+    check_room(plan, journal.params())?;
+    let posts = posts_of(rt, plan, turns)?;
+    match run_relay(rt, rt.alloc(), journal, plan, posts) {
+        Ok(relayed) => outcome_of(relayed.finished.broken, relayed.complete),
+        Err(_journal) => Err(ServeFault::Refused(Refusal::OutOfMemory)),
+    }
+}
+
+/// Refuses a plan that has more peers or hops than the device.
+fn check_room(plan: &Plan, params: Params) -> Result<(), Refusal>
+    ensures room { OnOk result (HasRoom plan.now params) }
+    ensures lacks { IfErr result (λ refused. (refused ≡ refusal.BadGeometry) × LacksRoom plan.now params) }
+{
+    let peers = plan.peer_count() as u64;
+    let hops = plan.hop_count() as u64;
+    if peers > params.peers || hops > params.hops {
+        return Err(Refusal::BadGeometry);
+    }
+    Ok(())
+}
+
+/// How a relay ended that was started.
+fn outcome_of(is_broken: bool, is_complete: bool) -> Result<(), ServeFault>
+    ensures broken { is_broken ≡ true → result ≡ Err (fault.Refused refusal.Broken) }
+    ensures worker { is_broken ≡ false → is_complete ≡ false → result ≡ Err fault.Worker }
+    ensures ok { is_broken ≡ false → is_complete ≡ true → IsOk result }
+{
+    if is_broken {
+        return Err(ServeFault::Refused(Refusal::Broken));
+    }
+    if !is_complete {
+        return Err(ServeFault::Worker);
+    }
+    Ok(())
+}
+
+/// The workers of a plan, each with its link and its turns.
+fn posts_of<'a, H: AllocGlobal + Net + Clock>(
+    rt: &'a H,
+    plan: &Plan,
+    turns: u64,
+) -> Result<Vec<UdpPost<'a, H>>, ServeFault>
+    requires { IsSound plan.now }
+    ensures { IfOk result (λ posts. map (λ post. duty post.worker (Some post.link.addresses.value) post.turn.left) posts.items ≡ duties plan.now turns) }
+{
+    let mut posts = Vec::new(rt.alloc());
+    for worker in workers_of(rt.alloc(), plan)? {
+        let post = post_of(rt, plan, worker, turns)?;
+        posts.push(post).map_err(|_| AllocError)?;
+    }
+    Ok(posts)
+}
+
+/// A worker of a plan, with its link and its turns. One whose neighbour isn't in the plan has no link.
+fn post_of<'a, H: Net + Clock>(
+    rt: &'a H,
+    plan: &Plan,
+    worker: Worker,
+    turns: u64,
+) -> Result<UdpPost<'a, H>, LinkFault>
+    ensures { IfOk result (λ post. duty post.worker (Some post.link.addresses.value) post.turn.left ≡ duty_of plan.now turns worker) }
+{
+    let Some(addresses) = addresses_of(plan, worker) else {
+        return Err(LinkFault);
+    };
+    Ok(Post {
+        worker,
+        link: UdpLink::open(rt, rt, addresses)?,
+        turn: WallClock::new(rt, turns),
+    })
+}
+
+/// The addresses of a worker's link.
+fn addresses_of(plan: &Plan, worker: Worker) -> Option<&Addresses>
+    ensures { option_copied result ≡ addresses_of plan.now worker }
+{
+    let neighbour = match worker {
+        Worker::Receiver(peer) => plan.peer(peer),
+        Worker::Sender(hop) => plan.hop(hop),
+    };
+    Some(&neighbour?.addresses)
+}
+
+/// A receiver for each peer of a plan, and a sender for each hop.
+fn workers_of(alloc: Global, plan: &Plan) -> Result<Vec<Worker>, AllocError>
+    requires { IsSound plan.now }
+    ensures { IfOk result (λ workers. workers.items ≡ workers_of plan.now) }
+{
+    let mut workers = Vec::new(alloc);
+    add_receivers(&mut workers, plan.peer_count() as u16)?;
+    add_senders(&mut workers, plan.hop_count() as u16)?;
+    Ok(workers)
+}
+
+/// Adds the receivers of so many peers.
+fn add_receivers(workers: &mut Vec<Worker>, count: u16) -> Result<(), AllocError>
+    ensures { OnOk result (workers.new.items ≡ workers.old.items ++ receivers count) }
+{
+    for index in 0..count {
+        workers.push(Worker::Receiver(PeerId(index + 1)))?;
+    }
+    Ok(())
+}
+
+/// Adds the senders to so many hops.
+fn add_senders(workers: &mut Vec<Worker>, count: u16) -> Result<(), AllocError>
+    ensures { OnOk result (workers.new.items ≡ workers.old.items ++ senders count) }
+{
+    for index in 0..count {
+        workers.push(Worker::Sender(HopId(index + 1)))?;
+    }
+    Ok(())
+}

@@ -1,0 +1,126 @@
+ghost use Rattle.std.specs.Prelude.{◌≡◌, ◌≤◌, ◌-◌, ◌^◌, ◌↔◌, IfOk, IsTrue};
+ghost use Rattle.rly_threads.specs.Ends.{Rose};
+
+use rly_plan::Addresses;
+use rly_threads::{Link, LinkFault};
+use std::io::ErrorKind;
+use std::net::{Net, SocketAddr, ToSocketAddrs, UdpSocket};
+use std::snapshot::Snapshot;
+use std::time::{Clock, Duration};
+use std::{io, thread};
+
+/// How long a receive waits for a packet, in milliseconds.
+const WAIT: u64 = 10;
+
+/// A link over UDP. It receives from any address, and sends to one.
+///
+/// A packet longer than the buffer of a receive is cut by the system. No message is as long as a
+/// worker's buffer, so what is cut is none. What a socket gives and what becomes of a packet is
+/// proved nowhere: this link tells neither.
+#[derive(Drop)]
+pub struct UdpLink<C: Clock + Drop> {
+    socket: UdpSocket,
+    remote: SocketAddr,
+    clock: C,
+    failures: u64,
+    addresses: Snapshot<Addresses>,
+}
+
+impl<C: Clock + Drop> UdpLink<C> {
+    /// A link that receives at `listen` and sends to the first address that `remote` names. A name
+    /// is looked up once, here. It fails where the system refuses either text.
+    pub fn open<N: Net>(net: &N, clock: C, addresses: &Addresses) -> Result<UdpLink<C>, LinkFault>
+        ensures addresses { IfOk result (λ link. link.addresses.value ≡ addresses.now) }
+        ensures failures { IfOk result (λ link. link.failures ≡ 0) }
+    {
+        match opened(net, addresses.listen(), addresses.remote()) {
+            Ok((socket, remote)) => Ok(UdpLink {
+                socket,
+                remote,
+                clock,
+                failures: 0,
+                addresses: Snapshot::of(addresses),
+            }),
+            Err(_) => Err(LinkFault),
+        }
+    }
+
+    /// Whether the count of failures stands at its last value, where each call fails.
+    fn is_spent(&self) -> bool
+        ensures { IsTrue result ↔ (2 ^ 64 - 1 ≤ self.now.failures) }
+    {
+        self.failures == u64::MAX
+    }
+
+    /// Counts a call that failed.
+    fn fail(&mut self) -> LinkFault
+        ensures { Rose self.old.failures self.new.failures }
+    {
+        self.failures = self.failures.saturating_add(1);
+        LinkFault
+    }
+}
+
+impl<C: Clock + Drop> Link for UdpLink<C> {
+    ghost use Rattle.std.specs.Prelude.{◌≡◌, ◌≤◌, ◌-◌, ◌^◌, IfOk, IfSome, IsErr, None, OnErr, length};
+    ghost use Rattle.rly_threads.specs.Ends.{Rose};
+
+    ghost heard = { λ _. None };
+
+    ghost sent = { λ _. None };
+
+    ghost failed = { λ l. l.failures };
+
+    fn recv(&mut self, buffer: &mut [u8]) -> Result<Option<usize>, LinkFault>
+        ensures bound { IfOk result (λ found. IfSome found (λ count. count ≤ length buffer.new)) }
+        ensures rise { OnErr result (Rose self.old.failures self.new.failures) }
+        ensures spent { self.old.failures ≡ 2 ^ 64 - 1 → IsErr result }
+    {
+        if !self.is_spent() {
+            match self.socket.recv(buffer) {
+                Ok(count) => return Ok(Some(count)),
+                Err(error) if is_silence(error.kind()) => return Ok(None),
+                Err(_) => {}
+            }
+        }
+        // A receive that fails at once is not to keep the processor busy.
+        thread::sleep(&self.clock, Duration::from_millis(WAIT));
+        Err(self.fail())
+    }
+
+    fn send(&mut self, packet: &[u8]) -> Result<(), LinkFault>
+        ensures rise { OnErr result (Rose self.old.failures self.new.failures) }
+        ensures spent { self.old.failures ≡ 2 ^ 64 - 1 → IsErr result }
+    {
+        if self.is_spent() {
+            return Err(self.fail());
+        }
+        match self.socket.send_to(packet, self.remote) {
+            Ok(_) => Ok(()),
+            Err(_) => Err(self.fail()),
+        }
+    }
+
+    fn failures(&self) -> u64 {
+        self.failures
+    }
+}
+
+/// A socket at an address, and the first address that a text names.
+fn opened<N: Net>(net: &N, listen: &str, remote: &str) -> io::Result<(UdpSocket, SocketAddr)> {
+    let socket = UdpSocket::bind(net, listen)?;
+    socket.set_read_timeout(Some(Duration::from_millis(WAIT)))?;
+    match remote.to_socket_addrs(net)?.next() {
+        Some(remote) => Ok((socket, remote)),
+        None => Err(io::Error::from(ErrorKind::AddrNotAvailable)),
+    }
+}
+
+/// Whether a receive ended without a packet, and without a fault: nothing came in its waiting time, or
+/// a signal cut it short.
+fn is_silence(kind: ErrorKind) -> bool {
+    matches!(
+        kind,
+        ErrorKind::WouldBlock | ErrorKind::TimedOut | ErrorKind::Interrupted
+    )
+}

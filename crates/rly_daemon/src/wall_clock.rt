@@ -1,0 +1,76 @@
+ghost use Rattle.std.specs.Prelude.{◌≡◌};
+ghost use Rattle.rly_daemon.specs.WallClock.{goes_on, left_at, moment_of, turns_left};
+
+use rly_threads::{Go, Point, Turn, Worker};
+use std::sync::Wait;
+use std::time::{Clock, Duration};
+
+/// A turn that hands its worker the wall clock, and ends it after a number of turns.
+#[derive(Drop)]
+pub struct WallClock<C: Clock + Drop> {
+    clock: C,
+    now: u64,
+    left: Option<u64>,
+}
+
+impl<C: Clock + Drop> WallClock<C> {
+    /// It ends its worker after so many turns: never, where they are 0.
+    pub fn new(clock: C, turns: u64) -> WallClock<C>
+        ensures { result.left ≡ turns_left turns }
+    {
+        let left = if turns == 0 { None } else { Some(turns) };
+        WallClock {
+            clock,
+            now: 0,
+            left,
+        }
+    }
+
+    /// What it hands out at a point. The clock is read at the start of a turn.
+    fn go(&mut self, point: Point) -> Go
+        ensures on { result.on ≡ goes_on point self.old.left }
+        ensures now { result.now ≡ self.new.now }
+        ensures left { self.new.left ≡ left_at point self.old.left }
+    {
+        if point != Point::Start {
+            return Go {
+                now: self.now,
+                on: true,
+            };
+        }
+        self.now = moment_of(self.clock.since_1970().ok());
+        let on = self.left != Some(0);
+        self.left = match self.left {
+            Some(left) => Some(left.saturating_sub(1)),
+            None => None,
+        };
+        Go { now: self.now, on }
+    }
+}
+
+impl<C: Clock + Drop> Turn for WallClock<C> {
+    ghost use Rattle.std.specs.Prelude.{◌≡◌, None};
+    ghost use Rattle.rly_daemon.specs.WallClock.{goes_on, left_at};
+
+    ghost told = { λ _. None };
+
+    fn between<R: Wait>(&mut self, rt: &R, worker: Worker, point: Point) -> Go
+        ensures on { result.on ≡ goes_on point self.old.left }
+        ensures left { self.new.left ≡ left_at point self.old.left }
+    {
+        let _ = rt;
+        let _ = worker;
+        self.go(point)
+    }
+}
+
+/// A moment in microseconds since the Unix epoch: 0 where the clock can't be read or stands before
+/// it, and never above the last that has 64 bits.
+fn moment_of(since_1970: Option<Duration>) -> u64
+    ensures { result ≡ moment_of since_1970 }
+{
+    match since_1970 {
+        Some(time) => u64::try_from(time.as_micros()).unwrap_or(u64::MAX),
+        None => 0,
+    }
+}

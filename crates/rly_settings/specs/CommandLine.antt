@@ -1,0 +1,123 @@
+-- What the words of a command line ask for (docs/COMMANDS.md): the settings that clap's matches of the words have.
+use Rattle.std.specs.Prelude.{◌≡◌, ℕ, List, [], ◌∷◌, true, Option, Some, None, codes, unwrap_or}
+use Rattle.std.specs.Str.Parse.{ParsesUnsigned}
+use Rattle.std.specs.declared.num.ParseIntError.{ParseIntError}
+use Rattle.clap.specs.Words.{App, ReadsOne, Row, Rule, Text, first_of, new_app, new_rule, one_of, subcommand_of, with_rule, with_subcommand}
+use Rattle.clap.specs.declared.builder.action.ArgAction.TheVariants.{Set}
+use Rattle.clap.specs.declared.builder.value_parser.ValueParser.TheVariants as parser
+use Rattle.rly_core.specs.declared.params.Params.{Params}
+use Rattle.rly_settings.specs.declared.given.Settings.{Settings}
+use Rattle.rly_settings.specs.declared.given.Settings.TheVariants.{Sim, Format, Play, Audit, Serve}
+
+-- ---- the command line
+
+-- an option that takes a number below 2^64
+abbrev pub number_rule : Text → Rule
+number_rule name = record (new_rule name) {
+  long = Some name;
+  action = Some Set;
+  value_names = 1;
+  parser = Some (parser.Unsigned 0 18446744073709551615);
+}
+
+-- one that has a default
+abbrev pub option_rule : Text → Text → Rule
+option_rule name default = record (number_rule name) { defaults = default ∷ [] }
+
+-- a path that a command works on
+abbrev pub path_rule : Text → Rule
+path_rule name = record (new_rule name) { action = Some Set; value_names = 1; required = true }
+
+-- how many lines make a round, 1 to 64
+abbrev pub batch_rule : Rule
+batch_rule = record (option_rule (codes "batch") (codes "1")) { parser = Some (parser.Unsigned 1 64) }
+
+-- a command with the options for the payload bytes of a spool and for CoDel
+abbrev pub with_more_rules : App → App
+with_more_rules app = with_rule (with_rule (with_rule (with_rule app
+    (option_rule (codes "bytes") (codes "1048576")))
+    (option_rule (codes "maxpacket") (codes "1500")))
+    (option_rule (codes "target") (codes "5000")))
+    (option_rule (codes "interval") (codes "100000"))
+
+-- a command with the options for all parameters of a spool
+abbrev pub with_param_rules : App → App
+with_param_rules app = with_more_rules (with_rule (with_rule (with_rule (with_rule app
+    (option_rule (codes "hops") (codes "4")))
+    (option_rule (codes "peers") (codes "4")))
+    (option_rule (codes "window") (codes "8")))
+    (option_rule (codes "items") (codes "1024")))
+
+unfoldable pub sim_app : App
+sim_app = with_param_rules (new_app (codes "sim"))
+
+unfoldable pub format_app : App
+format_app = with_rule (with_rule (with_param_rules (with_rule (new_app (codes "format")) (path_rule (codes "file"))))
+    (option_rule (codes "segments") (codes "2"))) (number_rule (codes "length"))
+
+unfoldable pub play_app : App
+play_app = with_rule (with_rule (new_app (codes "play")) (path_rule (codes "file"))) batch_rule
+
+unfoldable pub audit_app : App
+audit_app = with_rule (new_app (codes "audit")) (path_rule (codes "file"))
+
+unfoldable pub serve_app : App
+serve_app = with_rule (with_rule (with_rule (new_app (codes "serve")) (path_rule (codes "file"))) (path_rule (codes "plan")))
+    (option_rule (codes "turns") (codes "0"))
+
+-- the program: a version, and a command, which has to be there
+unfoldable pub rly_top : App
+rly_top = let new = new_app (codes "rly") in
+    record new { top = record new.top { has_version = true; subcommand_required = true; arg_required_else_help = true } }
+
+unfoldable pub rly_app : App
+rly_app = with_subcommand (with_subcommand (with_subcommand (with_subcommand (with_subcommand rly_top
+    sim_app.top) format_app.top) play_app.top) audit_app.top) serve_app.top
+
+-- ---- what its matches ask for
+
+-- the command that clap's matches of the words name, with the row of each of its arguments
+unfoldable pub asked_of : List Text → Option (Text × List Row)
+asked_of words = subcommand_of rly_app words
+
+-- what is read of a value as a number below 2^64
+abbrev pub ReadsNumber : Option Text → Option ℕ → Type 0
+ReadsNumber None n = n ≡ None
+ReadsNumber (Some text) n = ReadsOne {E = ParseIntError} (ParsesUnsigned 64 10) text n
+
+-- the number of an option: what is read of its value, or the default
+abbrev pub HasNumber : List Row → Text → ℕ → ℕ → Type 0
+HasNumber rows name default n = (given : Option ℕ) × ReadsNumber (one_of name rows) given × (n ≡ unwrap_or given default)
+
+-- the path under a name
+abbrev pub path_in : Text → List Row → Text
+path_in name rows = unwrap_or (first_of name rows) []
+
+-- the parameters that the options give
+pub record HasParams (rows : List Row) (params : Params) : Type 0 where
+  pub hops : HasNumber rows (codes "hops") 4 params.hops
+  pub peers : HasNumber rows (codes "peers") 4 params.peers
+  pub window : HasNumber rows (codes "window") 8 params.window
+  pub items : HasNumber rows (codes "items") 1024 params.items
+  pub bytes : HasNumber rows (codes "bytes") 1048576 params.bytes
+  pub maxpacket : HasNumber rows (codes "maxpacket") 1500 params.maxpacket
+  pub target : HasNumber rows (codes "target") 5000 params.target
+  pub interval : HasNumber rows (codes "interval") 100000 params.interval
+
+-- the settings are those of the command that was named, with what its matches have
+abbrev pub IsSettings : Option (Text × List Row) → Settings → Type 0
+IsSettings None s = ⊥
+IsSettings (Some (command, rows)) (Sim params) = (command ≡ codes "sim") × HasParams rows params
+IsSettings (Some (command, rows)) (Format file params segments length) = (command ≡ codes "format")
+    × (file.now ≡ path_in (codes "file") rows)
+    × HasParams rows params
+    × HasNumber rows (codes "segments") 2 segments
+    × ReadsNumber (one_of (codes "length") rows) length
+IsSettings (Some (command, rows)) (Play file batch) = (command ≡ codes "play")
+    × (file.now ≡ path_in (codes "file") rows)
+    × HasNumber rows (codes "batch") 1 batch
+IsSettings (Some (command, rows)) (Audit file) = (command ≡ codes "audit") × (file.now ≡ path_in (codes "file") rows)
+IsSettings (Some (command, rows)) (Serve file plan turns) = (command ≡ codes "serve")
+    × (file.now ≡ path_in (codes "file") rows)
+    × (plan.now ≡ path_in (codes "plan") rows)
+    × HasNumber rows (codes "turns") 0 turns

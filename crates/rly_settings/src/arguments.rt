@@ -1,0 +1,123 @@
+ghost use Rattle.std.specs.Prelude.{◌≡◌, IfOk, false};
+ghost use Rattle.clap.specs.Words.{app_of, rule_of, with_rule};
+ghost use Rattle.rly_settings.specs.CommandLine.{batch_rule, number_rule, option_rule, path_rule, with_more_rules, with_param_rules};
+
+use clap::{Arg, ArgAction, Command, value_parser};
+use std::alloc::{AllocError, Global};
+
+/// How many lines make a round at most.
+const MAX_BATCH: i64 = 64;
+
+/// A command with one argument more.
+pub(crate) fn with_arg<'a>(command: Command<'a>, arg: Arg<'a>) -> Result<Command<'a>, AllocError>
+    requires { arg.global ≡ false }
+    ensures { IfOk result (λ new. app_of new ≡ with_rule (app_of command.entry) (rule_of arg.entry)) }
+{
+    command.arg(arg)
+}
+
+/// A command with the options for the parameters of a spool.
+pub(crate) fn with_params<'a>(
+    alloc: Global,
+    command: Command<'a>,
+) -> Result<Command<'a>, AllocError>
+    ensures { IfOk result (λ new. app_of new ≡ with_param_rules (app_of command.entry)) }
+{
+    let hops = option(alloc, "hops", "4", "Next hops, 1 to 64");
+    let peers = option(alloc, "peers", "4", "Upstream neighbours, 1 to 64");
+    let window = option(
+        alloc,
+        "window",
+        "8",
+        "Datagrams in flight for a hop, 1 to 64",
+    );
+    let items = option(alloc, "items", "1024", "Live datagrams, 1 to 16384");
+    let with_hops = with_arg(command, hops)?;
+    let with_peers = with_arg(with_hops, peers)?;
+    let with_window = with_arg(with_peers, window)?;
+    let with_items = with_arg(with_window, items)?;
+    let with_all = with_more_params(alloc, with_items)?;
+    Ok(with_all)
+}
+
+/// A command with the options for CoDel and for the payload bytes of a spool.
+fn with_more_params<'a>(alloc: Global, command: Command<'a>) -> Result<Command<'a>, AllocError>
+    ensures { IfOk result (λ new. app_of new ≡ with_more_rules (app_of command.entry)) }
+{
+    let bytes = option(
+        alloc,
+        "bytes",
+        "1048576",
+        "Live payload bytes, 1 to 16777216",
+    );
+    let maxpacket = option(
+        alloc,
+        "maxpacket",
+        "1500",
+        "CoDel drops nothing while at most this many payload bytes wait behind a datagram, 0 to 65535",
+    );
+    let target = option(
+        alloc,
+        "target",
+        "5000",
+        "CoDel's acceptable waiting time in microseconds, 1 to the interval",
+    );
+    let interval = option(
+        alloc,
+        "interval",
+        "100000",
+        "CoDel's interval in microseconds, 1 to 3600000000",
+    );
+    let with_bytes = with_arg(command, bytes)?;
+    let with_maxpacket = with_arg(with_bytes, maxpacket)?;
+    let with_target = with_arg(with_maxpacket, target)?;
+    let with_interval = with_arg(with_target, interval)?;
+    Ok(with_interval)
+}
+
+/// A path that a command works on.
+pub(crate) fn path<'a>(alloc: Global, name: &'a str, value_name: &'a str, help: &'a str) -> Arg<'a>
+    ensures rule { rule_of result ≡ path_rule name.now }
+    ensures own { result.global ≡ false }
+{
+    Arg::new(alloc, name)
+        .value_name(value_name)
+        .required(true)
+        .action(ArgAction::Set)
+        .help(help)
+}
+
+/// How many lines make a round.
+pub(crate) fn batch<'a>(alloc: Global) -> Arg<'a>
+    ensures rule { rule_of result ≡ batch_rule }
+    ensures own { result.global ≡ false }
+{
+    option(
+        alloc,
+        "batch",
+        "1",
+        "Lines that share the cost of one round's syncs, 1 to 64",
+    )
+    .value_parser(value_parser!(u64).range(1..=MAX_BATCH))
+}
+
+/// An option that takes a number, and has a default.
+pub(crate) fn option<'a>(alloc: Global, name: &'a str, default: &'a str, help: &'a str) -> Arg<'a>
+    ensures rule { rule_of result ≡ option_rule name.now default.now }
+    ensures own { result.global ≡ false }
+{
+    number(alloc, name, help).default_value(default)
+}
+
+/// An option that takes a number.
+pub(crate) fn number<'a>(alloc: Global, name: &'a str, help: &'a str) -> Arg<'a>
+    ensures rule { rule_of result ≡ number_rule name.now }
+    ensures own { result.global ≡ false }
+{
+    Arg::new(alloc, name)
+        .long(name)
+        .value_name("N")
+        .action(ArgAction::Set)
+        .value_parser(value_parser!(u64))
+        .help(help)
+}

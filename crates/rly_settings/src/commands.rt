@@ -1,0 +1,174 @@
+ghost use Rattle.std.specs.Prelude.{◌≡◌, IfOk, true};
+ghost use Rattle.clap.specs.Words.{app_of, new_app, with_subcommand};
+ghost use Rattle.rly_settings.specs.CommandLine.{audit_app, format_app, play_app, rly_app, rly_top, serve_app, sim_app};
+
+use crate::arguments::{batch, number, option, path, with_arg, with_params};
+use clap::Command;
+use std::alloc::{AllocError, Global};
+
+/// The help behind the options of `sim` and `play`.
+const LINES: &str = "Each line of standard input is one command, and gets one line of answer:
+  take PEER NUMBER HOP STAMP PAYLOAD   a datagram comes in; PAYLOAD is hexadecimal, or - for none
+  pick HOP NOW                         CoDel lets a datagram of the hop into flight, and may drop some
+  done HOP NUMBER                      the next hop took custody up to this number
+  fetch HOP NUMBER                     the payload in flight under this number
+  window HOP                           the first number in flight, and the next one
+  show HOP                             all numbers of the hop
+Any other line answers `refused 16 line`. STAMP and NOW are microseconds of the hop's link clock.";
+
+/// The help behind the options of `format`.
+const FORMATTED: &str =
+    "Prints `formatted` and the bytes that the device takes: 64, and its segments.
+Values out of their limits answer `refused 21 badgeometry` before the file is touched.";
+
+/// The help behind the options of `audit`.
+const AUDITED: &str =
+    "Prints a line for each hop, then one for each peer, the count of accepted commands, and
+`balance ok` where what was taken waits, is in flight, was dropped or was released.";
+
+/// The help behind the options of `serve`.
+const SERVED: &str =
+    "Takes datagrams from each peer of the plan, and hands them to its hops while a contact is open.
+A datagram is acknowledged once the device holds it. SIGINT or SIGTERM may end the program at any
+moment: nothing that was acknowledged is lost, and it goes on where it is started again.";
+
+/// The whole command line: its commands, options and help texts.
+pub(crate) fn program<'a>(alloc: Global) -> Result<Command<'a>, AllocError>
+    ensures { IfOk result (λ command. app_of command ≡ rly_app) }
+{
+    let sim_command = sim(alloc)?;
+    let format_command = format(alloc)?;
+    let play_command = play(alloc)?;
+    let audit_command = audit(alloc)?;
+    let serve_command = serve(alloc)?;
+    let with_sim = with_command(top(alloc), sim_command)?;
+    let with_format = with_command(with_sim, format_command)?;
+    let with_play = with_command(with_format, play_command)?;
+    let with_audit = with_command(with_play, audit_command)?;
+    let with_serve = with_command(with_audit, serve_command)?;
+    Ok(with_serve)
+}
+
+/// The program, without its commands.
+fn top<'a>(alloc: Global) -> Command<'a>
+    ensures { app_of result ≡ rly_top }
+{
+    Command::new(alloc, "rly")
+        .version("0.1.0")
+        .about("A store-and-forward datagram relay with CoDel")
+        .subcommand_required(true)
+        .arg_required_else_help(true)
+}
+
+fn sim<'a>(alloc: Global) -> Result<Command<'a>, AllocError>
+    ensures { IfOk result (λ command. app_of command ≡ sim_app) }
+{
+    let bare = named(
+        alloc,
+        "sim",
+        "Runs commands from standard input on a spool in memory",
+        LINES,
+    );
+    let with_options = with_params(alloc, bare)?;
+    Ok(with_options)
+}
+
+fn format<'a>(alloc: Global) -> Result<Command<'a>, AllocError>
+    ensures { IfOk result (λ command. app_of command ≡ format_app) }
+{
+    let bare = named(
+        alloc,
+        "format",
+        "Makes a file, or extends one, and makes a new device in it; what it held is lost",
+        FORMATTED,
+    );
+    let device = path(
+        alloc,
+        "file",
+        "FILE",
+        "The file of the device; it is made where there is none, and never shortened",
+    );
+    let with_file = with_arg(bare, device)?;
+    let with_options = with_params(alloc, with_file)?;
+    let segments = option(alloc, "segments", "2", "Segments of the device, 2");
+    let with_segments = with_arg(with_options, segments)?;
+    let length = number(
+        alloc,
+        "length",
+        "Bytes of each segment, below 2147483648; the least that fits the other options where none is given",
+    );
+    let with_length = with_arg(with_segments, length)?;
+    Ok(with_length)
+}
+
+fn play<'a>(alloc: Global) -> Result<Command<'a>, AllocError>
+    ensures { IfOk result (λ command. app_of command ≡ play_app) }
+{
+    let bare = named(
+        alloc,
+        "play",
+        "Runs commands from standard input on the device in a file",
+        LINES,
+    );
+    let device = path(alloc, "file", "FILE", "The file of the device");
+    let with_file = with_arg(bare, device)?;
+    let lines = batch(alloc);
+    let with_lines = with_arg(with_file, lines)?;
+    Ok(with_lines)
+}
+
+fn audit<'a>(alloc: Global) -> Result<Command<'a>, AllocError>
+    ensures { IfOk result (λ command. app_of command ≡ audit_app) }
+{
+    let bare = named(
+        alloc,
+        "audit",
+        "Reports what the device in a file holds, and writes nothing to it",
+        AUDITED,
+    );
+    let device = path(alloc, "file", "FILE", "The file of the device");
+    let with_file = with_arg(bare, device)?;
+    Ok(with_file)
+}
+
+fn serve<'a>(alloc: Global) -> Result<Command<'a>, AllocError>
+    ensures { IfOk result (λ command. app_of command ≡ serve_app) }
+{
+    let bare = named(
+        alloc,
+        "serve",
+        "Relays datagrams between the neighbours of a plan, on the device in a file",
+        SERVED,
+    );
+    let device = path(alloc, "file", "FILE", "The file of the device");
+    let with_file = with_arg(bare, device)?;
+    let neighbours = path(
+        alloc,
+        "plan",
+        "PLAN",
+        "The contact plan, a TOML file: the peers and hops, their addresses, contacts and routes",
+    );
+    let with_plan = with_arg(with_file, neighbours)?;
+    let turns = option(
+        alloc,
+        "turns",
+        "0",
+        "Turns of each worker; 0 is without end",
+    );
+    let with_turns = with_arg(with_plan, turns)?;
+    Ok(with_turns)
+}
+
+/// A command with its help texts.
+fn named<'a>(alloc: Global, name: &'a str, about: &'a str, behind: &'a str) -> Command<'a>
+    ensures { app_of result ≡ new_app name.now }
+{
+    Command::new(alloc, name).about(about).after_help(behind)
+}
+
+/// A command with one command more below it.
+fn with_command<'a>(command: Command<'a>, below: Command<'a>) -> Result<Command<'a>, AllocError>
+    ensures { IfOk result (λ new. (app_of below.entry).top.is_plain ≡ true → app_of new ≡ with_subcommand (app_of command.entry) (app_of below.entry).top) }
+{
+    command.subcommand(below)
+}

@@ -1,0 +1,16 @@
+//! The command line of the program `rly`: what its words ask for.
+//!
+//! `settings` is Ok only where the command, each file and each number are what `clap`'s matches of
+//! the words have, or the default (`specs/CommandLine.antt`, `docs/COMMANDS.md`). Whether the numbers
+//! are within the limits of a spool is checked by whoever obeys them. `rly_daemon` calls it.
+#![tactic(auto)]
+
+mod arguments;
+mod command_line;
+mod commands;
+mod given;
+#[cfg(test)]
+mod tests;
+
+pub use crate::command_line::settings;
+pub use crate::given::{Settings, SettingsFault};
