@@ -1,7 +1,7 @@
 //! The program `rly`: its command line, streams and status are those of `rly_daemon::run`.
 #![tactic(auto)]
 
-use rly_daemon::SimFault;
+use rly_daemon::TextFault;
 use std::io::{ErrorKind, Write};
 use std::process::ExitCode;
 use std::{env, io};
@@ -31,7 +31,7 @@ fn words_of(rt: &HostRuntime) -> io::Result<Vec<String>> {
 fn tell(rt: &HostRuntime, error: &io::Error) -> u8 {
     // Nothing is left to tell where even this fails.
     if error.kind() == ErrorKind::OutOfMemory {
-        let _told = writeln!(rt.stderr(), "{}", SimFault::OutOfMemory);
+        let _told = writeln!(rt.stderr(), "{}", TextFault::OutOfMemory);
         return 1;
     }
     let _told = writeln!(rt.stderr(), "rly: the command line is not UTF-8");

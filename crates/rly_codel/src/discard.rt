@@ -114,7 +114,7 @@ fn is_below_target<L: Lane>(lane: &L, index: usize, now: u64, params: &Params) -
         (L.waiting lane.now) index }
 {
     let sojourn_time = now - lane.stamp(index);
-    sojourn_time < params.target || lane.bytes_behind(index) <= params.maxpacket
+    sojourn_time < params.target || lane.has_at_most_behind(index, params.maxpacket)
 }
 
 /// Drops what is due in a phase, and says how many items that is. The candidate at the front has

@@ -22,8 +22,8 @@ impl Lane for EqualItems {
         0
     }
 
-    fn bytes_behind(&self, index: usize) -> u64 {
-        (self.count as u64 - 1 - index as u64) * 1_000
+    fn has_at_most_behind(&self, index: usize, bytes: u64) -> bool {
+        (self.count as u64 - 1 - index as u64) * 1_000 <= bytes
     }
 }
 

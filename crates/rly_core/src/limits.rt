@@ -1,4 +1,4 @@
-//! The limits of the specification, each with its unit (`docs/DEFINITIONS.md`, "Limits and refusals").
+//! The limits, each with its unit (`docs/DEFINITIONS.md`, "Limits and refusals").
 
 ghost use Rattle.std.specs.Prelude.{◌≡◌, ◌-◌, ◌^◌};
 
@@ -23,10 +23,10 @@ pub const MAX_ITEMS: u64 = 16_384;
 /// The most live payload bytes of a spool.
 pub const MAX_BYTES: u64 = 16_777_216;
 
-/// The fewest segments of a device.
-pub const MIN_SEGMENTS: u64 = 2;
+/// The segments of a device, the fewest that the format allows: no other number is read or written yet.
+pub const SEGMENTS: u64 = 2;
 
-/// The most segments of a device.
+/// The most segments that the format allows.
 pub const MAX_SEGMENTS: u64 = 256;
 
 /// Every segment is shorter than this, in bytes.
@@ -56,10 +56,7 @@ pub const MAX_CONTACTS: u64 = 4_096;
 /// The longest command line, in bytes without its newline.
 pub const MAX_LINE: u64 = 4_096;
 
-/// Fewer messages than this pass through one line between threads: 2 to the power of 61.
-pub const MESSAGE_LIMIT: u64 = 2_305_843_009_213_693_952;
-
-/// Each limit is the number that the specification gives. Definitions of the crates above name some of these constants,
+/// Each limit is the number of `docs/DEFINITIONS.md`. Definitions of the crates above name some of these constants,
 /// and other limits are compared with nothing, so that no contract there would refuse another number.
 pub fn law_limits()
     ensures hops { MAX_HOPS ≡ 64 }
@@ -69,7 +66,7 @@ pub fn law_limits()
     ensures round { MAX_ROUND ≡ 64 }
     ensures items { MAX_ITEMS ≡ 16384 }
     ensures bytes { MAX_BYTES ≡ 16777216 }
-    ensures fewest_segments { MIN_SEGMENTS ≡ 2 }
+    ensures segments { SEGMENTS ≡ 2 }
     ensures most_segments { MAX_SEGMENTS ≡ 256 }
     ensures segment_length { SEGMENT_LENGTH_LIMIT ≡ 2 ^ 31 }
     ensures interval { MAX_INTERVAL ≡ 3600000000 }
@@ -80,5 +77,4 @@ pub fn law_limits()
     ensures capacity { MAX_CAPACITY ≡ 256 }
     ensures contacts { MAX_CONTACTS ≡ 4096 }
     ensures line { MAX_LINE ≡ 4096 }
-    ensures messages { MESSAGE_LIMIT ≡ 2 ^ 61 }
 {}

@@ -1,12 +1,12 @@
 -- How rounds make up the play of all lines.
-use Rattle.std.proofs.Common.{◌≡◌, ◌⊎◌, ◌+◌, ◌≤◌, ℕ, List, [], ◌∷◌, ◌++◌, length, map, Bool, true, false, true≢false, cond, Option, Some, None, refl, sym, ◌∙◌, ap, subst, arith, append_assoc, append-nil, inl, inr, ⊎_elim}
+use Rattle.std.proofs.Common.{◌≡◌, ◌⊎◌, ◌≤◌, ℕ, List, [], ◌∷◌, ◌++◌, length, map, Bool, true, false, true≢false, cond, Option, Some, None, refl, sym, ◌∙◌, ap, subst, arith, append_assoc, append-nil, inl, inr}
 use Rattle.std.proofs.lemmas.List.{length-map, map-append}
 use Rattle.std.specs.Io.KnownBytes.{Appends, Keeps, prepend_known}
 use Rattle.std.specs.List.{AllByRecursion, zip}
 use Rattle.rly_core.specs.declared.refusal.Refusal.{Refusal}
 use Rattle.rly_core.specs.declared.refusal.Refusal.TheVariants.{Broken, Line, OutOfMemory, Unsure}
 use Rattle.rly_core.specs.Refusals.{refusal_line}
-use Rattle.rly_disk.specs.DiskModel.{DiskState, Later, Rose}
+use Rattle.rly_disk.specs.DiskModel.{DiskState, Later}
 use Rattle.rly_disk.proofs.Composition.{later_again, rose_earlier, rose_later}
 use Rattle.rly_journal.specs.Journal.{IsRound, JournalState}
 use Rattle.rly_journal.specs.Rounds as rounds
@@ -20,20 +20,20 @@ use Rattle.rly_machine.specs.declared.reply.Reply.TheVariants.{Refused}
 use Rattle.rly_machine.proofs.RealReplies.{real_reply}
 use Rattle.rly_daemon.specs.Grammar.{ask_of}
 use Rattle.rly_daemon.specs.Lines.{lines_of}
-use Rattle.rly_daemon.specs.Playing.{AreRefused, AreServed, Breaks, Course, EndsAt, Gathers, Goes, IsAnsweredBy, IsRefused, IsServed, NoneStarved, Plays, PlaysAll, PlaysFront, PlaysSome, Rejects, Told, answers_behind, asks_in, asks_of, reply_line, round_text, slot_text, state_behind, subject_in, told_text}
+use Rattle.rly_daemon.specs.Playing.{AreLinesRefused, AreLinesServed, PlayBreaks, PlayCourse, EndsAt, Gathers, PlayGoesOn, IsAnsweredBy, IsLineRefused, IsLineServed, NoneStarved, Plays, PlaysAll, PlaysFront, PlaysSome, PlayIsRefused, Told, answers_behind, asks_in, asks_of, reply_line, round_text, slot_text, state_behind, subject_in, told_text}
 use Rattle.rly_daemon.specs.Replies.{reply_text, subject_of}
 use Rattle.rly_daemon.specs.Text.{ByteState, answer_of, ask_answer, replies_from}
 use Rattle.rly_daemon.specs.declared.reply_line.Subject.{Subject}
 use Rattle.rly_stream.specs.Beginnings.{AppendsBeginning}
-use Rattle.rly_stream.proofs.Flows.{appends_appends, appends_keeps, appends_none, begins_kept, keeps_same, begins_more, keeps_appends, keeps_begins}
+use Rattle.rly_stream.proofs.Flows.{appends_appends, appends_none, begins_kept, keeps_same, begins_more, keeps_appends, keeps_begins}
 
 -- ---- what lines were told, one after the other
 
-served_append : (s t u : ByteState) (xs ys : List Told) → AreServed s xs t → AreServed t ys u → AreServed s (xs ++ ys) u
-served_append s t u [] ys h k = subst (λ r. AreServed r ys u) h k
+served_append : (s t u : ByteState) (xs ys : List Told) → AreLinesServed s xs t → AreLinesServed t ys u → AreLinesServed s (xs ++ ys) u
+served_append s t u [] ys h k = subst (λ r. AreLinesServed r ys u) h k
 served_append s t u (x ∷ xs) ys h k = (h.0, served_append (state_behind s x.0 x.1) t u xs ys h.1 k)
 
-refused_append : (refusal : Refusal) (xs ys : List Told) → AreRefused refusal xs → AreRefused refusal ys → AreRefused refusal (xs ++ ys)
+refused_append : (refusal : Refusal) (xs ys : List Told) → AreLinesRefused refusal xs → AreLinesRefused refusal ys → AreLinesRefused refusal (xs ++ ys)
 refused_append refusal [] ys h k = k
 refused_append refusal (x ∷ xs) ys h k = (h.0, refused_append refusal xs ys h.1 k)
 
@@ -44,7 +44,7 @@ text_append (x ∷ xs) ys =
 
 -- ---- a line that was served and not refused memory has the machine's reply line
 
-line_exact : (s : ByteState) (asked : Option Ask) (reply : Reply) → IsServed s asked reply → (reply ≡ Refused OutOfMemory → ⊥)
+line_exact : (s : ByteState) (asked : Option Ask) (reply : Reply) → IsLineServed s asked reply → (reply ≡ Refused OutOfMemory → ⊥)
     → (reply_line asked reply ≡ (ask_answer s asked).1) × (state_behind s asked reply ≡ (ask_answer s asked).0)
 line_exact s None reply h fed = (refl, refl)
 line_exact s (Some ask) reply h fed =
@@ -55,7 +55,7 @@ line_exact s (Some ask) reply h fed =
       | inr starved ↦ absurd (fed starved)
     ]
 
-text_exact : (s t : ByteState) (lines : List (List ℕ)) (told : List Told) → map (λ one. one.0) told ≡ map ask_of lines → AreServed s told t → NoneStarved told
+text_exact : (s t : ByteState) (lines : List (List ℕ)) (told : List Told) → map (λ one. one.0) told ≡ map ask_of lines → AreLinesServed s told t → NoneStarved told
     → told_text told ≡ replies_from s lines
 text_exact s t [] [] asked h fed = refl
 text_exact s t [] (one ∷ told) asked h fed = absurd (omega (arith, ap length asked))
@@ -73,7 +73,7 @@ text_exact s t (line ∷ lines) (one ∷ told) asked h fed =
 
 module _ {D : Type 0} (batch : ℕ) (state : D → DiskState) where
   pub plays_of : (old new : JournalState D) (lines : List (List ℕ)) (text : List ℕ) (told : List Told) → map (λ one. one.0) told ≡ map ask_of lines
-      → text ≡ told_text told → Course batch state old new told → Later (state old.disk) (state new.disk) → Plays batch state old new lines text
+      → text ≡ told_text told → PlayCourse batch state old new told → Later (state old.disk) (state new.disk) → Plays batch state old new lines text
   plays_of old new lines text told asked written course later = record {
     told = told;
     asked = asked;
@@ -112,7 +112,7 @@ module _ {D : Type 0} (batch : ℕ) (state : D → DiskState) where
       (later_same (state j.disk))
 
   course_append : (i j k : JournalState D) (xs ys : List Told) → Later (state i.disk) (state j.disk) → Later (state j.disk) (state k.disk)
-      → Course batch state i j xs → Course batch state j k ys → Course batch state i k (xs ++ ys)
+      → PlayCourse batch state i j xs → PlayCourse batch state j k ys → PlayCourse batch state i k (xs ++ ys)
   course_append i j k xs ys before after h c =
       elim h [
         | inl goes ↦ elim c [
@@ -210,12 +210,12 @@ merge_text (Some ask ∷ asked) (answer ∷ given) count =
     ∙ ap (λ l. reply_text (subject_of ask) answer.reply ++ 10 ∷ l) (merge_text asked given (omega (arith, count)))
 
 one_served : (s : ByteState) (ask : Ask) (reply : Reply) (fails : Bool) → is_failure reply ≡ fails → (is_failure reply ≡ false → reply ≡ (ask_step s ask).1)
-    → (is_failure reply ≡ true → reply ≡ Refused OutOfMemory) → IsServed s (Some ask) reply
+    → (is_failure reply ≡ true → reply ≡ Refused OutOfMemory) → IsLineServed s (Some ask) reply
 one_served s ask reply true fails real only = inr (only fails)
 one_served s ask reply false fails real only = inl (real fails)
 
 merge_served : (asked : List (Option Ask)) (calls : List Call) (given : List Answer) (harmed : ℕ) (s : ByteState) → asks_of calls ≡ asks_in asked → length given ≡ length calls
-    → LegalBy (λ reply. reply) harmed s (zip calls given) → AllByRecursion rounds.OnlyMemory (zip calls given) → AreServed s (merge asked given) (state_after s (zip calls given))
+    → LegalBy (λ reply. reply) harmed s (zip calls given) → AllByRecursion rounds.OnlyMemory (zip calls given) → AreLinesServed s (merge asked given) (state_after s (zip calls given))
 merge_served [] [] given harmed s same count legal only = refl
 merge_served [] (call ∷ calls) given harmed s same count legal only = absurd (omega (arith, ap length same))
 merge_served (None ∷ asked) calls given harmed s same count legal only = (refl, merge_served asked calls given harmed s same count legal only)
@@ -224,12 +224,12 @@ merge_served (Some ask ∷ asked) (call ∷ calls) [] harmed s same count legal 
 merge_served (Some ask ∷ asked) (call ∷ calls) (answer ∷ given) harmed s same count legal only =
     let head : call.ask ≡ ask = cc in
     let tail : asks_of calls ≡ asks_in asked = cc in
-    let first : IsServed s (Some call.ask) answer.reply = one_served s call.ask answer.reply (is_failure answer.reply) refl legal.0.reply only.0 in
+    let first : IsLineServed s (Some call.ask) answer.reply = one_served s call.ask answer.reply (is_failure answer.reply) refl legal.0.reply only.0 in
     let more = merge_served asked calls given (harm answer.reply) (next_state s (call, answer)) tail (omega (arith, count)) legal.1 only.1 in
-    subst (λ x. AreServed s ((Some x, answer.reply) ∷ merge asked given) (state_after (next_state s (call, answer)) (zip calls given))) head (first, more)
+    subst (λ x. AreLinesServed s ((Some x, answer.reply) ∷ merge asked given) (state_after (next_state s (call, answer)) (zip calls given))) head (first, more)
 
 merge_refused : (refusal : Refusal) (position : ℕ) (asked : List (Option Ask)) (calls : List Call) → asks_of calls ≡ asks_in asked
-    → AreRefused refusal (merge asked (rounds.refusals refusal position calls))
+    → AreLinesRefused refusal (merge asked (rounds.refusals refusal position calls))
 merge_refused refusal position [] calls same = tt
 merge_refused refusal position (None ∷ asked) calls same = (refl, merge_refused refusal position asked calls same)
 merge_refused refusal position (Some ask ∷ asked) [] same = absurd (omega (arith, ap length same))
@@ -241,19 +241,19 @@ merge_refused refusal position (Some ask ∷ asked) (call ∷ calls) same =
 
 module _ {D : Type 0} (batch : ℕ) (state : D → DiskState) where
   round_course : (j k : JournalState D) (asked : List (Option Ask)) (calls : List Call) (given : List Answer) → length (merge asked given) ≤ batch → asks_of calls ≡ asks_in asked
-      → IsRound state j k calls given → Course batch state j k (merge asked given)
+      → IsRound state j k calls given → PlayCourse batch state j k (merge asked given)
   round_course j k asked calls given few same round =
       elim round [
         | inl rejected ↦ inr (inr (record {
           broken = rejected.0;
-          refused = subst (λ gs. AreRefused Broken (merge asked gs)) (sym rejected.1) (merge_refused Broken j.position asked calls same);
+          refused = subst (λ gs. AreLinesRefused Broken (merge asked gs)) (sym rejected.1) (merge_refused Broken j.position asked calls same);
           same = rejected.2;
         }))
         | inr others ↦ elim others [
           | inl goes ↦ inl (record {
             running = goes.0;
             goes = goes.1.broken;
-            served = subst (λ t. AreServed j.state (merge asked given) t) (sym goes.1.served.state)
+            served = subst (λ t. AreLinesServed j.state (merge asked given) t) (sym goes.1.served.state)
                 (merge_served asked calls given 0 j.state same goes.1.served.count goes.1.served.legal goes.1.served.only);
             calm = goes.2;
           })
@@ -267,7 +267,7 @@ module _ {D : Type 0} (batch : ℕ) (state : D → DiskState) where
             parts = sym (append-nil (merge asked given));
             last = j.state;
             served = refl;
-            unsure = subst (λ gs. AreRefused Unsure (merge asked gs)) (sym breaks.1.unsure) (merge_refused Unsure j.position asked calls same);
+            unsure = subst (λ gs. AreLinesRefused Unsure (merge asked gs)) (sym breaks.1.unsure) (merge_refused Unsure j.position asked calls same);
             after = tt;
             rose = breaks.2;
           }))
@@ -275,17 +275,17 @@ module _ {D : Type 0} (batch : ℕ) (state : D → DiskState) where
       ]
 
   -- lines of which none asks anything
-  idle_served : (s : ByteState) (asked : List (Option Ask)) → asks_in asked ≡ [] → AreServed s (merge asked []) s
+  idle_served : (s : ByteState) (asked : List (Option Ask)) → asks_in asked ≡ [] → AreLinesServed s (merge asked []) s
   idle_served s [] none = refl
   idle_served s (None ∷ asked) none = (refl, idle_served s asked none)
   idle_served s (Some ask ∷ asked) none = absurd (omega (arith, ap length none))
 
-  idle_refused : (refusal : Refusal) (asked : List (Option Ask)) → asks_in asked ≡ [] → AreRefused refusal (merge asked [])
+  idle_refused : (refusal : Refusal) (asked : List (Option Ask)) → asks_in asked ≡ [] → AreLinesRefused refusal (merge asked [])
   idle_refused refusal [] none = tt
   idle_refused refusal (None ∷ asked) none = (refl, idle_refused refusal asked none)
   idle_refused refusal (Some ask ∷ asked) none = absurd (omega (arith, ap length none))
 
-  idle_course : (j : JournalState D) (asked : List (Option Ask)) → asks_in asked ≡ [] → Course batch state j j (merge asked [])
+  idle_course : (j : JournalState D) (asked : List (Option Ask)) → asks_in asked ≡ [] → PlayCourse batch state j j (merge asked [])
   idle_course j asked none =
       elim (by_flag batch state j.broken) [
         | inl broken ↦ inr (inr (record { broken = broken; refused = idle_refused Broken asked none; same = refl }))
@@ -293,12 +293,12 @@ module _ {D : Type 0} (batch : ℕ) (state : D → DiskState) where
       ]
 
   answered_course : (j k : JournalState D) (asked : List (Option Ask)) (calls : List Call) (given : List Answer) → length (merge asked given) ≤ batch → asks_of calls ≡ asks_in asked
-      → IsAnsweredBy state j k calls given → Course batch state j k (merge asked given)
+      → IsAnsweredBy state j k calls given → PlayCourse batch state j k (merge asked given)
   answered_course j k asked calls given few same answered =
       elim answered [
         | inl idle ↦
             let none : asks_in asked ≡ [] = sym same ∙ ap asks_of idle.0 in
-            subst (λ gs. Course batch state j k (merge asked gs)) (sym idle.1) (subst (λ m. Course batch state j m (merge asked [])) (sym idle.2) (idle_course j asked none))
+            subst (λ gs. PlayCourse batch state j k (merge asked gs)) (sym idle.1) (subst (λ m. PlayCourse batch state j m (merge asked [])) (sym idle.2) (idle_course j asked none))
         | inr round ↦ round_course j k asked calls given few same round
       ]
 

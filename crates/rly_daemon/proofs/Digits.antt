@@ -1,45 +1,31 @@
 -- Hexadecimal digits, two for each byte.
-use Rattle.std.proofs.Common.{◌≡◌, ℕ, ◌+◌, ◌-◌, ◌/◌, ◌%◌, ◌<◌, ◌^◌, List, [], ◌∷◌, ◌++◌, length, take, slice_index, get_or, false, refl, sym, ◌∙◌, ap, arith, zero, suc}
-use Rattle.std.specs.Fmt.{digits, digit_glyph, padded_integral, format_spec}
-use Rattle.std.proofs.lemmas.Fmt.{hex_byte}
-use Rattle.std.proofs.lemmas.List.{take_more}
+use Rattle.std.proofs.Common.{◌≡◌, ℕ, ◌/◌, ◌%◌, ◌<◌, List, [], ◌∷◌, ◌++◌, slice_index, nat_lt, All, IsOk, MatchResult, Result, Ok, Err, refl, ap, rules}
+use Rattle.std.specs.List.{AllPass}
+use Rattle.std.specs.Str.{IsUtf8}
+use Rattle.std.proofs.lemmas.Bool.{ltb-true}
+use Rattle.std.proofs.lemmas.List.Sums.{AllPass-from_list_all}
+use Rattle.std.proofs.lemmas.Str.{IsUtf8-from_ascii}
+use Rattle.std.proofs.lemmas.Str.Ascii.{IsAscii-from_all}
+use Rattle.hex.proofs.HexLemmas.{IsAscii-encode_with}
 use Rattle.hex.specs.Hex.{encode_with, encode_lower, lower_digits}
-
-pub encode_append : (t a : List ℕ) (b : ℕ) → encode_with t (a ++ b ∷ []) ≡ encode_with t a ++ slice_index t (b / 16) ∷ slice_index t (b % 16) ∷ []
-unfolding encode_with
-encode_append t [] b = refl
-encode_append t (x ∷ a) b = ap (λ ds. slice_index t (x / 16) ∷ slice_index t (x % 16) ∷ ds) (encode_append t a b)
 
 pub encode_nil : encode_lower [] ≡ []
 unfolding encode_with
 encode_nil = refl
 
-glyph : (n : ℕ) → n < 16 → slice_index lower_digits n ≡ digit_glyph false n
-glyph zero h = refl
-glyph (suc zero) h = refl
-glyph (suc (suc zero)) h = refl
-glyph (suc (suc (suc zero))) h = refl
-glyph (suc (suc (suc (suc zero)))) h = refl
-glyph (suc (suc (suc (suc (suc zero))))) h = refl
-glyph (suc (suc (suc (suc (suc (suc zero)))))) h = refl
-glyph (suc (suc (suc (suc (suc (suc (suc zero))))))) h = refl
-glyph (suc (suc (suc (suc (suc (suc (suc (suc zero)))))))) h = refl
-glyph (suc (suc (suc (suc (suc (suc (suc (suc (suc zero))))))))) h = refl
-glyph (suc (suc (suc (suc (suc (suc (suc (suc (suc (suc zero)))))))))) h = refl
-glyph (suc (suc (suc (suc (suc (suc (suc (suc (suc (suc (suc zero))))))))))) h = refl
-glyph (suc (suc (suc (suc (suc (suc (suc (suc (suc (suc (suc (suc zero)))))))))))) h = refl
-glyph (suc (suc (suc (suc (suc (suc (suc (suc (suc (suc (suc (suc (suc zero))))))))))))) h = refl
-glyph (suc (suc (suc (suc (suc (suc (suc (suc (suc (suc (suc (suc (suc (suc zero)))))))))))))) h = refl
-glyph (suc (suc (suc (suc (suc (suc (suc (suc (suc (suc (suc (suc (suc (suc (suc zero))))))))))))))) h = refl
-glyph (suc (suc (suc (suc (suc (suc (suc (suc (suc (suc (suc (suc (suc (suc (suc (suc n)))))))))))))))) h = absurd (omega arith)
-
-pub pair_of : (b : ℕ) → b < 256 → padded_integral (format_spec 32 0 4 2 (2 ^ 64 - 1)) false [] (digits 16 false b) ≡ slice_index lower_digits (b / 16) ∷ slice_index lower_digits (b % 16) ∷ []
-pair_of b small = hex_byte false b small ∙ rw (glyph (b / 16) (omega arith), glyph (b % 16) (omega arith)) refl
-
-pub one_byte : (b : ℕ) → b < 256 → padded_integral (format_spec 32 0 4 2 (2 ^ 64 - 1)) false [] (digits 16 false b) ≡ encode_lower (b ∷ [])
+pub encode_both : (t a b : List ℕ) → encode_with t (a ++ b) ≡ encode_with t a ++ encode_with t b
 unfolding encode_with
-one_byte b small = pair_of b small
+encode_both t [] b = refl
+encode_both t (x ∷ a) b = ap (λ ds. slice_index t (x / 16) ∷ slice_index t (x % 16) ∷ ds) (encode_both t a b)
 
-pub encode_more : (xs : List ℕ) (i : ℕ) → i < length xs → encode_lower (take i xs) ++ encode_lower (get_or xs i 0 ∷ []) ≡ encode_lower (take (i + 1) xs)
-unfolding encode_with
-encode_more xs i within = rw (take_more xs i 0 within) (sym (encode_append lower_digits (take i xs) (get_or xs i 0)))
+-- digits are a text
+pub digits_text : (bytes : List ℕ) → IsUtf8 (encode_lower bytes)
+digits_text bytes =
+    let table : AllPass (λ b. nat_lt b 128) lower_digits = AllPass-from_list_all (λ b. nat_lt b 128) lower_digits refl in
+    let small : All (λ b. b < 128) lower_digits = λ k d within. ltb-true _ _ (table k d within) in
+    IsUtf8-from_ascii (encode_lower bytes) (IsAscii-encode_with lower_digits bytes (IsAscii-from_all lower_digits small))
+
+-- what can be no error is none
+pub never_error : {A E : Type 0} (r : Result A E) (P : A → Type 0) (Q : Type 0) (R : E → Type 0) → MatchResult r P (λ e. (Q → ⊥) × R e) → Q → IsOk r
+never_error (Ok text) P Q R h q = search rules
+never_error (Err e) P Q R h q = absurd (h.0 q)

@@ -1,7 +1,9 @@
 -- Pairs of hexadecimal digits, as `hex` decodes them.
-use Rattle.std.proofs.Common.{◌≡◌, ℕ, ◌+◌, ◌*◌, ◌%◌, ◌<◌, ◌≤◌, Bool, true, false, List, length, take, drop, slice_index, slice_set, Some, Result, Ok, Err, refl, sym, ◌∙◌, ap}
+use Rattle.std.proofs.Common.{◌≡◌, ℕ, ◌+◌, ◌*◌, ◌^◌, ◌/◌, ◌%◌, ◌<◌, ◌≤◌, Bool, true, false, List, length, take, drop, slice_index, slice_set, Some, Result, Ok, Err, refl, sym, ◌∙◌, ap, arith, bit_and}
 use Rattle.std.specs.List.{list_all}
 use Rattle.std.specs.Result.{is_ok}
+use Rattle.std.proofs.lemmas.Grind.{common_steps}
+use Rattle.std.proofs.lemmas.Nat.{and_block, and_mask}
 use Rattle.std.proofs.lemmas.List.Elements.{All-get_or}
 use Rattle.std.proofs.lemmas.List.Sums.{AllPass-from_list_all, list_all-from_AllPass}
 use Rattle.hex.specs.Hex.{decode_of, decode_pairs, digit_or_error, hex_digit_value, is_hex_digit, pair_value, value_at}
@@ -34,21 +36,46 @@ pub even_length : (text : List ℕ) → is_ok (decode_of text) ≡ true → leng
 even_length text h = let bytes = spelled (decode_of text) h in (decode_of-ok text bytes.0 bytes.1).0
 
 -- the byte of two digits
-pub pair_of_digits : (a b i high low : ℕ) → hex_digit_value a ≡ Some high → hex_digit_value b ≡ Some low → pair_value a b i ≡ Ok (high * 16 + low)
+pair_of_digits : (a b i high low : ℕ) → hex_digit_value a ≡ Some high → hex_digit_value b ≡ Some low → pair_value a b i ≡ Ok (high * 16 + low)
 pair_of_digits a b i high low ha hb =
     let first : value_at a i ≡ Ok high = ap (digit_or_error a i) ha in
     let second : value_at b (i + 1) ≡ Ok low = ap (digit_or_error b (i + 1)) hb in
     rw (first, second) refl
 
+-- a digit's value
+value_of : (c : ℕ) → is_hex_digit c ≡ true → (hex_digit_value c ≡ Some (c % 16 + 9 * (c / 64))) × (c % 16 + 9 * (c / 64) < 16) × (c < 128)
+value_of c h = grind (arith, common_steps)
+
+-- the values of two digits, found in one number
+abbrev pub values : ℕ → ℕ → ℕ
+values a b = bit_and (a + b * 256) 3855 + 9 * bit_and ((a + b * 256) / 64) 257
+
+values_apart : (a b : ℕ) → a < 128 → b < 128 → values a b ≡ a % 16 + 9 * (a / 64) + (b % 16 + 9 * (b / 64)) * 256
+values_apart a b small_a small_b =
+    let whole : a + b * 256 ≡ b * 2 ^ 8 + a = omega arith in
+    let parts : (b * 2 ^ 8 + a) / 64 ≡ b / 64 * 2 ^ 8 + (b % 64 * 4 + a / 64) = omega arith in
+    let ones : bit_and (b * 2 ^ 8 + a) (15 * 2 ^ 8 + 15) ≡ bit_and b 15 * 2 ^ 8 + bit_and a 15 = and_block 8 b 15 a 15 (omega arith) (omega arith) in
+    let letters : bit_and (b / 64 * 2 ^ 8 + (b % 64 * 4 + a / 64)) (1 * 2 ^ 8 + 1) ≡ bit_and (b / 64) 1 * 2 ^ 8 + bit_and (b % 64 * 4 + a / 64) 1 =
+    and_block 8 (b / 64) 1 (b % 64 * 4 + a / 64) 1 (omega arith) (omega arith) in
+    rw (whole, parts, ones, letters, and_mask b 4, and_mask a 4, and_mask (b / 64) 1, and_mask (b % 64 * 4 + a / 64) 1) (omega arith)
+
+-- so the byte of two digits is found from them
+pub byte_of_digits : (a b : ℕ) → is_hex_digit a ≡ true → is_hex_digit b ≡ true
+    → (values a b % 256 * 16 + values a b / 256 < 256) × ((i : ℕ) → pair_value a b i ≡ Ok (values a b % 256 * 16 + values a b / 256))
+byte_of_digits a b ha hb =
+    let first = value_of a ha in
+    let second = value_of b hb in
+    let found : values a b % 256 * 16 + values a b / 256 ≡ (a % 16 + 9 * (a / 64)) * 16 + (b % 16 + 9 * (b / 64)) = rw (values_apart a b first.2 second.2) (omega (arith, first.1, second.1)) in
+    (omega (arith, found, first.1, second.1), λ i. pair_of_digits a b i (a % 16 + 9 * (a / 64)) (b % 16 + 9 * (b / 64)) first.0 second.0 ∙ ap Ok (sym found))
+
 -- the bytes of the first so many pairs stand, and the others are to be decoded
 abbrev pub IsFilled : List ℕ → List ℕ → ℕ → Type 0
 IsFilled text bytes i = decode_pairs 0 text ≡ prepend (take i bytes) (decode_pairs (2 * i) (drop (2 * i) text))
 
-pub filled_more : (text bytes : List ℕ) (i high low : ℕ) → 2 * i + 1 < length text → i < length bytes
-    → hex_digit_value (slice_index text (2 * i)) ≡ Some high → hex_digit_value (slice_index text (2 * i + 1)) ≡ Some low
-    → IsFilled text bytes i → IsFilled text (slice_set bytes i (high * 16 + low)) (i + 1)
-filled_more text bytes i high low within room first second so_far =
-    decode_step text bytes i (high * 16 + low) within room (pair_of_digits (slice_index text (2 * i)) (slice_index text (2 * i + 1)) (2 * i) high low first second) so_far
+pub filled_more : (text bytes : List ℕ) (i byte : ℕ) → 2 * i + 1 < length text → i < length bytes
+    → ((at : ℕ) → pair_value (slice_index text (2 * i)) (slice_index text (2 * i + 1)) at ≡ Ok byte)
+    → IsFilled text bytes i → IsFilled text (slice_set bytes i byte) (i + 1)
+filled_more text bytes i byte within room pair so_far = decode_step text bytes i byte within room (pair (2 * i)) so_far
 
 pub filled_all : (text bytes : List ℕ) (i : ℕ) → is_ok (decode_of text) ≡ true → length bytes ≤ i → length text ≤ 2 * i → IsFilled text bytes i → decode_of text ≡ Ok bytes
 filled_all text bytes i spelled whole used so_far = decode_of-even text (even_length text spelled) ∙ decode_done text bytes i whole used so_far

@@ -1,6 +1,7 @@
 pub mod Places
 pub mod HexDigits
 pub mod Cuts
+pub mod Payloads
 pub mod Numerals
 pub mod Newlines
 pub mod Pieces
@@ -10,3 +11,4 @@ pub mod Rounds
 pub mod Gathering
 pub mod Courses
 pub mod Workers
+pub mod Turns

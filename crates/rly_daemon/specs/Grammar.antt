@@ -70,29 +70,31 @@ take_of (peer ∷ number ∷ hop ∷ stamp ∷ payload ∷ []) = do
   Some (ask.Command (Take p n h s bytes))
 take_of _ = None
 
+-- HOP NUMBER
+abbrev pub hop_and_number_of : List (List ℕ) → Option (HopId × ℕ)
+hop_and_number_of (hop ∷ number ∷ []) = do
+  h ← hop_of hop
+  n ← number_of number
+  Some (h, n)
+hop_and_number_of _ = None
+
 -- pick HOP NOW
 abbrev pub pick_of : List (List ℕ) → Option Ask
-pick_of (hop ∷ now ∷ []) = do
-  h ← hop_of hop
-  n ← number_of now
-  Some (ask.Command (Pick h n))
-pick_of _ = None
+pick_of words = do
+  asked ← hop_and_number_of words
+  Some (ask.Command (Pick asked.0 asked.1))
 
 -- done HOP NUMBER
 abbrev pub done_of : List (List ℕ) → Option Ask
-done_of (hop ∷ number ∷ []) = do
-  h ← hop_of hop
-  n ← number_of number
-  Some (ask.Command (Release h n))
-done_of _ = None
+done_of words = do
+  asked ← hop_and_number_of words
+  Some (ask.Command (Release asked.0 asked.1))
 
 -- fetch HOP NUMBER
 abbrev pub fetch_of : List (List ℕ) → Option Ask
-fetch_of (hop ∷ number ∷ []) = do
-  h ← hop_of hop
-  n ← number_of number
-  Some (ask.Query (Fetch h n))
-fetch_of _ = None
+fetch_of words = do
+  asked ← hop_and_number_of words
+  Some (ask.Query (Fetch asked.0 asked.1))
 
 -- window HOP
 abbrev pub window_of : List (List ℕ) → Option Ask

@@ -7,3 +7,4 @@ pub mod FileDisk
 pub mod Formatting
 pub mod WallClock
 pub mod Serving
+pub mod Program

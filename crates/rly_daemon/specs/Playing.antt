@@ -1,5 +1,5 @@
 -- What `play` writes for lines, and what becomes of its journal.
-use Rattle.std.specs.Prelude.{◌≡◌, ◌⊎◌, ◌≤◌, ℕ, List, [], ◌∷◌, ◌++◌, length, map, take, Bool, true, false, if◌then◌else◌, Option, Some, None, ⊤}
+use Rattle.std.specs.Prelude.{◌≡◌, ◌⊎◌, ◌≤◌, ℕ, List, [], ◌∷◌, ◌++◌, length, map, true, false, if◌then◌else◌, Option, Some, None, ⊤}
 use Rattle.std.specs.Io.KnownBytes.{Appends}
 use Rattle.std.specs.List.{AllByRecursion}
 use Rattle.rly_core.specs.Bounds.{IsIn}
@@ -43,34 +43,34 @@ state_behind s None reply = s
 state_behind s (Some ask) reply = if is_failure reply then s else (ask_step s ask).0
 
 -- a line was served: the reply is the machine's, or memory was refused
-abbrev pub IsServed : ByteState → Option Ask → Reply → Type 0
-IsServed s None reply = reply ≡ Refused Line
-IsServed s (Some ask) reply = (reply ≡ (ask_step s ask).1) ⊎ (reply ≡ Refused OutOfMemory)
+abbrev pub IsLineServed : ByteState → Option Ask → Reply → Type 0
+IsLineServed s None reply = reply ≡ Refused Line
+IsLineServed s (Some ask) reply = (reply ≡ (ask_step s ask).1) ⊎ (reply ≡ Refused OutOfMemory)
 
 -- lines were served one after the other, each in the state that those before it left
-abbrev pub AreServed : ByteState → List Told → ByteState → Type 0
-AreServed s [] t = t ≡ s
-AreServed s (first ∷ more) t = IsServed s first.0 first.1 × AreServed (state_behind s first.0 first.1) more t
+abbrev pub AreLinesServed : ByteState → List Told → ByteState → Type 0
+AreLinesServed s [] t = t ≡ s
+AreLinesServed s (first ∷ more) t = IsLineServed s first.0 first.1 × AreLinesServed (state_behind s first.0 first.1) more t
 
 -- a line was answered by a refusal of the journal
-abbrev pub IsRefused : Refusal → Option Ask → Reply → Type 0
-IsRefused refusal None reply = reply ≡ Refused Line
-IsRefused refusal (Some ask) reply = reply ≡ Refused refusal
+abbrev pub IsLineRefused : Refusal → Option Ask → Reply → Type 0
+IsLineRefused refusal None reply = reply ≡ Refused Line
+IsLineRefused refusal (Some ask) reply = reply ≡ Refused refusal
 
 -- all lines were
-abbrev pub AreRefused : Refusal → List Told → Type 0
-AreRefused refusal told = AllByRecursion (λ one. IsRefused refusal one.0 one.1) told
+abbrev pub AreLinesRefused : Refusal → List Told → Type 0
+AreLinesRefused refusal told = AllByRecursion (λ one. IsLineRefused refusal one.0 one.1) told
 
 -- the device did not fail: all lines were served, and the journal goes on
-pub record Goes {D : Type 0} (state : D → DiskState) (old new : JournalState D) (told : List Told) : Type 0 where
+pub record PlayGoesOn {D : Type 0} (state : D → DiskState) (old new : JournalState D) (told : List Told) : Type 0 where
   pub running : old.broken ≡ false
   pub goes : new.broken ≡ false
-  pub served : AreServed old.state told new.state
+  pub served : AreLinesServed old.state told new.state
   pub calm : (state new.disk).failures ≡ (state old.disk).failures
 
 -- the device failed: the lines before that round were served, those of the round, no more than a round has, may or may
 -- not stand, and the journal is broken for all behind them
-pub record Breaks {D : Type 0} (batch : ℕ) (state : D → DiskState) (old new : JournalState D) (told : List Told) : Type 0 where
+pub record PlayBreaks {D : Type 0} (batch : ℕ) (state : D → DiskState) (old new : JournalState D) (told : List Told) : Type 0 where
   pub running : old.broken ≡ false
   pub broken : new.broken ≡ true
   pub front : List Told
@@ -79,20 +79,20 @@ pub record Breaks {D : Type 0} (batch : ℕ) (state : D → DiskState) (old new 
   pub rest : List Told
   pub parts : told ≡ front ++ (round ++ rest)
   pub last : ByteState
-  pub served : AreServed old.state front last
-  pub unsure : AreRefused Unsure round
-  pub after : AreRefused Broken rest
+  pub served : AreLinesServed old.state front last
+  pub unsure : AreLinesRefused Unsure round
+  pub after : AreLinesRefused Broken rest
   pub rose : Rose (state old.disk) (state new.disk)
 
 -- the journal was broken, and is left as it was
-pub record Rejects {D : Type 0} (old new : JournalState D) (told : List Told) : Type 0 where
+pub record PlayIsRefused {D : Type 0} (old new : JournalState D) (told : List Told) : Type 0 where
   pub broken : old.broken ≡ true
-  pub refused : AreRefused Broken told
+  pub refused : AreLinesRefused Broken told
   pub same : new ≡ old
 
 -- what may become of lines
-abbrev pub Course : {D : Type 0} → ℕ → (D → DiskState) → JournalState D → JournalState D → List Told → Type 0
-Course batch state old new told = Goes state old new told ⊎ Breaks batch state old new told ⊎ Rejects old new told
+abbrev pub PlayCourse : {D : Type 0} → ℕ → (D → DiskState) → JournalState D → JournalState D → List Told → Type 0
+PlayCourse batch state old new told = PlayGoesOn state old new told ⊎ PlayBreaks batch state old new told ⊎ PlayIsRefused old new told
 
 -- no line was refused for want of memory
 abbrev pub NoneStarved : List Told → Type 0
@@ -104,7 +104,7 @@ pub record Plays {D : Type 0} (batch : ℕ) (state : D → DiskState) (old new :
   pub told : List Told
   pub asked : map (λ one. one.0) told ≡ map ask_of lines
   pub written : text ≡ told_text told
-  pub course : Course batch state old new told
+  pub course : PlayCourse batch state old new told
   pub later : Later (state old.disk) (state new.disk)
   pub exact : old.broken ≡ false → (Rose (state old.disk) (state new.disk) → ⊥) → NoneStarved told → text ≡ replies_from old.state lines
 

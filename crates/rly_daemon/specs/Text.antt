@@ -9,8 +9,8 @@ use Rattle.rly_machine.specs.declared.command.Ask.{Ask}
 use Rattle.rly_stream.specs.Beginnings.{AppendsBeginning}
 use Rattle.rly_stream.specs.declared.fault.StreamFault.{StreamFault}
 use Rattle.rly_stream.specs.declared.fault.StreamFault.TheVariants as stream
-use Rattle.rly_daemon.specs.declared.fault.SimFault.{SimFault}
-use Rattle.rly_daemon.specs.declared.fault.SimFault.TheVariants as sim
+use Rattle.rly_daemon.specs.declared.fault.TextFault.{TextFault}
+use Rattle.rly_daemon.specs.declared.fault.TextFault.TheVariants as fault
 use Rattle.rly_daemon.specs.Grammar.{ask_of}
 use Rattle.rly_daemon.specs.Lines.{lines_of}
 use Rattle.rly_daemon.specs.Replies.{subject_of, reply_text}
@@ -56,6 +56,6 @@ Answered (Some xs) None old new s t = ⊥
 Answered (Some xs) (Some ys) old new s t = (written : List ℕ) × Appends old new written × (text_of s xs ≡ written ++ text_of t ys)
 
 -- how a command on text says that a stream failed
-abbrev pub fault_of : StreamFault → SimFault
-fault_of stream.Input = sim.Input
-fault_of stream.Output = sim.Output
+abbrev pub fault_of : StreamFault → TextFault
+fault_of stream.Input = fault.Input
+fault_of stream.Output = fault.Output

@@ -1,5 +1,5 @@
 -- The turns that a wall clock has left for its worker, and its moments.
-use Rattle.std.specs.Prelude.{ℕ, zero, suc, ◌-◌, ◌/◌, ◌^◌, min, Bool, true, false, Option, Some, None}
+use Rattle.std.specs.Prelude.{ℕ, zero, suc, ◌+◌, ◌-◌, ◌/◌, ◌^◌, List, [], ◌∷◌, min, Bool, true, false, Option, Some, None}
 use Rattle.std.specs.Duration.{as_nanos}
 use Rattle.std.specs.declared.time.Duration.{Duration}
 use Rattle.rly_threads.specs.declared.turn.Point.{Point}
@@ -24,6 +24,30 @@ left_at Start None = None
 left_at Start (Some n) = Some (n - 1)
 left_at Call left = left
 left_at Answered left = left
+
+-- how many of these points are starts
+abbrev pub starts : List Point → ℕ
+starts [] = 0
+starts (Start ∷ points) = suc (starts points)
+starts (Call ∷ points) = starts points
+starts (Answered ∷ points) = starts points
+
+-- one where a worker goes on at a start, and none elsewhere
+abbrev pub turn_at : Point → Bool → ℕ
+turn_at Start true = 1
+turn_at Start false = 0
+turn_at Call on = 0
+turn_at Answered on = 0
+
+-- how many turns a worker has at these points, where so many are left before them
+abbrev pub turns_had : Option ℕ → List Point → ℕ
+turns_had left [] = 0
+turns_had left (point ∷ points) = turn_at point (goes_on point left) + turns_had (left_at point left) points
+
+-- how many of so many starts have a turn: each, where the turns are without end
+abbrev pub turns_of : Option ℕ → ℕ → ℕ
+turns_of None count = count
+turns_of (Some left) count = min left count
 
 -- a moment in microseconds: 0 for none, and never above the last that has 64 bits
 abbrev pub moment_of : Option Duration → ℕ

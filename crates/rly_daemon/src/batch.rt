@@ -8,12 +8,11 @@ ghost use Rattle.rly_daemon.specs.Playing.{EndsAt, Gathers, IsAnsweredBy, IsPut,
 ghost use Rattle.rly_daemon.specs.Replies.{reply_text};
 ghost use Rattle.rly_stream.specs.Beginnings.{AppendsBeginning};
 
-use crate::fault::SimFault;
+use crate::evaluation::{add_refused_line, add_reply};
+use crate::fault::TextFault;
 use crate::grammar::parse_line;
-use crate::line_reader::LineReader;
-use crate::reply_line::{ReplyLine, Subject};
-use crate::simulation::hand_on;
-use rly_core::Refusal;
+use crate::line_reader::{LineReader, hand_on};
+use crate::reply_line::Subject;
 use rly_disk::Disk;
 use rly_journal::Journal;
 use rly_machine::{Answer, Ask, Call, Reply, SeatId};
@@ -54,7 +53,7 @@ impl Batch {
         lines: &mut LineReader,
         reader: &mut R,
         writer: &mut W,
-    ) -> Result<bool, SimFault>
+    ) -> Result<bool, TextFault>
         requires { IsReady self.old }
         ensures gathered { OnOk result (Gathers (prepend_known lines.old.ahead (R.remaining reader.old))
             (prepend_known lines.new.ahead (R.remaining reader.new)) self.new.slots.items (asks_of self.new.calls.items)) }
@@ -81,7 +80,7 @@ impl Batch {
         lines: &mut LineReader,
         reader: &mut R,
         writer: &mut W,
-    ) -> Result<bool, SimFault>
+    ) -> Result<bool, TextFault>
         ensures line { IfOk result (λ found. TakesLine found (prepend_known lines.old.ahead (R.remaining reader.old))
             (prepend_known lines.new.ahead (R.remaining reader.new)) lines.new.line) }
         ensures put { result ≡ Ok true → IsPut (ask_of lines.new.line) self.old self.new }
@@ -142,7 +141,7 @@ impl Batch {
     }
 
     /// Writes the reply line of each line, in order, and forgets them.
-    pub(crate) fn tell<W: Write>(&mut self, writer: &mut W) -> Result<(), SimFault>
+    pub(crate) fn tell<W: Write>(&mut self, writer: &mut W) -> Result<(), TextFault>
         ensures told { OnOk result (Appends (W.contents writer.old) (W.contents writer.new) (round_text self.old.slots.items self.old.answers.items)) }
         ensures begun { OnErr result (AppendsBeginning (W.contents writer.old) (W.contents writer.new) (round_text self.old.slots.items self.old.answers.items)) }
         ensures slots { OnOk result (self.new.slots.items ≡ []) }
@@ -163,7 +162,7 @@ fn write_replies<W: Write>(
     answers: &[Answer],
     text: &mut String,
     writer: &mut W,
-) -> Result<(), SimFault>
+) -> Result<(), TextFault>
     ensures told { OnOk result (Appends (W.contents writer.old) (W.contents writer.new) (round_text slots.now answers.now)) }
     ensures begun { OnErr result (AppendsBeginning (W.contents writer.old) (W.contents writer.new) (round_text slots.now answers.now)) }
 {
@@ -181,15 +180,14 @@ fn write_reply<'a, W: Write>(
     answers: &'a [Answer],
     text: &mut String,
     writer: &mut W,
-) -> Result<&'a [Answer], SimFault>
+) -> Result<&'a [Answer], TextFault>
     ensures told { IfOk result (λ rest. (rest.now ≡ answers_behind slot answers.now)
         × Appends (W.contents writer.old) (W.contents writer.new) (slot_text slot answers.now)) }
     ensures begun { OnErr result (AppendsBeginning (W.contents writer.old) (W.contents writer.new) (slot_text slot answers.now)) }
 {
     let Some(subject) = slot else {
         text.clear();
-        let refusal = Refusal::Line;
-        writeln!(text, "{refusal}")?;
+        add_refused_line(text)?;
         write_whole(writer, text.as_bytes())?;
         return Ok(answers);
     };
@@ -208,13 +206,12 @@ fn write_answer<W: Write>(
     reply: &Reply,
     text: &mut String,
     writer: &mut W,
-) -> Result<(), SimFault>
+) -> Result<(), TextFault>
     ensures told { OnOk result (Appends (W.contents writer.old) (W.contents writer.new) (reply_text subject reply.now ++ 10 ∷ [])) }
     ensures begun { OnErr result (AppendsBeginning (W.contents writer.old) (W.contents writer.new) (reply_text subject reply.now ++ 10 ∷ [])) }
 {
-    let line = ReplyLine { subject, reply };
     text.clear();
-    writeln!(text, "{line}")?;
+    add_reply(text, subject, reply)?;
     write_whole(writer, text.as_bytes())?;
     Ok(())
 }

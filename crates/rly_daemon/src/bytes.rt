@@ -1,7 +1,7 @@
-ghost use Rattle.std.specs.Prelude.{◌≡◌, ◌==◌, ◌*◌, ◌<◌, IfSome, length, Some, true};
+ghost use Rattle.std.specs.Prelude.{◌≡◌, ◌==◌, ◌*◌, ◌<◌, ℕ, IfSome, Ok, length, true};
 ghost use Rattle.std.specs.List.{list_all, position};
 ghost use Rattle.std.specs.Result.{is_ok};
-ghost use Rattle.hex.specs.Hex.{decode_of, hex_digit_value, is_hex_digit};
+ghost use Rattle.hex.specs.Hex.{decode_of, is_hex_digit, pair_value};
 
 use memchr::memchr;
 
@@ -39,15 +39,18 @@ pub fn decode_hexadecimal(text: &[u8], bytes: &mut [u8])
     ensures { decode_of text.now ≡ Ok bytes.new }
 {
     for i in 0..bytes.len() {
-        bytes[i] = digit_value(text[2 * i]) * 16 + digit_value(text[2 * i + 1]);
+        bytes[i] = byte_of(text[2 * i], text[2 * i + 1]);
     }
 }
 
-/// The value of a hexadecimal digit.
-fn digit_value(digit: u8) -> u8
-    requires { is_hex_digit digit ≡ true }
-    ensures value { hex_digit_value digit ≡ Some result }
-    ensures small { result < 16 }
+/// The byte of two hexadecimal digits. Both are valued in one number, so that the loop over a payload
+/// is compiled to steps of 16 bytes: this is most of the time of reading it.
+fn byte_of(high: u8, low: u8) -> u8
+    requires high { is_hex_digit high ≡ true }
+    requires low { is_hex_digit low ≡ true }
+    ensures { (at : ℕ) → pair_value high low at ≡ Ok result }
 {
-    digit % 16 + 9 * (digit / 64)
+    let digits = u16::from_le_bytes([high, low]);
+    let values = (digits & 0x0f0f) + 9 * ((digits >> 6) & 0x0101);
+    (values % 256 * 16 + values / 256) as u8
 }

@@ -1,4 +1,5 @@
-ghost use Rattle.std.specs.Prelude.{◌≡◌, ◌∷◌, ◌++◌, [], IfOk, OnErr, OnOk, string_bytes};
+ghost use Rattle.std.specs.Prelude.{◌≡◌, ◌∷◌, ◌++◌, [], OnOk, string_bytes};
+ghost use Rattle.rly_core.specs.Refusals.{refusal_line};
 ghost use Rattle.rly_machine.specs.Ask.{ask_step};
 ghost use Rattle.rly_daemon.specs.Replies.{reply_text, subject_of};
 ghost use Rattle.rly_daemon.specs.Text.{answer_of};
@@ -11,7 +12,7 @@ use std::alloc::{AllocError, Global};
 
 /// Evaluates the ask of a line on a machine, and leaves in `text` the reply line with its newline.
 /// Where memory is refused, `text` holds anything.
-pub fn answer_line(
+pub(crate) fn answer_line(
     alloc: Global,
     machine: &mut Machine<Payload>,
     line: &[u8],
@@ -23,11 +24,7 @@ pub fn answer_line(
     text.clear();
     match parse_line(alloc, line)? {
         Some(ask) => answer_ask(alloc, machine, ask, text),
-        None => {
-            let refusal = Refusal::Line;
-            writeln!(text, "{refusal}")?;
-            Ok(())
-        }
+        None => add_refused_line(text),
     }
 }
 
@@ -42,30 +39,28 @@ fn answer_ask(
     ensures text { OnOk result (string_bytes text.new ≡ string_bytes text.old ++ reply_text (subject_of ask) (ask_step machine.old.state ask).1 ++ 10 ∷ []) }
 {
     let subject = Subject::of(&ask);
-    let reply = evaluate(alloc, machine, ask)?;
-    let line = ReplyLine {
-        subject,
-        reply: &reply,
-    };
+    let reply = machine.evaluate(alloc, ask)?;
+    add_reply(text, subject, &reply)
+}
+
+/// Adds the line of a reply, with its newline.
+pub(crate) fn add_reply(
+    text: &mut String,
+    subject: Subject,
+    reply: &Reply,
+) -> Result<(), AllocError>
+    ensures { OnOk result (string_bytes text.new ≡ string_bytes text.old ++ reply_text subject reply.now ++ 10 ∷ []) }
+{
+    let line = ReplyLine { subject, reply };
     writeln!(text, "{line}")?;
     Ok(())
 }
 
-/// Makes one step of a machine with an ask. Where memory is refused, the state is as it was.
-pub fn evaluate(
-    alloc: Global,
-    machine: &mut Machine<Payload>,
-    ask: Ask,
-) -> Result<Reply, AllocError>
-    ensures state { OnOk result (machine.new.state ≡ (ask_step machine.old.state ask).0) }
-    ensures reply { IfOk result (λ reply. reply ≡ (ask_step machine.old.state ask).1) }
-    ensures err { OnErr result (machine.new.state ≡ machine.old.state) }
+/// Adds the reply line of a line that asks nothing, with its newline.
+pub(crate) fn add_refused_line(text: &mut String) -> Result<(), AllocError>
+    ensures { OnOk result (string_bytes text.new ≡ string_bytes text.old ++ refusal_line Refusal.Line ++ 10 ∷ []) }
 {
-    match ask {
-        Ask::Command(command) => {
-            let room = machine.reserve_for(alloc, &command)?;
-            Ok(machine.apply(command, room))
-        }
-        Ask::Query(query) => machine.answer(alloc, query),
-    }
+    let refusal = Refusal::Line;
+    writeln!(text, "{refusal}")?;
+    Ok(())
 }

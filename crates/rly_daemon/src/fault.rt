@@ -1,3 +1,4 @@
+use rly_audit::AuditFault;
 use rly_core::Refusal;
 use rly_stream::StreamFault;
 use rly_threads::LinkFault;
@@ -7,7 +8,7 @@ use thiserror::Error;
 /// Why a command on text stopped before the end of its input. What was written by then is a
 /// beginning of its text.
 #[derive(Clone, Copy, Debug, PartialEq, Eq, Error)]
-pub enum SimFault {
+pub enum TextFault {
     /// The reader failed, or gave 2^64 - 1 bytes or more.
     #[error("rly: input failed")]
     Input,
@@ -19,27 +20,27 @@ pub enum SimFault {
     OutOfMemory,
 }
 
-impl From<AllocError> for SimFault {
+impl From<AllocError> for TextFault {
     ghost use Rattle.std.specs.Prelude.{◌≡◌};
-    ghost use Rattle.rly_daemon.specs.declared.fault.SimFault.TheVariants.{OutOfMemory};
+    ghost use Rattle.rly_daemon.specs.declared.fault.TextFault.TheVariants.{OutOfMemory};
 
     ghost from_gives = { λ _ fault. fault ≡ OutOfMemory };
 
-    fn from(_refused: AllocError) -> SimFault {
-        SimFault::OutOfMemory
+    fn from(_refused: AllocError) -> TextFault {
+        TextFault::OutOfMemory
     }
 }
 
-impl From<StreamFault> for SimFault {
+impl From<StreamFault> for TextFault {
     ghost use Rattle.std.specs.Prelude.{◌≡◌};
     ghost use Rattle.rly_daemon.specs.Text.{fault_of};
 
     ghost from_gives = { λ stream fault. fault ≡ fault_of stream };
 
-    fn from(stream: StreamFault) -> SimFault {
+    fn from(stream: StreamFault) -> TextFault {
         match stream {
-            StreamFault::Input => SimFault::Input,
-            StreamFault::Output => SimFault::Output,
+            StreamFault::Input => TextFault::Input,
+            StreamFault::Output => TextFault::Output,
         }
     }
 }
@@ -92,5 +93,66 @@ impl From<LinkFault> for ServeFault {
 
     fn from(_failed: LinkFault) -> ServeFault {
         ServeFault::Link
+    }
+}
+
+/// Why a command of the program failed; displays as the line for standard error.
+#[derive(Clone, Copy, Debug, PartialEq, Eq, Error)]
+pub(crate) enum CommandFault {
+    /// The input, the output or the memory failed.
+    #[error("{0}")]
+    Text(TextFault),
+    /// The relay wasn't started, or didn't end well.
+    #[error("{0}")]
+    Serve(ServeFault),
+    /// Something was refused.
+    #[error("{0}")]
+    Refused(Refusal),
+}
+
+impl From<TextFault> for CommandFault {
+    ghost use Rattle.std.specs.Prelude.{◌≡◌};
+    ghost use Rattle.rly_daemon.specs.declared.fault.CommandFault.TheVariants.{Text};
+
+    ghost from_gives = { λ text fault. fault ≡ Text text };
+
+    fn from(text: TextFault) -> CommandFault {
+        CommandFault::Text(text)
+    }
+}
+
+impl From<ServeFault> for CommandFault {
+    ghost use Rattle.std.specs.Prelude.{◌≡◌};
+    ghost use Rattle.rly_daemon.specs.declared.fault.CommandFault.TheVariants.{Serve};
+
+    ghost from_gives = { λ serve fault. fault ≡ Serve serve };
+
+    fn from(serve: ServeFault) -> CommandFault {
+        CommandFault::Serve(serve)
+    }
+}
+
+impl From<Refusal> for CommandFault {
+    ghost use Rattle.std.specs.Prelude.{◌≡◌};
+    ghost use Rattle.rly_daemon.specs.declared.fault.CommandFault.TheVariants.{Refused};
+
+    ghost from_gives = { λ refusal fault. fault ≡ Refused refusal };
+
+    fn from(refusal: Refusal) -> CommandFault {
+        CommandFault::Refused(refusal)
+    }
+}
+
+impl From<AuditFault> for CommandFault {
+    ghost use Rattle.std.specs.Prelude.{◌≡◌};
+    ghost use Rattle.rly_daemon.specs.Program.{audit_fault};
+
+    ghost from_gives = { λ audit fault. fault ≡ audit_fault audit };
+
+    fn from(audit: AuditFault) -> CommandFault {
+        match audit {
+            AuditFault::Refused(refusal) => CommandFault::Refused(refusal),
+            AuditFault::Output => CommandFault::Text(TextFault::Output),
+        }
     }
 }

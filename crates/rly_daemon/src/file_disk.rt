@@ -62,7 +62,11 @@ fn locked(file: File) -> Result<FileDisk, Refusal>
     ensures refusal { IfErr result (λ refusal. refusal ≡ Refusal.Device) }
     ensures calls { IfOk result (λ disk. (file_state disk).calls ≡ 0) }
 {
-    let mut file = file;
+    // Where a standard stream is closed, the file was opened under its number, and what is meant for that stream would go into
+    // the device. A clone never has such a number.
+    let Ok(mut file) = file.try_clone() else {
+        return Err(Refusal::Device);
+    };
     if file.try_lock().is_err() {
         return Err(Refusal::Device);
     }

@@ -2,13 +2,10 @@ ghost use Rattle.std.specs.Prelude.{◌≡◌, ◌↔◌, IfOk, IsOk, IsOkUnless
 ghost use Rattle.rly_segment.specs.Device.{IsGeometry, device_length};
 ghost use Rattle.rly_daemon.specs.Formatting.{wanted};
 
-use rly_core::limits::SEGMENT_LENGTH_LIMIT;
+use rly_core::limits::{SEGMENT_LENGTH_LIMIT, SEGMENTS};
 use rly_core::{Geometry, Params, Refusal};
 use rly_reclaim::{fits, least_length};
 use rly_segment::segment_end;
-
-/// How many segments a device has.
-const SEGMENTS: u64 = 2;
 
 /// The geometry of a new device. Without a length its segments have the least that fits. The only
 /// refusal is `BadGeometry`.

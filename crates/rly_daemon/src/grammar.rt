@@ -1,7 +1,7 @@
 ghost use Rattle.std.specs.Prelude.{◌≡◌, ◌∷◌, [], IfOk, MatchOption, true, false};
 ghost use Rattle.std.specs.Char.{is_ascii_digit};
 ghost use Rattle.std.specs.List.{list_all};
-ghost use Rattle.rly_daemon.specs.Grammar.{HasTwo, ask_of, done_of, fetch_of, hop_of, id_of, is_numeral, number_of, payload_of, peer_of, pick_of, show_of, take_of, window_of, words_ask, words_of};
+ghost use Rattle.rly_daemon.specs.Grammar.{HasTwo, ask_of, done_of, fetch_of, hop_and_number_of, hop_of, id_of, is_numeral, number_of, payload_of, peer_of, pick_of, show_of, take_of, window_of, words_ask, words_of};
 
 use crate::bytes::{decode_hexadecimal, is_hexadecimal, position_of};
 use rly_core::{HopId, PeerId, limits};
@@ -59,13 +59,12 @@ fn parse_take(alloc: Global, args: &[u8]) -> Result<Option<Ask>, AllocError>
     let Some((stamp, payload)) = cut(args) else {
         return Ok(None);
     };
-    if !is_word(payload) {
-        return Ok(None);
-    }
     take_ask(alloc, peer, number, hop, stamp, payload)
 }
 
-/// The Take of these five words.
+/// The Take of four words and the rest of the line, which is a payload only where it is one word: no
+/// space is a digit.
+#[tactic(auto, using(crate::proofs::Payloads::take_words))]
 fn take_ask(
     alloc: Global,
     peer: &[u8],
@@ -74,7 +73,7 @@ fn take_ask(
     stamp: &[u8],
     payload: &[u8],
 ) -> Result<Option<Ask>, AllocError>
-    ensures { IfOk result (λ ask. ask ≡ take_of (peer.now ∷ number.now ∷ hop.now ∷ stamp.now ∷ payload.now ∷ [])) }
+    ensures { IfOk result (λ ask. ask ≡ take_of (peer.now ∷ number.now ∷ hop.now ∷ stamp.now ∷ words_of payload.now)) }
 {
     let Some(peer) = parse_peer(peer) else {
         return Ok(None);
@@ -104,12 +103,7 @@ fn take_ask(
 fn parse_pick(args: &[u8]) -> Option<Ask>
     ensures { result ≡ pick_of (words_of args.now) }
 {
-    let (hop, now) = cut(args)?;
-    if !is_word(now) {
-        return None;
-    }
-    let hop = parse_hop(hop)?;
-    let now = parse_number(now)?;
+    let (hop, now) = parse_hop_and_number(args)?;
     Some(Ask::Command(Command::Pick { hop, now }))
 }
 
@@ -117,12 +111,7 @@ fn parse_pick(args: &[u8]) -> Option<Ask>
 fn parse_done(args: &[u8]) -> Option<Ask>
     ensures { result ≡ done_of (words_of args.now) }
 {
-    let (hop, number) = cut(args)?;
-    if !is_word(number) {
-        return None;
-    }
-    let hop = parse_hop(hop)?;
-    let number = parse_number(number)?;
+    let (hop, number) = parse_hop_and_number(args)?;
     Some(Ask::Command(Command::Release { hop, number }))
 }
 
@@ -130,12 +119,7 @@ fn parse_done(args: &[u8]) -> Option<Ask>
 fn parse_fetch(args: &[u8]) -> Option<Ask>
     ensures { result ≡ fetch_of (words_of args.now) }
 {
-    let (hop, number) = cut(args)?;
-    if !is_word(number) {
-        return None;
-    }
-    let hop = parse_hop(hop)?;
-    let number = parse_number(number)?;
+    let (hop, number) = parse_hop_and_number(args)?;
     Some(Ask::Query(Query::Fetch { hop, number }))
 }
 
@@ -159,6 +143,17 @@ fn parse_show(args: &[u8]) -> Option<Ask>
     }
     let hop = parse_hop(args)?;
     Some(Ask::Query(Query::Show { hop }))
+}
+
+/// `HOP NUMBER`, alone.
+fn parse_hop_and_number(args: &[u8]) -> Option<(HopId, u64)>
+    ensures { result ≡ hop_and_number_of (words_of args.now) }
+{
+    let (hop, number) = cut(args)?;
+    if !is_word(number) {
+        return None;
+    }
+    Some((parse_hop(hop)?, parse_number(number)?))
 }
 
 /// The first word of a text and what stands behind its space, if it has one.

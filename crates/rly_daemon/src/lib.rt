@@ -2,8 +2,9 @@
 //! reader and writer; and what the running relay needs of the system, its file, sockets and clock.
 //!
 //! `specs/Grammar.antt` says what a line asks, `specs/Replies.antt` the line of a reply, and
-//! `specs/Text.antt` the text for a whole input; `sim` writes that text. The crate stands at the
-//! edge: only a program and tests call it.
+//! `specs/Text.antt` the text for a whole input; `sim` writes that text. `run` is the whole program up
+//! to its status, and `specs/Program.antt` says what a command leaves that ended well. The crate stands
+//! at the edge: only a program and tests call it.
 #![tactic(auto)]
 
 mod batch;
@@ -24,14 +25,10 @@ mod tests;
 mod udp_link;
 mod wall_clock;
 
-pub use crate::evaluation::{answer_line, evaluate};
-pub use crate::fault::SimFault;
+pub use crate::fault::TextFault;
 pub use crate::file_disk::FileDisk;
-pub use crate::grammar::parse_line;
-pub use crate::line_reader::LineReader;
 pub use crate::playing::play;
 pub use crate::program::{Host, run};
-pub use crate::reply_line::{ReplyLine, Subject};
 pub use crate::simulation::sim;
 pub use crate::udp_link::UdpLink;
 pub use crate::wall_clock::WallClock;

@@ -1,12 +1,13 @@
 ghost use Rattle.std.specs.Prelude.{◌≡◌, ◌≤◌, ◌++◌, vec_capacity, vec_len};
+ghost use Rattle.std.specs.Io.KnownBytes.{Keeps};
 ghost use Rattle.rly_daemon.specs.Lines.{kept_of};
 
 use crate::bytes::position_of;
-use crate::fault::SimFault;
+use crate::fault::TextFault;
 use rly_core::limits;
 use rly_stream::read_some;
 use std::alloc::{AllocError, Global};
-use std::io::Read;
+use std::io::{Read, Write};
 use std::marker::Model;
 
 /// How many bytes are read at once.
@@ -75,11 +76,11 @@ impl LineReader {
     /// Takes the next line, and answers whether there was one. A longer line than a command may
     /// have is used up too. Where the reader fails, or gives 2^64 - 1 bytes or more, the answer is
     /// `Input`.
-    pub fn next_line<R: Read>(&mut self, reader: &mut R) -> Result<bool, SimFault>
+    pub fn next_line<R: Read>(&mut self, reader: &mut R) -> Result<bool, TextFault>
         ensures line { IfOk result (λ found. TakesLine found (prepend_known self.old.ahead (R.remaining reader.old))
             (prepend_known self.new.ahead (R.remaining reader.new)) self.new.line) }
         ensures progress { result ≡ Ok true → (self.old.taken < self.new.taken) × (self.new.taken < 2 ^ 64) }
-        ensures fault { IfErr result (λ fault. fault ≡ SimFault.Input) }
+        ensures fault { IfErr result (λ fault. fault ≡ TextFault.Input) }
     {
         self.forget_line();
         if self.take_piece() {
@@ -121,17 +122,17 @@ impl LineReader {
     }
 
     /// Reads ahead once more, and answers whether there was anything.
-    fn fill<R: Read>(&mut self, reader: &mut R) -> Result<bool, SimFault>
+    fn fill<R: Read>(&mut self, reader: &mut R) -> Result<bool, TextFault>
         requires { self.old.ahead ≡ [] }
         ensures filled { IfOk result (λ found. Fills found self.old self.new) }
         ensures bytes { IfOk result (λ found. Keeps (R.remaining reader.old) (prepend_known self.new.ahead (R.remaining reader.new))) }
         ensures end { result ≡ Ok false → IsAtEnd (R.remaining reader.new) }
-        ensures fault { IfErr result (λ fault. fault ≡ SimFault.Input) }
+        ensures fault { IfErr result (λ fault. fault ≡ TextFault.Input) }
     {
         let count = read_some(reader, &mut self.chunk)?;
         let total = self.total.saturating_add(count as u64);
         if total == u64::MAX {
-            return Err(SimFault::Input);
+            return Err(TextFault::Input);
         }
         self.at = 0;
         self.end = count;
@@ -151,4 +152,17 @@ fn keep(line: &mut Vec<u8>, piece: &[u8])
     let count = (KEPT - line.len()).min(piece.len());
     // The room was made with the line, so this never fails.
     let _kept = line.extend_from_slice(&piece[..count]);
+}
+
+/// Hands on the replies that a writer holds back, if the next line waits for the reader.
+pub(crate) fn hand_on<W: Write>(lines: &LineReader, writer: &mut W) -> Result<(), TextFault>
+    ensures { Keeps (W.contents writer.old) (W.contents writer.new) }
+{
+    if !lines.is_drained() {
+        return Ok(());
+    }
+    match writer.flush() {
+        Ok(()) => Ok(()),
+        Err(_) => Err(TextFault::Output),
+    }
 }

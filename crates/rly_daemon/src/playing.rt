@@ -4,7 +4,7 @@ ghost use Rattle.rly_core.specs.Bounds.{IsIn};
 ghost use Rattle.rly_daemon.specs.Playing.{EndsAt, IsReady, PlaysAll, PlaysFront, PlaysSome};
 
 use crate::batch::Batch;
-use crate::fault::SimFault;
+use crate::fault::TextFault;
 use crate::line_reader::LineReader;
 use rly_disk::Disk;
 use rly_journal::Journal;
@@ -21,7 +21,7 @@ pub fn play<D: Disk, R: Read, W: Write>(
     writer: &mut W,
     journal: &mut Journal<D>,
     batch: u64,
-) -> Result<(), SimFault>
+) -> Result<(), TextFault>
     requires { IsIn 1 64 batch }
     // What is written is the text of what is read.
     ensures written { OnOk result (PlaysAll batch D.state journal.old journal.new
@@ -44,7 +44,7 @@ fn play_round<D: Disk, R: Read, W: Write>(
     lines: &mut LineReader,
     reader: &mut R,
     writer: &mut W,
-) -> Result<bool, SimFault>
+) -> Result<bool, TextFault>
     requires { IsReady round.old }
     ensures ready { OnOk result (IsReady round.new) }
     ensures most { OnOk result (round.new.most ≡ round.old.most) }

@@ -1,10 +1,22 @@
-use crate::fault::{ServeFault, SimFault};
+ghost use Rattle.std.specs.Prelude.{◌≡◌, ◌≤◌, ◌↔◌, ◌⊎◌, [], Err, IfErr, IfOk, IsOk, OnOk, false, map};
+ghost use Rattle.std.specs.Io.KnownBytes.{Appends, Keeps};
+ghost use Rattle.rly_core.specs.Limits.{IsWithinLimits};
+ghost use Rattle.rly_core.specs.declared.refusal.Refusal.{Refusal as ARefusal};
+ghost use Rattle.rly_journal.specs.Faults.{opening_refusal};
+ghost use Rattle.rly_journal.specs.declared.fault.OpenFault.{OpenFault};
+ghost use Rattle.rly_segment.specs.Device.{IsGeometry, device_length};
+ghost use Rattle.rly_settings.specs.CommandLine.{AsksHelp, IsSettings, asked_of, kinds_at};
+ghost use Rattle.rly_settings.specs.declared.given.Settings.{Settings as ASettings};
+ghost use Rattle.rly_daemon.specs.Formatting.{wanted};
+ghost use Rattle.rly_daemon.specs.Program.{HasReport, IsDone, IsOutOfLimits, size_line};
+
+use crate::fault::{CommandFault, ServeFault, TextFault};
 use crate::file_disk::FileDisk;
 use crate::geometry::{device_size, geometry_of};
 use crate::playing::play;
 use crate::serving::{read_plan, serve};
 use crate::simulation::sim;
-use rly_audit::{AuditFault, audit};
+use rly_audit::audit;
 use rly_core::{Params, Refusal};
 use rly_journal::Journal;
 use rly_segment::{FormatFault, format};
@@ -18,21 +30,6 @@ use std::net::Net;
 use std::sync::Wait;
 use std::thread::Threads;
 use std::time::Clock;
-use thiserror::Error;
-
-/// Why a command of the program failed; displays as the line for standard error.
-#[derive(Clone, Copy, Debug, PartialEq, Eq, Error)]
-enum CommandFault {
-    /// The input, the output or the memory failed.
-    #[error("{0}")]
-    Sim(SimFault),
-    /// The relay wasn't started, or didn't end well.
-    #[error("{0}")]
-    Serve(ServeFault),
-    /// Something was refused.
-    #[error("{0}")]
-    Refused(Refusal),
-}
 
 /// What the whole program needs of its runtime. Only `rly serve` uses the network, and starts threads
 /// and waits for them.
@@ -52,7 +49,15 @@ pub fn run<H: Host, S: AsStr, R: Read, W: Write, E: Write>(
     reader: &mut R,
     writer: &mut W,
     errors: &mut E,
-) -> u8 {
+) -> u8
+    ensures status { result ≤ 2 }
+    // A bad command line is refused before anything is read or written but why.
+    ensures bad { result ≡ 2 → (reader.new ≡ reader.old) × (writer.new ≡ writer.old) }
+    // Where it ends well, the words ask for help or the version, or what they ask for was done.
+    ensures done { result ≡ 0 → (AsksHelp (map S.text words.now) × (reader.new ≡ reader.old))
+        ⊎ ((settings : ASettings) × IsSettings (asked_of (map S.text words.now)) settings × (kinds_at (map S.text words.now) ≡ [])
+        × IsDone settings reader.old reader.new (W.contents writer.old) (W.contents writer.new)) }
+{
     match settings(rt.alloc(), words) {
         Ok(settings) => match obey(rt, settings, reader, writer) {
             Ok(()) => 0,
@@ -70,7 +75,11 @@ fn obey<H: Host, R: Read, W: Write>(
     settings: Settings<'_>,
     reader: &mut R,
     writer: &mut W,
-) -> Result<(), CommandFault> {
+) -> Result<(), CommandFault>
+    ensures done { OnOk result (IsDone settings.entry reader.old reader.new (W.contents writer.old) (W.contents writer.new)) }
+    ensures refused { IsOutOfLimits settings.entry → (result ≡ Err (CommandFault.Refused Refusal.BadGeometry))
+        × (reader.new ≡ reader.old) × (writer.new ≡ writer.old) }
+{
     match settings {
         Settings::Sim { params } => run_sim(rt.alloc(), params, reader, writer),
         Settings::Format {
@@ -79,14 +88,15 @@ fn obey<H: Host, R: Read, W: Write>(
             segments,
             length,
         } => {
-            let size = format_file(rt, file, params, segments, length);
-            let size = size.map_err(CommandFault::Refused)?;
-            print_size(size, writer)
+            let size = format_file(rt, file, params, segments, length)?;
+            print_size(size, writer)?;
+            Ok(())
         }
         Settings::Play { file, batch } => run_play(rt, file, batch, reader, writer),
         Settings::Audit { file } => run_audit(rt, file, writer),
         Settings::Serve { file, plan, turns } => {
-            run_serve(rt, file, plan, turns).map_err(CommandFault::Serve)
+            run_serve(rt, file, plan, turns)?;
+            Ok(())
         }
     }
 }
@@ -97,8 +107,12 @@ fn run_sim<R: Read, W: Write>(
     params: Params,
     reader: &mut R,
     writer: &mut W,
-) -> Result<(), CommandFault> {
-    params.check().map_err(CommandFault::Refused)?;
+) -> Result<(), CommandFault>
+    ensures limits { OnOk result (IsWithinLimits params) }
+    ensures refused { ¬ IsWithinLimits params → (result ≡ Err (CommandFault.Refused Refusal.BadGeometry))
+        × (reader.new ≡ reader.old) × (writer.new ≡ writer.old) }
+{
+    params.check()?;
     let Ok(mut output) = BufWriter::new(alloc, &mut *writer) else {
         return Err(CommandFault::Refused(Refusal::OutOfMemory));
     };
@@ -107,10 +121,15 @@ fn run_sim<R: Read, W: Write>(
 }
 
 /// Hands on the output that a command leaves in its buffer, and answers its outcome.
-fn ended<W: Write>(outcome: Result<(), SimFault>, output: &mut W) -> Result<(), CommandFault> {
+fn ended<W: Write>(outcome: Result<(), TextFault>, output: &mut W) -> Result<(), CommandFault>
+    ensures ok { OnOk result (IsOk outcome) }
+    ensures fault { IfErr outcome (λ fault. result ≡ Err (CommandFault.Text fault)) }
+    ensures keeps { Keeps (W.contents output.old) (W.contents output.new) }
+{
     let flushed = output.flush();
-    outcome.map_err(CommandFault::Sim)?;
-    flushed.map_err(|_| CommandFault::Sim(SimFault::Output))
+    outcome?;
+    flushed.map_err(|_| TextFault::Output)?;
+    Ok(())
 }
 
 /// Makes a new device in a file, and answers how many bytes it takes. Values out of their limits
@@ -121,7 +140,11 @@ fn format_file<H: AllocGlobal + Files<File = File>>(
     params: Params,
     segments: u64,
     length: Option<u64>,
-) -> Result<u64, Refusal> {
+) -> Result<u64, Refusal>
+    ensures size { IfOk result (λ size. size ≡ device_length (wanted params segments length)) }
+    ensures geometry { OnOk result (IsGeometry (wanted params segments length) (device_length (wanted params segments length))) }
+    ensures limits { result ≡ Err Refusal.BadGeometry ↔ ¬ IsGeometry (wanted params segments length) (device_length (wanted params segments length)) }
+{
     let geometry = geometry_of(params, segments, length)?;
     let size = device_size(&geometry);
     let mut disk = FileDisk::make(rt, file, size)?;
@@ -134,9 +157,11 @@ fn format_file<H: AllocGlobal + Files<File = File>>(
 }
 
 /// Prints how many bytes a new device takes.
-fn print_size<W: Write>(size: u64, writer: &mut W) -> Result<(), CommandFault> {
-    let printed = writeln!(writer, "formatted {size}").and_then(|()| writer.flush());
-    printed.map_err(|_| CommandFault::Sim(SimFault::Output))
+fn print_size<W: Write>(size: u64, writer: &mut W) -> Result<(), TextFault>
+    ensures { OnOk result (Appends (W.contents writer.old) (W.contents writer.new) (size_line size)) }
+{
+    writeln!(writer, "formatted {size}").map_err(|_| TextFault::Output)?;
+    writer.flush().map_err(|_| TextFault::Output)
 }
 
 /// Runs `play` on the device in a file, with its output in a buffer.
@@ -147,7 +172,7 @@ fn run_play<H: AllocGlobal + Files<File = File>, R: Read, W: Write>(
     reader: &mut R,
     writer: &mut W,
 ) -> Result<(), CommandFault> {
-    let mut journal = open_journal(rt, file).map_err(CommandFault::Refused)?;
+    let mut journal = open_journal(rt, file)?;
     let Ok(mut output) = BufWriter::new(rt.alloc(), &mut *writer) else {
         return Err(CommandFault::Refused(Refusal::OutOfMemory));
     };
@@ -161,20 +186,22 @@ fn run_play<H: AllocGlobal + Files<File = File>, R: Read, W: Write>(
     Ok(())
 }
 
-/// Writes the report on the device in a file, with its output in a buffer.
+/// Writes the report on the device in a file.
 fn run_audit<H: AllocGlobal + Files<File = File>, W: Write>(
     rt: &H,
     file: &str,
     writer: &mut W,
-) -> Result<(), CommandFault> {
-    let disk = FileDisk::open(rt, file).map_err(CommandFault::Refused)?;
-    let Ok(mut output) = BufWriter::new(rt.alloc(), &mut *writer) else {
-        return Err(CommandFault::Refused(Refusal::OutOfMemory));
-    };
-    match audit(rt.alloc(), disk, &mut output) {
-        Ok(_disk) => ended(Ok(()), &mut output),
-        Err((AuditFault::Output, _disk)) => Err(CommandFault::Sim(SimFault::Output)),
-        Err((AuditFault::Refused(refusal), _disk)) => Err(CommandFault::Refused(refusal)),
+) -> Result<(), CommandFault>
+    ensures reported { OnOk result (HasReport (W.contents writer.old) (W.contents writer.new)) }
+    ensures silent { IfErr result (λ fault. (refusal : ARefusal) → fault ≡ CommandFault.Refused refusal → Keeps (W.contents writer.old) (W.contents writer.new)) }
+{
+    let disk = FileDisk::open(rt, file)?;
+    match audit(rt.alloc(), disk, writer) {
+        Ok(_disk) => {
+            writer.flush().map_err(|_| TextFault::Output)?;
+            Ok(())
+        }
+        Err((fault, _disk)) => Err(CommandFault::from(fault)),
     }
 }
 
@@ -189,7 +216,10 @@ fn run_serve<H: Host>(rt: &H, file: &str, plan: &str, turns: u64) -> Result<(), 
 fn open_journal<H: AllocGlobal + Files<File = File>>(
     rt: &H,
     file: &str,
-) -> Result<Journal<FileDisk>, Refusal> {
+) -> Result<Journal<FileDisk>, Refusal>
+    ensures whole { IfOk result (λ journal. journal.broken ≡ false) }
+    ensures refusal { IfErr result (λ refusal. (fault : OpenFault) × (refusal ≡ opening_refusal fault)) }
+{
     let disk = FileDisk::open(rt, file)?;
     match Journal::open(rt.alloc(), disk) {
         Ok(journal) => Ok(journal),
@@ -198,23 +228,29 @@ fn open_journal<H: AllocGlobal + Files<File = File>>(
 }
 
 /// Shows help or the version, and answers the status.
-fn show<T: Display, W: Write, E: Write>(text: &T, writer: &mut W, errors: &mut E) -> u8 {
+fn show<T: Display, W: Write, E: Write>(text: &T, writer: &mut W, errors: &mut E) -> u8
+    ensures { result ≤ 1 }
+{
     let shown = write!(writer, "{text}").and_then(|()| writer.flush());
     match shown {
         Ok(()) => 0,
-        Err(_) => fail(&SimFault::Output, errors),
+        Err(_) => fail(&TextFault::Output, errors),
     }
 }
 
 /// Writes what is wrong with a command line, and answers the status.
-fn complain<T: Display, E: Write>(text: &T, errors: &mut E) -> u8 {
+fn complain<T: Display, E: Write>(text: &T, errors: &mut E) -> u8
+    ensures { result ≡ 2 }
+{
     // Nothing is left to tell where even this fails.
     let _told = write!(errors, "{text}");
     2
 }
 
 /// Writes why a command failed, and answers its status.
-fn fail<F: Display, E: Write>(fault: &F, errors: &mut E) -> u8 {
+fn fail<F: Display, E: Write>(fault: &F, errors: &mut E) -> u8
+    ensures { result ≡ 1 }
+{
     // Nothing is left to tell where even this fails.
     let _told = writeln!(errors, "{fault}");
     1

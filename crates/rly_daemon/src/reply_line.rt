@@ -1,4 +1,5 @@
-ghost use Rattle.std.specs.Prelude.{◌≡◌, Some};
+ghost use Rattle.std.specs.Prelude.{◌≡◌, ◌≤◌, Some, length};
+ghost use Rattle.hex.specs.Hex.{encode_lower};
 
 use rly_audit::HopCounts;
 use rly_core::{HopId, PeerId};
@@ -151,6 +152,9 @@ impl fmt::Display for Hexadecimal<'_> {
     }
 }
 
+/// How many bytes of a payload are written at once.
+const PIECE: usize = 64;
+
 /// Bytes, each as two hexadecimal digits.
 #[derive(Drop)]
 struct Digits<'a> {
@@ -158,35 +162,25 @@ struct Digits<'a> {
 }
 
 impl fmt::Display for Digits<'_> {
-    ghost use Rattle.hex.specs.Hex.{encode_lower};
-
     ghost output = { λ digits. Some (encode_lower digits.bytes.now) };
 
-    #[tactic(auto, using(std::proofs::lemmas::Grind::common_steps), unfolding(hex::specs::Hex::encode_with))]
     fn fmt<W: fmt::Write>(&self, f: &mut fmt::Formatter<W>) -> fmt::Result {
-        for byte in self.bytes {
-            write!(f, "{}", DigitPair { byte: *byte })?;
+        let mut buffer = [0; 2 * PIECE];
+        for piece in self.bytes.chunks(PIECE) {
+            f.write_str(digits_of(piece, &mut buffer))?;
         }
         Ok(())
     }
 }
 
-/// A byte as two hexadecimal digits.
-#[derive(Drop)]
-struct DigitPair {
-    byte: u8,
-}
-
-impl fmt::Display for DigitPair {
-    ghost use Rattle.std.specs.Prelude.{◌∷◌, []};
-    ghost use Rattle.hex.specs.Hex.{encode_lower};
-
-    ghost output = { λ pair. Some (encode_lower (pair.byte ∷ [])) };
-
-    fn fmt<W: fmt::Write>(&self, f: &mut fmt::Formatter<W>) -> fmt::Result {
-        let byte = self.byte;
-        write!(f, "{byte:02x}")
-    }
+/// The digits of at most 64 bytes, in a buffer.
+fn digits_of<'a>(bytes: &[u8], buffer: &'a mut [u8; 2 * PIECE]) -> &'a str
+    requires { length bytes.now ≤ 64 }
+    ensures { result.now ≡ encode_lower bytes.now }
+{
+    let digits = &mut buffer[..2 * bytes.len()];
+    hex::encode_to_slice(bytes, digits).unwrap();
+    str::from_utf8(digits).unwrap()
 }
 
 /// All numbers of a hop, as a line.

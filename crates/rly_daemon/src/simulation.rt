@@ -1,13 +1,13 @@
 ghost use Rattle.std.specs.Prelude.{◌≡◌, ◌<◌, ◌^◌, IfOk, IfSome, Ok, OnErr, OnOk, true};
-ghost use Rattle.std.specs.Io.KnownBytes.{Appends, Keeps, prepend_known};
+ghost use Rattle.std.specs.Io.KnownBytes.{Appends, prepend_known};
 ghost use Rattle.rly_core.specs.Limits.{IsWithinLimits};
 ghost use Rattle.rly_machine.specs.State.{new_state};
 ghost use Rattle.rly_stream.specs.Beginnings.{AppendsBeginning};
 ghost use Rattle.rly_daemon.specs.Text.{AnswersLine, BeginsAnswer, text_of};
 
 use crate::evaluation::answer_line;
-use crate::fault::SimFault;
-use crate::line_reader::LineReader;
+use crate::fault::TextFault;
+use crate::line_reader::{LineReader, hand_on};
 use rly_core::Params;
 use rly_machine::{Machine, Payload};
 use rly_stream::write_whole;
@@ -22,7 +22,7 @@ pub fn sim<R: Read, W: Write>(
     params: Params,
     reader: &mut R,
     writer: &mut W,
-) -> Result<(), SimFault>
+) -> Result<(), TextFault>
     requires { IsWithinLimits params }
     // What is written is the text of what is read.
     ensures written { OnOk result (IfSome (R.remaining reader.old) (λ input.
@@ -46,7 +46,7 @@ fn answer_next<R: Read, W: Write>(
     text: &mut String,
     reader: &mut R,
     writer: &mut W,
-) -> Result<bool, SimFault>
+) -> Result<bool, TextFault>
     ensures answered { IfOk result (λ more. AnswersLine more
         (prepend_known lines.old.ahead (R.remaining reader.old)) (prepend_known lines.new.ahead (R.remaining reader.new))
         (W.contents writer.old) (W.contents writer.new) machine.old.state machine.new.state) }
@@ -61,17 +61,4 @@ fn answer_next<R: Read, W: Write>(
     answer_line(alloc, machine, lines.line(), text)?;
     write_whole(writer, text.as_bytes())?;
     Ok(true)
-}
-
-/// Hands on the replies that a writer holds back, if the next line waits for the reader.
-pub(crate) fn hand_on<W: Write>(lines: &LineReader, writer: &mut W) -> Result<(), SimFault>
-    ensures { Keeps (W.contents writer.old) (W.contents writer.new) }
-{
-    if !lines.is_drained() {
-        return Ok(());
-    }
-    match writer.flush() {
-        Ok(()) => Ok(()),
-        Err(_) => Err(SimFault::Output),
-    }
 }

@@ -1,4 +1,5 @@
 mod devices;
+mod flushing;
 mod links;
 mod playing;
 mod programs;

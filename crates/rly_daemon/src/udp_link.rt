@@ -62,7 +62,7 @@ impl<C: Clock + Drop> UdpLink<C> {
 }
 
 impl<C: Clock + Drop> Link for UdpLink<C> {
-    ghost use Rattle.std.specs.Prelude.{◌≡◌, ◌≤◌, ◌-◌, ◌^◌, IfOk, IfSome, IsErr, None, OnErr, length};
+    ghost use Rattle.std.specs.Prelude.{◌≡◌, ◌≤◌, ◌-◌, ◌^◌, IfOk, IfSome, IsErr, None, OnErr, OnOk, length};
     ghost use Rattle.rly_threads.specs.Ends.{Rose};
 
     ghost heard = { λ _. None };
@@ -74,6 +74,7 @@ impl<C: Clock + Drop> Link for UdpLink<C> {
     fn recv(&mut self, buffer: &mut [u8]) -> Result<Option<usize>, LinkFault>
         ensures bound { IfOk result (λ found. IfSome found (λ count. count ≤ length buffer.new)) }
         ensures rise { OnErr result (Rose self.old.failures self.new.failures) }
+        ensures no_failure { OnOk result (self.new.failures ≡ self.old.failures) }
         ensures spent { self.old.failures ≡ 2 ^ 64 - 1 → IsErr result }
     {
         if !self.is_spent() {
@@ -90,6 +91,7 @@ impl<C: Clock + Drop> Link for UdpLink<C> {
 
     fn send(&mut self, packet: &[u8]) -> Result<(), LinkFault>
         ensures rise { OnErr result (Rose self.old.failures self.new.failures) }
+        ensures no_failure { OnOk result (self.new.failures ≡ self.old.failures) }
         ensures spent { self.old.failures ≡ 2 ^ 64 - 1 → IsErr result }
     {
         if self.is_spent() {

@@ -1,5 +1,6 @@
-ghost use Rattle.std.specs.Prelude.{◌≡◌};
-ghost use Rattle.rly_daemon.specs.WallClock.{goes_on, left_at, moment_of, turns_left};
+ghost use Rattle.std.specs.Prelude.{◌≡◌, ◌≢◌, List, Option, ℕ};
+ghost use Rattle.rly_daemon.specs.WallClock.{goes_on, left_at, moment_of, starts, turns_had, turns_left, turns_of};
+ghost use Rattle.rly_threads.specs.declared.turn.Point.{Point as APoint};
 
 use rly_threads::{Go, Point, Turn, Worker};
 use std::sync::Wait;
@@ -26,10 +27,17 @@ impl<C: Clock + Drop> WallClock<C> {
         }
     }
 
+    /// How many turns a worker has, whatever the points that it comes to, where so many are left: as many as it has starts,
+    /// and no more than are left.
+    pub fn law_turns()
+        ensures { (left : Option ℕ) (points : List APoint) → turns_had left points ≡ turns_of left (starts points) }
+    {}
+
     /// What it hands out at a point. The clock is read at the start of a turn.
     fn go(&mut self, point: Point) -> Go
         ensures on { result.on ≡ goes_on point self.old.left }
         ensures now { result.now ≡ self.new.now }
+        ensures held { point ≢ Point.Start → self.new.now ≡ self.old.now }
         ensures left { self.new.left ≡ left_at point self.old.left }
     {
         if point != Point::Start {
@@ -49,13 +57,16 @@ impl<C: Clock + Drop> WallClock<C> {
 }
 
 impl<C: Clock + Drop> Turn for WallClock<C> {
-    ghost use Rattle.std.specs.Prelude.{◌≡◌, None};
+    ghost use Rattle.std.specs.Prelude.{◌≡◌, ◌≢◌, None};
     ghost use Rattle.rly_daemon.specs.WallClock.{goes_on, left_at};
 
     ghost told = { λ _. None };
 
     fn between<R: Wait>(&mut self, rt: &R, worker: Worker, point: Point) -> Go
         ensures on { result.on ≡ goes_on point self.old.left }
+        ensures now { result.now ≡ self.new.now }
+        // Within a turn it hands out the moment of its start.
+        ensures held { point ≢ Point.Start → self.new.now ≡ self.old.now }
         ensures left { self.new.left ≡ left_at point self.old.left }
     {
         let _ = rt;

@@ -100,6 +100,9 @@ impl<D: Disk> Disk for FaultDisk<D> {
         ensures chosen { IsTrue (fails_next self.old) → IsErr result }
         ensures passed { fails_next self.old ≡ false → ¬ IsSpent (fault_state D.state self.old)
             → OnErr result (Rose (D.state (inner_of self.old)) (D.state (inner_of self.new))) }
+        // It makes that call of the disk in it, once.
+        ensures once { fails_next self.old ≡ false → ¬ IsSpent (fault_state D.state self.old) → ¬ IsSpent (D.state (inner_of self.old))
+            → Counted (if is_ok result then 0 else 1) 0 (if is_ok result then 0 else 1) (D.state (inner_of self.old)) (D.state (inner_of self.new)) }
         ensures plan { plan_of self.new ≡ plan_of self.old }
         ensures nothing_done { IsTrue (fails_next self.old) → inner_of self.new ≡ inner_of self.old }
     {
@@ -130,6 +133,11 @@ impl<D: Disk> Disk for FaultDisk<D> {
         ensures chosen { IsTrue (fails_next self.old) → IsErr result }
         ensures passed { fails_next self.old ≡ false → ¬ IsSpent (fault_state D.state self.old)
             → OnErr result (Rose (D.state (inner_of self.old)) (D.state (inner_of self.new))) }
+        // It makes one write of the disk in it, a chosen one too, and nothing else.
+        ensures once { ¬ IsSpent (fault_state D.state self.old) → ¬ IsSpent (D.state (inner_of self.old))
+            → (D.state (inner_of self.new)).calls ≡ (D.state (inner_of self.old)).calls + 1 }
+        ensures no_sync { ¬ IsSpent (fault_state D.state self.old) → ¬ IsSpent (D.state (inner_of self.old))
+            → (D.state (inner_of self.new)).syncs ≡ (D.state (inner_of self.old)).syncs }
         ensures plan { plan_of self.new ≡ plan_of self.old }
         // The first bytes of a write that was chosen are put, unless the disk in it fails.
         ensures put { (fault_state D.state self.old).honest → IsTrue (fails_next self.old) → ¬ IsSpent (fault_state D.state self.old)
@@ -166,6 +174,9 @@ impl<D: Disk> Disk for FaultDisk<D> {
         ensures chosen { IsTrue (fails_next self.old) → IsErr result }
         ensures passed { fails_next self.old ≡ false → ¬ IsSpent (fault_state D.state self.old)
             → OnErr result (Rose (D.state (inner_of self.old)) (D.state (inner_of self.new))) }
+        // It makes that call of the disk in it, once.
+        ensures once { fails_next self.old ≡ false → ¬ IsSpent (fault_state D.state self.old) → ¬ IsSpent (D.state (inner_of self.old))
+            → Counted (if is_ok result then 0 else 1) 1 0 (D.state (inner_of self.old)) (D.state (inner_of self.new)) }
         ensures plan { plan_of self.new ≡ plan_of self.old }
         ensures nothing_done { IsTrue (fails_next self.old) → inner_of self.new ≡ inner_of self.old }
     {

@@ -8,8 +8,8 @@ use Rattle.rly_machine.specs.declared.call.Call.{Call}
 use Rattle.rly_machine.specs.History.{IsAnswered, LegalBy, harm, harm_after, next_state, state_after, without_bytes}
 use Rattle.rly_machine.specs.State.{State}
 use Rattle.rly_machine.proofs.Histories.{harm_after-append, state_after-append}
-use Rattle.rly_line.specs.Responding.{AreLeft, Responding, asks_of}
-use Rattle.rly_flush.proofs.Refusing.{asks_append}
+use Rattle.rly_line.specs.Responding.{AreLeft, Responding, calls_in}
+use Rattle.rly_flush.proofs.Refusing.{calls_in_append}
 
 -- the first of the calls from a place on
 pub said_next : (said : List (Snapshot Call)) (i : ℕ) (x : Snapshot Call) → i < length said → x ≡ get_or said i x
@@ -36,8 +36,8 @@ module _ (line : Responding) (all : List Call) (call : Call) (calls : List Call)
   module _ (now : Responding) (taken : now.taken ≡ line.taken) (start : now.start ≡ line.start) (history : now.history ≡ line.history ++ (call, answer) ∷ []) where
     pub then_left : AreLeft now calls
     then_left =
-        let asks : asks_of now.history ≡ asks_of line.history ++ call ∷ [] = ap asks_of history ∙ asks_append line.history ((call, answer) ∷ []) in
-        taken ∙ next_left ∙ sym (append_assoc (asks_of line.history) (call ∷ []) calls) ∙ ap (λ l. l ++ calls) (sym asks)
+        let asks : calls_in now.history ≡ calls_in line.history ++ call ∷ [] = ap calls_in history ∙ calls_in_append line.history ((call, answer) ∷ []) in
+        taken ∙ next_left ∙ sym (append_assoc (calls_in line.history) (call ∷ []) calls) ∙ ap (λ l. l ++ calls) (sym asks)
 
     pub then_legal : LegalBy without_bytes (harm_after 0 now.history) (state_after now.start now.history) (zip calls given)
     then_legal =

@@ -15,11 +15,11 @@ use Rattle.rly_journal.specs.Journal.{IsRound, IsSafe, JournalState}
 use Rattle.rly_journal.specs.Rounds.{AreServed, refusal_of, refusals}
 use Rattle.rly_journal.specs.Standing.{Stands}
 use Rattle.rly_line.specs.Replies.{Teller}
-use Rattle.rly_line.specs.Responding.{IsResponding, Responding, asks_of}
+use Rattle.rly_line.specs.Responding.{IsResponding, Responding, calls_in}
 use Rattle.rly_line.specs.Submission.{LineId}
 use Rattle.rly_flush.specs.Flushing.{FlusherState, GrewInRound, HoldsAnswered, IsBreach, IsCrashSafe, IsFlushing, IsOneHistory, KeepsAnswered, answered_state, fallen, reached}
 use Rattle.rly_flush.proofs.Joining.{GoesOn, goes_on}
-use Rattle.rly_flush.proofs.Refusing.{asks_append, asks_zip, grows, up_to, up_to_more}
+use Rattle.rly_flush.proofs.Refusing.{calls_in_append, calls_in_zip, grows, up_to, up_to_more}
 
 -- a flusher once these calls were taken and answered
 abbrev pub next_of : {D : Type 0} → FlusherState D → JournalState D → List Teller → List Call → List Answer → FlusherState D
@@ -221,7 +221,7 @@ module _ {D : Type 0} (state : D → DiskState) (consistent : (disk : D) → (st
         responding = responding;
         start = kept.start;
         as_given = kept.as_given;
-        answered = asks_append old.line.history (zip calls given) ∙ ap (λ l. l ++ asks_of (zip calls given)) kept.answered ∙ ap (λ l. old.line.taken ++ l) (asks_zip calls given on.count);
+        answered = calls_in_append old.line.history (zip calls given) ∙ ap (λ l. l ++ calls_in (zip calls given)) kept.answered ∙ ap (λ l. old.line.taken ++ l) (calls_in_zip calls given on.count);
         legal = legal_append (λ reply. reply) 0 old.line.start old.line.history (zip calls given) kept.legal on.legal;
         position_is = on.position_is;
         running = on.running;

@@ -15,15 +15,15 @@ use Rattle.rly_machine.specs.State.{State}
 use Rattle.rly_machine.proofs.Histories.{folds}
 use Rattle.rly_machine.proofs.RealReplies.{harmless}
 use Rattle.rly_journal.specs.Rounds.{OnlyMemory, refusal_of, refusals}
-use Rattle.rly_line.specs.Responding.{asks_of}
+use Rattle.rly_line.specs.Responding.{calls_in}
 use Rattle.rly_flush.specs.Flushing.{IsTruthful}
 
 -- the calls of a history that goes on
-pub asks_append : (xs ys : List Entry) → asks_of (xs ++ ys) ≡ asks_of xs ++ asks_of ys
-asks_append xs ys = map-append (λ (e : Entry). e.0) xs ys
+pub calls_in_append : (xs ys : List Entry) → calls_in (xs ++ ys) ≡ calls_in xs ++ calls_in ys
+calls_in_append xs ys = map-append (λ (e : Entry). e.0) xs ys
 
-pub asks_zip : (calls : List Call) (given : List Answer) → length given ≡ length calls → asks_of (zip calls given) ≡ calls
-asks_zip calls given count = firsts-zip calls given count
+pub calls_in_zip : (calls : List Call) (given : List Answer) → length given ≡ length calls → calls_in (zip calls given) ≡ calls
+calls_in_zip calls given count = firsts-zip calls given count
 
 pub count_refusals : (refusal : Refusal) (p : ℕ) (calls : List Call) → length (refusals refusal p calls) ≡ length calls
 count_refusals refusal p [] = refl

@@ -14,7 +14,7 @@ use Rattle.rly_journal.specs.Journal.{IsRound, JournalState}
 use Rattle.rly_journal.specs.Rounds.{AreServed, refusals}
 use Rattle.rly_journal.specs.Standing.{Stands}
 use Rattle.rly_line.specs.EndViews.{EndView}
-use Rattle.rly_line.specs.Responding.{AreTold, IsResponding, Responding, asks_of}
+use Rattle.rly_line.specs.Responding.{AreTold, IsResponding, Responding, calls_in}
 
 -- what contracts see of a flusher: the journal that it was given, that journal now, and what became of the calls
 pub record FlusherState (D : Type 0) : Type 0 where
@@ -55,7 +55,7 @@ pub record IsFlushing {D : Type 0} (state : D → DiskState) (f : FlusherState D
   pub start : f.line.start ≡ answered_state f.first
   pub as_given : f.first.broken ≡ false → f.line.start ≡ f.first.state
   -- there is one history, of the calls that were taken, in order
-  pub answered : asks_of f.line.history ≡ f.line.taken
+  pub answered : calls_in f.line.history ≡ f.line.taken
   pub legal : Legal f.line.start f.line.history
   -- the journal is where the history led to
   pub position_is : f.journal.position ≡ position f.line.start f.line.history
@@ -127,7 +127,7 @@ KeepsAnswered disk history = (image : List ℕ) → disk.images image → HoldsA
 -- what holds at each exit: there is one history of the calls that were taken
 pub record IsOneHistory {D : Type 0} (state : D → DiskState) (f : FlusherState D) : Type 0 where
   -- its calls are those, in the order in which they were taken
-  pub calls : asks_of f.line.history ≡ f.line.taken
+  pub calls : calls_in f.line.history ≡ f.line.taken
   -- it is legal from the state of the journal that was given
   pub start : f.line.start ≡ answered_state f.first
   pub as_given : f.first.broken ≡ false → f.line.start ≡ f.first.state

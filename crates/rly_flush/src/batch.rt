@@ -7,6 +7,7 @@ ghost use Rattle.rly_machine.specs.History.{LegalBy, harm_after, state_after, wi
 ghost use Rattle.rly_line.specs.Responding.{AreLeft, IsResponding};
 ghost use Rattle.rly_flush.specs.Batches.{said_of};
 
+use rly_core::limits;
 use rly_line::{Responder, Standing};
 use rly_machine::{Answer, Call};
 use std::alloc::{AllocError, Global};
@@ -15,7 +16,7 @@ use std::snapshot::Snapshot;
 use std::sync::Wait;
 
 /// So many calls a round takes at most.
-const MAX_CALLS: usize = 64;
+const MAX_CALLS: usize = limits::MAX_ROUND as usize;
 
 /// The lists of one round, which are empty between rounds: the calls, the same calls for the history, which take no
 /// room, and the answers. Their memory is reserved once.

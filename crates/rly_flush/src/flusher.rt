@@ -5,7 +5,7 @@ ghost use Rattle.rly_disk.specs.DiskModel.{Later, Settled};
 ghost use Rattle.rly_journal.specs.Journal.{IsRound, IsSafe};
 ghost use Rattle.rly_journal.specs.Standing.{Stands};
 ghost use Rattle.rly_line.specs.EndViews.{new_teller};
-ghost use Rattle.rly_line.specs.Responding.{asks_of};
+ghost use Rattle.rly_line.specs.Responding.{calls_in};
 ghost use Rattle.rly_line.specs.Submission.{IsBeginning};
 ghost use Rattle.rly_flush.specs.Flushing.{GrewInRound, IsCrashSafe, IsOneHistory, IsOneRound, IsServed, new_flusher};
 
@@ -140,7 +140,7 @@ impl<D: Disk> Flusher<D> {
     pub fn law_beginning(&mut self, seat: Seat) -> Seat
         requires { seat.of ≡ self.old.line.of }
         ensures same { (self.new ≡ self.old) × (result ≡ seat) }
-        ensures begins { IsBeginning seat.seat.0 (asks_of self.old.line.history) seat.put }
+        ensures begins { IsBeginning seat.seat.0 (calls_in self.old.line.history) seat.put }
     {
         self.line.law_beginning(seat)
     }

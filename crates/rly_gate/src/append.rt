@@ -2,7 +2,7 @@ ghost use Rattle.std.specs.Prelude.{◌≡◌, ◌+◌, ◌<◌, ◌≤◌, ◌^
 ghost use Rattle.rly_disk.specs.DiskModel.{Later, LeavesOnly, Rose, Settled, overwritten};
 ghost use Rattle.rly_gate.specs.Group.{IsAppended, IsClosed, body_of, frame_of, group_of};
 
-use crate::gate::{CLOSED_GATE, OPEN_GATE};
+use crate::gate::{CLOSED_GATE, LENGTH_BYTES, OPEN_GATE};
 use crate::settling::settle;
 use byteorder::{BigEndian, ByteOrder};
 use rly_disk::{Disk, DiskFault};
@@ -29,6 +29,7 @@ pub fn append_group<D: Disk>(disk: &mut D, at: u64, frame: &mut [u8]) -> Result<
     ensures calls { (D.state disk.new).calls ≤ (D.state disk.old).calls + 4 }
     ensures made { OnOk result ((D.state disk.new).calls ≡ (D.state disk.old).calls + 4) }
     ensures later { Later (D.state disk.old) (D.state disk.new) }
+    ensures no_failed_read { (D.state disk.new).failed_reads ≡ (D.state disk.old).failed_reads }
     ensures frame { frame.new ≡ frame_of (body_of frame.old) }
 {
     fill_frame(frame);
@@ -43,6 +44,6 @@ fn fill_frame(frame: &mut [u8])
     ensures { frame.new ≡ frame_of (body_of frame.old) }
 {
     let last = frame.len() - 1;
-    BigEndian::write_u32(frame, (last - 4) as u32);
+    BigEndian::write_u32(frame, (last - LENGTH_BYTES) as u32);
     frame[last] = CLOSED_GATE;
 }

@@ -9,4 +9,4 @@ pub(crate) const LENGTH_BYTES: usize = 4;
 
 /// How many bytes longer than its body a frame is: the body's length in front of it, and the closed
 /// gate behind it.
-pub const FRAME_OVERHEAD: usize = 5;
+pub(crate) const FRAME_OVERHEAD: u64 = 5;

@@ -14,6 +14,6 @@ mod settling;
 mod tests;
 
 pub use crate::append::append_group;
-pub use crate::gate::{FRAME_OVERHEAD, OPEN_GATE};
+pub use crate::gate::OPEN_GATE;
 pub use crate::read::{GroupFault, read_group};
 pub use crate::settling::settle;

@@ -4,7 +4,7 @@ ghost use Rattle.rly_disk.specs.DiskModel.{Rose};
 ghost use Rattle.rly_gate.specs.Group.{IsOpen};
 ghost use Rattle.rly_gate.specs.Reading.{HoldsSome, IsReadGroup, IsReadLength, OnlyRead, SyncsNothing};
 
-use crate::gate::{LENGTH_BYTES, OPEN_GATE};
+use crate::gate::{FRAME_OVERHEAD, LENGTH_BYTES, OPEN_GATE};
 use byteorder::{BigEndian, ByteOrder};
 use rly_disk::Disk;
 use std::alloc::Global;
@@ -75,13 +75,13 @@ fn read_length<D: Disk>(disk: &mut D, at: u64, end: u64) -> Result<usize, GroupF
     ensures within { IfOk result (λ n. at + 6 + n ≤ end) }
 {
     let room = end - at - 1;
-    if room < LENGTH_BYTES as u64 + 1 {
+    if room < FRAME_OVERHEAD {
         return Err(GroupFault::Damaged);
     }
     let mut field = [0u8; LENGTH_BYTES];
     read(disk, at + 1, &mut field)?;
     let length = length_in(&field);
-    if u64::from(length) > room - LENGTH_BYTES as u64 - 1 {
+    if u64::from(length) > room - FRAME_OVERHEAD {
         return Err(GroupFault::Damaged);
     }
     Ok(length as usize)

@@ -22,6 +22,7 @@ pub fn settle<D: Disk>(disk: &mut D, at: u64, bytes: &[u8]) -> Result<(), DiskFa
     ensures calls { (D.state disk.new).calls ≤ (D.state disk.old).calls + 2 }
     ensures made { OnOk result ((D.state disk.new).calls ≡ (D.state disk.old).calls + (if length bytes.now == 0 then 1 else 2)) }
     ensures later { Later (D.state disk.old) (D.state disk.new) }
+    ensures no_failed_read { (D.state disk.new).failed_reads ≡ (D.state disk.old).failed_reads }
 {
     if !bytes.is_empty() {
         disk.write_at(at, bytes)?;

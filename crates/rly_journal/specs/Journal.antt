@@ -1,7 +1,8 @@
 -- What contracts see of a journal, and what a round does to it.
-use Rattle.std.specs.Prelude.{◌≡◌, ◌⊎◌, ℕ, List, [], ◌∷◌, Bool, true, false, ◌||◌}
+use Rattle.std.specs.Prelude.{◌≡◌, ◌⊎◌, ◌+◌, ◌≤◌, ℕ, List, Bool, true, false}
+use Rattle.std.specs.List.{list_any}
 use Rattle.rly_core.specs.declared.refusal.Refusal.TheVariants.{Broken, Unsure}
-use Rattle.rly_disk.specs.DiskModel.{DiskState, LeavesOnly, Rose}
+use Rattle.rly_disk.specs.DiskModel.{DiskState, IsSpent, LeavesOnly, Rose}
 use Rattle.rly_machine.specs.declared.call.Answer.{Answer}
 use Rattle.rly_machine.specs.declared.call.Call.{Call}
 use Rattle.rly_machine.specs.declared.command.Ask.{Ask}
@@ -28,6 +29,11 @@ pub record IsKept (disk : DiskState) (tail : Tail) (s : State (List ℕ)) (posit
   pub durable : broken ≡ false → disk.honest → IsDurable disk tail s
   pub counted : broken ≡ false → position ≡ s.seq
 
+-- one sync was made, done or failed; where the counts stand at their last value it isn't counted
+pub record SyncsOnce (old new : DiskState) : Type 0 where
+  pub most : new.syncs ≤ old.syncs + 1
+  pub counted : ¬ IsSpent old → new.syncs ≡ old.syncs + 1
+
 -- whether an ask is a command
 abbrev pub is_command : Ask → Bool
 is_command (Command _) = true
@@ -35,8 +41,7 @@ is_command (Query _) = false
 
 -- whether a round holds a command
 abbrev pub holds_command : List Call → Bool
-holds_command [] = false
-holds_command (call ∷ calls) = is_command call.ask || holds_command calls
+holds_command calls = list_any (λ call. is_command call.ask) calls
 
 -- a new segment is due before a round of these calls
 abbrev pub IsDueFor : {D : Type 0} → JournalState D → List Call → Type 0

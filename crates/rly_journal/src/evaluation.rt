@@ -1,7 +1,6 @@
-ghost use Rattle.std.specs.Prelude.{◌≡◌, ◌≢◌, ◌⊎◌, ◌+◌, ◌<◌, ◌≤◌, [], ◌++◌, ℕ, List, drop, length, map, take, true, vec_capacity};
+ghost use Rattle.std.specs.Prelude.{◌≡◌, ◌⊎◌, ◌+◌, ◌<◌, ◌≤◌, [], ◌++◌, ℕ, List, drop, length, map, take, true, vec_capacity};
 ghost use Rattle.rly_machine.specs.declared.command.Command.{Command as ACommand};
 ghost use Rattle.rly_machine.specs.declared.call.Answer.{Answer as AnAnswer};
-ghost use Rattle.rly_machine.specs.Accepted.{is_accepted};
 ghost use Rattle.rly_machine.specs.History.{IsAnswered, next_state};
 ghost use Rattle.rly_record.specs.Spelling.{IsShort};
 ghost use Rattle.rly_journal.specs.Groups.{Gathers, IsTaken, empty_group};
@@ -132,7 +131,7 @@ fn answer_command(
     }
     group.stage(&command);
     let reply = machine.apply(command, room);
-    if was_accepted(&reply) {
+    if reply.is_accepted() {
         group.keep();
     } else {
         group.discard();
@@ -149,14 +148,4 @@ fn is_short(command: &Command<Payload>) -> bool
         Command::Take { payload, .. } => payload.len() as u64 <= MAX_PAYLOAD,
         Command::Pick { .. } | Command::Release { .. } => true,
     }
-}
-
-/// Whether a reply says that a command was accepted.
-fn was_accepted(reply: &Reply) -> bool
-    ensures { result ≡ is_accepted reply.now }
-{
-    matches!(
-        reply,
-        Reply::Taken(_) | Reply::Picked { .. } | Reply::Nothing | Reply::Released(_)
-    )
 }

@@ -122,6 +122,7 @@ impl Group {
         ensures syncs { (D.state disk.new).syncs ≤ (D.state disk.old).syncs + 2 }
         ensures calls { (D.state disk.new).calls ≤ (D.state disk.old).calls + 4 }
         ensures later { Later (D.state disk.old) (D.state disk.new) }
+        ensures no_failed_read { (D.state disk.new).failed_reads ≡ (D.state disk.old).failed_reads }
         ensures emptied { self.new ≡ empty_group }
     {
         complete(&mut self.frame, self.count);

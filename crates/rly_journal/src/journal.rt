@@ -1,4 +1,4 @@
-ghost use Rattle.std.specs.Prelude.{◌≡◌, ◌≢◌, ◌⊎◌, ◌+◌, ◌≤◌, ◌++◌, [], Err, IfErr, IfOk, IsOk, IsTrue, List, MatchResult, Ok, OnErr, OnOk, ◌↔◌, length, vec_capacity, true, false, if◌then◌else◌};
+ghost use Rattle.std.specs.Prelude.{◌≡◌, ◌≢◌, ◌⊎◌, ◌+◌, ◌≤◌, ◌++◌, [], Err, IfErr, IfOk, IsOk, List, MatchResult, Ok, OnErr, OnOk, length, vec_capacity, true, false, if◌then◌else◌};
 ghost use Rattle.rly_core.specs.Bounds.{IsIn};
 ghost use Rattle.rly_disk.specs.DiskModel.{Later, LeavesOnly, Rose, Settled};
 ghost use Rattle.rly_gate.specs.Reading.{OnlyRead};
@@ -8,9 +8,10 @@ ghost use Rattle.rly_machine.specs.Sound.{IsSound};
 ghost use Rattle.rly_machine.specs.State.{has_peer, last_at};
 ghost use Rattle.rly_machine.specs.Query.{fetched, item_of, show_reply};
 ghost use Rattle.rly_journal.specs.Faults.{IsRefused};
-ghost use Rattle.rly_journal.specs.Journal.{Breaks, Goes, IsDueFor, IsRound, IsSafe, holds_command};
+ghost use Rattle.rly_journal.specs.Journal.{Breaks, Goes, IsDueFor, IsRound, IsSafe, SyncsOnce, holds_command};
 ghost use Rattle.rly_journal.specs.Groups.{empty_group};
 ghost use Rattle.rly_journal.specs.Log.{IsDurable, IsSameHead, IsShaped};
+ghost use Rattle.rly_journal.specs.Rounds.{refusals};
 ghost use Rattle.rly_journal.specs.Standing.{Stands};
 
 use crate::evaluation::{answer_calls, make_unsure, refuse_all};
@@ -70,6 +71,10 @@ impl<D: Disk> Journal<D> {
         // What is refused is durable: it is refused again after a crash.
         ensures stays_refused { (D.state disk).honest → IfErr result (λ failed. failed.0 ≢ OpenFault.Device → Settled (D.state failed.1)) }
         ensures rise { IfErr result (λ failed. failed.0 ≡ OpenFault.Device → Rose (D.state disk) (D.state failed.1)) }
+        // No call that fails is tried again.
+        ensures no_failure { MatchResult result (λ journal. (D.state journal.disk).failures ≡ (D.state disk).failures)
+            (λ failed. failed.0 ≢ OpenFault.Device → (D.state failed.1).failures ≡ (D.state disk).failures) }
+        ensures one_sync { MatchResult result (λ journal. SyncsOnce (D.state disk) (D.state journal.disk)) (λ failed. SyncsOnce (D.state disk) (D.state failed.1)) }
     {
         let mut disk = disk;
         match begin(alloc, &mut disk) {
@@ -111,11 +116,14 @@ impl<D: Disk> Journal<D> {
         ensures quiet { (IsDueFor self.old calls.old.items → ⊥) → self.new.state ≡ self.old.state → self.new.disk ≡ self.old.disk }
         ensures calls { (D.state self.new.disk).calls ≤ (D.state self.old.disk).calls + 10 }
         ensures few_calls { (IsDueFor self.old calls.old.items → ⊥) → (D.state self.new.disk).calls ≤ (D.state self.old.disk).calls + 4 }
-        // A segment is opened where one is due, also where its commands are then refused, and only there.
+        // A segment is opened where one is due, also where its commands are then refused, and only there. Where memory is
+        // refused for its head, so is each call, and nothing changed.
         ensures opened { IsDueFor self.old calls.old.items → OnOk result (self.new.broken ≡ false
-            → (self.new ≡ self.old) ⊎ (self.new.tail.generation ≡ self.old.tail.generation + 1)) }
+            → (self.new.tail.generation ≡ self.old.tail.generation + 1) ⊎ ((self.new ≡ self.old)
+            × (answers.new.items ≡ answers.old.items ++ refusals Refusal.OutOfMemory self.old.position calls.old.items))) }
         ensures stays { (IsDueFor self.old calls.old.items → ⊥) → IsSameHead self.old.tail self.new.tail }
         ensures later { Later (D.state self.old.disk) (D.state self.new.disk) }
+        ensures no_failed_read { (D.state self.new.disk).failed_reads ≡ (D.state self.old.disk).failed_reads }
         // Both lists keep the memory that they have.
         ensures calls_capacity { vec_capacity calls.new ≡ vec_capacity calls.old }
         ensures answers_capacity { vec_capacity answers.old ≤ vec_capacity answers.new }
@@ -255,6 +263,7 @@ impl<D: Disk> Journal<D> {
         ensures calls { (D.state self.new.disk).calls ≤ (D.state self.old.disk).calls + 6 }
         ensures calm { (IsDueFor self.old calls.now → ⊥) → self.new ≡ self.old }
         ensures later { Later (D.state self.old.disk) (D.state self.new.disk) }
+        ensures no_failed_read { (D.state self.new.disk).failed_reads ≡ (D.state self.old.disk).failed_reads }
     {
         if !holds_command(calls) || !is_full(&self.tail) {
             return Ok(());
@@ -285,6 +294,7 @@ impl<D: Disk> Journal<D> {
         ensures calls { (D.state self.new.disk).calls ≤ (D.state self.old.disk).calls + 4 }
         ensures quiet { self.new.state ≡ self.old.state → self.new.disk ≡ self.old.disk }
         ensures later { Later (D.state self.old.disk) (D.state self.new.disk) }
+        ensures no_failed_read { (D.state self.new.disk).failed_reads ≡ (D.state self.old.disk).failed_reads }
         ensures calls_capacity { vec_capacity calls.new ≡ vec_capacity calls.old }
         ensures answers_capacity { vec_capacity answers.new ≡ vec_capacity answers.old }
     {
@@ -313,6 +323,8 @@ fn begin<D: Disk>(alloc: Global, disk: &mut D) -> Result<Begun, OpenFault>
     ensures only { OnlyRead (D.state disk.old) (D.state disk.new) }
     ensures settled { (D.state disk.old).honest → result ≢ Err OpenFault.Device → Settled (D.state disk.new) }
     ensures rise { result ≡ Err OpenFault.Device → Rose (D.state disk.old) (D.state disk.new) }
+    ensures no_failure { result ≢ Err OpenFault.Device → (D.state disk.new).failures ≡ (D.state disk.old).failures }
+    ensures one_sync { SyncsOnce (D.state disk.old) (D.state disk.new) }
 {
     let Ok(()) = disk.sync() else {
         return Err(OpenFault::Device);
@@ -330,9 +342,5 @@ fn begin<D: Disk>(alloc: Global, disk: &mut D) -> Result<Begun, OpenFault>
 fn holds_command(calls: &[Call]) -> bool
     ensures { result ≡ holds_command calls.now }
 {
-    let mut found = false;
-    for call in calls {
-        found = found || matches!(call.ask, Ask::Command(_));
-    }
-    found
+    calls.iter().any(|call| matches!(call.ask, Ask::Command(_)))
 }

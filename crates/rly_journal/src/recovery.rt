@@ -1,6 +1,6 @@
-ghost use Rattle.std.specs.Prelude.{◌≡◌, ◌+◌, ◌<◌, ◌≤◌, ◌^◌, Err, IfErr, IfOk, IsTrue, Ok, OnErr, OnOk, length, true, false};
-ghost use Rattle.rly_disk.specs.DiskModel.{Rose, Settled};
-ghost use Rattle.rly_gate.specs.Reading.{OnlyRead};
+ghost use Rattle.std.specs.Prelude.{◌≡◌, ◌≢◌, ◌+◌, ◌<◌, ◌≤◌, ◌^◌, Err, IfErr, IfOk, Ok, OnErr, OnOk, length, true, false};
+ghost use Rattle.rly_disk.specs.DiskModel.{Rose};
+ghost use Rattle.rly_gate.specs.Reading.{OnlyRead, SyncsNothing};
 ghost use Rattle.rly_machine.specs.Fold.{AllAccepted, fold};
 ghost use Rattle.rly_journal.specs.Faults.{IsRefused};
 ghost use Rattle.rly_journal.specs.Log.{IsLogged, IsReplayed, IsShaped};
@@ -16,6 +16,9 @@ use rly_segment::{
 };
 use std::alloc::Global;
 
+/// The bytes of a group in front of its body: the gate and the body's length.
+const GROUP_START: u64 = 5;
+
 /// What a device stands for, and where its journal ends.
 #[derive(Drop)]
 pub(crate) struct Recovered {
@@ -29,20 +32,24 @@ pub(crate) fn recover<D: Disk>(alloc: Global, disk: &mut D) -> Result<Recovered,
     ensures logged { (D.state disk.old).honest → IfOk result (λ found. IsLogged (D.state disk.old).seen found.tail found.machine.state) }
     ensures refused { (D.state disk.old).honest → IfErr result (λ fault. IsRefused (D.state disk.old).seen fault) }
     ensures only { OnlyRead (D.state disk.old) (D.state disk.new) }
+    ensures unsynced { SyncsNothing (D.state disk.old) (D.state disk.new) }
     ensures rise { result ≡ Err OpenFault.Device → Rose (D.state disk.old) (D.state disk.new) }
+    ensures no_failure { result ≢ Err OpenFault.Device → (D.state disk.new).failures ≡ (D.state disk.old).failures }
 {
-    let mut found = read_checkpoint(alloc, disk)?;
+    let mut found = read_newest_head(alloc, disk)?;
     'groups: while replay_group(alloc, disk, &mut found)? {}
     Ok(found)
 }
 
-/// Reads the newest head.
-fn read_checkpoint<D: Disk>(alloc: Global, disk: &mut D) -> Result<Recovered, OpenFault>
+/// Reads the header and what the newest head holds: what a device without groups stands for.
+fn read_newest_head<D: Disk>(alloc: Global, disk: &mut D) -> Result<Recovered, OpenFault>
     ensures shaped { IfOk result (λ found. IsShaped (D.state disk.old).size found.tail found.machine.state) }
     ensures replayed { (D.state disk.old).honest → IfOk result (λ found. IsReplayed (D.state disk.old).seen found.tail found.machine.state) }
     ensures refused { (D.state disk.old).honest → IfErr result (λ fault. IsRefused (D.state disk.old).seen fault) }
     ensures only { OnlyRead (D.state disk.old) (D.state disk.new) }
+    ensures unsynced { SyncsNothing (D.state disk.old) (D.state disk.new) }
     ensures rise { result ≡ Err OpenFault.Device → Rose (D.state disk.old) (D.state disk.new) }
+    ensures no_failure { result ≢ Err OpenFault.Device → (D.state disk.new).failures ≡ (D.state disk.old).failures }
 {
     let geometry = match read_header(disk) {
         Ok(geometry) => geometry,
@@ -94,7 +101,9 @@ fn replay_group<D: Disk>(
         → IfErr result (λ fault. IsRefused (D.state disk.old).seen fault) }
     ensures progress { result ≡ Ok true → (found.old.tail.gate < found.new.tail.gate) × (found.new.tail.gate < 2 ^ 64) }
     ensures only { OnlyRead (D.state disk.old) (D.state disk.new) }
+    ensures unsynced { SyncsNothing (D.state disk.old) (D.state disk.new) }
     ensures rise { result ≡ Err OpenFault.Device → Rose (D.state disk.old) (D.state disk.new) }
+    ensures no_failure { result ≢ Err OpenFault.Device → (D.state disk.new).failures ≡ (D.state disk.old).failures }
 {
     let at = found.tail.gate;
     let end = segment_end(&found.tail.geometry, found.tail.segment);
@@ -105,11 +114,6 @@ fn replay_group<D: Disk>(
         Err(GroupFault::Damaged) => return Err(OpenFault::Damaged(at)),
         Err(GroupFault::Device) => return Err(OpenFault::Device),
     };
-    // Whatever a disk answers, the next gate lies before the end.
-    let length = (body.len() as u64).saturating_add(5);
-    if length >= end - at {
-        return Err(OpenFault::Damaged(at));
-    }
     let commands = match read_body(alloc, &body) {
         Ok(commands) => commands,
         Err(RecordFault::OutOfMemory) => return Err(OpenFault::OutOfMemory),
@@ -119,7 +123,7 @@ fn replay_group<D: Disk>(
     if !is_redone {
         return Err(OpenFault::Damaged(at));
     }
-    found.tail.gate = at + length;
+    found.tail.gate = at + GROUP_START + body.len() as u64;
     Ok(true)
 }
 

@@ -2,7 +2,6 @@ ghost use Rattle.std.specs.Prelude.{◌≡◌, ◌⊎◌, ◌+◌, ◌-◌, ◌<
 ghost use Rattle.rly_machine.specs.State.{State};
 ghost use Rattle.rly_core.specs.Bounds.{IsIn};
 ghost use Rattle.rly_disk.specs.DiskModel.{Later, LeavesOnly, Rose};
-ghost use Rattle.rly_reclaim.specs.Room.{IsDue};
 ghost use Rattle.rly_segment.specs.Device.{IsGeometry};
 ghost use Rattle.rly_segment.specs.Heads.{segment_end, segment_place};
 ghost use Rattle.rly_journal.specs.Groups.{Gathers, empty_group, group_body};
@@ -68,6 +67,7 @@ pub(crate) fn renew<D: Disk>(
     ensures syncs { (D.state disk.new).syncs ≤ (D.state disk.old).syncs + 3 }
     ensures calls { (D.state disk.new).calls ≤ (D.state disk.old).calls + 6 }
     ensures later { Later (D.state disk.old) (D.state disk.new) }
+    ensures no_failed_read { (D.state disk.new).failed_reads ≡ (D.state disk.old).failed_reads }
 {
     machine.law_sound();
     let segment = 1 - tail.segment;
@@ -111,6 +111,7 @@ pub(crate) fn append<D: Disk>(
     ensures syncs { (D.state disk.new).syncs ≤ (D.state disk.old).syncs + 2 }
     ensures calls { (D.state disk.new).calls ≤ (D.state disk.old).calls + 4 }
     ensures later { Later (D.state disk.old) (D.state disk.new) }
+    ensures no_failed_read { (D.state disk.new).failed_reads ≡ (D.state disk.old).failed_reads }
 {
     let length = group.len();
     group.write(disk, tail.gate)?;

@@ -22,9 +22,9 @@ between [] x behind d = refl
 between (c ∷ front) x behind d = between front x behind d
 
 -- so they are the lines of an end that takes the calls of so many seats
-pub new_end : (of : LineId) (taker : Taker) (lines : List Teller) (count : ℕ) → taker ≡ record { of = of; seats = count; taken = [] } → lines ≡ map new_teller (range_with_len 0 count)
+pub new_end : (of : LineId) (capacity : ℕ) (taker : Taker) (lines : List Teller) (count : ℕ) → taker ≡ record { of = of; capacity = capacity; seats = count; taken = [] } → lines ≡ map new_teller (range_with_len 0 count)
     → (taker.seats ≡ length lines) × AreInPlace lines
-new_end of taker lines count counts made = (
+new_end of capacity taker lines count counts made = (
   ap (λ (t : Taker). t.seats) counts ∙ sym (ap length made ∙ length-map-range_with_len new_teller 0 count),
   subst AreInPlace (sym made) (new_in_place count),
 )
@@ -36,8 +36,8 @@ one_more make before after x count made more is =
     more ∙ ap (λ l. l ++ x ∷ []) made ∙ ap (λ y. map make (range_with_len 0 count) ++ y ∷ []) is ∙ sym (map-range_with_len_more make 0 count count (omega arith))
 
 -- a line with one more seat
-pub next_line : (old new : Taker) (number : ℕ) → new ≡ record old { seats = old.seats + 1 } → old ≡ record old { seats = number; taken = [] }
-    → new ≡ record new { seats = number + 1; taken = [] }
-next_line old new number more is =
-    more ∙ ap (λ (t : Taker). record old { seats = t.seats + 1; taken = t.taken }) is
-    ∙ (λ i. record { of = sym (ap (λ (t : Taker). t.of) more) i; seats = number + 1; taken = [] })
+pub next_line : (old new : Taker) (capacity number : ℕ) → new ≡ record old { seats = old.seats + 1 } → old ≡ record old { capacity = capacity; seats = number; taken = [] }
+    → new ≡ record new { capacity = capacity; seats = number + 1; taken = [] }
+next_line old new capacity number more is =
+    more ∙ ap (λ (t : Taker). record old { capacity = t.capacity; seats = t.seats + 1; taken = t.taken }) is
+    ∙ (λ i. record { of = sym (ap (λ (t : Taker). t.of) more) i; capacity = capacity; seats = number + 1; taken = [] })

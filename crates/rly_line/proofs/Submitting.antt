@@ -7,7 +7,7 @@ use native.Mathlib.Decide.{dec_le, ℕ_discrete}
 use Rattle.crossbeam_channel.specs.Fifo.{Pushes, Pops, Forks, Learns, Merges}
 use Rattle.rly_machine.specs.declared.call.Call.{Call}
 use Rattle.rly_line.specs.declared.submission.LineView.{LineView}
-use Rattle.rly_line.specs.Submission.{AreBeside, calls_of, AreNumbered, Lined, IsBeginning, IsNext, idle, taking, together, putting}
+use Rattle.rly_line.specs.Submission.{AreBeside, calls_of, AreNumbered, Lined, IsNext, idle, taking, together, putting}
 use Rattle.rly_line.proofs.Views.{alone, at_set, each_set, each_push}
 
 -- a call behind others is the last of its own seat's, and none of another's

@@ -13,29 +13,29 @@ use Rattle.rly_machine.specs.State.{State}
 use Rattle.rly_machine.proofs.Histories.{harm_after-append, legal_push, state_after-append}
 use Rattle.rly_line.specs.EndViews.{EndView, line_at, new_teller, with_gone, with_told}
 use Rattle.rly_line.specs.Replies.{MayTell, Teller, entries_of}
-use Rattle.rly_line.specs.Responding.{AreLeft, IsInStep, IsResponding, IsTold, Responding, asks_of, responding}
+use Rattle.rly_line.specs.Responding.{AreLeft, IsInStep, IsResponding, IsTold, Responding, calls_in, responding}
 use Rattle.rly_line.specs.Story.{StoryView}
 use Rattle.rly_line.specs.Submission.{AreNumbered, IsNext, LineId, calls_of}
 use Rattle.rly_line.proofs.Making.{between, new_in_place, new_line_at}
 use Rattle.rly_line.proofs.Submitting.{numbered_at, numbered_more}
 
 -- the calls of a seat's entries are the seat's calls
-by_test : (b : Bool) (x : Entry) (xs : List Entry) → cond b (x.0 ∷ asks_of xs) (asks_of xs) ≡ asks_of (cond b (x ∷ xs) xs)
+by_test : (b : Bool) (x : Entry) (xs : List Entry) → cond b (x.0 ∷ calls_in xs) (calls_in xs) ≡ calls_in (cond b (x ∷ xs) xs)
 by_test true x xs = refl
 by_test false x xs = refl
 
-pub calls_of_asks : (seat : ℕ) (history : List Entry) → calls_of seat (asks_of history) ≡ asks_of (entries_of seat history)
+pub calls_of_asks : (seat : ℕ) (history : List Entry) → calls_of seat (calls_in history) ≡ calls_in (entries_of seat history)
 calls_of_asks seat [] = refl
 calls_of_asks seat (x ∷ xs) =
     ap (λ l. cond (x.0.seat.0 == seat) (x.0 ∷ l) l) (calls_of_asks seat xs) ∙ by_test (x.0.seat.0 == seat) x (entries_of seat xs)
 
-length_asks : (history : List Entry) → length (asks_of history) ≡ length history
+length_asks : (history : List Entry) → length (calls_in history) ≡ length history
 length_asks [] = refl
 length_asks (x ∷ xs) = ap suc (length_asks xs)
 
-pub asks_push : (history : List Entry) (x : Entry) → asks_of (history ++ x ∷ []) ≡ asks_of history ++ x.0 ∷ []
-asks_push [] x = refl
-asks_push (y ∷ ys) x = ap (λ l. y.0 ∷ l) (asks_push ys x)
+pub calls_in_push : (history : List Entry) (x : Entry) → calls_in (history ++ x ∷ []) ≡ calls_in history ++ x.0 ∷ []
+calls_in_push [] x = refl
+calls_in_push (y ∷ ys) x = ap (λ l. y.0 ∷ l) (calls_in_push ys x)
 
 -- entries behind others
 entries_other : (seat : ℕ) (history : List Entry) (x : Entry) → x.0.seat.0 ≢ seat → entries_of seat (history ++ x ∷ []) ≡ entries_of seat history
@@ -62,7 +62,7 @@ module _ (r : Responding) (call : Call) (answer : Answer) (left : List Call) (ho
   pub seat_there : call.seat.0 < length r.lines
   seat_there =
       let P : Call → Type 0 = λ c. c.seat.0 < length r.lines in
-      all_at P (asks_of r.history) call left (subst (All P) next holds.seated)
+      all_at P (calls_in r.history) call left (subst (All P) next holds.seated)
 
   -- and the call is the next that it waits for
   pub is_next : its_line.gone ≡ false → call.number ≡ length (entries_of its_line.seat its_line.told) + 1
@@ -70,11 +70,11 @@ module _ (r : Responding) (call : Call) (answer : Answer) (left : List Call) (ho
       let told = holds.told call.seat.0 seat_there in
       let seat : its_line.seat ≡ call.seat.0 = holds.in_place call.seat.0 seat_there in
       let s : ℕ = call.seat.0 in
-      let placed : calls_of s r.taken ≡ calls_of s (asks_of r.history) ++ call ∷ calls_of s left =
-      ap (calls_of s) next ∙ filter-append (λ (c : Call). c.seat.0 == s) (asks_of r.history) (call ∷ left)
-      ∙ ap (λ b. calls_of s (asks_of r.history) ++ cond b (call ∷ calls_of s left) (calls_of s left)) (eq-eqb s s refl) in
-      let number = numbered_at 0 (calls_of s (asks_of r.history)) call (calls_of s left) (subst (AreNumbered 0) placed (holds.numbered s)) in
-      let count : length (calls_of s (asks_of r.history)) ≡ length (entries_of s r.history) = ap length (calls_of_asks s r.history) ∙ length_asks (entries_of s r.history) in
+      let placed : calls_of s r.taken ≡ calls_of s (calls_in r.history) ++ call ∷ calls_of s left =
+      ap (calls_of s) next ∙ filter-append (λ (c : Call). c.seat.0 == s) (calls_in r.history) (call ∷ left)
+      ∙ ap (λ b. calls_of s (calls_in r.history) ++ cond b (call ∷ calls_of s left) (calls_of s left)) (eq-eqb s s refl) in
+      let number = numbered_at 0 (calls_of s (calls_in r.history)) call (calls_of s left) (subst (AreNumbered 0) placed (holds.numbered s)) in
+      let count : length (calls_of s (calls_in r.history)) ≡ length (entries_of s r.history) = ap length (calls_of_asks s r.history) ∙ length_asks (entries_of s r.history) in
       let known : entries_of s r.history ≡ entries_of s its_line.told =
       ap (entries_of s) told.whole ∙ filter-append (λ (e : Entry). e.0.seat.0 == s) its_line.told told.rest
       ∙ ap (λ l. entries_of s its_line.told ++ l) (subst (λ (k : ℕ). entries_of k told.rest ≡ []) seat (told.up_to_date here)) ∙ append-nil (entries_of s its_line.told) in
@@ -138,7 +138,7 @@ module _ (r : Responding) (call : Call) (answer : Answer) (left : List Call) (ho
       → IsResponding (record { of = r.of; taken = r.taken; start = r.start; history = History; lines = set r.lines call.seat.0 now })
   goes_on now told mine answered = record {
     legal = legal_push without_bytes 0 r.start r.history (call, answer) holds.legal answered;
-    waiting = (left, next ∙ sym (append_assoc (asks_of r.history) (call ∷ []) left) ∙ ap (λ l. l ++ left) (sym (asks_push r.history (call, answer))));
+    waiting = (left, next ∙ sym (append_assoc (calls_in r.history) (call ∷ []) left) ∙ ap (λ l. l ++ left) (sym (calls_in_push r.history (call, answer))));
     seated = subst (λ (n : ℕ). All (λ (c : Call). c.seat.0 < n) r.taken) (sym (length-set r.lines call.seat.0 now)) holds.seated;
     numbered = holds.numbered;
     in_place = λ seat here. each_in_place now (mine ∙ holds.in_place call.seat.0 seat_there) seat here (ℕ_discrete seat call.seat.0);
@@ -150,7 +150,7 @@ pub took : (r : Responding) (call : Call) → IsResponding r → IsNext (length 
     → IsResponding (record r { taken = r.taken ++ call ∷ [] })
 took r call holds next = record {
   legal = holds.legal;
-  waiting = (holds.waiting.0 ++ call ∷ [], ap (λ l. l ++ call ∷ []) holds.waiting.1 ∙ append_assoc (asks_of r.history) holds.waiting.0 (call ∷ []));
+  waiting = (holds.waiting.0 ++ call ∷ [], ap (λ l. l ++ call ∷ []) holds.waiting.1 ∙ append_assoc (calls_in r.history) holds.waiting.0 (call ∷ []));
   seated = All-append (λ (c : Call). c.seat.0 < length r.lines) r.taken (call ∷ []) holds.seated (all_one (λ (c : Call). c.seat.0 < length r.lines) call next.seat);
   numbered = λ seat. numbered_more seat r.taken call (holds.numbered seat) (λ own. next.number ∙ ap (λ (k : ℕ). length (calls_of k r.taken) + 1) own);
   in_place = holds.in_place;
@@ -217,7 +217,7 @@ module _ (line : EndView) (story pushed : StoryView) (call : Call) (answer : Ans
 -- the thread that answers each call on a machine stays in step with it
 module _ (s : State (List ℕ)) (r now : Responding) (call : Call) (kept : IsInStep s r) (took_it : now ≡ record r { taken = r.taken ++ call ∷ [] }) where
   pub next_of : (left : List Call) × AreLeft now (call ∷ left)
-  next_of = ([], subst (λ (x : Responding). AreLeft x (call ∷ [])) (sym took_it) (ap (λ l. l ++ call ∷ []) (kept.answered ∙ append-nil (asks_of r.history))))
+  next_of = ([], subst (λ (x : Responding). AreLeft x (call ∷ [])) (sym took_it) (ap (λ l. l ++ call ∷ []) (kept.answered ∙ append-nil (calls_in r.history))))
 
   pub answered_of : (answer : Answer) → IsAnswered without_bytes 0 s (call, answer)
       → IsAnswered without_bytes (harm_after 0 now.history) (state_after now.start now.history) (call, answer)
@@ -230,10 +230,10 @@ module _ (s : State (List ℕ)) (r now : Responding) (call : Call) (kept : IsInS
       let old : now.history ≡ r.history = ap (λ (x : Responding). x.history) took_it in
       let longer : after.history ≡ r.history ++ (call, answer) ∷ [] = history ∙ ap (λ h. h ++ (call, answer) ∷ []) old in
       let begun : after.start ≡ r.start = start ∙ ap (λ (x : Responding). x.start) took_it in
-      let asks : asks_of after.history ≡ asks_of r.history ++ call ∷ [] = ap asks_of longer ∙ asks_push r.history (call, answer) in
+      let asks : calls_in after.history ≡ calls_in r.history ++ call ∷ [] = ap calls_in longer ∙ calls_in_push r.history (call, answer) in
       record {
-        answered = taken ∙ ap (λ (x : Responding). x.taken) took_it ∙ ap (λ l. l ++ call ∷ []) (kept.answered ∙ append-nil (asks_of r.history)) ∙ sym asks
-            ∙ sym (append-nil (asks_of after.history));
+        answered = taken ∙ ap (λ (x : Responding). x.taken) took_it ∙ ap (λ l. l ++ call ∷ []) (kept.answered ∙ append-nil (calls_in r.history)) ∙ sym asks
+            ∙ sym (append-nil (calls_in after.history));
         state = state ∙ ap (λ x. next_state x (call, answer)) kept.state ∙ sym (state_after-append r.start r.history ((call, answer) ∷ []))
             ∙ ap (λ (y : State (List ℕ) × List Entry). state_after y.0 y.1) (λ i. (sym begun i, sym longer i));
         unharmed = ap (harm_after 0) longer ∙ harm_after-append 0 r.history ((call, answer) ∷ []) ∙ harmless;

@@ -56,6 +56,8 @@ hearing seat = record { tells = false; hears = true; seat = seat; base = None; k
 -- what contracts see of the two ends
 pub record Teller : Type 0 where
   pub seat : ℕ
+  -- so many answers the line holds
+  pub capacity : ℕ
   pub base : Option (State (List ℕ))
   pub told : List Entry
   pub gone : Bool

@@ -22,12 +22,12 @@ abbrev pub responding : EndView → StoryView → Responding
 responding line story = record { of = line.of; taken = line.taken; start = story.start; history = story.history; lines = line.lines }
 
 -- the calls of a history
-abbrev pub asks_of : List Entry → List Call
-asks_of history = map (λ entry. entry.0) history
+abbrev pub calls_in : List Entry → List Call
+calls_in history = map (λ entry. entry.0) history
 
 -- these calls were taken and are not answered yet
 abbrev pub AreLeft : Responding → List Call → Type 0
-AreLeft r left = r.taken ≡ asks_of r.history ++ left
+AreLeft r left = r.taken ≡ calls_in r.history ++ left
 
 -- a line was told nothing, or the start and a beginning of the history. The rest has no call of its seat, unless the seat is gone
 pub record IsTold (start : State (List ℕ)) (history : List Entry) (line : Teller) : Type 0 where

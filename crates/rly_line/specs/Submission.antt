@@ -63,6 +63,8 @@ pub record Putter : Type 0 where
 
 pub record Taker : Type 0 where
   pub of : LineId
+  -- so many calls the line holds
+  pub capacity : ℕ
   pub seats : ℕ
   pub taken : List Call
 

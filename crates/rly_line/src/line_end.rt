@@ -11,8 +11,8 @@ use std::marker::Model;
 use std::sync::Wait;
 
 /// The other end of all seats' lines, for the one thread that answers. Contracts see which line it takes
-/// calls from, the calls that were taken and, for each seat, the base and the history that its line was
-/// told last, and whether the seat was found gone.
+/// calls from and how many that holds, the calls that were taken and, for each seat, how many answers
+/// its line holds, the base and the history that it was told last, and whether the seat was found gone.
 #[derive(Drop)]
 pub struct LineEnd {
     calls: TakeEnd,
@@ -25,7 +25,7 @@ impl Model for LineEnd {
 
     ghost Value = { EndView };
 
-    ghost view = { λ e. record { of = e.calls.of; taken = e.calls.taken; lines = e.replies.items } };
+    ghost view = { λ e. record { of = e.calls.of; capacity = e.calls.capacity; taken = e.calls.taken; lines = e.replies.items } };
 
     ghost invariant = { λ e. (e.calls.seats ≡ length e.replies.items) × AreInPlace e.replies.items };
 }
@@ -36,7 +36,7 @@ impl LineEnd {
     /// The end of these lines.
     pub(crate) fn new(calls: TakeEnd, replies: Vec<TellEnd>) -> LineEnd
         requires { (calls.seats ≡ length replies.items) × AreInPlace replies.items }
-        ensures { result ≡ record { of = calls.of; taken = calls.taken; lines = replies.items } }
+        ensures { result ≡ record { of = calls.of; capacity = calls.capacity; taken = calls.taken; lines = replies.items } }
     {
         LineEnd { calls, replies }
     }

@@ -126,8 +126,8 @@ impl Lesson<Answer, ReplyView> for Takes {
     ghost fact = { λ v answers. Unit {0} };
 }
 
-/// The end of a seat's line that answers are put in. Contracts see whose it is, the base and the
-/// history that it was told last, and whether the seat is gone.
+/// The end of a seat's line that answers are put in. Contracts see whose it is, how many answers it
+/// holds, the base and the history that it was told last, and whether the seat is gone.
 #[derive(Drop)]
 pub struct TellEnd {
     line: RuledSender<Answer, ReplyView, Replied>,
@@ -138,12 +138,12 @@ pub struct TellEnd {
 impl Model for TellEnd {
     ghost use Rattle.std.specs.Prelude.{◌≡◌, true};
     ghost use Rattle.crossbeam_channel.specs.Claims.{view as pass_view, IsSeatAt};
-    ghost use Rattle.crossbeam_channel.specs.Ends.{sends_on};
+    ghost use Rattle.crossbeam_channel.specs.Ends.{ruled_capacity, sends_on};
     ghost use Rattle.rly_line.specs.Replies.{Teller};
 
     ghost Value = { Teller };
 
-    ghost view = { λ e. record { seat = (pass_view e.pass).seat; base = (pass_view e.pass).base; told = (pass_view e.pass).told; gone = e.gone } };
+    ghost view = { λ e. record { seat = (pass_view e.pass).seat; capacity = ruled_capacity (sends_on e.line); base = (pass_view e.pass).base; told = (pass_view e.pass).told; gone = e.gone } };
 
     ghost invariant = { λ e. IsSeatAt (sends_on e.line) e.pass × ((pass_view e.pass).tells ≡ true) };
 }
@@ -218,14 +218,14 @@ impl HearEnd {
 
 /// The two ends of a seat's line, in which nothing was told. It holds one answer.
 pub fn reply_line(alloc: Global, seat: u16) -> Result<(TellEnd, HearEnd), AllocError>
-    ensures { IfOk result (λ ends. (ends.0 ≡ record { seat = seat; base = None; told = []; gone = false }) × (ends.1 ≡ record { seat = seat; base = None; known = [] })) }
+    ensures { IfOk result (λ ends. (ends.0 ≡ record { seat = seat; capacity = 1; base = None; told = []; gone = false }) × (ends.1 ≡ record { seat = seat; base = None; known = [] })) }
 {
     reply_line_of::<Brand>(alloc, seat)
 }
 
 fn reply_line_of<W: Whose>(alloc: Global, seat: u16) -> Result<(TellEnd, HearEnd), AllocError>
     requires { seat ≡ W.seat }
-    ensures { IfOk result (λ ends. (ends.0 ≡ record { seat = seat; base = None; told = []; gone = false }) × (ends.1 ≡ record { seat = seat; base = None; known = [] })) }
+    ensures { IfOk result (λ ends. (ends.0 ≡ record { seat = seat; capacity = 1; base = None; told = []; gone = false }) × (ends.1 ≡ record { seat = seat; base = None; known = [] })) }
 {
     let (tells, hears, mut pass) = bounded_with::<Answer, ReplyView, Replied, Global>(alloc, 1)?;
     let hearing = tells.another::<Ends<W>>(&mut pass);

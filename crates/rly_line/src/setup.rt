@@ -7,15 +7,17 @@ use crate::line_end::LineEnd;
 use crate::replies::reply_line;
 use crate::seat::Seat;
 use crate::submission::Line;
+use rly_core::limits::{MAX_CAPACITY, MAX_SEATS};
 use rly_machine::SeatId;
 use std::alloc::{AllocError, Global};
 
 /// A line of that capacity, with so many seats and its other end: 1 to 256 each. Each seat is answered
 /// in a line of its own, which holds one answer.
 pub fn make(alloc: Global, capacity: u16, seats: u16) -> Result<(Vec<Seat>, LineEnd), AllocError>
-    requires capacity { (1 ≤ capacity) × (capacity ≤ 256) }
-    requires seats { (1 ≤ seats) × (seats ≤ 256) }
+    requires capacity { (1 ≤ capacity) × (capacity ≤ MAX_CAPACITY) }
+    requires seats { (1 ≤ seats) × (seats ≤ MAX_SEATS) }
     ensures seats { IfOk result (λ made. made.0.items ≡ map (new_caller made.1.of) (range_with_len 0 seats)) }
+    ensures capacity { IfOk result (λ made. made.1.capacity ≡ capacity) }
     ensures end { IfOk result (λ made. made.1 ≡ record made.1 { taken = []; lines = map new_teller (range_with_len 0 seats) }) }
 {
     let mut line = Line::new(alloc, capacity as usize)?;

@@ -117,12 +117,12 @@ pub struct Line {
 impl Model for Line {
     ghost use Rattle.std.specs.Prelude.{◌≡◌, true};
     ghost use Rattle.crossbeam_channel.specs.Claims.{view as pass_view, IsSeatAt};
-    ghost use Rattle.crossbeam_channel.specs.Ends.{receives_on, sends_on};
+    ghost use Rattle.crossbeam_channel.specs.Ends.{receives_on, ruled_capacity, sends_on};
     ghost use Rattle.rly_line.specs.Submission.{Taker, line_of};
 
     ghost Value = { Taker };
 
-    ghost view = { λ l. record { of = line_of l.pass; seats = (pass_view l.pass).seats; taken = (pass_view l.pass).taken } };
+    ghost view = { λ l. record { of = line_of l.pass; capacity = ruled_capacity (sends_on l.puts); seats = (pass_view l.pass).seats; taken = (pass_view l.pass).taken } };
 
     ghost invariant = { λ l. IsSeatAt (sends_on l.puts) l.pass × ((pass_view l.pass).takes ≡ true) × (receives_on l.takes ≡ sends_on l.puts) };
 }
@@ -131,7 +131,7 @@ impl Line {
     /// A line with no seat.
     pub fn new(alloc: Global, capacity: usize) -> Result<Line, AllocError>
         requires { 0 < capacity }
-        ensures { IfOk result (λ line. line ≡ record line { seats = 0; taken = [] }) }
+        ensures { IfOk result (λ line. line ≡ record line { capacity = capacity; seats = 0; taken = [] }) }
     {
         let (puts, takes, pass) = bounded_with::<Call, LineView, Lined, Global>(alloc, capacity)?;
         Ok(Line { puts, takes, pass })
@@ -193,7 +193,8 @@ impl SubmitEnd {
     }
 }
 
-/// The end of the line that takes calls. Contracts see how many seats there are, and the calls taken.
+/// The end of the line that takes calls. Contracts see how many calls the line holds, how
+/// many seats there are, and the calls taken.
 #[derive(Drop)]
 pub struct TakeEnd {
     line: RuledReceiver<Call, LineView, Lined>,
@@ -203,12 +204,12 @@ pub struct TakeEnd {
 impl Model for TakeEnd {
     ghost use Rattle.std.specs.Prelude.{◌≡◌, true};
     ghost use Rattle.crossbeam_channel.specs.Claims.{view as pass_view, IsSeatAt};
-    ghost use Rattle.crossbeam_channel.specs.Ends.{receives_on};
+    ghost use Rattle.crossbeam_channel.specs.Ends.{receives_on, ruled_capacity};
     ghost use Rattle.rly_line.specs.Submission.{Taker, line_of};
 
     ghost Value = { Taker };
 
-    ghost view = { λ e. record { of = line_of e.pass; seats = (pass_view e.pass).seats; taken = (pass_view e.pass).taken } };
+    ghost view = { λ e. record { of = line_of e.pass; capacity = ruled_capacity (receives_on e.line); seats = (pass_view e.pass).seats; taken = (pass_view e.pass).taken } };
 
     ghost invariant = { λ e. IsSeatAt (receives_on e.line) e.pass × ((pass_view e.pass).takes ≡ true) };
 }

@@ -12,17 +12,17 @@ use std::sync::Wait;
 use std::test::Fail;
 use std::thread;
 
-/// A command's reply is the machine's; a query is refused.
+/// How many asks each of four seats makes.
+const ASKS: u64 = 50;
+
+/// The machine's reply, unless memory is refused.
 fn reply_to(alloc: Global, machine: &mut Machine<Payload>, ask: Ask) -> Reply
     ensures { ((result ≡ Reply.Refused Refusal.OutOfMemory) × (machine.new.state ≡ machine.old.state))
         ⊎ ((result ≡ (ask_step machine.old.state ask).1) × (machine.new.state ≡ (ask_step machine.old.state ask).0)) }
 {
-    match ask {
-        Ask::Command(command) => match machine.reserve_for(alloc, &command) {
-            Ok(room) => machine.apply(command, room),
-            Err(_) => Reply::Refused(Refusal::OutOfMemory),
-        },
-        Ask::Query(_) => Reply::Refused(Refusal::OutOfMemory),
+    match machine.evaluate(alloc, ask) {
+        Ok(reply) => reply,
+        Err(_) => Reply::Refused(Refusal::OutOfMemory),
     }
 }
 
@@ -114,6 +114,44 @@ fn line_row_2(rt: HostRuntime) -> Result<(), Fail> {
     let reply = asking.join(&rt).ok_or("the second is answered")?;
     assert!(rt; matches!(&reply, Reply::Already(1)), "{reply:?}");
     assert!(rt; !answer_one(&rt, alloc, &mut machine, &mut calls));
+    Ok(())
+}
+
+/// So many asks at a seat, one after the other. How many were answered.
+fn answered_at<R: Wait>(rt: &R, seat: &mut Seat) -> u64 {
+    let mut answered = 0;
+    for number in 1..=ASKS {
+        match seat.call(rt, window()) {
+            Ok(_) => answered = number,
+            Err(_) => break,
+        }
+    }
+    answered
+}
+
+/// Four seats in threads of their own share a line that holds one call: each waits for its place in it.
+#[test]
+fn a_full_line_is_waited_for(rt: HostRuntime) -> Result<(), Fail> {
+    let alloc = rt.alloc();
+    let mut machine: Machine<Payload> = Machine::new(alloc, Params::DEFAULT)?;
+    let (seats, line) = make(alloc, 1, 4)?;
+    let mut calls = Responder::new(line, &machine);
+    let mut asking = Vec::with_capacity(alloc, 4)?;
+    for seat in seats {
+        let mut seat = seat;
+        let asked = thread::spawn(&rt, move || answered_at(&rt, &mut seat))
+            .ok()
+            .ok_or("a thread")?;
+        asking.push(asked)?;
+    }
+    for _round in 0..=4 * ASKS {
+        if !answer_one(&rt, alloc, &mut machine, &mut calls) {
+            break;
+        }
+    }
+    for asked in asking {
+        assert_eq!(rt; asked.join(&rt), ASKS);
+    }
     Ok(())
 }
 

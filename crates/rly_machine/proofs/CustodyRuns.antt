@@ -364,6 +364,62 @@ taken_once {P} len hop s (command ∷ commands) id =
           ])
     ]
 
+-- one reply tells of nothing taken at one of two hops
+apart : {P : Type 0} (a b : HopId) → (a.0 ≡ b.0 → ⊥) → (command : Command P) (reply : Reply) → ((told a command reply).taken ≡ []) ⊎ ((told b command reply).taken ≡ [])
+apart a b differ (Take peer number to stamp payload) (Taken id) =
+    let at : Bool → Told = λ is. cond is (record { taken = id ∷ []; dropped = []; sent = []; numbers = [] }) nothing in
+    elim (cases_eq to.0 a.0) [
+      | inl here ↦ inr (ap (λ is. (at is).taken) (ne_eqb to.0 b.0 (λ there. differ (sym here ∙ there))))
+      | inr elsewhere ↦ inl (ap (λ is. (at is).taken) (ne_eqb to.0 a.0 elsewhere))
+    ]
+apart a b differ (Take peer number to stamp payload) (Already last) = inl refl
+apart a b differ (Take peer number to stamp payload) (Picked number' id dropped) = inl refl
+apart a b differ (Take peer number to stamp payload) Nothing = inl refl
+apart a b differ (Take peer number to stamp payload) (Released count) = inl refl
+apart a b differ (Take peer number to stamp payload) Unchanged = inl refl
+apart a b differ (Take peer number to stamp payload) (Bytes payload') = inl refl
+apart a b differ (Take peer number to stamp payload) (WindowIs first next) = inl refl
+apart a b differ (Take peer number to stamp payload) (Shown status) = inl refl
+apart a b differ (Take peer number to stamp payload) (Refused refusal) = inl refl
+apart {P} a b differ (Pick to now) reply = inl (pick_takes_none P a to now reply)
+apart a b differ (Release to number) reply = inl refl
+
+-- one id more keeps two counts at one
+one_more : (id seq after : ℕ) (first : List ℕ) (x y : ℕ) → (first ≡ []) ⊎ ((first ≡ (seq + 1) ∷ []) × (after ≡ seq + 1))
+    → (id ≤ after → x ≡ 0) → (id ≤ after → y ≡ 0) → x + y ≤ 1 → times id first + x + y ≤ 1
+one_more id seq after first x y taken old-x old-y below =
+    elim taken [
+      | inl none ↦ (let e = ap (times id) none in omega (arith, e, below))
+      | inr one ↦ (let e = ap (times id) one.0 in
+          elim (cases_eq (seq + 1) id) [
+            | inl same ↦ (let zero-x = old-x (omega (arith, one.1, same)) in
+                let zero-y = old-y (omega (arith, one.1, same)) in
+                omega (arith, e, zero-x, zero-y, count_by-le-length (λ other. nat_eq other id) ((seq + 1) ∷ [])))
+            | inr differ ↦ (let zero_times = times_other id (seq + 1) differ in omega (arith, e, zero_times, below))
+          ])
+    ]
+
+-- no id is taken at two hops
+pub taken_apart : {P : Type 0} (len : P → ℕ) (a b : HopId) → (a.0 ≡ b.0 → ⊥) → (s : State P) (commands : List (Command P)) (id : ℕ)
+    → times id (told_along len a s commands).taken + times id (told_along len b s commands).taken ≤ 1
+taken_apart len a b differ s [] id = omega arith
+taken_apart {P} len a b differ s (command ∷ commands) id =
+    let after : State P = (step len s command).0 in
+    let reply : Reply = (step len s command).1 in
+    let later-a = taken_once len a after commands id in
+    let later-b = taken_once len b after commands id in
+    let rest = taken_apart len a b differ after commands id in
+    let parts-a = times-append id (told a command reply).taken (told_along len a after commands).taken in
+    let parts-b = times-append id (told b command reply).taken (told_along len b after commands).taken in
+    elim (apart a b differ command reply) [
+      | inl none ↦ (let e = ap (times id) none in
+          let more = one_more id s.seq after.seq (told b command reply).taken _ _ (fresh_step len s command b).taken later-a.1 later-b.1 rest in
+          omega (arith, parts-a, parts-b, e, more))
+      | inr none ↦ (let e = ap (times id) none in
+          let more = one_more id s.seq after.seq (told a command reply).taken _ _ (fresh_step len s command a).taken later-a.1 later-b.1 rest in
+          omega (arith, parts-a, parts-b, e, more))
+    ]
+
 -- what becomes of the items of each hop of a new spool
 pub custody_kept : {P : Type 0} (len : P → ℕ) (params : Params) (commands : List (Command P)) (hop : HopId) → has_hop (new_state {P = P} params) hop ≡ true
     → KeepsCustody (hop_at (fold len (new_state params) commands) hop) (told_along len hop (new_state params) commands)

@@ -1,10 +1,10 @@
 //! Laws over the definitions, each the clause of a function that does nothing.
 
-ghost use Rattle.std.specs.Prelude.{◌≡◌, IsTrue, List, map};
+ghost use Rattle.std.specs.Prelude.{◌≡◌, ◌≢◌, ◌+◌, ◌≤◌, ℕ, IsTrue, List, map};
 ghost use Rattle.rly_core.specs.Limits.{IsWithinLimits};
 ghost use Rattle.rly_core.specs.declared.params.Params.{Params};
 ghost use Rattle.rly_core.specs.declared.ids.HopId.{HopId};
-ghost use Rattle.rly_machine.specs.Custody.{KeepsCustody, told_along};
+ghost use Rattle.rly_machine.specs.Custody.{KeepsCustody, times, told_along};
 ghost use Rattle.rly_machine.specs.Fold.{fold};
 ghost use Rattle.rly_machine.specs.Map.{map_command, map_state};
 ghost use Rattle.rly_machine.specs.Sound.{IsSound};
@@ -36,8 +36,12 @@ pub fn law_map<P: Content, Q: Content>()
 
 /// Whatever commands come to a new spool, at each hop: each id that was answered Taken waits, or was
 /// dropped, or went into flight, as often as it was taken, which is once; those in flight are those
-/// that went into flight less those whose numbers were released; and custody numbers rise by one.
+/// that went into flight less those whose numbers were released; and custody numbers rise by one. No
+/// id is taken at two hops.
 pub fn law_custody<C: Content>()
-    ensures { (params : Params) (commands : List (Command C)) (hop : HopId) → IsTrue (has_hop (new_state {P = C} params) hop)
+    ensures kept { (params : Params) (commands : List (Command C)) (hop : HopId) → IsTrue (has_hop (new_state {P = C} params) hop)
         → KeepsCustody (hop_at (fold C.length_of (new_state params) commands) hop) (told_along C.length_of hop (new_state params) commands) }
+    ensures apart { (params : Params) (commands : List (Command C)) (hop other : HopId) (id : ℕ) → hop ≢ other
+        → times id (told_along C.length_of hop (new_state params) commands).taken
+        + times id (told_along C.length_of other (new_state params) commands).taken ≤ 1 }
 {}

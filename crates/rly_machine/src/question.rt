@@ -1,7 +1,8 @@
-ghost use Rattle.std.specs.Prelude.{◌≡◌, IfOk};
+ghost use Rattle.std.specs.Prelude.{◌≡◌, IfOk, OnErr, OnOk};
+ghost use Rattle.rly_machine.specs.Ask.{ask_step};
 ghost use Rattle.rly_machine.specs.Query.{query_reply};
 
-use crate::command::Query;
+use crate::command::{Ask, Query};
 use crate::content::Payload;
 use crate::machine::Machine;
 use crate::reply::Reply;
@@ -22,6 +23,21 @@ impl Machine<Payload> {
             },
             Query::Window { hop } => Ok(self.ask_window(hop)),
             Query::Show { hop } => Ok(self.ask_show(hop)),
+        }
+    }
+
+    /// Makes one step with an ask, and gives the reply to it. Where memory is refused, the state is as it was.
+    pub fn evaluate(&mut self, alloc: Global, ask: Ask) -> Result<Reply, AllocError>
+        ensures state { OnOk result (self.new.state ≡ (ask_step self.old.state ask).0) }
+        ensures reply { IfOk result (λ reply. reply ≡ (ask_step self.old.state ask).1) }
+        ensures err { OnErr result (self.new.state ≡ self.old.state) }
+    {
+        match ask {
+            Ask::Command(command) => {
+                let room = self.reserve_for(alloc, &command)?;
+                Ok(self.apply(command, room))
+            }
+            Ask::Query(query) => self.answer(alloc, query),
         }
     }
 }

@@ -42,12 +42,15 @@ impl<'a, C: Content> Lane for Queue<'a, C> {
         self.items[index].stamp
     }
 
-    fn bytes_behind(&self, index: usize) -> u64 {
+    fn has_at_most_behind(&self, index: usize, bytes: u64) -> bool {
         let count = self.items.len();
-        let mut bytes = 0;
+        let mut found = 0;
         for behind in index + 1..count {
-            bytes += self.items[behind].payload.len() as u64;
+            found += self.items[behind].payload.len() as u64;
+            if found > bytes {
+                return false;
+            }
         }
-        bytes
+        true
     }
 }

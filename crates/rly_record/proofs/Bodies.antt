@@ -1,7 +1,7 @@
 -- A body that is read is the body that was written, and what was written is read again; and the loops over a body's
 -- records.
 use Rattle.std.proofs.Common.{◌≡◌, ℕ, zero, suc, ◌+◌, ◌-◌, ◌<◌, ◌≤◌, Bool, true, false, cond, ◌||◌, eqb, ltb, List, [], ◌∷◌, ◌++◌, length, get_or, take, drop, Option, Some, None, Result, Ok, Err, refl, sym, ap, subst, ◌∙◌, append_assoc, arith, drop-cons, inl, inr}
-use Rattle.std.specs.Prelude.{All, IfOk, MatchResult, sum_by}
+use Rattle.std.specs.Prelude.{All, IfOk, IsSome, MatchResult, sum_by}
 use Rattle.std.specs.Global.{Vec}
 use Rattle.std.specs.List.{AllByRecursion, flat_map}
 use Rattle.std.proofs.lemmas.Bool.{cases_lt, eqb-true, ltb-false, le-ltb, ne_eqb, or_parts, or_from}
@@ -17,7 +17,7 @@ use Rattle.rly_machine.specs.declared.command.Command.TheVariants.{Take, Pick, R
 use Rattle.rly_record.specs.declared.fault.RecordFault.{RecordFault}
 use Rattle.rly_record.specs.declared.fault.RecordFault.TheVariants.{OutOfMemory, Malformed}
 use Rattle.rly_record.specs.Spelling.{IsShort, record_of, record_length, body_of, body_length, HasRecord, HaveBody}
-use Rattle.rly_record.specs.Reading.{◌>>=◌, Fails, Gives, number_at, command_at, commands_at, body_at, whole_body}
+use Rattle.rly_record.specs.Reading.{◌>>=◌, Fails, Gives, RowFails, behind, in_front, number_at, command_at, commands_at, body_at, whole_body}
 use Rattle.rly_record.proofs.Fields.{IsBytes, bind_some, bind_is, some_is, Takes, Takes-then, wide_2, number_takes, number_again}
 use Rattle.rly_record.proofs.Records.{Found, command_takes, command_again, is_refused, length-record_of, one_reading}
 
@@ -60,6 +60,11 @@ guard_goes false read x e = (refl, e)
 guard_ends : {A : Type 0} (b : Bool) (x y : A) → cond b (Some x) None ≡ Some y → (b ≡ true) × (x ≡ y)
 guard_ends true x y e = (refl, cc)
 guard_ends false x y e = absurd cc
+
+-- what is read, where something is
+some_there : {A : Type 0} (read : Option A) → IsSome read → (x : A) × (read ≡ Some x)
+some_there (Some x) is = (x, refl)
+some_there None is = absurd cc
 
 positive : (n : ℕ) → eqb n 0 ≡ false → 1 ≤ n
 positive zero e = absurd cc
@@ -135,19 +140,49 @@ goes_on front count i bytes command after total lt found so_far =
     sym one ∙ so_far
 
 pub ends : (fault : RecordFault) (front : List (Command (List ℕ))) (count i : ℕ) (bytes : List ℕ) (total : Option AllFound) → i < count → Fails fault (command_at bytes)
-    → with_front front (commands_at (count - i) bytes) ≡ total → Fails fault total
+    → with_front front (commands_at (count - i) bytes) ≡ total → RowFails fault (in_front total)
 unfolding commands_at
 ends OutOfMemory front count i bytes total lt fails so_far = tt
 ends Malformed front count i bytes total lt fails so_far =
     let k : count - i ≡ suc (count - (i + 1)) = omega arith in
     let one : with_front front (commands_at (count - i) bytes) ≡ None = rw (k, fails) refl in
-    sym so_far ∙ one
+    ap in_front (sym so_far ∙ one)
 
-pub is_done : (front : List (Command (List ℕ))) (count i : ℕ) (bytes : List ℕ) (total : Option AllFound) → count ≤ i → with_front front (commands_at (count - i) bytes) ≡ total → total ≡ Some (front, bytes)
+pub is_done : (front : List (Command (List ℕ))) (count i : ℕ) (bytes : List ℕ) (total : Option AllFound) → count ≤ i → with_front front (commands_at (count - i) bytes) ≡ total → in_front total ≡ Some front
 unfolding commands_at
 is_done front count i bytes total le so_far =
     let k : count - i ≡ 0 = omega arith in
     let one : with_front front (commands_at (count - i) bytes) ≡ Some (front, bytes) = rw k (ap (λ (commands : List (Command (List ℕ))). Some (commands, bytes)) (append-nil front)) in
+    ap in_front (sym so_far ∙ one)
+
+-- ---- passing over records
+
+behind_rest : (command : Command (List ℕ)) (read : Option AllFound) → behind (read >>= λ x. Some (command ∷ x.0, x.1)) ≡ behind read
+behind_rest command (Some x) = refl
+behind_rest command None = refl
+
+pub passes_on : (count i : ℕ) (bytes : List ℕ) (command : Command (List ℕ)) (after : List ℕ) (total : Option (List ℕ)) → i < count → command_at bytes ≡ Some (command, after)
+    → behind (commands_at (count - i) bytes) ≡ total → behind (commands_at (count - (i + 1)) after) ≡ total
+unfolding commands_at
+passes_on count i bytes command after total lt found so_far =
+    let k : count - i ≡ suc (count - (i + 1)) = omega arith in
+    let one : behind (commands_at (count - i) bytes) ≡ behind (commands_at (count - (i + 1)) after) = rw (k, found) (behind_rest command (commands_at (count - (i + 1)) after)) in
+    sym one ∙ so_far
+
+pub passes_none : (fault : RecordFault) (count i : ℕ) (bytes : List ℕ) (total : Option (List ℕ)) → i < count → fault ≡ Malformed → Fails fault (command_at bytes)
+    → behind (commands_at (count - i) bytes) ≡ total → Fails fault total
+unfolding commands_at
+passes_none OutOfMemory count i bytes total lt is fails so_far = absurd cc
+passes_none Malformed count i bytes total lt is fails so_far =
+    let k : count - i ≡ suc (count - (i + 1)) = omega arith in
+    let one : behind (commands_at (count - i) bytes) ≡ None = rw (k, fails) refl in
+    sym so_far ∙ one
+
+pub passed : (count i : ℕ) (bytes : List ℕ) (total : Option (List ℕ)) → count ≤ i → behind (commands_at (count - i) bytes) ≡ total → total ≡ Some bytes
+unfolding commands_at
+passed count i bytes total le so_far =
+    let k : count - i ≡ 0 = omega arith in
+    let one : behind (commands_at (count - i) bytes) ≡ Some bytes = rw k refl in
     sym so_far ∙ one
 
 -- ---- what the public reader answers
@@ -166,6 +201,16 @@ pub body_only : (bytes : List ℕ) (r : Result (Vec (Command (List ℕ))) Record
     → Gives (λ v. v.items) r (whole_body bytes) → MatchResult r (λ found. found.items ≡ commands) (λ fault. fault ≡ OutOfMemory)
 body_only bytes (Ok v) commands fits same given = some_is v.items commands (sym given ∙ ap whole_body same ∙ whole_again commands fits)
 body_only bytes (Err e) commands fits same given = is_refused e (whole_body bytes) commands given (ap whole_body same ∙ whole_again commands fits)
+
+-- where memory was refused a body is spelled
+pub body_spelled : (bytes : List ℕ) (r : Result (Vec (Command (List ℕ))) RecordFault) → IsBytes bytes → Gives (λ v. v.items) r (whole_body bytes) → r ≡ Err OutOfMemory
+    → (commands : List (Command (List ℕ))) × HaveBody commands × (bytes ≡ body_of commands)
+body_spelled bytes (Ok v) fits given refused = absurd cc
+body_spelled bytes (Err Malformed) fits given refused = absurd cc
+body_spelled bytes (Err OutOfMemory) fits given refused =
+    let commands = some_there (whole_body bytes) given in
+    let whole = whole_takes bytes commands.0 fits commands.1 in
+    (commands.0, whole.0, whole.1)
 
 -- ---- writing records one behind the other
 

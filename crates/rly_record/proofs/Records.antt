@@ -9,7 +9,7 @@ use Rattle.rly_machine.specs.declared.command.Command.{Command}
 use Rattle.rly_machine.specs.declared.command.Command.TheVariants.{Take, Pick, Release}
 use Rattle.rly_record.specs.declared.fault.RecordFault.{RecordFault}
 use Rattle.rly_record.specs.declared.fault.RecordFault.TheVariants.{OutOfMemory, Malformed}
-use Rattle.rly_record.specs.Spelling.{record_of, record_length, HasRecord}
+use Rattle.rly_record.specs.Spelling.{record_of, record_length, HasRecord, IsTake}
 use Rattle.rly_record.specs.Reading.{◌>>=◌, Fails, number_at, payload_at, take_at, pick_at, release_at, command_at}
 use Rattle.rly_record.proofs.Fields.{IsBytes, bind_some, bind_is, chosen, some_is, Takes, Takes-then, wide_2, wide_8, number_takes, number_again, payload_takes, payload_again}
 
@@ -150,6 +150,17 @@ command_again (Release hop number) rest fits =
     bind_is (number_at 2 r0) (hop.0, r1) (λ (h : ℕ × List ℕ). number_at 8 h.1 >>= λ n. Some (Release (record { 0 = h.0 }) n.0, n.1)) z (number_again 2 hop.0 r1 fits.0)
     (bind_is (number_at 8 r1) (number, rest) (λ (n : ℕ × List ℕ). Some (Release hop n.0, n.1)) z (number_again 8 number rest fits.1) refl) in
     ap release_at (regroup_2 (big_bytes 2 hop.0) (big_bytes 8 number) rest) ∙ read
+
+-- the command that is kept of one that was read
+pub kept_found : (bytes : List ℕ) (read kept : Command (List ℕ)) (rest : List ℕ) → command_at bytes ≡ Some (read, rest) → kept ≡ read → command_at bytes ≡ Some (kept, rest)
+kept_found bytes read kept rest found same = found ∙ ap (λ (command : Command (List ℕ)). Some (command, rest)) (sym same)
+
+-- a Take that is there
+pub take_spelled : (bytes : List ℕ) (x : Found) → IsBytes bytes → command_at bytes ≡ Some x → IsTake x.0
+    → (command : Command (List ℕ)) × (rest : List ℕ) × IsTake command × HasRecord command × (bytes ≡ record_of command ++ rest)
+take_spelled bytes x fits found is =
+    let t = command_takes bytes x fits found in
+    (x.0, x.1, is, t.1, t.0.parts)
 
 -- two readings of the same bytes are one
 pub one_reading : {A : Type 0} (read : List ℕ → Option (A × List ℕ)) (s t : List ℕ) (a b : A) (x y : List ℕ) → s ≡ t → read s ≡ Some (a, x) → read t ≡ Some (b, y) → (a ≡ b) × (x ≡ y)

@@ -1,9 +1,11 @@
 -- Reading from left to right: what stands at the front and the bytes behind it, or nothing where no such thing stands
 -- there.
-use Rattle.std.specs.Prelude.{◌≡◌, ℕ, zero, suc, ⊤, ◌||◌, ◌==◌, nat_lt, if◌then◌else◌, List, [], ◌∷◌, length, take, drop, Option, Some, None, Result, Ok, Err}
+use Rattle.std.specs.Prelude.{◌≡◌, ℕ, zero, suc, ⊤, ◌||◌, ◌==◌, nat_lt, if◌then◌else◌, List, [], ◌∷◌, length, take, drop, Option, Some, None, IsSome, Result, Ok, Err}
+use Rattle.std.specs.Borrow.{Bor}
 use Rattle.byteorder.specs.Endian.{big_number}
 use Rattle.rly_machine.specs.declared.command.Command.{Command}
 use Rattle.rly_machine.specs.declared.command.Command.TheVariants.{Take, Pick, Release}
+use Rattle.rly_machine.specs.Map.{map_command}
 use Rattle.rly_record.specs.declared.fault.RecordFault.{RecordFault}
 use Rattle.rly_record.specs.declared.fault.RecordFault.TheVariants.{OutOfMemory, Malformed}
 
@@ -13,15 +15,36 @@ abbrev pub ◌>>=◌ : {A B : Type 0} → Option A → (A → Option B) → Opti
 None >>= f = None
 (Some x) >>= f = f x
 
--- the fault of a function that should give this reading: memory, or that there is nothing to read
+-- the fault of a function that should give this reading: that memory was refused, which only what is there to be read
+-- wants, or that there is nothing to read
 abbrev pub Fails : {Y : Type 0} → RecordFault → Option Y → Type 0
-Fails OutOfMemory read = ⊤
+Fails OutOfMemory read = IsSome read
 Fails Malformed read = read ≡ None
 
 -- what a function returned, seen by view, is this reading, unless memory was refused
 abbrev pub Gives : {X Y : Type 0} → (X → Y) → Result X RecordFault → Option Y → Type 0
 Gives view (Ok x) read = read ≡ Some (view x)
 Gives view (Err e) read = Fails e read
+
+-- the same of a row, whose memory may be wanted where not all of it is there
+abbrev pub RowFails : {Y : Type 0} → RecordFault → Option Y → Type 0
+RowFails OutOfMemory read = ⊤
+RowFails Malformed read = read ≡ None
+
+abbrev pub GivesRow : {X Y : Type 0} → (X → Y) → Result X RecordFault → Option Y → Type 0
+GivesRow view (Ok x) read = read ≡ Some (view x)
+GivesRow view (Err e) read = RowFails e read
+
+-- the command, seen as the bytes that it borrows
+abbrev pub command_bytes : Command (Bor (List ℕ)) → Command (List ℕ)
+command_bytes command = map_command (λ payload. payload.now) command
+
+-- what stands in front, and what stands behind it
+abbrev pub in_front : {A : Type 0} → Option (A × List ℕ) → Option A
+in_front read = read >>= λ x. Some x.0
+
+abbrev pub behind : {A : Type 0} → Option (A × List ℕ) → Option (List ℕ)
+behind read = read >>= λ x. Some x.1
 
 -- a number of so many bytes
 abbrev pub number_at : ℕ → List ℕ → Option (ℕ × List ℕ)

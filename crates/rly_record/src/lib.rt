@@ -3,7 +3,7 @@
 //!
 //! Writing and reading meet one spelling (`specs/Spelling.antt`; `docs/FORMATS.md`, "Bodies and records"): what is written
 //! is the spelling, what is read is what the bytes spell, and only bytes that spell nothing are malformed. Reading takes
-//! memory for what it answers; writing takes none where the caller's buffer has the room.
+//! memory only for what it answers; writing takes none where the caller's buffer has the room.
 //! Callers: `rly_journal`; `rly_checkpoint` shares the definitions of its fields.
 #![tactic(auto)]
 

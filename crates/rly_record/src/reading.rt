@@ -1,7 +1,7 @@
-ghost use Rattle.std.specs.Prelude.{◌≡◌, ◌≤◌, ◌<◌, ◌++◌, ◌∷◌, ℕ, List, length, drop, Some, IfOk, MatchResult};
+ghost use Rattle.std.specs.Prelude.{◌≡◌, ◌≤◌, ◌<◌, ◌++◌, ◌∷◌, ℕ, List, length, drop, Some, Err, IfOk, IsOkUnless, MatchResult, OnErr};
 ghost use Rattle.rly_machine.specs.declared.command.Command.{Command};
-ghost use Rattle.rly_record.specs.Spelling.{HasRecord, HaveBody, body_of, record_of};
-ghost use Rattle.rly_record.specs.Reading.{Gives, command_at, commands_at, number_at, payload_at, pick_at, release_at, take_at, whole_body};
+ghost use Rattle.rly_record.specs.Spelling.{HasRecord, HaveBody, IsTake, body_of, record_of};
+ghost use Rattle.rly_record.specs.Reading.{Gives, GivesRow, behind, command_at, command_bytes, commands_at, in_front, number_at, payload_at, pick_at, release_at, take_at, whole_body};
 
 use crate::fault::RecordFault;
 use crate::kind::Kind;
@@ -9,7 +9,7 @@ use byteorder::{BigEndian, ByteOrder};
 use rly_core::limits::{MAX_PAYLOAD, MAX_ROUND};
 use rly_core::{HopId, PeerId};
 use rly_machine::{Command, Payload};
-use std::alloc::Global;
+use std::alloc::{AllocError, Global};
 
 /// The command whose record stands at the front of the bytes, and how many bytes that record takes; other bytes may
 /// follow it.
@@ -21,8 +21,13 @@ pub fn read_command(alloc: Global, bytes: &[u8]) -> Result<(Command<Payload>, us
     // What is spelled at the front is read, unless memory is refused: so Malformed says that nothing is.
     ensures only { (command : Command (List ℕ)) (rest : List ℕ) → HasRecord command → bytes.now ≡ record_of command ++ rest →
         MatchResult result (λ found. found.0 ≡ command) (λ fault. fault ≡ RecordFault.OutOfMemory) }
+
+    // Memory is wanted for the payload of a Take that is spelled there, and for nothing else.
+    ensures memory { result ≡ Err RecordFault.OutOfMemory →
+        (command : Command (List ℕ)) × (rest : List ℕ) × IsTake command × HasRecord command × (bytes.now ≡ record_of command ++ rest) }
 {
-    let (command, rest) = command_of(alloc, bytes)?;
+    let (command, rest) = command_of(bytes)?;
+    let command = keep(alloc, command)?;
     Ok((command, bytes.len() - rest.len()))
 }
 
@@ -34,13 +39,18 @@ pub fn read_body(alloc: Global, bytes: &[u8]) -> Result<Vec<Command<Payload>>, R
     // What is spelled is read, unless memory is refused: so Malformed says that nothing is.
     ensures only { (commands : List (Command (List ℕ))) → HaveBody commands → bytes.now ≡ body_of commands →
         MatchResult result (λ found. found.items ≡ commands) (λ fault. fault ≡ RecordFault.OutOfMemory) }
+
+    // Memory is wanted only where a body is spelled.
+    ensures memory { result ≡ Err RecordFault.OutOfMemory →
+        (commands : List (Command (List ℕ))) × HaveBody commands × (bytes.now ≡ body_of commands) }
 {
     body_of_bytes(alloc, bytes)
 }
 
 /// A number of two bytes, and what stands behind it.
 fn u16_of(bytes: &[u8]) -> Result<(u16, &[u8]), RecordFault>
-    ensures { Gives (λ x. (x.0, x.1.now)) result (number_at 2 bytes.now) }
+    ensures gives { Gives (λ x. (x.0, x.1.now)) result (number_at 2 bytes.now) }
+    ensures malformed { IsOkUnless result RecordFault.Malformed }
 {
     if bytes.len() < 2 {
         return Err(RecordFault::Malformed);
@@ -50,7 +60,8 @@ fn u16_of(bytes: &[u8]) -> Result<(u16, &[u8]), RecordFault>
 
 /// A number of eight bytes, and what stands behind it.
 fn u64_of(bytes: &[u8]) -> Result<(u64, &[u8]), RecordFault>
-    ensures { Gives (λ x. (x.0, x.1.now)) result (number_at 8 bytes.now) }
+    ensures gives { Gives (λ x. (x.0, x.1.now)) result (number_at 8 bytes.now) }
+    ensures malformed { IsOkUnless result RecordFault.Malformed }
 {
     if bytes.len() < 8 {
         return Err(RecordFault::Malformed);
@@ -60,28 +71,29 @@ fn u64_of(bytes: &[u8]) -> Result<(u64, &[u8]), RecordFault>
 
 /// A payload behind its length.
 #[tactic(auto, unfolding(crate::specs::Reading::payload_at))]
-fn payload_of(alloc: Global, bytes: &[u8]) -> Result<(Payload, &[u8]), RecordFault>
-    ensures { Gives (λ x. (x.0, x.1.now)) result (payload_at bytes.now) }
+fn payload_of(bytes: &[u8]) -> Result<(&[u8], &[u8]), RecordFault>
+    ensures gives { Gives (λ x. (x.0.now, x.1.now)) result (payload_at bytes.now) }
+    ensures malformed { IsOkUnless result RecordFault.Malformed }
 {
     let (size, rest) = u16_of(bytes)?;
     let length = usize::from(size);
     if u64::from(size) > MAX_PAYLOAD || rest.len() < length {
         return Err(RecordFault::Malformed);
     }
-    let (payload, rest) = rest.split_at(length);
-    Ok((Payload::new(Vec::from_slice(alloc, payload)?), rest))
+    Ok(rest.split_at(length))
 }
 
 /// The fields of a Take.
 #[tactic(auto, unfolding(crate::specs::Reading::take_at))]
-fn take_of(alloc: Global, bytes: &[u8]) -> Result<(Command<Payload>, &[u8]), RecordFault>
-    ensures { Gives (λ x. (x.0, x.1.now)) result (take_at bytes.now) }
+fn take_of(bytes: &[u8]) -> Result<(Command<&[u8]>, &[u8]), RecordFault>
+    ensures gives { Gives (λ x. (command_bytes x.0, x.1.now)) result (take_at bytes.now) }
+    ensures malformed { IsOkUnless result RecordFault.Malformed }
 {
     let (peer, rest) = u16_of(bytes)?;
     let (number, rest) = u64_of(rest)?;
     let (hop, rest) = u16_of(rest)?;
     let (stamp, rest) = u64_of(rest)?;
-    let (payload, rest) = payload_of(alloc, rest)?;
+    let (payload, rest) = payload_of(rest)?;
     let command = Command::Take {
         peer: PeerId(peer),
         number,
@@ -94,8 +106,9 @@ fn take_of(alloc: Global, bytes: &[u8]) -> Result<(Command<Payload>, &[u8]), Rec
 
 /// The fields of a Pick.
 #[tactic(auto, unfolding(crate::specs::Reading::pick_at))]
-fn pick_of(bytes: &[u8]) -> Result<(Command<Payload>, &[u8]), RecordFault>
-    ensures { Gives (λ x. (x.0, x.1.now)) result (pick_at bytes.now) }
+fn pick_of(bytes: &[u8]) -> Result<(Command<&[u8]>, &[u8]), RecordFault>
+    ensures gives { Gives (λ x. (command_bytes x.0, x.1.now)) result (pick_at bytes.now) }
+    ensures malformed { IsOkUnless result RecordFault.Malformed }
 {
     let (hop, rest) = u16_of(bytes)?;
     let (now, rest) = u64_of(rest)?;
@@ -105,8 +118,9 @@ fn pick_of(bytes: &[u8]) -> Result<(Command<Payload>, &[u8]), RecordFault>
 
 /// The fields of a Release.
 #[tactic(auto, unfolding(crate::specs::Reading::release_at))]
-fn release_of(bytes: &[u8]) -> Result<(Command<Payload>, &[u8]), RecordFault>
-    ensures { Gives (λ x. (x.0, x.1.now)) result (release_at bytes.now) }
+fn release_of(bytes: &[u8]) -> Result<(Command<&[u8]>, &[u8]), RecordFault>
+    ensures gives { Gives (λ x. (command_bytes x.0, x.1.now)) result (release_at bytes.now) }
+    ensures malformed { IsOkUnless result RecordFault.Malformed }
 {
     let (hop, rest) = u16_of(bytes)?;
     let (number, rest) = u64_of(rest)?;
@@ -114,40 +128,79 @@ fn release_of(bytes: &[u8]) -> Result<(Command<Payload>, &[u8]), RecordFault>
     Ok((Command::Release { hop, number }, rest))
 }
 
-/// The record at the front, and what stands behind it.
+/// The record at the front, its payload borrowed, and what stands behind it.
 #[tactic(auto, unfolding(crate::specs::Reading::command_at))]
-fn command_of(alloc: Global, bytes: &[u8]) -> Result<(Command<Payload>, &[u8]), RecordFault>
-    ensures { Gives (λ x. (x.0, x.1.now)) result (command_at bytes.now) }
+fn command_of(bytes: &[u8]) -> Result<(Command<&[u8]>, &[u8]), RecordFault>
+    ensures gives { Gives (λ x. (command_bytes x.0, x.1.now)) result (command_at bytes.now) }
+    ensures malformed { IsOkUnless result RecordFault.Malformed }
 {
     let [kind, fields @ ..] = bytes else {
         return Err(RecordFault::Malformed);
     };
     match Kind::from_byte(*kind).ok_or(RecordFault::Malformed)? {
-        Kind::Take => take_of(alloc, fields),
+        Kind::Take => take_of(fields),
         Kind::Pick => pick_of(fields),
         Kind::Release => release_of(fields),
     }
 }
 
-/// So many records, one behind the other, and what stands behind them.
+/// The command with a payload of its own.
+fn keep(alloc: Global, command: Command<&[u8]>) -> Result<Command<Payload>, AllocError>
+    ensures kept { IfOk result (λ kept. kept ≡ command_bytes command.entry) }
+    ensures memory { OnErr result (IsTake (command_bytes command.entry)) }
+{
+    Ok(match command {
+        Command::Take {
+            peer,
+            number,
+            hop,
+            stamp,
+            payload,
+        } => Command::Take {
+            peer,
+            number,
+            hop,
+            stamp,
+            payload: Payload::new(Vec::from_slice(alloc, payload)?),
+        },
+        Command::Pick { hop, now } => Command::Pick { hop, now },
+        Command::Release { hop, number } => Command::Release { hop, number },
+    })
+}
+
+/// What stands behind so many records.
+fn behind_commands(count: u16, bytes: &[u8]) -> Result<&[u8], RecordFault>
+    ensures gives { Gives (λ rest. rest.now) result (behind (commands_at count bytes.now)) }
+    ensures malformed { IsOkUnless result RecordFault.Malformed }
+{
+    let mut rest = bytes;
+    for _ in 0..count {
+        let (_, after) = command_of(rest)?;
+        rest = after;
+    }
+    Ok(rest)
+}
+
+/// So many records, one behind the other.
 fn commands_of(
     alloc: Global,
     count: u16,
     bytes: &[u8],
-) -> Result<(Vec<Command<Payload>>, &[u8]), RecordFault>
-    ensures { Gives (λ x. (x.0.items, x.1.now)) result (commands_at count bytes.now) }
+) -> Result<Vec<Command<Payload>>, RecordFault>
+    ensures { GivesRow (λ commands. commands.items) result (in_front (commands_at count bytes.now)) }
 {
     let mut commands = Vec::with_capacity(alloc, usize::from(count))?;
     let mut rest = bytes;
     for _ in 0..count {
-        let (command, after) = command_of(alloc, rest)?;
+        let (command, after) = command_of(rest)?;
+        let command = keep(alloc, command)?;
         commands.push_reserved(command);
         rest = after;
     }
-    Ok((commands, rest))
+    Ok(commands)
 }
 
-/// A body and nothing behind it.
+/// A body and nothing behind it. Memory is wanted once it is seen to be one.
 #[tactic(auto, unfolding(crate::specs::Reading::body_at, crate::specs::Reading::whole_body))]
 fn body_of_bytes(alloc: Global, bytes: &[u8]) -> Result<Vec<Command<Payload>>, RecordFault>
     ensures { Gives (λ commands. commands.items) result (whole_body bytes.now) }
@@ -156,9 +209,8 @@ fn body_of_bytes(alloc: Global, bytes: &[u8]) -> Result<Vec<Command<Payload>>, R
     if count == 0 || u64::from(count) > MAX_ROUND {
         return Err(RecordFault::Malformed);
     }
-    let (commands, rest) = commands_of(alloc, count, rest)?;
-    if !rest.is_empty() {
+    if !behind_commands(count, rest)?.is_empty() {
         return Err(RecordFault::Malformed);
     }
-    Ok(commands)
+    commands_of(alloc, count, rest)
 }

@@ -4,7 +4,7 @@ use crate::script::{HOP, PEER, Script, Step, ask_all};
 use rly_core::Refusal;
 use rly_disk::Disk;
 use rly_journal::Journal;
-use rly_machine::{Answer, Ask, Machine, Payload, Reply};
+use rly_machine::{Answer, Machine, Payload, Reply};
 use std::alloc::{AllocError, Global};
 use std::process::Abort;
 
@@ -29,13 +29,7 @@ pub(crate) fn reply_of(
     machine: &mut Machine<Payload>,
     step: Step,
 ) -> Result<Reply, AllocError> {
-    match step.ask(alloc)? {
-        Ask::Command(command) => {
-            let room = machine.reserve_for(alloc, &command)?;
-            Ok(machine.apply(command, room))
-        }
-        Ask::Query(query) => machine.answer(alloc, query),
-    }
+    machine.evaluate(alloc, step.ask(alloc)?)
 }
 
 /// Makes the steps on the plain machine, and expects each of its replies, at its position, of a journal.

@@ -1,7 +1,7 @@
 ghost use Rattle.std.specs.Prelude.{◌^◌, ◌≡◌, ◌+◌, ◌<◌, ◌≤◌, ◌↔◌, ◌∷◌, ◌++◌, [], ℕ, Err, IfOk, IsTrue, OnErr, OnOk, length};
 ghost use Rattle.rly_disk.specs.DiskModel.{Later, LeavesOnly, Rose, Settled};
 ghost use Rattle.rly_gate.specs.Group.{IsClosed, IsOpen};
-ghost use Rattle.rly_gate.specs.Reading.{OnlyRead};
+ghost use Rattle.rly_gate.specs.Reading.{OnlyRead, SyncsNothing};
 ghost use Rattle.rly_core.specs.Limits.{IsWithinLimits};
 ghost use Rattle.rly_machine.specs.State.{new_state};
 ghost use Rattle.rly_segment.specs.Device.{IsGeometry, header_of};
@@ -53,6 +53,9 @@ pub fn format<D: Disk>(alloc: Global, disk: &mut D, geometry: &Geometry) -> Resu
     ensures memory { result ≡ Err FormatFault.OutOfMemory → disk.new ≡ disk.old }
     ensures rise { result ≡ Err FormatFault.Device → Rose (D.state disk.old) (D.state disk.new) }
     ensures no_failure { OnOk result ((D.state disk.new).failures ≡ (D.state disk.old).failures) }
+    ensures syncs { (D.state disk.new).syncs ≤ (D.state disk.old).syncs + 7 }
+    ensures synced { OnOk result ((D.state disk.new).syncs ≡ (D.state disk.old).syncs + 7) }
+    ensures calls { (D.state disk.new).calls ≤ (D.state disk.old).calls + 15 }
     ensures later { Later (D.state disk.old) (D.state disk.new) }
 {
     if !is_geometry(geometry, disk.size()) {
@@ -87,6 +90,9 @@ fn write_device<D: Disk>(disk: &mut D, geometry: &Geometry, head: &[u8]) -> Resu
     ensures formatted { Settled (D.state disk.old) → OnOk result (IsFormatted geometry.now (D.state disk.new).seen) }
     ensures rise { OnErr result (Rose (D.state disk.old) (D.state disk.new)) }
     ensures no_failure { OnOk result ((D.state disk.new).failures ≡ (D.state disk.old).failures) }
+    ensures syncs { (D.state disk.new).syncs ≤ (D.state disk.old).syncs + 7 }
+    ensures synced { OnOk result ((D.state disk.new).syncs ≡ (D.state disk.old).syncs + 7) }
+    ensures calls { (D.state disk.new).calls ≤ (D.state disk.old).calls + 15 }
     ensures later { Later (D.state disk.old) (D.state disk.new) }
 {
     let closed = reads_closed(disk, 0)?;
@@ -102,6 +108,8 @@ fn reads_closed<D: Disk>(disk: &mut D, place: u64) -> Result<bool, DiskFault>
     ensures only { OnlyRead (D.state disk.old) (D.state disk.new) }
     ensures rise { OnErr result (Rose (D.state disk.old) (D.state disk.new)) }
     ensures no_failure { OnOk result ((D.state disk.new).failures ≡ (D.state disk.old).failures) }
+    ensures unsynced { SyncsNothing (D.state disk.old) (D.state disk.new) }
+    ensures calls { (D.state disk.new).calls ≤ (D.state disk.old).calls + 1 }
 {
     let mut gate = [0u8; 1];
     disk.read_at(place, &mut gate)?;
@@ -119,6 +127,9 @@ fn write_contents<D: Disk>(disk: &mut D, geometry: &Geometry, head: &[u8]) -> Re
     ensures filled { Settled (D.state disk.old) → OnOk result (IsFilled geometry.now head.now (D.state disk.new).seen) }
     ensures rise { OnErr result (Rose (D.state disk.old) (D.state disk.new)) }
     ensures no_failure { OnOk result ((D.state disk.new).failures ≡ (D.state disk.old).failures) }
+    ensures syncs { (D.state disk.new).syncs ≤ (D.state disk.old).syncs + 5 }
+    ensures synced { OnOk result ((D.state disk.new).syncs ≡ (D.state disk.old).syncs + 5) }
+    ensures calls { (D.state disk.new).calls ≤ (D.state disk.old).calls + 10 }
     ensures later { Later (D.state disk.old) (D.state disk.new) }
 {
     close_gates(disk, geometry)?;
@@ -138,6 +149,9 @@ fn close_gates<D: Disk>(disk: &mut D, geometry: &Geometry) -> Result<(), DiskFau
     ensures closed { Settled (D.state disk.old) → OnOk result (NoneIsOpen (D.state disk.new).seen geometry.now) }
     ensures rise { OnErr result (Rose (D.state disk.old) (D.state disk.new)) }
     ensures no_failure { OnOk result ((D.state disk.new).failures ≡ (D.state disk.old).failures) }
+    ensures syncs { (D.state disk.new).syncs ≤ (D.state disk.old).syncs + 2 }
+    ensures synced { OnOk result ((D.state disk.new).syncs ≡ (D.state disk.old).syncs + 2) }
+    ensures calls { (D.state disk.new).calls ≤ (D.state disk.old).calls + 4 }
     ensures later { Later (D.state disk.old) (D.state disk.new) }
 {
     for segment in 0..geometry.segments {

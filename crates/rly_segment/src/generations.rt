@@ -1,13 +1,13 @@
-ghost use Rattle.std.specs.Prelude.{◌≡◌, ◌+◌, ◌<◌, ◌≤◌, Err, IfOk, IfSome, List, OnErr, ℕ};
+ghost use Rattle.std.specs.Prelude.{◌≡◌, ◌≢◌, ◌+◌, ◌<◌, ◌≤◌, Err, IfOk, IfSome, List, OnErr, OnOk, ℕ};
 ghost use Rattle.rly_core.specs.declared.params.Geometry.{Geometry};
 ghost use Rattle.rly_disk.specs.DiskModel.{Rose};
-ghost use Rattle.rly_gate.specs.Reading.{OnlyRead};
+ghost use Rattle.rly_gate.specs.Reading.{OnlyRead, SyncsNothing};
 ghost use Rattle.rly_segment.specs.Answers.{IsFound, IsReadGate, IsReadNewest};
 ghost use Rattle.rly_segment.specs.Device.{IsGeometry};
 ghost use Rattle.rly_segment.specs.Heads.{segment_place};
 
 use crate::layout::{FIRST_SEGMENT, fill, number_in, segment_place};
-use rly_core::Geometry;
+use rly_core::{Geometry, limits};
 use rly_disk::{Disk, DiskFault};
 use rly_gate::OPEN_GATE;
 
@@ -15,7 +15,7 @@ use rly_gate::OPEN_GATE;
 const GENERATION_END: usize = 9;
 
 /// The most segments of a device.
-const MAX_SEGMENTS: usize = 256;
+const MAX_SEGMENTS: usize = limits::MAX_SEGMENTS as usize;
 
 /// The newest head, and which segments' gates read closed.
 #[derive(Clone, Copy, Debug)]
@@ -50,7 +50,9 @@ pub fn newest<D: Disk>(disk: &mut D, geometry: &Geometry) -> Result<NewestHead, 
     ensures within { IfOk result (λ newest. newest.segment < geometry.now.segments) }
     ensures read { (D.state disk.old).honest → IsReadNewest (D.state disk.old).seen geometry.now result }
     ensures only { OnlyRead (D.state disk.old) (D.state disk.new) }
+    ensures unsynced { SyncsNothing (D.state disk.old) (D.state disk.new) }
     ensures rise { result ≡ Err NewestFault.Device → Rose (D.state disk.old) (D.state disk.new) }
+    ensures no_failure { result ≢ Err NewestFault.Device → (D.state disk.new).failures ≡ (D.state disk.old).failures }
 {
     let mut closed = [false; MAX_SEGMENTS];
     let mut found = None;
@@ -80,7 +82,9 @@ fn read_gate<D: Disk>(disk: &mut D, place: u64) -> Result<Option<u64>, DiskFault
     ensures read { (D.state disk.old).honest
         → IfOk result (λ gate. IsReadGate (D.state disk.old).seen place gate) }
     ensures only { OnlyRead (D.state disk.old) (D.state disk.new) }
+    ensures unsynced { SyncsNothing (D.state disk.old) (D.state disk.new) }
     ensures rise { OnErr result (Rose (D.state disk.old) (D.state disk.new)) }
+    ensures no_failure { OnOk result ((D.state disk.new).failures ≡ (D.state disk.old).failures) }
 {
     let mut start = [0u8; GENERATION_END];
     fill(disk, place, &mut start)?;

@@ -1,19 +1,16 @@
-ghost use Rattle.std.specs.Prelude.{◌≡◌, ◌↔◌, Err, IfOk, IsTrue, length};
+ghost use Rattle.std.specs.Prelude.{◌≡◌, ◌≢◌, ◌↔◌, Err, IfOk, IsTrue, length};
 ghost use Rattle.rly_disk.specs.DiskModel.{Rose};
 ghost use Rattle.rly_gate.specs.Group.{IsOpen, StandsAt};
-ghost use Rattle.rly_gate.specs.Reading.{OnlyRead};
+ghost use Rattle.rly_gate.specs.Reading.{OnlyRead, SyncsNothing};
 ghost use Rattle.rly_segment.specs.Answers.{IsReadHeader};
 ghost use Rattle.rly_segment.specs.Device.{IsGeometry, device_mark, geometry_in};
 
 use crate::layout::{FIRST_SEGMENT, fill, number_in};
-use rly_core::limits::SEGMENT_LENGTH_LIMIT;
+use rly_core::limits::{SEGMENT_LENGTH_LIMIT, SEGMENTS};
 use rly_core::{Geometry, Params};
 use rly_disk::Disk;
 use rly_gate::OPEN_GATE;
 use rly_reclaim::fits;
-
-/// How many segments a device has until payloads stand by place.
-const SEGMENTS: u64 = 2;
 
 /// The bytes of the header's gate, mark and fields. What stands behind them is not read.
 pub(crate) const HEADER_BYTES: usize = 51;
@@ -37,7 +34,9 @@ pub fn read_header<D: Disk>(disk: &mut D) -> Result<Geometry, HeaderFault>
     ensures geometry { IfOk result (λ geometry. IsGeometry geometry (D.state disk.old).size) }
     ensures read { (D.state disk.old).honest → IsReadHeader (D.state disk.old).seen result }
     ensures only { OnlyRead (D.state disk.old) (D.state disk.new) }
+    ensures unsynced { SyncsNothing (D.state disk.old) (D.state disk.new) }
     ensures rise { result ≡ Err HeaderFault.Device → Rose (D.state disk.old) (D.state disk.new) }
+    ensures no_failure { result ≢ Err HeaderFault.Device → (D.state disk.new).failures ≡ (D.state disk.old).failures }
 {
     let size = disk.size();
     if size < FIRST_SEGMENT {

@@ -1,9 +1,9 @@
-ghost use Rattle.std.specs.Prelude.{◌≡◌, ◌≢◌, ◌+◌, ◌<◌, ◌≤◌, ◌^◌, ◌++◌, ◌↔◌, Err, IfOk, IsTrue, OnErr, length, take, drop};
+ghost use Rattle.std.specs.Prelude.{◌≡◌, ◌≢◌, ◌+◌, ◌<◌, ◌≤◌, ◌^◌, ◌++◌, ◌↔◌, Err, IfOk, IsTrue, OnErr, OnOk, length, take, drop};
 ghost use Rattle.byteorder.specs.Endian.{big_bytes};
 ghost use Rattle.rly_core.specs.Bounds.{IsIn};
 ghost use Rattle.rly_disk.specs.DiskModel.{Rose};
 ghost use Rattle.rly_gate.specs.Group.{StandsAt};
-ghost use Rattle.rly_gate.specs.Reading.{OnlyRead};
+ghost use Rattle.rly_gate.specs.Reading.{OnlyRead, SyncsNothing};
 ghost use Rattle.rly_segment.specs.Answers.{IsReadHead};
 ghost use Rattle.rly_segment.specs.Device.{IsGeometry};
 ghost use Rattle.rly_segment.specs.Heads.{IsHead, first_gate};
@@ -65,7 +65,9 @@ pub fn read_head<D: Disk>(
     ensures gate { IfOk result (λ head. head.gate ≡ first_gate geometry.now segment head.machine.state) }
     ensures read { (D.state disk.old).honest → IsReadHead (D.state disk.old).seen geometry.now segment result }
     ensures only { OnlyRead (D.state disk.old) (D.state disk.new) }
+    ensures unsynced { SyncsNothing (D.state disk.old) (D.state disk.new) }
     ensures rise { result ≡ Err HeadFault.Device → Rose (D.state disk.old) (D.state disk.new) }
+    ensures no_failure { result ≢ Err HeadFault.Device → (D.state disk.new).failures ≡ (D.state disk.old).failures }
 {
     let place = segment_place(geometry, segment);
     let Ok(start) = read_start(disk, place) else {
@@ -100,7 +102,9 @@ fn read_start<D: Disk>(disk: &mut D, place: u64) -> Result<Start, DiskFault>
         → IfOk result (λ start. StandsAt (D.state disk.old).seen (place + 1) (big_bytes 8 start.generation ++ big_bytes 4 start.length)) }
     ensures fits { IfOk result (λ start. (start.generation < 2 ^ 64) × (start.length < 2 ^ 32)) }
     ensures only { OnlyRead (D.state disk.old) (D.state disk.new) }
+    ensures unsynced { SyncsNothing (D.state disk.old) (D.state disk.new) }
     ensures rise { OnErr result (Rose (D.state disk.old) (D.state disk.new)) }
+    ensures no_failure { OnOk result ((D.state disk.new).failures ≡ (D.state disk.old).failures) }
 {
     let mut start = [0u8; START_BYTES];
     fill(disk, place + 1, &mut start)?;
@@ -123,7 +127,9 @@ fn read_body<D: Disk>(
     ensures length { IfOk result (λ body. length body.items ≡ size) }
     ensures undamaged { result ≢ Err HeadFault.Damaged }
     ensures only { OnlyRead (D.state disk.old) (D.state disk.new) }
+    ensures unsynced { SyncsNothing (D.state disk.old) (D.state disk.new) }
     ensures rise { result ≡ Err HeadFault.Device → Rose (D.state disk.old) (D.state disk.new) }
+    ensures no_failure { result ≢ Err HeadFault.Device → (D.state disk.new).failures ≡ (D.state disk.old).failures }
 {
     let Ok(mut body) = vec![in alloc; 0u8; size] else {
         return Err(HeadFault::OutOfMemory);

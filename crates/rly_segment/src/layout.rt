@@ -1,7 +1,7 @@
 ghost use Rattle.std.specs.Prelude.{◌≡◌, ◌+◌, ◌<◌, ◌≤◌, ◌^◌, length, take, drop, OnErr, OnOk};
 ghost use Rattle.byteorder.specs.Endian.{big_bytes};
 ghost use Rattle.rly_disk.specs.DiskModel.{Rose};
-ghost use Rattle.rly_gate.specs.Reading.{OnlyRead};
+ghost use Rattle.rly_gate.specs.Reading.{OnlyRead, SyncsNothing};
 ghost use Rattle.rly_segment.specs.Device.{number_in};
 ghost use Rattle.rly_segment.specs.Heads.{segment_end, segment_place};
 
@@ -36,7 +36,9 @@ pub(crate) fn fill<D: Disk>(disk: &mut D, place: u64, buffer: &mut [u8]) -> Resu
     ensures read { (D.state disk.old).honest
         → OnOk result (buffer.new ≡ take (length buffer.old) (drop place (D.state disk.old).seen)) }
     ensures only { OnlyRead (D.state disk.old) (D.state disk.new) }
+    ensures unsynced { SyncsNothing (D.state disk.old) (D.state disk.new) }
     ensures rise { OnErr result (Rose (D.state disk.old) (D.state disk.new)) }
+    ensures no_failure { OnOk result ((D.state disk.new).failures ≡ (D.state disk.old).failures) }
 {
     disk.read_at(place, buffer)
 }

@@ -1,4 +1,4 @@
-ghost use Rattle.std.specs.Prelude.{◌^◌, ◌≡◌, ◌+◌, ◌<◌, ◌≤◌, ◌↔◌, ◌∷◌, Err, IfOk, IsTrue, OnErr, OnOk, length};
+ghost use Rattle.std.specs.Prelude.{◌^◌, ◌≡◌, ◌+◌, ◌<◌, ◌≤◌, ◌↔◌, ◌∷◌, ◌==◌, Err, IfOk, IsTrue, OnErr, OnOk, if◌then◌else◌, length};
 ghost use Rattle.rly_disk.specs.DiskModel.{Later, LeavesOnly, Rose, SameOutside, Settled, overwritten};
 ghost use Rattle.rly_gate.specs.Group.{IsClosed, open_gate};
 ghost use Rattle.rly_segment.specs.Device.{IsGeometry};
@@ -57,8 +57,11 @@ pub fn open_segment<D: Disk>(
     ensures rise { result ≡ Err OpeningFault.Device → Rose (D.state disk.old) (D.state disk.new) }
     ensures no_failure { OnOk result ((D.state disk.new).failures ≡ (D.state disk.old).failures) }
     ensures syncs { (D.state disk.new).syncs ≤ (D.state disk.old).syncs + 3 }
+    ensures synced { OnOk result ((D.state disk.new).syncs ≡ (D.state disk.old).syncs + 3) }
     ensures calls { (D.state disk.new).calls ≤ (D.state disk.old).calls + 6 }
+    ensures made { OnOk result ((D.state disk.new).calls ≡ (D.state disk.old).calls + (if target.closed then 5 else 6)) }
     ensures later { Later (D.state disk.old) (D.state disk.new) }
+    ensures no_failed_read { (D.state disk.new).failed_reads ≡ (D.state disk.old).failed_reads }
 {
     let place = segment_place(geometry, target.segment);
     let Ok(behind) = head_bytes(alloc, generation, machine) else {
@@ -82,8 +85,12 @@ fn replace<D: Disk>(disk: &mut D, place: u64, closed: bool, behind: &[u8]) -> Re
     ensures rise { OnErr result (Rose (D.state disk.old) (D.state disk.new)) }
     ensures no_failure { OnOk result ((D.state disk.new).failures ≡ (D.state disk.old).failures) }
     ensures syncs { (D.state disk.new).syncs ≤ (D.state disk.old).syncs + 3 }
+    ensures synced { OnOk result ((D.state disk.new).syncs ≡ (D.state disk.old).syncs + 3) }
     ensures calls { (D.state disk.new).calls ≤ (D.state disk.old).calls + 6 }
+    ensures made { OnOk result ((D.state disk.new).calls
+        ≡ (D.state disk.old).calls + (if closed then 1 else 2) + (if length behind.now == 0 then 1 else 2) + 2) }
     ensures later { Later (D.state disk.old) (D.state disk.new) }
+    ensures no_failed_read { (D.state disk.new).failed_reads ≡ (D.state disk.old).failed_reads }
 {
     close_gate(disk, place, closed)?;
     settle(disk, place + 1, behind)?;
@@ -102,8 +109,11 @@ pub(crate) fn close_gate<D: Disk>(disk: &mut D, place: u64, closed: bool) -> Res
     ensures rise { OnErr result (Rose (D.state disk.old) (D.state disk.new)) }
     ensures no_failure { OnOk result ((D.state disk.new).failures ≡ (D.state disk.old).failures) }
     ensures syncs { (D.state disk.new).syncs ≤ (D.state disk.old).syncs + 1 }
+    ensures synced { OnOk result ((D.state disk.new).syncs ≡ (D.state disk.old).syncs + 1) }
     ensures calls { (D.state disk.new).calls ≤ (D.state disk.old).calls + 2 }
+    ensures made { OnOk result ((D.state disk.new).calls ≡ (D.state disk.old).calls + (if closed then 1 else 2)) }
     ensures later { Later (D.state disk.old) (D.state disk.new) }
+    ensures no_failed_read { (D.state disk.new).failed_reads ≡ (D.state disk.old).failed_reads }
 {
     if closed {
         settle(disk, place, &[])

@@ -1,7 +1,7 @@
 -- Commands that are built of arguments and subcommands.
 use Rattle.std.proofs.Common.{◌≡◌, Bool, true, false, not, refl, ◌∙◌, ap, ap₂}
 use Rattle.std.proofs.lemmas.Bool.{and_parts}
-use Rattle.clap.specs.Words.{AddsSubcommand, App, Rule, app_of, is_simple, rule_of, with_rule, with_subcommand}
+use Rattle.clap.specs.Words.{AddsSubcommand, App, Rule, app_of, is_simple, is_simple_and_free, rule_of, with_rule, with_subcommand}
 use Rattle.clap.specs.declared.builder.arg.Arg.{Arg}
 use Rattle.clap.specs.declared.builder.command.Command.{Command}
 use Rattle.rly_settings.specs.CommandLine.{audit_app, format_app, play_app, rly_app, rly_top, serve_app, sim_app}
@@ -47,3 +47,8 @@ serve_plain = refl
 pub rly_simple : is_simple rly_app ≡ true
 unfolding rly_app rly_top sim_app format_app play_app audit_app serve_app
 rly_simple = refl
+
+-- so are the errors at them
+pub rly_free : is_simple_and_free rly_app ≡ true
+unfolding rly_app rly_top sim_app format_app play_app audit_app serve_app
+rly_free = refl

@@ -1,16 +1,20 @@
 -- What is read of the matches of words.
-use Rattle.std.proofs.Common.{◌≡◌, ℕ, List, Option, Some, None, Result, Ok, Err, refl, subst, ◌∙◌, ap, ap₂}
+use Rattle.std.proofs.Common.{◌≡◌, ℕ, List, [], true, inl, inr, Option, Some, None, Result, Ok, Err, refl, subst, sym, ◌∙◌, ap, ap₂}
 use Rattle.std.specs.Prelude.{option_map, unwrap_or}
 use Rattle.std.specs.Str.Parse.{ParsesUnsigned}
 use Rattle.std.specs.declared.num.ParseIntError.{ParseIntError}
-use Rattle.clap.specs.Words.{App, HasMatchesOf, ReadsOne, Row, Text, app_of, one_of, one_text, rows_of, subcommand_name_of, subcommand_of, subcommand_rows_of}
+use Rattle.clap.specs.Words.{App, FailsBy, HasKind, IsAmong, HasMatchesOf, is_simple_and_free, fault_of, kind_of, ReadsOne, Row, Text, app_of, one_of, one_text, rows_of, subcommand_name_of, subcommand_of, subcommand_rows_of}
 use Rattle.clap.specs.declared.builder.command.Command.{Command}
+use Rattle.clap.specs.declared.error.Error.{Error}
+use Rattle.clap.specs.declared.error.kind.ErrorKind.TheVariants as kind
 use Rattle.clap.specs.declared.parser.matches.ArgMatches.{ArgMatches}
 use Rattle.clap.specs.declared.parser.matches.Found.{Found}
 use Rattle.clap.proofs.WalkLemmas.{one_text-rows}
 use Rattle.rly_settings.specs.declared.given.Settings.{Settings}
-use Rattle.rly_settings.specs.CommandLine.{IsSettings, ReadsNumber, asked_of, rly_app}
-use Rattle.rly_settings.proofs.Apps.{rly_simple}
+use Rattle.rly_settings.specs.declared.given.SettingsFault.{SettingsFault}
+use Rattle.rly_settings.specs.declared.given.SettingsFault.TheVariants.{Asked, CommandLine, OutOfMemory}
+use Rattle.rly_settings.specs.CommandLine.{IsSettings, IsTold, IsTrueFault, IsWrong, ReadsNumber, asked_of, kinds_at, rly_app}
+use Rattle.rly_settings.proofs.Apps.{rly_free, rly_simple}
 
 -- what a typed getter reads is what is read of the row's text
 pub number_read : (gives : List ℕ → Result ℕ ParseIntError → Type 0) → ((t : List ℕ) (r : Result ℕ ParseIntError) → gives t r → ParsesUnsigned 64 10 t r)
@@ -51,3 +55,29 @@ unfolding asked_of
 settings_found command m words s matches is asked =
     let there : subcommand_rows_of m ≡ subcommand_of rly_app words = (subst (λ (a : App). HasMatchesOf a words m) is matches rly_simple).1 in
     subst (λ (found : Option (Text × List Row)). IsSettings found s) there asked
+
+-- words that clap took have no step that fails
+pub taken : (command : Command) (m : ArgMatches) (words : List Text) → (is_simple_and_free (app_of command) ≡ true → FailsBy {T = ArgMatches} (fault_of (app_of command) words) (Ok m))
+    → app_of command ≡ rly_app → kinds_at words ≡ []
+unfolding kinds_at
+taken command m words fails is = subst (λ (a : App). is_simple_and_free a ≡ true → FailsBy {T = ArgMatches} (fault_of a words) (Ok m)) is fails rly_free
+
+-- what is told of clap's error is true
+pub true_fault : (command : Command) (words : List Text) (error : Error) (fault : SettingsFault)
+    → (is_simple_and_free (app_of command) ≡ true → FailsBy {T = ArgMatches} (fault_of (app_of command) words) (Err error)) → app_of command ≡ rly_app
+    → IsTold error fault → IsTrueFault words fault
+unfolding kinds_at
+true_fault command words error OutOfMemory fails is told = tt
+true_fault command words error (CommandLine text) fails is told = told.1
+true_fault command words error (Asked text) fails is told =
+    let among : HasKind (fault_of rly_app words) error = subst (λ (a : App). is_simple_and_free a ≡ true → FailsBy {T = ArgMatches} (fault_of a words) (Err error)) is fails rly_free in
+    elim among [
+      | inl memory ↦
+          let no : ⊥ = told.1 (subst (λ e. IsWrong e) (sym told.0) ((λ same. let bad : kind.OutOfMemory ≡ kind.DisplayHelp = sym memory ∙ same in cc), (λ same. let bad : kind.OutOfMemory ≡ kind.DisplayVersion = sym memory ∙ same in cc))) in
+          absurd no
+      | inr kinds ↦ record {
+        text = text;
+        answers = told.1;
+        asked = subst (λ e. IsAmong (kind_of e) (fault_of rly_app words)) (sym told.0) kinds;
+      }
+    ]

@@ -1,13 +1,17 @@
 -- What the words of a command line ask for (docs/COMMANDS.md): the settings that clap's matches of the words have.
-use Rattle.std.specs.Prelude.{◌≡◌, ℕ, List, [], ◌∷◌, true, Option, Some, None, codes, unwrap_or}
+use Rattle.std.specs.Prelude.{◌≡◌, ◌≢◌, ⊤, ℕ, List, [], ◌∷◌, true, Option, Some, None, codes, unwrap_or}
 use Rattle.std.specs.Str.Parse.{ParsesUnsigned}
 use Rattle.std.specs.declared.num.ParseIntError.{ParseIntError}
-use Rattle.clap.specs.Words.{App, ReadsOne, Row, Rule, Text, first_of, new_app, new_rule, one_of, subcommand_of, with_rule, with_subcommand}
+use Rattle.clap.specs.Words.{App, IsAmong, Kinds, fault_of, ReadsOne, Row, Rule, Text, first_of, new_app, kind_of, new_rule, one_of, subcommand_of, with_rule, with_subcommand}
 use Rattle.clap.specs.declared.builder.action.ArgAction.TheVariants.{Set}
 use Rattle.clap.specs.declared.builder.value_parser.ValueParser.TheVariants as parser
+use Rattle.clap.specs.declared.error.Error.{Error}
+use Rattle.clap.specs.declared.error.kind.ErrorKind.TheVariants as kind
 use Rattle.rly_core.specs.declared.params.Params.{Params}
 use Rattle.rly_settings.specs.declared.given.Settings.{Settings}
 use Rattle.rly_settings.specs.declared.given.Settings.TheVariants.{Sim, Format, Play, Audit, Serve}
+use Rattle.rly_settings.specs.declared.given.SettingsFault.{SettingsFault}
+use Rattle.rly_settings.specs.declared.given.SettingsFault.TheVariants.{Asked, CommandLine, OutOfMemory}
 
 -- ---- the command line
 
@@ -121,3 +125,31 @@ IsSettings (Some (command, rows)) (Serve file plan turns) = (command ≡ codes "
     × (file.now ≡ path_in (codes "file") rows)
     × (plan.now ≡ path_in (codes "plan") rows)
     × HasNumber rows (codes "turns") 0 turns
+
+-- ---- what its errors tell
+
+-- a command line is wrong, unless it asks for help or the version
+abbrev pub IsWrong : Error → Type 0
+IsWrong error = (kind_of error ≢ kind.DisplayHelp) × (kind_of error ≢ kind.DisplayVersion)
+
+-- the kinds of error that clap may give at the words: those of the first step that fails, none where it takes them
+unfoldable pub kinds_at : List Text → Kinds
+kinds_at words = fault_of rly_app words
+
+-- the words ask for help or the version
+pub record AsksHelp (words : List Text) : Type 0 where
+  pub text : Error
+  pub answers : ¬ IsWrong text
+  pub asked : IsAmong (kind_of text) (kinds_at words)
+
+-- a fault is the one that its text tells: an answer that the words ask for, or what is wrong
+abbrev pub IsTrueFault : List Text → SettingsFault → Type 0
+IsTrueFault words OutOfMemory = ⊤
+IsTrueFault words (Asked text) = AsksHelp words
+IsTrueFault words (CommandLine text) = IsWrong text
+
+-- what clap's error is told as
+abbrev pub IsTold : Error → SettingsFault → Type 0
+IsTold error OutOfMemory = kind_of error ≡ kind.OutOfMemory
+IsTold error (Asked text) = (text ≡ error) × ¬ IsWrong text
+IsTold error (CommandLine text) = (text ≡ error) × IsWrong text × (kind_of error ≢ kind.OutOfMemory)

@@ -3,10 +3,11 @@ ghost use Rattle.clap.specs.Words.{app_of, rule_of, with_rule};
 ghost use Rattle.rly_settings.specs.CommandLine.{batch_rule, number_rule, option_rule, path_rule, with_more_rules, with_param_rules};
 
 use clap::{Arg, ArgAction, Command, value_parser};
+use rly_core::limits;
 use std::alloc::{AllocError, Global};
 
 /// How many lines make a round at most.
-const MAX_BATCH: i64 = 64;
+const MAX_BATCH: i64 = limits::MAX_ROUND as i64;
 
 /// A command with one argument more.
 pub(crate) fn with_arg<'a>(command: Command<'a>, arg: Arg<'a>) -> Result<Command<'a>, AllocError>
@@ -31,7 +32,12 @@ pub(crate) fn with_params<'a>(
         "8",
         "Datagrams in flight for a hop, 1 to 64",
     );
-    let items = option(alloc, "items", "1024", "Live datagrams, 1 to 16384");
+    let items = option(
+        alloc,
+        "items",
+        "1024",
+        "Live datagrams, waiting and in flight, 1 to 16384",
+    );
     let with_hops = with_arg(command, hops)?;
     let with_peers = with_arg(with_hops, peers)?;
     let with_window = with_arg(with_peers, window)?;
@@ -96,7 +102,7 @@ pub(crate) fn batch<'a>(alloc: Global) -> Arg<'a>
         alloc,
         "batch",
         "1",
-        "Lines that share the cost of one round's syncs, 1 to 64",
+        "Lines of one round, which share its syncs and are answered together, 1 to 64",
     )
     .value_parser(value_parser!(u64).range(1..=MAX_BATCH))
 }

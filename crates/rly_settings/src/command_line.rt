@@ -1,17 +1,17 @@
-ghost use Rattle.std.specs.Prelude.{◌≡◌, IfOk, IfSome, Some, map};
+ghost use Rattle.std.specs.Prelude.{◌≡◌, [], IfErr, IfOk, IfSome, OnOk, Some, map};
 ghost use Rattle.clap.specs.Words.{found_of, one_of, rows_of, subcommand_rows_of};
-ghost use Rattle.rly_settings.specs.CommandLine.{HasNumber, HasParams, IsSettings, ReadsNumber, asked_of, path_in};
+ghost use Rattle.rly_settings.specs.CommandLine.{HasNumber, HasParams, IsSettings, IsTrueFault, ReadsNumber, asked_of, kinds_at, path_in};
 
 use crate::commands::program;
 use crate::given::{Settings, SettingsFault};
 use clap::error::ErrorKind;
 use clap::{ArgMatches, Command};
-use rly_core::Params;
+use rly_core::{Params, limits};
 use std::alloc::Global;
 use std::convert::AsStr;
 
 /// How many segments a device has where none are given.
-const DEFAULT_SEGMENTS: u64 = 2;
+const DEFAULT_SEGMENTS: u64 = limits::SEGMENTS;
 
 /// How many lines make a round where no number is given.
 const DEFAULT_BATCH: u64 = 1;
@@ -24,7 +24,11 @@ const DEFAULT_TURNS: u64 = 0;
 /// limits are checked later.
 pub fn settings<'a, S: AsStr>(alloc: Global, words: &'a [S]) -> Result<Settings<'a>, SettingsFault>
     // Each name, number and file is what clap's matches of the words have, or the default.
-    ensures { IfOk result (λ settings. IsSettings (asked_of (map S.text words.now)) settings) }
+    ensures asked { IfOk result (λ settings. IsSettings (asked_of (map S.text words.now)) settings) }
+    // A question for help or the version is told as one, and all else as a bad command line.
+    ensures told { IfErr result (λ fault. IsTrueFault (map S.text words.now) fault) }
+    // Words that are refused by clap are never taken.
+    ensures right { OnOk result (kinds_at (map S.text words.now) ≡ []) }
 {
     let mut command: Command<'a> = program(alloc)?;
     let matches = command.try_get_matches_from_mut(words)?;

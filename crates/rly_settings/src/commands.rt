@@ -24,13 +24,16 @@ Values out of their limits answer `refused 21 badgeometry` before the file is to
 /// The help behind the options of `audit`.
 const AUDITED: &str =
     "Prints a line for each hop, then one for each peer, the count of accepted commands, and
-`balance ok` where what was taken waits, is in flight, was dropped or was released.";
+`balance ok`: what each hop took waits, is in flight, was dropped or was released, and the peers'
+last numbers sum up to what the hops took. The file is locked meanwhile, for which it has to be one
+that may be written.";
 
 /// The help behind the options of `serve`.
 const SERVED: &str =
     "Takes datagrams from each peer of the plan, and hands them to its hops while a contact is open.
 A datagram is acknowledged once the device holds it. SIGINT or SIGTERM may end the program at any
-moment: nothing that was acknowledged is lost, and it goes on where it is started again.";
+moment: nothing that was acknowledged is lost, and it goes on where it is started again. Where a
+write or a sync of the device fails, it answers no neighbour until it is started again.";
 
 /// The whole command line: its commands, options and help texts.
 pub(crate) fn program<'a>(alloc: Global) -> Result<Command<'a>, AllocError>
@@ -90,7 +93,12 @@ fn format<'a>(alloc: Global) -> Result<Command<'a>, AllocError>
     );
     let with_file = with_arg(bare, device)?;
     let with_options = with_params(alloc, with_file)?;
-    let segments = option(alloc, "segments", "2", "Segments of the device, 2");
+    let segments = option(
+        alloc,
+        "segments",
+        "2",
+        "Segments of the device; 2 is the only number",
+    );
     let with_segments = with_arg(with_options, segments)?;
     let length = number(
         alloc,
@@ -107,10 +115,15 @@ fn play<'a>(alloc: Global) -> Result<Command<'a>, AllocError>
     let bare = named(
         alloc,
         "play",
-        "Runs commands from standard input on the device in a file",
+        "Runs commands from standard input on the device in a file, each answered once it is durable",
         LINES,
     );
-    let device = path(alloc, "file", "FILE", "The file of the device");
+    let device = path(
+        alloc,
+        "file",
+        "FILE",
+        "The file of a device that `format` made",
+    );
     let with_file = with_arg(bare, device)?;
     let lines = batch(alloc);
     let with_lines = with_arg(with_file, lines)?;
@@ -126,7 +139,12 @@ fn audit<'a>(alloc: Global) -> Result<Command<'a>, AllocError>
         "Reports what the device in a file holds, and writes nothing to it",
         AUDITED,
     );
-    let device = path(alloc, "file", "FILE", "The file of the device");
+    let device = path(
+        alloc,
+        "file",
+        "FILE",
+        "The file of a device that `format` made",
+    );
     let with_file = with_arg(bare, device)?;
     Ok(with_file)
 }
@@ -140,7 +158,12 @@ fn serve<'a>(alloc: Global) -> Result<Command<'a>, AllocError>
         "Relays datagrams between the neighbours of a plan, on the device in a file",
         SERVED,
     );
-    let device = path(alloc, "file", "FILE", "The file of the device");
+    let device = path(
+        alloc,
+        "file",
+        "FILE",
+        "The file of a device that `format` made",
+    );
     let with_file = with_arg(bare, device)?;
     let neighbours = path(
         alloc,
@@ -153,7 +176,7 @@ fn serve<'a>(alloc: Global) -> Result<Command<'a>, AllocError>
         alloc,
         "turns",
         "0",
-        "Turns of each worker; 0 is without end",
+        "Turns of each peer and each hop, in each of which it waits about 10 milliseconds for a packet; 0 is without end",
     );
     let with_turns = with_arg(with_plan, turns)?;
     Ok(with_turns)

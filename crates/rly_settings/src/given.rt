@@ -61,12 +61,21 @@ pub enum SettingsFault {
 }
 
 impl From<AllocError> for SettingsFault {
+    ghost use Rattle.std.specs.Prelude.{◌≡◌};
+    ghost use Rattle.rly_settings.specs.declared.given.SettingsFault.TheVariants as fault;
+
+    ghost from_gives = { λ _ told. told ≡ fault.OutOfMemory };
+
     fn from(_refused: AllocError) -> SettingsFault {
         SettingsFault::OutOfMemory
     }
 }
 
 impl From<clap::Error> for SettingsFault {
+    ghost use Rattle.rly_settings.specs.CommandLine.{IsTold};
+
+    ghost from_gives = { λ error fault. IsTold error fault };
+
     fn from(error: clap::Error) -> SettingsFault {
         if error.kind() == ErrorKind::OutOfMemory {
             SettingsFault::OutOfMemory

@@ -1,8 +1,9 @@
 //! The command line of the program `rly`: what its words ask for.
 //!
 //! `settings` is Ok only where the command, each file and each number are what `clap`'s matches of
-//! the words have, or the default (`specs/CommandLine.antt`, `docs/COMMANDS.md`). Whether the numbers
-//! are within the limits of a spool is checked by whoever obeys them. `rly_daemon` calls it.
+//! the words have, or the default (`specs/CommandLine.antt`, `docs/COMMANDS.md`), and tells a question
+//! for help or the version from a bad command line. Whether the numbers are within the limits of a spool
+//! is checked by whoever obeys them. `rly_daemon` calls it.
 #![tactic(auto)]
 
 mod arguments;

@@ -2,3 +2,5 @@ pub mod Packets
 pub mod Grown
 pub mod Receivers
 pub mod Senders
+pub mod Threads
+pub mod Ended

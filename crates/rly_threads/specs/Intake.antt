@@ -86,9 +86,14 @@ take_named (Some (Take number payload)) = Some (number, payload)
 take_named (Some (Send m)) = None
 take_named None = None
 
+-- memory was refused for a payload: for its bytes alone, so never for an empty one
+abbrev pub lacks_memory : Made → List ℕ → Bool
+lacks_memory made [] = false
+lacks_memory made (byte ∷ payload) = made.refused
+
 -- the core's Take is asked
 abbrev pub on_take : Intake → ℕ → Made → Receiver → Option (ℕ × List ℕ) → Done Receiver
-on_take w now made r (Some taken) = on_call w made r (take_of w now taken.0 taken.1) made.refused
+on_take w now made r (Some taken) = on_call w made r (take_of w now taken.0 taken.1) (lacks_memory made taken.1)
 on_take w now made r None = nothing_done r
 
 abbrev pub on_action : Intake → ℕ → Made → Receiver → Option (InAction (List ℕ)) → Done Receiver

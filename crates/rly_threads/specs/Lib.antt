@@ -4,3 +4,4 @@ pub mod Intake
 pub mod Outlet
 pub mod Runs
 pub mod Memory
+pub mod Relay

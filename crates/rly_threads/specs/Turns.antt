@@ -22,7 +22,7 @@ abbrev pub Handed : Type 0
 Handed = Worker × Point × Go
 
 -- What became of the call that a worker made in a turn, if it made one, and what it was handed before it and behind it. Where
--- memory was refused for a payload the call was not made.
+-- memory was refused for the bytes of a payload the call was not made.
 pub record Made : Type 0 where
   pub refused : Bool
   pub outcome : Outcome

@@ -1,13 +1,12 @@
-ghost use Rattle.std.specs.Prelude.{◌≡◌, ◌∷◌, [], IfSome, List, false};
+ghost use Rattle.std.specs.Prelude.{◌≡◌, ◌<◌, ◌∷◌, [], IfOk, OnErr, false, length};
 ghost use Rattle.std.specs.Option.{option_map};
 ghost use Rattle.rly_hop.specs.Payloads.{in_action_bytes, in_event_bytes, message_bytes};
-ghost use Rattle.rly_hop.specs.Receiving.{received, receiver};
-ghost use Rattle.rly_plan.specs.ContactPlan.{peer_at};
-ghost use Rattle.rly_threads.specs.declared.turn.Worker.{Worker as AWorker};
+ghost use Rattle.rly_hop.specs.Receiving.{received};
 ghost use Rattle.rly_threads.specs.Ends.{Tells};
-ghost use Rattle.rly_threads.specs.Intake.{answer_in, event_of, hop_of, intake, intake_done, on_action, on_answer, on_hearing, packets_in, take_in, take_named, take_of};
-ghost use Rattle.rly_threads.specs.Runs.{Did, Grew, Ran};
-ghost use Rattle.rly_threads.specs.Turns.{Given, Made, done_in};
+ghost use Rattle.rly_threads.specs.Intake.{answer_in, event_of, hop_of, intake, intake_done, on_action, on_answer, on_hearing, packets_in, take_named, take_of};
+ghost use Rattle.rly_threads.specs.Relay.{HasReceived};
+ghost use Rattle.rly_threads.specs.Runs.{Did, Grew};
+ghost use Rattle.rly_threads.specs.Turns.{Given, Made};
 
 use crate::desk::Desk;
 use crate::ends::{Ends, MAX_PACKET, message_in};
@@ -19,7 +18,7 @@ use rly_hop::{InAction, InEvent, Message, Receiving, StationId, TakeAnswer};
 use rly_line::CallError;
 use rly_machine::{Answer, Ask, Command, Payload, Reply};
 use rly_plan::Plan;
-use std::alloc::Global;
+use std::alloc::{AllocError, Global};
 use std::marker::Model;
 use std::sync::Wait;
 
@@ -33,9 +32,7 @@ pub fn receiver_run<R: Wait, L: Link, K: Desk, T: Turn>(
     ends: &mut Ends<L, K, T>,
 )
     // What it asked and sent is what its core names for what it was given, in order, and nothing else.
-    ensures turns { IfSome (peer_at plan.now peer) (λ neighbour. (turns : List Given)
-        × Ran ends.old ends.new (AWorker.Receiver peer) turns
-        (done_in (take_in (intake plan.now peer)) (receiver (record { 0 = plan.now.station }) (record { 0 = neighbour.station })) turns)) }
+    ensures turns { HasReceived plan.now peer ends.old ends.new }
 {
     let Some(neighbour) = plan.peer(peer) else {
         return;
@@ -107,7 +104,7 @@ impl<'a> Intake<'a> {
         let Some((number, payload)) = take_named(action) else {
             return;
         };
-        match Vec::from_slice(alloc, payload) {
+        match copy_of(alloc, payload) {
             Ok(bytes) => {
                 let ask = self.take(now, number, Payload::new(bytes));
                 self.ask(rt, ask, ends);
@@ -160,6 +157,16 @@ fn take_named<'a>(action: Option<InAction<&'a [u8]>>) -> Option<(u64, &'a [u8])>
         Some(InAction::Send(_)) => None,
         None => None,
     }
+}
+
+/// A copy of a payload. Memory is refused for bytes alone: never for an empty one.
+fn copy_of(alloc: Global, payload: &[u8]) -> Result<Vec<u8>, AllocError>
+    ensures ok { IfOk result (λ copy. copy.items ≡ payload.now) }
+    ensures err { OnErr result (0 < length payload.now) }
+{
+    let mut copy = Vec::new(alloc);
+    copy.extend_from_slice(payload)?;
+    Ok(copy)
 }
 
 /// Sends the message that an action names, if it names one.

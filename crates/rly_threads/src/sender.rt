@@ -1,13 +1,12 @@
-ghost use Rattle.std.specs.Prelude.{◌≡◌, ◌<◌, ◌∷◌, [], IfSome, List};
+ghost use Rattle.std.specs.Prelude.{◌≡◌, ◌<◌, ◌∷◌, []};
 ghost use Rattle.std.specs.Option.{option_map};
 ghost use Rattle.rly_hop.specs.Payloads.{message_bytes, out_action_bytes, out_event_bytes};
-ghost use Rattle.rly_hop.specs.Sending.{sender, sent};
-ghost use Rattle.rly_plan.specs.ContactPlan.{hop_at};
-ghost use Rattle.rly_threads.specs.declared.turn.Worker.{Worker as AWorker};
+ghost use Rattle.rly_hop.specs.Sending.{sent};
 ghost use Rattle.rly_threads.specs.Ends.{Tells};
-ghost use Rattle.rly_threads.specs.Outlet.{ask_of, event_in, event_of, on_action, on_answer, on_hearing, outlet, outlet_done, packets_in, send_out, tick, ticking};
-ghost use Rattle.rly_threads.specs.Runs.{Did, Grew, Ran};
-ghost use Rattle.rly_threads.specs.Turns.{Given, Made, done_in};
+ghost use Rattle.rly_threads.specs.Outlet.{ask_of, event_in, event_of, on_action, on_answer, on_hearing, outlet, outlet_done, packets_in, tick, ticking};
+ghost use Rattle.rly_threads.specs.Relay.{HasSent};
+ghost use Rattle.rly_threads.specs.Runs.{Did, Grew};
+ghost use Rattle.rly_threads.specs.Turns.{Given, Made};
 
 use crate::desk::Desk;
 use crate::ends::{Ends, MAX_PACKET, message_in};
@@ -34,10 +33,7 @@ pub fn sender_run<R: Wait, L: Link, K: Desk, T: Turn>(
     ends: &mut Ends<L, K, T>,
 )
     // What it asked and sent is what its core names for what it was given, in order, and nothing else.
-    ensures turns { IfSome (hop_at plan.now hop) (λ neighbour. (turns : List Given)
-        × Ran ends.old ends.new (AWorker.Sender hop) turns
-        (done_in (send_out (outlet plan.now hop))
-        (ticking (sender (record { 0 = plan.now.station }) (record { 0 = neighbour.station }) window) 0) turns)) }
+    ensures turns { HasSent plan.now window hop ends.old ends.new }
 {
     let Some(neighbour) = plan.hop(hop) else {
         return;

@@ -1,4 +1,4 @@
-//! The worked rows: command lines and the reply lines that the specification gives for them.
+//! The worked rows: command lines and their reply lines, which were given with the language and not taken from the program.
 
 use crate::sim;
 use rly_core::Params;

@@ -1,7 +1,7 @@
 //! Long lines, short reads, and readers and writers that fail.
 
 use super::rows::replies;
-use crate::{SimFault, sim};
+use crate::{TextFault, sim};
 use rly_core::Params;
 use std::io;
 use std::io::{Error, ErrorKind, Read, Write};
@@ -63,7 +63,7 @@ fn a_failed_read_ends_with_a_beginning(rt: HostRuntime) -> Result<(), Fail> {
     };
     let mut written = Vec::new(rt.alloc());
     let outcome = sim(rt.alloc(), Params::DEFAULT, &mut reader, &mut written);
-    assert_eq!(rt; outcome, Err(SimFault::Input));
+    assert_eq!(rt; outcome, Err(TextFault::Input));
     assert_eq!(rt; written.as_slice(), b"taken 1 1\n".as_slice());
     Ok(())
 }
@@ -76,7 +76,7 @@ fn a_failed_write_ends_with_a_beginning(rt: HostRuntime) -> Result<(), Fail> {
         room: 16,
     };
     let outcome = sim(rt.alloc(), Params::DEFAULT, &mut reader, &mut writer);
-    assert_eq!(rt; outcome, Err(SimFault::Output));
+    assert_eq!(rt; outcome, Err(TextFault::Output));
     assert_eq!(rt; writer.written.as_slice(), b"taken 1 1\nunchan".as_slice());
     Ok(())
 }

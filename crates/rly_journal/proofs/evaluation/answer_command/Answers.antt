@@ -8,8 +8,8 @@ returns-then-not-is_short c =
     long_done c.args.command c.apply.result c.args.group.now c.args.machine.now.state c.reserve_for.new.self.state c.apply.new.self.state
     c.reserve_for.ensures.state (λ short. let yes : c.is_short.result ≡ true = c.is_short.ensures.no short in cc) c.apply.ensures.state c.apply.ensures.reply
 
-pub returns-else-was_accepted : goal.returns-else-was_accepted
-returns-else-was_accepted c =
+pub returns-else-is_accepted : goal.returns-else-is_accepted
+returns-else-is_accepted c =
     left_done c.args.command c.apply-reply.result c.args.group.now c.stage.new.self c.discard.new.self c.args.machine.now.state c.reserve_for.new.self.state
     c.apply-reply.new.self.state c.reserve_for.ensures.state c.requires.nothing_staged c.stage.ensures.staged c.discard.ensures
-    (sym c.was_accepted.ensures ∙ c.if-was_accepted.false) c.apply-reply.ensures.state c.apply-reply.ensures.reply
+    (sym c.is_accepted.ensures ∙ c.if-is_accepted.false) c.apply-reply.ensures.state c.apply-reply.ensures.reply

@@ -1,6 +1,7 @@
-use Rattle.std.proofs.Common.{subst, sym}
+use Rattle.std.proofs.Common.{◌∙◌, subst, sym}
 use Rattle.std.proofs.lemmas.Result.{err_from_is_err_and}
 use Rattle.rly_gate.proofs.Rereading.{only_again}
+use Rattle.rly_segment.proofs.Unsynced.{unsynced_again}
 use Rattle.rly_journal.specs.Log.{IsReplayed, IsShaped}
 use Rattle.rly_journal.proofs.recovery.recover.Goals as goal
 
@@ -15,11 +16,16 @@ returns-in_err-replay_group-clause-refused g c honest =
 pub returns-in_err-replay_group-clause-only : goal.returns-in_err-replay_group-clause-only
 returns-in_err-replay_group-clause-only g c = only_again c.groups.invariant.only c.replay_group.ensures.only
 
+pub returns-in_err-replay_group-clause-unsynced : goal.returns-in_err-replay_group-clause-unsynced
+returns-in_err-replay_group-clause-unsynced g c = unsynced_again c.groups.invariant.only c.groups.invariant.unsynced c.replay_group.ensures.unsynced
+
 pub groups-preserved : goal.groups-preserved
 groups-preserved g c =
     let only = only_again c.groups.invariant.only c.replay_group.ensures.only in
     record {
       only = only;
+      unsynced = unsynced_again c.groups.invariant.only c.groups.invariant.unsynced c.replay_group.ensures.unsynced;
+      failures = c.in_ok-replay_group.ensures.no_failure (λ refused. absurd cc) ∙ c.groups.invariant.failures;
       shaped = subst (λ size. IsShaped size c.replay_group.new.found.tail c.replay_group.new.found.machine.state) only.later.size c.replay_group.ensures.shaped;
       replayed = λ honest.
           let same = c.groups.invariant.only.crash honest in
@@ -27,6 +33,9 @@ groups-preserved g c =
           let after = c.in_ok-replay_group.ensures.replayed same.honest before in
           subst (λ image. IsReplayed image c.replay_group.new.found.tail c.replay_group.new.found.machine.state) same.seen after;
     }
+
+pub returns-clause-unsynced : goal.returns-clause-unsynced
+returns-clause-unsynced g c = unsynced_again c.groups.invariant.only c.groups.invariant.unsynced c.replay_group.ensures.unsynced
 
 pub returns-clause-only : goal.returns-clause-only
 returns-clause-only g c = only_again c.groups.invariant.only c.replay_group.ensures.only

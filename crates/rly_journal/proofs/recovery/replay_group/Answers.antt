@@ -31,14 +31,15 @@ returns-then-not-is_redone-clause-refused g c honest so_far =
 
 pub returns-clause-shaped : goal.returns-clause-shaped
 returns-clause-shaped g c =
+    let within = rw c.in-Ok-Some.field-0-is at c.in-Ok-Some.ensures.within in
     let told : c.in_ok-is_redone.is_redone ≡ true = search rules in
     let accepted = c.in_ok-is_redone.ensures.accepted cc in
     let state = c.in_ok-is_redone.ensures.state cc in
-    subst (λ size. IsShaped size (with_gate c.args.found.now.tail (c.args.found.now.tail.gate + c.saturating_add-length.result)) c.redo.new.machine.state)
+    subst (λ size. IsShaped size (with_gate c.args.found.now.tail (c.args.found.now.tail.gate + 5 + c.len.result)) c.redo.new.machine.state)
     (sym c.read_group.ensures.only.later.size)
-    (shape_more (g.D.Disk.state c.args.disk.now).size (c.args.found.now.tail.gate + c.saturating_add-length.result) c.args.found.now.tail c.in-Ok.commands.items
+    (shape_more (g.D.Disk.state c.args.disk.now).size (c.args.found.now.tail.gate + 5 + c.len.result) c.args.found.now.tail c.in-Ok.commands.items
     c.args.found.now.machine.state c.redo.new.machine.state c.requires.shaped c.in-Ok.ensures.commands accepted state
-    (omega arith) (omega (arith, c.if-length-end.false, c.segment_end-end.ensures, c.requires.shaped.within)))
+    (omega arith) (omega (arith, within, c.segment_end-end.ensures, c.len.ensures)))
 
 pub returns-clause-replayed : goal.returns-clause-replayed
 returns-clause-replayed g c honest so_far =
@@ -47,7 +48,7 @@ returns-clause-replayed g c honest so_far =
     let accepted = c.in_ok-is_redone.ensures.accepted cc in
     let state = c.in_ok-is_redone.ensures.state cc in
     replayed_more (g.D.Disk.state c.args.disk.now).seen c.args.found.now.tail c.in-Ok.commands.items c.in-Ok-Some.body.items
-    c.args.found.now.machine.state c.redo.new.machine.state (c.args.found.now.tail.gate + c.saturating_add-length.result) so_far
+    c.args.found.now.machine.state c.redo.new.machine.state (c.args.found.now.tail.gate + 5 + c.len.result) so_far
     (subst (λ end. HoldsGroup (g.D.Disk.state c.args.disk.now).seen c.args.found.now.tail.gate end c.in-Ok-Some.body.items) c.segment_end-end.ensures (read honest))
     c.in-Ok.ensures.commands (sym c.deref.ensures.value ∙ c.in-Ok.ensures.found) accepted state
-    (omega (arith, c.if-length-end.false, c.saturating_add-length.ensures, c.len.ensures, c.in-Ok-Some.body.ok.0))
+    (omega (arith, c.len.ensures))

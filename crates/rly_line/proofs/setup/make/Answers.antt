@@ -10,7 +10,7 @@ pub loop-number-preserved : goal.loop-number-preserved
 loop-number-preserved c =
     let l = c.loop-number in
     record {
-      line = next_line _ _ l.number c.in_ok-puts.ensures.ok.1 l.invariant.line;
+      line = next_line _ _ _ l.number c.in_ok-puts.ensures.ok.1 l.invariant.line;
       made = one_more (new_caller l.line.of) _ _ _ l.number l.invariant.made c.push_reserved-in-loop-number.ensures.items
           (c.new-seat.ensures ∙ ap (λ o. new_caller o l.number) (ap (λ (p : Putter). p.of) c.in_ok-puts.ensures.ok.0))
           ∙ ap (λ o. map (new_caller o) (range_with_len 0 (l.number + 1))) (sym (ap (λ (t : Taker). t.of) c.in_ok-puts.ensures.ok.1));
@@ -24,4 +24,4 @@ loop-number-preserved c =
 pub new-end-requires : goal.new-end-requires
 new-end-requires c =
     let l = c.loop-number in
-    new_end l.line.of c.into_end-calls.result l.replies.items l.number (c.into_end-calls.ensures ∙ l.invariant.line) l.invariant.replies
+    new_end l.line.of c.args.capacity c.into_end-calls.result l.replies.items l.number (c.into_end-calls.ensures ∙ l.invariant.line) l.invariant.replies

@@ -7,7 +7,7 @@ use Rattle.rly_line.proofs.setup.make.Given as goal
 -- so many seats, their lines, and room for the others
 abbrev pub invariant-loop-number : goal.invariant-loop-number
 invariant-loop-number l = record {
-  line : l.line ≡ record l.line { seats = l.number; taken = [] };
+  line : l.line ≡ record l.line { capacity = l.capacity; seats = l.number; taken = [] };
   made : l.made.items ≡ map (new_caller l.line.of) (range_with_len 0 l.number);
   replies : l.replies.items ≡ map new_teller (range_with_len 0 l.number);
   count : vec_len l.made ≡ l.number;

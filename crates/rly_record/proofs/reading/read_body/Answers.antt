@@ -1,5 +1,5 @@
 use Rattle.std.proofs.Common.{arith}
-use Rattle.rly_record.proofs.Bodies.{body_has, body_is, body_only}
+use Rattle.rly_record.proofs.Bodies.{body_has, body_is, body_only, body_spelled}
 use Rattle.rly_record.proofs.reading.read_body.Goals as goal
 
 pub returns-clause-commands : goal.returns-clause-commands
@@ -10,3 +10,6 @@ returns-clause-found c = body_is c.args.bytes.now c.body_of_bytes.result (λ i. 
 
 pub returns-clause-only : goal.returns-clause-only
 returns-clause-only c commands fits same = body_only c.args.bytes.now c.body_of_bytes.result commands fits same c.body_of_bytes.ensures
+
+pub returns-clause-memory : goal.returns-clause-memory
+returns-clause-memory c refused = body_spelled c.args.bytes.now c.body_of_bytes.result (λ i. omega (arith, c.type_inv.bytes i)) c.body_of_bytes.ensures refused

@@ -26,6 +26,8 @@ loop-segment-preserved g c =
           (g.D.Disk.state c.settle.new.disk).seen c.requires there (omega (arith, c.requires.fits)) ((so_far.settled settled).consistent.seen_size ∙ so_far.later.size)
           (c.in_ok-settle.ensures.written (so_far.settled settled) ∙ ap (λ p. overwritten p (0 ∷ []) (g.D.Disk.state c.loop-segment.disk).seen) c.segment_place.ensures)
           (so_far.closed settled);
+      syncs = omega (arith, c.in_ok-settle.ensures.synced, so_far.syncs);
+      calls = omega (arith, c.in_ok-settle.ensures.made, so_far.calls);
       no_failure = c.in_ok-settle.ensures.no_failure ∙ so_far.no_failure;
       later = later_again so_far.later c.settle.ensures.later;
     }

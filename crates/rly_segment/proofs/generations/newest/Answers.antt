@@ -3,6 +3,7 @@ use Rattle.std.proofs.lemmas.List.{length-set}
 use Rattle.rly_gate.proofs.Rereading.{only_again}
 use Rattle.rly_segment.specs.Answers.{IsFound}
 use Rattle.rly_segment.specs.Heads.{segment_place}
+use Rattle.rly_segment.proofs.Unsynced.{unsynced_again}
 use Rattle.rly_segment.proofs.Greater.{closed_more, gate_same, last_of_tie, newest_of}
 use Rattle.rly_segment.proofs.generations.newest.Goals as goal
 
@@ -15,11 +16,16 @@ loop-segment-preserved g c =
     let within : c.loop-segment.segment < length c.loop-segment.closed = omega (arith, c.loop-segment.invariant.flags, c.requires.segments, c.loop-segment-test.true) in
     record {
       only = only_again c.loop-segment.invariant.only c.in-Ok.ensures.only;
+      unsynced = unsynced_again c.loop-segment.invariant.only c.loop-segment.invariant.unsynced c.in-Ok.ensures.unsynced;
+      failures = c.in-Ok.ensures.no_failure ∙ c.loop-segment.invariant.failures;
       found = λ honest. c.greater-found.ensures.found (g.D.Disk.state c.args.disk.now).seen c.args.geometry.now (c.loop-segment.invariant.found honest) (read honest);
       flags = length-set c.loop-segment.closed c.loop-segment.segment c.is_none.result ∙ c.loop-segment.invariant.flags;
       closed = λ honest. closed_more (g.D.Disk.state c.args.disk.now).seen c.args.geometry.now c.loop-segment.segment c.loop-segment.closed c.in-Ok.gate c.is_none.result within c.is_none.ensures (c.loop-segment.invariant.closed honest) (read honest);
       within = c.greater-found.ensures.within c.loop-segment.invariant.within;
     }
+
+pub returns-in_default-clause-unsynced : goal.returns-in_default-clause-unsynced
+returns-in_default-clause-unsynced g c = unsynced_again c.loop-segment.invariant.only c.loop-segment.invariant.unsynced c.in_default.ensures.unsynced
 
 pub returns-then-greatest-clause-read : goal.returns-then-greatest-clause-read
 returns-then-greatest-clause-read g c honest =

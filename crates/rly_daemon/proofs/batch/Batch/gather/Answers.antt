@@ -1,5 +1,5 @@
-use Rattle.std.proofs.Common.{◌≡◌, ◌≤◌, ◌+◌, ◌<◌, length, length-append, ap, arith, ◌∙◌, ◌∷◌, [], Ok, refl}
-use Rattle.std.specs.Io.KnownBytes.{Keeps, prepend_known}
+use Rattle.std.proofs.Common.{◌≡◌, ◌+◌, length, length-append, ap, arith, ◌∙◌, ◌∷◌, [], Ok}
+use Rattle.std.specs.Io.KnownBytes.{prepend_known}
 use Rattle.rly_daemon.specs.Grammar.{ask_of}
 use Rattle.rly_daemon.specs.Playing.{asks_of, subject_in}
 use Rattle.rly_daemon.proofs.Gathering.{ends, few_calls, gathers_more, keeps_keeps}

@@ -1,6 +1,6 @@
 use Rattle.std.proofs.Common.{List, subst, sym}
 use Rattle.rly_machine.specs.declared.call.Call.{Call}
-use Rattle.rly_line.specs.Responding.{Responding, asks_of}
+use Rattle.rly_line.specs.Responding.{Responding, calls_in}
 use Rattle.rly_line.specs.Submission.{IsBeginning}
 use Rattle.rly_flush.specs.Flushing.{FlusherState, IsFlushing}
 use Rattle.rly_flush.proofs.flusher.Flusher.law_beginning.Goals as goal
@@ -14,5 +14,5 @@ invariant_of-self g c = (
 
 pub returns-clause-begins : goal.returns-clause-begins
 returns-clause-begins g c =
-    subst (λ (f : FlusherState g.row.D.Denot). IsBeginning c.args.seat.seat.0 (asks_of f.line.history) c.args.seat.put) c.self.view_is
+    subst (λ (f : FlusherState g.row.D.Denot). IsBeginning c.args.seat.seat.0 (calls_in f.line.history) c.args.seat.put) c.self.view_is
     (subst (λ (l : List Call). IsBeginning c.args.seat.seat.0 l c.args.seat.put) (sym c.self.invariant.0.answered) c.law_beginning.ensures.begins)

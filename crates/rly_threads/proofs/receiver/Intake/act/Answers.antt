@@ -15,5 +15,5 @@ pub returns-in-Err-clause-done : goal.returns-in-Err-clause-done
 returns-in-Err-clause-done g c = (
   refused_call,
   refused (intake c.args.self.now.plan.now c.args.self.now.peer) c.args.ends.now c.args.now c.args.self.now.core c.step-nothing.new.self (option_map in_action_bytes c.args.action)
-      (c.in-Some.number, c.in-Some.payload.now) c.in-Some.ensures c.step-nothing.ensures.state,
+      (c.in-Some.number, c.in-Some.payload.now) c.in-Some.ensures c.in-Err.ensures.err c.step-nothing.ensures.state,
 )

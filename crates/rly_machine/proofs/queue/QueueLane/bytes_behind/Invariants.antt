@@ -1,9 +1,0 @@
-use Rattle.std.proofs.Common.{◌≡◌, ◌+◌, drop}
-use Rattle.rly_codel.specs.Waiting.{bytes_of}
-use Rattle.rly_machine.specs.Pick.{waiting_of}
-use Rattle.rly_machine.proofs.queue.QueueLane.bytes_behind.Given as goal
-
--- the bytes so far and those still to come are all that wait behind
-abbrev pub invariant-loop-behind : goal.invariant-loop-behind
-invariant-loop-behind g l =
-    l.bytes + bytes_of (drop l.behind (waiting_of g.C.Content.length_of l.self-inside.items.now.items)) ≡ bytes_of (drop (l.index + 1) (waiting_of g.C.Content.length_of l.self-inside.items.now.items))

@@ -1,0 +1,82 @@
+//! A desk in memory. In proofs it tells all that it was asked and answered.
+
+ghost use Rattle.std.specs.Prelude.{◌≡◌, []};
+ghost use Rattle.rly_threads.specs.Memory.{IsReply};
+
+use crate::desk::Desk;
+use http_server::Log;
+use rly_core::Refusal;
+use rly_line::CallError;
+use rly_machine::{Answer, Ask, Machine, Payload, Reply, SeatId};
+use std::alloc::Global;
+use std::snapshot::Snapshot;
+use std::sync::Wait;
+
+/// A desk in memory, which answers by a machine of its own.
+#[derive(Drop)]
+pub struct MemDesk {
+    alloc: Global,
+    machine: Machine<Payload>,
+    calls: u64,
+    asked: Log<Snapshot<Ask>, Snapshot<Result<Answer, CallError>>>,
+}
+
+impl MemDesk {
+    /// A desk that answers by this machine.
+    pub fn new(alloc: Global, machine: Machine<Payload>) -> MemDesk
+        ensures machine { result.machine ≡ machine }
+        ensures asked { result.asked.items ≡ [] }
+    {
+        MemDesk {
+            alloc,
+            machine,
+            calls: 0,
+            asked: Log::new(),
+        }
+    }
+
+    /// The machine.
+    pub fn machine(&self) -> &Machine<Payload>
+        ensures { result.now ≡ self.now.machine }
+    {
+        &self.machine
+    }
+
+    /// How many calls it answered.
+    pub fn calls(&self) -> u64
+        ensures { result ≡ self.now.calls }
+    {
+        self.calls
+    }
+}
+
+impl Desk for MemDesk {
+    ghost use Rattle.std.specs.Prelude.{Some, map};
+
+    ghost asked = { λ d. Some (map (λ e. (e.0.value, e.1.value)) d.asked.items) };
+
+    fn call<R: Wait>(&mut self, rt: &R, ask: Ask) -> Result<Answer, CallError> {
+        let _ = rt;
+        let said = Snapshot::of(&ask);
+        let reply = reply_to(self.alloc, &mut self.machine, ask);
+        self.calls = self.calls.saturating_add(1);
+        let outcome = Ok(Answer {
+            seat: SeatId(0),
+            number: self.calls,
+            reply,
+            position: self.machine.seq(),
+        });
+        self.asked = self.asked.and(&said, &Snapshot::of(&outcome));
+        outcome
+    }
+}
+
+/// The machine's reply, unless memory is refused.
+fn reply_to(alloc: Global, machine: &mut Machine<Payload>, ask: Ask) -> Reply
+    ensures { IsReply machine.old.state machine.new.state ask result }
+{
+    match machine.evaluate(alloc, ask) {
+        Ok(reply) => reply,
+        Err(_) => Reply::Refused(Refusal::OutOfMemory),
+    }
+}
