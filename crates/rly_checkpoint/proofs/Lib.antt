@@ -1,5 +1,3 @@
-pub mod Readers
-pub mod Loops
 pub mod Parts
 pub mod Rows
 pub mod Written

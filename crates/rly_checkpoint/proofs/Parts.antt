@@ -1,54 +1,23 @@
 -- Each part of a checkpoint is read as it was spelled.
-use Rattle.std.proofs.Common.{◌≡◌, ℕ, suc, ◌+◌, ◌*◌, ◌<◌, ◌≤◌, Bool, true, false, cond, ◌||◌, not, eqb, ltb, List, [], ◌∷◌, ◌++◌, length, get_or, take, drop, Option, Some, None, refl, sym, ap, subst, ◌∙◌, append_assoc, arith, length-append, inl, inr}
+use Rattle.std.proofs.Common.{◌≡◌, ℕ, ◌+◌, ◌*◌, ◌≤◌, Bool, true, false, cond, ◌||◌, not, eqb, ltb, List, [], ◌∷◌, ◌++◌, length, take, drop, Option, Some, None, refl, sym, ap, subst, ◌∙◌, append_assoc, arith, length-append, inl, inr}
 use Rattle.std.specs.List.{flat_map}
-use Rattle.std.proofs.lemmas.Bool.{cases_lt, eqb-true, ltb-false, le-ltb, or_parts}
+use Rattle.std.proofs.lemmas.Bool.{eqb-true, ltb-false, le-ltb, or_parts}
 use Rattle.std.proofs.lemmas.Grind.{flat_map-append}
 use Rattle.std.proofs.lemmas.List.Concat.{flat_map-cons}
-use Rattle.std.proofs.lemmas.List.{append-nil, nil_from_length, take_at, drop_at, take-append-drop, length-take, get_or-drop, get_or-take, get_or_past}
-use Rattle.std.proofs.lemmas.Nat.{be_bytes_4}
-use Rattle.byteorder.specs.Endian.{big_bytes, big_number}
+use Rattle.std.proofs.lemmas.List.{append-nil, nil_from_length, take_at, drop_at, take-append-drop, length-take, get_or-drop}
+use Rattle.byteorder.specs.Endian.{big_bytes}
 use Rattle.rly_core.specs.declared.params.Params.{Params}
 use Rattle.rly_codel.specs.declared.state.CodelState.{CodelState}
 use Rattle.rly_machine.specs.declared.hop.Item.{Item}
 use Rattle.rly_machine.specs.State.{State, HopState}
-use Rattle.rly_record.specs.Reading.{number_at}
-use Rattle.rly_record.proofs.Fields.{IsBytes, bind_some, bind_is, guard_some, chosen, some_is, Takes, IsWide, wide_2, wide_8}
+use Rattle.rly_record.specs.Reading.{◌⊗◌, many_at, number_at, then_at}
+use Rattle.rly_record.proofs.Fields.{IsBytes, IsBytes-rest, bind_some, bind_is, guard_some, chosen, some_is, Takes}
 use Rattle.rly_checkpoint.specs.Checkpoint.{flag_byte, entry_of, codel_of, hop_bytes, checkpoint_of}
 use Rattle.rly_checkpoint.specs.Fitting.{Fits, CodelFits, EntryFits, LinesFit, HopFits}
-use Rattle.rly_checkpoint.specs.Reading.{then_at, ◌⊗◌, many_at, flag_at, codel_at, inline_at, entry_at, line_at, lines_at, counts_at, hop_bytes_at, state_at, whole_state}
-use Rattle.rly_checkpoint.proofs.Readers.{Reads, number_reads, then_reads, pair_reads, made_reads, many_reads, Fit}
-
--- ---- numbers
-
-IsBytes-take : (n : ℕ) (bytes : List ℕ) → IsBytes bytes → IsBytes (take n bytes)
-IsBytes-take n bytes fits i =
-    elim (cases_lt i n) [
-      | inl lt ↦ rw (get_or-take n bytes i 0 lt) (fits i)
-      | inr le ↦ rw (get_or_past (take n bytes) i 0 (omega (arith, length-take n bytes))) (omega arith)
-    ]
-
--- an item of a front
-item_at : (width k : ℕ) (bytes : List ℕ) → k < width → get_or (take width bytes) k 0 ≡ get_or bytes k 0
-item_at width k bytes lt = get_or-take width bytes k 0 lt
-
-wide_4 : IsWide 4
-wide_4 bytes fits long =
-    be_bytes_4 (take 4 bytes) (big_number 4 bytes) (omega (arith, length-take 4 bytes)) (IsBytes-take 4 bytes fits)
-    (omega (arith, item_at 4 0 bytes (omega arith), item_at 4 1 bytes (omega arith), item_at 4 2 bytes (omega arith), item_at 4 3 bytes (omega arith)))
-
-u16 : Reads (number_at 2) (big_bytes 2) (Fits 2)
-u16 = number_reads 2 wide_2
-
-u32 : Reads (number_at 4) (big_bytes 4) (Fits 4)
-u32 = number_reads 4 wide_4
-
-u64 : Reads (number_at 8) (big_bytes 8) (Fits 8)
-u64 = number_reads 8 wide_8
+use Rattle.rly_checkpoint.specs.Reading.{flag_at, codel_at, inline_at, entry_at, line_at, lines_at, counts_at, hop_bytes_at, state_at, whole_state}
+use Rattle.rly_record.proofs.Readers.{Reads, Fit, u16_reads, u32_reads, u64_reads, then_reads, pair_reads, made_reads, many_reads}
 
 -- ---- flags and CoDel's state
-
-IsBytes-rest : (b : ℕ) (bytes : List ℕ) → IsBytes (b ∷ bytes) → IsBytes bytes
-IsBytes-rest b bytes fits i = fits (suc i)
 
 flag_takes : (bytes : List ℕ) (flag : Bool) (rest : List ℕ) → IsBytes bytes → flag_at bytes ≡ Some (flag, rest) → Takes bytes (flag_byte flag ∷ []) rest × Unit {0}
 unfolding flag_at
@@ -77,7 +46,7 @@ unfolding codel_at codel_of
 codel_reads = made_reads
     (λ (x : ℕ × (ℕ × (ℕ × (ℕ × Bool)))). record { first_above_time = x.0; drop_next = x.1.0; count = x.1.1.0; lastcount = x.1.1.1.0; dropping = x.1.1.1.1 })
     (λ (c : CodelState). (c.first_above_time, (c.drop_next, (c.count, (c.lastcount, c.dropping)))))
-    codel_of CodelFits (pair_reads u64 (pair_reads u64 (pair_reads u64 (pair_reads u64 flag_reads))))
+    codel_of CodelFits (pair_reads u64_reads (pair_reads u64_reads (pair_reads u64_reads (pair_reads u64_reads flag_reads))))
     (λ x fits. refl)
     (λ x fits. record { first_above_time = fits.0; drop_next = fits.1.0; count = fits.1.1.0; lastcount = fits.1.1.1.0 })
     (λ c fits. ((fits.first_above_time, (fits.drop_next, (fits.count, (fits.lastcount, tt)))), refl))
@@ -115,7 +84,7 @@ unfolding entry_at entry_of
 entry_reads = made_reads
     (λ (x : ℕ × (ℕ × (ℕ × List ℕ))). record { id = x.0; stamp = x.1.0; payload = x.1.1.1 })
     (λ (item : Item (List ℕ)). (item.id, (item.stamp, (length item.payload, item.payload))))
-    entry_of EntryFits (pair_reads u64 (pair_reads u64 (then_reads inline_at (λ payload. 0 ∷ payload) (λ size payload. length payload ≡ size) u16 inline_reads)))
+    entry_of EntryFits (pair_reads u64_reads (pair_reads u64_reads (then_reads inline_at (λ payload. 0 ∷ payload) (λ size payload. length payload ≡ size) u16_reads inline_reads)))
     (λ x fits. ap (λ (n : ℕ). big_bytes 8 x.0 ++ (big_bytes 8 x.1.0 ++ (big_bytes 2 n ++ (0 ∷ x.1.1.1)))) (sym fits.1.1.1))
     (λ x fits. record { id = fits.0; stamp = fits.1.0; payload = subst (Fits 2) (sym fits.1.1.1) fits.1.1.0 })
     (λ item fits. ((fits.id, (fits.stamp, (fits.payload, refl))), refl))
@@ -161,8 +130,8 @@ lines_reads = made_reads
     (λ (x : List (Item (List ℕ)) × List (Item (List ℕ))). (length x.0, (length x.1, x)))
     lines_of (λ x. LinesFit x.0 x.1)
     (then_reads (λ n. then_at (number_at 4) (λ m. line_at n ⊗ line_at m)) (λ (x : ℕ × (List (Item (List ℕ)) × List (Item (List ℕ)))). big_bytes 4 x.0 ++ (flat_map entry_of x.1.0 ++ flat_map entry_of x.1.1))
-    (λ n x. Fits 4 x.0 × (Fit EntryFits n x.1.0 × Fit EntryFits x.0 x.1.1)) u16
-    (λ n. then_reads (λ m. line_at n ⊗ line_at m) (λ (x : List (Item (List ℕ)) × List (Item (List ℕ))). flat_map entry_of x.0 ++ flat_map entry_of x.1) (λ m x. Fit EntryFits n x.0 × Fit EntryFits m x.1) u32
+    (λ n x. Fits 4 x.0 × (Fit EntryFits n x.1.0 × Fit EntryFits x.0 x.1.1)) u16_reads
+    (λ n. then_reads (λ m. line_at n ⊗ line_at m) (λ (x : List (Item (List ℕ)) × List (Item (List ℕ))). flat_map entry_of x.0 ++ flat_map entry_of x.1) (λ m x. Fit EntryFits n x.0 × Fit EntryFits m x.1) u32_reads
     (λ m. pair_reads (line_reads n) (line_reads m))))
     (λ x fits. ap (λ (n : ℕ). big_bytes 2 n ++ (big_bytes 4 x.1.0 ++ (flat_map entry_of x.1.1.0 ++ flat_map entry_of x.1.1.1))) (sym fits.1.1.0.count)
     ∙ ap (λ (m : ℕ). big_bytes 2 (length x.1.1.0) ++ (big_bytes 4 m ++ (flat_map entry_of x.1.1.0 ++ flat_map entry_of x.1.1.1))) (sym fits.1.1.1.count))
@@ -176,7 +145,7 @@ regroup a b c d e f g x y = simp append_assoc
 
 counts_reads : Reads counts_at (λ x. big_bytes 8 x.0 ++ (big_bytes 8 x.1.0 ++ big_bytes 8 x.1.1)) (λ x. Fits 8 x.0 × (Fits 8 x.1.0 × Fits 8 x.1.1))
 unfolding counts_at
-counts_reads = pair_reads u64 (pair_reads u64 u64)
+counts_reads = pair_reads u64_reads (pair_reads u64_reads u64_reads)
 
 hop_parts : HopState (List ℕ) → ℕ × (CodelState × ((ℕ × (ℕ × ℕ)) × (List (Item (List ℕ)) × List (Item (List ℕ)))))
 hop_parts h = (h.moment, (h.codel, ((h.taken, (h.dropped, h.released)), (h.flight, h.queue))))
@@ -193,7 +162,7 @@ hop_reads = made_reads
       dropped = x.1.1.0.1.0;
       released = x.1.1.0.1.1;
     })
-    hop_parts hop_bytes HopFits (pair_reads u64 (pair_reads codel_reads (pair_reads counts_reads lines_reads)))
+    hop_parts hop_bytes HopFits (pair_reads u64_reads (pair_reads codel_reads (pair_reads counts_reads lines_reads)))
     (λ x fits.
     let f : List (Item (List ℕ)) = x.1.1.1.0 in
     let q : List (Item (List ℕ)) = x.1.1.1.1 in
@@ -216,7 +185,7 @@ unfolding state_at checkpoint_of
 state_reads params = made_reads
     (λ (x : ℕ × (List ℕ × List (HopState (List ℕ)))). record { params = params; hops = x.1.1; lasts = x.1.0; seq = x.0 })
     (λ (s : State (List ℕ)). (s.seq, (s.lasts, s.hops)))
-    checkpoint_of (StateFits params) (pair_reads u64 (pair_reads (many_reads params.peers u64) (many_reads params.hops hop_reads)))
+    checkpoint_of (StateFits params) (pair_reads u64_reads (pair_reads (many_reads params.peers u64_reads) (many_reads params.hops hop_reads)))
     (λ x fits. sym (append_assoc (big_bytes 8 x.0) (flat_map (big_bytes 8) x.1.0) (flat_map hop_bytes x.1.1)))
     (λ x fits. record { params = refl; seq = fits.0; lasts = fits.1.0; hops = fits.1.1 })
     (λ s fits. ((fits.seq, (fits.lasts, fits.hops)), ap (λ (p : Params). record { params = p; hops = s.hops; lasts = s.lasts; seq = s.seq }) (sym fits.params)))

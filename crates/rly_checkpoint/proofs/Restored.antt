@@ -1,5 +1,5 @@
 -- What is read of a checkpoint, against what has that checkpoint.
-use Rattle.std.proofs.Common.{◌≡◌, ℕ, List, length, map, Some, None, refl, sym, ap, subst, ◌∙◌}
+use Rattle.std.proofs.Common.{◌≡◌, ℕ, List, length, map, Some, sym, ap, subst, ◌∙◌}
 use Rattle.std.proofs.lemmas.List.{length-map}
 use Rattle.rly_core.specs.declared.params.Params.{Params}
 use Rattle.rly_machine.specs.declared.hop.Hop.{Hop}
@@ -7,10 +7,8 @@ use Rattle.rly_machine.specs.Kept.{hop_of}
 use Rattle.rly_machine.specs.Sound.{IsSound}
 use Rattle.rly_machine.specs.State.{HopState, State}
 use Rattle.rly_record.proofs.Fields.{IsBytes, some_is}
-use Rattle.rly_checkpoint.specs.declared.fault.CheckpointFault.{CheckpointFault}
-use Rattle.rly_checkpoint.specs.declared.fault.CheckpointFault.TheVariants.{OutOfMemory, Malformed}
 use Rattle.rly_checkpoint.specs.Checkpoint.{checkpoint_of}
-use Rattle.rly_checkpoint.specs.Reading.{Fails, whole_state}
+use Rattle.rly_checkpoint.specs.Reading.{whole_state}
 use Rattle.rly_checkpoint.proofs.Fitness.{state_fits}
 use Rattle.rly_checkpoint.proofs.Parts.{whole_again, whole_takes}
 
@@ -22,11 +20,6 @@ sound_again params bytes s sound given same =
 -- what was read is the one state that it may be
 pub same_state : (params : Params) (bytes : List ℕ) (read s : State (List ℕ)) → whole_state params bytes ≡ Some read → IsSound length s → s.params ≡ params → bytes ≡ checkpoint_of s → read ≡ s
 same_state params bytes read s found sound given same = some_is read s (sym found ∙ sound_again params bytes s sound given same)
-
--- where nothing was read of a sound state, memory was refused
-pub is_refused : (fault : CheckpointFault) (params : Params) (bytes : List ℕ) (s : State (List ℕ)) → Fails fault (whole_state params bytes) → IsSound length s → s.params ≡ params → bytes ≡ checkpoint_of s → fault ≡ OutOfMemory
-is_refused OutOfMemory params bytes s fails sound given same = refl
-is_refused Malformed params bytes s fails sound given same = let both : None ≡ Some s = sym fails ∙ sound_again params bytes s sound given same in absurd cc
 
 -- how many hops and peers were read
 pub hops_read : (params : Params) (bytes : List ℕ) (s : State (List ℕ)) (hops : List (Hop (List ℕ))) → IsBytes bytes → whole_state params bytes ≡ Some s → s.hops ≡ map hop_of hops → length hops ≡ params.hops

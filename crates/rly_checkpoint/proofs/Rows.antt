@@ -1,13 +1,11 @@
 -- Items in a row are live, and each comes before those behind it.
-use Rattle.std.proofs.Common.{◌≡◌, ℕ, suc, ◌+◌, ◌<◌, ◌≤◌, ◌↔◌, Bool, true, false, List, [], ◌∷◌, length, get_or, drop, sym, ap, subst, ◌∙◌, arith}
+use Rattle.std.proofs.Common.{ℕ, suc, ◌<◌, ◌≤◌, List, [], ◌∷◌, length, get_or, arith}
 use Rattle.std.specs.Prelude.{All, AllPairs}
-use Rattle.std.proofs.lemmas.Bool.{iff_false}
-use Rattle.std.proofs.lemmas.List.{drop_more, drop_all}
 use Rattle.std.proofs.lemmas.List.Elements.{All-nil, All-cons, All-head, All-tail, All-weaker}
 use Rattle.std.proofs.lemmas.List.Kept.{AllPairs-cons}
 use Rattle.rly_machine.specs.declared.hop.Item.{Item}
 use Rattle.rly_machine.specs.Sound.{ComesBefore, IsLive}
-use Rattle.rly_checkpoint.specs.Line.{Follows, IsRow}
+use Rattle.rly_checkpoint.specs.Line.{IsRow}
 
 -- an item comes behind an id and a stamp
 pub record IsBehind (id stamp : ℕ) (item : Item (List ℕ)) : Type 0 where
@@ -58,26 +56,3 @@ row_order moment seq items row = (row_there moment seq 0 0 items row).order
 pub row_from : (moment seq : ℕ) (items : List (Item (List ℕ))) → All (IsLive length moment seq) items → AllPairs ComesBefore items → IsRow moment seq 0 0 items
 row_from moment seq items live order =
     row_back moment seq 0 0 items (All-weaker (IsLive length moment seq) (IsBehind 0 0) (λ x l. record { id_rises = omega (arith, l.first); stamp_stays = omega arith }) items live) live order
-
--- ---- looking at the items one behind the other
-
--- the rest of a row
-pub row_cut : (moment seq id stamp : ℕ) (items : List (Item (List ℕ))) (i : ℕ) (item : Item (List ℕ)) → i < length items → item ≡ get_or items i item
-    → IsRow moment seq id stamp (drop i items) → Follows moment seq id stamp item × IsRow moment seq item.id item.stamp (drop (i + 1) items)
-row_cut moment seq id stamp items i item lt is row =
-    let cut : drop i items ≡ item ∷ drop (i + 1) items = drop_more items i item lt ∙ ap (λ (x : Item (List ℕ)). x ∷ drop (i + 1) items) (sym is) in
-    subst (IsRow moment seq id stamp) cut row
-
-pub row_join : (moment seq id stamp : ℕ) (items : List (Item (List ℕ))) (i : ℕ) (item : Item (List ℕ)) → i < length items → item ≡ get_or items i item
-    → Follows moment seq id stamp item → IsRow moment seq item.id item.stamp (drop (i + 1) items) → IsRow moment seq id stamp (drop i items)
-row_join moment seq id stamp items i item lt is follows row =
-    let cut : drop i items ≡ item ∷ drop (i + 1) items = drop_more items i item lt ∙ ap (λ (x : Item (List ℕ)). x ∷ drop (i + 1) items) (sym is) in
-    subst (IsRow moment seq id stamp) (sym cut) (follows, row)
-
-pub row_end : (moment seq id stamp : ℕ) (items : List (Item (List ℕ))) (i : ℕ) → length items ≤ i → IsRow moment seq id stamp (drop i items)
-row_end moment seq id stamp items i all = subst (IsRow moment seq id stamp) (sym (drop_all i items all)) tt
-
--- an item that does not follow breaks the row
-pub row_breaks : (moment seq id stamp : ℕ) (items : List (Item (List ℕ))) (i : ℕ) (item : Item (List ℕ)) (follows : Bool) → i < length items → item ≡ get_or items i item
-    → ((follows ≡ true) ↔ Follows moment seq id stamp item) → follows ≡ false → (IsRow moment seq 0 0 items → IsRow moment seq id stamp (drop i items)) → IsRow moment seq 0 0 items → ⊥
-row_breaks moment seq id stamp items i item follows lt is test fails there row = iff_false test fails (row_cut moment seq id stamp items i item lt is (there row)).0

@@ -1,5 +1,5 @@
 -- The bytes of a whole state (docs/FORMATS.md, "Heads"): what a segment's head holds behind its generation and length.
--- Each state has one checkpoint, since it is a function of the state; which states two checkpoints may share says the law.
+-- It is a function of the state, and under the same parameters no two sound states share one (`law_one_state`).
 use Rattle.std.specs.Prelude.{ℕ, List, [], ◌∷◌, ◌++◌, length, Bool, true, false}
 use Rattle.std.specs.List.{flat_map}
 use Rattle.byteorder.specs.Endian.{big_bytes}

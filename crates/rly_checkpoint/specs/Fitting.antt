@@ -1,4 +1,4 @@
--- What has a checkpoint: each number fits its field. All that commands lead to does.
+-- What can be read again: each number fits its field. In a sound state each does.
 use Rattle.std.specs.Prelude.{ℕ, ◌^◌, ◌<◌, List, length}
 use Rattle.std.specs.List.{AllByRecursion}
 use Rattle.rly_codel.specs.declared.state.CodelState.{CodelState}

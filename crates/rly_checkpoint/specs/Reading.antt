@@ -1,53 +1,11 @@
 -- Reading a checkpoint from left to right: what stands at the front and the bytes behind it, or nothing where no such
--- thing stands there. What is read here need not be a state that commands lead to.
-use Rattle.std.specs.Prelude.{◌≡◌, ℕ, zero, suc, ◌*◌, ⊤, ◌==◌, ◌||◌, not, nat_lt, if◌then◌else◌, Bool, true, false, List, [], ◌∷◌, length, take, drop, Option, Some, None, Result, Ok, Err}
+-- thing stands there. What is read here need not be sound.
+use Rattle.std.specs.Prelude.{ℕ, ◌*◌, ◌==◌, ◌||◌, not, nat_lt, if◌then◌else◌, Bool, true, false, List, [], ◌∷◌, length, take, drop, Option, Some, None}
 use Rattle.rly_core.specs.declared.params.Params.{Params}
 use Rattle.rly_codel.specs.declared.state.CodelState.{CodelState}
 use Rattle.rly_machine.specs.declared.hop.Item.{Item}
 use Rattle.rly_machine.specs.State.{State, HopState}
-use Rattle.rly_record.specs.Reading.{◌>>=◌, number_at}
-use Rattle.rly_checkpoint.specs.declared.fault.CheckpointFault.{CheckpointFault}
-use Rattle.rly_checkpoint.specs.declared.fault.CheckpointFault.TheVariants.{OutOfMemory, Malformed}
-
--- the fault of a function that should give this reading: memory, or that there is nothing to read
-abbrev pub Fails : {Y : Type 0} → CheckpointFault → Option Y → Type 0
-Fails OutOfMemory read = ⊤
-Fails Malformed read = read ≡ None
-
--- what a function returned, seen by view, is this reading, unless memory was refused
-abbrev pub Gives : {X Y : Type 0} → (X → Y) → Result X CheckpointFault → Option Y → Type 0
-Gives view (Ok x) read = read ≡ Some (view x)
-Gives view (Err e) read = Fails e read
-
--- what reads a thing
-abbrev pub Reader : Type 0 → Type 0
-Reader A = List ℕ → Option (A × List ℕ)
-
--- a thing and, behind it, another that depends on it
-abbrev pub then_at : {A B : Type 0} → Reader A → (A → Reader B) → Reader (A × B)
-then_at one other bytes = do
-  a ← one bytes
-  b ← other a.0 a.1
-  Some ((a.0, b.0), b.1)
-
--- a thing and, behind it, another
-infixr 20 ◌⊗◌
-abbrev pub ◌⊗◌ : {A B : Type 0} → Reader A → Reader B → Reader (A × B)
-one ⊗ other = then_at one (λ _. other)
-
--- what is made of a thing
-abbrev pub made_at : {A B : Type 0} → (A → B) → Reader A → Reader B
-made_at made one bytes = do
-  a ← one bytes
-  Some (made a.0, a.1)
-
--- so many things of a kind, one behind the other
-unfoldable pub many_at : {A : Type 0} → Reader A → ℕ → Reader (List A)
-many_at one zero bytes = Some ([], bytes)
-many_at one (suc n) bytes = do
-  first ← one bytes
-  others ← many_at one n first.1
-  Some (first.0 ∷ others.0, others.1)
+use Rattle.rly_record.specs.Reading.{◌>>=◌, Reader, ◌⊗◌, made_at, many_at, number_at, then_at}
 
 -- a flag
 unfoldable pub flag_at : Reader Bool

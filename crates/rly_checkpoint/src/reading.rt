@@ -1,14 +1,14 @@
 ghost use Rattle.std.specs.Prelude.{◌≡◌, ◌≤◌, ◌<◌, ◌^◌, ℕ, List, length, map};
 ghost use Rattle.rly_core.specs.Limits.{IsWithinLimits};
-ghost use Rattle.rly_record.specs.Reading.{number_at};
-ghost use Rattle.rly_checkpoint.specs.Reading.{Gives, codel_at, counts_at, entry_at, flag_at, hop_bytes_at, inline_at, line_at, lines_at, many_at, whole_state};
+ghost use Rattle.rly_record.specs.Reading.{Gives, many_at, number_at};
+ghost use Rattle.rly_checkpoint.specs.Reading.{codel_at, counts_at, entry_at, flag_at, hop_bytes_at, inline_at, line_at, lines_at, whole_state};
 ghost use Rattle.rly_machine.specs.Kept.{hop_of, state_of};
 
-use crate::fault::CheckpointFault;
 use crate::writing::ENTRY_LENGTH;
 use byteorder::{BigEndian, ByteOrder};
 use rly_core::Params;
 use rly_machine::{CodelState, Hop, Item, Payload};
+use rly_record::DecodeFault;
 use std::alloc::Global;
 use std::collections::VecDeque;
 
@@ -36,50 +36,50 @@ struct Lines {
 }
 
 /// A number of two bytes, and what stands behind it.
-fn u16_of(bytes: &[u8]) -> Result<(u16, &[u8]), CheckpointFault>
+fn u16_of(bytes: &[u8]) -> Result<(u16, &[u8]), DecodeFault>
     ensures { Gives (λ x. (x.0, x.1.now)) result (number_at 2 bytes.now) }
 {
     if bytes.len() < 2 {
-        return Err(CheckpointFault::Malformed);
+        return Err(DecodeFault::Malformed);
     }
     Ok((BigEndian::read_u16(bytes), &bytes[2..]))
 }
 
 /// A number of four bytes, and what stands behind it.
-fn u32_of(bytes: &[u8]) -> Result<(u32, &[u8]), CheckpointFault>
+fn u32_of(bytes: &[u8]) -> Result<(u32, &[u8]), DecodeFault>
     ensures { Gives (λ x. (x.0, x.1.now)) result (number_at 4 bytes.now) }
 {
     if bytes.len() < 4 {
-        return Err(CheckpointFault::Malformed);
+        return Err(DecodeFault::Malformed);
     }
     Ok((BigEndian::read_u32(bytes), &bytes[4..]))
 }
 
 /// A number of eight bytes, and what stands behind it.
-fn u64_of(bytes: &[u8]) -> Result<(u64, &[u8]), CheckpointFault>
+fn u64_of(bytes: &[u8]) -> Result<(u64, &[u8]), DecodeFault>
     ensures { Gives (λ x. (x.0, x.1.now)) result (number_at 8 bytes.now) }
 {
     if bytes.len() < 8 {
-        return Err(CheckpointFault::Malformed);
+        return Err(DecodeFault::Malformed);
     }
     Ok((BigEndian::read_u64(bytes), &bytes[8..]))
 }
 
 /// A flag, and what stands behind it.
 #[tactic(auto, unfolding(crate::specs::Reading::flag_at))]
-fn flag_of(bytes: &[u8]) -> Result<(bool, &[u8]), CheckpointFault>
+fn flag_of(bytes: &[u8]) -> Result<(bool, &[u8]), DecodeFault>
     ensures { Gives (λ x. (x.0, x.1.now)) result (flag_at bytes.now) }
 {
     match bytes {
         [0, rest @ ..] => Ok((false, rest)),
         [1, rest @ ..] => Ok((true, rest)),
-        _ => Err(CheckpointFault::Malformed),
+        _ => Err(DecodeFault::Malformed),
     }
 }
 
 /// CoDel's state, and what stands behind it.
 #[tactic(auto, unfolding(crate::specs::Reading::codel_at))]
-fn codel_of(bytes: &[u8]) -> Result<(CodelState, &[u8]), CheckpointFault>
+fn codel_of(bytes: &[u8]) -> Result<(CodelState, &[u8]), DecodeFault>
     ensures { Gives (λ x. (x.0, x.1.now)) result (codel_at bytes.now) }
 {
     let (first_above_time, rest) = u64_of(bytes)?;
@@ -99,23 +99,23 @@ fn codel_of(bytes: &[u8]) -> Result<(CodelState, &[u8]), CheckpointFault>
 
 /// So many bytes of a payload behind the byte of its form, and what stands behind them.
 #[tactic(auto, unfolding(crate::specs::Reading::inline_at))]
-fn inline_of(alloc: Global, size: u16, bytes: &[u8]) -> Result<(Payload, &[u8]), CheckpointFault>
+fn inline_of(alloc: Global, size: u16, bytes: &[u8]) -> Result<(Payload, &[u8]), DecodeFault>
     ensures { Gives (λ x. (x.0, x.1.now)) result (inline_at size bytes.now) }
 {
     let [form, rest @ ..] = bytes else {
-        return Err(CheckpointFault::Malformed);
+        return Err(DecodeFault::Malformed);
     };
     let size = usize::from(size);
     if *form != 0 || rest.len() < size {
-        return Err(CheckpointFault::Malformed);
+        return Err(DecodeFault::Malformed);
     }
     let (payload, rest) = rest.split_at(size);
-    Ok((Payload::new(Vec::from_slice(alloc, payload)?), rest))
+    Ok((Payload::copy_of(alloc, payload)?, rest))
 }
 
 /// An entry, and what stands behind it.
 #[tactic(auto, unfolding(crate::specs::Reading::entry_at))]
-fn entry_of(alloc: Global, bytes: &[u8]) -> Result<(Item<Payload>, &[u8]), CheckpointFault>
+fn entry_of(alloc: Global, bytes: &[u8]) -> Result<(Item<Payload>, &[u8]), DecodeFault>
     ensures { Gives (λ x. (x.0, x.1.now)) result (entry_at bytes.now) }
 {
     let (id, rest) = u64_of(bytes)?;
@@ -127,7 +127,7 @@ fn entry_of(alloc: Global, bytes: &[u8]) -> Result<(Item<Payload>, &[u8]), Check
 
 /// How many datagrams a hop took, dropped and released, and what stands behind them.
 #[tactic(auto, unfolding(crate::specs::Reading::counts_at))]
-fn counts_of(bytes: &[u8]) -> Result<(Counts, &[u8]), CheckpointFault>
+fn counts_of(bytes: &[u8]) -> Result<(Counts, &[u8]), DecodeFault>
     ensures { Gives (λ x. ((x.0.taken, (x.0.dropped, x.0.released)), x.1.now)) result (counts_at bytes.now) }
 {
     let (taken, rest) = u64_of(bytes)?;
@@ -147,12 +147,12 @@ fn line_of(
     alloc: Global,
     count: usize,
     bytes: &[u8],
-) -> Result<(Vec<Item<Payload>>, &[u8]), CheckpointFault>
+) -> Result<(Vec<Item<Payload>>, &[u8]), DecodeFault>
     requires { count < 2 ^ 32 }
     ensures { Gives (λ x. (x.0.items, x.1.now)) result (line_at count bytes.now) }
 {
     if bytes.len() < ENTRY_LENGTH * count {
-        return Err(CheckpointFault::Malformed);
+        return Err(DecodeFault::Malformed);
     }
     entries_of(alloc, count, bytes)
 }
@@ -162,7 +162,7 @@ fn entries_of(
     alloc: Global,
     count: usize,
     bytes: &[u8],
-) -> Result<(Vec<Item<Payload>>, &[u8]), CheckpointFault>
+) -> Result<(Vec<Item<Payload>>, &[u8]), DecodeFault>
     ensures { Gives (λ x. (x.0.items, x.1.now)) result (many_at entry_at count bytes.now) }
 {
     let mut entries = Vec::with_capacity(alloc, count)?;
@@ -177,7 +177,7 @@ fn entries_of(
 
 /// What is in flight and what waits, and what stands behind them.
 #[tactic(auto, unfolding(crate::specs::Reading::lines_at))]
-fn lines_of(alloc: Global, bytes: &[u8]) -> Result<(Lines, &[u8]), CheckpointFault>
+fn lines_of(alloc: Global, bytes: &[u8]) -> Result<(Lines, &[u8]), DecodeFault>
     ensures { Gives (λ x. ((x.0.flight.items, x.0.queue.items), x.1.now)) result (lines_at bytes.now) }
 {
     let (in_flight, rest) = u16_of(bytes)?;
@@ -189,7 +189,7 @@ fn lines_of(alloc: Global, bytes: &[u8]) -> Result<(Lines, &[u8]), CheckpointFau
 
 /// A hop, and what stands behind it.
 #[tactic(auto, unfolding(crate::specs::Reading::hop_bytes_at))]
-fn hop_of_bytes(alloc: Global, bytes: &[u8]) -> Result<(Hop<Payload>, &[u8]), CheckpointFault>
+fn hop_of_bytes(alloc: Global, bytes: &[u8]) -> Result<(Hop<Payload>, &[u8]), DecodeFault>
     ensures { Gives (λ x. (hop_of x.0, x.1.now)) result (hop_bytes_at bytes.now) }
 {
     let (moment, rest) = u64_of(bytes)?;
@@ -213,7 +213,7 @@ fn hops_of(
     alloc: Global,
     count: usize,
     bytes: &[u8],
-) -> Result<(Vec<Hop<Payload>>, &[u8]), CheckpointFault>
+) -> Result<(Vec<Hop<Payload>>, &[u8]), DecodeFault>
     ensures { Gives (λ x. (map hop_of x.0.items, x.1.now)) result (many_at hop_bytes_at count bytes.now) }
 {
     let mut hops = Vec::with_capacity(alloc, count)?;
@@ -227,11 +227,7 @@ fn hops_of(
 }
 
 /// So many numbers of eight bytes, and what stands behind them.
-fn numbers_of(
-    alloc: Global,
-    count: usize,
-    bytes: &[u8],
-) -> Result<(Vec<u64>, &[u8]), CheckpointFault>
+fn numbers_of(alloc: Global, count: usize, bytes: &[u8]) -> Result<(Vec<u64>, &[u8]), DecodeFault>
     ensures { Gives (λ x. (x.0.items, x.1.now)) result (many_at (number_at 8) count bytes.now) }
 {
     let mut numbers = Vec::with_capacity(alloc, count)?;
@@ -246,11 +242,7 @@ fn numbers_of(
 
 /// The parts of a spool with those parameters, and nothing behind them.
 #[tactic(auto, unfolding(crate::specs::Reading::state_at, crate::specs::Reading::whole_state))]
-pub(crate) fn parts_of(
-    alloc: Global,
-    params: Params,
-    bytes: &[u8],
-) -> Result<Parts, CheckpointFault>
+pub(crate) fn parts_of(alloc: Global, params: Params, bytes: &[u8]) -> Result<Parts, DecodeFault>
     requires { IsWithinLimits params }
     ensures { Gives (λ parts. state_of params parts.hops parts.lasts parts.seq) result (whole_state params bytes.now) }
 {
@@ -258,7 +250,7 @@ pub(crate) fn parts_of(
     let (lasts, rest) = numbers_of(alloc, params.peers as usize, rest)?;
     let (hops, rest) = hops_of(alloc, params.hops as usize, rest)?;
     if !rest.is_empty() {
-        return Err(CheckpointFault::Malformed);
+        return Err(DecodeFault::Malformed);
     }
     Ok(Parts { seq, lasts, hops })
 }

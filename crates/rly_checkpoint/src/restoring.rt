@@ -4,30 +4,30 @@ ghost use Rattle.rly_machine.specs.Sound.{IsSound};
 ghost use Rattle.rly_machine.specs.State.{State};
 ghost use Rattle.rly_checkpoint.specs.Checkpoint.{checkpoint_of};
 
-use crate::fault::CheckpointFault;
 use crate::reading::{Parts, parts_of};
 use crate::sound::is_sound;
 use rly_core::Params;
 use rly_machine::{Machine, Payload};
+use rly_record::DecodeFault;
 use std::alloc::Global;
 
-/// The spool whose checkpoint the bytes are, all of them. Memory is taken only for what the bytes hold.
+/// The spool whose checkpoint the bytes are, all of them.
 pub fn read_checkpoint(
     alloc: Global,
     params: Params,
     bytes: &[u8],
-) -> Result<Machine<Payload>, CheckpointFault>
+) -> Result<Machine<Payload>, DecodeFault>
     requires { IsWithinLimits params }
     ensures found { IfOk result (λ machine. bytes.now ≡ checkpoint_of machine.state) }
     ensures params { IfOk result (λ machine. machine.state.params ≡ params) }
 
     // What is the checkpoint of a sound state is read, unless memory is refused: so Malformed says that there is none.
     ensures only { (s : State (List ℕ)) → IsSound length s → s.params ≡ params → bytes.now ≡ checkpoint_of s
-        → MatchResult result (λ machine. machine.state ≡ s) (λ fault. fault ≡ CheckpointFault.OutOfMemory) }
+        → MatchResult result (λ machine. machine.state ≡ s) (λ fault. fault ≡ DecodeFault.OutOfMemory) }
 {
     let parts = parts_of(alloc, params, bytes)?;
     if !is_sound(&params, &parts) {
-        return Err(CheckpointFault::Malformed);
+        return Err(DecodeFault::Malformed);
     }
     let Parts { seq, lasts, hops } = parts;
     Ok(Machine::restore(params, seq, lasts, hops)?)

@@ -1,4 +1,4 @@
-ghost use Rattle.std.specs.Prelude.{◌≡◌, ◌≤◌, ◌<◌, ◌+◌, ◌^◌, ◌↔◌, All, IfSome, IsTrue, MatchOption, length, map, slice_index_or, sum, sum_by};
+ghost use Rattle.std.specs.Prelude.{◌≡◌, ◌≤◌, ◌<◌, ◌+◌, ◌^◌, ◌↔◌, All, IfNone, IfSome, IsTrue, length, map, slice_index_or, sum, sum_by};
 ghost use Rattle.rly_core.specs.Limits.{IsWithinLimits};
 ghost use Rattle.rly_machine.specs.Accepted.{max_seq};
 ghost use Rattle.rly_machine.specs.Kept.{hop_of, state_of};
@@ -18,7 +18,7 @@ struct Totals {
     bytes: u64,
 }
 
-/// Whether a spool of these parts is one that commands lead to.
+/// Whether a spool of these parts is sound, as every spool is that commands lead to.
 pub(crate) fn is_sound(params: &Params, parts: &Parts) -> bool
     requires params { IsWithinLimits params.now }
     requires hop_count { length parts.now.hops.items ≡ params.now.hops }
@@ -58,7 +58,7 @@ fn totals_of(params: &Params, seq: u64, hops: &[Hop<Payload>]) -> Option<Totals>
     requires params { IsWithinLimits params.now }
     requires seq { seq ≤ max_seq }
     requires count { length hops.now ≤ 64 }
-    ensures none { MatchOption result (¬ (All (IsSoundHop length params.now seq) (map hop_of hops.now) × (sum_by (λ h. length (live_line h)) (map hop_of hops.now) ≤ params.now.items))) (λ _. Unit {0}) }
+    ensures none { IfNone result (¬ (All (IsSoundHop length params.now seq) (map hop_of hops.now) × (sum_by (λ h. length (live_line h)) (map hop_of hops.now) ≤ params.now.items))) }
     ensures hops { IfSome result (λ _. All (IsSoundHop length params.now seq) (map hop_of hops.now)) }
     ensures taken { IfSome result (λ totals. totals.taken ≡ sum_by (λ h. h.taken) (map hop_of hops.now)) }
     ensures items { IfSome result (λ totals. totals.items ≡ sum_by (λ h. length (live_line h)) (map hop_of hops.now)) }
@@ -84,7 +84,7 @@ fn totals_of(params: &Params, seq: u64, hops: &[Hop<Payload>]) -> Option<Totals>
     Some(totals)
 }
 
-/// Whether a hop is one that commands lead to.
+/// Whether a hop is sound.
 fn is_sound_hop(params: &Params, seq: u64, hop: &Hop<Payload>) -> bool
     requires params { IsWithinLimits params.now }
     requires seq { seq ≤ max_seq }

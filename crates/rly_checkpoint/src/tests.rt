@@ -1,5 +1,5 @@
 use crate::{
-    CheckpointFault, checkpoint_len, law_length, law_one_state, read_checkpoint, write_checkpoint,
+    DecodeFault, checkpoint_len, law_length, law_one_state, read_checkpoint, write_checkpoint,
 };
 use rly_core::{HopId, Params, PeerId};
 use rly_machine::{Command, Machine, Payload};
@@ -82,7 +82,7 @@ fn written(alloc: Global, machine: &Machine<Payload>) -> Result<Vec<u8>, AllocEr
 fn is_malformed(alloc: Global, bytes: &[u8]) -> bool {
     matches!(
         read_checkpoint(alloc, PARAMS, bytes),
-        Err(CheckpointFault::Malformed)
+        Err(DecodeFault::Malformed)
     )
 }
 

@@ -1,7 +1,6 @@
 -- The RFC's calls at a place of a list: the candidate at an index, those before it being gone.
 use Rattle.std.proofs.Common.{◌≡◌, ℕ, suc, ◌+◌, ◌<◌, ◌≤◌, Bool, true, false, ◌&&◌, nat_eq, nat_le, if◌then◌else◌, List, [], ◌∷◌, drop, length, get_or, refl, ap, arith, add-one, add-zero, ◌∙◌}
 use Rattle.std.proofs.Math.Seq.{drop-cons}
-use Rattle.std.proofs.lemmas.List.{drop_all}
 use Rattle.std.proofs.lemmas.List.Elements.{All-get_or}
 use Rattle.std.proofs.lemmas.Bool.{and_from, le-leb, eq-eqb, ne_eqb}
 use Rattle.std.specs.Prelude.{All, HoldsAt}
@@ -18,11 +17,6 @@ nothing = record { stamp = 0; bytes = 0 }
 -- from an index on stands the item there, and then what is behind it
 from_index : (ws : List Waiting) (i : ℕ) → i < length ws → drop i ws ≡ get_or ws i nothing ∷ drop (i + 1) ws
 from_index ws i h = rw add-one (drop-cons ws i nothing h)
-
--- no candidate
-pub dodequeue-none : (p : Params) (now : ℕ) (ws : List Waiting) (i : ℕ) (s : CodelState) → length ws ≤ i →
-    dodequeue p now (drop i ws) s ≡ record { ok_to_drop = false; state = record s { first_above_time = 0 } }
-dodequeue-none p now ws i s h = rw (drop_all i ws h) refl
 
 -- the candidate at an index
 pub dodequeue-at : (p : Params) (now : ℕ) (ws : List Waiting) (i : ℕ) (s : CodelState) (below : Bool) → i < length ws →

@@ -1,7 +1,6 @@
 -- How lines are gathered for a round, one after the other.
 use Rattle.std.proofs.Common.{◌≡◌, ◌+◌, ◌≤◌, ℕ, List, [], ◌∷◌, ◌++◌, length, map, Option, Some, None, true, false, refl, sym, ◌∙◌, ap, arith, append_assoc, length-append}
 use Rattle.std.proofs.lemmas.List.{length-map, map-append}
-use Rattle.std.specs.Io.KnownBytes.{Keeps}
 use Rattle.rly_machine.specs.declared.call.Call.{Call}
 use Rattle.rly_machine.specs.declared.command.Ask.{Ask}
 use Rattle.rly_daemon.specs.Grammar.{ask_of}
@@ -58,9 +57,3 @@ ends None left rest kept slots asks h k = tt
 ends (Some xs) None rest kept slots asks h k = absurd h
 ends (Some xs) (Some ys) None kept slots asks h k = absurd k
 ends (Some xs) (Some ys) (Some zs) kept slots asks h k = ap lines_of k.1
-
-pub keeps_keeps : (a b c : Option (List ℕ)) → Keeps a b → Keeps b c → Keeps a c
-keeps_keeps None b c h k = tt
-keeps_keeps (Some xs) None c h k = absurd h
-keeps_keeps (Some xs) (Some ys) None h k = absurd k
-keeps_keeps (Some xs) (Some ys) (Some zs) h k = k ∙ h

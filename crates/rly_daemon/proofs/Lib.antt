@@ -5,6 +5,7 @@ pub mod Payloads
 pub mod Numerals
 pub mod Newlines
 pub mod Pieces
+pub mod Outflows
 pub mod Texts
 pub mod Digits
 pub mod Rounds
@@ -12,3 +13,4 @@ pub mod Gathering
 pub mod Courses
 pub mod Workers
 pub mod Turns
+pub mod Endless

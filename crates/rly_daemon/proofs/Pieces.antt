@@ -22,11 +22,6 @@ last_none : (xs line : List ℕ) → line ≡ kept_of xs → (length line == 0) 
 last_none [] line kept none = refl
 last_none (x ∷ xs) line kept none = let some : (length (kept_of (x ∷ xs)) == 0) ≡ true = rw kept at none in absurd (omega (arith, eqb-true _ _ some))
 
-pub part_begun : (before after : Reading) (left : Option (List ℕ)) → TakesPiece false (record before { line = [] }) after
-    → TakesPart (prepend_known before.ahead left) (prepend_known after.ahead left) after.line
-part_begun before after None h = tt
-part_begun before after (Some ys) h = (before.ahead, rw h.1 refl, h.0, h.2)
-
 pub part_more : (known : Option (List ℕ)) (old filled new : Reading) (left rest : Option (List ℕ))
     → TakesPart known (prepend_known old.ahead left) old.line → old.ahead ≡ [] → Fills true old filled
     → Keeps left (prepend_known filled.ahead rest) → TakesPiece false filled new → TakesPart known (prepend_known new.ahead rest) new.line

@@ -1,6 +1,7 @@
 pub mod Lines
 pub mod Grammar
 pub mod Replies
+pub mod Outflow
 pub mod Text
 pub mod Playing
 pub mod FileDisk

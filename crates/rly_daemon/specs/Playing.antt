@@ -18,6 +18,7 @@ use Rattle.rly_machine.specs.declared.reply.Reply.TheVariants.{Refused}
 use Rattle.rly_stream.specs.Beginnings.{AppendsBeginning}
 use Rattle.rly_daemon.specs.Grammar.{ask_of}
 use Rattle.rly_daemon.specs.Lines.{lines_of}
+use Rattle.rly_daemon.specs.Outflow.{Adds, AddsBeginning, Outflow}
 use Rattle.rly_daemon.specs.Replies.{subject_of, reply_text}
 use Rattle.rly_daemon.specs.Text.{ByteState, replies_from}
 use Rattle.rly_daemon.specs.declared.batch.Batch.{Batch}
@@ -119,12 +120,22 @@ PlaysFront batch state j k None old new = ⊤
 PlaysFront batch state j k (Some xs) old new = (front rest : List (List ℕ)) × (lines_of xs ≡ front ++ rest)
     × (text : List ℕ) × Plays batch state j k front text × AppendsBeginning old new text
 
--- the same with the bytes that are still left: the first lines were played, their text was written, and the others are left
-abbrev pub PlaysSome : {D : Type 0} → ℕ → (D → DiskState) → JournalState D → JournalState D → Option (List ℕ) → Option (List ℕ) → Option (List ℕ) → Option (List ℕ) → Type 0
+-- the same, where text is held back
+abbrev pub AddsPlay : {D : Type 0} → ℕ → (D → DiskState) → JournalState D → JournalState D → Option (List ℕ) → Outflow → Outflow → Type 0
+AddsPlay batch state j k None old new = ⊤
+AddsPlay batch state j k (Some xs) old new = (text : List ℕ) × Plays batch state j k (lines_of xs) text × Adds old new text
+
+abbrev pub BeginsPlay : {D : Type 0} → ℕ → (D → DiskState) → JournalState D → JournalState D → Option (List ℕ) → Outflow → Outflow → Type 0
+BeginsPlay batch state j k None old new = ⊤
+BeginsPlay batch state j k (Some xs) old new = (front rest : List (List ℕ)) × (lines_of xs ≡ front ++ rest)
+    × (text : List ℕ) × Plays batch state j k front text × AddsBeginning old new text
+
+-- with the bytes that are still left: the first lines were played, their text was added, and the others are left
+abbrev pub PlaysSome : {D : Type 0} → ℕ → (D → DiskState) → JournalState D → JournalState D → Option (List ℕ) → Option (List ℕ) → Outflow → Outflow → Type 0
 PlaysSome batch state j k None left old new = ⊤
 PlaysSome batch state j k (Some xs) None old new = ⊥
 PlaysSome batch state j k (Some xs) (Some ys) old new = (front : List (List ℕ)) × (lines_of xs ≡ front ++ lines_of ys)
-    × (text : List ℕ) × Plays batch state j k front text × Appends old new text
+    × (text : List ℕ) × Plays batch state j k front text × Adds old new text
 
 -- the lines end there, where the bytes that were left are known
 abbrev pub EndsAt : Option (List ℕ) → Option (List ℕ) → Type 0

@@ -1,16 +1,21 @@
 -- What a run of the program leaves, by what its command line asks (docs/COMMANDS.md).
-use Rattle.std.specs.Prelude.{◌≡◌, ℕ, List, [], ◌∷◌, ◌++◌, Option, true, codes, ⊤}
+use Rattle.std.specs.Prelude.{◌≡◌, ℕ, ◌≤◌, List, [], ◌∷◌, ◌++◌, IfSome, max, min, Option, false, true, codes}
 use Rattle.std.specs.Fmt.{decimal}
 use Rattle.std.specs.Io.KnownBytes.{Appends, Keeps}
 use Rattle.rly_audit.specs.Report.{balances, books_of, report_of}
 use Rattle.rly_audit.specs.declared.fault.AuditFault.{AuditFault}
 use Rattle.rly_audit.specs.declared.fault.AuditFault.TheVariants as audit
 use Rattle.rly_core.specs.Limits.{IsWithinLimits}
-use Rattle.rly_machine.specs.State.{State}
+use Rattle.rly_journal.specs.Journal.{JournalState}
+use Rattle.rly_machine.specs.State.{State, new_state}
 use Rattle.rly_segment.specs.Device.{IsGeometry, device_length}
 use Rattle.rly_settings.specs.declared.given.Settings.{Settings}
 use Rattle.rly_settings.specs.declared.given.Settings.TheVariants.{Sim, Format, Play, Audit, Serve}
+use Rattle.rly_daemon.specs.FileDisk.{file_state}
 use Rattle.rly_daemon.specs.Formatting.{wanted}
+use Rattle.rly_daemon.specs.Playing.{PlaysAll}
+use Rattle.rly_daemon.specs.Text.{text_of}
+use Rattle.rly_daemon.specs.declared.file_disk.FileDisk.{FileDisk}
 use Rattle.rly_daemon.specs.declared.fault.CommandFault.{CommandFault}
 use Rattle.rly_daemon.specs.declared.fault.CommandFault.TheVariants.{Text, Refused}
 use Rattle.rly_daemon.specs.declared.fault.TextFault.TheVariants.{Output}
@@ -24,21 +29,33 @@ audit_fault audit.Output = Text Output
 abbrev pub size_line : ℕ → List ℕ
 size_line size = codes "formatted " ++ decimal size ++ 10 ∷ []
 
+-- how many lines a round has: 1 to 64
+abbrev pub lines_a_round : ℕ → ℕ
+lines_a_round batch = max 1 (min batch 64)
+
 -- the report on a state in which the books balance was written
 pub record HasReport (old new : Option (List ℕ)) : Type 0 where
   pub state : State (List ℕ)
   pub balance : balances (books_of state) ≡ true
   pub written : Appends old new (report_of state)
 
--- a command that ended well: the reader and the writer before and behind it
-abbrev pub IsDone : {R : Type 0} → Settings → R → R → Option (List ℕ) → Option (List ℕ) → Type 0
-IsDone (Sim params) before behind old new = IsWithinLimits params
-IsDone (Format file params segments length) before behind old new = (behind ≡ before)
+-- a journal was opened whole, all lines were played on it, and it is whole behind them
+pub record HasPlayed (batch : ℕ) (left old new : Option (List ℕ)) : Type 0 where
+  pub opened : JournalState FileDisk
+  pub behind : JournalState FileDisk
+  pub whole : opened.broken ≡ false
+  pub goes : behind.broken ≡ false
+  pub played : PlaysAll (lines_a_round batch) file_state opened behind left old new
+
+-- a command that ended well: the reader before and behind it, the bytes that there were to read, and those of the writer before and behind it
+abbrev pub IsDone : {R : Type 0} → Settings → R → R → Option (List ℕ) → Option (List ℕ) → Option (List ℕ) → Type 0
+IsDone (Sim params) before behind left old new = IsWithinLimits params × IfSome left (λ input. Appends old new (text_of (new_state params) input))
+IsDone (Format file params segments length) before behind left old new = (behind ≡ before)
     × IsGeometry (wanted params segments length) (device_length (wanted params segments length))
     × Appends old new (size_line (device_length (wanted params segments length)))
-IsDone (Play file batch) before behind old new = ⊤
-IsDone (Audit file) before behind old new = (behind ≡ before) × HasReport old new
-IsDone (Serve file plan turns) before behind old new = (behind ≡ before) × Keeps old new
+IsDone (Play file batch) before behind left old new = HasPlayed batch left old new
+IsDone (Audit file) before behind left old new = (behind ≡ before) × HasReport old new
+IsDone (Serve file plan turns) before behind left old new = (behind ≡ before) × Keeps old new × (1 ≤ turns)
 
 -- the values of a spool or of a device are out of their limits
 abbrev pub IsOutOfLimits : Settings → Type 0

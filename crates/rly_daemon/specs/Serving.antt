@@ -1,13 +1,17 @@
 -- What a relay needs of its device, and the workers that it starts.
-use Rattle.std.specs.Prelude.{◌⊎◌, ℕ, ◌<◌, ◌≤◌, List, ◌++◌, map, length, Option}
-use Rattle.std.specs.List.{range_with_len}
+use Rattle.std.specs.Prelude.{◌≡◌, ◌⊎◌, ℕ, ◌<◌, ◌≤◌, List, ◌++◌, map, length, Option, None, Some}
+use Rattle.std.specs.List.{AllZip, range_with_len}
 use Rattle.std.specs.Option.{option_map}
 use Rattle.rly_core.specs.declared.params.Params.{Params}
-use Rattle.rly_daemon.specs.WallClock.{turns_left}
+use Rattle.rly_daemon.specs.declared.udp_link.UdpLink.{UdpLink}
+use Rattle.rly_daemon.specs.declared.wall_clock.WallClock.{WallClock}
+use Rattle.rly_daemon.specs.WallClock.{endless_tells, turns_left}
 use Rattle.rly_plan.specs.ContactPlan.{ContactPlan, hop_at, peer_at}
 use Rattle.rly_plan.specs.Endpoints.{Endpoints}
+use Rattle.rly_threads.specs.declared.relay.Post.{Post}
 use Rattle.rly_threads.specs.declared.turn.Worker.{Worker}
 use Rattle.rly_threads.specs.declared.turn.Worker.TheVariants as worker
+use Rattle.rly_threads.specs.Relay.{HasEnded}
 
 -- a device has each peer and each hop of a plan
 pub record HasRoom (plan : ContactPlan) (params : Params) : Type 0 where
@@ -44,6 +48,10 @@ pub record Duty : Type 0 where
 abbrev pub duty : Worker → Option Endpoints → Option ℕ → Duty
 duty w addresses left = record { worker = w; addresses = addresses; left = left }
 
+-- what the worker of a post has to do
+abbrev pub duty_at : {C : Type 0} → Post (UdpLink C) (WallClock C) → Duty
+duty_at post = duty post.worker (Some post.link.addresses.value) post.turn.left
+
 -- what a plan says of a worker
 abbrev pub duty_of : ContactPlan → ℕ → Worker → Duty
 duty_of plan turns w = duty w (addresses_of plan w) (turns_left turns)
@@ -51,3 +59,9 @@ duty_of plan turns w = duty w (addresses_of plan w) (turns_left turns)
 -- what a plan says of all workers, in the order of their ids, the receivers first
 abbrev pub duties : ContactPlan → ℕ → List Duty
 duties plan turns = map (duty_of plan turns) (workers_of plan)
+
+-- each worker of a plan did at its post what the plan says of it, from its start to its end, and left that post
+pub record HasRun {C : Type 0} (plan : ContactPlan) (window turns : ℕ) (ended : List (Post (UdpLink C) (WallClock C))) : Type 0 where
+  pub posts : List (Post (UdpLink C) (WallClock C))
+  pub planned : map duty_at posts ≡ duties plan turns
+  pub worked : AllZip (HasEnded (λ _. None) (λ _. None) (λ clock. endless_tells clock.left clock.handed) plan window) posts ended

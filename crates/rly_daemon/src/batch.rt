@@ -1,22 +1,21 @@
-ghost use Rattle.std.specs.Prelude.{◌≡◌, ◌≤◌, ◌<◌, ◌^◌, ◌∷◌, ◌++◌, [], IfOk, OnErr, OnOk, Ok, length, map, true, false};
-ghost use Rattle.std.specs.Io.KnownBytes.{Appends, Keeps, prepend_known};
+ghost use Rattle.std.specs.Prelude.{◌≡◌, ◌≤◌, ◌<◌, ◌^◌, ◌++◌, [], IfOk, OnErr, OnOk, Ok, length, map, string_bytes, true, false};
+ghost use Rattle.std.specs.Io.KnownBytes.{prepend_known};
 ghost use Rattle.rly_core.specs.Bounds.{IsIn};
 ghost use Rattle.rly_disk.specs.DiskModel.{Later};
 ghost use Rattle.rly_daemon.specs.Grammar.{ask_of};
 ghost use Rattle.rly_daemon.specs.Lines.{TakesLine};
+ghost use Rattle.rly_daemon.specs.Outflow.{Adds, AddsBeginning, outflow_of};
 ghost use Rattle.rly_daemon.specs.Playing.{EndsAt, Gathers, IsAnsweredBy, IsPut, IsReady, answers_behind, asks_of, round_text, slot_text};
-ghost use Rattle.rly_daemon.specs.Replies.{reply_text};
-ghost use Rattle.rly_stream.specs.Beginnings.{AppendsBeginning};
 
 use crate::evaluation::{add_refused_line, add_reply};
 use crate::fault::TextFault;
 use crate::grammar::parse_line;
-use crate::line_reader::{LineReader, hand_on};
+use crate::line_reader::LineReader;
+use crate::outflow::{hand_on, relieve};
 use crate::reply_line::Subject;
 use rly_disk::Disk;
 use rly_journal::Journal;
-use rly_machine::{Answer, Ask, Call, Reply, SeatId};
-use rly_stream::write_whole;
+use rly_machine::{Answer, Ask, Call, SeatId};
 use std::alloc::{AllocError, Global};
 use std::io::{Read, Write};
 
@@ -27,7 +26,6 @@ pub(crate) struct Batch {
     slots: Vec<Option<Subject>>,
     calls: Vec<Call>,
     answers: Vec<Answer>,
-    text: String,
 }
 
 impl Batch {
@@ -42,7 +40,6 @@ impl Batch {
             slots: Vec::with_capacity(alloc, most as usize)?,
             calls: Vec::with_capacity(alloc, most as usize)?,
             answers: Vec::with_capacity(alloc, most as usize)?,
-            text: String::new(alloc),
         })
     }
 
@@ -51,6 +48,7 @@ impl Batch {
         &mut self,
         alloc: Global,
         lines: &mut LineReader,
+        text: &mut String,
         reader: &mut R,
         writer: &mut W,
     ) -> Result<bool, TextFault>
@@ -63,10 +61,11 @@ impl Batch {
         ensures progress { result ≡ Ok true → (lines.old.taken < lines.new.taken) × (lines.new.taken < 2 ^ 64) }
         ensures answers { self.new.answers ≡ self.old.answers }
         ensures most { self.new.most ≡ self.old.most }
-        ensures keeps { Keeps (W.contents writer.old) (W.contents writer.new) }
+        ensures same { OnOk result (Adds (outflow_of (W.contents writer.old) (string_bytes text.old)) (outflow_of (W.contents writer.new) (string_bytes text.new)) []) }
+        ensures begun { OnErr result (AddsBeginning (outflow_of (W.contents writer.old) (string_bytes text.old)) (outflow_of (W.contents writer.new) (string_bytes text.new)) []) }
     {
         while (self.slots.len() as u64) < self.most {
-            if !self.take_line(alloc, lines, reader, writer)? {
+            if !self.take_line(alloc, lines, text, reader, writer)? {
                 return Ok(false);
             }
         }
@@ -78,6 +77,7 @@ impl Batch {
         &mut self,
         alloc: Global,
         lines: &mut LineReader,
+        text: &mut String,
         reader: &mut R,
         writer: &mut W,
     ) -> Result<bool, TextFault>
@@ -88,9 +88,10 @@ impl Batch {
         ensures progress { result ≡ Ok true → (lines.old.taken < lines.new.taken) × (lines.new.taken < 2 ^ 64) }
         ensures answers { self.new.answers ≡ self.old.answers }
         ensures most { self.new.most ≡ self.old.most }
-        ensures keeps { Keeps (W.contents writer.old) (W.contents writer.new) }
+        ensures same { OnOk result (Adds (outflow_of (W.contents writer.old) (string_bytes text.old)) (outflow_of (W.contents writer.new) (string_bytes text.new)) []) }
+        ensures begun { OnErr result (AddsBeginning (outflow_of (W.contents writer.old) (string_bytes text.old)) (outflow_of (W.contents writer.new) (string_bytes text.new)) []) }
     {
-        hand_on(lines, writer)?;
+        hand_on(lines, text, writer)?;
         if !lines.next_line(reader)? {
             return Ok(false);
         }
@@ -140,78 +141,61 @@ impl Batch {
         journal.round(alloc, &mut self.calls, &mut self.answers)
     }
 
-    /// Writes the reply line of each line, in order, and forgets them.
-    pub(crate) fn tell<W: Write>(&mut self, writer: &mut W) -> Result<(), TextFault>
-        ensures told { OnOk result (Appends (W.contents writer.old) (W.contents writer.new) (round_text self.old.slots.items self.old.answers.items)) }
-        ensures begun { OnErr result (AppendsBeginning (W.contents writer.old) (W.contents writer.new) (round_text self.old.slots.items self.old.answers.items)) }
+    /// Adds the reply line of each line, in order, and forgets the lines. The text is written where it grows much.
+    pub(crate) fn tell<W: Write>(
+        &mut self,
+        text: &mut String,
+        writer: &mut W,
+    ) -> Result<(), TextFault>
+        ensures told { OnOk result (Adds (outflow_of (W.contents writer.old) (string_bytes text.old)) (outflow_of (W.contents writer.new) (string_bytes text.new)) (round_text self.old.slots.items self.old.answers.items)) }
+        ensures begun { OnErr result (AddsBeginning (outflow_of (W.contents writer.old) (string_bytes text.old)) (outflow_of (W.contents writer.new) (string_bytes text.new)) (round_text self.old.slots.items self.old.answers.items)) }
         ensures slots { OnOk result (self.new.slots.items ≡ []) }
         ensures answers { OnOk result (self.new.answers.items ≡ []) }
         ensures calls { self.new.calls ≡ self.old.calls }
         ensures most { self.new.most ≡ self.old.most }
     {
-        write_replies(&self.slots, &self.answers, &mut self.text, writer)?;
+        add_replies(&self.slots, &self.answers, text, writer)?;
         self.slots.clear();
         self.answers.clear();
         Ok(())
     }
 }
 
-/// Writes the reply lines of a round. The answers stand where something was asked.
-fn write_replies<W: Write>(
+/// Adds the reply lines of a round. The answers stand where something was asked.
+fn add_replies<W: Write>(
     slots: &[Option<Subject>],
     answers: &[Answer],
     text: &mut String,
     writer: &mut W,
 ) -> Result<(), TextFault>
-    ensures told { OnOk result (Appends (W.contents writer.old) (W.contents writer.new) (round_text slots.now answers.now)) }
-    ensures begun { OnErr result (AppendsBeginning (W.contents writer.old) (W.contents writer.new) (round_text slots.now answers.now)) }
+    ensures told { OnOk result (Adds (outflow_of (W.contents writer.old) (string_bytes text.old)) (outflow_of (W.contents writer.new) (string_bytes text.new)) (round_text slots.now answers.now)) }
+    ensures begun { OnErr result (AddsBeginning (outflow_of (W.contents writer.old) (string_bytes text.old)) (outflow_of (W.contents writer.new) (string_bytes text.new)) (round_text slots.now answers.now)) }
 {
     let mut rest = answers;
     for slot in slots {
-        rest = write_reply(*slot, rest, text, writer)?;
+        rest = add_slot(*slot, rest, text)?;
+        relieve(text, writer)?;
     }
     Ok(())
 }
 
-/// Writes the reply line of one line, and answers which answers are left.
-#[tactic(auto, using(rly_stream::proofs::Flows::begins_broken))]
-fn write_reply<'a, W: Write>(
+/// Adds the reply line of one line, and answers which answers are left.
+fn add_slot<'a>(
     slot: Option<Subject>,
     answers: &'a [Answer],
     text: &mut String,
-    writer: &mut W,
-) -> Result<&'a [Answer], TextFault>
-    ensures told { IfOk result (λ rest. (rest.now ≡ answers_behind slot answers.now)
-        × Appends (W.contents writer.old) (W.contents writer.new) (slot_text slot answers.now)) }
-    ensures begun { OnErr result (AppendsBeginning (W.contents writer.old) (W.contents writer.new) (slot_text slot answers.now)) }
+) -> Result<&'a [Answer], AllocError>
+    ensures rest { IfOk result (λ rest. rest.now ≡ answers_behind slot answers.now) }
+    ensures text { OnOk result (string_bytes text.new ≡ string_bytes text.old ++ slot_text slot answers.now) }
+    ensures none { OnErr result (string_bytes text.new ≡ []) }
 {
     let Some(subject) = slot else {
-        text.clear();
         add_refused_line(text)?;
-        write_whole(writer, text.as_bytes())?;
         return Ok(answers);
     };
     let Some((answer, rest)) = answers.split_first() else {
         return Ok(answers);
     };
-    let reply = &answer.reply;
-    write_answer(subject, reply, text, writer)?;
+    add_reply(text, subject, &answer.reply)?;
     Ok(rest)
-}
-
-/// Writes the line of a reply.
-#[tactic(auto, using(rly_stream::proofs::Flows::begins_broken))]
-fn write_answer<W: Write>(
-    subject: Subject,
-    reply: &Reply,
-    text: &mut String,
-    writer: &mut W,
-) -> Result<(), TextFault>
-    ensures told { OnOk result (Appends (W.contents writer.old) (W.contents writer.new) (reply_text subject reply.now ++ 10 ∷ [])) }
-    ensures begun { OnErr result (AppendsBeginning (W.contents writer.old) (W.contents writer.new) (reply_text subject reply.now ++ 10 ∷ [])) }
-{
-    text.clear();
-    add_reply(text, subject, reply)?;
-    write_whole(writer, text.as_bytes())?;
-    Ok(())
 }

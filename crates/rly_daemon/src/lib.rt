@@ -15,6 +15,7 @@ mod file_disk;
 mod geometry;
 mod grammar;
 mod line_reader;
+mod outflow;
 mod playing;
 mod program;
 mod reply_line;

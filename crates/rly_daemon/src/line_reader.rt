@@ -1,5 +1,4 @@
 ghost use Rattle.std.specs.Prelude.{◌≡◌, ◌≤◌, ◌++◌, vec_capacity, vec_len};
-ghost use Rattle.std.specs.Io.KnownBytes.{Keeps};
 ghost use Rattle.rly_daemon.specs.Lines.{kept_of};
 
 use crate::bytes::position_of;
@@ -7,7 +6,7 @@ use crate::fault::TextFault;
 use rly_core::limits;
 use rly_stream::read_some;
 use std::alloc::{AllocError, Global};
-use std::io::{Read, Write};
+use std::io::Read;
 use std::marker::Model;
 
 /// How many bytes are read at once.
@@ -152,17 +151,4 @@ fn keep(line: &mut Vec<u8>, piece: &[u8])
     let count = (KEPT - line.len()).min(piece.len());
     // The room was made with the line, so this never fails.
     let _kept = line.extend_from_slice(&piece[..count]);
-}
-
-/// Hands on the replies that a writer holds back, if the next line waits for the reader.
-pub(crate) fn hand_on<W: Write>(lines: &LineReader, writer: &mut W) -> Result<(), TextFault>
-    ensures { Keeps (W.contents writer.old) (W.contents writer.new) }
-{
-    if !lines.is_drained() {
-        return Ok(());
-    }
-    match writer.flush() {
-        Ok(()) => Ok(()),
-        Err(_) => Err(TextFault::Output),
-    }
 }

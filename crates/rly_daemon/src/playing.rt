@@ -1,11 +1,13 @@
-ghost use Rattle.std.specs.Prelude.{◌≡◌, ◌^◌, ◌<◌, OnErr, OnOk, Ok, true, IfOk, false};
+ghost use Rattle.std.specs.Prelude.{◌≡◌, ◌^◌, ◌<◌, OnErr, OnOk, Ok, string_bytes, true, IfOk, false};
 ghost use Rattle.std.specs.Io.KnownBytes.{prepend_known};
 ghost use Rattle.rly_core.specs.Bounds.{IsIn};
-ghost use Rattle.rly_daemon.specs.Playing.{EndsAt, IsReady, PlaysAll, PlaysFront, PlaysSome};
+ghost use Rattle.rly_daemon.specs.Outflow.{outflow_of};
+ghost use Rattle.rly_daemon.specs.Playing.{AddsPlay, BeginsPlay, EndsAt, IsReady, PlaysAll, PlaysFront, PlaysSome};
 
 use crate::batch::Batch;
 use crate::fault::TextFault;
 use crate::line_reader::LineReader;
+use crate::outflow::{finish, new_text};
 use rly_disk::Disk;
 use rly_journal::Journal;
 use std::alloc::Global;
@@ -32,7 +34,30 @@ pub fn play<D: Disk, R: Read, W: Write>(
 {
     let mut lines = LineReader::new(alloc)?;
     let mut round = Batch::new(alloc, batch)?;
-    'rounds: while play_round(alloc, journal, &mut round, &mut lines, reader, writer)? {}
+    let mut text = new_text(alloc)?;
+    let outcome = play_lines(
+        alloc, journal, &mut round, &mut lines, &mut text, reader, writer,
+    );
+    finish(outcome, &mut text, writer)
+}
+
+/// Plays all lines. The last replies may be left in `text`.
+fn play_lines<D: Disk, R: Read, W: Write>(
+    alloc: Global,
+    journal: &mut Journal<D>,
+    round: &mut Batch,
+    lines: &mut LineReader,
+    text: &mut String,
+    reader: &mut R,
+    writer: &mut W,
+) -> Result<(), TextFault>
+    requires { IsReady round.old }
+    ensures played { OnOk result (AddsPlay round.old.most D.state journal.old journal.new (prepend_known lines.old.ahead (R.remaining reader.old))
+        (outflow_of (W.contents writer.old) (string_bytes text.old)) (outflow_of (W.contents writer.new) (string_bytes text.new))) }
+    ensures begun { OnErr result (BeginsPlay round.old.most D.state journal.old journal.new (prepend_known lines.old.ahead (R.remaining reader.old))
+        (outflow_of (W.contents writer.old) (string_bytes text.old)) (outflow_of (W.contents writer.new) (string_bytes text.new))) }
+{
+    'rounds: while play_round(alloc, journal, round, lines, text, reader, writer)? {}
     Ok(())
 }
 
@@ -42,6 +67,7 @@ fn play_round<D: Disk, R: Read, W: Write>(
     journal: &mut Journal<D>,
     round: &mut Batch,
     lines: &mut LineReader,
+    text: &mut String,
     reader: &mut R,
     writer: &mut W,
 ) -> Result<bool, TextFault>
@@ -50,14 +76,14 @@ fn play_round<D: Disk, R: Read, W: Write>(
     ensures most { OnOk result (round.new.most ≡ round.old.most) }
     ensures played { OnOk result (PlaysSome round.old.most D.state journal.old journal.new
         (prepend_known lines.old.ahead (R.remaining reader.old)) (prepend_known lines.new.ahead (R.remaining reader.new))
-        (W.contents writer.old) (W.contents writer.new)) }
+        (outflow_of (W.contents writer.old) (string_bytes text.old)) (outflow_of (W.contents writer.new) (string_bytes text.new))) }
     ensures ended { result ≡ Ok false → EndsAt (prepend_known lines.old.ahead (R.remaining reader.old)) (prepend_known lines.new.ahead (R.remaining reader.new)) }
-    ensures begun { OnErr result (PlaysFront round.old.most D.state journal.old journal.new
-        (prepend_known lines.old.ahead (R.remaining reader.old)) (W.contents writer.old) (W.contents writer.new)) }
+    ensures begun { OnErr result (BeginsPlay round.old.most D.state journal.old journal.new (prepend_known lines.old.ahead (R.remaining reader.old))
+        (outflow_of (W.contents writer.old) (string_bytes text.old)) (outflow_of (W.contents writer.new) (string_bytes text.new))) }
     ensures progress { result ≡ Ok true → (lines.old.taken < lines.new.taken) × (lines.new.taken < 2 ^ 64) }
 {
-    let full = round.gather(alloc, lines, reader, writer)?;
+    let full = round.gather(alloc, lines, text, reader, writer)?;
     round.answer(alloc, journal)?;
-    round.tell(writer)?;
+    round.tell(text, writer)?;
     Ok(full)
 }

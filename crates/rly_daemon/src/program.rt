@@ -1,14 +1,16 @@
-ghost use Rattle.std.specs.Prelude.{◌≡◌, ◌≤◌, ◌↔◌, ◌⊎◌, [], Err, IfErr, IfOk, IsOk, OnOk, false, map};
+ghost use Rattle.std.specs.Prelude.{◌≡◌, ◌≤◌, ◌↔◌, ◌⊎◌, [], Err, IfErr, IfOk, IfSome, OnOk, false, map};
 ghost use Rattle.std.specs.Io.KnownBytes.{Appends, Keeps};
 ghost use Rattle.rly_core.specs.Limits.{IsWithinLimits};
 ghost use Rattle.rly_core.specs.declared.refusal.Refusal.{Refusal as ARefusal};
+ghost use Rattle.rly_machine.specs.State.{new_state};
 ghost use Rattle.rly_journal.specs.Faults.{opening_refusal};
 ghost use Rattle.rly_journal.specs.declared.fault.OpenFault.{OpenFault};
 ghost use Rattle.rly_segment.specs.Device.{IsGeometry, device_length};
 ghost use Rattle.rly_settings.specs.CommandLine.{AsksHelp, IsSettings, asked_of, kinds_at};
 ghost use Rattle.rly_settings.specs.declared.given.Settings.{Settings as ASettings};
 ghost use Rattle.rly_daemon.specs.Formatting.{wanted};
-ghost use Rattle.rly_daemon.specs.Program.{HasReport, IsDone, IsOutOfLimits, size_line};
+ghost use Rattle.rly_daemon.specs.Program.{HasPlayed, HasReport, IsDone, IsOutOfLimits, size_line};
+ghost use Rattle.rly_daemon.specs.Text.{text_of};
 
 use crate::fault::{CommandFault, ServeFault, TextFault};
 use crate::file_disk::FileDisk;
@@ -25,7 +27,7 @@ use std::alloc::Global;
 use std::convert::AsStr;
 use std::fmt::Display;
 use std::fs::{File, Files};
-use std::io::{BufWriter, Read, Write};
+use std::io::{Read, Write};
 use std::net::Net;
 use std::sync::Wait;
 use std::thread::Threads;
@@ -56,7 +58,7 @@ pub fn run<H: Host, S: AsStr, R: Read, W: Write, E: Write>(
     // Where it ends well, the words ask for help or the version, or what they ask for was done.
     ensures done { result ≡ 0 → (AsksHelp (map S.text words.now) × (reader.new ≡ reader.old))
         ⊎ ((settings : ASettings) × IsSettings (asked_of (map S.text words.now)) settings × (kinds_at (map S.text words.now) ≡ [])
-        × IsDone settings reader.old reader.new (W.contents writer.old) (W.contents writer.new)) }
+        × IsDone settings reader.old reader.new (R.remaining reader.old) (W.contents writer.old) (W.contents writer.new)) }
 {
     match settings(rt.alloc(), words) {
         Ok(settings) => match obey(rt, settings, reader, writer) {
@@ -76,7 +78,7 @@ fn obey<H: Host, R: Read, W: Write>(
     reader: &mut R,
     writer: &mut W,
 ) -> Result<(), CommandFault>
-    ensures done { OnOk result (IsDone settings.entry reader.old reader.new (W.contents writer.old) (W.contents writer.new)) }
+    ensures done { OnOk result (IsDone settings.entry reader.old reader.new (R.remaining reader.old) (W.contents writer.old) (W.contents writer.new)) }
     ensures refused { IsOutOfLimits settings.entry → (result ≡ Err (CommandFault.Refused Refusal.BadGeometry))
         × (reader.new ≡ reader.old) × (writer.new ≡ writer.old) }
 {
@@ -101,7 +103,7 @@ fn obey<H: Host, R: Read, W: Write>(
     }
 }
 
-/// Runs `sim` with its output in a buffer.
+/// Runs `sim`. Values out of their limits are refused before anything is read.
 fn run_sim<R: Read, W: Write>(
     alloc: Global,
     params: Params,
@@ -109,26 +111,13 @@ fn run_sim<R: Read, W: Write>(
     writer: &mut W,
 ) -> Result<(), CommandFault>
     ensures limits { OnOk result (IsWithinLimits params) }
+    ensures written { OnOk result (IfSome (R.remaining reader.old) (λ input.
+        Appends (W.contents writer.old) (W.contents writer.new) (text_of (new_state params) input))) }
     ensures refused { ¬ IsWithinLimits params → (result ≡ Err (CommandFault.Refused Refusal.BadGeometry))
         × (reader.new ≡ reader.old) × (writer.new ≡ writer.old) }
 {
     params.check()?;
-    let Ok(mut output) = BufWriter::new(alloc, &mut *writer) else {
-        return Err(CommandFault::Refused(Refusal::OutOfMemory));
-    };
-    let outcome = sim(alloc, params, reader, &mut output);
-    ended(outcome, &mut output)
-}
-
-/// Hands on the output that a command leaves in its buffer, and answers its outcome.
-fn ended<W: Write>(outcome: Result<(), TextFault>, output: &mut W) -> Result<(), CommandFault>
-    ensures ok { OnOk result (IsOk outcome) }
-    ensures fault { IfErr outcome (λ fault. result ≡ Err (CommandFault.Text fault)) }
-    ensures keeps { Keeps (W.contents output.old) (W.contents output.new) }
-{
-    let flushed = output.flush();
-    outcome?;
-    flushed.map_err(|_| TextFault::Output)?;
+    sim(alloc, params, reader, writer)?;
     Ok(())
 }
 
@@ -164,22 +153,20 @@ fn print_size<W: Write>(size: u64, writer: &mut W) -> Result<(), TextFault>
     writer.flush().map_err(|_| TextFault::Output)
 }
 
-/// Runs `play` on the device in a file, with its output in a buffer.
+/// Runs `play` on the device in a file.
 fn run_play<H: AllocGlobal + Files<File = File>, R: Read, W: Write>(
     rt: &H,
     file: &str,
     batch: u64,
     reader: &mut R,
     writer: &mut W,
-) -> Result<(), CommandFault> {
+) -> Result<(), CommandFault>
+    ensures played { OnOk result (HasPlayed batch (R.remaining reader.old) (W.contents writer.old) (W.contents writer.new)) }
+{
     let mut journal = open_journal(rt, file)?;
-    let Ok(mut output) = BufWriter::new(rt.alloc(), &mut *writer) else {
-        return Err(CommandFault::Refused(Refusal::OutOfMemory));
-    };
     // The command line was refused for any other number.
     let batch = batch.clamp(1, MAX_BATCH);
-    let outcome = play(rt.alloc(), reader, &mut output, &mut journal, batch);
-    ended(outcome, &mut output)?;
+    play(rt.alloc(), reader, writer, &mut journal, batch)?;
     if journal.is_broken() {
         return Err(CommandFault::Refused(Refusal::Broken));
     }
@@ -206,10 +193,13 @@ fn run_audit<H: AllocGlobal + Files<File = File>, W: Write>(
 }
 
 /// Runs the relay of a plan on the device in a file. The plan is read before the file is touched.
-fn run_serve<H: Host>(rt: &H, file: &str, plan: &str, turns: u64) -> Result<(), ServeFault> {
+fn run_serve<H: Host>(rt: &H, file: &str, plan: &str, turns: u64) -> Result<(), ServeFault>
+    ensures ends { OnOk result (1 ≤ turns) }
+{
     let plan = read_plan(rt, plan)?;
     let journal = open_journal(rt, file)?;
-    serve(rt, journal, &plan, turns)
+    let _relayed = serve(rt, journal, &plan, turns)?;
+    Ok(())
 }
 
 /// Opens the journal on the device in a file.

@@ -1,10 +1,14 @@
 //! The running relay: what it needs of its device, its workers, and how it ends.
 
-ghost use Rattle.std.specs.Prelude.{◌≡◌, ◌++◌, Err, IfErr, IfOk, IsOk, OnOk, Some, false, map, option_copied, true};
+ghost use Rattle.std.specs.Prelude.{◌≡◌, ◌≤◌, ◌⊎◌, ◌++◌, Err, IfErr, IfOk, IsOk, OnOk, false, length, map, option_copied, true};
+ghost use Rattle.rly_core.specs.declared.refusal.Refusal.{Refusal as ARefusal};
 ghost use Rattle.rly_core.specs.declared.refusal.Refusal.TheVariants as refusal;
 ghost use Rattle.rly_daemon.specs.declared.fault.ServeFault.TheVariants as fault;
-ghost use Rattle.rly_daemon.specs.Serving.{HasRoom, LacksRoom, addresses_of, duties, duty, duty_of, receivers, senders, workers_of};
+ghost use Rattle.rly_daemon.specs.Serving.{HasRoom, HasRun, LacksRoom, addresses_of, duties, duty_at, duty_of, receivers, senders, workers_of};
+ghost use Rattle.rly_flush.specs.Flushing.{IsServed, new_flusher};
+ghost use Rattle.rly_line.specs.Submission.{LineId};
 ghost use Rattle.rly_plan.specs.Sound.{IsSound};
+ghost use Rattle.rly_threads.specs.Relay.{new_end};
 
 use crate::fault::ServeFault;
 use crate::udp_link::UdpLink;
@@ -13,7 +17,7 @@ use rly_core::{HopId, Params, PeerId, Refusal};
 use rly_disk::Disk;
 use rly_journal::Journal;
 use rly_plan::{Addresses, Plan, law_plan_is_sound};
-use rly_threads::{LinkFault, Post, Worker, run_relay};
+use rly_threads::{LinkFault, Post, Relayed, Worker, run_relay};
 use std::alloc::{AllocError, Global};
 use std::fs;
 use std::fs::{File, Files};
@@ -26,12 +30,16 @@ use std::time::Clock;
 /// A worker of the relay, its link and its turns.
 type UdpPost<'a, H> = Post<UdpLink<&'a H>, WallClock<&'a H>>;
 
+/// What a relay leaves.
+type UdpRelayed<'a, D, H> = Relayed<D, UdpLink<&'a H>, WallClock<&'a H>>;
+
 /// Reads a plan from a file.
 pub(crate) fn read_plan<H: AllocGlobal + Files<File = File>>(
     rt: &H,
     path: &str,
 ) -> Result<Plan, ServeFault>
-    ensures { IfOk result (λ plan. IsSound plan) }
+    ensures sound { IfOk result (λ plan. IsSound plan) }
+    ensures fault { IfErr result (λ f. (f ≡ fault.Plan) ⊎ ((refusal : ARefusal) × (f ≡ fault.Refused refusal))) }
 {
     match fs::read_to_string(rt, path) {
         Ok(text) => {
@@ -45,21 +53,32 @@ pub(crate) fn read_plan<H: AllocGlobal + Files<File = File>>(
     }
 }
 
-/// Runs the relay of a plan on a journal until each worker had its turns: without end, where they are 0.
-pub(crate) fn serve<H: AllocGlobal + Net + Threads + Wait + Clock + Sync, D: Disk + Drop>(
-    rt: &H,
+/// Runs the relay of a plan on a journal until each worker had its turns, and answers what it leaves. Where the turns are 0
+/// they are without end.
+pub(crate) fn serve<'a, H: AllocGlobal + Net + Threads + Wait + Clock + Sync, D: Disk + Drop>(
+    rt: &'a H,
     journal: Journal<D>,
     plan: &Plan,
     turns: u64,
-) -> Result<(), ServeFault>
+) -> Result<UdpRelayed<'a, D, H>, ServeFault>
     requires sound { IsSound plan.now }
     ensures room { OnOk result (HasRoom plan.now journal.state.params) }
     ensures lacks { LacksRoom plan.now journal.state.params → result ≡ Err (fault.Refused refusal.BadGeometry) }
+    // A relay whose turns are without end never ends well.
+    ensures ends { OnOk result (1 ≤ turns) }
+    // Each worker of the plan did at its post what the plan says of it, as far as its link and its clock tell.
+    ensures worked { IfOk result (λ relayed. HasRun plan.now journal.state.params.window turns relayed.ended.items) }
+    // The journal is what its flusher's rounds made of it, and not broken.
+    ensures served { IfOk result (λ relayed. (line : LineId) × IsServed D.state (new_flusher journal (new_end line (length (workers_of plan.now)))) relayed.finished.journal) }
+    ensures whole { IfOk result (λ relayed. relayed.finished.journal.broken ≡ false) }
 {
     check_room(plan, journal.params())?;
     let posts = posts_of(rt, plan, turns)?;
     match run_relay(rt, rt.alloc(), journal, plan, posts) {
-        Ok(relayed) => outcome_of(relayed.finished.broken, relayed.complete),
+        Ok(relayed) => {
+            outcome_of(relayed.finished.broken, relayed.complete)?;
+            Ok(relayed)
+        }
         Err(_journal) => Err(ServeFault::Refused(Refusal::OutOfMemory)),
     }
 }
@@ -99,7 +118,7 @@ fn posts_of<'a, H: AllocGlobal + Net + Clock>(
     turns: u64,
 ) -> Result<Vec<UdpPost<'a, H>>, ServeFault>
     requires { IsSound plan.now }
-    ensures { IfOk result (λ posts. map (λ post. duty post.worker (Some post.link.addresses.value) post.turn.left) posts.items ≡ duties plan.now turns) }
+    ensures { IfOk result (λ posts. map duty_at posts.items ≡ duties plan.now turns) }
 {
     let mut posts = Vec::new(rt.alloc());
     for worker in workers_of(rt.alloc(), plan)? {
@@ -116,7 +135,7 @@ fn post_of<'a, H: Net + Clock>(
     worker: Worker,
     turns: u64,
 ) -> Result<UdpPost<'a, H>, LinkFault>
-    ensures { IfOk result (λ post. duty post.worker (Some post.link.addresses.value) post.turn.left ≡ duty_of plan.now turns worker) }
+    ensures { IfOk result (λ post. duty_at post ≡ duty_of plan.now turns worker) }
 {
     let Some(addresses) = addresses_of(plan, worker) else {
         return Err(LinkFault);

@@ -1,16 +1,17 @@
-ghost use Rattle.std.specs.Prelude.{◌≡◌, ◌<◌, ◌^◌, IfOk, IfSome, Ok, OnErr, OnOk, true};
+ghost use Rattle.std.specs.Prelude.{◌≡◌, ◌<◌, ◌^◌, IfOk, IfSome, Ok, OnErr, OnOk, string_bytes, true};
 ghost use Rattle.std.specs.Io.KnownBytes.{Appends, prepend_known};
 ghost use Rattle.rly_core.specs.Limits.{IsWithinLimits};
 ghost use Rattle.rly_machine.specs.State.{new_state};
 ghost use Rattle.rly_stream.specs.Beginnings.{AppendsBeginning};
-ghost use Rattle.rly_daemon.specs.Text.{AnswersLine, BeginsAnswer, text_of};
+ghost use Rattle.rly_daemon.specs.Outflow.{outflow_of};
+ghost use Rattle.rly_daemon.specs.Text.{AnswersAll, AnswersLine, BeginsAnswer, text_of};
 
 use crate::evaluation::answer_line;
 use crate::fault::TextFault;
-use crate::line_reader::{LineReader, hand_on};
+use crate::line_reader::LineReader;
+use crate::outflow::{finish, hand_on, new_text, relieve};
 use rly_core::Params;
 use rly_machine::{Machine, Payload};
-use rly_stream::write_whole;
 use std::alloc::Global;
 use std::io::{Read, Write};
 
@@ -33,8 +34,26 @@ pub fn sim<R: Read, W: Write>(
 {
     let mut machine = Machine::new(alloc, params)?;
     let mut lines = LineReader::new(alloc)?;
-    let mut text = String::new(alloc);
-    'answers: while answer_next(alloc, &mut machine, &mut lines, &mut text, reader, writer)? {}
+    let mut text = new_text(alloc)?;
+    let outcome = answer_lines(alloc, &mut machine, &mut lines, &mut text, reader, writer);
+    finish(outcome, &mut text, writer)
+}
+
+/// Answers all lines. The last replies may be left in `text`.
+fn answer_lines<R: Read, W: Write>(
+    alloc: Global,
+    machine: &mut Machine<Payload>,
+    lines: &mut LineReader,
+    text: &mut String,
+    reader: &mut R,
+    writer: &mut W,
+) -> Result<(), TextFault>
+    ensures answered { OnOk result (AnswersAll (prepend_known lines.old.ahead (R.remaining reader.old))
+        (outflow_of (W.contents writer.old) (string_bytes text.old)) (outflow_of (W.contents writer.new) (string_bytes text.new)) machine.old.state) }
+    ensures begun { OnErr result (BeginsAnswer (prepend_known lines.old.ahead (R.remaining reader.old))
+        (outflow_of (W.contents writer.old) (string_bytes text.old)) (outflow_of (W.contents writer.new) (string_bytes text.new)) machine.old.state) }
+{
+    'answers: while answer_next(alloc, machine, lines, text, reader, writer)? {}
     Ok(())
 }
 
@@ -49,16 +68,17 @@ fn answer_next<R: Read, W: Write>(
 ) -> Result<bool, TextFault>
     ensures answered { IfOk result (λ more. AnswersLine more
         (prepend_known lines.old.ahead (R.remaining reader.old)) (prepend_known lines.new.ahead (R.remaining reader.new))
-        (W.contents writer.old) (W.contents writer.new) machine.old.state machine.new.state) }
+        (outflow_of (W.contents writer.old) (string_bytes text.old)) (outflow_of (W.contents writer.new) (string_bytes text.new))
+        machine.old.state machine.new.state) }
     ensures begun { OnErr result (BeginsAnswer (prepend_known lines.old.ahead (R.remaining reader.old))
-        (W.contents writer.old) (W.contents writer.new) machine.old.state) }
+        (outflow_of (W.contents writer.old) (string_bytes text.old)) (outflow_of (W.contents writer.new) (string_bytes text.new)) machine.old.state) }
     ensures progress { result ≡ Ok true → (lines.old.taken < lines.new.taken) × (lines.new.taken < 2 ^ 64) }
 {
-    hand_on(lines, writer)?;
+    hand_on(lines, text, writer)?;
     if !lines.next_line(reader)? {
         return Ok(false);
     }
     answer_line(alloc, machine, lines.line(), text)?;
-    write_whole(writer, text.as_bytes())?;
+    relieve(text, writer)?;
     Ok(true)
 }

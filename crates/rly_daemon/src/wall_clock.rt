@@ -1,7 +1,9 @@
-ghost use Rattle.std.specs.Prelude.{◌≡◌, ◌≢◌, List, Option, ℕ};
-ghost use Rattle.rly_daemon.specs.WallClock.{goes_on, left_at, moment_of, starts, turns_had, turns_left, turns_of};
+ghost use Rattle.std.specs.Prelude.{◌≡◌, ◌≢◌, IsTrue, List, None, Option, ℕ};
+ghost use Rattle.rly_daemon.specs.WallClock.{all_on, goes_on, left_at, moment_of, starts, turns_had, turns_left, turns_of};
 ghost use Rattle.rly_threads.specs.declared.turn.Point.{Point as APoint};
+ghost use Rattle.rly_threads.specs.Memory.{handed_of};
 
+use http_server::Log;
 use rly_threads::{Go, Point, Turn, Worker};
 use std::sync::Wait;
 use std::time::{Clock, Duration};
@@ -12,6 +14,10 @@ pub struct WallClock<C: Clock + Drop> {
     clock: C,
     now: u64,
     left: Option<u64>,
+    // What it handed out, which takes no memory.
+    handed: Log<(Worker, Point), Go>,
+    // Where its turns are without end it hands out no end.
+    ghost endless: { left ≡ None → IsTrue (all_on (handed_of handed)) },
 }
 
 impl<C: Clock + Drop> WallClock<C> {
@@ -24,6 +30,7 @@ impl<C: Clock + Drop> WallClock<C> {
             clock,
             now: 0,
             left,
+            handed: Log::new(),
         }
     }
 
@@ -39,6 +46,7 @@ impl<C: Clock + Drop> WallClock<C> {
         ensures now { result.now ≡ self.new.now }
         ensures held { point ≢ Point.Start → self.new.now ≡ self.old.now }
         ensures left { self.new.left ≡ left_at point self.old.left }
+        ensures handed { self.new.handed ≡ self.old.handed }
     {
         if point != Point::Start {
             return Go {
@@ -57,10 +65,11 @@ impl<C: Clock + Drop> WallClock<C> {
 }
 
 impl<C: Clock + Drop> Turn for WallClock<C> {
-    ghost use Rattle.std.specs.Prelude.{◌≡◌, ◌≢◌, None};
-    ghost use Rattle.rly_daemon.specs.WallClock.{goes_on, left_at};
+    ghost use Rattle.std.specs.Prelude.{◌≡◌, ◌≢◌, ◌∷◌, []};
+    ghost use Rattle.rly_daemon.specs.WallClock.{endless_tells, goes_on, left_at};
+    ghost use Rattle.rly_threads.specs.Ends.{Tells};
 
-    ghost told = { λ _. None };
+    ghost told = { λ clock. endless_tells clock.left clock.handed };
 
     fn between<R: Wait>(&mut self, rt: &R, worker: Worker, point: Point) -> Go
         ensures on { result.on ≡ goes_on point self.old.left }
@@ -68,10 +77,12 @@ impl<C: Clock + Drop> Turn for WallClock<C> {
         // Within a turn it hands out the moment of its start.
         ensures held { point ≢ Point.Start → self.new.now ≡ self.old.now }
         ensures left { self.new.left ≡ left_at point self.old.left }
+        ensures tells { Tells (endless_tells self.old.left self.old.handed) (endless_tells self.new.left self.new.handed) ((worker, point, result) ∷ []) }
     {
         let _ = rt;
-        let _ = worker;
-        self.go(point)
+        let go = self.go(point);
+        self.handed = self.handed.and(&(worker, point), &go);
+        go
     }
 }
 

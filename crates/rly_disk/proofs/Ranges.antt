@@ -3,15 +3,8 @@ use Rattle.std.proofs.Common.{◌≡◌, ◌⊎◌, ◌≤◌, ◌<◌, ◌+◌,
 use Rattle.std.proofs.lemmas.List.{ext_get_or, get_or-take, get_or-drop, drop_at, take_at}
 use Rattle.rly_disk.specs.DiskModel.{SameOutside, overwritten}
 
--- a list is as it was
-pub same_outside : (place n : ℕ) (bytes : List ℕ) → SameOutside place n bytes bytes
-same_outside place n bytes = record { same_length = refl; each = λ i out. refl }
-
 pub same_outside_again : {a b c : List ℕ} (place n : ℕ) → SameOutside place n a b → SameOutside place n b c → SameOutside place n a c
 same_outside_again place n first second = record { same_length = second.same_length ∙ first.same_length; each = λ i out. second.each i out ∙ first.each i out }
-
-pub same_outside_back : {a b : List ℕ} (place n : ℕ) → SameOutside place n a b → SameOutside place n b a
-same_outside_back place n same = record { same_length = sym same.same_length; each = λ i out. sym (same.each i out) }
 
 -- outside a range is outside each part of it
 pub wider : {old new : List ℕ} (from m place n : ℕ) → from ≤ place → place + n ≤ from + m → SameOutside place n old new → SameOutside from m old new

@@ -5,7 +5,7 @@ use Rattle.std.proofs.lemmas.List.{ext_get_or, take-append-le, drop-append-le, l
 use Rattle.std.proofs.lemmas.List.Folds.{list_any-append}
 use Rattle.std.proofs.lemmas.Bool.{cases_lt, or_parts, or_from}
 use Rattle.std.proofs.lemmas.Bool.Decides.{nat_tests}
-use Rattle.rly_disk.specs.DiskModel.{SameOutside, overwritten, IsTorn, IsWritten, NothingNew, Settled}
+use Rattle.rly_disk.specs.DiskModel.{overwritten, IsTorn, IsWritten, NothingNew, Settled}
 use Rattle.rly_disk.specs.Record.{pending, before, covers, covered, IsImage, WasImage}
 use Rattle.rly_disk.specs.RecordLaws.{from_last, seen_is_image, counts_now}
 use Rattle.rly_disk.specs.MemDisk.{state_of, consistent_of}
@@ -128,30 +128,6 @@ module _ (events : List Event) (place : ℕ) (new old : List ℕ) (replaced : Ve
 
   pub exact : (c : List ℕ) → IsTorn place (length new) (IsImage events old) c → IsImage (events ++ Written place replaced ∷ []) (overwritten place new old) c
   exact = whole_range
-
--- a call that leaves no event
-pub no_event : (events : List Event) (bytes : List ℕ) (now then : Counts) → NothingNew (state_of events bytes now) (state_of events bytes then)
-no_event events bytes now then = record {
-  honest = tt;
-  seen = refl;
-  images = λ c image. image;
-  later = omega arith;
-  since = λ t c le image. image;
-  keeps = λ t c le image. image;
-}
-
--- a write that leaves none
-pub not_written : (place n : ℕ) (events : List Event) (bytes : List ℕ) (now then : Counts) → IsWritten place n (state_of events bytes now) (state_of events bytes then)
-not_written place n events bytes now then =
-    let same : (c : List ℕ) → SameOutside place n c c = λ c. record { same_length = refl; each = λ i out. refl } in
-    record {
-      honest = tt;
-      outside = same bytes;
-      images = λ c image. (c, image, same c);
-      later = omega arith;
-      since = λ t c le image. inl image;
-      keeps = λ t c le image. image;
-    }
 
 module _ (events : List Event) (bytes : List ℕ) where
   -- after a sync there is one image

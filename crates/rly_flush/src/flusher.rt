@@ -10,7 +10,7 @@ ghost use Rattle.rly_line.specs.Submission.{IsBeginning};
 ghost use Rattle.rly_flush.specs.Flushing.{GrewInRound, IsCrashSafe, IsOneHistory, IsOneRound, IsServed, new_flusher};
 
 use crate::batch::{answer_all, collect, reserve};
-use crate::spool::Spool;
+use crate::owned_journal::OwnedJournal;
 use rly_disk::Disk;
 use rly_journal::Journal;
 use rly_line::{LineEnd, Responder, Seat};
@@ -25,9 +25,9 @@ use std::sync::Wait;
 #[derive(Drop)]
 pub struct Flusher<D: Disk> {
     alloc: Global,
-    first: Snapshot<Spool<D>>,
-    spool: Spool<D>,
-    line: Responder<Spool<D>>,
+    first: Snapshot<OwnedJournal<D>>,
+    owned: OwnedJournal<D>,
+    line: Responder<OwnedJournal<D>>,
     calls: Vec<Call>,
     said: Vec<Snapshot<Call>>,
     answers: Vec<Answer>,
@@ -40,9 +40,9 @@ impl<D: Disk> Model for Flusher<D> {
 
     ghost Value = { FlusherState D };
 
-    ghost view = { λ f. record { first = f.first.value.journal; journal = f.spool.journal; line = f.line } };
+    ghost view = { λ f. record { first = f.first.value.journal; journal = f.owned.journal; line = f.line } };
 
-    ghost invariant = { λ f. IsFlushing D.state (record { first = f.first.value.journal; journal = f.spool.journal; line = f.line })
+    ghost invariant = { λ f. IsFlushing D.state (record { first = f.first.value.journal; journal = f.owned.journal; line = f.line })
         × AreReady f.calls f.said f.answers };
 }
 
@@ -72,13 +72,13 @@ impl<D: Disk> Flusher<D> {
         };
         journal.law_durable();
         journal.law_counted();
-        let spool = Spool { journal };
-        let first = Snapshot::of(&spool);
-        let line = Responder::new(line_end, &spool);
+        let owned = OwnedJournal { journal };
+        let first = Snapshot::of(&owned);
+        let line = Responder::new(line_end, &owned);
         Ok(Flusher {
             alloc,
             first,
-            spool,
+            owned,
             line,
             calls,
             said,
@@ -105,7 +105,7 @@ impl<D: Disk> Flusher<D> {
         }
         commit(
             self.alloc,
-            &mut self.spool.journal,
+            &mut self.owned.journal,
             &mut self.calls,
             &mut self.answers,
         );
@@ -153,13 +153,13 @@ impl<D: Disk> Flusher<D> {
         let Flusher {
             alloc: _alloc,
             first: _first,
-            spool,
+            owned,
             line: _line,
             calls: _calls,
             said: _said,
             answers: _answers,
         } = self;
-        let Spool { journal } = spool;
+        let OwnedJournal { journal } = owned;
         Finished {
             broken: journal.is_broken(),
             journal,

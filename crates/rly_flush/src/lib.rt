@@ -9,7 +9,7 @@
 
 mod batch;
 mod flusher;
-mod spool;
+mod owned_journal;
 #[cfg(test)]
 mod tests;
 

@@ -6,7 +6,7 @@ use Rattle.rly_disk.specs.DiskModel.{DiskState, LeavesOnly, SameOutside, Settled
 use Rattle.rly_disk.proofs.Composition.{at_exit, joined, weaker}
 use Rattle.rly_disk.proofs.Ranges.{part, part-overwritten, same_outside_again, wider}
 use Rattle.rly_gate.proofs.Frames.{gate_and_frame}
-use Rattle.rly_gate.specs.Group.{IsAppended, IsClosed, StandsAt, frame_of, group_of, open_gate}
+use Rattle.rly_gate.specs.Group.{IsAppended, IsClosed, IsOpen, StandsAt, frame_of, group_of, open_gate}
 
 -- an image from while the frame was written: the gate is still closed
 pub behind_the_gate : (at : ℕ) (body old image : List ℕ) → IsClosed old at → SameOutside (at + 1) (length (frame_of body)) old image → IsAppended at body old image
@@ -14,6 +14,16 @@ behind_the_gate at body old image closed same = record {
   outside = wider at (length (group_of body)) (at + 1) (length (frame_of body)) (omega arith) (omega arith) same;
   whole = inl (λ opened. closed (sym (same.each at (inl (omega arith))) ∙ opened));
 }
+
+-- bytes stand behind a gate that is open
+pub gate_opened : (place : ℕ) (bytes old image : List ℕ) → place < length old → StandsAt old (place + 1) bytes → SameOutside place 1 old image
+    → IsOpen image place → StandsAt image place (open_gate ∷ bytes)
+gate_opened place bytes old image within stands same opened =
+    let kept = part place 1 same (place + 1) (length bytes) (inr (omega arith)) in
+    let below : place < length image = omega (arith, same.same_length) in
+    ap (take (length (open_gate ∷ bytes))) (drop_more image place 0 below)
+    ∙ ap (λ b. b ∷ take (length bytes) (drop (place + 1) image)) opened
+    ∙ ap (λ l. open_gate ∷ l) (kept ∙ stands)
 
 -- an image from while the gate was written over a frame that stands
 pub at_the_gate : (at : ℕ) (body old mid image : List ℕ) → at < length mid → SameOutside (at + 1) (length (frame_of body)) old mid
@@ -23,12 +33,7 @@ at_the_gate at body old mid image within first stands second = record {
       (wider at (length (group_of body)) (at + 1) (length (frame_of body)) (omega arith) (omega arith) first)
       (wider at (length (group_of body)) at 1 (omega arith) (omega arith) second);
   whole = elim (cases_eq (get_or image at 0) open_gate) [
-    | inl opened ↦ inr (
-        let kept = part at 1 second (at + 1) (length (frame_of body)) (inr (omega arith)) in
-        let below : at < length image = omega (arith, second.same_length) in
-        ap (take (length (group_of body))) (drop_more image at 0 below)
-        ∙ ap (λ b. b ∷ take (length (frame_of body)) (drop (at + 1) image)) opened
-        ∙ ap (λ l. open_gate ∷ l) (kept ∙ stands))
+    | inl opened ↦ inr (gate_opened at (frame_of body) mid image within stands second opened)
     | inr closed ↦ inl closed
   ];
 }
@@ -54,13 +59,6 @@ appended_frame {a} {b} {e} at body frame same before room closed first settled w
     appended at body closed within
     (subst (λ f. LeavesOnly a b (SameOutside (at + 1) (length f) a.seen)) same first) settled
     (written ∙ ap (λ f. overwritten (at + 1) f a.seen) same) second
-
--- while the frame was written
-pub appended_half : {a b : DiskState} (at : ℕ) (body frame : List ℕ) → frame ≡ frame_of body → IsClosed a.seen at
-    → LeavesOnly a b (SameOutside (at + 1) (length frame) a.seen) → LeavesOnly a b (IsAppended at body a.seen)
-appended_half {a} {b} at body frame same closed first =
-    weaker (SameOutside (at + 1) (length (frame_of body)) a.seen) (IsAppended at body a.seen) (λ c outside. behind_the_gate at body a.seen c closed outside)
-    (subst (λ f. LeavesOnly a b (SameOutside (at + 1) (length f) a.seen)) same first)
 
 -- what is read at the end
 pub written_group : (at : ℕ) (body frame old mid new : List ℕ) → frame ≡ frame_of body → at + 1 ≤ length old

@@ -1,5 +1,5 @@
 -- Which group stands at a gate.
-use Rattle.std.proofs.Common.{ℕ, ◌≡◌, ◌+◌, ◌-◌, ◌<◌, ◌≤◌, ◌^◌, List, [], length, take, drop, slice_range, arith, sym, ◌∙◌, ap}
+use Rattle.std.proofs.Common.{ℕ, ◌≡◌, ◌+◌, ◌<◌, ◌≤◌, ◌^◌, List, [], ◌++◌, length, take, drop, arith, sym, ◌∙◌, ap}
 use Rattle.std.proofs.lemmas.List.{length-drop, length-take}
 use Rattle.byteorder.specs.Endian.{big_bytes, big_number}
 use Rattle.byteorder.specs.Numbers.{big_number-reads_back}
@@ -7,22 +7,15 @@ use Rattle.rly_gate.proofs.Frames.{group_length, group_parts, length-frame}
 use Rattle.rly_gate.specs.Group.{IsOpen, StandsAt}
 use Rattle.rly_gate.specs.Reading.{HoldsGroup, HoldsNone}
 
--- a length is read back from its bytes
-pub read_back : (n : ℕ) → n < 2 ^ 32 → big_number 4 (big_bytes 4 n) ≡ n
-read_back n fits = big_number-reads_back 4 n [] fits
-
--- two lengths with the same bytes are one
-pub same_length : (n m : ℕ) → n < 2 ^ 32 → m < 2 ^ 32 → big_bytes 4 n ≡ big_bytes 4 m → n ≡ m
-same_length n m n_fits m_fits same = sym (read_back n n_fits) ∙ ap (big_number 4) same ∙ read_back m m_fits
-
--- the field that was read behind an open gate
-pub field_read : (image buffer : List ℕ) (at : ℕ) → buffer ≡ slice_range image (at + 1) (at + 1 + 4) → buffer ≡ take 4 (drop (at + 1) image)
-field_read image buffer at is = is ∙ ap (λ k. take k (drop (at + 1) image)) (let e : at + 1 + 4 - (at + 1) ≡ 4 = omega arith in e)
+-- two numbers with the same bytes are one
+pub number_once : (width n m : ℕ) → n < 256 ^ width → m < 256 ^ width → big_bytes width n ≡ big_bytes width m → n ≡ m
+number_once width n m n_fits m_fits same =
+    sym (big_number-reads_back width n [] n_fits) ∙ ap (λ l. big_number width (l ++ [])) same ∙ big_number-reads_back width m [] m_fits
 
 -- no group is as long as a length that leaves no place for it
 pub too_long : (image : List ℕ) (at end n : ℕ) → n < 2 ^ 32 → take 4 (drop (at + 1) image) ≡ big_bytes 4 n → end < at + 6 + n → HoldsNone image at end
 too_long image at end n fits field past body holds =
-    let same = same_length n (length body) fits holds.fits (sym field ∙ group_length image at (length body) body holds.bytes) in
+    let same = number_once 4 n (length body) fits holds.fits (sym field ∙ group_length image at (length body) body holds.bytes) in
     omega (arith, holds.room, length-frame body, same)
 
 -- no group is shorter than a length and a gate
@@ -31,9 +24,8 @@ too_short image at end past body holds = omega (arith, holds.room, length-frame 
 
 -- what was read piece by piece is a group
 pub holds : (image : List ℕ) (at end n : ℕ) (body : List ℕ) → IsOpen image at → StandsAt image (at + 1) (big_bytes 4 n) → n < 2 ^ 32
-    → at + 6 + n ≤ end → end ≤ length image → body ≡ slice_range image (at + 5) (at + 5 + n) → HoldsGroup image at end body
-holds image at end n body opened field fits room within is =
-    let is_body : body ≡ take n (drop (at + 5) image) = is ∙ ap (λ k. take k (drop (at + 5) image)) (let e : at + 5 + n - (at + 5) ≡ n = omega arith in e) in
+    → at + 6 + n ≤ end → end ≤ length image → body ≡ take n (drop (at + 5) image) → HoldsGroup image at end body
+holds image at end n body opened field fits room within is_body =
     let count : length body ≡ n = ap length is_body ∙ (let e : length (take n (drop (at + 5) image)) ≡ n = omega (arith, length-take n (drop (at + 5) image), length-drop (at + 5) image) in e) in
     record {
       bytes = group_parts image at n body (omega arith) opened field count is_body;

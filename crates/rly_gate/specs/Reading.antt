@@ -1,4 +1,4 @@
--- What it is to read a group.
+-- What it is to read a group, and to read a disk and do nothing else.
 use Rattle.std.specs.Prelude.{ℕ, ◌≡◌, ◌+◌, ◌<◌, ◌≤◌, ◌^◌, List, ◌∷◌, ◌++◌, length, Option, Some, None, Result, Ok, Err, Vec}
 use Rattle.byteorder.specs.Endian.{big_bytes}
 use Rattle.rly_disk.specs.DiskModel.{DiskState, Later, NothingNew, Settled, SettlesNothing}
@@ -15,6 +15,10 @@ pub record HoldsGroup (image : List ℕ) (at end : ℕ) (body : List ℕ) : Type
 -- no body stands at a gate
 abbrev pub HoldsNone : List ℕ → ℕ → ℕ → Type 0
 HoldsNone image at end = (body : List ℕ) → HoldsGroup image at end body → ⊥
+
+-- some body stands at a gate
+abbrev pub HoldsSome : List ℕ → ℕ → ℕ → Type 0
+HoldsSome image at end = (body : List ℕ) × HoldsGroup image at end body
 
 -- what is answered of a gate: nothing where it is closed, else the body, or that there is none
 abbrev pub IsReadGroup : {A : Type 0} → List ℕ → ℕ → ℕ → Result (Option (Vec ℕ A)) GroupFault → Type 0
@@ -42,7 +46,3 @@ pub record OnlyRead (old new : DiskState) : Type 0 where
 pub record SyncsNothing (old new : DiskState) : Type 0 where
   pub crash : old.honest → SettlesNothing old new
   pub syncs : new.syncs ≡ old.syncs
-
--- some body stands at a gate
-abbrev pub HoldsSome : List ℕ → ℕ → ℕ → Type 0
-HoldsSome image at end = (body : List ℕ) × HoldsGroup image at end body

@@ -2,7 +2,7 @@
 pub const OPEN_GATE: u8 = 0xa5;
 
 /// The byte that is written for a closed gate.
-pub(crate) const CLOSED_GATE: u8 = 0;
+pub const CLOSED_GATE: u8 = 0;
 
 /// The bytes of a body's length.
 pub(crate) const LENGTH_BYTES: usize = 4;

@@ -1,4 +1,4 @@
-ghost use Rattle.std.specs.Prelude.{◌≡◌, ◌≢◌, ◌+◌, ◌<◌, ◌≤◌, Err, IfOk, IfSome, IsOkUnless, OnOk, IsTrue, ◌↔◌, length, slice_range, vec_len};
+ghost use Rattle.std.specs.Prelude.{◌≡◌, ◌≢◌, ◌+◌, ◌<◌, ◌≤◌, ◌↔◌, Err, IfOk, IfSome, IsTrue, OnErr, OnOk, drop, length, take, vec_len};
 ghost use Rattle.byteorder.specs.Endian.{big_bytes};
 ghost use Rattle.rly_disk.specs.DiskModel.{Rose};
 ghost use Rattle.rly_gate.specs.Group.{IsOpen};
@@ -6,8 +6,17 @@ ghost use Rattle.rly_gate.specs.Reading.{HoldsSome, IsReadGroup, IsReadLength, O
 
 use crate::gate::{FRAME_OVERHEAD, LENGTH_BYTES, OPEN_GATE};
 use byteorder::{BigEndian, ByteOrder};
-use rly_disk::Disk;
+use rly_disk::{Disk, DiskFault};
 use std::alloc::Global;
+
+/// Why bytes were not read. The disk reads as before.
+#[derive(Clone, Copy, Debug, PartialEq, Eq)]
+pub enum ReadFault {
+    /// The memory for them was refused.
+    OutOfMemory,
+    /// A read of the device failed.
+    Device,
+}
 
 /// Why a group was not read. The disk reads as before.
 #[derive(Clone, Copy, Debug, PartialEq, Eq)]
@@ -38,27 +47,18 @@ pub fn read_group<D: Disk>(
     ensures rise { result ≡ Err GroupFault.Device → Rose (D.state disk.old) (D.state disk.new) }
     ensures no_failure { result ≢ Err GroupFault.Device → (D.state disk.new).failures ≡ (D.state disk.old).failures }
 {
-    if !is_open(disk, at)? {
+    let Ok(opened) = is_open(disk, at) else {
+        return Err(GroupFault::Device);
+    };
+    if !opened {
         return Ok(None);
     }
     let length = read_length(disk, at, end)?;
-    let body = read_body(alloc, disk, at + 1 + LENGTH_BYTES as u64, length)?;
-    Ok(Some(body))
-}
-
-/// Whether the gate at a place is open.
-fn is_open<D: Disk>(disk: &mut D, at: u64) -> Result<bool, GroupFault>
-    requires { at + 1 ≤ (D.state disk.old).size }
-    ensures read { (D.state disk.old).honest → IfOk result (λ opened. IsTrue opened ↔ IsOpen (D.state disk.old).seen at) }
-    ensures fault { IsOkUnless result GroupFault.Device }
-    ensures only { OnlyRead (D.state disk.old) (D.state disk.new) }
-    ensures unsynced { SyncsNothing (D.state disk.old) (D.state disk.new) }
-    ensures rise { result ≡ Err GroupFault.Device → Rose (D.state disk.old) (D.state disk.new) }
-    ensures no_failure { result ≢ Err GroupFault.Device → (D.state disk.new).failures ≡ (D.state disk.old).failures }
-{
-    let mut gate = [0u8; 1];
-    read(disk, at, &mut gate)?;
-    Ok(gate[0] == OPEN_GATE)
+    match read_bytes(alloc, disk, at + 1 + LENGTH_BYTES as u64, length) {
+        Ok(body) => Ok(Some(body)),
+        Err(ReadFault::OutOfMemory) => Err(GroupFault::OutOfMemory),
+        Err(ReadFault::Device) => Err(GroupFault::Device),
+    }
 }
 
 /// The length of the body of the group at an open gate, where that group and the gate behind it
@@ -79,7 +79,9 @@ fn read_length<D: Disk>(disk: &mut D, at: u64, end: u64) -> Result<usize, GroupF
         return Err(GroupFault::Damaged);
     }
     let mut field = [0u8; LENGTH_BYTES];
-    read(disk, at + 1, &mut field)?;
+    let Ok(()) = fill(disk, at + 1, &mut field) else {
+        return Err(GroupFault::Device);
+    };
     let length = length_in(&field);
     if u64::from(length) > room - FRAME_OVERHEAD {
         return Err(GroupFault::Damaged);
@@ -94,43 +96,55 @@ fn length_in(field: &[u8; LENGTH_BYTES]) -> u32
     BigEndian::read_u32(field)
 }
 
-/// Reads so many bytes of a body.
-fn read_body<D: Disk>(
+/// Whether the gate at a place is open.
+pub fn is_open<D: Disk>(disk: &mut D, at: u64) -> Result<bool, DiskFault>
+    requires { at + 1 ≤ (D.state disk.old).size }
+    ensures read { (D.state disk.old).honest → IfOk result (λ opened. IsTrue opened ↔ IsOpen (D.state disk.old).seen at) }
+    ensures only { OnlyRead (D.state disk.old) (D.state disk.new) }
+    ensures unsynced { SyncsNothing (D.state disk.old) (D.state disk.new) }
+    ensures rise { OnErr result (Rose (D.state disk.old) (D.state disk.new)) }
+    ensures no_failure { OnOk result ((D.state disk.new).failures ≡ (D.state disk.old).failures) }
+    ensures calls { (D.state disk.new).calls ≤ (D.state disk.old).calls + 1 }
+{
+    let mut gate = [0u8; 1];
+    disk.read_at(at, &mut gate)?;
+    Ok(gate[0] == OPEN_GATE)
+}
+
+/// Reads so many bytes at a place into memory of their own.
+pub fn read_bytes<D: Disk>(
     alloc: Global,
     disk: &mut D,
     place: u64,
-    length: usize,
-) -> Result<Vec<u8>, GroupFault>
-    requires { place + length ≤ (D.state disk.old).size }
+    count: usize,
+) -> Result<Vec<u8>, ReadFault>
+    requires { place + count ≤ (D.state disk.old).size }
     ensures read { (D.state disk.old).honest
-        → IfOk result (λ body. body.items ≡ slice_range (D.state disk.old).seen place (place + length)) }
-    ensures len { IfOk result (λ body. vec_len body ≡ length) }
-    ensures undamaged { result ≢ Err GroupFault.Damaged }
+        → IfOk result (λ bytes. bytes.items ≡ take count (drop place (D.state disk.old).seen)) }
+    ensures length { IfOk result (λ bytes. length bytes.items ≡ count) }
     ensures only { OnlyRead (D.state disk.old) (D.state disk.new) }
     ensures unsynced { SyncsNothing (D.state disk.old) (D.state disk.new) }
-    ensures rise { result ≡ Err GroupFault.Device → Rose (D.state disk.old) (D.state disk.new) }
-    ensures no_failure { result ≢ Err GroupFault.Device → (D.state disk.new).failures ≡ (D.state disk.old).failures }
+    ensures rise { result ≡ Err ReadFault.Device → Rose (D.state disk.old) (D.state disk.new) }
+    ensures no_failure { result ≢ Err ReadFault.Device → (D.state disk.new).failures ≡ (D.state disk.old).failures }
 {
-    let Ok(mut body) = vec![in alloc; 0u8; length] else {
-        return Err(GroupFault::OutOfMemory);
+    let Ok(mut bytes) = vec![in alloc; 0u8; count] else {
+        return Err(ReadFault::OutOfMemory);
     };
-    read(disk, place, &mut body)?;
-    Ok(body)
+    let Ok(()) = fill(disk, place, &mut bytes) else {
+        return Err(ReadFault::Device);
+    };
+    Ok(bytes)
 }
 
 /// Fills a buffer from a place on.
-fn read<D: Disk>(disk: &mut D, place: u64, buffer: &mut [u8]) -> Result<(), GroupFault>
+pub fn fill<D: Disk>(disk: &mut D, place: u64, buffer: &mut [u8]) -> Result<(), DiskFault>
     requires { place + length buffer.old ≤ (D.state disk.old).size }
     ensures read { (D.state disk.old).honest
-        → OnOk result (buffer.new ≡ slice_range (D.state disk.old).seen place (place + length buffer.old)) }
-    ensures fault { IsOkUnless result GroupFault.Device }
+        → OnOk result (buffer.new ≡ take (length buffer.old) (drop place (D.state disk.old).seen)) }
     ensures only { OnlyRead (D.state disk.old) (D.state disk.new) }
     ensures unsynced { SyncsNothing (D.state disk.old) (D.state disk.new) }
-    ensures rise { result ≡ Err GroupFault.Device → Rose (D.state disk.old) (D.state disk.new) }
-    ensures no_failure { result ≢ Err GroupFault.Device → (D.state disk.new).failures ≡ (D.state disk.old).failures }
+    ensures rise { OnErr result (Rose (D.state disk.old) (D.state disk.new)) }
+    ensures no_failure { OnOk result ((D.state disk.new).failures ≡ (D.state disk.old).failures) }
 {
-    match disk.read_at(place, buffer) {
-        Ok(()) => Ok(()),
-        Err(_) => Err(GroupFault::Device),
-    }
+    disk.read_at(place, buffer)
 }

@@ -13,11 +13,6 @@ abbrev pub sender_after : Sender → List (OutEvent (List ℕ)) → Sender
 sender_after s [] = s
 sender_after s (event ∷ events) = sender_after (sent s event).0 events
 
--- what was named on each of these events: at most one action
-abbrev pub out_actions : Sender → List (OutEvent (List ℕ)) → List (Option (OutAction (List ℕ)))
-out_actions s [] = []
-out_actions s (event ∷ events) = (sent s event).1 ∷ out_actions (sent s event).0 events
-
 -- the window is known, and this number is in the flight that it shows
 pub record IsInFlight (s : Sender) (n : ℕ) : Type 0 where
   pub ready : s.ready ≡ true

@@ -3,7 +3,7 @@ use Rattle.std.proofs.Common.{◌≡◌, ℕ, ◌+◌, ◌*◌, ◌<◌, ◌≤�
 use Rattle.std.specs.Prelude.{IsTrue, Result, Ok, Err, IsOk, OnOk}
 use Rattle.std.proofs.lemmas.Bool.{false≢true}
 use Rattle.std.specs.List.{AllByRecursion, flat_map}
-use Rattle.std.proofs.lemmas.List.{drop-append-le, drop_all, drop_at, flat_map_more, length-drop, length-take, take-append-drop, take-append-le, take_all}
+use Rattle.std.proofs.lemmas.List.{drop-append-le, drop_all, flat_map_more, length-drop, length-take, take-append-drop, take_all}
 use Rattle.std.proofs.lemmas.List.Concat.{flat_map-cons}
 use Rattle.byteorder.specs.Endian.{big_bytes}
 use Rattle.rly_gate.specs.Group as gate
@@ -74,10 +74,6 @@ body_most commands group s t gathers few =
     let both : length (group_body group) ≡ 2 + length group.records = length-append (big_bytes 2 group.count) group.records in
     omega (arith, most, size, both, few)
 
--- a group of commands is written: it has a count
-pub some_count : (commands : Commands) (group : GroupState) (s t : State (List ℕ)) → Gathers commands group s t → 1 ≤ length commands → 1 ≤ group.count
-some_count commands group s t gathers some = omega (arith, gathers.count, some)
-
 -- a group of these parts
 abbrev pub group_of : List ℕ → ℕ → List ℕ → GroupState
 group_of records count staged = record { records = records; count = count; staged = staged }
@@ -91,15 +87,6 @@ pub all_kept : (kept : ℕ) (frame : List ℕ) → kept ≤ length frame → dro
 all_kept kept frame within none =
     let size : length (drop kept frame) ≡ 0 = ap length none in
     omega (arith, size, length-drop kept frame)
-
--- a record behind a frame is staged
-pub stage_is : (kept count : ℕ) (frame new written : List ℕ) → kept ≤ length frame → drop kept frame ≡ [] → new ≡ frame ++ written
-    → in_frame kept count new ≡ record (in_frame kept count frame) { staged = written }
-stage_is kept count frame new written within none pushed =
-    let same : take kept new ≡ take kept frame = ap (take kept) pushed ∙ take-append-le kept frame written within in
-    let behind : drop kept new ≡ written = ap (drop kept) pushed ∙ drop_at frame written kept (all_kept kept frame within none) in
-    ap (λ l. group_of (drop 6 l) count (drop kept new)) same
-    ∙ ap (λ l. group_of (drop 6 (take kept frame)) count l) behind
 
 -- all of a frame is kept
 pub keep_is : (kept count size : ℕ) (frame : List ℕ) → 6 ≤ kept → kept ≤ length frame → size ≡ length frame

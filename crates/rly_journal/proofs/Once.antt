@@ -7,7 +7,7 @@ use Rattle.rly_machine.specs.Sound.{IsSound}
 use Rattle.rly_machine.specs.State.{State}
 use Rattle.rly_gate.specs.Group.{IsClosed, IsOpen, StandsAt, open_gate}
 use Rattle.rly_gate.specs.Reading.{HoldsGroup}
-use Rattle.rly_gate.proofs.Holding.{same_length}
+use Rattle.rly_gate.proofs.Holding.{number_once}
 use Rattle.rly_gate.proofs.Frames.{group_length}
 use Rattle.rly_record.specs.Spelling.{body_of}
 use Rattle.rly_record.proofs.Bodies.{body_once}
@@ -58,13 +58,13 @@ head_once one_state {image} g segment n m a b short small_n small_m first second
     let parts_a = length_there image place n a first.bytes in
     let parts_b = length_there image place m b second.bytes in
     let bytes : big_bytes 4 (length (checkpoint_of a)) ≡ big_bytes 4 (length (checkpoint_of b)) = same_bytes image (place + 8) (big_bytes 4 (length (checkpoint_of a))) (big_bytes 4 (length (checkpoint_of b))) refl parts_a.0 parts_b.0 in
-    let size : length (checkpoint_of a) ≡ length (checkpoint_of b) = same_length (length (checkpoint_of a)) (length (checkpoint_of b)) (omega (arith, first.head.room, short)) (omega (arith, second.head.room, short)) bytes in
+    let size : length (checkpoint_of a) ≡ length (checkpoint_of b) = number_once 4 (length (checkpoint_of a)) (length (checkpoint_of b)) (omega (arith, first.head.room, short)) (omega (arith, second.head.room, short)) bytes in
     (generation, one_state a b first.sound second.sound (first.head.params ∙ sym second.head.params) (same_bytes image (place + 12) (checkpoint_of a) (checkpoint_of b) size parts_a.1 parts_b.1))
 
 -- two bodies behind one gate
 pub body_there_once : {image : List ℕ} (at end : ℕ) (a b : List ℕ) → HoldsGroup image at end a → HoldsGroup image at end b → a ≡ b
 body_there_once {image} at end a b first second =
-    let size : length a ≡ length b = same_length (length a) (length b) first.fits second.fits
+    let size : length a ≡ length b = number_once 4 (length a) (length b) first.fits second.fits
     (sym (group_length image at (length a) a first.bytes) ∙ group_length image at (length b) b second.bytes) in
     let rest : (body : List ℕ) → HoldsGroup image at end body → StandsAt image (at + 5) body = λ body holds.
     subst (λ k. StandsAt image k body) (let e : at + 1 + 4 ≡ at + 5 = omega arith in e)

@@ -1,10 +1,9 @@
 -- What is read of an image, group by group.
 use Rattle.std.proofs.Common.{◌≡◌, ◌≤◌, ◌<◌, ◌+◌, ◌++◌, ◌∷◌, [], ◌∙◌, ℕ, Bool, true, false, List, length, arith, sym, ap, refl, subst, inl, inr, append_assoc}
 use Rattle.std.proofs.lemmas.Bool.{false≢true}
-use Rattle.std.proofs.lemmas.List.{append-nil}
 use Rattle.rly_core.specs.declared.params.Geometry.{Geometry}
 use Rattle.rly_disk.specs.DiskModel.{DiskState}
-use Rattle.rly_gate.specs.Group.{IsClosed, IsOpen}
+use Rattle.rly_gate.specs.Group.{IsOpen}
 use Rattle.rly_gate.specs.Reading.{HoldsGroup, HoldsNone, OnlyRead}
 use Rattle.rly_machine.specs.declared.command.Command.{Command}
 use Rattle.rly_machine.specs.declared.reply.Reply.{Reply}
@@ -16,11 +15,11 @@ use Rattle.rly_machine.proofs.Folding.{accepted_parts, accepted_push, fold_push,
 use Rattle.rly_record.specs.Spelling.{HaveBody, body_of}
 use Rattle.rly_segment.specs.Answers.{AreClosed, HoldsNoHead}
 use Rattle.rly_segment.specs.Device.{IsDevice, IsGeometry, geometry_in}
-use Rattle.rly_segment.specs.Heads.{HoldsHead, IsAmbiguous, IsHead, IsNewest, first_gate, segment_end, segment_place}
+use Rattle.rly_segment.specs.Heads.{HoldsHead, IsAmbiguous, IsNewest, first_gate, segment_end, segment_place}
 use Rattle.rly_journal.specs.declared.fault.OpenFault.TheVariants.{Damaged}
 use Rattle.rly_journal.specs.declared.tail.Tail.{Tail}
 use Rattle.rly_journal.specs.Faults.{IsRefused}
-use Rattle.rly_journal.specs.Log.{EndsAt, IsLogged, IsReplayed, IsShaped}
+use Rattle.rly_journal.specs.Log.{EndsAt, IsReplayed, IsShaped}
 use Rattle.rly_journal.specs.Standing.{Commands, Standing, end_of, first_of, gate_of}
 use Rattle.rly_journal.proofs.Growing.{accepted-more, gate_behind-more, groups-more, replayed-more, with_group}
 use Rattle.rly_journal.proofs.Once.{body_there_once, gate_there}
@@ -33,9 +32,6 @@ pub record IsRedoing (all rest : Commands) (s t : State (List ℕ)) : Type 0 whe
   pub all_of : all ≡ done ++ rest
   pub accepted : AllAccepted length s done
   pub state : t ≡ fold length s done
-
-pub redoing_none : (all : Commands) (s : State (List ℕ)) → IsRedoing all all s s
-redoing_none all s = record { done = []; all_of = refl; accepted = tt; state = refl }
 
 pub redoing_next : (all rest more : Commands) (command : Command (List ℕ)) (s t u : State (List ℕ)) → IsRedoing all rest s t → rest ≡ command ∷ more
     → is_accepted (step length t command).1 ≡ true → u ≡ (step length t command).0 → IsRedoing all more s u
@@ -56,12 +52,6 @@ made_step command t r u reply flag told same state answer is said = (
   state ∙ ap (λ m. (step length m command).0) same,
   ap (λ m. is_accepted (step length m command).1) (sym same) ∙ ap is_accepted (sym answer) ∙ sym is ∙ said,
 )
-
-pub redoing_all : (all rest : Commands) (s t : State (List ℕ)) → IsRedoing all rest s t → length rest ≡ 0 → AllAccepted length s all × (t ≡ fold length s all)
-redoing_all all [] s t so_far none =
-    let whole : all ≡ so_far.done = so_far.all_of ∙ append-nil so_far.done in
-    (subst (AllAccepted length s) (sym whole) so_far.accepted, so_far.state ∙ ap (fold length s) (sym whole))
-redoing_all all (command ∷ rest) s t so_far none = absurd (omega (arith, none))
 
 pub redoing_refused : (all rest more : Commands) (command : Command (List ℕ)) (s t : State (List ℕ)) → IsRedoing all rest s t → rest ≡ command ∷ more
     → is_accepted (step length t command).1 ≡ false → AllAccepted length s all → ⊥
@@ -145,16 +135,6 @@ replayed_more image tail commands body s t gate so_far holds have spelled accept
       gates = so_far.gates;
     }
 
--- the gate at the end is closed: that was all
-pub logged_at : (image : List ℕ) (tail : Tail) (s : State (List ℕ)) → IsReplayed image tail s → IsClosed image tail.gate → IsLogged image tail s
-logged_at image tail s so_far closed = record {
-  x = so_far.x;
-  stands = record { scanned = so_far.scanned; closed = subst (IsClosed image) so_far.ends.gate closed };
-  ends = so_far.ends;
-  state = so_far.state;
-  gates = so_far.gates;
-}
-
 -- ---- no group of accepted commands stands at the end
 
 pub refused_at : (image : List ℕ) (tail : Tail) (s : State (List ℕ)) → IsReplayed image tail s → IsOpen image tail.gate
@@ -189,17 +169,6 @@ refused_commands image tail body s so_far holds none =
 
 -- ---- the shape of the end
 
-pub shape_still : (size : ℕ) (tail : Tail) (s t : State (List ℕ)) → IsShaped size tail s → t.params ≡ s.params → s.seq ≤ t.seq → IsShaped size tail t
-shape_still size tail s t shaped params later = record {
-  geometry = shaped.geometry;
-  segment = shaped.segment;
-  params = params ∙ shaped.params;
-  above = shaped.above;
-  within = shaped.within;
-  generation = omega (arith, shaped.generation, later);
-  full = λ full. let before = shaped.full full in omega (arith, before, later);
-}
-
 pub shape_more : (size gate : ℕ) (tail : Tail) (commands : Commands) (s t : State (List ℕ)) → IsShaped size tail s → HaveBody commands → AllAccepted length s commands
     → t ≡ fold length s commands → tail.gate ≤ gate → gate < segment_end tail.geometry tail.segment → IsShaped size (with_gate tail gate) t
 shape_more size gate tail commands s t shaped have accepted state above within =
@@ -220,18 +189,6 @@ shape_more size gate tail commands s t shaped have accepted state above within =
 -- the end behind a head
 abbrev pub head_tail : Geometry → ℕ → ℕ → ℕ → List Bool → Tail
 head_tail g segment generation gate closed = record { geometry = g; segment = segment; generation = generation; gate = gate; closed = closed }
-
-pub head_shape : (size : ℕ) (g : Geometry) (segment generation gate : ℕ) (closed : List Bool) (s : State (List ℕ)) → IsGeometry g size → segment < g.segments
-    → IsHead g segment generation s → gate ≡ first_gate g segment s → IsShaped size (head_tail g segment generation gate closed) s
-head_shape size g segment generation gate closed s fits below head is = record {
-  geometry = fits;
-  segment = below;
-  params = head.params;
-  above = omega (arith, is);
-  within = omega (arith, is, head.room);
-  generation = head.most;
-  full = λ full. absurd (omega (arith, is, head.room, full));
-}
 
 pub head_replayed : (image : List ℕ) (g : Geometry) (segment generation gate : ℕ) (closed : List Bool) (s : State (List ℕ)) → IsDevice image → g ≡ geometry_in image
     → IsGeometry g (length image) → IsNewest image g segment → AreClosed image g g.segments closed → HoldsHead image g segment generation s → gate ≡ first_gate g segment s

@@ -29,11 +29,11 @@ use Rattle.rly_machine.specs.Take.{is_full, take_refusal}
 use Rattle.rly_machine.proofs.Folding.{seq_step, stays}
 use Rattle.rly_machine.proofs.Histories.{legal_push, state_after-append}
 use Rattle.rly_machine.proofs.Refusals.{may_take}
-use Rattle.rly_record.specs.Spelling.{HasRecord, IsShort, record_of}
+use Rattle.rly_record.specs.Spelling.{IsShort, record_of}
 use Rattle.rly_journal.specs.Groups.{Gathers, GroupState, IsTaken}
 use Rattle.rly_journal.specs.Rounds.{AreServed, IsDone, OnlyMemory, refusal_of, refusals, unsure_at}
 use Rattle.rly_journal.specs.Standing.{Commands}
-use Rattle.rly_journal.proofs.Gathering.{all_push, group_of, gathers_push, gathers_still}
+use Rattle.rly_journal.proofs.Gathering.{all_push, gathers_push, gathers_still}
 
 -- a row of checks that answers no failure
 record IsReal (refusal : Option Reply) : Type 0 where
@@ -238,27 +238,6 @@ serving_next all rest more call before now next answer group new s t u serving c
       }
     ]
 
--- there is room in the group while a call is left
-pub serving_room : (all rest more : List Call) (call : Call) (before now : List Answer) (group : GroupState) (s t : State (List ℕ))
-    → IsServing all rest before now group s t → rest ≡ call ∷ more → length all ≤ 64 → group.count < 64
-serving_room all rest more call before now group s t serving cut most =
-    let size : length all ≡ length serving.served + length rest = ap length serving.calls ∙ length-append serving.served rest in
-    let left : length rest ≡ length more + 1 = ap length cut ∙ (let e : length (call ∷ more) ≡ length more + 1 = omega arith in e) in
-    omega (arith, size, left, most, serving.few, serving.gathers.count)
-
--- all were answered
-pub serving_answers : (all : List Call) (before now : List Answer) (group : GroupState) (s t : State (List ℕ)) → IsServing all [] before now group s t
-    → (given : List Answer) × (now ≡ before ++ given) × AreServed all given s t
-serving_answers all before now group s t serving =
-    let whole : all ≡ serving.served = serving.calls ∙ append-nil serving.served in
-    (serving.given, serving.answers, subst (λ l. AreServed l serving.given s t) (sym whole) serving.are_served)
-
-pub serving_group : (all : List Call) (before now : List Answer) (group : GroupState) (s t : State (List ℕ)) → IsServing all [] before now group s t
-    → (commands : Commands) × Gathers commands group s t × (length commands ≤ length all)
-serving_group all before now group s t serving =
-    let whole : length all ≡ length serving.served + 0 = ap length serving.calls ∙ length-append serving.served [] in
-    (serving.commands, serving.gathers, omega (arith, whole, serving.few))
-
 -- none were answered
 pub serving_none : (all : List Call) (before : List Answer) (group : GroupState) (s : State (List ℕ)) → Gathers [] group s s → IsServing all all before before group s s
 serving_none all before group s gathers = record {
@@ -317,16 +296,6 @@ mark_next {X} f xs now i d x below same is_x =
     ∙ sym (append_assoc front (f y ∷ []) back)
     ∙ ap (λ l. l ++ back) (sym (map_more f xs i d below))
 
--- a call that is refused is no longer among those that are left
-pub refused_next : (refusal : Refusal) (position : ℕ) (now next all : List Answer) (rest more : List Call) (call : Call)
-    → now ++ refusals refusal position rest ≡ all → rest ≡ call ∷ more → next ≡ now ++ refusal_of refusal position call ∷ []
-    → next ++ refusals refusal position more ≡ all
-refused_next refusal position now next all rest more call so_far cut pushed =
-    ap (λ l. l ++ refusals refusal position more) pushed
-    ∙ append_assoc now (refusal_of refusal position call ∷ []) (refusals refusal position more)
-    ∙ ap (λ l. now ++ refusals refusal position l) (sym cut)
-    ∙ so_far
-
 -- a command that some check refuses isn't accepted
 accepted_none : (refusal : Option Reply) (s : State (List ℕ)) (accepted : State (List ℕ) × Reply)
     → (is_accepted (unless refusal s accepted).1 ≡ true → (unless refusal s accepted).0.seq ≡ s.seq + 1)
@@ -345,11 +314,6 @@ long_leaves s (Take peer number hop stamp payload) long = never_true _ (λ accep
     (accepted_none (take_refusal length s peer number hop stamp (length payload)) s _ (seq_step length s (Take peer number hop stamp payload)) accepts)).short)
 long_leaves s (Pick hop now) long = absurd (long tt)
 long_leaves s (Release hop number) long = absurd (long tt)
-
--- what became of a command, from what was called: the memory for it leaves the state as it was
-pub starved_done : (command : Command (List ℕ)) (reply : Reply) (group : GroupState) (s t : State (List ℕ)) → t ≡ s → reply ≡ Refused OutOfMemory
-    → IsDone command reply group group s t
-starved_done command reply group s t same starved = inr (inr (record { reply = starved; state = same; group = refl }))
 
 pub long_done : (command : Command (List ℕ)) (reply : Reply) (group : GroupState) (s r t : State (List ℕ)) → r ≡ s → (IsShort command → ⊥)
     → t ≡ (step length r command).0 → reply ≡ (step length r command).1 → IsDone command reply group group s t
@@ -374,18 +338,3 @@ left_done command reply old mid new s r t same nothing staged discarded leaves s
       state = state ∙ ap (λ m. (step length m command).0) same ∙ stays length s command not_accepted;
       group = discarded ∙ ap (λ (g : GroupState). record g { staged = [] }) staged ∙ sym (ap (λ l. record old { staged = l }) nothing);
     }))
-
-pub taken_done : (command : Command (List ℕ)) (reply : Reply) (old mid new : GroupState) (s r t : State (List ℕ)) → r ≡ s → HasRecord command
-    → mid ≡ record old { staged = record_of command } → new ≡ record { records = mid.records ++ mid.staged; count = mid.count + 1; staged = [] }
-    → is_accepted reply ≡ true → t ≡ (step length r command).0 → reply ≡ (step length r command).1 → IsDone command reply old new s t
-taken_done command reply old mid new s r t same has staged kept accepts state told =
-    let by_step : reply ≡ (step length s command).1 = told ∙ ap (λ m. (step length m command).1) same in
-    inl (
-      by_step,
-      record {
-        accepted = sym (ap is_accepted by_step) ∙ accepts;
-        state = state ∙ ap (λ m. (step length m command).0) same;
-        has = has;
-        group = kept ∙ ap (λ (g : GroupState). group_of (g.records ++ g.staged) (g.count + 1) []) staged;
-      },
-    )

@@ -71,7 +71,7 @@ impl Group {
     }
 
     /// Gives up all that it holds.
-    pub(crate) fn clear(&mut self)
+    fn clear(&mut self)
         ensures { self.new ≡ empty_group }
     {
         self.frame.truncate(RECORDS);

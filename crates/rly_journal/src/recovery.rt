@@ -10,7 +10,7 @@ use crate::tail::Tail;
 use rly_disk::Disk;
 use rly_gate::{GroupFault, read_group};
 use rly_machine::{Command, Machine, Payload};
-use rly_record::{RecordFault, read_body};
+use rly_record::{DecodeFault, read_body};
 use rly_segment::{
     HeadFault, HeaderFault, NewestFault, newest, read_head, read_header, segment_end, segment_place,
 };
@@ -116,8 +116,8 @@ fn replay_group<D: Disk>(
     };
     let commands = match read_body(alloc, &body) {
         Ok(commands) => commands,
-        Err(RecordFault::OutOfMemory) => return Err(OpenFault::OutOfMemory),
-        Err(RecordFault::Malformed) => return Err(OpenFault::Damaged(at)),
+        Err(DecodeFault::OutOfMemory) => return Err(OpenFault::OutOfMemory),
+        Err(DecodeFault::Malformed) => return Err(OpenFault::Damaged(at)),
     };
     let is_redone = redo(alloc, &mut found.machine, commands)?;
     if !is_redone {

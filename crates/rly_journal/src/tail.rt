@@ -10,6 +10,7 @@ ghost use Rattle.rly_journal.specs.Standing.{Commands, Stands};
 
 use crate::group::Group;
 use rly_core::Geometry;
+use rly_core::limits::MAX_SEGMENTS;
 use rly_disk::{Disk, DiskFault};
 use rly_machine::{Machine, Payload};
 use rly_reclaim::is_due;
@@ -28,12 +29,12 @@ pub struct Tail {
     /// The place of the first closed gate behind it.
     pub gate: u64,
     /// For each segment, whether its gate reads closed.
-    pub closed: [bool; 256],
+    pub closed: [bool; MAX_SEGMENTS as usize],
 }
 
 /// Whether the segment has no room for the largest group.
 pub(crate) fn is_full(tail: &Tail) -> bool
-    requires segment { tail.now.segment < 256 }
+    requires segment { tail.now.segment < MAX_SEGMENTS }
     requires length { tail.now.geometry.length < 2 ^ 31 }
     requires gate { segment_place tail.now.geometry tail.now.segment ≤ tail.now.gate }
     requires within { tail.now.gate < segment_end tail.now.geometry tail.now.segment }

@@ -2,9 +2,9 @@
 //! each is answered in a line of its own.
 //!
 //! `specs/Submission.antt` has the rule of the line that calls go into and `specs/Replies.antt` that
-//! of a line that answers come out of. `Seat::call` is what callers use; `LineEnd` is for the one
-//! thread that answers. What it told each seat is a beginning of one history that is legal but for
-//! bytes (`docs/PROOFS.md`).
+//! of a line that answers come out of. `Seat::call` is what callers use, and a `Responder` over a
+//! `LineEnd` what the one thread that answers does. What it told each seat is a beginning of one
+//! history that is legal but for bytes (`docs/PROOFS.md`).
 #![tactic(auto)]
 
 mod call_error;

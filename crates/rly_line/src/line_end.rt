@@ -83,6 +83,6 @@ impl LineEnd {
         ensures same { (self.new ≡ self.old) × (result ≡ seat) }
         ensures begins { IsBeginning seat.seat.0 self.old.taken seat.put }
     {
-        seat.beside(&mut self.calls)
+        seat.law_beginning(&mut self.calls)
     }
 }

@@ -51,7 +51,7 @@ impl Seat {
     }
 
     /// Of the calls that it put, those that were taken are a beginning.
-    pub(crate) fn beside(self, end: &mut TakeEnd) -> Seat
+    pub(crate) fn law_beginning(self, end: &mut TakeEnd) -> Seat
         requires { self.of ≡ end.old.of }
         ensures same { (end.new ≡ end.old) × (result ≡ self) }
         ensures begins { IsBeginning self.seat.0 end.old.taken self.put }

@@ -2,7 +2,6 @@
 use Rattle.std.proofs.Common.{ℕ, ◌≡◌, ◌+◌, ◌-◌, ◌^◌, List, [], ◌∷◌, ◌++◌, length, Bool, true, false, cond, not, Option, Some, None, refl, arith, sym, ◌∙◌}
 use Rattle.std.specs.Prelude.{IsTrue, nat_lt, nat_le, nat_eq}
 use Rattle.std.proofs.lemmas.Bool.{false≢true}
-use Rattle.std.proofs.lemmas.List.{length-set}
 use Rattle.rly_core.specs.declared.ids.HopId.{HopId}
 use Rattle.rly_core.specs.declared.ids.PeerId.{PeerId}
 use Rattle.rly_machine.specs.declared.command.Command.{Command}
@@ -136,24 +135,3 @@ params_step len s (Release hop number) = same_unless (λ s. s.params) (release_r
 pub params_fold : {P : Type 0} (len : P → ℕ) (s : State P) (commands : List (Command P)) → (fold len s commands).params ≡ s.params
 params_fold len s [] = refl
 params_fold len s (command ∷ commands) = params_fold len (step len s command).0 commands ∙ params_step len s command
-
--- nor how many hops and peers there are
-pub hop_count_step : {P : Type 0} (len : P → ℕ) (s : State P) (command : Command P) → length (step len s command).0.hops ≡ length s.hops
-hop_count_step len s (Take peer number hop stamp payload) =
-    same_unless (λ s. length s.hops) (take_refusal len s peer number hop stamp (len payload)) s _ (length-set s.hops (hop.0 - 1) _)
-hop_count_step len s (Pick hop now) = same_unless (λ s. length s.hops) (pick_refusal s hop now) s _ (length-set s.hops (hop.0 - 1) _)
-hop_count_step len s (Release hop number) = same_unless (λ s. length s.hops) (release_refusal s hop number) s _ (length-set s.hops (hop.0 - 1) _)
-
-pub hop_count_fold : {P : Type 0} (len : P → ℕ) (s : State P) (commands : List (Command P)) → length (fold len s commands).hops ≡ length s.hops
-hop_count_fold len s [] = refl
-hop_count_fold len s (command ∷ commands) = hop_count_fold len (step len s command).0 commands ∙ hop_count_step len s command
-
-pub peer_count_step : {P : Type 0} (len : P → ℕ) (s : State P) (command : Command P) → length (step len s command).0.lasts ≡ length s.lasts
-peer_count_step len s (Take peer number hop stamp payload) =
-    same_unless (λ s. length s.lasts) (take_refusal len s peer number hop stamp (len payload)) s _ (length-set s.lasts (peer.0 - 1) number)
-peer_count_step len s (Pick hop now) = same_unless (λ s. length s.lasts) (pick_refusal s hop now) s _ refl
-peer_count_step len s (Release hop number) = same_unless (λ s. length s.lasts) (release_refusal s hop number) s _ refl
-
-pub peer_count_fold : {P : Type 0} (len : P → ℕ) (s : State P) (commands : List (Command P)) → length (fold len s commands).lasts ≡ length s.lasts
-peer_count_fold len s [] = refl
-peer_count_fold len s (command ∷ commands) = peer_count_fold len (step len s command).0 commands ∙ peer_count_step len s command

@@ -32,12 +32,6 @@ pub legal_push : (shown : Reply → Reply) (harmed : ℕ) (s : State (List ℕ))
     → LegalBy shown harmed s xs → IsAnswered shown (harm_after harmed xs) (state_after s xs) x → LegalBy shown harmed s (xs ++ x ∷ [])
 legal_push shown harmed s xs x legal last = legal_append shown harmed s xs (x ∷ []) legal (last, tt)
 
--- a beginning of a legal history is one
-pub legal_beginning : (shown : Reply → Reply) (harmed : ℕ) (s : State (List ℕ)) (xs ys : List Entry)
-    → LegalBy shown harmed s (xs ++ ys) → LegalBy shown harmed s xs
-legal_beginning shown harmed s [] ys legal = tt
-legal_beginning shown harmed s (x ∷ xs) ys legal = (legal.0, legal_beginning shown (harm x.1.reply) (next_state s x) xs ys legal.1)
-
 -- what is legal is legal but for bytes
 pub legal_but_for_bytes : (harmed : ℕ) (s : State (List ℕ)) (xs : List Entry) → LegalBy (λ reply. reply) harmed s xs → LegalBy without_bytes harmed s xs
 legal_but_for_bytes harmed s [] legal = tt

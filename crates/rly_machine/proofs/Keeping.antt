@@ -87,17 +87,17 @@ place_of {P} params hops lasts seq s hop same there =
     omega (arith, found.0, found.1, count, length-map hops.items f)
 
 -- a hop that is read from the fields
-pub hop_is_read : {P A B : Type 0} (len : P → ℕ) (params : Params) (hops : Vec (Hop P) A) (lasts : Vec ℕ B) (seq items bytes : ℕ) (s : State P) (hop : HopId) (index : ℕ) (line : Hop P)
+pub hop_is_read : {P A B : Type 0} (len : P → ℕ) (params : Params) (hops : Vec (Hop P) A) (lasts : Vec ℕ B) (seq items bytes : ℕ) (s : State P) (hop : HopId) (index : ℕ) (found : Hop P)
     → IsKept len (state_of params hops lasts seq) items bytes → state_of params hops lasts seq ≡ s → has_hop s hop ≡ true → index ≡ hop.0 - 1
-    → line ≡ get_or hops.items index line → IsHopAt len s hop line
-hop_is_read {P} len params hops lasts seq items bytes s hop index line kept same there is_index read =
+    → found ≡ get_or hops.items index found → IsHopAt len s hop found
+hop_is_read {P} len params hops lasts seq items bytes s hop index found kept same there is_index read =
     let below : hop.0 - 1 < length hops.items = place_of params hops lasts seq s hop same there in
     let below' : index < length hops.items = omega arith in
-    let at : line ≡ get_or hops.items (hop.0 - 1) line = read ∙ ap (λ i. get_or hops.items i line) is_index in
-    subst (λ (t : State P). IsHopAt len t hop line) same (record {
+    let at : found ≡ get_or hops.items (hop.0 - 1) found = read ∙ ap (λ i. get_or hops.items i found) is_index in
+    subst (λ (t : State P). IsHopAt len t hop found) same (record {
       there = subst (λ (t : State P). has_hop t hop ≡ true) (sym same) there;
-      same = read_hop hops.items (hop.0 - 1) line below at;
-      sound = sound_read len params hops lasts seq items bytes index line kept below' read;
+      same = read_hop hops.items (hop.0 - 1) found below at;
+      sound = sound_read len params hops lasts seq items bytes index found kept below' read;
       seq = kept.sound.seq;
     })
 
@@ -241,21 +241,3 @@ sound_new {P} len params within =
       bytes = omega (arith, sum_of_none (λ (h : HopState P). bytes_of len (live_line h)) params.hops new_hop refl, within.bytes);
       seq = omega arith;
     }
-
--- the fields of a new machine
-pub kept_new : {P A B : Type 0} (len : P → ℕ) (params : Params) (hops : Vec (Hop P) A) (lasts : Vec ℕ B)
-    → IsWithinLimits params → map hop_of hops.items ≡ replicate params.hops new_hop → lasts.items ≡ replicate params.peers 0
-    → (state_of params hops lasts 0 ≡ new_state params) × IsKept len (state_of params hops lasts 0) 0 0
-kept_new {P} len params hops lasts within no_hops no_lasts =
-    let start : State P = new_state params in
-    let hs : List (HopState P) = replicate params.hops new_hop in
-    let is_new : state_of params hops lasts 0 ≡ start =
-    ap (λ hs. let r : State P = record { params = params; hops = hs; lasts = lasts.items; seq = 0 } in r) no_hops
-    ∙ ap (λ ls. let r : State P = record { params = params; hops = replicate params.hops new_hop; lasts = ls; seq = 0 } in r) no_lasts in (
-      is_new,
-      subst (λ (t : State P). IsKept len t 0 0) (sym is_new) (record {
-        sound = sound_new len params within;
-        items = sym (sum_of_none (λ (h : HopState P). length (live_line h)) params.hops new_hop refl);
-        bytes = sym (sum_of_none (λ (h : HopState P). bytes_of len (live_line h)) params.hops new_hop refl);
-      }),
-    )

@@ -27,8 +27,8 @@ pub record IsKept {P : Type 0} (len : P → ℕ) (s : State P) (item_count byte_
   pub bytes : byte_count ≡ live_bytes len s
 
 -- a hop that was read from a machine is the state's, and sound
-pub record IsHopAt {P : Type 0} (len : P → ℕ) (s : State P) (hop : HopId) (line : Hop P) : Type 0 where
+pub record IsHopAt {P : Type 0} (len : P → ℕ) (s : State P) (hop : HopId) (found : Hop P) : Type 0 where
   pub there : has_hop s hop ≡ true
-  pub same : hop_of line ≡ hop_at s hop
-  pub sound : IsSoundHop len s.params s.seq (hop_of line)
+  pub same : hop_of found ≡ hop_at s hop
+  pub sound : IsSoundHop len s.params s.seq (hop_of found)
   pub seq : s.seq ≤ max_seq

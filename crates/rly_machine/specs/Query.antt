@@ -1,5 +1,5 @@
 -- The questions: Fetch, Window and Show.
-use Rattle.std.specs.Prelude.{ℕ, ◌+◌, ◌-◌, List, length, slice_get, nat_le, ◌==◌, not, if◌then◌else◌, Result, Ok, Err}
+use Rattle.std.specs.Prelude.{ℕ, ◌+◌, ◌-◌, ◌<◌, List, length, slice_get, nat_le, ◌==◌, not, if◌then◌else◌, Result, Ok, Err}
 use Rattle.std.specs.Option.{ok_or}
 use Rattle.rly_core.specs.declared.ids.HopId.{HopId}
 use Rattle.rly_core.specs.declared.refusal.Refusal.{Refusal}
@@ -44,3 +44,8 @@ abbrev pub query_reply : State (List ℕ) → Query → Reply
 query_reply s (Fetch hop number) = fetched (item_of s hop number)
 query_reply s (Window hop) = window_reply s hop
 query_reply s (Show hop) = show_reply s hop
+
+-- a reply that carries bytes
+abbrev pub HasBytes : Reply → Type 0
+HasBytes (Bytes payload) = 0 < length payload
+HasBytes _ = ⊥

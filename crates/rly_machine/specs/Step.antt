@@ -1,5 +1,5 @@
 -- The machine step: what each command does to a state, and the room that it needs.
-use Rattle.std.specs.Prelude.{ℕ, ◌-◌, ◌<◌, ◌≤◌, length, slice_index, IsTrue}
+use Rattle.std.specs.Prelude.{ℕ, ◌-◌, ◌<◌, ◌≤◌, ⊤, length, slice_index, IsTrue}
 use Rattle.rly_machine.specs.declared.command.Command.{Command}
 use Rattle.rly_machine.specs.declared.command.Command.TheVariants.{Take, Pick, Release}
 use Rattle.rly_machine.specs.declared.reply.Reply.{Reply}
@@ -20,3 +20,9 @@ abbrev pub HasRoom : {P : Type 0} → Spool P → ℕ → Command P → Type 0
 HasRoom spool ids (Take peer number hop stamp payload) = IsTrue (has_hop spool.state hop) → 0 < slice_index spool.spare (hop.0 - 1)
 HasRoom spool ids (Pick hop now) = IsTrue (has_hop spool.state hop) → (0 < slice_index spool.spare (hop.0 - 1)) × (length (hop_at spool.state hop).queue ≤ ids)
 HasRoom spool ids (Release hop number) = Unit {0}
+
+-- a command for which memory may be wanted, for the places and the ids that it needs
+abbrev pub NeedsRoom : {P : Type 0} → Command P → Type 0
+NeedsRoom (Take peer number hop stamp payload) = ⊤
+NeedsRoom (Pick hop now) = ⊤
+NeedsRoom (Release hop number) = ⊥

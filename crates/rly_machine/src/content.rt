@@ -1,5 +1,6 @@
-ghost use Rattle.std.specs.Prelude.{◌≡◌, ℕ, List, length};
+ghost use Rattle.std.specs.Prelude.{◌≡◌, ◌<◌, ℕ, List, IfOk, OnErr, length};
 
+use std::alloc::{AllocError, Global};
 use std::marker::Model;
 
 /// What an item carries: the bytes of a payload, or something that stands for them and knows how
@@ -31,6 +32,16 @@ impl Payload {
         ensures { result ≡ bytes.items }
     {
         Payload { bytes }
+    }
+
+    /// The payload of a copy of these bytes. None takes no memory.
+    pub fn copy_of(alloc: Global, bytes: &[u8]) -> Result<Payload, AllocError>
+        ensures ok { IfOk result (λ copy. copy ≡ bytes.now) }
+        ensures err { OnErr result (0 < length bytes.now) }
+    {
+        let mut copy = Vec::new(alloc);
+        copy.extend_from_slice(bytes)?;
+        Ok(Payload { bytes: copy })
     }
 
     /// The bytes.

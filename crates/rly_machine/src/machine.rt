@@ -1,10 +1,10 @@
-ghost use Rattle.std.specs.Prelude.{◌≡◌, ◌+◌, ◌-◌, ◌<◌, ◌≤◌, Err, IfErr, IfOk, IsOk, IsTrue, MatchOption, Ok, OnOk, Some, false, length, map, slice_get, slice_index};
+ghost use Rattle.std.specs.Prelude.{◌≡◌, ◌+◌, ◌-◌, ◌<◌, ◌≤◌, Err, IfErr, IfOk, IsOk, IsTrue, MatchOption, Ok, OnErr, OnOk, Some, false, length, map, slice_get, slice_index};
 ghost use Rattle.std.specs.Option.{SomeIff};
 ghost use Rattle.rly_core.specs.Limits.{IsWithinLimits};
 ghost use Rattle.rly_machine.specs.Kept.{IsHopAt, hop_of};
 ghost use Rattle.rly_machine.specs.Sound.{IsSound};
 ghost use Rattle.rly_machine.specs.State.{has_hop, has_peer, hop_at, last_at, live_bytes, live_items, new_state};
-ghost use Rattle.rly_machine.specs.Step.{HasRoom, step};
+ghost use Rattle.rly_machine.specs.Step.{HasRoom, NeedsRoom, step};
 ghost use Rattle.rly_machine.specs.Query.{item_of, show_reply, window_reply};
 ghost use Rattle.rly_machine.specs.Take.{take_refusal, take_step};
 ghost use Rattle.rly_machine.specs.Pick.{pick_refusal, pick_step};
@@ -159,17 +159,18 @@ impl<C: Content> Machine<C> {
     pub fn reserve_for(&mut self, alloc: Global, command: &Command<C>) -> Result<Room, AllocError>
         ensures state { self.new.state ≡ self.old.state }
         ensures room { IfOk result (λ room. HasRoom self.new room command.now) }
+        ensures memory { OnErr result (NeedsRoom command.now) }
     {
         match command {
             Command::Take { hop, .. } => {
                 self.reserve_at(*hop)?;
-                Room::new(alloc, 0)
+                Ok(Room::none(alloc))
             }
             Command::Pick { hop, .. } => {
                 let waiting = self.reserve_at(*hop)?;
                 Room::new(alloc, waiting)
             }
-            Command::Release { .. } => Room::new(alloc, 0),
+            Command::Release { .. } => Ok(Room::none(alloc)),
         }
     }
 
@@ -197,16 +198,16 @@ impl<C: Content> Machine<C> {
         ensures ok { IfOk result (λ item. item_of self.now.state hop number ≡ Ok item.now) }
         ensures err { IfErr result (λ refusal. item_of self.now.state hop number ≡ Err refusal) }
     {
-        let Some(line) = self.hop(hop) else {
+        let Some(hop) = self.hop(hop) else {
             return Err(Refusal::NoSuchHop);
         };
-        if number >= line.next_number() {
+        if number >= hop.next_number() {
             return Err(Refusal::NeverSent);
         }
-        if number <= line.released {
+        if number <= hop.released {
             return Err(Refusal::NotInFlight);
         }
-        Ok(&line.flight[(number - line.released - 1) as usize])
+        Ok(&hop.flight[(number - hop.released - 1) as usize])
     }
 
     /// The custody numbers in flight, or that there is no such hop. It takes no memory.
@@ -214,10 +215,10 @@ impl<C: Content> Machine<C> {
         ensures { result ≡ window_reply self.now.state hop }
     {
         match self.hop(hop) {
-            Some(line) => {
-                let next = line.next_number();
+            Some(hop) => {
+                let next = hop.next_number();
                 Reply::WindowIs {
-                    first: line.released + 1,
+                    first: hop.released + 1,
                     next,
                 }
             }
@@ -230,14 +231,14 @@ impl<C: Content> Machine<C> {
         ensures { result ≡ show_reply self.now.state hop }
     {
         match self.hop(hop) {
-            Some(line) => Reply::Shown(line.status()),
+            Some(hop) => Reply::Shown(hop.status()),
             None => Reply::Refused(Refusal::NoSuchHop),
         }
     }
 
     /// A hop, if it is there.
     fn hop(&self, hop: HopId) -> Option<&Hop<C>>
-        ensures { MatchOption result (has_hop self.now.state hop ≡ false) (λ line. IsHopAt C.length_of self.now.state hop line.now) }
+        ensures { MatchOption result (has_hop self.now.state hop ≡ false) (λ found. IsHopAt C.length_of self.now.state hop found.now) }
     {
         let index = self.hop_index(hop)?;
         Some(&self.hops[index])
@@ -361,13 +362,13 @@ impl<C: Content> Machine<C> {
     fn release_refusal(&self, hop: HopId, number: u64) -> Option<Reply>
         ensures { result ≡ release_refusal self.now.state hop number }
     {
-        let Some(line) = self.hop(hop) else {
+        let Some(hop) = self.hop(hop) else {
             return Some(Reply::Refused(Refusal::NoSuchHop));
         };
-        if number >= line.next_number() {
+        if number >= hop.next_number() {
             return Some(Reply::Refused(Refusal::NeverSent));
         }
-        if number <= line.released {
+        if number <= hop.released {
             return Some(Reply::Unchanged);
         }
         if self.seq >= limits::MAX_SEQ {
@@ -382,9 +383,9 @@ impl<C: Content> Machine<C> {
         ensures state { self.new.state ≡ (release_step self.old.state hop number).0 }
         ensures reply { result ≡ Reply.Released (covered (hop_at self.old.state hop) number) }
     {
-        let line = &mut self.hops[hop.0 as usize - 1];
-        let count = number - line.released;
-        let bytes = line.release(count as usize);
+        let hop = &mut self.hops[hop.0 as usize - 1];
+        let count = number - hop.released;
+        let bytes = hop.release(count as usize);
         self.seq += 1;
         self.live_items -= count;
         self.live_bytes -= bytes;
@@ -407,16 +408,16 @@ impl<C: Content> Machine<C> {
     fn pick_refusal(&self, hop: HopId, now: u64) -> Option<Reply>
         ensures { result ≡ pick_refusal self.now.state hop now }
     {
-        let Some(line) = self.hop(hop) else {
+        let Some(hop) = self.hop(hop) else {
             return Some(Reply::Refused(Refusal::NoSuchHop));
         };
         if now >= limits::MOMENT_LIMIT {
             return Some(Reply::Refused(Refusal::BadMoment));
         }
-        if line.flight.len() as u64 >= self.params.window {
+        if hop.flight.len() as u64 >= self.params.window {
             return Some(Reply::Refused(Refusal::WindowFull));
         }
-        if line.is_idle() {
+        if hop.is_idle() {
             return Some(Reply::Refused(Refusal::Empty));
         }
         if self.seq >= limits::MAX_SEQ {

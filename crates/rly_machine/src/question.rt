@@ -1,6 +1,6 @@
 ghost use Rattle.std.specs.Prelude.{◌≡◌, IfOk, OnErr, OnOk};
-ghost use Rattle.rly_machine.specs.Ask.{ask_step};
-ghost use Rattle.rly_machine.specs.Query.{query_reply};
+ghost use Rattle.rly_machine.specs.Ask.{NeedsMemory, ask_step};
+ghost use Rattle.rly_machine.specs.Query.{HasBytes, query_reply};
 
 use crate::command::{Ask, Query};
 use crate::content::Payload;
@@ -9,16 +9,14 @@ use crate::reply::Reply;
 use std::alloc::{AllocError, Global};
 
 impl Machine<Payload> {
-    /// The reply to a question. Only Fetch takes memory.
+    /// The reply to a question. Only the bytes of a payload take memory.
     pub fn answer(&self, alloc: Global, query: Query) -> Result<Reply, AllocError>
         ensures reply { IfOk result (λ reply. reply ≡ query_reply self.now.state query) }
+        ensures memory { OnErr result (HasBytes (query_reply self.now.state query)) }
     {
         match query {
             Query::Fetch { hop, number } => match self.item(hop, number) {
-                Ok(item) => {
-                    let bytes = item.payload.as_slice().to_vec(alloc)?;
-                    Ok(Reply::Bytes(Payload::new(bytes)))
-                }
+                Ok(item) => Ok(Reply::Bytes(Payload::copy_of(alloc, item.payload.as_slice())?)),
                 Err(refusal) => Ok(Reply::Refused(refusal)),
             },
             Query::Window { hop } => Ok(self.ask_window(hop)),
@@ -31,6 +29,7 @@ impl Machine<Payload> {
         ensures state { OnOk result (self.new.state ≡ (ask_step self.old.state ask).0) }
         ensures reply { IfOk result (λ reply. reply ≡ (ask_step self.old.state ask).1) }
         ensures err { OnErr result (self.new.state ≡ self.old.state) }
+        ensures memory { OnErr result (NeedsMemory self.old.state ask) }
     {
         match ask {
             Ask::Command(command) => {

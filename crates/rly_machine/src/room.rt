@@ -28,6 +28,15 @@ impl Room {
         })
     }
 
+    /// Room for none, which takes no memory.
+    pub(crate) fn none(alloc: Global) -> Room
+        ensures { result ≡ 0 }
+    {
+        Room {
+            ids: Vec::new(alloc),
+        }
+    }
+
     /// The empty list with that room.
     pub(crate) fn into_ids(self) -> Vec<u64>
         ensures empty { result.items ≡ [] }

@@ -1,5 +1,5 @@
 -- The items that were read, in front of those that are left.
-use Rattle.std.proofs.Common.{◌≡◌, Bool, true, List, [], ◌∷◌, ◌++◌, length, Option, Some, None, option_map, refl, ap, sym, arith, append_assoc}
+use Rattle.std.proofs.Common.{◌≡◌, Bool, true, List, [], ◌∷◌, ◌++◌, length, Option, None, option_map, refl, arith}
 use Rattle.std.proofs.lemmas.Bool.{false_from_ne_true}
 use Rattle.toml.specs.Data.{table}
 use Rattle.toml.specs.View.{items_view, members_view}
@@ -11,10 +11,6 @@ use Rattle.rly_plan.specs.Draft.{pair_of}
 -- what was read before, in front of what is read
 abbrev pub behind : {A : Type 0} → List A → Option (List A) → Option (List A)
 behind front o = option_map (λ xs. front ++ xs) o
-
-behind_one : {A : Type 0} (front : List A) (x : A) (o : Option (List A)) → behind front (option_map (λ xs. x ∷ xs) o) ≡ behind (front ++ x ∷ []) o
-behind_one front x None = refl
-behind_one front x (Some xs) = ap Some (sym (append_assoc front (x ∷ []) xs))
 
 -- other than two items are no contact
 pub no_pair : (vs : List Value) → (length vs ≡ 2 → ⊥) → None ≡ pair_of (items_view vs)

@@ -179,10 +179,6 @@ pub sum_push : (sum : ℕ) (es : List Summed) (n : Summed) → sum_after sum (es
 sum_push sum [] n = refl
 sum_push sum (e ∷ es) n = sum_push (sum + (e.contact.end - e.contact.begin)) es n
 
-pub contacts_push : (es : List Summed) (n : Summed) → contacts_in (es ++ n ∷ []) ≡ contacts_in es ++ n.contact ∷ []
-contacts_push [] n = refl
-contacts_push (e ∷ es) n = ap (λ cs. e.contact ∷ cs) (contacts_push es n)
-
 -- what the search found, by how many have begun
 pub latest_where : (es : List Summed) (t k : ℕ) (d : Summed) → k ≤ length es → 0 < k → IsPartitionPoint (λ e. has_begun t e ≡ true) (λ e. has_begun t e ≡ false) es k → Some (get_or es (k - 1) d) ≡ latest es t
 latest_where es t zero d within some parts = absurd (omega arith)

@@ -26,11 +26,11 @@ IsShort (Take peer number hop stamp payload) = length payload ≤ 1200
 IsShort (Pick hop now) = ⊤
 IsShort (Release hop number) = ⊤
 
--- the command has a payload
-abbrev pub IsTake : Command (List ℕ) → Type 0
-IsTake (Take peer number hop stamp payload) = ⊤
-IsTake (Pick hop now) = ⊥
-IsTake (Release hop number) = ⊥
+-- the command has a payload of at least one byte
+abbrev pub CarriesBytes : Command (List ℕ) → Type 0
+CarriesBytes (Take peer number hop stamp payload) = 0 < length payload
+CarriesBytes (Pick hop now) = ⊥
+CarriesBytes (Release hop number) = ⊥
 
 -- the command has a record: its payload is short, and each of its numbers fits its field
 abbrev pub HasRecord : Command (List ℕ) → Type 0

@@ -1,9 +1,9 @@
-ghost use Rattle.std.specs.Prelude.{◌≡◌, ◌≤◌, ◌<◌, ◌++◌, ◌∷◌, ℕ, List, length, drop, Some, Err, IfOk, IsOkUnless, MatchResult, OnErr};
+ghost use Rattle.std.specs.Prelude.{◌≡◌, ◌≤◌, ◌<◌, ◌++◌, ◌∷◌, ℕ, List, length, drop, Some, Err, IfOk, IsOkUnless, IsSome, MatchResult, OnErr};
 ghost use Rattle.rly_machine.specs.declared.command.Command.{Command};
-ghost use Rattle.rly_record.specs.Spelling.{HasRecord, HaveBody, IsTake, body_of, record_of};
-ghost use Rattle.rly_record.specs.Reading.{Gives, GivesRow, behind, command_at, command_bytes, commands_at, in_front, number_at, payload_at, pick_at, release_at, take_at, whole_body};
+ghost use Rattle.rly_record.specs.Spelling.{CarriesBytes, HasRecord, HaveBody, body_of, record_of};
+ghost use Rattle.rly_record.specs.Reading.{Gives, behind, command_at, command_bytes, in_front, many_at, number_at, payload_at, pick_at, release_at, take_at, whole_body};
 
-use crate::fault::RecordFault;
+use crate::fault::DecodeFault;
 use crate::kind::Kind;
 use byteorder::{BigEndian, ByteOrder};
 use rly_core::limits::{MAX_PAYLOAD, MAX_ROUND};
@@ -13,18 +13,18 @@ use std::alloc::{AllocError, Global};
 
 /// The command whose record stands at the front of the bytes, and how many bytes that record takes; other bytes may
 /// follow it.
-pub fn read_command(alloc: Global, bytes: &[u8]) -> Result<(Command<Payload>, usize), RecordFault>
+pub fn read_command(alloc: Global, bytes: &[u8]) -> Result<(Command<Payload>, usize), DecodeFault>
     ensures command { IfOk result (λ found. HasRecord found.0) }
     ensures found { IfOk result (λ found. bytes.now ≡ record_of found.0 ++ drop found.1 bytes.now) }
     ensures length { IfOk result (λ found. found.1 ≡ length (record_of found.0)) }
 
     // What is spelled at the front is read, unless memory is refused: so Malformed says that nothing is.
     ensures only { (command : Command (List ℕ)) (rest : List ℕ) → HasRecord command → bytes.now ≡ record_of command ++ rest →
-        MatchResult result (λ found. found.0 ≡ command) (λ fault. fault ≡ RecordFault.OutOfMemory) }
+        MatchResult result (λ found. found.0 ≡ command) (λ fault. fault ≡ DecodeFault.OutOfMemory) }
 
-    // Memory is wanted for the payload of a Take that is spelled there, and for nothing else.
-    ensures memory { result ≡ Err RecordFault.OutOfMemory →
-        (command : Command (List ℕ)) × (rest : List ℕ) × IsTake command × HasRecord command × (bytes.now ≡ record_of command ++ rest) }
+    // Memory is wanted for the bytes of a payload that is spelled there, and for nothing else.
+    ensures memory { result ≡ Err DecodeFault.OutOfMemory →
+        (command : Command (List ℕ)) × (rest : List ℕ) × CarriesBytes command × HasRecord command × (bytes.now ≡ record_of command ++ rest) }
 {
     let (command, rest) = command_of(bytes)?;
     let command = keep(alloc, command)?;
@@ -32,62 +32,62 @@ pub fn read_command(alloc: Global, bytes: &[u8]) -> Result<(Command<Payload>, us
 }
 
 /// The commands whose body the bytes are, all of them.
-pub fn read_body(alloc: Global, bytes: &[u8]) -> Result<Vec<Command<Payload>>, RecordFault>
+pub fn read_body(alloc: Global, bytes: &[u8]) -> Result<Vec<Command<Payload>>, DecodeFault>
     ensures commands { IfOk result (λ commands. HaveBody commands.items) }
     ensures found { IfOk result (λ commands. bytes.now ≡ body_of commands.items) }
 
     // What is spelled is read, unless memory is refused: so Malformed says that nothing is.
     ensures only { (commands : List (Command (List ℕ))) → HaveBody commands → bytes.now ≡ body_of commands →
-        MatchResult result (λ found. found.items ≡ commands) (λ fault. fault ≡ RecordFault.OutOfMemory) }
+        MatchResult result (λ found. found.items ≡ commands) (λ fault. fault ≡ DecodeFault.OutOfMemory) }
 
     // Memory is wanted only where a body is spelled.
-    ensures memory { result ≡ Err RecordFault.OutOfMemory →
+    ensures memory { result ≡ Err DecodeFault.OutOfMemory →
         (commands : List (Command (List ℕ))) × HaveBody commands × (bytes.now ≡ body_of commands) }
 {
     body_of_bytes(alloc, bytes)
 }
 
 /// A number of two bytes, and what stands behind it.
-fn u16_of(bytes: &[u8]) -> Result<(u16, &[u8]), RecordFault>
+fn u16_of(bytes: &[u8]) -> Result<(u16, &[u8]), DecodeFault>
     ensures gives { Gives (λ x. (x.0, x.1.now)) result (number_at 2 bytes.now) }
-    ensures malformed { IsOkUnless result RecordFault.Malformed }
+    ensures malformed { IsOkUnless result DecodeFault.Malformed }
 {
     if bytes.len() < 2 {
-        return Err(RecordFault::Malformed);
+        return Err(DecodeFault::Malformed);
     }
     Ok((BigEndian::read_u16(bytes), &bytes[2..]))
 }
 
 /// A number of eight bytes, and what stands behind it.
-fn u64_of(bytes: &[u8]) -> Result<(u64, &[u8]), RecordFault>
+fn u64_of(bytes: &[u8]) -> Result<(u64, &[u8]), DecodeFault>
     ensures gives { Gives (λ x. (x.0, x.1.now)) result (number_at 8 bytes.now) }
-    ensures malformed { IsOkUnless result RecordFault.Malformed }
+    ensures malformed { IsOkUnless result DecodeFault.Malformed }
 {
     if bytes.len() < 8 {
-        return Err(RecordFault::Malformed);
+        return Err(DecodeFault::Malformed);
     }
     Ok((BigEndian::read_u64(bytes), &bytes[8..]))
 }
 
 /// A payload behind its length.
 #[tactic(auto, unfolding(crate::specs::Reading::payload_at))]
-fn payload_of(bytes: &[u8]) -> Result<(&[u8], &[u8]), RecordFault>
+fn payload_of(bytes: &[u8]) -> Result<(&[u8], &[u8]), DecodeFault>
     ensures gives { Gives (λ x. (x.0.now, x.1.now)) result (payload_at bytes.now) }
-    ensures malformed { IsOkUnless result RecordFault.Malformed }
+    ensures malformed { IsOkUnless result DecodeFault.Malformed }
 {
     let (size, rest) = u16_of(bytes)?;
     let length = usize::from(size);
     if u64::from(size) > MAX_PAYLOAD || rest.len() < length {
-        return Err(RecordFault::Malformed);
+        return Err(DecodeFault::Malformed);
     }
     Ok(rest.split_at(length))
 }
 
 /// The fields of a Take.
 #[tactic(auto, unfolding(crate::specs::Reading::take_at))]
-fn take_of(bytes: &[u8]) -> Result<(Command<&[u8]>, &[u8]), RecordFault>
+fn take_of(bytes: &[u8]) -> Result<(Command<&[u8]>, &[u8]), DecodeFault>
     ensures gives { Gives (λ x. (command_bytes x.0, x.1.now)) result (take_at bytes.now) }
-    ensures malformed { IsOkUnless result RecordFault.Malformed }
+    ensures malformed { IsOkUnless result DecodeFault.Malformed }
 {
     let (peer, rest) = u16_of(bytes)?;
     let (number, rest) = u64_of(rest)?;
@@ -106,9 +106,9 @@ fn take_of(bytes: &[u8]) -> Result<(Command<&[u8]>, &[u8]), RecordFault>
 
 /// The fields of a Pick.
 #[tactic(auto, unfolding(crate::specs::Reading::pick_at))]
-fn pick_of(bytes: &[u8]) -> Result<(Command<&[u8]>, &[u8]), RecordFault>
+fn pick_of(bytes: &[u8]) -> Result<(Command<&[u8]>, &[u8]), DecodeFault>
     ensures gives { Gives (λ x. (command_bytes x.0, x.1.now)) result (pick_at bytes.now) }
-    ensures malformed { IsOkUnless result RecordFault.Malformed }
+    ensures malformed { IsOkUnless result DecodeFault.Malformed }
 {
     let (hop, rest) = u16_of(bytes)?;
     let (now, rest) = u64_of(rest)?;
@@ -118,9 +118,9 @@ fn pick_of(bytes: &[u8]) -> Result<(Command<&[u8]>, &[u8]), RecordFault>
 
 /// The fields of a Release.
 #[tactic(auto, unfolding(crate::specs::Reading::release_at))]
-fn release_of(bytes: &[u8]) -> Result<(Command<&[u8]>, &[u8]), RecordFault>
+fn release_of(bytes: &[u8]) -> Result<(Command<&[u8]>, &[u8]), DecodeFault>
     ensures gives { Gives (λ x. (command_bytes x.0, x.1.now)) result (release_at bytes.now) }
-    ensures malformed { IsOkUnless result RecordFault.Malformed }
+    ensures malformed { IsOkUnless result DecodeFault.Malformed }
 {
     let (hop, rest) = u16_of(bytes)?;
     let (number, rest) = u64_of(rest)?;
@@ -130,14 +130,14 @@ fn release_of(bytes: &[u8]) -> Result<(Command<&[u8]>, &[u8]), RecordFault>
 
 /// The record at the front, its payload borrowed, and what stands behind it.
 #[tactic(auto, unfolding(crate::specs::Reading::command_at))]
-fn command_of(bytes: &[u8]) -> Result<(Command<&[u8]>, &[u8]), RecordFault>
+fn command_of(bytes: &[u8]) -> Result<(Command<&[u8]>, &[u8]), DecodeFault>
     ensures gives { Gives (λ x. (command_bytes x.0, x.1.now)) result (command_at bytes.now) }
-    ensures malformed { IsOkUnless result RecordFault.Malformed }
+    ensures malformed { IsOkUnless result DecodeFault.Malformed }
 {
     let [kind, fields @ ..] = bytes else {
-        return Err(RecordFault::Malformed);
+        return Err(DecodeFault::Malformed);
     };
-    match Kind::from_byte(*kind).ok_or(RecordFault::Malformed)? {
+    match Kind::from_byte(*kind).ok_or(DecodeFault::Malformed)? {
         Kind::Take => take_of(fields),
         Kind::Pick => pick_of(fields),
         Kind::Release => release_of(fields),
@@ -147,7 +147,7 @@ fn command_of(bytes: &[u8]) -> Result<(Command<&[u8]>, &[u8]), RecordFault>
 /// The command with a payload of its own.
 fn keep(alloc: Global, command: Command<&[u8]>) -> Result<Command<Payload>, AllocError>
     ensures kept { IfOk result (λ kept. kept ≡ command_bytes command.entry) }
-    ensures memory { OnErr result (IsTake (command_bytes command.entry)) }
+    ensures memory { OnErr result (CarriesBytes (command_bytes command.entry)) }
 {
     Ok(match command {
         Command::Take {
@@ -161,7 +161,7 @@ fn keep(alloc: Global, command: Command<&[u8]>) -> Result<Command<Payload>, Allo
             number,
             hop,
             stamp,
-            payload: Payload::new(Vec::from_slice(alloc, payload)?),
+            payload: Payload::copy_of(alloc, payload)?,
         },
         Command::Pick { hop, now } => Command::Pick { hop, now },
         Command::Release { hop, number } => Command::Release { hop, number },
@@ -169,9 +169,9 @@ fn keep(alloc: Global, command: Command<&[u8]>) -> Result<Command<Payload>, Allo
 }
 
 /// What stands behind so many records.
-fn behind_commands(count: u16, bytes: &[u8]) -> Result<&[u8], RecordFault>
-    ensures gives { Gives (λ rest. rest.now) result (behind (commands_at count bytes.now)) }
-    ensures malformed { IsOkUnless result RecordFault.Malformed }
+fn behind_commands(count: u16, bytes: &[u8]) -> Result<&[u8], DecodeFault>
+    ensures gives { Gives (λ rest. rest.now) result (behind (many_at command_at count bytes.now)) }
+    ensures malformed { IsOkUnless result DecodeFault.Malformed }
 {
     let mut rest = bytes;
     for _ in 0..count {
@@ -186,8 +186,8 @@ fn commands_of(
     alloc: Global,
     count: u16,
     bytes: &[u8],
-) -> Result<Vec<Command<Payload>>, RecordFault>
-    ensures { GivesRow (λ commands. commands.items) result (in_front (commands_at count bytes.now)) }
+) -> Result<Vec<Command<Payload>>, DecodeFault>
+    ensures { Gives (λ commands. commands.items) result (in_front (many_at command_at count bytes.now)) }
 {
     let mut commands = Vec::with_capacity(alloc, usize::from(count))?;
     let mut rest = bytes;
@@ -202,15 +202,16 @@ fn commands_of(
 
 /// A body and nothing behind it. Memory is wanted once it is seen to be one.
 #[tactic(auto, unfolding(crate::specs::Reading::body_at, crate::specs::Reading::whole_body))]
-fn body_of_bytes(alloc: Global, bytes: &[u8]) -> Result<Vec<Command<Payload>>, RecordFault>
-    ensures { Gives (λ commands. commands.items) result (whole_body bytes.now) }
+fn body_of_bytes(alloc: Global, bytes: &[u8]) -> Result<Vec<Command<Payload>>, DecodeFault>
+    ensures gives { Gives (λ commands. commands.items) result (whole_body bytes.now) }
+    ensures memory { result ≡ Err DecodeFault.OutOfMemory → IsSome (whole_body bytes.now) }
 {
     let (count, rest) = u16_of(bytes)?;
     if count == 0 || u64::from(count) > MAX_ROUND {
-        return Err(RecordFault::Malformed);
+        return Err(DecodeFault::Malformed);
     }
     if !behind_commands(count, rest)?.is_empty() {
-        return Err(RecordFault::Malformed);
+        return Err(DecodeFault::Malformed);
     }
     commands_of(alloc, count, rest)
 }

@@ -1,7 +1,7 @@
 ghost use Rattle.std.specs.Prelude.{◌≤◌, length, IfOk};
 ghost use Rattle.rly_record.specs.Spelling.{IsShort};
 
-use crate::{RecordFault, read_body, read_command, record_len, write_body, write_command};
+use crate::{DecodeFault, read_body, read_command, record_len, write_body, write_command};
 use rly_core::{HopId, PeerId};
 use rly_machine::{Command, Payload};
 use std::alloc::{AllocError, Global};
@@ -80,12 +80,12 @@ fn write_two(
 
 /// Whether the bytes are refused as no body.
 fn is_malformed(alloc: Global, bytes: &[u8]) -> bool {
-    matches!(read_body(alloc, bytes), Err(RecordFault::Malformed))
+    matches!(read_body(alloc, bytes), Err(DecodeFault::Malformed))
 }
 
 /// Whether the bytes are refused as no record.
 fn is_no_record(alloc: Global, bytes: &[u8]) -> bool {
-    matches!(read_command(alloc, bytes), Err(RecordFault::Malformed))
+    matches!(read_command(alloc, bytes), Err(DecodeFault::Malformed))
 }
 
 #[test]

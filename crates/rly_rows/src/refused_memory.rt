@@ -4,7 +4,7 @@
 use crate::comparison::{expect_broken, expect_refused, is_same, machine_after, reply_of};
 use crate::device::{DEVICE_E, SIZE, bytes_of};
 use crate::script::{HOP, Script, Step, calls_of, take};
-use rly_checkpoint::{CheckpointFault, read_checkpoint, write_checkpoint};
+use rly_checkpoint::{DecodeFault, read_checkpoint, write_checkpoint};
 use rly_core::Refusal;
 use rly_disk::{Disk, MemDisk};
 use rly_journal::{Journal, OpenFault};
@@ -266,7 +266,7 @@ fn a_checkpoint_in_scarce_memory(rt: HostRuntime) -> Result<(), Fail> {
     let again = match read_checkpoint(alloc, DEVICE_E.params, &out) {
         Ok(machine) => machine,
         Err(fault) => {
-            assert_eq!(rt; fault, CheckpointFault::OutOfMemory);
+            assert_eq!(rt; fault, DecodeFault::OutOfMemory);
             read_checkpoint(alloc, DEVICE_E.params, &out)?
         }
     };

@@ -6,12 +6,12 @@ use Rattle.rly_disk.specs.DiskModel.{DiskState, LeavesOnly, SameOutside, Settled
 use Rattle.rly_disk.proofs.Composition.{at_exit}
 use Rattle.rly_disk.proofs.Overwritten.{overwritten_in, overwritten_outside}
 use Rattle.rly_disk.proofs.Ranges.{part, part-overwritten}
+use Rattle.rly_gate.proofs.Appending.{gate_opened}
 use Rattle.rly_gate.specs.Group.{IsClosed, StandsAt, open_gate}
 use Rattle.rly_segment.specs.Device.{IsGeometry, header_of}
 use Rattle.rly_segment.specs.Heads.{NoneIsOpen, segment_place}
 use Rattle.rly_segment.specs.Writing.{IsFilled}
 use Rattle.rly_segment.proofs.Gates.{in_a_row, keeps_closed, stays_closed}
-use Rattle.rly_segment.proofs.Replacing.{gate_opened}
 use Rattle.rly_segment.proofs.Segments.{segment_behind, segment_within}
 
 -- the header's gate is closed at the end of a row of calls that leave it closed

@@ -1,12 +1,12 @@
 -- Which state a head holds.
-use Rattle.std.proofs.Common.{ℕ, ◌≡◌, ◌+◌, ◌<◌, ◌≤◌, ◌^◌, List, [], ◌++◌, length, take, drop, arith, sym, ◌∙◌, ap, subst}
-use Rattle.byteorder.specs.Endian.{big_bytes, big_number}
-use Rattle.byteorder.specs.Numbers.{big_number-reads_back}
+use Rattle.std.proofs.Common.{ℕ, ◌≡◌, ◌+◌, ◌<◌, ◌≤◌, ◌^◌, List, ◌++◌, length, take, drop, arith, sym, ◌∙◌, ap, subst}
+use Rattle.byteorder.specs.Endian.{big_bytes}
 use Rattle.rly_core.specs.Bounds.{IsIn}
 use Rattle.rly_core.specs.declared.params.Geometry.{Geometry}
 use Rattle.rly_machine.specs.Sound.{IsSound}
 use Rattle.rly_machine.specs.State.{State}
 use Rattle.rly_checkpoint.specs.Checkpoint.{checkpoint_of}
+use Rattle.rly_gate.proofs.Holding.{number_once}
 use Rattle.rly_gate.specs.Group.{StandsAt}
 use Rattle.rly_segment.specs.Answers.{HoldsNoHead}
 use Rattle.rly_segment.specs.Heads.{HoldsHead, head_of, segment_place}
@@ -39,19 +39,12 @@ head_body image place generation s stands =
     subst (λ k. StandsAt image k (checkpoint_of s)) (let e : place + 1 + 12 ≡ place + 13 = omega arith in e)
     (stands_back image (place + 1) (start_of generation (length (checkpoint_of s))) (checkpoint_of s) stands)
 
--- a number is read back from its bytes
-read_back_8 : (n m : ℕ) → n < 2 ^ 64 → m < 2 ^ 64 → big_bytes 8 n ≡ big_bytes 8 m → n ≡ m
-read_back_8 n m n_fits m_fits same = sym (big_number-reads_back 8 n [] n_fits) ∙ ap (big_number 8) same ∙ big_number-reads_back 8 m [] m_fits
-
-read_back_4 : (n m : ℕ) → n < 2 ^ 32 → m < 2 ^ 32 → big_bytes 4 n ≡ big_bytes 4 m → n ≡ m
-read_back_4 n m n_fits m_fits same = sym (big_number-reads_back 4 n [] n_fits) ∙ ap (big_number 4) same ∙ big_number-reads_back 4 m [] m_fits
-
 -- one start stands at a place
 pub start_once : (image : List ℕ) (at a n b m : ℕ) → a < 2 ^ 64 → b < 2 ^ 64 → n < 2 ^ 32 → m < 2 ^ 32
     → StandsAt image at (start_of a n) → StandsAt image at (start_of b m) → (a ≡ b) × (n ≡ m)
 start_once image at a n b m a_fits b_fits n_fits m_fits first second =
     let same : start_of a n ≡ start_of b m = sym first ∙ second in
-    (read_back_8 a b a_fits b_fits (ap (take 8) same), read_back_4 n m n_fits m_fits (ap (drop 8) same))
+    (number_once 8 a b a_fits b_fits (ap (take 8) same), number_once 4 n m n_fits m_fits (ap (drop 8) same))
 
 -- a generation and a length were read behind the gate of a segment, at its place
 module _ (image : List ℕ) (g : Geometry) (segment place generation count : ℕ) (short : g.length < 2 ^ 31) (where_it_is : place ≡ segment_place g segment)

@@ -54,11 +54,11 @@ length-new p =
       length-hops p.hops,
     )
 
--- a head and the gates around it leave the room that the largest group takes
+-- a head with the gates around it is no longer than its segment
 pub head_room : (g : Geometry) (segment generation : ℕ) (s : State (List ℕ)) (bytes : List ℕ) → IsHead g segment generation s → bytes ≡ head_of generation s ++ 0 ∷ []
     → 1 + length bytes ≤ g.length
 head_room g segment generation s bytes head is = omega (arith, head.room, ap length is, length-head generation s)
 
--- the first head has room
+-- nor is the first one
 pub new_head_room : (g : Geometry) (size : ℕ) (bytes : List ℕ) → IsGeometry g size → bytes ≡ head_of 1 (new_state g.params) ++ 0 ∷ [] → 1 + length bytes ≤ g.length
 new_head_room g size bytes geometry is = omega (arith, geometry.fits, ap length is, length-head 1 (new_state g.params), length-new g.params)

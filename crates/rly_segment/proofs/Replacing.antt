@@ -1,10 +1,10 @@
 -- What a crash leaves while bytes behind a gate are written.
 use Rattle.std.proofs.Common.{◌≡◌, ◌⊎◌, ◌↔◌, ◌≤◌, ◌<◌, ◌+◌, ◌++◌, Bool, IsTrue, ◌∙◌, ℕ, List, [], ◌∷◌, length, get_or, take, drop, arith, ap, sym, subst, inl, inr, ⊎_elim}
 use Rattle.std.proofs.lemmas.Bool.{cases_eq}
-use Rattle.std.proofs.lemmas.List.{drop_more}
 use Rattle.rly_disk.specs.DiskModel.{DiskState, LeavesOnly, SameOutside, Settled, overwritten}
 use Rattle.rly_disk.proofs.Composition.{at_exit, joined, weaker}
-use Rattle.rly_disk.proofs.Ranges.{behind, front, part, part-overwritten, same_outside_again, wider}
+use Rattle.rly_disk.proofs.Ranges.{behind, front, part-overwritten, same_outside_again, wider}
+use Rattle.rly_gate.proofs.Appending.{gate_opened}
 use Rattle.rly_gate.proofs.Frames.{gate_and_frame}
 use Rattle.rly_gate.specs.Group.{IsClosed, IsOpen, StandsAt, open_gate}
 use Rattle.rly_core.specs.declared.params.Geometry.{Geometry}
@@ -12,16 +12,6 @@ use Rattle.rly_machine.specs.State.{State}
 use Rattle.rly_segment.specs.Heads.{IsOpening, generation_in, head_of, segment_place}
 use Rattle.rly_segment.specs.Writing.{IsClosing, IsReplacing}
 use Rattle.rly_segment.proofs.Gates.{stays_closed}
-
--- bytes stand behind a gate that is open
-pub gate_opened : (place : ℕ) (bytes old image : List ℕ) → place < length old → StandsAt old (place + 1) bytes → SameOutside place 1 old image
-    → IsOpen image place → StandsAt image place (open_gate ∷ bytes)
-gate_opened place bytes old image within stands same opened =
-    let kept = part place 1 same (place + 1) (length bytes) (inr (omega arith)) in
-    let below : place < length image = omega (arith, same.same_length) in
-    ap (take (length (open_gate ∷ bytes))) (drop_more image place 0 below)
-    ∙ ap (λ b. b ∷ take (length bytes) (drop (place + 1) image)) opened
-    ∙ ap (λ l. open_gate ∷ l) (kept ∙ stands)
 
 module _ (place : ℕ) (bytes old : List ℕ) where
   -- while the gate is closed

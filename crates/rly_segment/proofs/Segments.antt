@@ -16,7 +16,3 @@ pub segment_behind : (g : Geometry) (t segment : ℕ) → t < segment → segmen
 segment_behind g t segment before =
     let next : t + 1 ≤ segment = omega arith in
     omega (arith, mul-le-mul_right g.length next)
-
--- none is short
-pub segment_long : (g : Geometry) (size : ℕ) → IsGeometry g size → 78280 ≤ g.length
-segment_long g size geometry = omega (arith, geometry.fits)

@@ -1,7 +1,6 @@
 ghost use Rattle.std.specs.Prelude.{◌^◌, ◌≡◌, ◌+◌, ◌<◌, ◌≤◌, ◌↔◌, ◌∷◌, ◌++◌, [], ℕ, Err, IfOk, IsTrue, OnErr, OnOk, length};
 ghost use Rattle.rly_disk.specs.DiskModel.{Later, LeavesOnly, Rose, Settled};
-ghost use Rattle.rly_gate.specs.Group.{IsClosed, IsOpen};
-ghost use Rattle.rly_gate.specs.Reading.{OnlyRead, SyncsNothing};
+ghost use Rattle.rly_gate.specs.Group.{IsClosed};
 ghost use Rattle.rly_core.specs.Limits.{IsWithinLimits};
 ghost use Rattle.rly_machine.specs.State.{new_state};
 ghost use Rattle.rly_segment.specs.Device.{IsGeometry, header_of};
@@ -9,14 +8,14 @@ ghost use Rattle.rly_segment.specs.Formatted.{IsFormatted, IsFormatting, IsSameB
 ghost use Rattle.rly_segment.specs.Heads.{NoneIsOpen, head_of, segment_place};
 ghost use Rattle.rly_segment.specs.Writing.{IsFilled, limits_of, shape_of};
 
-use crate::head_bytes::{CLOSED_GATE, head_bytes};
+use crate::head_bytes::head_bytes;
 use crate::header::{DEVICE_MARK, is_geometry};
 use crate::layout::{FIRST_SEGMENT, segment_place};
 use crate::opening::close_gate;
 use byteorder::{BigEndian, ByteOrder};
 use rly_core::{Geometry, Params};
 use rly_disk::{Disk, DiskFault};
-use rly_gate::{OPEN_GATE, settle};
+use rly_gate::{CLOSED_GATE, OPEN_GATE, is_open, settle};
 use rly_machine::Machine;
 use std::alloc::{AllocError, Global};
 
@@ -95,25 +94,10 @@ fn write_device<D: Disk>(disk: &mut D, geometry: &Geometry, head: &[u8]) -> Resu
     ensures calls { (D.state disk.new).calls ≤ (D.state disk.old).calls + 15 }
     ensures later { Later (D.state disk.old) (D.state disk.new) }
 {
-    let closed = reads_closed(disk, 0)?;
-    close_gate(disk, 0, closed)?;
+    let opened = is_open(disk, 0)?;
+    close_gate(disk, 0, !opened)?;
     write_contents(disk, geometry, head)?;
     settle(disk, 0, &[OPEN_GATE])
-}
-
-/// Whether a gate reads closed.
-fn reads_closed<D: Disk>(disk: &mut D, place: u64) -> Result<bool, DiskFault>
-    requires { place + 1 ≤ (D.state disk.old).size }
-    ensures read { (D.state disk.old).honest → IfOk result (λ closed. IsTrue closed ↔ IsClosed (D.state disk.old).seen place) }
-    ensures only { OnlyRead (D.state disk.old) (D.state disk.new) }
-    ensures rise { OnErr result (Rose (D.state disk.old) (D.state disk.new)) }
-    ensures no_failure { OnOk result ((D.state disk.new).failures ≡ (D.state disk.old).failures) }
-    ensures unsynced { SyncsNothing (D.state disk.old) (D.state disk.new) }
-    ensures calls { (D.state disk.new).calls ≤ (D.state disk.old).calls + 1 }
-{
-    let mut gate = [0u8; 1];
-    disk.read_at(place, &mut gate)?;
-    Ok(gate[0] != OPEN_GATE)
 }
 
 /// Writes all of a new device but the header's gate, which stays closed.

@@ -6,16 +6,14 @@ ghost use Rattle.rly_segment.specs.Answers.{IsFound, IsReadGate, IsReadNewest};
 ghost use Rattle.rly_segment.specs.Device.{IsGeometry};
 ghost use Rattle.rly_segment.specs.Heads.{segment_place};
 
-use crate::layout::{FIRST_SEGMENT, fill, number_in, segment_place};
-use rly_core::{Geometry, limits};
+use crate::layout::{FIRST_SEGMENT, number_in, segment_place};
+use rly_core::Geometry;
+use rly_core::limits::MAX_SEGMENTS;
 use rly_disk::{Disk, DiskFault};
-use rly_gate::OPEN_GATE;
+use rly_gate::{OPEN_GATE, fill};
 
 /// The bytes of a head's gate and generation.
 const GENERATION_END: usize = 9;
-
-/// The most segments of a device.
-const MAX_SEGMENTS: usize = limits::MAX_SEGMENTS as usize;
 
 /// The newest head, and which segments' gates read closed.
 #[derive(Clone, Copy, Debug)]
@@ -23,7 +21,7 @@ pub struct NewestHead {
     /// The segment whose head is the newest.
     pub segment: u64,
     /// For each segment of the device, whether its gate reads closed.
-    pub closed: [bool; MAX_SEGMENTS],
+    pub closed: [bool; MAX_SEGMENTS as usize],
 }
 
 /// Why no head is the newest.
@@ -54,7 +52,7 @@ pub fn newest<D: Disk>(disk: &mut D, geometry: &Geometry) -> Result<NewestHead, 
     ensures rise { result ≡ Err NewestFault.Device → Rose (D.state disk.old) (D.state disk.new) }
     ensures no_failure { result ≢ Err NewestFault.Device → (D.state disk.new).failures ≡ (D.state disk.old).failures }
 {
-    let mut closed = [false; MAX_SEGMENTS];
+    let mut closed = [false; MAX_SEGMENTS as usize];
     let mut found = None;
     for segment in 0..geometry.segments {
         let Ok(gate) = read_gate(disk, segment_place(geometry, segment)) else {

@@ -3,16 +3,12 @@ ghost use Rattle.byteorder.specs.Endian.{big_bytes};
 ghost use Rattle.rly_checkpoint.specs.Checkpoint.{checkpoint_of};
 ghost use Rattle.rly_segment.specs.Heads.{head_of};
 
+use crate::heads::START_BYTES;
 use byteorder::{BigEndian, ByteOrder};
 use rly_checkpoint::{checkpoint_len, write_checkpoint};
+use rly_gate::CLOSED_GATE;
 use rly_machine::{Machine, Payload};
 use std::alloc::{AllocError, Global};
-
-/// The byte that is written for a closed gate.
-pub(crate) const CLOSED_GATE: u8 = 0;
-
-/// The bytes of a head's generation and length.
-const FIELDS_LENGTH: usize = 12;
 
 /// What stands behind a segment's gate: a head that holds the machine's state, and the closed gate of the first group.
 pub(crate) fn head_bytes(
@@ -24,7 +20,7 @@ pub(crate) fn head_bytes(
     ensures { IfOk result (λ head. head.items ≡ head_of generation machine.now.state ++ 0 ∷ []) }
 {
     let length = checkpoint_len(machine);
-    let mut head = Vec::with_capacity(alloc, FIELDS_LENGTH + length as usize + 1)?;
+    let mut head = Vec::with_capacity(alloc, START_BYTES + length as usize + 1)?;
     head.extend_from_slice(&head_fields(generation, length as u32))?;
     write_checkpoint(machine, &mut head)?;
     head.push(CLOSED_GATE)?;
@@ -32,10 +28,10 @@ pub(crate) fn head_bytes(
 }
 
 /// A head up to its body.
-fn head_fields(generation: u64, length: u32) -> [u8; FIELDS_LENGTH]
+fn head_fields(generation: u64, length: u32) -> [u8; START_BYTES]
     ensures { result ≡ big_bytes 8 generation ++ big_bytes 4 length }
 {
-    let mut fields = [0; FIELDS_LENGTH];
+    let mut fields = [0; START_BYTES];
     BigEndian::write_u64(&mut fields, generation);
     BigEndian::write_u32(&mut fields[8..], length);
     fields

@@ -5,15 +5,15 @@ ghost use Rattle.rly_gate.specs.Reading.{OnlyRead, SyncsNothing};
 ghost use Rattle.rly_segment.specs.Answers.{IsReadHeader};
 ghost use Rattle.rly_segment.specs.Device.{IsGeometry, device_mark, geometry_in};
 
-use crate::layout::{FIRST_SEGMENT, fill, number_in};
+use crate::layout::{FIRST_SEGMENT, number_in};
 use rly_core::limits::{SEGMENT_LENGTH_LIMIT, SEGMENTS};
 use rly_core::{Geometry, Params};
 use rly_disk::Disk;
-use rly_gate::OPEN_GATE;
+use rly_gate::{OPEN_GATE, fill};
 use rly_reclaim::fits;
 
 /// The bytes of the header's gate, mark and fields. What stands behind them is not read.
-pub(crate) const HEADER_BYTES: usize = 51;
+const HEADER_BYTES: usize = 51;
 
 /// `RLYDEV01` and the version, 1.
 pub(crate) const DEVICE_MARK: [u8; 10] = [0x52, 0x4c, 0x59, 0x44, 0x45, 0x56, 0x30, 0x31, 0, 1];

@@ -1,4 +1,4 @@
-ghost use Rattle.std.specs.Prelude.{◌≡◌, ◌≢◌, ◌+◌, ◌<◌, ◌≤◌, ◌^◌, ◌++◌, ◌↔◌, Err, IfOk, IsTrue, OnErr, OnOk, length, take, drop};
+ghost use Rattle.std.specs.Prelude.{◌≡◌, ◌≢◌, ◌+◌, ◌<◌, ◌≤◌, ◌^◌, ◌++◌, ◌↔◌, Err, IfOk, IsTrue, OnErr, OnOk};
 ghost use Rattle.byteorder.specs.Endian.{big_bytes};
 ghost use Rattle.rly_core.specs.Bounds.{IsIn};
 ghost use Rattle.rly_disk.specs.DiskModel.{Rose};
@@ -8,16 +8,17 @@ ghost use Rattle.rly_segment.specs.Answers.{IsReadHead};
 ghost use Rattle.rly_segment.specs.Device.{IsGeometry};
 ghost use Rattle.rly_segment.specs.Heads.{IsHead, first_gate};
 
-use crate::layout::{fill, number_of_4, number_of_8, segment_place};
-use rly_checkpoint::{CheckpointFault, read_checkpoint};
+use crate::layout::{number_of_4, number_of_8, segment_place};
+use rly_checkpoint::{DecodeFault, read_checkpoint};
 use rly_core::Geometry;
 use rly_disk::{Disk, DiskFault};
+use rly_gate::{ReadFault, fill, read_bytes};
 use rly_machine::{Machine, Payload};
 use rly_reclaim::GROUP_ROOM;
 use std::alloc::Global;
 
 /// The bytes of a head's generation and of its body's length, which stand behind its gate.
-const START_BYTES: usize = 12;
+pub(crate) const START_BYTES: usize = 12;
 
 /// The bytes of a head in front of its body.
 const BODY_OFFSET: u64 = 13;
@@ -77,11 +78,15 @@ pub fn read_head<D: Disk>(
     if geometry.length < end + GROUP_ROOM {
         return Err(HeadFault::Damaged);
     }
-    let body = read_body(alloc, disk, place + BODY_OFFSET, start.length as usize)?;
+    let body = match read_bytes(alloc, disk, place + BODY_OFFSET, start.length as usize) {
+        Ok(body) => body,
+        Err(ReadFault::OutOfMemory) => return Err(HeadFault::OutOfMemory),
+        Err(ReadFault::Device) => return Err(HeadFault::Device),
+    };
     let machine = match read_checkpoint(alloc, geometry.params, &body) {
         Ok(machine) => machine,
-        Err(CheckpointFault::Malformed) => return Err(HeadFault::Damaged),
-        Err(CheckpointFault::OutOfMemory) => return Err(HeadFault::OutOfMemory),
+        Err(DecodeFault::Malformed) => return Err(HeadFault::Damaged),
+        Err(DecodeFault::OutOfMemory) => return Err(HeadFault::OutOfMemory),
     };
     machine.law_sound();
     if !is_generation(start.generation, machine.seq()) {
@@ -112,32 +117,6 @@ fn read_start<D: Disk>(disk: &mut D, place: u64) -> Result<Start, DiskFault>
         generation: number_of_8(&start[..8]),
         length: number_of_4(&start[8..]),
     })
-}
-
-/// Reads so many bytes of a head's body.
-fn read_body<D: Disk>(
-    alloc: Global,
-    disk: &mut D,
-    place: u64,
-    size: usize,
-) -> Result<Vec<u8>, HeadFault>
-    requires { place + size ≤ (D.state disk.old).size }
-    ensures read { (D.state disk.old).honest
-        → IfOk result (λ body. body.items ≡ take size (drop place (D.state disk.old).seen)) }
-    ensures length { IfOk result (λ body. length body.items ≡ size) }
-    ensures undamaged { result ≢ Err HeadFault.Damaged }
-    ensures only { OnlyRead (D.state disk.old) (D.state disk.new) }
-    ensures unsynced { SyncsNothing (D.state disk.old) (D.state disk.new) }
-    ensures rise { result ≡ Err HeadFault.Device → Rose (D.state disk.old) (D.state disk.new) }
-    ensures no_failure { result ≢ Err HeadFault.Device → (D.state disk.new).failures ≡ (D.state disk.old).failures }
-{
-    let Ok(mut body) = vec![in alloc; 0u8; size] else {
-        return Err(HeadFault::OutOfMemory);
-    };
-    if fill(disk, place, &mut body).is_err() {
-        return Err(HeadFault::Device);
-    }
-    Ok(body)
 }
 
 /// Whether a head may have a generation where so many commands were accepted.

@@ -1,13 +1,10 @@
-ghost use Rattle.std.specs.Prelude.{◌≡◌, ◌+◌, ◌<◌, ◌≤◌, ◌^◌, length, take, drop, OnErr, OnOk};
+ghost use Rattle.std.specs.Prelude.{◌≡◌, ◌+◌, ◌<◌, ◌≤◌, ◌^◌, length};
 ghost use Rattle.byteorder.specs.Endian.{big_bytes};
-ghost use Rattle.rly_disk.specs.DiskModel.{Rose};
-ghost use Rattle.rly_gate.specs.Reading.{OnlyRead, SyncsNothing};
 ghost use Rattle.rly_segment.specs.Device.{number_in};
 ghost use Rattle.rly_segment.specs.Heads.{segment_end, segment_place};
 
 use byteorder::{BigEndian, ByteOrder};
 use rly_core::Geometry;
-use rly_disk::{Disk, DiskFault};
 
 /// The place of the first segment.
 pub(crate) const FIRST_SEGMENT: u64 = 64;
@@ -28,19 +25,6 @@ pub fn segment_end(geometry: &Geometry, segment: u64) -> u64
     ensures { result ≡ segment_end geometry.now segment }
 {
     segment_place(geometry, segment) + geometry.length
-}
-
-/// Fills a buffer from a place on.
-pub(crate) fn fill<D: Disk>(disk: &mut D, place: u64, buffer: &mut [u8]) -> Result<(), DiskFault>
-    requires { place + length buffer.old ≤ (D.state disk.old).size }
-    ensures read { (D.state disk.old).honest
-        → OnOk result (buffer.new ≡ take (length buffer.old) (drop place (D.state disk.old).seen)) }
-    ensures only { OnlyRead (D.state disk.old) (D.state disk.new) }
-    ensures unsynced { SyncsNothing (D.state disk.old) (D.state disk.new) }
-    ensures rise { OnErr result (Rose (D.state disk.old) (D.state disk.new)) }
-    ensures no_failure { OnOk result ((D.state disk.new).failures ≡ (D.state disk.old).failures) }
-{
-    disk.read_at(place, buffer)
 }
 
 /// The number in so many bytes at a place.

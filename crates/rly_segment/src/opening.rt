@@ -5,11 +5,11 @@ ghost use Rattle.rly_segment.specs.Device.{IsGeometry};
 ghost use Rattle.rly_segment.specs.Heads.{IsHead, IsOpening, first_gate, opened_head, segment_place};
 ghost use Rattle.rly_segment.specs.Writing.{IsClosing, IsReplacing};
 
-use crate::head_bytes::{CLOSED_GATE, head_bytes};
+use crate::head_bytes::head_bytes;
 use crate::layout::segment_place;
 use rly_core::Geometry;
 use rly_disk::{Disk, DiskFault};
-use rly_gate::{OPEN_GATE, settle};
+use rly_gate::{CLOSED_GATE, OPEN_GATE, settle};
 use rly_machine::{Machine, Payload};
 use std::alloc::Global;
 

@@ -1,9 +1,9 @@
 -- What is read of the matches of words.
-use Rattle.std.proofs.Common.{◌≡◌, ℕ, List, [], true, inl, inr, Option, Some, None, Result, Ok, Err, refl, subst, sym, ◌∙◌, ap, ap₂}
+use Rattle.std.proofs.Common.{◌≡◌, ℕ, List, [], true, inl, inr, Option, Some, None, Result, Ok, Err, refl, subst, sym, ◌∙◌}
 use Rattle.std.specs.Prelude.{option_map, unwrap_or}
 use Rattle.std.specs.Str.Parse.{ParsesUnsigned}
 use Rattle.std.specs.declared.num.ParseIntError.{ParseIntError}
-use Rattle.clap.specs.Words.{App, FailsBy, HasKind, IsAmong, HasMatchesOf, is_simple_and_free, fault_of, kind_of, ReadsOne, Row, Text, app_of, one_of, one_text, rows_of, subcommand_name_of, subcommand_of, subcommand_rows_of}
+use Rattle.clap.specs.Words.{App, FailsBy, HasKind, IsAmong, HasMatchesOf, is_simple_and_free, fault_of, kind_of, ReadsOne, Row, Text, app_of, one_of, one_text, rows_of, subcommand_of, subcommand_rows_of}
 use Rattle.clap.specs.declared.builder.command.Command.{Command}
 use Rattle.clap.specs.declared.error.Error.{Error}
 use Rattle.clap.specs.declared.error.kind.ErrorKind.TheVariants as kind
@@ -29,19 +29,6 @@ number_read gives parses f id n none value = rw (← one_text-rows f id) (go (on
     go : (o : Option Text) → one_text f id ≡ o → ReadsNumber o n
     go None e = none e
     go (Some t) e = one t n (value t e)
-
-paired : {B : Type 0} (f : B → Text × List Row) (g : B → Text) → ((b : B) → (f b).0 ≡ g b) → (x : Option B) (name : Text) (rows : List Row)
-    → option_map g x ≡ Some name → option_map (λ p. p.1) (option_map f x) ≡ Some rows → option_map f x ≡ Some (name, rows)
-paired f g same None name rows h k = let no : ⊥ = cc in absurd no
-paired f g same (Some b) name rows h k =
-    let first : g b ≡ name = cc in
-    let second : (f b).1 ≡ rows = cc in
-    ap Some (ap₂ (λ (n : Text) (rs : List Row). (n, rs)) (same b ∙ first) second)
-
--- the subcommand that was entered, from its name and its rows
-pub entered : (m : ArgMatches) (name : Text) (rows : List Row) → subcommand_name_of m ≡ Some name → option_map (λ p. p.1) (subcommand_rows_of m) ≡ Some rows
-    → subcommand_rows_of m ≡ Some (name, rows)
-entered m name rows h k = paired _ _ (λ b. refl) _ name rows h k
 
 -- a default behind what a map reads
 pub default_mapped : {X Y : Type 0} (f : X → Y) (o : Option X) (d : X) → f (unwrap_or o d) ≡ unwrap_or (option_map f o) (f d)

@@ -1,21 +1,9 @@
 -- What several reads or writes in a row do to known bytes.
 use Rattle.std.proofs.Common.{◌≡◌, ℕ, ◌+◌, ◌≤◌, List, [], ◌++◌, length, take, drop, min, Option, Some, None, refl, sym, ◌∙◌, ap, arith, append_assoc, append-nil}
-use Rattle.std.specs.Io.KnownBytes.{Appends, Consumes, Keeps}
+use Rattle.std.specs.Io.KnownBytes.{Appends, Keeps}
 use Rattle.std.proofs.Math.Seq.{take-add, take-append-add}
 use Rattle.std.proofs.lemmas.List.{take_min, take-append-le}
 use Rattle.rly_stream.specs.Beginnings.{AppendsBeginning, BreaksOff}
-
-pub keeps_consumes : (a b c : Option (List ℕ)) (bs : List ℕ) → Keeps a b → Consumes b c bs → Consumes a c bs
-keeps_consumes None b c bs h k = tt
-keeps_consumes (Some xs) None c bs h k = absurd h
-keeps_consumes (Some xs) (Some ys) None bs h k = k
-keeps_consumes (Some xs) (Some ys) (Some zs) bs h k = sym h ∙ k
-
-pub keeps_appends : (a b c : Option (List ℕ)) (bs : List ℕ) → Keeps a b → Appends b c bs → Appends a c bs
-keeps_appends None b c bs h k = tt
-keeps_appends (Some xs) None c bs h k = absurd h
-keeps_appends (Some xs) (Some ys) None bs h k = k
-keeps_appends (Some xs) (Some ys) (Some zs) bs h k = rw h at k
 
 pub appends_more : (a b c : Option (List ℕ)) (text : List ℕ) (written count : ℕ) → Appends a b (take written text) → Appends b c (take count (drop written text)) → Appends a c (take (written + count) text)
 appends_more None b c text written count h k = tt
@@ -44,18 +32,6 @@ appends_appends (Some us) (Some vs) None x y h k = absurd k
 appends_appends (Some us) (Some vs) (Some ws) x y h k =
     let regrouped : vs ++ y ≡ us ++ (x ++ y) = rw h (append_assoc us x y) in
     k ∙ regrouped
-
-pub appends_keeps : (a b c : Option (List ℕ)) (x : List ℕ) → Appends a b x → Keeps b c → Appends a c x
-appends_keeps None b c x h k = tt
-appends_keeps (Some us) None c x h k = absurd h
-appends_keeps (Some us) (Some vs) None x h k = absurd k
-appends_keeps (Some us) (Some vs) (Some ws) x h k = k ∙ h
-
-pub keeps_begins : (a b c : Option (List ℕ)) (text : List ℕ) → Keeps a b → AppendsBeginning b c text → AppendsBeginning a c text
-keeps_begins None b c text h k = tt
-keeps_begins (Some us) None c text h k = absurd h
-keeps_begins (Some us) (Some vs) None text h k = absurd k
-keeps_begins (Some us) (Some vs) (Some ws) text h k = let moved : vs ++ take k.0 text ≡ us ++ take k.0 text = rw h refl in (k.0, k.1 ∙ moved)
 
 pub begins_kept : (a b : Option (List ℕ)) (text : List ℕ) → Keeps a b → AppendsBeginning a b text
 begins_kept None b text h = tt

@@ -4,11 +4,10 @@ use Rattle.std.specs.Prelude.{Option, Some, None, Err}
 use Rattle.std.proofs.lemmas.List.{append-nil, append_assoc, map-append}
 use Rattle.rly_line.specs.declared.call_error.CallError.TheVariants.{Lost}
 use Rattle.rly_machine.specs.declared.command.Ask.{Ask}
-use Rattle.rly_threads.specs.declared.turn.Go.{Go}
 use Rattle.rly_threads.specs.declared.turn.Point.TheVariants.{Start}
 use Rattle.rly_threads.specs.declared.turn.Worker.{Worker}
 use Rattle.rly_threads.specs.Ends.{Tells}
-use Rattle.rly_threads.specs.Runs.{Did, Grew, Ran, Told}
+use Rattle.rly_threads.specs.Runs.{Did, Grew, Told}
 use Rattle.rly_threads.specs.Turns.{Done, Given, Made, Handed, Outcome, done_in, joined, nothing_done, started}
 
 pub tells_nothing : {A : Type 0} (told : Option (List A)) → Tells told told []
@@ -117,27 +116,6 @@ gone_on {C} act first now next old mid started_at new worker given d before acts
       grew = subst (Grew old new (before.turns ++ given ∷ [])) (sym whole) all;
     }
 
--- the worker was handed its end
-pub ended_at : {C : Type 0} (act : C → Given → Done C) (first now : C) (old mid new : Told) (worker : Worker) (go : Go)
-    → Ongoing act first now old mid → Tells mid.handed new.handed ((worker, Start, go) ∷ []) → new ≡ record mid { handed = new.handed } → go.on ≡ false
-    → (turns : List Given) × Ran old new worker turns (done_in act first turns)
-ended_at act first now old mid new worker go before last quiet off =
-    let done = done_in act first before.turns in (
-      before.turns,
-      record {
-        last = go;
-        off = off;
-        heard = subst (λ h. Tells old.heard h (map (λ g. g.heard) before.turns)) (sym (ap (λ t. t.heard) quiet)) before.grew.heard;
-        sent = subst (λ s. Tells old.sent s done.sent) (sym (ap (λ t. t.sent) quiet)) before.grew.sent;
-        asked = subst (λ a. Tells old.asked a done.asked) (sym (ap (λ t. t.asked) quiet)) before.grew.asked;
-        handed = tells_more old.handed mid.handed new.handed done.handed ((worker, Start, go) ∷ []) before.grew.handed last;
-      },
-    )
-
 pub is_on : (on : Bool) → not on ≡ false → on ≡ true
 is_on true e = refl
 is_on false e = sym e
-
-pub is_off : (on : Bool) → not on ≡ true → on ≡ false
-is_off true e = sym e
-is_off false e = refl

@@ -1,5 +1,5 @@
 -- A receiving worker within a turn.
-use Rattle.std.proofs.Common.{◌≡◌, ◌∙◌, ◌<◌, ℕ, List, [], ◌∷◌, ap, arith, false, length, refl, subst, sym}
+use Rattle.std.proofs.Common.{◌≡◌, ◌∙◌, ◌<◌, ℕ, List, [], ◌∷◌, ap, arith, length, refl, subst, sym}
 use Rattle.std.specs.Prelude.{Option, Some, None}
 use Rattle.rly_core.specs.declared.refusal.Refusal.TheVariants as refusal
 use Rattle.rly_hop.specs.declared.receiving.event.InAction.{InAction}
@@ -11,7 +11,7 @@ use Rattle.rly_hop.specs.Receiving.{received}
 use Rattle.rly_machine.specs.declared.command.Ask.{Ask}
 use Rattle.rly_threads.specs.declared.turn.Worker.TheVariants as worker
 use Rattle.rly_threads.specs.Ends.{Tells}
-use Rattle.rly_threads.specs.Intake.{Intake, event_of, intake_done, lacks_memory, on_action, on_answer, on_call, on_hearing, on_take, packets_in, take_named, take_of}
+use Rattle.rly_threads.specs.Intake.{Intake, datagram_in, event_of, intake_done, lacks_memory, on_action, on_answer, on_call, on_hearing, on_take, packets_in, take_of}
 use Rattle.rly_threads.specs.Runs.{Did, Grew, Told}
 use Rattle.rly_threads.specs.Turns.{Given, Made, around_call, message_in, nothing_done}
 use Rattle.rly_threads.proofs.Grown.{did_ask, did_nothing, did_turn, no_call, refused_call}
@@ -37,7 +37,7 @@ turned w old mid new r core left given action heard quiet hearing named did =
     (whole.left, did_turn old mid new left (intake_done w r given) given heard quiet whole)
 
 -- the core named no Take
-pub nothing_taken : (w : Intake) (told : Told) (now : ℕ) (r : Receiver) (action : Option (InAction (List ℕ))) → None ≡ take_named action
+pub nothing_taken : (w : Intake) (told : Told) (now : ℕ) (r : Receiver) (action : Option (InAction (List ℕ))) → None ≡ datagram_in action
     → Did told told r (on_action w now no_call r action)
 nothing_taken w told now r action none = subst (λ t. Did told told r (on_take w now no_call r t)) none (did_nothing told r)
 
@@ -46,23 +46,10 @@ lacks_for_bytes : (made : Made) (payload : List ℕ) → 0 < length payload → 
 lacks_for_bytes made [] none = absurd (omega (arith, none))
 lacks_for_bytes made (byte ∷ payload) some = refl
 
--- where it wasn't refused, none was lacked
-lacks_nothing : (made : Made) (payload : List ℕ) → made.refused ≡ false → lacks_memory made payload ≡ false
-lacks_nothing made [] memory = refl
-lacks_nothing made (byte ∷ payload) memory = memory
-
 -- memory was refused for the bytes of the payload of its Take
-pub refused : (w : Intake) (told : Told) (now : ℕ) (r left : Receiver) (action : Option (InAction (List ℕ))) (taken : ℕ × List ℕ) → Some taken ≡ take_named action
+pub refused : (w : Intake) (told : Told) (now : ℕ) (r left : Receiver) (action : Option (InAction (List ℕ))) (taken : ℕ × List ℕ) → Some taken ≡ datagram_in action
     → 0 < length taken.1 → left ≡ (received r (Answered (answer.Refused refusal.OutOfMemory))).0 → Did told told left (on_action w now refused_call r action)
 refused w told now r left action taken some bytes after =
     subst (λ t. Did told told left (on_take w now refused_call r t)) some
     (subst (λ lacks. Did told told left (on_call w refused_call r (take_of w now taken.0 taken.1) lacks)) (sym (lacks_for_bytes refused_call taken.1 bytes))
     (subst (λ l. Did told told left (nothing_done l)) after (did_nothing told left)))
-
--- its Take was asked
-pub took : (w : Intake) (old new : Told) (now : ℕ) (r left : Receiver) (action : Option (InAction (List ℕ))) (taken : ℕ × List ℕ) (made : Made) → Some taken ≡ take_named action
-    → made.refused ≡ false → Did old new left (on_answer w made (take_of w now taken.0 taken.1) (received r (event_of made.outcome)))
-    → Did old new left (on_action w now made r action)
-took w old new now r left action taken made some memory did =
-    subst (λ t. Did old new left (on_take w now made r t)) some
-    (subst (λ lacks. Did old new left (on_call w made r (take_of w now taken.0 taken.1) lacks)) (sym (lacks_nothing made taken.1 memory)) did)

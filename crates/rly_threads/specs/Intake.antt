@@ -81,10 +81,10 @@ on_call w made r ask true = nothing_done (received r (Answered (answer.Refused r
 on_call w made r ask false = on_answer w made ask (received r (event_of made.outcome))
 
 -- the number and the payload of the datagram that an action takes
-abbrev pub take_named : Option (InAction (List ℕ)) → Option (ℕ × List ℕ)
-take_named (Some (Take number payload)) = Some (number, payload)
-take_named (Some (Send m)) = None
-take_named None = None
+abbrev pub datagram_in : Option (InAction (List ℕ)) → Option (ℕ × List ℕ)
+datagram_in (Some (Take number payload)) = Some (number, payload)
+datagram_in (Some (Send m)) = None
+datagram_in None = None
 
 -- memory was refused for a payload: for its bytes alone, so never for an empty one
 abbrev pub lacks_memory : Made → List ℕ → Bool
@@ -97,7 +97,7 @@ on_take w now made r (Some taken) = on_call w made r (take_of w now taken.0 take
 on_take w now made r None = nothing_done r
 
 abbrev pub on_action : Intake → ℕ → Made → Receiver → Option (InAction (List ℕ)) → Done Receiver
-on_action w now made r action = on_take w now made r (take_named action)
+on_action w now made r action = on_take w now made r (datagram_in action)
 
 -- one turn, behind its start
 abbrev pub intake_done : Intake → Receiver → Given → Done Receiver
@@ -105,5 +105,5 @@ intake_done w r given =
     let heard = on_hearing r (message_in given.heard) in on_action w given.now given.made heard.0 heard.1
 
 -- one turn
-abbrev pub take_in : Intake → Receiver → Given → Done Receiver
-take_in w r given = started (worker.Receiver w.peer) given (intake_done w r given)
+abbrev pub intake_turn : Intake → Receiver → Given → Done Receiver
+intake_turn w r given = started (worker.Receiver w.peer) given (intake_done w r given)

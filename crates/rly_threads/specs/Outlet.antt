@@ -111,5 +111,5 @@ abbrev pub ticked : ℕ → Done Sender → Done Ticking
 ticked turns d = record { core = tick turns d.core; asked = d.asked; sent = d.sent; handed = d.handed }
 
 -- one turn
-abbrev pub send_out : Outlet → Ticking → Given → Done Ticking
-send_out w t given = started (worker.Sender w.hop) given (ticked t.turns (outlet_done w t.core given))
+abbrev pub outlet_turn : Outlet → Ticking → Given → Done Ticking
+outlet_turn w t given = started (worker.Sender w.hop) given (ticked t.turns (outlet_done w t.core given))

@@ -11,8 +11,8 @@ use Rattle.rly_plan.specs.ContactPlan.{ContactPlan, hop_at, peer_at}
 use Rattle.rly_threads.specs.declared.relay.Post.{Post}
 use Rattle.rly_threads.specs.declared.turn.Worker.{Worker}
 use Rattle.rly_threads.specs.declared.turn.Worker.TheVariants as worker
-use Rattle.rly_threads.specs.Intake.{intake, take_in}
-use Rattle.rly_threads.specs.Outlet.{outlet, send_out, ticking}
+use Rattle.rly_threads.specs.Intake.{intake, intake_turn}
+use Rattle.rly_threads.specs.Outlet.{outlet, outlet_turn, ticking}
 use Rattle.rly_threads.specs.Runs.{Ran, Told}
 use Rattle.rly_threads.specs.Turns.{Given, Handed, done_in}
 
@@ -26,14 +26,14 @@ abbrev pub HasReceived : ContactPlan → PeerId → Told → Told → Type 0
 HasReceived plan peer old new =
     IfSome (peer_at plan peer) (λ neighbour. (turns : List Given)
     × Ran old new (worker.Receiver peer) turns
-    (done_in (take_in (intake plan peer)) (receiver (record { 0 = plan.station }) (record { 0 = neighbour.station })) turns))
+    (done_in (intake_turn (intake plan peer)) (receiver (record { 0 = plan.station }) (record { 0 = neighbour.station })) turns))
 
 -- the same of a sender to a hop of the plan, which may have so many datagrams in flight
 abbrev pub HasSent : ContactPlan → ℕ → HopId → Told → Told → Type 0
 HasSent plan window hop old new =
     IfSome (hop_at plan hop) (λ neighbour. (turns : List Given)
     × Ran old new (worker.Sender hop) turns
-    (done_in (send_out (outlet plan hop)) (ticking (sender (record { 0 = plan.station }) (record { 0 = neighbour.station }) window) 0) turns))
+    (done_in (outlet_turn (outlet plan hop)) (ticking (sender (record { 0 = plan.station }) (record { 0 = neighbour.station }) window) 0) turns))
 
 abbrev pub HasWorked : ContactPlan → ℕ → Worker → Told → Told → Type 0
 HasWorked plan window (worker.Receiver peer) old new = HasReceived plan peer old new

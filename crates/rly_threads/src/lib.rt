@@ -4,7 +4,8 @@
 //!
 //! `receiver_run` and `sender_run` stand on any `Link`, `Desk` and `Turn`. Where these tell what they gave and
 //! were given, what a worker asked and sent is what `specs/Intake.antt` and `specs/Outlet.antt` make of it, and
-//! nothing else. What ties the threads together is shown by tests alone. The program calls it.
+//! nothing else. `run_relay` starts the flusher and the workers, and says the same of each (`specs/Relay.antt`);
+//! that they run side by side is shown by tests alone. The program calls it.
 #![tactic(auto)]
 
 mod desk;

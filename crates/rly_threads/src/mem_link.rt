@@ -78,7 +78,7 @@ impl MemLink {
     }
 
     /// Puts the next packet at the front of a buffer. A receive that fails loses it.
-    fn take_in(&mut self, buffer: &mut [u8]) -> Result<Option<usize>, LinkFault>
+    fn give_next(&mut self, buffer: &mut [u8]) -> Result<Option<usize>, LinkFault>
         ensures bound { IfOk result (λ found. IfSome found (λ count. count ≤ length buffer.new)) }
         ensures heard { self.new.heard ≡ self.old.heard }
         ensures sent { self.new.sent ≡ self.old.sent }
@@ -108,7 +108,7 @@ impl Link for MemLink {
     ghost failed = { λ l. l.failures };
 
     fn recv(&mut self, buffer: &mut [u8]) -> Result<Option<usize>, LinkFault> {
-        let outcome = self.take_in(buffer);
+        let outcome = self.give_next(buffer);
         let given = match outcome {
             Ok(Some(count)) => Some(bytes_in(&buffer[..count])),
             Ok(None) | Err(_) => None,

@@ -1,9 +1,9 @@
-ghost use Rattle.std.specs.Prelude.{◌≡◌, ◌<◌, ◌∷◌, [], IfOk, OnErr, false, length};
+ghost use Rattle.std.specs.Prelude.{◌≡◌, ◌∷◌, [], false};
 ghost use Rattle.std.specs.Option.{option_map};
 ghost use Rattle.rly_hop.specs.Payloads.{in_action_bytes, in_event_bytes, message_bytes};
 ghost use Rattle.rly_hop.specs.Receiving.{received};
 ghost use Rattle.rly_threads.specs.Ends.{Tells};
-ghost use Rattle.rly_threads.specs.Intake.{answer_in, event_of, hop_of, intake, intake_done, on_action, on_answer, on_hearing, packets_in, take_named, take_of};
+ghost use Rattle.rly_threads.specs.Intake.{answer_in, datagram_in, event_of, hop_of, intake, intake_done, on_action, on_answer, on_hearing, packets_in, take_of};
 ghost use Rattle.rly_threads.specs.Relay.{HasReceived};
 ghost use Rattle.rly_threads.specs.Runs.{Did, Grew};
 ghost use Rattle.rly_threads.specs.Turns.{Given, Made};
@@ -18,7 +18,7 @@ use rly_hop::{InAction, InEvent, Message, Receiving, StationId, TakeAnswer};
 use rly_line::CallError;
 use rly_machine::{Answer, Ask, Command, Payload, Reply};
 use rly_plan::Plan;
-use std::alloc::{AllocError, Global};
+use std::alloc::Global;
 use std::marker::Model;
 use std::sync::Wait;
 
@@ -101,12 +101,12 @@ impl<'a> Intake<'a> {
         ensures done { (made : Made) × Did ends.old ends.new self.new.core
             (on_action (intake self.old.plan.now self.old.peer) now made self.old.core (option_map in_action_bytes action.entry)) }
     {
-        let Some((number, payload)) = take_named(action) else {
+        let Some((number, payload)) = datagram_in(action) else {
             return;
         };
-        match copy_of(alloc, payload) {
-            Ok(bytes) => {
-                let ask = self.take(now, number, Payload::new(bytes));
+        match Payload::copy_of(alloc, payload) {
+            Ok(payload) => {
+                let ask = self.take_of(now, number, payload);
                 self.ask(rt, ask, ends);
             }
             Err(_) => {
@@ -134,7 +134,7 @@ impl<'a> Intake<'a> {
     }
 
     /// The command that takes a datagram which arrived under a number.
-    fn take(&self, now: u64, number: u64, payload: Payload) -> Ask
+    fn take_of(&self, now: u64, number: u64, payload: Payload) -> Ask
         ensures { result ≡ take_of (intake self.now.plan.now self.now.peer) now number payload }
     {
         let hop = hop_of(self.plan, payload.as_slice());
@@ -149,24 +149,14 @@ impl<'a> Intake<'a> {
 }
 
 /// The datagram that an action takes, if it takes one, and its number.
-fn take_named<'a>(action: Option<InAction<&'a [u8]>>) -> Option<(u64, &'a [u8])>
-    ensures { option_map (λ taken. (taken.0, taken.1.now)) result ≡ take_named (option_map in_action_bytes action.entry) }
+fn datagram_in<'a>(action: Option<InAction<&'a [u8]>>) -> Option<(u64, &'a [u8])>
+    ensures { option_map (λ taken. (taken.0, taken.1.now)) result ≡ datagram_in (option_map in_action_bytes action.entry) }
 {
     match action {
         Some(InAction::Take { number, payload }) => Some((number, payload)),
         Some(InAction::Send(_)) => None,
         None => None,
     }
-}
-
-/// A copy of a payload. Memory is refused for bytes alone: never for an empty one.
-fn copy_of(alloc: Global, payload: &[u8]) -> Result<Vec<u8>, AllocError>
-    ensures ok { IfOk result (λ copy. copy.items ≡ payload.now) }
-    ensures err { OnErr result (0 < length payload.now) }
-{
-    let mut copy = Vec::new(alloc);
-    copy.extend_from_slice(payload)?;
-    Ok(copy)
 }
 
 /// Sends the message that an action names, if it names one.

@@ -21,7 +21,7 @@ use std::marker::Model;
 use std::sync::Wait;
 
 /// After so many turns the core is told to send again what is in flight.
-const TURNS: u64 = 16;
+const TURNS_PER_TIMEOUT: u64 = 16;
 
 /// Hands over what waits for a hop of the plan, turn by turn, until its turns are ended. `window` is how many datagrams
 /// may be in flight. For a hop that isn't in the plan it ends at once.
@@ -154,7 +154,7 @@ impl<'a> Outlet<'a> {
         ensures turns { self.new.turns < 16 }
     {
         self.turns += 1;
-        if self.turns == TURNS {
+        if self.turns == TURNS_PER_TIMEOUT {
             self.turns = 0;
             let _nothing = self.core.step(OutEvent::Timeout);
         }

@@ -24,7 +24,7 @@ pub enum Point {
     Start,
     /// Before a call.
     Call,
-    /// Behind a call, once it was answered.
+    /// Behind a call, once it was answered or found the line closed.
     Answered,
 }
 

@@ -213,8 +213,8 @@ fn a_failed_write_ends_a_relay_broken(rt: HostRuntime) -> Result<(), Fail> {
         .ok()
         .ok_or("a thread")?;
     assert_eq!(rt;
-        serve(&rt, journal, &plan, 20),
-        Err(ServeFault::Refused(Refusal::Broken))
+        serve(&rt, journal, &plan, 20).err(),
+        Some(ServeFault::Refused(Refusal::Broken))
     );
     assert!(rt; !neighbour.join(&rt));
     Ok(())

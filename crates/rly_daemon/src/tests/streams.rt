@@ -32,6 +32,43 @@ impl Read for Failing<'_> {
     }
 }
 
+/// A reader that gives its bytes at once, and then fails.
+#[derive(Drop)]
+struct Broken<'a> {
+    bytes: &'a [u8],
+}
+
+impl Read for Broken<'_> {
+    fn read(&mut self, buffer: &mut [u8]) -> io::Result<usize> {
+        let count = self.bytes.len();
+        if count == 0 || buffer.len() < count {
+            return Err(Error::from(ErrorKind::TimedOut));
+        }
+        buffer[..count].copy_from_slice(self.bytes);
+        self.bytes = b"";
+        Ok(count)
+    }
+}
+
+/// A writer that takes all, and keeps the length of its longest text.
+#[derive(Drop)]
+struct Longest {
+    total: usize,
+    longest: usize,
+}
+
+impl Write for Longest {
+    fn write(&mut self, text: &[u8]) -> io::Result<usize> {
+        self.total = self.total.saturating_add(text.len());
+        self.longest = self.longest.max(text.len());
+        Ok(text.len())
+    }
+
+    fn flush(&mut self) -> io::Result<()> {
+        Ok(())
+    }
+}
+
 /// A writer that takes so many bytes, three at a time, and then fails.
 #[derive(Drop)]
 struct Full {
@@ -65,6 +102,35 @@ fn a_failed_read_ends_with_a_beginning(rt: HostRuntime) -> Result<(), Fail> {
     let outcome = sim(rt.alloc(), Params::DEFAULT, &mut reader, &mut written);
     assert_eq!(rt; outcome, Err(TextFault::Input));
     assert_eq!(rt; written.as_slice(), b"taken 1 1\n".as_slice());
+    Ok(())
+}
+
+#[test]
+fn replies_that_are_held_are_written_where_the_reader_fails(rt: HostRuntime) -> Result<(), Fail> {
+    let mut reader = Broken {
+        bytes: b"take 1 1 1 0 41\ndone 1",
+    };
+    let mut written = Vec::new(rt.alloc());
+    let outcome = sim(rt.alloc(), Params::DEFAULT, &mut reader, &mut written);
+    assert_eq!(rt; outcome, Err(TextFault::Input));
+    assert_eq!(rt; written.as_slice(), b"taken 1 1\n".as_slice());
+    Ok(())
+}
+
+#[test]
+fn replies_that_grow_much_are_written_in_parts(rt: HostRuntime) -> Result<(), Fail> {
+    let mut input = String::new(rt.alloc());
+    for _line in 0..7_000 {
+        input.push_str("done 1 0\n")?;
+    }
+    let mut reader = input.as_bytes();
+    let mut writer = Longest {
+        total: 0,
+        longest: 0,
+    };
+    sim(rt.alloc(), Params::DEFAULT, &mut reader, &mut writer)?;
+    assert_eq!(rt; writer.total, 84_000);
+    assert_eq!(rt; writer.longest, 65_544);
     Ok(())
 }
 

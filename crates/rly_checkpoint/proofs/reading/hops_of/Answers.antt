@@ -2,8 +2,9 @@ use Rattle.std.proofs.Common.{arith, map}
 use Rattle.std.proofs.lemmas.List.{map-append}
 use Rattle.std.proofs.lemmas.Result.{err_from_is_err_and}
 use Rattle.rly_machine.specs.Kept.{hop_of}
-use Rattle.rly_checkpoint.specs.Reading.{hop_bytes_at, many_at}
-use Rattle.rly_checkpoint.proofs.Loops.{goes_on, ends, is_done}
+use Rattle.rly_record.specs.Reading.{many_at}
+use Rattle.rly_checkpoint.specs.Reading.{hop_bytes_at}
+use Rattle.rly_record.proofs.Loops.{goes_on, ends, is_done}
 use Rattle.rly_checkpoint.proofs.reading.hops_of.Goals as goal
 
 pub returns-in_err-hop : goal.returns-in_err-hop

@@ -1,8 +1,9 @@
 use Rattle.std.proofs.Common.{◌≡◌, ◌+◌, ◌-◌, ◌≤◌, map, vec_len}
 use Rattle.std.specs.Vec.{vec_capacity}
 use Rattle.rly_machine.specs.Kept.{hop_of}
-use Rattle.rly_checkpoint.specs.Reading.{hop_bytes_at, many_at}
-use Rattle.rly_checkpoint.proofs.Loops.{with_front}
+use Rattle.rly_record.specs.Reading.{many_at}
+use Rattle.rly_checkpoint.specs.Reading.{hop_bytes_at}
+use Rattle.rly_record.proofs.Loops.{with_front}
 use Rattle.rly_checkpoint.proofs.reading.hops_of.Given as goal
 
 abbrev pub invariant-loop : goal.invariant-loop

@@ -1,8 +1,7 @@
 use Rattle.std.proofs.Common.{arith}
 use Rattle.std.proofs.lemmas.Result.{err_from_is_err_and}
-use Rattle.rly_record.specs.Reading.{number_at}
-use Rattle.rly_checkpoint.specs.Reading.{many_at}
-use Rattle.rly_checkpoint.proofs.Loops.{goes_on, ends, is_done}
+use Rattle.rly_record.specs.Reading.{many_at, number_at}
+use Rattle.rly_record.proofs.Loops.{goes_on, ends, is_done}
 use Rattle.rly_checkpoint.proofs.reading.numbers_of.Goals as goal
 
 pub returns-in_err-number : goal.returns-in_err-number

@@ -1,8 +1,7 @@
 use Rattle.std.proofs.Common.{◌≡◌, ◌+◌, ◌-◌, ◌≤◌, vec_len}
 use Rattle.std.specs.Vec.{vec_capacity}
-use Rattle.rly_record.specs.Reading.{number_at}
-use Rattle.rly_checkpoint.specs.Reading.{many_at}
-use Rattle.rly_checkpoint.proofs.Loops.{with_front}
+use Rattle.rly_record.specs.Reading.{many_at, number_at}
+use Rattle.rly_record.proofs.Loops.{with_front}
 use Rattle.rly_checkpoint.proofs.reading.numbers_of.Given as goal
 
 abbrev pub invariant-loop : goal.invariant-loop

@@ -3,15 +3,17 @@ use Rattle.std.proofs.lemmas.Bool.{iff_false}
 use Rattle.std.proofs.lemmas.Result.{err_from_is_err_and}
 use Rattle.rly_machine.specs.Kept.{state_of}
 use Rattle.rly_machine.specs.Sound.{IsSound}
+use Rattle.rly_record.proofs.Records.{is_refused}
 use Rattle.rly_checkpoint.specs.Checkpoint.{checkpoint_of}
+use Rattle.rly_checkpoint.specs.Reading.{whole_state}
 use Rattle.rly_checkpoint.proofs.Parts.{whole_takes}
-use Rattle.rly_checkpoint.proofs.Restored.{hops_read, is_refused, peers_read, same_state}
+use Rattle.rly_checkpoint.proofs.Restored.{hops_read, peers_read, same_state, sound_again}
 use Rattle.rly_checkpoint.proofs.restoring.read_checkpoint.Goals as goal
 
 pub returns-in_err-parts-clause-only : goal.returns-in_err-parts-clause-only
 returns-in_err-parts-clause-only c s sound given same =
     let p = err_from_is_err_and c.from_residual.result c.from_residual.ensures.1 in
-    rw (p.1, p.2) (is_refused c.in_err-parts.field-0.0 c.args.params c.args.bytes.now s c.in_err-parts.ensures sound given same)
+    rw (p.1, p.2) (is_refused c.in_err-parts.field-0.0 (whole_state c.args.params c.args.bytes.now) s c.in_err-parts.ensures (sound_again c.args.params c.args.bytes.now s sound given same))
 
 pub is_sound-requires-clause-hop_count : goal.is_sound-requires-clause-hop_count
 is_sound-requires-clause-hop_count c =

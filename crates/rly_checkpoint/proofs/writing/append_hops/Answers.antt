@@ -5,7 +5,7 @@ use Rattle.rly_machine.proofs.Keeping.{read_hop}
 use Rattle.rly_checkpoint.specs.Checkpoint.{hop_bytes}
 use Rattle.rly_checkpoint.specs.Fitting.{HopFits}
 use Rattle.rly_checkpoint.proofs.Totals.{hop_among, map_place}
-use Rattle.rly_checkpoint.proofs.Written.{length_next, written_next}
+use Rattle.rly_record.proofs.Written.{length_next, written_next}
 use Rattle.rly_checkpoint.proofs.writing.append_hops.Goals as goal
 
 pub append_hop-requires-clause-fits : goal.append_hop-requires-clause-fits

@@ -1,21 +1,26 @@
+use Rattle.std.proofs.Common.{◌≡◌, [], ap}
 use Rattle.std.specs.Io.KnownBytes.{prepend_known}
-use Rattle.std.proofs.lemmas.Result.{err_from_is_err_and}
+use Rattle.std.specs.String.{string_bytes}
 use Rattle.rly_machine.specs.State.{new_state}
-use Rattle.rly_daemon.proofs.Texts.{answered_more, answered_stop}
+use Rattle.rly_daemon.specs.Outflow.{outflow_of}
+use Rattle.rly_daemon.proofs.Outflows.{both_ok, either_err}
+use Rattle.rly_daemon.proofs.Texts.{begins_text, text_begun, text_written}
 use Rattle.rly_daemon.proofs.simulation.sim.Goals as goal
 
-pub returns-in_err-answer_next-clause-begun : goal.returns-in_err-answer_next-clause-begun
-returns-in_err-answer_next-clause-begun g c =
-    let failed = err_from_is_err_and c.from_residual-in_err-answer_next.result c.from_residual-in_err-answer_next.ensures.1 in
-    rw failed.1
-    (answered_stop (g.R.Read.remaining c.args.reader.now) (prepend_known c.answers.lines.ahead (g.R.Read.remaining c.answers.reader))
-    (g.W.Write.contents c.args.writer.now) (g.W.Write.contents c.answers.writer) (g.W.Write.contents c.answer_next.new.writer)
-    (new_state c.args.params) c.answers.machine.state c.answers.invariant c.in_err-answer_next.ensures.begun)
+pub returns-clause-written : goal.returns-clause-written
+returns-clause-written g c =
+    let ahead : c.in_ok-lines.lines.ahead ≡ [] = ap (λ l. l.ahead) c.in_ok-lines.ensures in
+    let written = text_written (g.R.Read.remaining c.args.reader.now) (g.W.Write.contents c.args.writer.now) (g.W.Write.contents c.answer_lines-outcome.new.writer) (g.W.Write.contents c.finish.new.writer)
+    c.in_ok-lines.lines.ahead (string_bytes c.in_ok-text.text) (string_bytes c.answer_lines-outcome.new.text)
+    c.in_ok-machine.machine.state (new_state c.args.params) ahead c.in_ok-text.ensures c.in_ok-machine.ensures in
+    both_ok c.answer_lines-outcome.result c.finish.result c.finish.ensures.ok c.answer_lines-outcome.ensures.answered c.finish.ensures.written written
 
-pub answers-preserved : goal.answers-preserved
-answers-preserved g c =
-    let answered = rw c.if-branch.true at c.in_ok-answer_next.ensures.answered in
-    answered_more (g.R.Read.remaining c.args.reader.now) (prepend_known c.answers.lines.ahead (g.R.Read.remaining c.answers.reader))
-    (prepend_known c.answer_next.new.lines.ahead (g.R.Read.remaining c.answer_next.new.reader))
-    (g.W.Write.contents c.args.writer.now) (g.W.Write.contents c.answers.writer) (g.W.Write.contents c.answer_next.new.writer)
-    (new_state c.args.params) c.answers.machine.state c.answer_next.new.machine.state c.answers.invariant answered
+pub returns-clause-begun : goal.returns-clause-begun
+returns-clause-begun g c =
+    let ahead : c.in_ok-lines.lines.ahead ≡ [] = ap (λ l. l.ahead) c.in_ok-lines.ensures in
+    let all = begins_text (prepend_known c.in_ok-lines.lines.ahead (g.R.Read.remaining c.args.reader.now)) (outflow_of (g.W.Write.contents c.args.writer.now) (string_bytes c.in_ok-text.text))
+    (outflow_of (g.W.Write.contents c.answer_lines-outcome.new.writer) (string_bytes c.answer_lines-outcome.new.text)) c.in_ok-machine.machine.state in
+    let begun = text_begun (g.R.Read.remaining c.args.reader.now) (g.W.Write.contents c.args.writer.now) (g.W.Write.contents c.answer_lines-outcome.new.writer) (g.W.Write.contents c.finish.new.writer)
+    c.in_ok-lines.lines.ahead (string_bytes c.in_ok-text.text) (string_bytes c.answer_lines-outcome.new.text)
+    c.in_ok-machine.machine.state (new_state c.args.params) ahead c.in_ok-text.ensures c.in_ok-machine.ensures in
+    either_err c.answer_lines-outcome.result c.finish.result c.answer_lines-outcome.ensures.answered c.answer_lines-outcome.ensures.begun c.finish.ensures.begun all begun

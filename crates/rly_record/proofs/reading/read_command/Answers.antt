@@ -3,7 +3,7 @@ use Rattle.std.proofs.lemmas.Result.{err_from_is_err_and}
 use Rattle.rly_record.specs.Spelling.{record_of}
 use Rattle.rly_record.specs.Reading.{command_at, command_bytes}
 use Rattle.rly_record.proofs.Fields.{IsBytes}
-use Rattle.rly_record.proofs.Records.{behind_front, command_again, command_takes, is_refused, kept_found, length-behind, one_reading, take_spelled}
+use Rattle.rly_record.proofs.Records.{behind_front, command_again, command_takes, is_refused, kept_found, length-behind, one_reading, bytes_spelled}
 use Rattle.rly_record.proofs.reading.read_command.Goals as goal
 
 pub returns-in_err-command-clause-only : goal.returns-in_err-command-clause-only
@@ -40,4 +40,4 @@ returns-clause-only c command rest fits same =
 
 pub returns-in_err-command-2-clause-memory : goal.returns-in_err-command-2-clause-memory
 returns-in_err-command-2-clause-memory c refused =
-    take_spelled c.args.bytes.now (command_bytes c.in_ok-command.command, c.in_ok-command.rest.now) (λ i. omega (arith, c.type_inv.bytes i)) c.in_ok-command.ensures.gives c.in_err-command-2.ensures.memory
+    bytes_spelled c.args.bytes.now (command_bytes c.in_ok-command.command, c.in_ok-command.rest.now) (λ i. omega (arith, c.type_inv.bytes i)) c.in_ok-command.ensures.gives c.in_err-command-2.ensures.memory

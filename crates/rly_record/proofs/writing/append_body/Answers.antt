@@ -1,6 +1,9 @@
-use Rattle.std.proofs.Common.{arith, length}
+use Rattle.std.proofs.Common.{List, ℕ, ◌++◌, ◌∙◌, append_assoc, arith, length}
+use Rattle.std.specs.List.{flat_map}
 use Rattle.byteorder.specs.Endian.{big_bytes}
-use Rattle.rly_record.proofs.Bodies.{has_next, have_all, items_next, lengths_next, records_all, short_at}
+use Rattle.rly_record.specs.Spelling.{record_of}
+use Rattle.rly_record.proofs.Bodies.{has_next, have_all, lengths_next, short_at}
+use Rattle.rly_record.proofs.Written.{written_all, written_next}
 use Rattle.rly_record.proofs.writing.append_body.Goals as goal
 
 pub append_record-requires-clause-short : goal.append_record-requires-clause-short
@@ -13,7 +16,7 @@ append_record-requires-clause-room c =
 
 pub loop-command-preserved : goal.loop-command-preserved
 loop-command-preserved c = record {
-  items = items_next c.args.commands.now c.loop-command.command-index c.command-item.result c.args.out.now.items (big_bytes 2 (length c.args.commands.now)) c.loop-command.out.items c.append_record.new.out.items
+  items = written_next record_of c.args.commands.now c.loop-command.command-index c.command-item.result c.command-item.result (c.args.out.now.items ++ big_bytes 2 (length c.args.commands.now)) c.loop-command.out.items c.append_record.new.out.items
       c.loop-command-test.true c.command-item.is c.loop-command.invariant.items c.append_record.ensures.items;
   room = omega (arith, lengths_next c.args.commands.now c.loop-command.command-index c.command-item.result c.loop-command-test.true c.command-item.is, c.loop-command.invariant.room, c.append_record.ensures.len, c.append_record.ensures.capacity);
   capacity = omega (arith, c.loop-command.invariant.capacity, c.append_record.ensures.capacity);
@@ -24,4 +27,7 @@ pub returns-clause-commands : goal.returns-clause-commands
 returns-clause-commands c = (c.requires.count, have_all c.args.commands.now c.loop-command.command-index c.loop-command-test.false c.loop-command.invariant.records)
 
 pub returns-clause-items : goal.returns-clause-items
-returns-clause-items c = rw (← records_all c.args.commands.now c.loop-command.command-index c.loop-command-test.false) c.loop-command.invariant.items
+returns-clause-items c =
+    let count : List ℕ = big_bytes 2 (length c.args.commands.now) in
+    written_all record_of c.args.commands.now c.loop-command.command-index (c.args.out.now.items ++ count) c.loop-command.out.items c.loop-command-test.false c.loop-command.invariant.items
+    ∙ append_assoc c.args.out.now.items count (flat_map record_of c.args.commands.now)

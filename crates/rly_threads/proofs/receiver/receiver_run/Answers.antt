@@ -3,13 +3,13 @@ use Rattle.rly_threads.specs.declared.turn.Go.{Go}
 use Rattle.rly_threads.specs.declared.turn.Point.TheVariants.{Start}
 use Rattle.rly_threads.specs.declared.turn.Worker.TheVariants.{Receiver}
 use Rattle.rly_threads.specs.Ends.{Tells}
-use Rattle.rly_threads.specs.Intake.{Intake, intake, intake_done, take_in}
+use Rattle.rly_threads.specs.Intake.{Intake, intake, intake_done, intake_turn}
 use Rattle.rly_threads.specs.Runs.{Grew}
 use Rattle.rly_threads.proofs.Grown.{begun, gone_on, is_on}
 use Rattle.rly_threads.proofs.receiver.receiver_run.Goals as goal
 
 pub loop-turn-init : goal.loop-turn-init
-loop-turn-init g c = (refl, refl, begun (take_in (intake c.args.plan.now c.args.peer)) c.new-core.result c.args.ends.now)
+loop-turn-init g c = (refl, refl, begun (intake_turn (intake c.args.plan.now c.args.peer)) c.new-core.result c.args.ends.now)
 
 pub loop-turn-preserved : goal.loop-turn-preserved
 loop-turn-preserved g c =
@@ -22,7 +22,7 @@ loop-turn-preserved g c =
     let start = subst (λ (x : Go). Tells c.loop-turn.ends.handed c.between-go.new.self.handed ((Receiver c.args.peer, Start, x) ∷ [])) go c.between-go.ensures.told in (
       c.turn.ensures.plan ∙ before.0,
       c.turn.ensures.peer ∙ before.1,
-      gone_on (take_in (intake c.args.plan.now c.args.peer)) c.new-core.result c.loop-turn.intake.core c.turn.new.self.core c.args.ends.now c.loop-turn.ends c.between-go.new.self c.turn.new.ends
+      gone_on (intake_turn (intake c.args.plan.now c.args.peer)) c.new-core.result c.loop-turn.intake.core c.turn.new.self.core c.args.ends.now c.loop-turn.ends c.between-go.new.self c.turn.new.ends
           (Receiver c.args.peer) done.0 (intake_done (intake c.args.plan.now c.args.peer) c.loop-turn.intake.core done.0)
           before.2 refl left start c.between-go.ensures.same grew,
     )

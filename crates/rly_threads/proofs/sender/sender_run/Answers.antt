@@ -3,14 +3,14 @@ use Rattle.rly_threads.specs.declared.turn.Go.{Go}
 use Rattle.rly_threads.specs.declared.turn.Point.TheVariants.{Start}
 use Rattle.rly_threads.specs.declared.turn.Worker.TheVariants.{Sender}
 use Rattle.rly_threads.specs.Ends.{Tells}
-use Rattle.rly_threads.specs.Outlet.{Outlet, outlet, outlet_done, send_out, tick, ticked, ticking}
+use Rattle.rly_threads.specs.Outlet.{Outlet, outlet, outlet_done, outlet_turn, tick, ticked, ticking}
 use Rattle.rly_threads.specs.Runs.{Grew}
 use Rattle.rly_threads.proofs.Grown.{begun, gone_on, is_on}
 use Rattle.rly_threads.proofs.Senders.{counted}
 use Rattle.rly_threads.proofs.sender.sender_run.Goals as goal
 
 pub loop-turn-init : goal.loop-turn-init
-loop-turn-init g c = (refl, refl, omega arith, begun (send_out (outlet c.args.plan.now c.args.hop)) (ticking c.new-core.result 0) c.args.ends.now)
+loop-turn-init g c = (refl, refl, omega arith, begun (outlet_turn (outlet c.args.plan.now c.args.hop)) (ticking c.new-core.result 0) c.args.ends.now)
 
 pub loop-turn-preserved : goal.loop-turn-preserved
 loop-turn-preserved g c =
@@ -26,7 +26,7 @@ loop-turn-preserved g c =
       c.tick.ensures.plan ∙ c.turn.ensures.plan ∙ before.0,
       c.tick.ensures.hop ∙ c.turn.ensures.hop ∙ before.1,
       c.tick.ensures.turns,
-      gone_on (send_out (outlet c.args.plan.now c.args.hop)) (ticking c.new-core.result 0) (ticking now.core now.turns) (ticking c.tick.new.self.core c.tick.new.self.turns)
+      gone_on (outlet_turn (outlet c.args.plan.now c.args.hop)) (ticking c.new-core.result 0) (ticking now.core now.turns) (ticking c.tick.new.self.core c.tick.new.self.turns)
           c.args.ends.now c.loop-turn.ends c.between-go.new.self c.turn.new.ends
           (Sender c.args.hop) done.0 (ticked now.turns d)
           before.3 refl (c.tick.ensures.core ∙ (λ i. tick (c.turn.ensures.turns i) (left i))) start c.between-go.ensures.same

@@ -1,8 +1,12 @@
 use Rattle.std.proofs.Common.{◌≡◌, ◌+◌, length, length-append, ap, arith, ◌∙◌, ◌∷◌, [], Ok}
 use Rattle.std.specs.Io.KnownBytes.{prepend_known}
+use Rattle.std.specs.String.{string_bytes}
+use Rattle.std.proofs.lemmas.Result.{err_from_is_err_and}
+use Rattle.rly_daemon.specs.Outflow.{outflow_of}
 use Rattle.rly_daemon.specs.Grammar.{ask_of}
 use Rattle.rly_daemon.specs.Playing.{asks_of, subject_in}
-use Rattle.rly_daemon.proofs.Gathering.{ends, few_calls, gathers_more, keeps_keeps}
+use Rattle.rly_daemon.proofs.Gathering.{ends, few_calls, gathers_more}
+use Rattle.rly_daemon.proofs.Outflows.{adds_adds, adds_begins}
 use Rattle.rly_daemon.proofs.batch.Batch.gather.Goals as goal
 
 pub returns-then-not-branch-clause-ended : goal.returns-then-not-branch-clause-ended
@@ -29,5 +33,17 @@ loop-self-preserved g c =
       omega (arith, more.0, c.loop-self.invariant.4),
       c.in_ok-take_line.ensures.answers ∙ c.loop-self.invariant.5,
       c.in_ok-take_line.ensures.most ∙ c.loop-self.invariant.6,
-      keeps_keeps (g.W.Write.contents c.args.writer.now) (g.W.Write.contents c.loop-self.writer) (g.W.Write.contents c.take_line.new.writer) c.loop-self.invariant.7 c.in_ok-take_line.ensures.keeps,
+      adds_adds (outflow_of (g.W.Write.contents c.args.writer.now) (string_bytes c.args.text.now)) (outflow_of (g.W.Write.contents c.loop-self.writer) (string_bytes c.loop-self.text))
+          (outflow_of (g.W.Write.contents c.take_line.new.writer) (string_bytes c.take_line.new.text)) [] [] c.loop-self.invariant.7 c.in_ok-take_line.ensures.same,
     )
+
+pub returns-in_err-take_line-clause-begun : goal.returns-in_err-take_line-clause-begun
+returns-in_err-take_line-clause-begun g c =
+    let failed = err_from_is_err_and c.from_residual.result c.from_residual.ensures.1 in
+    rw failed.1 (adds_begins (outflow_of (g.W.Write.contents c.args.writer.now) (string_bytes c.args.text.now)) (outflow_of (g.W.Write.contents c.loop-self.writer) (string_bytes c.loop-self.text))
+    (outflow_of (g.W.Write.contents c.take_line.new.writer) (string_bytes c.take_line.new.text)) [] [] c.loop-self.invariant.7 c.in_err-take_line.ensures.begun)
+
+pub returns-then-not-branch-clause-same : goal.returns-then-not-branch-clause-same
+returns-then-not-branch-clause-same g c =
+    adds_adds (outflow_of (g.W.Write.contents c.args.writer.now) (string_bytes c.args.text.now)) (outflow_of (g.W.Write.contents c.loop-self.writer) (string_bytes c.loop-self.text))
+    (outflow_of (g.W.Write.contents c.take_line.new.writer) (string_bytes c.take_line.new.text)) [] [] c.loop-self.invariant.7 c.in_ok-take_line.ensures.same

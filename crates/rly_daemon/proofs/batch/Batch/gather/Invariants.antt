@@ -1,5 +1,7 @@
-use Rattle.std.proofs.Common.{◌≡◌, ◌≤◌, ◌<◌, ◌-◌, ◌^◌, length}
-use Rattle.std.specs.Io.KnownBytes.{Keeps, prepend_known}
+use Rattle.std.proofs.Common.{◌≡◌, ◌≤◌, ◌<◌, ◌-◌, ◌^◌, [], length}
+use Rattle.std.specs.Io.KnownBytes.{prepend_known}
+use Rattle.std.specs.String.{string_bytes}
+use Rattle.rly_daemon.specs.Outflow.{Adds, outflow_of}
 use Rattle.rly_daemon.specs.Playing.{Gathers, asks_of}
 use Rattle.rly_daemon.proofs.batch.Batch.gather.Given as goal
 
@@ -13,7 +15,7 @@ invariant-loop-self g l =
     × (l.fn.lines.taken ≤ l.lines.taken)
     × (l.self.answers ≡ l.fn.self.answers)
     × (l.self.most ≡ l.fn.self.most)
-    × Keeps (g.W.Write.contents l.fn.writer) (g.W.Write.contents l.writer)
+    × Adds (outflow_of (g.W.Write.contents l.fn.writer) (string_bytes l.fn.text)) (outflow_of (g.W.Write.contents l.writer) (string_bytes l.text)) []
 
 abbrev pub decreases-loop-self : goal.decreases-loop-self
 decreases-loop-self g l = l.self.most - length l.self.slots.items

@@ -9,7 +9,7 @@ use Rattle.rly_flush.proofs.flusher.Flusher.round.Goals as goal
 
 pub invariant_of-self : goal.invariant_of-self
 invariant_of-self g c = (
-  subst (λ (l : Responding). IsFlushing g.D.Disk.state (record { first = c.self.inside.first.value.journal; journal = c.self.inside.spool.journal; line = l }))
+  subst (λ (l : Responding). IsFlushing g.D.Disk.state (record { first = c.self.inside.first.value.journal; journal = c.self.inside.owned.journal; line = l }))
       (sym (same_line c.self.inside.line c.collect.new.line c.collect.new.calls.items c.collect.ensures.taken c.if-not-collect.ensures.count.0)) c.self.invariant.0,
   record {
     calls_empty = c.if-not-collect.ensures.count.0;
@@ -23,14 +23,14 @@ invariant_of-self g c = (
 
 pub returns-then-not-collect-clause-history : goal.returns-then-not-collect-clause-history
 returns-then-not-collect-clause-history g c =
-    let old : FlusherState g.row.D.Denot = record { first = c.self.inside.first.value.journal; journal = c.self.inside.spool.journal; line = c.self.inside.line } in
+    let old : FlusherState g.row.D.Denot = record { first = c.self.inside.first.value.journal; journal = c.self.inside.owned.journal; line = c.self.inside.line } in
     subst (λ (l : Responding). IsOneHistory g.D.Disk.state (record old { line = l }))
     (sym (same_line c.self.inside.line c.collect.new.line c.collect.new.calls.items c.collect.ensures.taken c.if-not-collect.ensures.count.0))
     (one_history g.D.Disk.state g.met.D.Disk.consistent old c.self.invariant.0)
 
 pub returns-then-not-collect-clause-any_moment : goal.returns-then-not-collect-clause-any_moment
 returns-then-not-collect-clause-any_moment g c =
-    let old : FlusherState g.row.D.Denot = record { first = c.self.inside.first.value.journal; journal = c.self.inside.spool.journal; line = c.self.inside.line } in
+    let old : FlusherState g.row.D.Denot = record { first = c.self.inside.first.value.journal; journal = c.self.inside.owned.journal; line = c.self.inside.line } in
     subst (λ (f : FlusherState g.row.D.Denot). (g.D.Disk.state f.journal.disk).honest → f.first.broken ≡ false → IsCrashSafe g.D.Disk.state f (record old { line = c.collect.new.line })) c.self.view_is
     (λ honest sound. subst (λ (l : Responding). IsCrashSafe g.D.Disk.state old (record old { line = l }))
     (sym (same_line c.self.inside.line c.collect.new.line c.collect.new.calls.items c.collect.ensures.taken c.if-not-collect.ensures.count.0))
@@ -38,7 +38,7 @@ returns-then-not-collect-clause-any_moment g c =
 
 pub answer_all-requires-clause-legal : goal.answer_all-requires-clause-legal
 answer_all-requires-clause-legal g c =
-    let old : FlusherState g.row.D.Denot = record { first = c.self.inside.first.value.journal; journal = c.self.inside.spool.journal; line = c.self.inside.line } in
+    let old : FlusherState g.row.D.Denot = record { first = c.self.inside.first.value.journal; journal = c.self.inside.owned.journal; line = c.self.inside.line } in
     let now : IsRounded g.D.Disk.state old.journal c.commit.new.journal c.collect.new.calls.items c.commit.new.answers.items = record {
       round = c.commit.ensures.round;
       safe = c.commit.ensures.any_moment;
@@ -50,7 +50,7 @@ answer_all-requires-clause-legal g c =
 
 pub invariant_of-self-2 : goal.invariant_of-self-2
 invariant_of-self-2 g c =
-    let old : FlusherState g.row.D.Denot = record { first = c.self.inside.first.value.journal; journal = c.self.inside.spool.journal; line = c.self.inside.line } in
+    let old : FlusherState g.row.D.Denot = record { first = c.self.inside.first.value.journal; journal = c.self.inside.owned.journal; line = c.self.inside.line } in
     let now : IsRounded g.D.Disk.state old.journal c.commit.new.journal c.collect.new.calls.items c.commit.new.answers.items = record {
       round = c.commit.ensures.round;
       safe = c.commit.ensures.any_moment;
@@ -77,7 +77,7 @@ invariant_of-self-2 g c =
 
 pub returns-clause-history : goal.returns-clause-history
 returns-clause-history g c =
-    let old : FlusherState g.row.D.Denot = record { first = c.self.inside.first.value.journal; journal = c.self.inside.spool.journal; line = c.self.inside.line } in
+    let old : FlusherState g.row.D.Denot = record { first = c.self.inside.first.value.journal; journal = c.self.inside.owned.journal; line = c.self.inside.line } in
     let now : IsRounded g.D.Disk.state old.journal c.commit.new.journal c.collect.new.calls.items c.commit.new.answers.items = record {
       round = c.commit.ensures.round;
       safe = c.commit.ensures.any_moment;
@@ -96,7 +96,7 @@ returns-clause-history g c =
 
 pub returns-clause-failures : goal.returns-clause-failures
 returns-clause-failures g c =
-    let old : FlusherState g.row.D.Denot = record { first = c.self.inside.first.value.journal; journal = c.self.inside.spool.journal; line = c.self.inside.line } in
+    let old : FlusherState g.row.D.Denot = record { first = c.self.inside.first.value.journal; journal = c.self.inside.owned.journal; line = c.self.inside.line } in
     let now : IsRounded g.D.Disk.state old.journal c.commit.new.journal c.collect.new.calls.items c.commit.new.answers.items = record {
       round = c.commit.ensures.round;
       safe = c.commit.ensures.any_moment;
@@ -114,7 +114,7 @@ returns-clause-failures g c =
 
 pub returns-clause-any_moment : goal.returns-clause-any_moment
 returns-clause-any_moment g c =
-    let old : FlusherState g.row.D.Denot = record { first = c.self.inside.first.value.journal; journal = c.self.inside.spool.journal; line = c.self.inside.line } in
+    let old : FlusherState g.row.D.Denot = record { first = c.self.inside.first.value.journal; journal = c.self.inside.owned.journal; line = c.self.inside.line } in
     let now : IsRounded g.D.Disk.state old.journal c.commit.new.journal c.collect.new.calls.items c.commit.new.answers.items = record {
       round = c.commit.ensures.round;
       safe = c.commit.ensures.any_moment;

@@ -1,10 +1,9 @@
 -- Reading things one behind the other.
 use Rattle.std.proofs.Common.{◌≡◌, ℕ, suc, ◌+◌, ◌-◌, ◌<◌, ◌≤◌, List, [], ◌∷◌, ◌++◌, Option, Some, None, refl, sym, ap, ◌∙◌, append_assoc, arith}
 use Rattle.std.proofs.lemmas.List.{append-nil}
-use Rattle.rly_record.specs.Reading.{◌>>=◌}
-use Rattle.rly_checkpoint.specs.declared.fault.CheckpointFault.{CheckpointFault}
-use Rattle.rly_checkpoint.specs.declared.fault.CheckpointFault.TheVariants.{OutOfMemory, Malformed}
-use Rattle.rly_checkpoint.specs.Reading.{Fails, Reader, many_at}
+use Rattle.rly_record.specs.Reading.{◌>>=◌, Fails, Reader, many_at}
+use Rattle.rly_record.specs.declared.fault.DecodeFault.{DecodeFault}
+use Rattle.rly_record.specs.declared.fault.DecodeFault.TheVariants.{OutOfMemory, Malformed}
 
 -- what was read before, and what is still read
 abbrev pub with_front : {A : Type 0} → List A → Option (List A × List ℕ) → Option (List A × List ℕ)
@@ -22,7 +21,7 @@ goes_on one front count i bytes x after total lt found so_far =
     let step : with_front front (many_at one (count - i) bytes) ≡ with_front (front ++ x ∷ []) (many_at one (count - (i + 1)) after) = rw (k, found) (regroup front x (many_at one (count - (i + 1)) after)) in
     sym step ∙ so_far
 
-pub ends : {A : Type 0} (one : Reader A) (fault : CheckpointFault) (front : List A) (count i : ℕ) (bytes : List ℕ) (total : Option (List A × List ℕ)) → i < count → Fails fault (one bytes)
+pub ends : {A : Type 0} (one : Reader A) (fault : DecodeFault) (front : List A) (count i : ℕ) (bytes : List ℕ) (total : Option (List A × List ℕ)) → i < count → Fails fault (one bytes)
     → with_front front (many_at one (count - i) bytes) ≡ total → Fails fault total
 unfolding many_at
 ends one OutOfMemory front count i bytes total lt fails so_far = tt

@@ -1,0 +1,83 @@
+-- A wall clock whose turns are without end hands out no end, so its worker never ends.
+use Rattle.std.proofs.Common.{◌≡◌, ◌∙◌, ℕ, zero, suc, ◌≤◌, List, [], ◌∷◌, ◌++◌, true, false, true≢false, ◌&&◌, ap, append_assoc, arith, get_or, length, map, refl, subst, sym}
+use Rattle.std.proofs.lemmas.Bool.{and_parts}
+use Rattle.std.proofs.lemmas.List.Folds.{list_all-append}
+use Rattle.std.proofs.lemmas.Option.{IfSome_then, none-some}
+use Rattle.std.specs.Bool.{IsTrue}
+use Rattle.std.specs.List.{AllZip}
+use Rattle.std.specs.Option.{option_map, unwrap_or}
+use Rattle.std.specs.Prelude.{IfSome, None, Option, Some}
+use Rattle.http_server.specs.declared.log.Log.{Log}
+use Rattle.rly_daemon.specs.declared.udp_link.UdpLink.{UdpLink}
+use Rattle.rly_daemon.specs.declared.wall_clock.WallClock.{WallClock}
+use Rattle.rly_daemon.specs.Serving.{Duty, addresses_of, duties, duty_at, duty_of, workers_of}
+use Rattle.rly_daemon.specs.WallClock.{all_on, endless_tells}
+use Rattle.rly_plan.specs.ContactPlan.{ContactPlan, hop_at, peer_at}
+use Rattle.rly_plan.specs.Endpoints.{Endpoints}
+use Rattle.rly_threads.specs.declared.relay.Post.{Post}
+use Rattle.rly_threads.specs.declared.turn.Go.{Go}
+use Rattle.rly_threads.specs.declared.turn.Point.{Point}
+use Rattle.rly_threads.specs.declared.turn.Point.TheVariants.{Start}
+use Rattle.rly_threads.specs.declared.turn.Worker.{Worker}
+use Rattle.rly_threads.specs.declared.turn.Worker.TheVariants as worker
+use Rattle.rly_threads.specs.Ends.{Tells}
+use Rattle.rly_threads.specs.Memory.{handed_of}
+use Rattle.rly_threads.specs.Relay.{HasEnded, HasWorked}
+use Rattle.rly_threads.specs.Runs.{Ran, Told}
+use Rattle.rly_threads.specs.Turns.{Done, Given, Handed}
+
+-- a worker was handed its end
+record Ended (old new : Told) : Type 0 where
+  pub worker : Worker
+  pub before : List Handed
+  pub last : Go
+  pub off : last.on ≡ false
+  pub handed : Tells old.handed new.handed (before ++ (worker, Start, last) ∷ [])
+
+ran_ended : {C : Type 0} (old new : Told) (w : Worker) (turns : List Given) (d : Done C) → Ran old new w turns d → Ended old new
+ran_ended old new w turns d ran = record { worker = w; before = d.handed; last = ran.last; off = ran.off; handed = ran.handed }
+
+if_there : {N : Type 0} (o : Option N) (f : N → Endpoints) (a : Endpoints) (Q : Type 0) → Some a ≡ option_map f o → IfSome o (λ _. Q) → Q
+if_there None f a Q e q = absurd (none-some _ (sym e))
+if_there (Some n) f a Q e q = q
+
+worked_ended : (plan : ContactPlan) (window : ℕ) (w : Worker) (a : Endpoints) (old new : Told) → Some a ≡ addresses_of plan w → HasWorked plan window w old new → Ended old new
+worked_ended plan window (worker.Receiver peer) a old new there worked =
+    if_there (peer_at plan peer) (λ n. n.addresses) a (Ended old new) there (IfSome_then (peer_at plan peer) worked (λ n did. ran_ended old new (worker.Receiver peer) did.0 _ did.1))
+worked_ended plan window (worker.Sender hop) a old new there worked =
+    if_there (hop_at plan hop) (λ n. n.addresses) a (Ended old new) there (IfSome_then (hop_at plan hop) worked (λ n did. ran_ended old new (worker.Sender hop) did.0 _ did.1))
+
+-- what it was handed last, by a clock that tells
+last_on : (left : Option ℕ) (log : Log (Worker × Point) Go) (before : List Handed) (h : Handed) → (left ≡ None → IsTrue (all_on (handed_of log)))
+    → endless_tells left log ≡ Some (before ++ h ∷ []) → h.2.on ≡ true
+last_on (Some n) log before h on said = absurd (none-some _ said)
+last_on None log before h on said =
+    let whole : handed_of log ≡ before ++ h ∷ [] = ap (λ o. unwrap_or o []) said in
+    let all : all_on (before ++ h ∷ []) ≡ true = sym (ap all_on whole) ∙ on refl in
+    let both : (all_on before && (h.2.on && true)) ≡ true = sym (list_all-append (λ (h : Handed). h.2.on) before (h ∷ [])) ∙ all in
+    (and_parts h.2.on true (and_parts (all_on before) (h.2.on && true) both).1).0
+
+first_duty : (d : Duty) (ds : List Duty) (plan : ContactPlan) (turns : ℕ) (ws : List Worker) → d ∷ ds ≡ map (duty_of plan turns) ws → (w : Worker) × (d ≡ duty_of plan turns w)
+first_duty d ds plan turns [] e = absurd (omega (arith, ap length e))
+first_duty d ds plan turns (w ∷ ws) e = (w, ap (λ l. get_or l 0 d) e)
+
+endless_goes_on : {C : Type 0} (plan : ContactPlan) (window : ℕ) (posts ended : List (Post (UdpLink C) (WallClock C))) → map duty_at posts ≡ duties plan 0 → 1 ≤ length posts
+    → AllZip (HasEnded (λ _. None) (λ _. None) (λ clock. endless_tells clock.left clock.handed) plan window) posts ended → ⊥
+endless_goes_on plan window [] ended e some worked = absurd (omega (arith, some))
+endless_goes_on plan window (post ∷ posts) [] e some worked = absurd worked
+endless_goes_on plan window (post ∷ posts) (left ∷ ended) e some worked =
+    let first = first_duty _ _ plan 0 (workers_of plan) e in
+    let is : post.worker ≡ first.0 = ap (λ d. d.worker) first.1 in
+    let there : Some post.link.addresses.value ≡ addresses_of plan post.worker = ap (λ d. d.addresses) first.1 ∙ ap (addresses_of plan) (sym is) in
+    let none : post.turn.left ≡ None = ap (λ d. d.left) first.1 in
+    let end = worked_ended plan window post.worker post.link.addresses.value _ _ there worked.0.1 in
+    let said : endless_tells left.turn.left left.turn.handed ≡ Some (handed_of post.turn.handed ++ (end.before ++ (end.worker, Start, end.last) ∷ [])) =
+    subst (λ l. Tells (endless_tells l post.turn.handed) (endless_tells left.turn.left left.turn.handed) (end.before ++ (end.worker, Start, end.last) ∷ [])) none end.handed in
+    let grown = said ∙ ap (λ h. Some h) (sym (append_assoc (handed_of post.turn.handed) end.before ((end.worker, Start, end.last) ∷ []))) in
+    true≢false (sym (last_on left.turn.left left.turn.handed _ _ left.turn.endless grown) ∙ end.off)
+
+-- where each worker of a plan ended, the turns have an end
+pub turns_end : {C : Type 0} (plan : ContactPlan) (window turns : ℕ) (posts ended : List (Post (UdpLink C) (WallClock C))) → map duty_at posts ≡ duties plan turns → 1 ≤ length posts
+    → AllZip (HasEnded (λ _. None) (λ _. None) (λ clock. endless_tells clock.left clock.handed) plan window) posts ended → 1 ≤ turns
+turns_end plan window zero posts ended e some worked = absurd (endless_goes_on plan window posts ended e some worked)
+turns_end plan window (suc n) posts ended e some worked = omega arith
