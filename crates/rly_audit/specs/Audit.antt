@@ -3,7 +3,7 @@ use Rattle.std.specs.Prelude.{◌≡◌, ℕ, List, true, Option}
 use Rattle.std.specs.Io.KnownBytes.{Appends}
 use Rattle.rly_core.specs.declared.refusal.Refusal.{Refusal}
 use Rattle.rly_disk.specs.DiskModel.{DiskState}
-use Rattle.rly_journal.specs.declared.fault.OpenFault.{OpenFault}
+use Rattle.rly_journal.specs.declared.open_fault.OpenFault.{OpenFault}
 use Rattle.rly_journal.specs.Faults.{IsRefused, opening_refusal}
 use Rattle.rly_journal.specs.Standing.{Stands}
 use Rattle.rly_machine.specs.State.{State}

@@ -7,7 +7,8 @@ use Rattle.rly_machine.specs.declared.reply.HopStatus.{HopStatus}
 use Rattle.rly_machine.specs.Query.{status_of}
 use Rattle.rly_machine.specs.State.{State}
 
--- the numbers that a report tells: those of each hop, the last one taken from each peer, and how many commands were accepted
+-- the numbers that a report tells: those of each hop, the last one taken from each peer, and how many commands were
+-- accepted
 pub record BooksState : Type 0 where
   pub hops : List HopStatus
   pub lasts : List ℕ

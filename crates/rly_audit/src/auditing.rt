@@ -1,7 +1,7 @@
 ghost use Rattle.std.specs.Prelude.{◌≡◌, ◌≢◌, ◌⊎◌, IfErr, IfOk, MatchResult, OnOk, false, true};
 ghost use Rattle.std.specs.Io.KnownBytes.{Appends, Keeps};
 ghost use Rattle.rly_core.specs.declared.refusal.Refusal.{Refusal as ARefusal};
-ghost use Rattle.rly_disk.specs.DiskModel.{Rose, Settled};
+ghost use Rattle.rly_disk.specs.DiskModel.{HasFailed, Settled};
 ghost use Rattle.rly_gate.specs.Reading.{OnlyRead};
 ghost use Rattle.rly_journal.specs.Journal.{SyncsOnce};
 ghost use Rattle.rly_stream.specs.Beginnings.{BreaksOff};
@@ -32,7 +32,7 @@ pub fn audit<D: Disk, W: Write>(
     // At a refusal nothing was written; it is that of the first check of opening that fails, or 14 or 23.
     ensures silent { IfErr result (λ failed. (refusal : ARefusal) → failed.0 ≡ AuditFault.Refused refusal → Keeps (W.contents writer.old) (W.contents writer.new)) }
     ensures refused { (D.state disk).honest → IfErr result (λ failed. (refusal : ARefusal) → failed.0 ≡ AuditFault.Refused refusal → IsRefusal (D.state disk).seen refusal) }
-    ensures rise { IfErr result (λ failed. failed.0 ≡ AuditFault.Refused Refusal.Device → Rose (D.state disk) (D.state failed.1)) }
+    ensures rise { IfErr result (λ failed. failed.0 ≡ AuditFault.Refused Refusal.Device → HasFailed (D.state disk) (D.state failed.1)) }
     ensures no_failure { MatchResult result (λ left. (D.state left).failures ≡ (D.state disk).failures)
         (λ failed. failed.0 ≢ AuditFault.Refused Refusal.Device → (D.state failed.1).failures ≡ (D.state disk).failures) }
     // The device was synced once and read, and nothing else.

@@ -5,8 +5,19 @@
 //! `specs/Audit.antt` what the call leaves. It takes any disk and any writer; a program and tests call it.
 #![tactic(auto)]
 
+/// As `assert!`, by one call: the prover then sees one way on where `assert!` has two. `assert!` stands where a later call needs
+/// what was asserted, and where the text names a row.
+#[cfg(test)]
+macro_rules! expect {
+    ($rt:expr; $cond:expr $(,)?) => {
+        crate::expect::expect(&$rt, $cond, stringify!($cond))
+    };
+}
+
 mod auditing;
 mod books;
+#[cfg(test)]
+mod expect;
 mod fault;
 #[cfg(test)]
 mod tests;

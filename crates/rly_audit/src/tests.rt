@@ -141,7 +141,7 @@ fn run(
     let mut answers: Vec<Answer> = Vec::new(alloc);
     journal.round(alloc, &mut calls, &mut answers)?;
     assert!(rt; answers.len() == 1);
-    assert!(rt; answers[0].reply.is_accepted());
+    expect!(rt; answers[0].reply.is_accepted());
     Ok(())
 }
 
@@ -169,7 +169,7 @@ fn report_on<D: Disk + Drop>(rt: &impl Abort, alloc: Global, disk: D) -> Result<
         Ok(left) => {
             let mut left = left;
             let after = bytes_of(rt, alloc, &mut left)?;
-            assert!(rt; after.as_slice() == before.as_slice());
+            expect!(rt; after.as_slice() == before.as_slice());
             Ok(written)
         }
         Err(_) => Err(Fail::from("no report")),
@@ -184,13 +184,13 @@ fn refuses(rt: &impl Abort, alloc: Global, bytes: Vec<u8>, refusal: Refusal) -> 
     match audit(alloc, disk, &mut written) {
         Ok(_) => return Err(Fail::from("not refused")),
         Err((fault, left)) => {
-            assert!(rt; fault == AuditFault::Refused(refusal));
+            expect!(rt; fault == AuditFault::Refused(refusal));
             let mut left = left;
             let after = bytes_of(rt, alloc, &mut left)?;
-            assert!(rt; after.as_slice() == before.as_slice());
+            expect!(rt; after.as_slice() == before.as_slice());
         }
     }
-    assert!(rt; written.is_empty());
+    expect!(rt; written.is_empty());
     Ok(())
 }
 
@@ -198,7 +198,7 @@ fn refuses(rt: &impl Abort, alloc: Global, bytes: Vec<u8>, refusal: Refusal) -> 
 fn a_new_device_has_nothing(rt: HostRuntime) -> Result<(), Fail> {
     let disk = formatted(&rt, rt.alloc(), &SMALL, SMALL_SIZE)?;
     let report = report_on(&rt, rt.alloc(), disk)?;
-    assert_eq!(rt; report.as_slice(), NEW.as_bytes());
+    expect!(rt; report.as_slice() == NEW.as_bytes());
     Ok(())
 }
 
@@ -206,10 +206,7 @@ fn a_new_device_has_nothing(rt: HostRuntime) -> Result<(), Fail> {
 fn six_taken_and_three_picked(rt: HostRuntime) -> Result<(), Fail> {
     let disk = six_takes_and_three_picks(&rt, rt.alloc())?;
     let report = report_on(&rt, rt.alloc(), disk)?;
-    assert_eq!(rt;
-        report.as_slice(),
-        b"hop 1 taken 6 queued 1 flight 3 dropped 2 released 0\npeer 1 last 6\nseq 9\nbalance ok\n".as_slice()
-    );
+    expect!(rt; report.as_slice() == b"hop 1 taken 6 queued 1 flight 3 dropped 2 released 0\npeer 1 last 6\nseq 9\nbalance ok\n".as_slice());
     Ok(())
 }
 
@@ -228,7 +225,7 @@ fn sixty_four_hops_and_peers(rt: HostRuntime) -> Result<(), Fail> {
         writeln!(expected, "peer {peer} last 0")?;
     }
     expected.push_str("seq 0\nbalance ok\n")?;
-    assert_eq!(rt; report.as_slice(), expected.as_bytes());
+    expect!(rt; report.as_slice() == expected.as_bytes());
     Ok(())
 }
 
@@ -263,12 +260,12 @@ fn a_device_that_fails(rt: HostRuntime) -> Result<(), Fail> {
     match audit(alloc, disk, &mut written) {
         Ok(_) => return Err(Fail::from("not refused")),
         Err((fault, left)) => {
-            assert!(rt; fault == AuditFault::Refused(Refusal::Device));
+            expect!(rt; fault == AuditFault::Refused(Refusal::Device));
             let report = report_on(&rt, alloc, left.into_inner())?;
-            assert_eq!(rt; report.as_slice(), NEW.as_bytes());
+            expect!(rt; report.as_slice() == NEW.as_bytes());
         }
     }
-    assert!(rt; written.is_empty());
+    expect!(rt; written.is_empty());
     Ok(())
 }
 
@@ -285,12 +282,12 @@ fn a_writer_that_fails_at_each_byte(rt: HostRuntime) -> Result<(), Fail> {
             Ok(_) => return Err(Fail::from("written whole")),
             Err(failed) => failed,
         };
-        assert!(rt; fault == AuditFault::Output);
-        assert_eq!(rt; writer.written.as_slice(), &NEW.as_bytes()[..room]);
+        expect!(rt; fault == AuditFault::Output);
+        expect!(rt; writer.written.as_slice() == &NEW.as_bytes()[..room]);
         disk = left;
     }
     let report = report_on(&rt, alloc, disk)?;
-    assert_eq!(rt; report.as_slice(), NEW.as_bytes());
+    expect!(rt; report.as_slice() == NEW.as_bytes());
     Ok(())
 }
 
@@ -298,8 +295,8 @@ fn a_writer_that_fails_at_each_byte(rt: HostRuntime) -> Result<(), Fail> {
 fn faults_have_their_lines(rt: HostRuntime) -> Result<(), Fail> {
     let alloc = rt.alloc();
     let damaged = format!(in alloc; "{}", AuditFault::Refused(Refusal::Damaged(64)))?;
-    assert_eq!(rt; damaged.as_str(), "refused 22 damaged 64");
+    expect!(rt; damaged.as_str() == "refused 22 damaged 64");
     let output = format!(in alloc; "{}", AuditFault::Output)?;
-    assert_eq!(rt; output.as_str(), "rly: output failed");
+    expect!(rt; output.as_str() == "rly: output failed");
     Ok(())
 }

@@ -12,8 +12,8 @@ use Rattle.rly_machine.specs.Sound.{IsLive, IsSound, IsSoundHop}
 use Rattle.rly_machine.specs.State.{State, HopState, live_line}
 use Rattle.rly_record.proofs.Fields.{some_is}
 use Rattle.rly_checkpoint.specs.Checkpoint.{checkpoint_of}
-use Rattle.rly_checkpoint.specs.Fitting.{Fits, EntryFits, HopFits}
-use Rattle.rly_checkpoint.specs.Reading.{whole_state}
+use Rattle.rly_checkpoint.specs.HelpersFitting.{FitsBytes, EntryFits, HopFits}
+use Rattle.rly_checkpoint.specs.HelpersReading.{whole_state}
 use Rattle.rly_checkpoint.proofs.Parts.{StateFits, whole_again}
 
 All_left : {A : Type 0} (P : A → Type 0) (xs ys : List A) → All P (xs ++ ys) → All P xs
@@ -59,7 +59,7 @@ pub state_fits : (s : State (List ℕ)) → IsSound length s → StateFits s.par
 state_fits s sound = record {
   params = refl;
   seq = omega (arith, sound.seq);
-  lasts = record { count = sound.peer_count; each = recursion_from_All (Fits 8) s.lasts (All-weaker (λ last. last ≤ s.seq) (Fits 8) (λ last le. omega (arith, le, sound.seq)) s.lasts sound.lasts) };
+  lasts = record { count = sound.peer_count; each = recursion_from_All (FitsBytes 8) s.lasts (All-weaker (λ last. last ≤ s.seq) (FitsBytes 8) (λ last le. omega (arith, le, sound.seq)) s.lasts sound.lasts) };
   hops = record { count = sound.hop_count; each = recursion_from_All HopFits s.hops (hops_fit s sound) };
 }
 

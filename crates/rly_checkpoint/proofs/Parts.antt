@@ -10,11 +10,11 @@ use Rattle.rly_core.specs.declared.params.Params.{Params}
 use Rattle.rly_codel.specs.declared.state.CodelState.{CodelState}
 use Rattle.rly_machine.specs.declared.hop.Item.{Item}
 use Rattle.rly_machine.specs.State.{State, HopState}
-use Rattle.rly_record.specs.Reading.{◌⊗◌, many_at, number_at, then_at}
+use Rattle.rly_record.specs.HelpersReading.{◌⊗◌, many_at, field_at, then_at}
 use Rattle.rly_record.proofs.Fields.{IsBytes, IsBytes-rest, bind_some, bind_is, guard_some, chosen, some_is, Takes}
 use Rattle.rly_checkpoint.specs.Checkpoint.{flag_byte, entry_of, codel_of, hop_bytes, checkpoint_of}
-use Rattle.rly_checkpoint.specs.Fitting.{Fits, CodelFits, EntryFits, LinesFit, HopFits}
-use Rattle.rly_checkpoint.specs.Reading.{flag_at, codel_at, inline_at, entry_at, line_at, lines_at, counts_at, hop_bytes_at, state_at, whole_state}
+use Rattle.rly_checkpoint.specs.HelpersFitting.{FitsBytes, CodelFits, EntryFits, LinesFit, HopFits}
+use Rattle.rly_checkpoint.specs.HelpersReading.{flag_at, codel_at, inline_at, entry_at, entries_at, lines_at, counts_at, hop_bytes_at, state_at, whole_state}
 use Rattle.rly_record.proofs.Readers.{Reads, Fit, u16_reads, u32_reads, u64_reads, then_reads, pair_reads, made_reads, many_reads}
 
 -- ---- flags and CoDel's state
@@ -86,7 +86,7 @@ entry_reads = made_reads
     (λ (item : Item (List ℕ)). (item.id, (item.stamp, (length item.payload, item.payload))))
     entry_of EntryFits (pair_reads u64_reads (pair_reads u64_reads (then_reads inline_at (λ payload. 0 ∷ payload) (λ size payload. length payload ≡ size) u16_reads inline_reads)))
     (λ x fits. ap (λ (n : ℕ). big_bytes 8 x.0 ++ (big_bytes 8 x.1.0 ++ (big_bytes 2 n ++ (0 ∷ x.1.1.1)))) (sym fits.1.1.1))
-    (λ x fits. record { id = fits.0; stamp = fits.1.0; payload = subst (Fits 2) (sym fits.1.1.1) fits.1.1.0 })
+    (λ x fits. record { id = fits.0; stamp = fits.1.0; payload = subst (FitsBytes 2) (sym fits.1.1.1) fits.1.1.0 })
     (λ item fits. ((fits.id, (fits.stamp, (fits.payload, refl))), refl))
 
 pub length-entry_of : (item : Item (List ℕ)) → length (entry_of item) ≡ 19 + length item.payload
@@ -106,8 +106,8 @@ guard_goes : {A : Type 0} (b : Bool) (read : Option A) (x : A) → cond b None r
 guard_goes true read x e = absurd cc
 guard_goes false read x e = (refl, e)
 
-line_reads : (n : ℕ) → Reads (line_at n) (flat_map entry_of) (Fit EntryFits n)
-unfolding line_at
+line_reads : (n : ℕ) → Reads (entries_at n) (flat_map entry_of) (Fit EntryFits n)
+unfolding entries_at
 line_reads n =
     let many = many_reads n entry_reads in
     record {
@@ -129,13 +129,13 @@ lines_reads = made_reads
     (λ (x : ℕ × (ℕ × (List (Item (List ℕ)) × List (Item (List ℕ))))). x.1.1)
     (λ (x : List (Item (List ℕ)) × List (Item (List ℕ))). (length x.0, (length x.1, x)))
     lines_of (λ x. LinesFit x.0 x.1)
-    (then_reads (λ n. then_at (number_at 4) (λ m. line_at n ⊗ line_at m)) (λ (x : ℕ × (List (Item (List ℕ)) × List (Item (List ℕ)))). big_bytes 4 x.0 ++ (flat_map entry_of x.1.0 ++ flat_map entry_of x.1.1))
-    (λ n x. Fits 4 x.0 × (Fit EntryFits n x.1.0 × Fit EntryFits x.0 x.1.1)) u16_reads
-    (λ n. then_reads (λ m. line_at n ⊗ line_at m) (λ (x : List (Item (List ℕ)) × List (Item (List ℕ))). flat_map entry_of x.0 ++ flat_map entry_of x.1) (λ m x. Fit EntryFits n x.0 × Fit EntryFits m x.1) u32_reads
+    (then_reads (λ n. then_at (field_at 4) (λ m. entries_at n ⊗ entries_at m)) (λ (x : ℕ × (List (Item (List ℕ)) × List (Item (List ℕ)))). big_bytes 4 x.0 ++ (flat_map entry_of x.1.0 ++ flat_map entry_of x.1.1))
+    (λ n x. FitsBytes 4 x.0 × (Fit EntryFits n x.1.0 × Fit EntryFits x.0 x.1.1)) u16_reads
+    (λ n. then_reads (λ m. entries_at n ⊗ entries_at m) (λ (x : List (Item (List ℕ)) × List (Item (List ℕ))). flat_map entry_of x.0 ++ flat_map entry_of x.1) (λ m x. Fit EntryFits n x.0 × Fit EntryFits m x.1) u32_reads
     (λ m. pair_reads (line_reads n) (line_reads m))))
     (λ x fits. ap (λ (n : ℕ). big_bytes 2 n ++ (big_bytes 4 x.1.0 ++ (flat_map entry_of x.1.1.0 ++ flat_map entry_of x.1.1.1))) (sym fits.1.1.0.count)
     ∙ ap (λ (m : ℕ). big_bytes 2 (length x.1.1.0) ++ (big_bytes 4 m ++ (flat_map entry_of x.1.1.0 ++ flat_map entry_of x.1.1.1))) (sym fits.1.1.1.count))
-    (λ x fits. record { in_flight = subst (Fits 2) (sym fits.1.1.0.count) fits.0; waiting = subst (Fits 4) (sym fits.1.1.1.count) fits.1.0; flight = fits.1.1.0.each; queue = fits.1.1.1.each })
+    (λ x fits. record { in_flight = subst (FitsBytes 2) (sym fits.1.1.0.count) fits.0; waiting = subst (FitsBytes 4) (sym fits.1.1.1.count) fits.1.0; flight = fits.1.1.0.each; queue = fits.1.1.1.each })
     (λ x fits. ((fits.in_flight, (fits.waiting, (record { count = refl; each = fits.flight }, record { count = refl; each = fits.queue }))), refl))
 
 -- ---- hops
@@ -143,7 +143,7 @@ lines_reads = made_reads
 regroup : (a b c d e f g x y : List ℕ) → a ++ (b ++ ((c ++ (d ++ e)) ++ (f ++ (g ++ (x ++ y))))) ≡ a ++ b ++ c ++ d ++ e ++ f ++ g ++ (x ++ y)
 regroup a b c d e f g x y = simp append_assoc
 
-counts_reads : Reads counts_at (λ x. big_bytes 8 x.0 ++ (big_bytes 8 x.1.0 ++ big_bytes 8 x.1.1)) (λ x. Fits 8 x.0 × (Fits 8 x.1.0 × Fits 8 x.1.1))
+counts_reads : Reads counts_at (λ x. big_bytes 8 x.0 ++ (big_bytes 8 x.1.0 ++ big_bytes 8 x.1.1)) (λ x. FitsBytes 8 x.0 × (FitsBytes 8 x.1.0 × FitsBytes 8 x.1.1))
 unfolding counts_at
 counts_reads = pair_reads u64_reads (pair_reads u64_reads u64_reads)
 
@@ -176,8 +176,8 @@ hop_reads = made_reads
 -- a state has its bytes under some parameters
 pub record StateFits (given : Params) (s : State (List ℕ)) : Type 0 where
   pub params : s.params ≡ given
-  pub seq : Fits 8 s.seq
-  pub lasts : Fit (Fits 8) given.peers s.lasts
+  pub seq : FitsBytes 8 s.seq
+  pub lasts : Fit (FitsBytes 8) given.peers s.lasts
   pub hops : Fit HopFits given.hops s.hops
 
 state_reads : (params : Params) → Reads (state_at params) checkpoint_of (StateFits params)

@@ -3,12 +3,12 @@ use Rattle.std.proofs.Common.{◌≡◌, ℕ, List, length, map, Some, sym, ap, 
 use Rattle.std.proofs.lemmas.List.{length-map}
 use Rattle.rly_core.specs.declared.params.Params.{Params}
 use Rattle.rly_machine.specs.declared.hop.Hop.{Hop}
-use Rattle.rly_machine.specs.Kept.{hop_of}
+use Rattle.rly_machine.specs.Kept.{hop_state}
 use Rattle.rly_machine.specs.Sound.{IsSound}
 use Rattle.rly_machine.specs.State.{HopState, State}
 use Rattle.rly_record.proofs.Fields.{IsBytes, some_is}
 use Rattle.rly_checkpoint.specs.Checkpoint.{checkpoint_of}
-use Rattle.rly_checkpoint.specs.Reading.{whole_state}
+use Rattle.rly_checkpoint.specs.HelpersReading.{whole_state}
 use Rattle.rly_checkpoint.proofs.Fitness.{state_fits}
 use Rattle.rly_checkpoint.proofs.Parts.{whole_again, whole_takes}
 
@@ -22,9 +22,9 @@ pub same_state : (params : Params) (bytes : List ℕ) (read s : State (List ℕ)
 same_state params bytes read s found sound given same = some_is read s (sym found ∙ sound_again params bytes s sound given same)
 
 -- how many hops and peers were read
-pub hops_read : (params : Params) (bytes : List ℕ) (s : State (List ℕ)) (hops : List (Hop (List ℕ))) → IsBytes bytes → whole_state params bytes ≡ Some s → s.hops ≡ map hop_of hops → length hops ≡ params.hops
+pub hops_read : (params : Params) (bytes : List ℕ) (s : State (List ℕ)) (hops : List (Hop (List ℕ))) → IsBytes bytes → whole_state params bytes ≡ Some s → s.hops ≡ map hop_state hops → length hops ≡ params.hops
 hops_read params bytes s hops fits found same =
-    let view : Hop (List ℕ) → HopState (List ℕ) = hop_of in
+    let view : Hop (List ℕ) → HopState (List ℕ) = hop_state in
     sym (length-map hops view) ∙ sym (ap (λ (l : List (HopState (List ℕ))). length l) same) ∙ (whole_takes params bytes s fits found).1.hops.count
 
 pub peers_read : (params : Params) (bytes : List ℕ) (s : State (List ℕ)) → IsBytes bytes → whole_state params bytes ≡ Some s → length s.lasts ≡ params.peers

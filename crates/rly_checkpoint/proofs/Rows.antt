@@ -5,7 +5,7 @@ use Rattle.std.proofs.lemmas.List.Elements.{All-nil, All-cons, All-head, All-tai
 use Rattle.std.proofs.lemmas.List.Kept.{AllPairs-cons}
 use Rattle.rly_machine.specs.declared.hop.Item.{Item}
 use Rattle.rly_machine.specs.Sound.{ComesBefore, IsLive}
-use Rattle.rly_checkpoint.specs.Line.{IsRow}
+use Rattle.rly_checkpoint.specs.HelpersRows.{IsRow}
 
 -- an item comes behind an id and a stamp
 pub record IsBehind (id stamp : ℕ) (item : Item (List ℕ)) : Type 0 where

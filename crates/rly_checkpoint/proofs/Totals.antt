@@ -10,12 +10,12 @@ use Rattle.rly_core.specs.declared.params.Params.{Params}
 use Rattle.rly_machine.specs.Accepted.{max_seq}
 use Rattle.rly_machine.specs.declared.hop.Hop.{Hop}
 use Rattle.rly_machine.specs.declared.hop.Item.{Item}
-use Rattle.rly_machine.specs.Kept.{hop_of}
+use Rattle.rly_machine.specs.Kept.{hop_state}
 use Rattle.rly_machine.specs.Sound.{IsLive, IsSound, IsSoundHop}
 use Rattle.rly_machine.specs.State.{HopState, bytes_of, live_line, new_hop}
 use Rattle.rly_machine.proofs.Keeping.{read_hop}
 use Rattle.rly_machine.proofs.Restoring.{counted_le}
-use Rattle.rly_checkpoint.specs.Line.{IsRow}
+use Rattle.rly_checkpoint.specs.HelpersRows.{IsRow}
 use Rattle.rly_checkpoint.proofs.Rows.{row_from, row_live, row_order}
 
 -- what is at most a bound for each is at most so often that bound for all
@@ -54,24 +54,24 @@ hop_is params seq h row balance taken moment window codel test = (
 -- ---- the hops, one behind the other
 
 -- a place among the hops
-pub map_place : (hops : List (Hop (List ℕ))) (i : ℕ) → i < length hops → i < length (map hop_of hops)
+pub map_place : (hops : List (Hop (List ℕ))) (i : ℕ) → i < length hops → i < length (map hop_state hops)
 map_place hops i lt =
-    let view : Hop (List ℕ) → HopState (List ℕ) = hop_of in
+    let view : Hop (List ℕ) → HopState (List ℕ) = hop_state in
     omega (arith, lt, length-map hops view)
 
 -- what is true of all the hops is true of the one that was read
-pub hop_among : (P : HopState (List ℕ) → Type 0) (hops : List (Hop (List ℕ))) (i : ℕ) (old : Hop (List ℕ)) → i < length hops → old ≡ get_or hops i old → All P (map hop_of hops) → P (hop_of old)
+pub hop_among : (P : HopState (List ℕ) → Type 0) (hops : List (Hop (List ℕ))) (i : ℕ) (old : Hop (List ℕ)) → i < length hops → old ≡ get_or hops i old → All P (map hop_state hops) → P (hop_state old)
 hop_among P hops i old lt is all =
     subst P (sym (read_hop hops i old lt is)) (all i new_hop (map_place hops i lt))
 
 -- one more hop of which it is true
-pub hop_more : (P : HopState (List ℕ) → Type 0) (hops : List (Hop (List ℕ))) (i : ℕ) (old : Hop (List ℕ)) → i < length hops → old ≡ get_or hops i old → All P (take i (map hop_of hops)) → P (hop_of old) → All P (take (i + 1) (map hop_of hops))
+pub hop_more : (P : HopState (List ℕ) → Type 0) (hops : List (Hop (List ℕ))) (i : ℕ) (old : Hop (List ℕ)) → i < length hops → old ≡ get_or hops i old → All P (take i (map hop_state hops)) → P (hop_state old) → All P (take (i + 1) (map hop_state hops))
 hop_more P hops i old lt is before here =
-    let view : Hop (List ℕ) → HopState (List ℕ) = hop_of in
+    let view : Hop (List ℕ) → HopState (List ℕ) = hop_state in
     All-more P (map view hops) i new_hop (map_place hops i lt) before (subst P (read_hop hops i old lt is) here)
 
 -- no hop keeps more than all
-pub too_many : (hops : List (Hop (List ℕ))) (i : ℕ) (old : Hop (List ℕ)) (most : ℕ) → i < length hops → old ≡ get_or hops i old → most < length (live_line (hop_of old)) → sum_by (λ h. length (live_line h)) (map hop_of hops) ≤ most → ⊥
+pub too_many : (hops : List (Hop (List ℕ))) (i : ℕ) (old : Hop (List ℕ)) (most : ℕ) → i < length hops → old ≡ get_or hops i old → most < length (live_line (hop_state old)) → sum_by (λ h. length (live_line h)) (map hop_state hops) ≤ most → ⊥
 too_many hops i old most lt is many few = omega (arith, counted_le (λ (h : HopState (List ℕ)). length (live_line h)) hops i old lt is, many, few)
 
 -- the payload bytes of a sound hop
@@ -88,23 +88,23 @@ sum_fits seq numbers top few all =
 
 -- hops that were found wanting are those of no sound state
 pub not_sound : (params : Params) (hops read : List (Hop (List ℕ))) (lasts : List ℕ) (seq : ℕ) → read ≡ hops
-    → (All (IsSoundHop length params seq) (map hop_of read) × (sum_by (λ h. length (live_line h)) (map hop_of read) ≤ params.items) → ⊥)
-    → IsSound length (record { params = params; hops = map hop_of hops; lasts = lasts; seq = seq }) → ⊥
+    → (All (IsSoundHop length params seq) (map hop_state read) × (sum_by (λ h. length (live_line h)) (map hop_state read) ≤ params.items) → ⊥)
+    → IsSound length (record { params = params; hops = map hop_state hops; lasts = lasts; seq = seq }) → ⊥
 not_sound params hops read lasts seq same wanting sound =
-    let view : Hop (List ℕ) → HopState (List ℕ) = hop_of in
+    let view : Hop (List ℕ) → HopState (List ℕ) = hop_state in
     let e : map view hops ≡ map view read = sym (ap (map view) same) in
     wanting (subst (All (IsSoundHop length params seq)) e sound.hops, subst (λ (l : List (HopState (List ℕ))). sum_by (λ h. length (live_line h)) l ≤ params.items) e sound.items)
 
 -- a state is sound where its parts are, and it keeps no more bytes than it may
 pub state_is : (params : Params) (hops read : List (Hop (List ℕ))) (lasts numbers : List ℕ) (seq taken items bytes : ℕ) → read ≡ hops → numbers ≡ lasts
     → IsWithinLimits params → length hops ≡ params.hops → length lasts ≡ params.peers
-    → All (IsSoundHop length params seq) (map hop_of read) → All (λ number. number ≤ seq) numbers
-    → sum numbers ≡ taken → taken ≡ sum_by (λ h. h.taken) (map hop_of read)
-    → items ≡ sum_by (λ h. length (live_line h)) (map hop_of read) → items ≤ params.items
-    → bytes ≡ sum_by (λ h. bytes_of length (live_line h)) (map hop_of read) → seq ≤ max_seq
-    → (leb bytes params.bytes ≡ true) ↔ IsSound length (record { params = params; hops = map hop_of hops; lasts = lasts; seq = seq })
+    → All (IsSoundHop length params seq) (map hop_state read) → All (λ number. number ≤ seq) numbers
+    → sum numbers ≡ taken → taken ≡ sum_by (λ h. h.taken) (map hop_state read)
+    → items ≡ sum_by (λ h. length (live_line h)) (map hop_state read) → items ≤ params.items
+    → bytes ≡ sum_by (λ h. bytes_of length (live_line h)) (map hop_state read) → seq ≤ max_seq
+    → (leb bytes params.bytes ≡ true) ↔ IsSound length (record { params = params; hops = map hop_state hops; lasts = lasts; seq = seq })
 state_is params hops read lasts numbers seq taken items bytes same same_lasts within hop_count peer_count sound_hops sound_lasts is_sum is_taken is_items few is_bytes top =
-    let view : Hop (List ℕ) → HopState (List ℕ) = hop_of in
+    let view : Hop (List ℕ) → HopState (List ℕ) = hop_state in
     let e : map view read ≡ map view hops = ap (map view) same in
     let count : HopState (List ℕ) → ℕ = λ h. length (live_line h) in
     let weight : HopState (List ℕ) → ℕ = λ h. bytes_of length (live_line h) in

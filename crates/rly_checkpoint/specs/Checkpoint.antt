@@ -18,7 +18,9 @@ entry_of item = big_bytes 8 item.id ++ big_bytes 8 item.stamp ++ big_bytes 2 (le
 
 -- CoDel's state
 unfoldable pub codel_of : CodelState → List ℕ
-codel_of c = big_bytes 8 c.first_above_time ++ big_bytes 8 c.drop_next ++ big_bytes 8 c.count ++ big_bytes 8 c.lastcount ++ flag_byte c.dropping ∷ []
+codel_of c =
+    big_bytes 8 c.first_above_time ++ big_bytes 8 c.drop_next ++ big_bytes 8 c.count ++ big_bytes 8 c.lastcount
+    ++ flag_byte c.dropping ∷ []
 
 -- a hop: its last moment, CoDel's state, its counts, how many are in flight and how many wait, and the entries of both
 unfoldable pub hop_bytes : HopState (List ℕ) → List ℕ

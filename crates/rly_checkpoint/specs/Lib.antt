@@ -1,4 +1,4 @@
 pub mod Checkpoint
-pub mod Reading
-pub mod Line
-pub mod Fitting
+pub mod HelpersFitting
+pub mod HelpersReading
+pub mod HelpersRows

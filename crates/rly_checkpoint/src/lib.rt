@@ -17,6 +17,3 @@ pub use crate::laws::{law_length, law_one_state};
 pub use crate::restoring::read_checkpoint;
 pub use crate::writing::{checkpoint_len, write_checkpoint};
 pub use rly_record::DecodeFault;
-
-#[cfg(test)]
-mod tests;

@@ -1,8 +1,8 @@
 ghost use Rattle.std.specs.Prelude.{◌≡◌, ◌≤◌, ◌<◌, ◌^◌, ℕ, List, length, map};
 ghost use Rattle.rly_core.specs.Limits.{IsWithinLimits};
-ghost use Rattle.rly_record.specs.Reading.{Gives, many_at, number_at};
-ghost use Rattle.rly_checkpoint.specs.Reading.{codel_at, counts_at, entry_at, flag_at, hop_bytes_at, inline_at, line_at, lines_at, whole_state};
-ghost use Rattle.rly_machine.specs.Kept.{hop_of, state_of};
+ghost use Rattle.rly_record.specs.HelpersReading.{Gives, many_at, field_at};
+ghost use Rattle.rly_checkpoint.specs.HelpersReading.{codel_at, counts_at, entry_at, flag_at, hop_bytes_at, inline_at, entries_at, lines_at, whole_state};
+ghost use Rattle.rly_machine.specs.Kept.{hop_state, state_of};
 
 use crate::writing::ENTRY_LENGTH;
 use byteorder::{BigEndian, ByteOrder};
@@ -37,7 +37,7 @@ struct Lines {
 
 /// A number of two bytes, and what stands behind it.
 fn u16_of(bytes: &[u8]) -> Result<(u16, &[u8]), DecodeFault>
-    ensures { Gives (λ x. (x.0, x.1.now)) result (number_at 2 bytes.now) }
+    ensures { Gives (λ x. (x.0, x.1.now)) result (field_at 2 bytes.now) }
 {
     if bytes.len() < 2 {
         return Err(DecodeFault::Malformed);
@@ -47,7 +47,7 @@ fn u16_of(bytes: &[u8]) -> Result<(u16, &[u8]), DecodeFault>
 
 /// A number of four bytes, and what stands behind it.
 fn u32_of(bytes: &[u8]) -> Result<(u32, &[u8]), DecodeFault>
-    ensures { Gives (λ x. (x.0, x.1.now)) result (number_at 4 bytes.now) }
+    ensures { Gives (λ x. (x.0, x.1.now)) result (field_at 4 bytes.now) }
 {
     if bytes.len() < 4 {
         return Err(DecodeFault::Malformed);
@@ -57,7 +57,7 @@ fn u32_of(bytes: &[u8]) -> Result<(u32, &[u8]), DecodeFault>
 
 /// A number of eight bytes, and what stands behind it.
 fn u64_of(bytes: &[u8]) -> Result<(u64, &[u8]), DecodeFault>
-    ensures { Gives (λ x. (x.0, x.1.now)) result (number_at 8 bytes.now) }
+    ensures { Gives (λ x. (x.0, x.1.now)) result (field_at 8 bytes.now) }
 {
     if bytes.len() < 8 {
         return Err(DecodeFault::Malformed);
@@ -66,7 +66,7 @@ fn u64_of(bytes: &[u8]) -> Result<(u64, &[u8]), DecodeFault>
 }
 
 /// A flag, and what stands behind it.
-#[tactic(auto, unfolding(crate::specs::Reading::flag_at))]
+#[tactic(auto, unfolding(crate::specs::HelpersReading::flag_at))]
 fn flag_of(bytes: &[u8]) -> Result<(bool, &[u8]), DecodeFault>
     ensures { Gives (λ x. (x.0, x.1.now)) result (flag_at bytes.now) }
 {
@@ -78,7 +78,7 @@ fn flag_of(bytes: &[u8]) -> Result<(bool, &[u8]), DecodeFault>
 }
 
 /// CoDel's state, and what stands behind it.
-#[tactic(auto, unfolding(crate::specs::Reading::codel_at))]
+#[tactic(auto, unfolding(crate::specs::HelpersReading::codel_at))]
 fn codel_of(bytes: &[u8]) -> Result<(CodelState, &[u8]), DecodeFault>
     ensures { Gives (λ x. (x.0, x.1.now)) result (codel_at bytes.now) }
 {
@@ -98,7 +98,7 @@ fn codel_of(bytes: &[u8]) -> Result<(CodelState, &[u8]), DecodeFault>
 }
 
 /// So many bytes of a payload behind the byte of its form, and what stands behind them.
-#[tactic(auto, unfolding(crate::specs::Reading::inline_at))]
+#[tactic(auto, unfolding(crate::specs::HelpersReading::inline_at))]
 fn inline_of(alloc: Global, size: u16, bytes: &[u8]) -> Result<(Payload, &[u8]), DecodeFault>
     ensures { Gives (λ x. (x.0, x.1.now)) result (inline_at size bytes.now) }
 {
@@ -114,7 +114,7 @@ fn inline_of(alloc: Global, size: u16, bytes: &[u8]) -> Result<(Payload, &[u8]),
 }
 
 /// An entry, and what stands behind it.
-#[tactic(auto, unfolding(crate::specs::Reading::entry_at))]
+#[tactic(auto, unfolding(crate::specs::HelpersReading::entry_at))]
 fn entry_of(alloc: Global, bytes: &[u8]) -> Result<(Item<Payload>, &[u8]), DecodeFault>
     ensures { Gives (λ x. (x.0, x.1.now)) result (entry_at bytes.now) }
 {
@@ -126,7 +126,7 @@ fn entry_of(alloc: Global, bytes: &[u8]) -> Result<(Item<Payload>, &[u8]), Decod
 }
 
 /// How many datagrams a hop took, dropped and released, and what stands behind them.
-#[tactic(auto, unfolding(crate::specs::Reading::counts_at))]
+#[tactic(auto, unfolding(crate::specs::HelpersReading::counts_at))]
 fn counts_of(bytes: &[u8]) -> Result<(Counts, &[u8]), DecodeFault>
     ensures { Gives (λ x. ((x.0.taken, (x.0.dropped, x.0.released)), x.1.now)) result (counts_at bytes.now) }
 {
@@ -142,14 +142,14 @@ fn counts_of(bytes: &[u8]) -> Result<(Counts, &[u8]), DecodeFault>
 }
 
 /// So many entries, and what stands behind them.
-#[tactic(auto, unfolding(crate::specs::Reading::line_at))]
+#[tactic(auto, unfolding(crate::specs::HelpersReading::entries_at))]
 fn line_of(
     alloc: Global,
     count: usize,
     bytes: &[u8],
 ) -> Result<(Vec<Item<Payload>>, &[u8]), DecodeFault>
     requires { count < 2 ^ 32 }
-    ensures { Gives (λ x. (x.0.items, x.1.now)) result (line_at count bytes.now) }
+    ensures { Gives (λ x. (x.0.items, x.1.now)) result (entries_at count bytes.now) }
 {
     if bytes.len() < ENTRY_LENGTH * count {
         return Err(DecodeFault::Malformed);
@@ -176,7 +176,7 @@ fn entries_of(
 }
 
 /// What is in flight and what waits, and what stands behind them.
-#[tactic(auto, unfolding(crate::specs::Reading::lines_at))]
+#[tactic(auto, unfolding(crate::specs::HelpersReading::lines_at))]
 fn lines_of(alloc: Global, bytes: &[u8]) -> Result<(Lines, &[u8]), DecodeFault>
     ensures { Gives (λ x. ((x.0.flight.items, x.0.queue.items), x.1.now)) result (lines_at bytes.now) }
 {
@@ -188,9 +188,9 @@ fn lines_of(alloc: Global, bytes: &[u8]) -> Result<(Lines, &[u8]), DecodeFault>
 }
 
 /// A hop, and what stands behind it.
-#[tactic(auto, unfolding(crate::specs::Reading::hop_bytes_at))]
+#[tactic(auto, unfolding(crate::specs::HelpersReading::hop_bytes_at))]
 fn hop_of_bytes(alloc: Global, bytes: &[u8]) -> Result<(Hop<Payload>, &[u8]), DecodeFault>
-    ensures { Gives (λ x. (hop_of x.0, x.1.now)) result (hop_bytes_at bytes.now) }
+    ensures { Gives (λ x. (hop_state x.0, x.1.now)) result (hop_bytes_at bytes.now) }
 {
     let (moment, rest) = u64_of(bytes)?;
     let (codel, rest) = codel_of(rest)?;
@@ -214,7 +214,7 @@ fn hops_of(
     count: usize,
     bytes: &[u8],
 ) -> Result<(Vec<Hop<Payload>>, &[u8]), DecodeFault>
-    ensures { Gives (λ x. (map hop_of x.0.items, x.1.now)) result (many_at hop_bytes_at count bytes.now) }
+    ensures { Gives (λ x. (map hop_state x.0.items, x.1.now)) result (many_at hop_bytes_at count bytes.now) }
 {
     let mut hops = Vec::with_capacity(alloc, count)?;
     let mut rest = bytes;
@@ -228,7 +228,7 @@ fn hops_of(
 
 /// So many numbers of eight bytes, and what stands behind them.
 fn numbers_of(alloc: Global, count: usize, bytes: &[u8]) -> Result<(Vec<u64>, &[u8]), DecodeFault>
-    ensures { Gives (λ x. (x.0.items, x.1.now)) result (many_at (number_at 8) count bytes.now) }
+    ensures { Gives (λ x. (x.0.items, x.1.now)) result (many_at (field_at 8) count bytes.now) }
 {
     let mut numbers = Vec::with_capacity(alloc, count)?;
     let mut rest = bytes;
@@ -241,7 +241,7 @@ fn numbers_of(alloc: Global, count: usize, bytes: &[u8]) -> Result<(Vec<u64>, &[
 }
 
 /// The parts of a spool with those parameters, and nothing behind them.
-#[tactic(auto, unfolding(crate::specs::Reading::state_at, crate::specs::Reading::whole_state))]
+#[tactic(auto, unfolding(crate::specs::HelpersReading::state_at, crate::specs::HelpersReading::whole_state))]
 pub(crate) fn parts_of(alloc: Global, params: Params, bytes: &[u8]) -> Result<Parts, DecodeFault>
     requires { IsWithinLimits params }
     ensures { Gives (λ parts. state_of params parts.hops parts.lasts parts.seq) result (whole_state params bytes.now) }

@@ -1,10 +1,10 @@
 ghost use Rattle.std.specs.Prelude.{◌≡◌, ◌≤◌, ◌<◌, ◌+◌, ◌^◌, ◌↔◌, All, IfNone, IfSome, IsTrue, length, map, slice_index_or, sum, sum_by};
 ghost use Rattle.rly_core.specs.Limits.{IsWithinLimits};
 ghost use Rattle.rly_machine.specs.Accepted.{max_seq};
-ghost use Rattle.rly_machine.specs.Kept.{hop_of, state_of};
+ghost use Rattle.rly_machine.specs.Kept.{hop_state, state_of};
 ghost use Rattle.rly_machine.specs.Sound.{IsSound, IsSoundHop};
 ghost use Rattle.rly_machine.specs.State.{bytes_of, live_line};
-ghost use Rattle.rly_checkpoint.specs.Line.{Follows, IsRow};
+ghost use Rattle.rly_checkpoint.specs.HelpersRows.{Follows, IsRow};
 
 use crate::reading::Parts;
 use rly_core::{Params, limits};
@@ -58,11 +58,11 @@ fn totals_of(params: &Params, seq: u64, hops: &[Hop<Payload>]) -> Option<Totals>
     requires params { IsWithinLimits params.now }
     requires seq { seq ≤ max_seq }
     requires count { length hops.now ≤ 64 }
-    ensures none { IfNone result (¬ (All (IsSoundHop length params.now seq) (map hop_of hops.now) × (sum_by (λ h. length (live_line h)) (map hop_of hops.now) ≤ params.now.items))) }
-    ensures hops { IfSome result (λ _. All (IsSoundHop length params.now seq) (map hop_of hops.now)) }
-    ensures taken { IfSome result (λ totals. totals.taken ≡ sum_by (λ h. h.taken) (map hop_of hops.now)) }
-    ensures items { IfSome result (λ totals. totals.items ≡ sum_by (λ h. length (live_line h)) (map hop_of hops.now)) }
-    ensures bytes { IfSome result (λ totals. totals.bytes ≡ sum_by (λ h. bytes_of length (live_line h)) (map hop_of hops.now)) }
+    ensures none { IfNone result (¬ (All (IsSoundHop length params.now seq) (map hop_state hops.now) × (sum_by (λ h. length (live_line h)) (map hop_state hops.now) ≤ params.now.items))) }
+    ensures hops { IfSome result (λ _. All (IsSoundHop length params.now seq) (map hop_state hops.now)) }
+    ensures taken { IfSome result (λ totals. totals.taken ≡ sum_by (λ h. h.taken) (map hop_state hops.now)) }
+    ensures items { IfSome result (λ totals. totals.items ≡ sum_by (λ h. length (live_line h)) (map hop_state hops.now)) }
+    ensures bytes { IfSome result (λ totals. totals.bytes ≡ sum_by (λ h. bytes_of length (live_line h)) (map hop_state hops.now)) }
 {
     let mut totals = Totals {
         taken: 0,
@@ -88,7 +88,7 @@ fn totals_of(params: &Params, seq: u64, hops: &[Hop<Payload>]) -> Option<Totals>
 fn is_sound_hop(params: &Params, seq: u64, hop: &Hop<Payload>) -> bool
     requires params { IsWithinLimits params.now }
     requires seq { seq ≤ max_seq }
-    ensures { IsTrue result ↔ IsSoundHop length params.now seq (hop_of hop.now) }
+    ensures { IsTrue result ↔ IsSoundHop length params.now seq (hop_state hop.now) }
 {
     if !balances(hop) || hop.taken > seq {
         return false;
@@ -121,8 +121,8 @@ fn is_codel(codel: &CodelState, latest: u64, dropped: u64) -> bool
 
 /// Whether a hop's live datagrams stand in order.
 fn is_row(hop: &Hop<Payload>, seq: u64) -> bool
-    requires { length (live_line (hop_of hop.now)) < 2 ^ 64 }
-    ensures { IsTrue result ↔ IsRow hop.now.moment seq 0 0 (live_line (hop_of hop.now)) }
+    requires { length (live_line (hop_state hop.now)) < 2 ^ 64 }
+    ensures { IsTrue result ↔ IsRow hop.now.moment seq 0 0 (live_line (hop_state hop.now)) }
 {
     let count = hop.flight.len() + hop.queue.len();
     let mut id = 0;
@@ -140,8 +140,8 @@ fn is_row(hop: &Hop<Payload>, seq: u64) -> bool
 
 /// A live datagram of a hop, counted from the first in flight.
 fn live_at(hop: &Hop<Payload>, index: usize) -> &Item<Payload>
-    requires { index < length (live_line (hop_of hop.now)) }
-    ensures { result.now ≡ slice_index_or (live_line (hop_of hop.now)) index result.now }
+    requires { index < length (live_line (hop_state hop.now)) }
+    ensures { result.now ≡ slice_index_or (live_line (hop_state hop.now)) index result.now }
 {
     let in_flight = hop.flight.len();
     if index < in_flight {

@@ -2,9 +2,9 @@ ghost use Rattle.std.specs.Prelude.{◌≡◌, ◌≤◌, ◌<◌, ◌+◌, ◌+
 ghost use Rattle.std.specs.List.{AllByRecursion, flat_map};
 ghost use Rattle.std.specs.Vec.{vec_capacity};
 ghost use Rattle.byteorder.specs.Endian.{big_bytes};
-ghost use Rattle.rly_machine.specs.Kept.{hop_of};
+ghost use Rattle.rly_machine.specs.Kept.{hop_state};
 ghost use Rattle.rly_checkpoint.specs.Checkpoint.{checkpoint_of, codel_of, entry_of, hop_bytes};
-ghost use Rattle.rly_checkpoint.specs.Fitting.{EntryFits, HopFits};
+ghost use Rattle.rly_checkpoint.specs.HelpersFitting.{EntryFits, HopFits};
 
 use byteorder::{BigEndian, ByteOrder};
 use rly_machine::{CodelState, Hop, Item, Machine, Payload};
@@ -100,9 +100,9 @@ fn append_numbers(numbers: &[u64], out: &mut Vec<u8>)
 
 /// Adds hops for which there is room.
 fn append_hops(hops: &[Hop<Payload>], out: &mut Vec<u8>)
-    requires fit { All HopFits (map hop_of hops.now) }
-    requires room { vec_len out.old + length (flat_map hop_bytes (map hop_of hops.now)) ≤ vec_capacity out.old }
-    ensures items { out.new.items ≡ out.old.items ++ flat_map hop_bytes (map hop_of hops.now) }
+    requires fit { All HopFits (map hop_state hops.now) }
+    requires room { vec_len out.old + length (flat_map hop_bytes (map hop_state hops.now)) ≤ vec_capacity out.old }
+    ensures items { out.new.items ≡ out.old.items ++ flat_map hop_bytes (map hop_state hops.now) }
     ensures capacity { vec_capacity out.old ≤ vec_capacity out.new }
 {
     for hop in hops {
@@ -112,10 +112,10 @@ fn append_hops(hops: &[Hop<Payload>], out: &mut Vec<u8>)
 
 /// Adds a hop for which there is room.
 fn append_hop(hop: &Hop<Payload>, out: &mut Vec<u8>)
-    requires fits { HopFits (hop_of hop.now) }
-    requires room { vec_len out.old + length (hop_bytes (hop_of hop.now)) ≤ vec_capacity out.old }
-    ensures items { out.new.items ≡ out.old.items ++ hop_bytes (hop_of hop.now) }
-    ensures len { vec_len out.new ≡ vec_len out.old + length (hop_bytes (hop_of hop.now)) }
+    requires fits { HopFits (hop_state hop.now) }
+    requires room { vec_len out.old + length (hop_bytes (hop_state hop.now)) ≤ vec_capacity out.old }
+    ensures items { out.new.items ≡ out.old.items ++ hop_bytes (hop_state hop.now) }
+    ensures len { vec_len out.new ≡ vec_len out.old + length (hop_bytes (hop_state hop.now)) }
     ensures capacity { vec_capacity out.old ≤ vec_capacity out.new }
 {
     append_number(hop.moment, out);
@@ -141,8 +141,8 @@ fn codel_bytes(codel: &CodelState) -> [u8; CODEL_LENGTH]
 
 /// A hop's counts: of what it took, dropped and released, of what is in flight, and of what waits.
 fn counts_bytes(hop: &Hop<Payload>) -> [u8; COUNTS_LENGTH]
-    requires { HopFits (hop_of hop.now) }
-    ensures { let h = hop_of hop.now in result ≡ big_bytes 8 h.taken ++ big_bytes 8 h.dropped ++ big_bytes 8 h.released ++ big_bytes 2 (length h.flight) ++ big_bytes 4 (length h.queue) }
+    requires { HopFits (hop_state hop.now) }
+    ensures { let h = hop_state hop.now in result ≡ big_bytes 8 h.taken ++ big_bytes 8 h.dropped ++ big_bytes 8 h.released ++ big_bytes 2 (length h.flight) ++ big_bytes 4 (length h.queue) }
 {
     let mut bytes = [0; COUNTS_LENGTH];
     BigEndian::write_u64(&mut bytes, hop.taken);

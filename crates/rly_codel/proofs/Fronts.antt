@@ -3,7 +3,7 @@ use Rattle.std.proofs.Common.{◌<◌, length, ◌≡◌, ℕ, zero, suc, ◌+�
 use Rattle.std.proofs.lemmas.Bool.{cases_Bool}
 use Rattle.std.proofs.lemmas.Bool.Decides.{nat_tests}
 use Rattle.rly_core.specs.declared.params.Params.{Params}
-use Rattle.rly_codel.specs.Waiting.{Waiting, bytes_of}
+use Rattle.rly_codel.specs.Waiting.{Waiting, waiting_bytes}
 use Rattle.rly_codel.specs.Front.{is_over, front_of, is_armed, IsOverAt}
 use Rattle.rly_codel.specs.Loop.{dodequeue}
 use Rattle.rly_codel.specs.declared.state.CodelState.{CodelState}
@@ -19,7 +19,7 @@ pub dodequeue-front_zero : (p : Params) (now : ℕ) (q : List Waiting) (s : Code
     dodequeue p now q s ≡ record { ok_to_drop = false; state = record s { first_above_time = 0 } }
 dodequeue-front_zero p now [] s h = refl
 dodequeue-front_zero p now (item ∷ behind) s h =
-    elim (over_or_below (now - item.stamp) p.target p.maxpacket (bytes_of behind)) [
+    elim (over_or_below (now - item.stamp) p.target p.maxpacket (waiting_bytes behind)) [
       | inl over ↦ absurd (let broken : suc (front_of p now behind) ≡ 0 = rw over.0 at h in omega arith)
       | inr below ↦ rw below.1 refl
     ]
@@ -32,7 +32,7 @@ pub dodequeue-front_suc : (p : Params) (now : ℕ) (q : List Waiting) (s : Codel
     else (record { ok_to_drop = nat_le s.first_above_time now; state = s }))
 dodequeue-front_suc p now [] s n h = absurd (omega arith)
 dodequeue-front_suc p now (item ∷ behind) s n h =
-    elim (over_or_below (now - item.stamp) p.target p.maxpacket (bytes_of behind)) [
+    elim (over_or_below (now - item.stamp) p.target p.maxpacket (waiting_bytes behind)) [
       | inl over ↦ rw over.1 refl
       | inr below ↦ absurd (let broken : 0 ≡ suc n = rw below.0 at h in omega arith)
     ]

@@ -1,12 +1,13 @@
 -- Which items may be dropped: over, front, armed (RFC 8289 section 5, dodequeue).
-use Rattle.std.specs.Prelude.{ℕ, suc, ◌+◌, ◌-◌, Bool, ◌&&◌, nat_le, nat_lt, if◌then◌else◌, List, [], ◌∷◌, drop, HoldsAt, IsTrue}
+use Rattle.std.specs.Prelude.{ℕ, suc, ◌+◌, ◌-◌, Bool, ◌&&◌, nat_le, nat_lt, if◌then◌else◌, IsTrue}
+use Rattle.std.specs.Prelude.{List, [], ◌∷◌, drop, HoldsAt}
 use Rattle.rly_core.specs.declared.params.Params.{Params}
-use Rattle.rly_codel.specs.Waiting.{Waiting, bytes_of}
+use Rattle.rly_codel.specs.Waiting.{Waiting, waiting_bytes}
 use Rattle.rly_codel.specs.declared.state.CodelState.{CodelState}
 
 -- over: it has waited for target or longer, and more than maxpacket bytes wait behind it
 abbrev pub is_over : Params → ℕ → Waiting → List Waiting → Bool
-is_over p now item behind = nat_le p.target (now - item.stamp) && nat_lt p.maxpacket (bytes_of behind)
+is_over p now item behind = nat_le p.target (now - item.stamp) && nat_lt p.maxpacket (waiting_bytes behind)
 
 -- front: how many items at the front are over, up to the first one that isn't
 abbrev pub front_of : Params → ℕ → List Waiting → ℕ

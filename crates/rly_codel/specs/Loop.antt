@@ -1,10 +1,11 @@
 -- The pseudocode of RFC 8289 section 5 over a list, line by line, with whole numbers: dodequeue,
 -- dequeue and its loop. `law_cases_are_the_loop` says that the cases of `Cases.antt` come to the
 -- same.
-use Rattle.std.specs.Prelude.{ℕ, suc, ◌+◌, ◌-◌, ◌*◌, Bool, true, false, ◌&&◌, ◌||◌, nat_eq, nat_le, nat_lt, if◌then◌else◌, List, [], ◌∷◌, drop}
+use Rattle.std.specs.Prelude.{ℕ, suc, ◌+◌, ◌-◌, ◌*◌, nat_eq, nat_le, nat_lt, List, [], ◌∷◌, drop}
+use Rattle.std.specs.Prelude.{Bool, true, false, ◌&&◌, ◌||◌, if◌then◌else◌}
 use Rattle.rly_core.specs.declared.params.Params.{Params}
 use Rattle.rly_law.specs.ControlLaw.{step_of}
-use Rattle.rly_codel.specs.Waiting.{Waiting, bytes_of}
+use Rattle.rly_codel.specs.Waiting.{Waiting, waiting_bytes}
 use Rattle.rly_codel.specs.Cases.{Outcome}
 use Rattle.rly_codel.specs.declared.state.CodelState.{CodelState}
 
@@ -15,7 +16,7 @@ pub record Candidate : Type 0 where
 
 -- `sojourn_time < TARGET || bytes() <= maxpacket_`
 abbrev pub is_below : Params → ℕ → Waiting → List Waiting → Bool
-is_below p now item behind = nat_lt (now - item.stamp) p.target || nat_le (bytes_of behind) p.maxpacket
+is_below p now item behind = nat_lt (now - item.stamp) p.target || nat_le (waiting_bytes behind) p.maxpacket
 
 -- `dodequeue(now)`: the candidate is the front of the queue, or none
 abbrev pub dodequeue : Params → ℕ → List Waiting → CodelState → Candidate

@@ -3,5 +3,5 @@ use Rattle.std.specs.Prelude.{false}
 use Rattle.rly_codel.specs.declared.state.CodelState.{CodelState}
 
 -- the state of a lane that no dequeue was asked of yet
-abbrev pub new_state : CodelState
-new_state = record { first_above_time = 0; drop_next = 0; count = 0; lastcount = 0; dropping = false }
+abbrev pub new_codel : CodelState
+new_codel = record { first_above_time = 0; drop_next = 0; count = 0; lastcount = 0; dropping = false }

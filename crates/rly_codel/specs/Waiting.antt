@@ -8,5 +8,5 @@ pub record Waiting : Type 0 where
 
 -- the payload bytes of items; of those behind a candidate they are the `bytes()` of RFC 8289
 -- section 5, which is asked once the candidate is off the queue
-abbrev pub bytes_of : List Waiting → ℕ
-bytes_of items = sum_by (λ item. item.bytes) items
+abbrev pub waiting_bytes : List Waiting → ℕ
+waiting_bytes items = sum_by (λ item. item.bytes) items

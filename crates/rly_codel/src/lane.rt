@@ -1,5 +1,5 @@
 ghost use Rattle.std.specs.Prelude.{◌≡◌, ◌+◌, ◌<◌, List, length, nat_le, drop, HoldsAt};
-ghost use Rattle.rly_codel.specs.Waiting.{Waiting, bytes_of};
+ghost use Rattle.rly_codel.specs.Waiting.{Waiting, waiting_bytes};
 
 /// A queue that CoDel looks at: items from the front on, each with a stamp and a payload length.
 pub trait Lane {
@@ -19,5 +19,5 @@ pub trait Lane {
     /// each item that may be dropped, so it looks at no more items than it takes to tell.
     fn has_at_most_behind(&self, index: usize, bytes: u64) -> bool
         requires { index < length (waiting self.now) }
-        ensures { result ≡ nat_le (bytes_of (drop (index + 1) (waiting self.now))) bytes };
+        ensures { result ≡ nat_le (waiting_bytes (drop (index + 1) (waiting self.now))) bytes };
 }

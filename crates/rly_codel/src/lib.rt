@@ -10,8 +10,6 @@ mod discard;
 mod lane;
 mod laws;
 mod state;
-#[cfg(test)]
-mod tests;
 
 pub use crate::discard::dequeue;
 pub use crate::lane::Lane;

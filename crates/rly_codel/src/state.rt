@@ -27,9 +27,9 @@ impl CodelState {
 
 impl Default for CodelState {
     ghost use Rattle.std.specs.Prelude.{◌≡◌};
-    ghost use Rattle.rly_codel.specs.Start.{new_state};
+    ghost use Rattle.rly_codel.specs.Start.{new_codel};
 
-    ghost is_default = { λ s. s ≡ new_state };
+    ghost is_default = { λ s. s ≡ new_codel };
 
     fn default() -> CodelState {
         CodelState::NEW

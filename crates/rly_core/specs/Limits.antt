@@ -15,4 +15,13 @@ pub record IsWithinLimits (p : Params) : Type 0 where
 
 -- the parameters for which none were given
 abbrev pub default_params : Params
-default_params = record { hops = 4; peers = 4; window = 8; items = 1024; bytes = 1048576; maxpacket = 1500; target = 5000; interval = 100000 }
+default_params = record {
+  hops = 4;
+  peers = 4;
+  window = 8;
+  items = 1024;
+  bytes = 1048576;
+  maxpacket = 1500;
+  target = 5000;
+  interval = 100000;
+}

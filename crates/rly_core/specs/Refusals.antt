@@ -2,7 +2,14 @@
 use Rattle.std.specs.Prelude.{ℕ, List, [], ◌∷◌, ◌++◌, codes}
 use Rattle.std.specs.Fmt.{decimal}
 use Rattle.rly_core.specs.declared.refusal.Refusal.{Refusal}
-use Rattle.rly_core.specs.declared.refusal.Refusal.TheVariants.{NoSuchPeer, NoSuchHop, BadMoment, Gap, TooLong, Full, WindowFull, Empty, NeverSent, NotInFlight, Broken, Unsure, DeviceRead, OutOfMemory, Spent, Line, NotADevice, BadGeometry, Damaged, Device, Closed, Lost, Short, Long, Magic, Version, Kind, Station, Syntax, Unsorted, Overlap, Range, Unknown}
+use Rattle.rly_core.specs.declared.refusal.Refusal.TheVariants.{NoSuchPeer, NoSuchHop, BadMoment, Gap}
+use Rattle.rly_core.specs.declared.refusal.Refusal.TheVariants.{TooLong, Full, WindowFull, Empty}
+use Rattle.rly_core.specs.declared.refusal.Refusal.TheVariants.{NeverSent, NotInFlight, Broken, Unsure}
+use Rattle.rly_core.specs.declared.refusal.Refusal.TheVariants.{DeviceRead, OutOfMemory, Spent, Line}
+use Rattle.rly_core.specs.declared.refusal.Refusal.TheVariants.{NotADevice, BadGeometry, Damaged, Device}
+use Rattle.rly_core.specs.declared.refusal.Refusal.TheVariants.{Closed, Lost, Short, Long, Magic, Version}
+use Rattle.rly_core.specs.declared.refusal.Refusal.TheVariants.{Kind, Station, Syntax, Unsorted}
+use Rattle.rly_core.specs.declared.refusal.Refusal.TheVariants.{Overlap, Range, Unknown}
 
 -- each refusal's number
 abbrev pub number_of : Refusal → ℕ

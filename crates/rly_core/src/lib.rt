@@ -10,8 +10,6 @@ mod ids;
 pub mod limits;
 mod params;
 mod refusal;
-#[cfg(test)]
-mod tests;
 
 pub use crate::ids::{HopId, PeerId};
 pub use crate::params::{Geometry, Params};

@@ -12,7 +12,7 @@ use Rattle.rly_daemon.specs.declared.udp_link.UdpLink.{UdpLink}
 use Rattle.rly_daemon.specs.declared.wall_clock.WallClock.{WallClock}
 use Rattle.rly_daemon.specs.Serving.{Duty, addresses_of, duties, duty_at, duty_of, workers_of}
 use Rattle.rly_daemon.specs.WallClock.{all_on, endless_tells}
-use Rattle.rly_plan.specs.ContactPlan.{ContactPlan, hop_at, peer_at}
+use Rattle.rly_plan.specs.ContactPlan.{ContactPlan, next_hop_at, peer_at}
 use Rattle.rly_plan.specs.Endpoints.{Endpoints}
 use Rattle.rly_threads.specs.declared.relay.Post.{Post}
 use Rattle.rly_threads.specs.declared.turn.Go.{Go}
@@ -20,32 +20,32 @@ use Rattle.rly_threads.specs.declared.turn.Point.{Point}
 use Rattle.rly_threads.specs.declared.turn.Point.TheVariants.{Start}
 use Rattle.rly_threads.specs.declared.turn.Worker.{Worker}
 use Rattle.rly_threads.specs.declared.turn.Worker.TheVariants as worker
-use Rattle.rly_threads.specs.Ends.{Tells}
+use Rattle.rly_threads.specs.Ends.{TellsMore}
 use Rattle.rly_threads.specs.Memory.{handed_of}
 use Rattle.rly_threads.specs.Relay.{HasEnded, HasWorked}
-use Rattle.rly_threads.specs.Runs.{Ran, Told}
+use Rattle.rly_threads.specs.Runs.{Ran, EndsView}
 use Rattle.rly_threads.specs.Turns.{Done, Given, Handed}
 
 -- a worker was handed its end
-record Ended (old new : Told) : Type 0 where
+record Ended (old new : EndsView) : Type 0 where
   pub worker : Worker
   pub before : List Handed
   pub last : Go
   pub off : last.on ≡ false
-  pub handed : Tells old.handed new.handed (before ++ (worker, Start, last) ∷ [])
+  pub handed : TellsMore old.handed new.handed (before ++ (worker, Start, last) ∷ [])
 
-ran_ended : {C : Type 0} (old new : Told) (w : Worker) (turns : List Given) (d : Done C) → Ran old new w turns d → Ended old new
+ran_ended : {C : Type 0} (old new : EndsView) (w : Worker) (turns : List Given) (d : Done C) → Ran old new w turns d → Ended old new
 ran_ended old new w turns d ran = record { worker = w; before = d.handed; last = ran.last; off = ran.off; handed = ran.handed }
 
 if_there : {N : Type 0} (o : Option N) (f : N → Endpoints) (a : Endpoints) (Q : Type 0) → Some a ≡ option_map f o → IfSome o (λ _. Q) → Q
 if_there None f a Q e q = absurd (none-some _ (sym e))
 if_there (Some n) f a Q e q = q
 
-worked_ended : (plan : ContactPlan) (window : ℕ) (w : Worker) (a : Endpoints) (old new : Told) → Some a ≡ addresses_of plan w → HasWorked plan window w old new → Ended old new
+worked_ended : (plan : ContactPlan) (window : ℕ) (w : Worker) (a : Endpoints) (old new : EndsView) → Some a ≡ addresses_of plan w → HasWorked plan window w old new → Ended old new
 worked_ended plan window (worker.Receiver peer) a old new there worked =
     if_there (peer_at plan peer) (λ n. n.addresses) a (Ended old new) there (IfSome_then (peer_at plan peer) worked (λ n did. ran_ended old new (worker.Receiver peer) did.0 _ did.1))
 worked_ended plan window (worker.Sender hop) a old new there worked =
-    if_there (hop_at plan hop) (λ n. n.addresses) a (Ended old new) there (IfSome_then (hop_at plan hop) worked (λ n did. ran_ended old new (worker.Sender hop) did.0 _ did.1))
+    if_there (next_hop_at plan hop) (λ n. n.addresses) a (Ended old new) there (IfSome_then (next_hop_at plan hop) worked (λ n did. ran_ended old new (worker.Sender hop) did.0 _ did.1))
 
 -- what it was handed last, by a clock that tells
 last_on : (left : Option ℕ) (log : Log (Worker × Point) Go) (before : List Handed) (h : Handed) → (left ≡ None → IsTrue (all_on (handed_of log)))
@@ -72,7 +72,7 @@ endless_goes_on plan window (post ∷ posts) (left ∷ ended) e some worked =
     let none : post.turn.left ≡ None = ap (λ d. d.left) first.1 in
     let end = worked_ended plan window post.worker post.link.addresses.value _ _ there worked.0.1 in
     let said : endless_tells left.turn.left left.turn.handed ≡ Some (handed_of post.turn.handed ++ (end.before ++ (end.worker, Start, end.last) ∷ [])) =
-    subst (λ l. Tells (endless_tells l post.turn.handed) (endless_tells left.turn.left left.turn.handed) (end.before ++ (end.worker, Start, end.last) ∷ [])) none end.handed in
+    subst (λ l. TellsMore (endless_tells l post.turn.handed) (endless_tells left.turn.left left.turn.handed) (end.before ++ (end.worker, Start, end.last) ∷ [])) none end.handed in
     let grown = said ∙ ap (λ h. Some h) (sym (append_assoc (handed_of post.turn.handed) end.before ((end.worker, Start, end.last) ∷ []))) in
     true≢false (sym (last_on left.turn.left left.turn.handed _ _ left.turn.endless grown) ∙ end.off)
 

@@ -1,16 +1,3 @@
-pub mod Places
-pub mod HexDigits
-pub mod Cuts
-pub mod Payloads
-pub mod Numerals
-pub mod Newlines
-pub mod Pieces
-pub mod Outflows
-pub mod Texts
-pub mod Digits
-pub mod Rounds
-pub mod Gathering
-pub mod Courses
 pub mod Workers
 pub mod Turns
 pub mod Endless

@@ -3,17 +3,17 @@ use Rattle.std.proofs.Common.{◌≡◌, ◌-◌, ℕ, zero, suc, List, [], ◌�
 use Rattle.std.specs.Prelude.{Option, Some, None}
 use Rattle.rly_threads.specs.declared.turn.Point.{Point}
 use Rattle.rly_threads.specs.declared.turn.Point.TheVariants.{Answered, Call, Start}
-use Rattle.rly_daemon.specs.WallClock.{starts, turns_had, turns_of}
+use Rattle.rly_daemon.specs.WallClock.{start_count, turns_had, turns_of}
 
 -- where they are without end
-each_start : (points : List Point) → turns_had None points ≡ starts points
+each_start : (points : List Point) → turns_had None points ≡ start_count points
 each_start [] = refl
 each_start (Start ∷ points) = omega (arith, each_start points)
 each_start (Call ∷ points) = omega (arith, each_start points)
 each_start (Answered ∷ points) = omega (arith, each_start points)
 
 -- where so many are left
-so_many : (left : ℕ) (points : List Point) → turns_had (Some left) points ≡ min left (starts points)
+so_many : (left : ℕ) (points : List Point) → turns_had (Some left) points ≡ min left (start_count points)
 so_many left [] = omega arith
 so_many zero (Start ∷ points) =
     let none : 0 - 1 ≡ 0 = omega arith in
@@ -26,6 +26,6 @@ so_many (suc left) (Start ∷ points) =
 so_many left (Call ∷ points) = omega (arith, so_many left points)
 so_many left (Answered ∷ points) = omega (arith, so_many left points)
 
-pub turns_handed : (left : Option ℕ) (points : List Point) → turns_had left points ≡ turns_of left (starts points)
+pub turns_handed : (left : Option ℕ) (points : List Point) → turns_had left points ≡ turns_of left (start_count points)
 turns_handed None points = each_start points
 turns_handed (Some left) points = so_many left points

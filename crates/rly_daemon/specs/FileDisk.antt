@@ -21,5 +21,8 @@ file_state disk = record {
 pub file_consistent : (disk : FileDisk) → ⊥ → Consistent (file_state disk)
 file_consistent disk honest = absurd honest
 
-pub file_calls_lead : (disk : FileDisk) → (disk.counts.failures ≤ disk.counts.calls) × (disk.counts.syncs ≤ disk.counts.calls) × (disk.counts.failed_reads ≤ disk.counts.failures)
-file_calls_lead disk = (disk.counts.failures_are_calls, disk.counts.syncs_are_calls, disk.counts.failed_reads_are_failures)
+pub file_calls_lead : (disk : FileDisk)
+    → (disk.counts.failures ≤ disk.counts.calls) × (disk.counts.syncs ≤ disk.counts.calls)
+    × (disk.counts.failed_reads ≤ disk.counts.failures)
+file_calls_lead disk =
+    (disk.counts.failures_are_calls, disk.counts.syncs_are_calls, disk.counts.failed_reads_are_failures)

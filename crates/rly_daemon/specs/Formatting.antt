@@ -10,5 +10,6 @@ wanted_length params segments None = least_length (record { params = params; seg
 wanted_length params segments (Some length) = length
 
 -- the geometry that is asked for
-abbrev pub wanted : Params → ℕ → Option ℕ → Geometry
-wanted params segments length = record { params = params; segments = segments; length = wanted_length params segments length }
+abbrev pub wanted_geometry : Params → ℕ → Option ℕ → Geometry
+wanted_geometry params segments length =
+    record { params = params; segments = segments; length = wanted_length params segments length }

@@ -1,9 +1,3 @@
-pub mod Lines
-pub mod Grammar
-pub mod Replies
-pub mod Outflow
-pub mod Text
-pub mod Playing
 pub mod FileDisk
 pub mod Formatting
 pub mod WallClock

@@ -12,13 +12,13 @@ use Rattle.rly_segment.specs.Device.{IsGeometry, device_length}
 use Rattle.rly_settings.specs.declared.given.Settings.{Settings}
 use Rattle.rly_settings.specs.declared.given.Settings.TheVariants.{Sim, Format, Play, Audit, Serve}
 use Rattle.rly_daemon.specs.FileDisk.{file_state}
-use Rattle.rly_daemon.specs.Formatting.{wanted}
-use Rattle.rly_daemon.specs.Playing.{PlaysAll}
-use Rattle.rly_daemon.specs.Text.{text_of}
+use Rattle.rly_daemon.specs.Formatting.{wanted_geometry}
+use Rattle.rly_text.specs.Playing.{PlaysAll}
+use Rattle.rly_text.specs.Text.{text_for}
 use Rattle.rly_daemon.specs.declared.file_disk.FileDisk.{FileDisk}
-use Rattle.rly_daemon.specs.declared.fault.CommandFault.{CommandFault}
-use Rattle.rly_daemon.specs.declared.fault.CommandFault.TheVariants.{Text, Refused}
-use Rattle.rly_daemon.specs.declared.fault.TextFault.TheVariants.{Output}
+use Rattle.rly_daemon.specs.declared.command_fault.CommandFault.{CommandFault}
+use Rattle.rly_daemon.specs.declared.command_fault.CommandFault.TheVariants.{Text, Refused}
+use Rattle.rly_text.specs.declared.text_fault.TextFault.TheVariants.{Output}
 
 -- how the program says that an audit failed
 abbrev pub audit_fault : AuditFault → CommandFault
@@ -47,12 +47,14 @@ pub record HasPlayed (batch : ℕ) (left old new : Option (List ℕ)) : Type 0 w
   pub goes : behind.broken ≡ false
   pub played : PlaysAll (lines_a_round batch) file_state opened behind left old new
 
--- a command that ended well: the reader before and behind it, the bytes that there were to read, and those of the writer before and behind it
+-- a command that ended well: the reader before and behind it, the bytes that there were to read, and those of the
+-- writer before and behind it
 abbrev pub IsDone : {R : Type 0} → Settings → R → R → Option (List ℕ) → Option (List ℕ) → Option (List ℕ) → Type 0
-IsDone (Sim params) before behind left old new = IsWithinLimits params × IfSome left (λ input. Appends old new (text_of (new_state params) input))
+IsDone (Sim params) before behind left old new = IsWithinLimits params
+    × IfSome left (λ input. Appends old new (text_for (new_state params) input))
 IsDone (Format file params segments length) before behind left old new = (behind ≡ before)
-    × IsGeometry (wanted params segments length) (device_length (wanted params segments length))
-    × Appends old new (size_line (device_length (wanted params segments length)))
+    × IsGeometry (wanted_geometry params segments length) (device_length (wanted_geometry params segments length))
+    × Appends old new (size_line (device_length (wanted_geometry params segments length)))
 IsDone (Play file batch) before behind left old new = HasPlayed batch left old new
 IsDone (Audit file) before behind left old new = (behind ≡ before) × HasReport old new
 IsDone (Serve file plan turns) before behind left old new = (behind ≡ before) × Keeps old new × (1 ≤ turns)
@@ -60,5 +62,6 @@ IsDone (Serve file plan turns) before behind left old new = (behind ≡ before) 
 -- the values of a spool or of a device are out of their limits
 abbrev pub IsOutOfLimits : Settings → Type 0
 IsOutOfLimits (Sim params) = ¬ IsWithinLimits params
-IsOutOfLimits (Format file params segments length) = ¬ IsGeometry (wanted params segments length) (device_length (wanted params segments length))
+IsOutOfLimits (Format file params segments length) =
+    ¬ IsGeometry (wanted_geometry params segments length) (device_length (wanted_geometry params segments length))
 IsOutOfLimits _ = ⊥

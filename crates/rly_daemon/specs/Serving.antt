@@ -6,7 +6,7 @@ use Rattle.rly_core.specs.declared.params.Params.{Params}
 use Rattle.rly_daemon.specs.declared.udp_link.UdpLink.{UdpLink}
 use Rattle.rly_daemon.specs.declared.wall_clock.WallClock.{WallClock}
 use Rattle.rly_daemon.specs.WallClock.{endless_tells, turns_left}
-use Rattle.rly_plan.specs.ContactPlan.{ContactPlan, hop_at, peer_at}
+use Rattle.rly_plan.specs.ContactPlan.{ContactPlan, next_hop_at, peer_at}
 use Rattle.rly_plan.specs.Endpoints.{Endpoints}
 use Rattle.rly_threads.specs.declared.relay.Post.{Post}
 use Rattle.rly_threads.specs.declared.turn.Worker.{Worker}
@@ -37,7 +37,7 @@ workers_of plan = receivers (length plan.peers) ++ senders (length plan.hops)
 -- the addresses of the link with a worker's neighbour, if the plan has that neighbour
 abbrev pub addresses_of : ContactPlan → Worker → Option Endpoints
 addresses_of plan (worker.Receiver peer) = option_map (λ n. n.addresses) (peer_at plan peer)
-addresses_of plan (worker.Sender hop) = option_map (λ n. n.addresses) (hop_at plan hop)
+addresses_of plan (worker.Sender hop) = option_map (λ n. n.addresses) (next_hop_at plan hop)
 
 -- a worker, the addresses of its link, and how many turns it has
 pub record Duty : Type 0 where
@@ -61,7 +61,9 @@ abbrev pub duties : ContactPlan → ℕ → List Duty
 duties plan turns = map (duty_of plan turns) (workers_of plan)
 
 -- each worker of a plan did at its post what the plan says of it, from its start to its end, and left that post
-pub record HasRun {C : Type 0} (plan : ContactPlan) (window turns : ℕ) (ended : List (Post (UdpLink C) (WallClock C))) : Type 0 where
+pub record HasRun {C : Type 0} (plan : ContactPlan) (window turns : ℕ)
+    (ended : List (Post (UdpLink C) (WallClock C))) : Type 0 where
   pub posts : List (Post (UdpLink C) (WallClock C))
   pub planned : map duty_at posts ≡ duties plan turns
-  pub worked : AllZip (HasEnded (λ _. None) (λ _. None) (λ clock. endless_tells clock.left clock.handed) plan window) posts ended
+  pub worked : AllZip (HasEnded (λ _. None) (λ _. None) (λ clock. endless_tells clock.left clock.handed) plan window)
+      posts ended

@@ -1,5 +1,6 @@
 -- The turns that a wall clock has left for its worker, and its moments.
-use Rattle.std.specs.Prelude.{ℕ, zero, suc, ◌+◌, ◌-◌, ◌/◌, ◌^◌, List, [], ◌∷◌, min, Bool, true, false, Option, Some, None}
+use Rattle.std.specs.Prelude.{ℕ, zero, suc, ◌+◌, ◌-◌, ◌/◌, ◌^◌, List, [], ◌∷◌, min}
+use Rattle.std.specs.Prelude.{Bool, true, false, Option, Some, None}
 use Rattle.std.specs.Duration.{as_nanos}
 use Rattle.std.specs.List.{list_all}
 use Rattle.std.specs.declared.time.Duration.{Duration}
@@ -32,11 +33,11 @@ left_at Call left = left
 left_at Answered left = left
 
 -- how many of these points are starts
-abbrev pub starts : List Point → ℕ
-starts [] = 0
-starts (Start ∷ points) = suc (starts points)
-starts (Call ∷ points) = starts points
-starts (Answered ∷ points) = starts points
+abbrev pub start_count : List Point → ℕ
+start_count [] = 0
+start_count (Start ∷ points) = suc (start_count points)
+start_count (Call ∷ points) = start_count points
+start_count (Answered ∷ points) = start_count points
 
 -- one where a worker goes on at a start, and none elsewhere
 abbrev pub turn_at : Point → Bool → ℕ
@@ -59,7 +60,8 @@ turns_of (Some left) count = min left count
 abbrev pub all_on : List Handed → Bool
 all_on handed = list_all (λ h. h.2.on) handed
 
--- What a wall clock tells: what it handed out, where its turns are without end. So the one that its worker leaves is without end too.
+-- What a wall clock tells: what it handed out, where its turns are without end. So the one that its worker leaves is
+-- without end too.
 abbrev pub endless_tells : Option ℕ → Log (Worker × Point) Go → Option (List Handed)
 endless_tells None log = Some (handed_of log)
 endless_tells (Some left) log = None

@@ -1,6 +1,6 @@
 ghost use Rattle.std.specs.Prelude.{◌≡◌, ◌↔◌, IfOk, IsOk, IsOkUnless};
 ghost use Rattle.rly_segment.specs.Device.{IsGeometry, device_length};
-ghost use Rattle.rly_daemon.specs.Formatting.{wanted};
+ghost use Rattle.rly_daemon.specs.Formatting.{wanted_geometry};
 
 use rly_core::limits::{SEGMENT_LENGTH_LIMIT, SEGMENTS};
 use rly_core::{Geometry, Params, Refusal};
@@ -14,8 +14,8 @@ pub(crate) fn geometry_of(
     segments: u64,
     length: Option<u64>,
 ) -> Result<Geometry, Refusal>
-    ensures geometry { IfOk result (λ geometry. geometry ≡ wanted params segments length) }
-    ensures exactly { IsOk result ↔ IsGeometry (wanted params segments length) (device_length (wanted params segments length)) }
+    ensures geometry { IfOk result (λ geometry. geometry ≡ wanted_geometry params segments length) }
+    ensures exactly { IsOk result ↔ IsGeometry (wanted_geometry params segments length) (device_length (wanted_geometry params segments length)) }
     ensures refusal { IsOkUnless result Refusal.BadGeometry }
 {
     params.check()?;

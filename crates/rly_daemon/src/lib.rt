@@ -1,36 +1,24 @@
-//! The program `rly` as a library: the line language, its replies, and the commands over any
-//! reader and writer; and what the running relay needs of the system, its file, sockets and clock.
+//! The program `rly` as a library: its commands, and what the running relay needs of the system.
 //!
-//! `specs/Grammar.antt` says what a line asks, `specs/Replies.antt` the line of a reply, and
-//! `specs/Text.antt` the text for a whole input; `sim` writes that text. `run` is the whole program up
-//! to its status, and `specs/Program.antt` says what a command leaves that ended well. The crate stands
-//! at the edge: only a program and tests call it.
+//! `run` is the whole program up to its status, and `specs/Program.antt` says what a command leaves that
+//! ended well. The file, the sockets and the clock of `rly serve` stand here, and `specs/Serving.antt` says which
+//! workers it starts. The calls of `rly_text` and `rly_settings` are handed on. It is the edge: only a program and
+//! tests call it.
 #![tactic(auto)]
 
-mod batch;
-mod bytes;
-mod evaluation;
-mod fault;
+mod command_fault;
 mod file_disk;
 mod geometry;
-mod grammar;
-mod line_reader;
-mod outflow;
-mod playing;
 mod program;
-mod reply_line;
 mod serving;
-mod simulation;
-#[cfg(test)]
-mod tests;
 mod udp_link;
 mod wall_clock;
 
-pub use crate::fault::TextFault;
+pub use crate::command_fault::ServeFault;
 pub use crate::file_disk::FileDisk;
-pub use crate::playing::play;
 pub use crate::program::{Host, run};
-pub use crate::simulation::sim;
+pub use crate::serving::{UdpRelayed, read_plan, serve};
 pub use crate::udp_link::UdpLink;
 pub use crate::wall_clock::WallClock;
 pub use rly_settings::{Settings, SettingsFault, settings};
+pub use rly_text::{TextFault, play, sim};

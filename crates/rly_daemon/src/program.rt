@@ -4,25 +4,24 @@ ghost use Rattle.rly_core.specs.Limits.{IsWithinLimits};
 ghost use Rattle.rly_core.specs.declared.refusal.Refusal.{Refusal as ARefusal};
 ghost use Rattle.rly_machine.specs.State.{new_state};
 ghost use Rattle.rly_journal.specs.Faults.{opening_refusal};
-ghost use Rattle.rly_journal.specs.declared.fault.OpenFault.{OpenFault};
+ghost use Rattle.rly_journal.specs.declared.open_fault.OpenFault.{OpenFault};
 ghost use Rattle.rly_segment.specs.Device.{IsGeometry, device_length};
 ghost use Rattle.rly_settings.specs.CommandLine.{AsksHelp, IsSettings, asked_of, kinds_at};
 ghost use Rattle.rly_settings.specs.declared.given.Settings.{Settings as ASettings};
-ghost use Rattle.rly_daemon.specs.Formatting.{wanted};
+ghost use Rattle.rly_daemon.specs.Formatting.{wanted_geometry};
 ghost use Rattle.rly_daemon.specs.Program.{HasPlayed, HasReport, IsDone, IsOutOfLimits, size_line};
-ghost use Rattle.rly_daemon.specs.Text.{text_of};
+ghost use Rattle.rly_text.specs.Text.{text_for};
 
-use crate::fault::{CommandFault, ServeFault, TextFault};
+use crate::command_fault::{CommandFault, ServeFault};
 use crate::file_disk::FileDisk;
 use crate::geometry::{device_size, geometry_of};
-use crate::playing::play;
 use crate::serving::{read_plan, serve};
-use crate::simulation::sim;
 use rly_audit::audit;
 use rly_core::{Params, Refusal};
 use rly_journal::Journal;
 use rly_segment::{FormatFault, format};
 use rly_settings::{Settings, SettingsFault, settings};
+use rly_text::{TextFault, play, sim};
 use std::alloc::Global;
 use std::convert::AsStr;
 use std::fmt::Display;
@@ -112,7 +111,7 @@ fn run_sim<R: Read, W: Write>(
 ) -> Result<(), CommandFault>
     ensures limits { OnOk result (IsWithinLimits params) }
     ensures written { OnOk result (IfSome (R.remaining reader.old) (λ input.
-        Appends (W.contents writer.old) (W.contents writer.new) (text_of (new_state params) input))) }
+        Appends (W.contents writer.old) (W.contents writer.new) (text_for (new_state params) input))) }
     ensures refused { ¬ IsWithinLimits params → (result ≡ Err (CommandFault.Refused Refusal.BadGeometry))
         × (reader.new ≡ reader.old) × (writer.new ≡ writer.old) }
 {
@@ -130,9 +129,9 @@ fn format_file<H: AllocGlobal + Files<File = File>>(
     segments: u64,
     length: Option<u64>,
 ) -> Result<u64, Refusal>
-    ensures size { IfOk result (λ size. size ≡ device_length (wanted params segments length)) }
-    ensures geometry { OnOk result (IsGeometry (wanted params segments length) (device_length (wanted params segments length))) }
-    ensures limits { result ≡ Err Refusal.BadGeometry ↔ ¬ IsGeometry (wanted params segments length) (device_length (wanted params segments length)) }
+    ensures size { IfOk result (λ size. size ≡ device_length (wanted_geometry params segments length)) }
+    ensures geometry { OnOk result (IsGeometry (wanted_geometry params segments length) (device_length (wanted_geometry params segments length))) }
+    ensures limits { result ≡ Err Refusal.BadGeometry ↔ ¬ IsGeometry (wanted_geometry params segments length) (device_length (wanted_geometry params segments length)) }
 {
     let geometry = geometry_of(params, segments, length)?;
     let size = device_size(&geometry);

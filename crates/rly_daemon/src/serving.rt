@@ -3,14 +3,14 @@
 ghost use Rattle.std.specs.Prelude.{◌≡◌, ◌≤◌, ◌⊎◌, ◌++◌, Err, IfErr, IfOk, IsOk, OnOk, false, length, map, option_copied, true};
 ghost use Rattle.rly_core.specs.declared.refusal.Refusal.{Refusal as ARefusal};
 ghost use Rattle.rly_core.specs.declared.refusal.Refusal.TheVariants as refusal;
-ghost use Rattle.rly_daemon.specs.declared.fault.ServeFault.TheVariants as fault;
+ghost use Rattle.rly_daemon.specs.declared.command_fault.ServeFault.TheVariants as fault;
 ghost use Rattle.rly_daemon.specs.Serving.{HasRoom, HasRun, LacksRoom, addresses_of, duties, duty_at, duty_of, receivers, senders, workers_of};
 ghost use Rattle.rly_flush.specs.Flushing.{IsServed, new_flusher};
 ghost use Rattle.rly_line.specs.Submission.{LineId};
-ghost use Rattle.rly_plan.specs.Sound.{IsSound};
+ghost use Rattle.rly_plan.specs.Sound.{IsSoundPlan};
 ghost use Rattle.rly_threads.specs.Relay.{new_end};
 
-use crate::fault::ServeFault;
+use crate::command_fault::ServeFault;
 use crate::udp_link::UdpLink;
 use crate::wall_clock::WallClock;
 use rly_core::{HopId, Params, PeerId, Refusal};
@@ -30,15 +30,15 @@ use std::time::Clock;
 /// A worker of the relay, its link and its turns.
 type UdpPost<'a, H> = Post<UdpLink<&'a H>, WallClock<&'a H>>;
 
-/// What a relay leaves.
-type UdpRelayed<'a, D, H> = Relayed<D, UdpLink<&'a H>, WallClock<&'a H>>;
+/// What a relay over UDP leaves.
+pub type UdpRelayed<'a, D, H> = Relayed<D, UdpLink<&'a H>, WallClock<&'a H>>;
 
-/// Reads a plan from a file.
-pub(crate) fn read_plan<H: AllocGlobal + Files<File = File>>(
+/// Reads a plan from a file. Where the file can't be read or isn't UTF-8, the answer is `Plan`.
+pub fn read_plan<H: AllocGlobal + Files<File = File>>(
     rt: &H,
     path: &str,
 ) -> Result<Plan, ServeFault>
-    ensures sound { IfOk result (λ plan. IsSound plan) }
+    ensures sound { IfOk result (λ plan. IsSoundPlan plan) }
     ensures fault { IfErr result (λ f. (f ≡ fault.Plan) ⊎ ((refusal : ARefusal) × (f ≡ fault.Refused refusal))) }
 {
     match fs::read_to_string(rt, path) {
@@ -55,13 +55,13 @@ pub(crate) fn read_plan<H: AllocGlobal + Files<File = File>>(
 
 /// Runs the relay of a plan on a journal until each worker had its turns, and answers what it leaves. Where the turns are 0
 /// they are without end.
-pub(crate) fn serve<'a, H: AllocGlobal + Net + Threads + Wait + Clock + Sync, D: Disk + Drop>(
+pub fn serve<'a, H: AllocGlobal + Net + Threads + Wait + Clock + Sync, D: Disk + Drop>(
     rt: &'a H,
     journal: Journal<D>,
     plan: &Plan,
     turns: u64,
 ) -> Result<UdpRelayed<'a, D, H>, ServeFault>
-    requires sound { IsSound plan.now }
+    requires sound { IsSoundPlan plan.now }
     ensures room { OnOk result (HasRoom plan.now journal.state.params) }
     ensures lacks { LacksRoom plan.now journal.state.params → result ≡ Err (fault.Refused refusal.BadGeometry) }
     // A relay whose turns are without end never ends well.
@@ -117,7 +117,7 @@ fn posts_of<'a, H: AllocGlobal + Net + Clock>(
     plan: &Plan,
     turns: u64,
 ) -> Result<Vec<UdpPost<'a, H>>, ServeFault>
-    requires { IsSound plan.now }
+    requires { IsSoundPlan plan.now }
     ensures { IfOk result (λ posts. map duty_at posts.items ≡ duties plan.now turns) }
 {
     let mut posts = Vec::new(rt.alloc());
@@ -160,7 +160,7 @@ fn addresses_of(plan: &Plan, worker: Worker) -> Option<&Addresses>
 
 /// A receiver for each peer of a plan, and a sender for each hop.
 fn workers_of(alloc: Global, plan: &Plan) -> Result<Vec<Worker>, AllocError>
-    requires { IsSound plan.now }
+    requires { IsSoundPlan plan.now }
     ensures { IfOk result (λ workers. workers.items ≡ workers_of plan.now) }
 {
     let mut workers = Vec::new(alloc);

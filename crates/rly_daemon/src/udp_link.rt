@@ -1,5 +1,5 @@
 ghost use Rattle.std.specs.Prelude.{◌≡◌, ◌≤◌, ◌-◌, ◌^◌, ◌↔◌, IfOk, IsTrue};
-ghost use Rattle.rly_threads.specs.Ends.{Rose};
+ghost use Rattle.rly_threads.specs.Ends.{FailuresRose};
 
 use rly_plan::Addresses;
 use rly_threads::{Link, LinkFault};
@@ -54,7 +54,7 @@ impl<C: Clock + Drop> UdpLink<C> {
 
     /// Counts a call that failed.
     fn fail(&mut self) -> LinkFault
-        ensures { Rose self.old.failures self.new.failures }
+        ensures { FailuresRose self.old.failures self.new.failures }
     {
         self.failures = self.failures.saturating_add(1);
         LinkFault
@@ -63,7 +63,7 @@ impl<C: Clock + Drop> UdpLink<C> {
 
 impl<C: Clock + Drop> Link for UdpLink<C> {
     ghost use Rattle.std.specs.Prelude.{◌≡◌, ◌≤◌, ◌-◌, ◌^◌, IfOk, IfSome, IsErr, None, OnErr, OnOk, length};
-    ghost use Rattle.rly_threads.specs.Ends.{Rose};
+    ghost use Rattle.rly_threads.specs.Ends.{FailuresRose};
 
     ghost heard = { λ _. None };
 
@@ -73,7 +73,7 @@ impl<C: Clock + Drop> Link for UdpLink<C> {
 
     fn recv(&mut self, buffer: &mut [u8]) -> Result<Option<usize>, LinkFault>
         ensures bound { IfOk result (λ found. IfSome found (λ count. count ≤ length buffer.new)) }
-        ensures rise { OnErr result (Rose self.old.failures self.new.failures) }
+        ensures rise { OnErr result (FailuresRose self.old.failures self.new.failures) }
         ensures no_failure { OnOk result (self.new.failures ≡ self.old.failures) }
         ensures spent { self.old.failures ≡ 2 ^ 64 - 1 → IsErr result }
     {
@@ -90,7 +90,7 @@ impl<C: Clock + Drop> Link for UdpLink<C> {
     }
 
     fn send(&mut self, packet: &[u8]) -> Result<(), LinkFault>
-        ensures rise { OnErr result (Rose self.old.failures self.new.failures) }
+        ensures rise { OnErr result (FailuresRose self.old.failures self.new.failures) }
         ensures no_failure { OnOk result (self.new.failures ≡ self.old.failures) }
         ensures spent { self.old.failures ≡ 2 ^ 64 - 1 → IsErr result }
     {

@@ -1,5 +1,5 @@
 ghost use Rattle.std.specs.Prelude.{◌≡◌, ◌≢◌, IsTrue, List, None, Option, ℕ};
-ghost use Rattle.rly_daemon.specs.WallClock.{all_on, goes_on, left_at, moment_of, starts, turns_had, turns_left, turns_of};
+ghost use Rattle.rly_daemon.specs.WallClock.{all_on, goes_on, left_at, moment_of, start_count, turns_had, turns_left, turns_of};
 ghost use Rattle.rly_threads.specs.declared.turn.Point.{Point as APoint};
 ghost use Rattle.rly_threads.specs.Memory.{handed_of};
 
@@ -37,7 +37,7 @@ impl<C: Clock + Drop> WallClock<C> {
     /// How many turns a worker has, whatever the points that it comes to, where so many are left: as many as it has starts,
     /// and no more than are left.
     pub fn law_turns()
-        ensures { (left : Option ℕ) (points : List APoint) → turns_had left points ≡ turns_of left (starts points) }
+        ensures { (left : Option ℕ) (points : List APoint) → turns_had left points ≡ turns_of left (start_count points) }
     {}
 
     /// What it hands out at a point. The clock is read at the start of a turn.
@@ -67,7 +67,7 @@ impl<C: Clock + Drop> WallClock<C> {
 impl<C: Clock + Drop> Turn for WallClock<C> {
     ghost use Rattle.std.specs.Prelude.{◌≡◌, ◌≢◌, ◌∷◌, []};
     ghost use Rattle.rly_daemon.specs.WallClock.{endless_tells, goes_on, left_at};
-    ghost use Rattle.rly_threads.specs.Ends.{Tells};
+    ghost use Rattle.rly_threads.specs.Ends.{TellsMore};
 
     ghost told = { λ clock. endless_tells clock.left clock.handed };
 
@@ -77,7 +77,7 @@ impl<C: Clock + Drop> Turn for WallClock<C> {
         // Within a turn it hands out the moment of its start.
         ensures held { point ≢ Point.Start → self.new.now ≡ self.old.now }
         ensures left { self.new.left ≡ left_at point self.old.left }
-        ensures tells { Tells (endless_tells self.old.left self.old.handed) (endless_tells self.new.left self.new.handed) ((worker, point, result) ∷ []) }
+        ensures tells { TellsMore (endless_tells self.old.left self.old.handed) (endless_tells self.new.left self.new.handed) ((worker, point, result) ∷ []) }
     {
         let _ = rt;
         let go = self.go(point);

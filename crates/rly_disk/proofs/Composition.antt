@@ -1,6 +1,6 @@
 -- How a row of calls of a disk composes.
 use Rattle.std.proofs.Common.{◌⊎◌, ℕ, List, inl, inr, ⊎_elim, arith, subst, sym, ◌∙◌}
-use Rattle.rly_disk.specs.DiskModel.{DiskState, SameOutside, IsTorn, IsWritten, NothingNew, Consistent, Settled, Rose, Later, LeavesOnly}
+use Rattle.rly_disk.specs.DiskModel.{DiskState, SameOutside, IsTorn, IsWritten, NothingNew, Consistent, Settled, HasFailed, Later, LeavesOnly}
 
 -- before the first call, on a disk that is honest
 pub started : (a : DiskState) (P : List ℕ → Type 0) → Consistent a → ((c : List ℕ) → a.images c → P c) → LeavesOnly a a P
@@ -55,10 +55,10 @@ pub torn_settled : {a : DiskState} (place n : ℕ) → Settled a → (c : List �
 torn_settled place n settled c torn = subst (λ d. SameOutside place n d c) (settled.only torn.0 torn.1) torn.2
 
 -- a rise is seen from an earlier state, and at a later one
-pub rose_earlier : {a b : DiskState} (e : DiskState) → Later a b → Rose b e → Rose a e
+pub rose_earlier : {a b : DiskState} (e : DiskState) → Later a b → HasFailed b e → HasFailed a e
 rose_earlier e first rose = ⊎_elim (λ more. inl (omega (arith, first.failures, more))) (λ spent. inr spent) rose
 
-pub rose_later : (a : DiskState) {b e : DiskState} → Rose a b → Later b e → Rose a e
+pub rose_later : (a : DiskState) {b e : DiskState} → HasFailed a b → Later b e → HasFailed a e
 rose_later a rose second = ⊎_elim (λ more. inl (omega (arith, second.failures, more))) (λ spent. inr (omega (arith, second.calls, spent))) rose
 
 pub later_again : {a b e : DiskState} → Later a b → Later b e → Later a e

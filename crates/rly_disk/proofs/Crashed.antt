@@ -3,7 +3,7 @@ use Rattle.std.proofs.Common.{◌≡◌, ◌∙◌, ℕ, List, Vec, Global, leng
 use Rattle.std.specs.Vec.{with_items}
 use Rattle.std.proofs.lemmas.List.{with_items_is}
 use Rattle.rly_disk.specs.Record.{pending, before_but, IsImage, IsFilled}
-use Rattle.rly_disk.specs.RecordLaws.{seen_is_image}
+use Rattle.rly_disk.specs.HelpersRecord.{seen_is_image}
 use Rattle.rly_disk.specs.MemDisk.{IsLeft}
 use Rattle.rly_disk.specs.declared.record.Event.{Event}
 use Rattle.rly_disk.specs.declared.mem.MemDisk.{MemDisk}

@@ -6,4 +6,3 @@ pub mod Overwritten
 pub mod Ranges
 mod RecordLemmas
 mod Steps
-mod TwoRanges

@@ -3,8 +3,9 @@ use Rattle.std.proofs.Common.{◌≡◌, ◌≤◌, ◌+◌, ◌++◌, ◌∷◌
 use Rattle.std.proofs.lemmas.List.{length_push}
 use Rattle.std.specs.List.{list_all}
 use Rattle.rly_disk.specs.DiskModel.{overwritten, IsTorn, IsWritten, NothingNew, Settled}
-use Rattle.rly_disk.specs.Record.{is_within, synced_events, pending, before, IsImage}
-use Rattle.rly_disk.specs.MemDisk.{state_of}
+use Rattle.rly_disk.specs.Record.{synced_events, pending, before, IsImage}
+use Rattle.rly_disk.specs.HelpersRecord.{is_event_within}
+use Rattle.rly_disk.specs.MemDisk.{recorded_state}
 use Rattle.rly_disk.specs.declared.counts.Counts.{Counts}
 use Rattle.rly_disk.specs.declared.record.Event.{Event}
 use Rattle.rly_disk.specs.declared.record.Event.TheVariants.{Written, Synced}
@@ -16,21 +17,21 @@ use Rattle.rly_disk.proofs.Steps.{long, undone, written, exact, settled, synced}
 module _ (events then_events : List Event) (place : ℕ) (new old then_bytes : List ℕ) (fits : place + length new ≤ length old)
     (recorded : (v : Vec ℕ Global) × (v.items ≡ slice_range old place (place + length new)) × (then_events ≡ events ++ Written place v ∷ []))
     (made : then_bytes ≡ overwritten place new old) where
-  pub write_within : list_all (is_within (length old)) events ≡ true → list_all (is_within (length then_bytes)) then_events ≡ true
+  pub write_within : list_all (is_event_within (length old)) events ≡ true → list_all (is_event_within (length then_bytes)) then_events ≡ true
   write_within all =
       let replaced_len = long events place new old recorded.0 fits recorded.1 in
       let same_length : length then_bytes ≡ length old = ap length made ∙ length-overwritten place new old fits in
-      ap (λ es. list_all (is_within (length then_bytes)) es) recorded.2
-      ∙ ap (λ n. list_all (is_within n) (events ++ Written place recorded.0 ∷ [])) same_length
+      ap (λ es. list_all (is_event_within (length then_bytes)) es) recorded.2
+      ∙ ap (λ n. list_all (is_event_within n) (events ++ Written place recorded.0 ∷ [])) same_length
       ∙ within-push (length old) events (Written place recorded.0) all (le-leb _ _ (omega (arith, replaced_len)))
 
   pub write_synced : synced_events then_events ≡ synced_events events
   write_synced = ap synced_events recorded.2 ∙ synced_events-write events (Written place recorded.0) refl
 
-  pub write_leaves : (now then : Counts) → IsWritten place (length new) (state_of events old now) (state_of then_events then_bytes then)
+  pub write_leaves : (now then : Counts) → IsWritten place (length new) (recorded_state events old now) (recorded_state then_events then_bytes then)
   write_leaves now then =
-      subst (λ es. IsWritten place (length new) (state_of events old now) (state_of es then_bytes then)) (sym recorded.2)
-      (subst (λ (bytes : List ℕ). IsWritten place (length new) (state_of events old now) (state_of (events ++ Written place recorded.0 ∷ []) bytes then)) (sym made)
+      subst (λ es. IsWritten place (length new) (recorded_state events old now) (recorded_state es then_bytes then)) (sym recorded.2)
+      (subst (λ (bytes : List ℕ). IsWritten place (length new) (recorded_state events old now) (recorded_state (events ++ Written place recorded.0 ∷ []) bytes then)) (sym made)
       (written events place new old recorded.0 fits recorded.1 now then))
 
   pub write_exact : (c : List ℕ) → IsTorn place (length new) (IsImage events old) c → IsImage then_events then_bytes c
@@ -48,17 +49,17 @@ module _ (events then_events : List Event) (place : ℕ) (new old then_bytes : L
 
 -- a sync that was recorded
 module _ (events then_events : List Event) (bytes : List ℕ) (recorded : then_events ≡ events ++ Synced ∷ []) where
-  pub sync_within : list_all (is_within (length bytes)) events ≡ true → list_all (is_within (length bytes)) then_events ≡ true
-  sync_within all = ap (λ es. list_all (is_within (length bytes)) es) recorded ∙ within-push (length bytes) events Synced all refl
+  pub sync_within : list_all (is_event_within (length bytes)) events ≡ true → list_all (is_event_within (length bytes)) then_events ≡ true
+  sync_within all = ap (λ es. list_all (is_event_within (length bytes)) es) recorded ∙ within-push (length bytes) events Synced all refl
 
   pub sync_synced : length then_events ≡ synced_events then_events
   sync_synced = ap length recorded ∙ length_push events Synced ∙ sym (ap synced_events recorded ∙ synced_events-sync events ∙ omega arith)
 
-  pub sync_settled : (now : Counts) → Settled (state_of then_events bytes now)
-  sync_settled now = subst (λ es. Settled (state_of es bytes now)) (sym recorded) (settled events bytes now)
+  pub sync_settled : (now : Counts) → Settled (recorded_state then_events bytes now)
+  sync_settled now = subst (λ es. Settled (recorded_state es bytes now)) (sym recorded) (settled events bytes now)
 
-  pub sync_leaves : (now then : Counts) → NothingNew (state_of events bytes now) (state_of then_events bytes then)
-  sync_leaves now then = subst (λ es. NothingNew (state_of events bytes now) (state_of es bytes then)) (sym recorded) (synced events bytes now then)
+  pub sync_leaves : (now then : Counts) → NothingNew (recorded_state events bytes now) (recorded_state then_events bytes then)
+  sync_leaves now then = subst (λ es. NothingNew (recorded_state events bytes now) (recorded_state es bytes then)) (sym recorded) (synced events bytes now then)
 
   pub sync_as_synced : before (pending then_events) bytes ≡ bytes
   sync_as_synced = ap (λ es. before (pending es) bytes) recorded ∙ ap (λ es. before es bytes) (pending-sync events)

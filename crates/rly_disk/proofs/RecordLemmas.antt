@@ -9,7 +9,8 @@ use Rattle.std.specs.List.{list_all}
 use Rattle.std.proofs.Common.{take-append-drop, length-drop, ⊎_elim, leb, ltb}
 use Rattle.std.proofs.lemmas.List.Folds.{list_all-append}
 use Rattle.std.proofs.lemmas.Bool.{and_parts, and_from, or_parts, leb-true}
-use Rattle.rly_disk.specs.Record.{is_sync, synced_events, pending, before, before_but, is_within, covered, covers}
+use Rattle.rly_disk.specs.Record.{is_sync, synced_events, pending, before, before_but, is_covered, covers}
+use Rattle.rly_disk.specs.HelpersRecord.{is_event_within}
 use Rattle.rly_disk.proofs.Overwritten.{overwritten_outside, length-overwritten}
 use Rattle.rly_disk.specs.declared.record.Event.{Event}
 use Rattle.rly_disk.specs.declared.record.Event.TheVariants.{Written, Synced}
@@ -42,17 +43,17 @@ pub pending-sync : (events : List Event) → pending (events ++ Synced ∷ []) �
 pending-sync events = drop_all (synced_events (events ++ Synced ∷ [])) (events ++ Synced ∷ []) (omega (arith, synced_events-sync events, length_push events Synced))
 
 -- the pending events lie within what all lie within
-pub pending-within : (size : ℕ) (events : List Event) → list_all (is_within size) events ≡ true → list_all (is_within size) (pending events) ≡ true
+pub pending-within : (size : ℕ) (events : List Event) → list_all (is_event_within size) events ≡ true → list_all (is_event_within size) (pending events) ≡ true
 pending-within size events all =
     let n = synced_events events in
-    (and_parts (list_all (is_within size) (take n events)) (list_all (is_within size) (drop n events))
-    (sym (list_all-append (is_within size) (take n events) (drop n events)) ∙ ap (λ es. list_all (is_within size) es) (take-append-drop n events) ∙ all)).1
+    (and_parts (list_all (is_event_within size) (take n events)) (list_all (is_event_within size) (drop n events))
+    (sym (list_all-append (is_event_within size) (take n events) (drop n events)) ∙ ap (λ es. list_all (is_event_within size) es) (take-append-drop n events) ∙ all)).1
 
 pub ruleset of_record = (synced_events_le, pending-within)
 
 -- one event more within
-pub within-push : (size : ℕ) (events : List Event) (event : Event) → list_all (is_within size) events ≡ true → is_within size event ≡ true → list_all (is_within size) (events ++ event ∷ []) ≡ true
-within-push size events event all one = list_all-append (is_within size) events (event ∷ []) ∙ and_from _ _ all (and_from _ _ one refl)
+pub within-push : (size : ℕ) (events : List Event) (event : Event) → list_all (is_event_within size) events ≡ true → is_event_within size event ≡ true → list_all (is_event_within size) (events ++ event ∷ []) ≡ true
+within-push size events event all one = list_all-append (is_event_within size) events (event ∷ []) ∙ and_from _ _ all (and_from _ _ one refl)
 
 -- where no byte is kept, all is undone
 pub before_but_none : (events : List Event) (bytes : List ℕ) → before_but 0 events bytes ≡ before events bytes
@@ -67,8 +68,8 @@ before_but_none (Written place replaced ∷ events) bytes =
 before_but_none (Synced ∷ events) bytes = before_but_none events bytes
 
 -- undoing writes changes no byte but those that they wrote
-pub before_but-outside : (kept : ℕ) (events : List Event) (bytes : List ℕ) → list_all (is_within (length bytes)) events ≡ true
-    → (length (before_but kept events bytes) ≡ length bytes) × ((i : ℕ) → covered events i ≡ false → get_or (before_but kept events bytes) i 0 ≡ get_or bytes i 0)
+pub before_but-outside : (kept : ℕ) (events : List Event) (bytes : List ℕ) → list_all (is_event_within (length bytes)) events ≡ true
+    → (length (before_but kept events bytes) ≡ length bytes) × ((i : ℕ) → is_covered events i ≡ false → get_or (before_but kept events bytes) i 0 ≡ get_or bytes i 0)
 before_but-outside kept [] bytes within = (refl, λ i free. refl)
 before_but-outside kept (Synced ∷ events) bytes within = before_but-outside kept events bytes within
 before_but-outside kept (Written place replaced ∷ events) bytes within =
@@ -79,7 +80,7 @@ before_but-outside kept (Written place replaced ∷ events) bytes within =
     let fits : (place + min kept n) + length (drop kept replaced.items) ≤ length (before_but (kept - n) events bytes) = omega (arith, rest.0, length-drop kept replaced.items) in (
       length-overwritten (place + min kept n) (drop kept replaced.items) (before_but (kept - n) events bytes) fits ∙ rest.0,
       λ i free.
-          let free_parts = or_parts (covers (Written place replaced) i) (covered events i) free in
+          let free_parts = or_parts (covers (Written place replaced) i) (is_covered events i) free in
           let out : (i < place) ⊎ (place + n ≤ i) = not_covered place n i free_parts.0 in
           let outside : (i < place + min kept n) ⊎ ((place + min kept n) + length (drop kept replaced.items) ≤ i) = ⊎_elim (λ low. inl (omega arith)) (λ high. inr (omega (arith, length-drop kept replaced.items))) out in
           (overwritten_outside (place + min kept n) (drop kept replaced.items) (before_but (kept - n) events bytes) fits).each i outside ∙ rest.1 i free_parts.1,
@@ -97,8 +98,8 @@ pending_part events part synced same is =
 
 -- it lies within what all lies within
 pub part-within : (events part : List Event) (synced : ℕ) (bytes now : List ℕ) → part ≡ events → synced ≡ synced_events events → now ≡ bytes
-    → list_all (is_within (length bytes)) events ≡ true → list_all (is_within (length now)) (take (length part - synced) (drop synced part)) ≡ true
+    → list_all (is_event_within (length bytes)) events ≡ true → list_all (is_event_within (length now)) (take (length part - synced) (drop synced part)) ≡ true
 part-within events part synced bytes now same is kept all =
-    ap (λ (bs : List ℕ). list_all (is_within (length bs)) (take (length part - synced) (drop synced part))) kept
-    ∙ ap (λ es. list_all (is_within (length bytes)) es) (pending_part events part synced same is)
+    ap (λ (bs : List ℕ). list_all (is_event_within (length bs)) (take (length part - synced) (drop synced part))) kept
+    ∙ ap (λ es. list_all (is_event_within (length bytes)) es) (pending_part events part synced same is)
     ∙ pending-within (length bytes) events all

@@ -6,9 +6,10 @@ use Rattle.std.proofs.lemmas.List.Folds.{list_any-append}
 use Rattle.std.proofs.lemmas.Bool.{cases_lt, or_parts, or_from}
 use Rattle.std.proofs.lemmas.Bool.Decides.{nat_tests}
 use Rattle.rly_disk.specs.DiskModel.{overwritten, IsTorn, IsWritten, NothingNew, Settled}
-use Rattle.rly_disk.specs.Record.{pending, before, covers, covered, IsImage, WasImage}
-use Rattle.rly_disk.specs.RecordLaws.{from_last, seen_is_image, counts_now}
-use Rattle.rly_disk.specs.MemDisk.{state_of, consistent_of}
+use Rattle.rly_disk.specs.Record.{pending, before, covers, is_covered, IsImage, WasImage}
+use Rattle.rly_disk.specs.HelpersRecord.{from_last, seen_is_image, counts_now}
+use Rattle.rly_disk.specs.MemDisk.{recorded_state}
+use Rattle.rly_disk.specs.HelpersMemDisk.{consistent_of}
 use Rattle.rly_disk.specs.declared.counts.Counts.{Counts}
 use Rattle.rly_disk.specs.declared.record.Event.{Event}
 use Rattle.rly_disk.specs.declared.record.Event.TheVariants.{Written, Synced}
@@ -53,21 +54,21 @@ module _ (events : List Event) (place : ℕ) (new old : List ℕ) (replaced : Ve
   pub undone : before (Written place replaced ∷ []) (overwritten place new old) ≡ old
   undone = ap (λ (bytes : List ℕ). overwritten place bytes (overwritten place new old)) kept ∙ overwritten_back place new old fits
 
-  covered_now : (i : ℕ) → covered (pending (events ++ Written place replaced ∷ [])) i ≡ (covered (pending events) i || covered (Written place replaced ∷ []) i)
+  covered_now : (i : ℕ) → is_covered (pending (events ++ Written place replaced ∷ [])) i ≡ (is_covered (pending events) i || is_covered (Written place replaced ∷ []) i)
   covered_now i =
-      ap (λ es. covered es i) (pending-write events (Written place replaced) refl)
+      ap (λ es. is_covered es i) (pending-write events (Written place replaced) refl)
       ∙ list_any-append (λ event. covers event i) (pending events) (Written place replaced ∷ [])
 
-  not_in_range : (i : ℕ) → (i < place) ⊎ (place + length new ≤ i) → covered (Written place replaced ∷ []) i ≡ false
+  not_in_range : (i : ℕ) → (i < place) ⊎ (place + length new ≤ i) → is_covered (Written place replaced ∷ []) i ≡ false
   not_in_range i out = grind (arith, nat_tests, long)
 
-  out_of_range : (i : ℕ) → covered (Written place replaced ∷ []) i ≡ false → (i < place) ⊎ (place + length new ≤ i)
+  out_of_range : (i : ℕ) → is_covered (Written place replaced ∷ []) i ≡ false → (i < place) ⊎ (place + length new ≤ i)
   out_of_range i free = grind (arith, nat_tests, long)
 
-  still_free : (i : ℕ) → covered (pending events) i ≡ false → covered (Written place replaced ∷ []) i ≡ false → covered (pending (events ++ Written place replaced ∷ [])) i ≡ false
+  still_free : (i : ℕ) → is_covered (pending events) i ≡ false → is_covered (Written place replaced ∷ []) i ≡ false → is_covered (pending (events ++ Written place replaced ∷ [])) i ≡ false
   still_free i before_it by_it = covered_now i ∙ or_from _ _ before_it by_it
 
-  was_free : (i : ℕ) → covered (pending (events ++ Written place replaced ∷ [])) i ≡ false → (covered (pending events) i ≡ false) × (covered (Written place replaced ∷ []) i ≡ false)
+  was_free : (i : ℕ) → is_covered (pending (events ++ Written place replaced ∷ [])) i ≡ false → (is_covered (pending events) i ≡ false) × (is_covered (Written place replaced ∷ []) i ≡ false)
   was_free i free = or_parts _ _ (sym (covered_now i) ∙ free)
 
   written_outside : (i : ℕ) → (i < place) ⊎ (place + length new ≤ i) → get_or (overwritten place new old) i 0 ≡ get_or old i 0
@@ -87,7 +88,7 @@ module _ (events : List Event) (place : ℕ) (new old : List ℕ) (replaced : Ve
         ∙ ap (λ (bytes : List ℕ). get_or bytes (i - place) 0) kept
         ∙ grind (arith, places)
 
-    back_free : (i : ℕ) → covered (pending events) i ≡ false → (i < place) ⊎ (place + length new ≤ i) → get_or (overwritten place replaced.items c) i 0 ≡ get_or old i 0
+    back_free : (i : ℕ) → is_covered (pending events) i ≡ false → (i < place) ⊎ (place + length new ≤ i) → get_or (overwritten place replaced.items c) i 0 ≡ get_or old i 0
     back_free i free out = back_outside i out ∙ image.each i (still_free i free (not_in_range i out)) ∙ written_outside i out
 
     torn : IsTorn place (length new) (IsImage events old) c
@@ -116,7 +117,7 @@ module _ (events : List Event) (place : ℕ) (new old : List ℕ) (replaced : Ve
         torn.2.each i out ∙ torn.1.each i (was_free i free).0 ∙ sym (written_outside i out);
   }
 
-  pub written : (now then : Counts) → IsWritten place (length new) (state_of events old now) (state_of (events ++ Written place replaced ∷ []) (overwritten place new old) then)
+  pub written : (now then : Counts) → IsWritten place (length new) (recorded_state events old now) (recorded_state (events ++ Written place replaced ∷ []) (overwritten place new old) then)
   written now then = record {
     honest = tt;
     outside = overwritten_outside place new old fits;
@@ -134,15 +135,15 @@ module _ (events : List Event) (bytes : List ℕ) where
   only_seen : (c : List ℕ) → IsImage (events ++ Synced ∷ []) bytes c → c ≡ bytes
   only_seen c image =
       ext_get_or 0 c bytes image.same_length
-      (λ i h. image.each i (ap (λ es. covered es i) (pending-sync events)))
+      (λ i h. image.each i (ap (λ es. is_covered es i) (pending-sync events)))
 
-  pub settled : (now : Counts) → Settled (state_of (events ++ Synced ∷ []) bytes now)
+  pub settled : (now : Counts) → Settled (recorded_state (events ++ Synced ∷ []) bytes now)
   settled now = record { honest = tt; consistent = consistent_of (events ++ Synced ∷ []) bytes now; only = only_seen }
 
   was_image : (c : List ℕ) → IsImage (events ++ Synced ∷ []) bytes c → IsImage events bytes c
   was_image c image = subst (λ d. IsImage events bytes d) (sym (only_seen c image)) (seen_is_image events bytes)
 
-  pub synced : (now then : Counts) → NothingNew (state_of events bytes now) (state_of (events ++ Synced ∷ []) bytes then)
+  pub synced : (now then : Counts) → NothingNew (recorded_state events bytes now) (recorded_state (events ++ Synced ∷ []) bytes then)
   synced now then = record {
     honest = tt;
     seen = refl;

@@ -15,7 +15,8 @@ pub record DiskState : Type 1 where
   pub since : ℕ → List ℕ → Type 0
   -- it keeps to the disk model
   pub honest : Type 0
-  -- how many calls of `read_at`, `write_at` and `sync` were made, and of these how many failed, were syncs, and were reads that failed
+  -- how many calls of `read_at`, `write_at` and `sync` were made, and of these how many failed, were syncs, and were
+  -- reads that failed
   pub calls : ℕ
   pub failures : ℕ
   pub syncs : ℕ
@@ -34,7 +35,8 @@ overwritten place bytes old = take place old ++ bytes ++ drop (place + length by
 abbrev pub IsTorn : ℕ → ℕ → (List ℕ → Type 0) → List ℕ → Type 0
 IsTorn place n before image = (d : List ℕ) × before d × SameOutside place n d image
 
--- what a write leaves, done or failed: a crash during it or after it may leave any bytes in its range, and the rest as before
+-- what a write leaves, done or failed: a crash during it or after it may leave any bytes in its range, and the rest as
+-- before
 pub record IsWritten (place n : ℕ) (old new : DiskState) : Type 0 where
   pub honest : new.honest
   pub outside : SameOutside place n old.seen new.seen
@@ -77,9 +79,9 @@ pub record Settled (disk : DiskState) : Type 0 where
 abbrev pub IsSpent : DiskState → Type 0
 IsSpent disk = 2 ^ 64 - 1 ≤ disk.calls
 
--- `failures` rose; where the counts stand at their last value, that is read as a rise
-abbrev pub Rose : DiskState → DiskState → Type 0
-Rose old new = (old.failures < new.failures) ⊎ IsSpent new
+-- a call failed: `failures` rose. Where the counts stand at their last value, that is read as a rise
+abbrev pub HasFailed : DiskState → DiskState → Type 0
+HasFailed old new = (old.failures < new.failures) ⊎ IsSpent new
 
 -- one call more, with so many failures, syncs and failed reads in it
 pub record Counted (failures syncs failed_reads : ℕ) (old new : DiskState) : Type 0 where

@@ -1,16 +1,16 @@
 -- What contracts see of a disk that fails at a chosen call.
-use Rattle.std.specs.Prelude.{◌≤◌, ◌==◌, ◌&&◌, ◌+◌, ℕ, Bool, not, nat_le}
-use Rattle.rly_disk.specs.DiskModel.{DiskState, Consistent}
-use Rattle.rly_disk.specs.declared.fault.After.{After}
-use Rattle.rly_disk.specs.declared.fault.After.TheVariants.{GoesOn, Stops}
-use Rattle.rly_disk.specs.declared.fault.FaultDisk.{FaultDisk}
+use Rattle.std.specs.Prelude.{◌==◌, ◌&&◌, ◌+◌, ℕ, Bool, not, nat_le}
+use Rattle.rly_disk.specs.DiskModel.{DiskState}
+use Rattle.rly_disk.specs.declared.fault_disk.After.{After}
+use Rattle.rly_disk.specs.declared.fault_disk.After.TheVariants.{GoesOn, Stops}
+use Rattle.rly_disk.specs.declared.fault_disk.FaultDisk.{FaultDisk}
 
 abbrev pub inner_of : {D : Type 0} → FaultDisk D → D
 inner_of disk = disk.inner
 
 -- the number of the call that fails, how many bytes a failing write puts, and what comes after
-abbrev pub plan_of : {D : Type 0} → FaultDisk D → ℕ × ℕ × After
-plan_of disk = (disk.at, disk.torn, disk.after)
+abbrev pub fault_plan : {D : Type 0} → FaultDisk D → ℕ × ℕ × After
+fault_plan disk = (disk.at, disk.torn, disk.after)
 
 abbrev pub torn_of : {D : Type 0} → FaultDisk D → ℕ
 torn_of disk = disk.torn
@@ -32,15 +32,3 @@ fault_state state disk = record (state disk.inner) {
   syncs = disk.counts.syncs;
   failed_reads = disk.counts.failed_reads;
 }
-
-pub fault_consistent : {D : Type 0} (state : D → DiskState) (disk : FaultDisk D) → Consistent (state disk.inner) → Consistent (fault_state state disk)
-fault_consistent state disk facts = record {
-  seen_size = facts.seen_size;
-  image_size = facts.image_size;
-  seen_is_image = facts.seen_is_image;
-  counts_now = facts.counts_now;
-  only_now = facts.only_now;
-}
-
-pub fault_calls_lead : {D : Type 0} (disk : FaultDisk D) → (disk.counts.failures ≤ disk.counts.calls) × (disk.counts.syncs ≤ disk.counts.calls) × (disk.counts.failed_reads ≤ disk.counts.failures)
-fault_calls_lead disk = (disk.counts.failures_are_calls, disk.counts.syncs_are_calls, disk.counts.failed_reads_are_failures)

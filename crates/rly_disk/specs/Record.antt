@@ -1,5 +1,6 @@
 -- What the record of a disk in memory tells of its images.
-use Rattle.std.specs.Prelude.{◌≡◌, ◌==◌, ◌+◌, ◌-◌, ◌≤◌, ◌&&◌, ℕ, suc, min, Bool, true, false, not, List, [], ◌∷◌, length, take, drop, slice_index, nat_le, nat_lt, if◌then◌else◌}
+use Rattle.std.specs.Prelude.{◌≡◌, ◌==◌, ◌+◌, ◌-◌, ◌≤◌, ◌&&◌, ℕ, suc, min, Bool, true}
+use Rattle.std.specs.Prelude.{false, not, List, [], ◌∷◌, length, take, drop, slice_index, nat_le, nat_lt, if◌then◌else◌}
 use Rattle.std.specs.List.{list_any}
 use Rattle.rly_disk.specs.DiskModel.{overwritten}
 use Rattle.rly_disk.specs.declared.record.Event.{Event}
@@ -12,7 +13,8 @@ is_sync Synced = true
 -- how many events there are up to and with the last sync
 abbrev pub synced_events : List Event → ℕ
 synced_events [] = 0
-synced_events (event ∷ events) = if not (is_sync event) && (synced_events events == 0) then 0 else suc (synced_events events)
+synced_events (event ∷ events) =
+    if not (is_sync event) && (synced_events events == 0) then 0 else suc (synced_events events)
 
 -- the events behind the last sync
 abbrev pub pending : List Event → List Event
@@ -24,18 +26,8 @@ covers (Written place replaced) at = nat_le place at && nat_lt at (place + lengt
 covers Synced at = false
 
 -- one of these events wrote the byte at this place
-abbrev pub covered : List Event → ℕ → Bool
-covered events at = list_any (λ event. covers event at) events
-
--- the event wrote nothing past this size
-abbrev pub is_within : ℕ → Event → Bool
-is_within size (Written place replaced) = nat_le (place + length replaced.items) size
-is_within size Synced = true
-
--- how many bytes the event put
-abbrev pub put_len : Event → ℕ
-put_len (Written place replaced) = length replaced.items
-put_len Synced = 0
+abbrev pub is_covered : List Event → ℕ → Bool
+is_covered events at = list_any (λ event. covers event at) events
 
 -- what a read gave before these events, where it gives these bytes after them
 abbrev pub before : List Event → List ℕ → List ℕ
@@ -47,20 +39,22 @@ before (Synced ∷ events) bytes = before events bytes
 abbrev pub before_but : ℕ → List Event → List ℕ → List ℕ
 before_but kept [] bytes = bytes
 before_but kept (Written place replaced ∷ events) bytes =
-    overwritten (place + min kept (length replaced.items)) (drop kept replaced.items) (before_but (kept - length replaced.items) events bytes)
+    overwritten (place + min kept (length replaced.items)) (drop kept replaced.items)
+    (before_but (kept - length replaced.items) events bytes)
 before_but kept (Synced ∷ events) bytes = before_but kept events bytes
 
 -- an image after these events: any bytes where a write is pending, elsewhere what a read gives
 pub record IsImage (events : List Event) (bytes image : List ℕ) : Type 0 where
   pub same_length : length image ≡ length bytes
-  pub each : (i : ℕ) → covered (pending events) i ≡ false → slice_index image i ≡ slice_index bytes i
+  pub each : (i : ℕ) → is_covered (pending events) i ≡ false → slice_index image i ≡ slice_index bytes i
 
 -- an image of some moment since the first t events
 abbrev pub WasImage : List Event → List ℕ → ℕ → List ℕ → Type 0
-WasImage events bytes t image = (k : ℕ) × (t ≤ k) × (k ≤ length events) × IsImage (take k events) (before (drop k events) bytes) image
+WasImage events bytes t image =
+    (k : ℕ) × (t ≤ k) × (k ≤ length events) × IsImage (take k events) (before (drop k events) bytes) image
 
 -- each byte that these events wrote is this one, and the others are as they were
 pub record IsFilled (events : List Event) (byte : ℕ) (old new : List ℕ) : Type 0 where
   pub same_length : length new ≡ length old
-  pub filled : (i : ℕ) → covered events i ≡ true → slice_index new i ≡ byte
-  pub others : (i : ℕ) → covered events i ≡ false → slice_index new i ≡ slice_index old i
+  pub filled : (i : ℕ) → is_covered events i ≡ true → slice_index new i ≡ byte
+  pub others : (i : ℕ) → is_covered events i ≡ false → slice_index new i ≡ slice_index old i

@@ -1,6 +1,6 @@
 // The interface of a disk, with all that a contract may say of one.
 ghost use Rattle.std.specs.Prelude.{◌≡◌, ◌≤◌, ◌<◌, ◌+◌, List, ℕ, length, OnOk, OnErr, IsErr, is_ok, slice_range, if◌then◌else◌};
-ghost use Rattle.rly_disk.specs.DiskModel.{DiskState, SameOutside, overwritten, IsWritten, NothingNew, SettlesNothing, Settled, Consistent, IsSpent, Rose, Counted, Later};
+ghost use Rattle.rly_disk.specs.DiskModel.{DiskState, SameOutside, overwritten, IsWritten, NothingNew, SettlesNothing, Settled, Consistent, IsSpent, HasFailed, Counted, Later};
 
 /// A call of a disk failed. What it left is said at the call.
 #[derive(Clone, Copy, Debug, PartialEq, Eq, Drop)]
@@ -26,7 +26,7 @@ pub trait Disk {
         ensures crash { (state self.old).honest → NothingNew (state self.old) (state self.new) }
         ensures unsettled { (state self.old).honest → SettlesNothing (state self.old) (state self.new) }
         ensures stays_settled { Settled (state self.old) → Settled (state self.new) }
-        ensures rise { OnErr result (Rose (state self.old) (state self.new)) }
+        ensures rise { OnErr result (HasFailed (state self.old) (state self.new)) }
         ensures no_failure { OnOk result ((state self.new).failures ≡ (state self.old).failures) }
         ensures counted { ¬ IsSpent (state self.old)
             → Counted (if is_ok result then 0 else 1) 0 (if is_ok result then 0 else 1) (state self.old) (state self.new) }
@@ -40,7 +40,7 @@ pub trait Disk {
         ensures written { (state self.old).honest
             → OnOk result ((state self.new).seen ≡ overwritten place bytes.now (state self.old).seen) }
         ensures crash { (state self.old).honest → IsWritten place (length bytes.now) (state self.old) (state self.new) }
-        ensures rise { OnErr result (Rose (state self.old) (state self.new)) }
+        ensures rise { OnErr result (HasFailed (state self.old) (state self.new)) }
         ensures no_failure { OnOk result ((state self.new).failures ≡ (state self.old).failures) }
         ensures counted { ¬ IsSpent (state self.old)
             → Counted (if is_ok result then 0 else 1) 0 0 (state self.old) (state self.new) }
@@ -53,7 +53,7 @@ pub trait Disk {
         ensures crash { (state self.old).honest → NothingNew (state self.old) (state self.new) }
         ensures unsettled { (state self.old).honest → OnErr result (SettlesNothing (state self.old) (state self.new)) }
         ensures stays_settled { Settled (state self.old) → Settled (state self.new) }
-        ensures rise { OnErr result (Rose (state self.old) (state self.new)) }
+        ensures rise { OnErr result (HasFailed (state self.old) (state self.new)) }
         ensures no_failure { OnOk result ((state self.new).failures ≡ (state self.old).failures) }
         ensures counted { ¬ IsSpent (state self.old)
             → Counted (if is_ok result then 0 else 1) 1 0 (state self.old) (state self.new) }

@@ -7,14 +7,11 @@
 
 mod counts;
 mod disk;
-mod fault;
+mod fault_disk;
 mod mem;
 mod record;
 
 pub use counts::Counts;
 pub use disk::{Disk, DiskFault};
-pub use fault::{After, FaultDisk};
+pub use fault_disk::{After, FaultDisk};
 pub use mem::{MemDisk, Torn};
-
-#[cfg(test)]
-mod tests;

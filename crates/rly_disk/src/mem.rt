@@ -1,10 +1,11 @@
 // A disk in memory.
 ghost use Rattle.std.specs.Prelude.{◌≡◌, ◌≤◌, ◌<◌, ◌+◌, ◌^◌, ◌↔◌, List, ℕ, length, IsTrue, IsOk, IsErr, OnOk, OnErr, is_ok, slice_range, if◌then◌else◌};
 ghost use Rattle.std.specs.List.{list_all};
-ghost use Rattle.rly_disk.specs.DiskModel.{DiskState, overwritten, IsTorn, IsWritten, NothingNew, SettlesNothing, Settled, Consistent, IsSpent, Rose, Counted, Later};
-ghost use Rattle.rly_disk.specs.Record.{is_within, synced_events};
+ghost use Rattle.rly_disk.specs.DiskModel.{DiskState, overwritten, IsTorn, IsWritten, NothingNew, SettlesNothing, Settled, Consistent, IsSpent, HasFailed, Counted, Later};
+ghost use Rattle.rly_disk.specs.Record.{synced_events};
+ghost use Rattle.rly_disk.specs.HelpersRecord.{is_event_within};
 
-use crate::record::{Event, covered, fill, record_sync, restore, write};
+use crate::record::{Event, fill, is_covered, record_sync, restore, write};
 use crate::{Counts, Disk, DiskFault};
 use std::alloc::Global;
 
@@ -31,7 +32,7 @@ pub struct MemDisk {
     // How many of the events came before the end of the last sync.
     synced: usize,
     counts: Counts,
-    ghost within: { IsTrue (list_all (is_within (length bytes.items)) events.items) },
+    ghost within: { IsTrue (list_all (is_event_within (length bytes.items)) events.items) },
     ghost synced_is: { synced ≡ synced_events events.items },
 }
 
@@ -67,7 +68,7 @@ impl MemDisk {
         }
         let pending = &self.events[self.synced..];
         for at in 0..image.len() {
-            if image[at] != self.bytes[at] && !covered(pending, at) {
+            if image[at] != self.bytes[at] && !is_covered(pending, at) {
                 return false;
             }
         }
@@ -106,7 +107,8 @@ impl MemDisk {
 }
 
 impl Disk for MemDisk {
-    ghost use Rattle.rly_disk.specs.MemDisk.{mem_state, synced_bytes, mem_consistent, mem_calls_lead};
+    ghost use Rattle.rly_disk.specs.MemDisk.{mem_state, synced_bytes};
+    ghost use Rattle.rly_disk.specs.HelpersMemDisk.{mem_consistent, mem_calls_lead};
 
     ghost state = { mem_state };
 
@@ -125,7 +127,7 @@ impl Disk for MemDisk {
         ensures crash { (mem_state self.old).honest → NothingNew (mem_state self.old) (mem_state self.new) }
         ensures unsettled { (mem_state self.old).honest → SettlesNothing (mem_state self.old) (mem_state self.new) }
         ensures stays_settled { Settled (mem_state self.old) → Settled (mem_state self.new) }
-        ensures rise { OnErr result (Rose (mem_state self.old) (mem_state self.new)) }
+        ensures rise { OnErr result (HasFailed (mem_state self.old) (mem_state self.new)) }
         ensures no_failure { OnOk result ((mem_state self.new).failures ≡ (mem_state self.old).failures) }
         ensures counted { ¬ IsSpent (mem_state self.old)
             → Counted (if is_ok result then 0 else 1) 0 (if is_ok result then 0 else 1) (mem_state self.old) (mem_state self.new) }
@@ -149,7 +151,7 @@ impl Disk for MemDisk {
         ensures written { (mem_state self.old).honest
             → OnOk result ((mem_state self.new).seen ≡ overwritten place bytes.now (mem_state self.old).seen) }
         ensures crash { (mem_state self.old).honest → IsWritten place (length bytes.now) (mem_state self.old) (mem_state self.new) }
-        ensures rise { OnErr result (Rose (mem_state self.old) (mem_state self.new)) }
+        ensures rise { OnErr result (HasFailed (mem_state self.old) (mem_state self.new)) }
         ensures no_failure { OnOk result ((mem_state self.new).failures ≡ (mem_state self.old).failures) }
         ensures counted { ¬ IsSpent (mem_state self.old)
             → Counted (if is_ok result then 0 else 1) 0 0 (mem_state self.old) (mem_state self.new) }
@@ -189,7 +191,7 @@ impl Disk for MemDisk {
         ensures crash { (mem_state self.old).honest → NothingNew (mem_state self.old) (mem_state self.new) }
         ensures unsettled { (mem_state self.old).honest → OnErr result (SettlesNothing (mem_state self.old) (mem_state self.new)) }
         ensures stays_settled { Settled (mem_state self.old) → Settled (mem_state self.new) }
-        ensures rise { OnErr result (Rose (mem_state self.old) (mem_state self.new)) }
+        ensures rise { OnErr result (HasFailed (mem_state self.old) (mem_state self.new)) }
         ensures no_failure { OnOk result ((mem_state self.new).failures ≡ (mem_state self.old).failures) }
         ensures counted { ¬ IsSpent (mem_state self.old)
             → Counted (if is_ok result then 0 else 1) 1 0 (mem_state self.old) (mem_state self.new) }

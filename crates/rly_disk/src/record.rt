@@ -2,7 +2,8 @@
 ghost use Rattle.std.specs.Prelude.{◌≡◌, ◌≤◌, ◌+◌, ◌∷◌, [], ◌++◌, min, length, drop, slice_range, IsTrue, OnOk, OnErr};
 ghost use Rattle.std.specs.List.{list_all};
 ghost use Rattle.rly_disk.specs.DiskModel.{overwritten};
-ghost use Rattle.rly_disk.specs.Record.{covers, covered, is_within, put_len, before_but, IsFilled};
+ghost use Rattle.rly_disk.specs.Record.{covers, is_covered, before_but, IsFilled};
+ghost use Rattle.rly_disk.specs.HelpersRecord.{is_event_within, put_len};
 ghost use Rattle.rly_disk.specs.declared.record.Event.TheVariants.{Written, Synced};
 
 use std::alloc::{AllocError, Global};
@@ -37,7 +38,7 @@ impl Event {
 
     // Puts back what it replaced, but for the first bytes, so many of which are kept.
     fn undo(&self, bytes: &mut [u8], kept: u64)
-        requires { IsTrue (is_within (length bytes.old) self.now) }
+        requires { IsTrue (is_event_within (length bytes.old) self.now) }
         ensures { bytes.new ≡ before_but kept (self.now ∷ []) bytes.old }
     {
         if let Event::Written { place, replaced } = self {
@@ -47,7 +48,7 @@ impl Event {
     }
 
     fn fill(&self, bytes: &mut [u8], byte: u8)
-        requires { IsTrue (is_within (length bytes.old) self.now) }
+        requires { IsTrue (is_event_within (length bytes.old) self.now) }
         ensures { IsFilled (self.now ∷ []) byte bytes.old bytes.new }
     {
         if let Event::Written { place, replaced } = self {
@@ -58,7 +59,7 @@ impl Event {
 
 /// Undoes the writes, the last one first, but for the first bytes that they put, so many of which are kept.
 pub fn restore(bytes: &mut [u8], events: &[Event], kept: u64)
-    requires { IsTrue (list_all (is_within (length bytes.old)) events.now) }
+    requires { IsTrue (list_all (is_event_within (length bytes.old)) events.now) }
     ensures { bytes.new ≡ before_but kept events.now bytes.old }
 {
     if let [first, rest @ ..] = events {
@@ -69,7 +70,7 @@ pub fn restore(bytes: &mut [u8], events: &[Event], kept: u64)
 
 /// Writes this byte over each byte that the events wrote.
 pub fn fill(bytes: &mut [u8], events: &[Event], byte: u8)
-    requires { IsTrue (list_all (is_within (length bytes.old)) events.now) }
+    requires { IsTrue (list_all (is_event_within (length bytes.old)) events.now) }
     ensures { IsFilled events.now byte bytes.old bytes.new }
 {
     for event in events {
@@ -78,8 +79,8 @@ pub fn fill(bytes: &mut [u8], events: &[Event], byte: u8)
 }
 
 /// Whether one of the events wrote the byte at this place.
-pub fn covered(events: &[Event], at: usize) -> bool
-    ensures { result ≡ covered events.now at }
+pub fn is_covered(events: &[Event], at: usize) -> bool
+    ensures { result ≡ is_covered events.now at }
 {
     events.iter().any(|event| event.covers(at))
 }

@@ -17,7 +17,8 @@ use Rattle.rly_journal.specs.Standing.{Stands}
 use Rattle.rly_line.specs.Replies.{Teller}
 use Rattle.rly_line.specs.Responding.{IsResponding, Responding, calls_in}
 use Rattle.rly_line.specs.Submission.{LineId}
-use Rattle.rly_flush.specs.Flushing.{FlusherState, GrewInRound, HoldsAnswered, IsBreach, IsCrashSafe, IsFlushing, IsOneHistory, KeepsAnswered, answered_state, fallen, reached}
+use Rattle.rly_flush.specs.HelpersFlushing.{IsBreach, IsFlushing}
+use Rattle.rly_flush.specs.Flushing.{FlusherState, GrewInRound, HoldsAnswered, IsCrashSafe, IsOneHistory, KeepsAnswered, answered_state, entries_since, state_reached}
 use Rattle.rly_flush.proofs.Joining.{GoesOn, goes_on}
 use Rattle.rly_flush.proofs.Refusing.{calls_in_append, calls_in_zip, grows, up_to, up_to_more}
 
@@ -51,23 +52,23 @@ module _ {D : Type 0} (state : D → DiskState) (consistent : (disk : D) → (st
     bytes : LegalBy without_bytes 0 old.line.start old.line.history
     bytes = legal_but_for_bytes 0 old.line.start old.line.history kept.legal
 
-    holds_now : (s : State (List ℕ)) (image : List ℕ) → (reached old).seq ≤ s.seq → Stands image s → HoldsAnswered old.line.history image
+    holds_now : (s : State (List ℕ)) (image : List ℕ) → (state_reached old).seq ≤ s.seq → Stands image s → HoldsAnswered old.line.history image
     holds_now s image low stands = record {
       s = s;
       stands = stands;
-      answered = up_to_more s.seq (reached old).seq old.line.history low (up_to 0 old.line.start old.line.history bytes);
+      answered = up_to_more s.seq (state_reached old).seq old.line.history low (up_to 0 old.line.start old.line.history bytes);
     }
 
-    served_above : (calls : List Call) (given : List Answer) (target : State (List ℕ)) → AreServed calls given (reached old) target → (reached old).seq ≤ target.seq
+    served_above : (calls : List Call) (given : List Answer) (target : State (List ℕ)) → AreServed calls given (state_reached old) target → (state_reached old).seq ≤ target.seq
     served_above calls given target served =
-        let more = grows 0 (reached old) (zip calls given) (legal_but_for_bytes 0 (reached old) (zip calls given) served.legal) in
+        let more = grows 0 (state_reached old) (zip calls given) (legal_but_for_bytes 0 (state_reached old) (zip calls given) served.legal) in
         omega (arith, more, ap (λ (x : State (List ℕ)). x.seq) served.state)
 
     keeps : (broken : Bool) → old.journal.broken ≡ broken → (state old.journal.disk).honest → old.first.broken ≡ false → KeepsAnswered (state old.journal.disk) old.line.history
-    keeps false whole honest sound image is = holds_now (reached old) image (omega arith) (kept.whole honest whole image is)
+    keeps false whole honest sound image is = holds_now (state_reached old) image (omega arith) (kept.whole honest whole image is)
     keeps true broke honest sound image is =
         let breach = kept.breach honest sound broke in
-        ⊎_elim (λ stands. holds_now (reached old) image (omega arith) stands)
+        ⊎_elim (λ stands. holds_now (state_reached old) image (omega arith) stands)
         (λ stands. holds_now breach.target image (served_above breach.calls breach.given breach.target breach.served) stands)
         (breach.images image is)
 
@@ -100,8 +101,8 @@ module _ {D : Type 0} (state : D → DiskState) (consistent : (disk : D) → (st
           given = breach.given;
           target = breach.target;
           served = breach.served;
-          leaves = subst (λ (j : JournalState D). LeavesOnly (state old.journal.disk) (state j.disk) (λ image. Stands image (reached old) ⊎ Stands image breach.target)) (sym same)
-              (started (state old.journal.disk) (λ image. Stands image (reached old) ⊎ Stands image breach.target) (consistent old.journal.disk honest) breach.images);
+          leaves = subst (λ (j : JournalState D). LeavesOnly (state old.journal.disk) (state j.disk) (λ image. Stands image (state_reached old) ⊎ Stands image breach.target)) (sym same)
+              (started (state old.journal.disk) (λ image. Stands image (state_reached old) ⊎ Stands image breach.target) (consistent old.journal.disk honest) breach.images);
           running = λ whole. absurd (false≢true (sym whole ∙ ap (λ (j : JournalState D). j.broken) same ∙ broke));
         }
 
@@ -110,9 +111,9 @@ module _ {D : Type 0} (state : D → DiskState) (consistent : (disk : D) → (st
       calls = [];
       doubtful = inl (whole, sym (append-nil old.line.taken));
       given = [];
-      target = reached old;
-      served = none_served (reached old);
-      leaves = started (state old.journal.disk) (λ image. Stands image (reached old) ⊎ Stands image (reached old)) (consistent old.journal.disk honest)
+      target = state_reached old;
+      served = none_served (state_reached old);
+      leaves = started (state old.journal.disk) (λ image. Stands image (state_reached old) ⊎ Stands image (state_reached old)) (consistent old.journal.disk honest)
           (λ image is. inl (kept.whole honest whole image is));
       running = λ _. sym (kept.running whole);
     }
@@ -140,7 +141,7 @@ module _ {D : Type 0} (state : D → DiskState) (consistent : (disk : D) → (st
       whole_safe : (state old.journal.disk).honest → old.journal.broken ≡ false → IsCrashSafe state old next
       whole_safe honest whole =
           let safe = now.safe honest whole in
-          let same : old.journal.state ≡ reached old = kept.running whole in
+          let same : old.journal.state ≡ state_reached old = kept.running whole in
           record {
             calls = calls;
             doubtful = inl (whole, refl);
@@ -172,7 +173,7 @@ module _ {D : Type 0} (state : D → DiskState) (consistent : (disk : D) → (st
       unfolding whole_safe
       breaks_now honest whole broke unsure =
           let safe = whole_safe (honest_before honest) whole in
-          let moved : reached old ≡ reached next = sym (on.stays broke) in
+          let moved : state_reached old ≡ state_reached next = sym (on.stays broke) in
           record {
             before = old.line.history;
             calls = calls;
@@ -182,26 +183,26 @@ module _ {D : Type 0} (state : D → DiskState) (consistent : (disk : D) → (st
             target = safe.target;
             served = subst (λ s. AreServed calls (now.safe (honest_before honest) whole).given s safe.target) moved safe.served;
             images = subst (λ s. (image : List ℕ) → (state journal.disk).images image → Stands image s ⊎ Stands image safe.target) moved
-                (at_exit (λ image. Stands image (reached old) ⊎ Stands image safe.target) safe.leaves (consistent journal.disk honest));
+                (at_exit (λ image. Stands image (state_reached old) ⊎ Stands image safe.target) safe.leaves (consistent journal.disk honest));
           }
 
       -- an earlier one did
       broke_before : (state journal.disk).honest → old.first.broken ≡ false → old.journal.broken ≡ true → journal ≡ old.journal → given ≡ refusals Broken old.journal.position calls → IsBreach state next
       broke_before honest sound broke same refused =
           let breach = kept.breach (honest_before honest) sound broke in
-          let moved : reached old ≡ reached next = sym (on.stays (ap (λ (j : JournalState D). j.broken) same ∙ broke)) in
+          let moved : state_reached old ≡ state_reached next = sym (on.stays (ap (λ (j : JournalState D). j.broken) same ∙ broke)) in
           let p : ℕ = old.journal.position in
           let more : zip breach.behind (refusals Broken p breach.behind) ++ zip calls given ≡ zip (breach.behind ++ calls) (refusals Broken p (breach.behind ++ calls)) =
           ap (λ g. zip breach.behind (refusals Broken p breach.behind) ++ zip calls g) refused ∙ sym (refusals_append Broken p breach.behind calls) in
           let unsure : List Entry = zip breach.calls (refusals Unsure p breach.calls) in
-          let longer : fallen p breach.calls breach.behind ++ zip calls given ≡ fallen p breach.calls (breach.behind ++ calls) =
+          let longer : entries_since p breach.calls breach.behind ++ zip calls given ≡ entries_since p breach.calls (breach.behind ++ calls) =
           append_assoc unsure (zip breach.behind (refusals Broken p breach.behind)) (zip calls given) ∙ ap (λ l. unsure ++ l) more in
           record {
             before = breach.before;
             calls = breach.calls;
             behind = breach.behind ++ calls;
-            whole = ap (λ l. l ++ zip calls given) breach.whole ∙ append_assoc breach.before (fallen p breach.calls breach.behind) (zip calls given)
-                ∙ ap (λ l. breach.before ++ l) longer ∙ ap (λ (j : JournalState D). breach.before ++ fallen j.position breach.calls (breach.behind ++ calls)) (sym same);
+            whole = ap (λ l. l ++ zip calls given) breach.whole ∙ append_assoc breach.before (entries_since p breach.calls breach.behind) (zip calls given)
+                ∙ ap (λ l. breach.before ++ l) longer ∙ ap (λ (j : JournalState D). breach.before ++ entries_since j.position breach.calls (breach.behind ++ calls)) (sym same);
             given = breach.given;
             target = breach.target;
             served = subst (λ s. AreServed breach.calls breach.given s breach.target) moved breach.served;

@@ -5,7 +5,7 @@ use Rattle.std.specs.List.{AllByRecursion, zip}
 use Rattle.std.proofs.Common.{length}
 use Rattle.rly_core.specs.declared.refusal.Refusal.{Refusal}
 use Rattle.rly_core.specs.declared.refusal.Refusal.TheVariants.{Broken, Unsure}
-use Rattle.rly_disk.specs.DiskModel.{DiskState, Rose}
+use Rattle.rly_disk.specs.DiskModel.{DiskState, HasFailed}
 use Rattle.rly_machine.specs.declared.call.Answer.{Answer}
 use Rattle.rly_machine.specs.declared.call.Call.{Call}
 use Rattle.rly_machine.specs.declared.reply.Reply.TheVariants.{Refused}
@@ -25,13 +25,13 @@ pub record GoesOn {D : Type 0} (state : D → DiskState) (old new : JournalState
   pub running : new.broken ≡ false → new.state ≡ state_after start (history ++ zip calls given)
   pub unharmed : new.broken ≡ false → harm_after 0 (history ++ zip calls given) ≡ 0
   pub stays : new.broken ≡ true → state_after start (history ++ zip calls given) ≡ state_after start history
-  pub truthful : AllByRecursion (IsTruthful (Rose (state old.disk) (state new.disk)) (old.broken ≡ true)) (zip calls given)
+  pub truthful : AllByRecursion (IsTruthful (HasFailed (state old.disk) (state new.disk)) (old.broken ≡ true)) (zip calls given)
 
 module _ {D : Type 0} (state : D → DiskState) (old new : JournalState D) (start : State (List ℕ)) (history : List Entry) (calls : List Call) where
   -- all calls are refused
   refused : (refusal : Refusal) (p : ℕ) → is_failure (Refused refusal) ≡ true → harm_after 0 history ≤ harm (Refused refusal) → p ≡ (state_after start history).seq
       → new.broken ≡ true → new.position ≡ p
-      → AllByRecursion (IsTruthful (Rose (state old.disk) (state new.disk)) (old.broken ≡ true)) (zip calls (refusals refusal p calls))
+      → AllByRecursion (IsTruthful (HasFailed (state old.disk) (state new.disk)) (old.broken ≡ true)) (zip calls (refusals refusal p calls))
       → GoesOn state old new start history calls (refusals refusal p calls)
   refused refusal p fails low at broken stands truthful =
       let same : state_after start (history ++ zip calls (refusals refusal p calls)) ≡ state_after start history =
@@ -59,7 +59,7 @@ module _ {D : Type 0} (state : D → DiskState) (old new : JournalState D) (star
         running = λ _. moved;
         unharmed = λ _. harm_after-append 0 history (zip calls given) ∙ served_unharmed (harm_after 0 history) (zip calls given) goes.served.only unharmed;
         stays = λ broken. absurd (false≢true (sym goes.broken ∙ broken));
-        truthful = served_truthful (Rose (state old.disk) (state new.disk)) (old.broken ≡ true) (zip calls given) goes.served.only;
+        truthful = served_truthful (HasFailed (state old.disk) (state new.disk)) (old.broken ≡ true) (zip calls given) goes.served.only;
       }
 
   pub goes_on : (given : List Answer) → IsRound state old new calls given → old.position ≡ (state_after start history).seq
@@ -68,9 +68,9 @@ module _ {D : Type 0} (state : D → DiskState) (old new : JournalState D) (star
   goes_on given (inl was) at running unharmed =
       subst (λ g. GoesOn state old new start history calls g) (sym was.1)
       (refused Broken old.position refl (most_after 0 history (omega arith)) at (ap (λ j. j.broken) was.2 ∙ was.0) (ap (λ j. j.position) was.2)
-      (broken_truthful (Rose (state old.disk) (state new.disk)) (old.broken ≡ true) old.position calls was.0))
+      (broken_truthful (HasFailed (state old.disk) (state new.disk)) (old.broken ≡ true) old.position calls was.0))
   goes_on given (inr (inl went)) at running unharmed = served given went.1 (running went.0) (unharmed went.0)
   goes_on given (inr (inr broke)) at running unharmed =
       subst (λ g. GoesOn state old new start history calls g) (sym broke.1.unsure)
       (refused Unsure old.position refl (let none = unharmed broke.0 in omega (arith, none)) at broke.1.broken broke.1.position
-      (unsure_truthful (Rose (state old.disk) (state new.disk)) (old.broken ≡ true) old.position calls broke.2))
+      (unsure_truthful (HasFailed (state old.disk) (state new.disk)) (old.broken ≡ true) old.position calls broke.2))

@@ -3,7 +3,7 @@ use Rattle.std.proofs.Common.{ℕ, ◌≡◌, ◌≤◌, ◌⊎◌, inl, inr, �
 use Rattle.std.proofs.lemmas.Bool.{false≢true}
 use Rattle.std.specs.Prelude.{MatchBool}
 use Rattle.std.specs.List.{AllByRecursion, zip}
-use Rattle.rly_disk.specs.DiskModel.{Consistent, DiskState, Later, Rose}
+use Rattle.rly_disk.specs.DiskModel.{Consistent, DiskState, Later, HasFailed}
 use Rattle.rly_disk.proofs.Composition.{joined, later_again, rose_earlier, rose_later, started, weaker}
 use Rattle.rly_machine.specs.declared.call.Answer.{Answer}
 use Rattle.rly_machine.specs.declared.call.Call.{Call}
@@ -12,7 +12,7 @@ use Rattle.rly_machine.specs.State.{State}
 use Rattle.rly_machine.proofs.Histories.{legal_but_for_bytes}
 use Rattle.rly_journal.specs.Journal.{IsRound, JournalState}
 use Rattle.rly_journal.specs.Standing.{Stands}
-use Rattle.rly_flush.specs.Flushing.{FlusherState, GrewInRound, HoldsAnswered, IsContinued, IsCrashSafe, IsOneHistory, IsOneRound, IsTruthful, reached}
+use Rattle.rly_flush.specs.Flushing.{FlusherState, GrewInRound, HoldsAnswered, IsContinued, IsCrashSafe, IsOneHistory, IsOneRound, IsTruthful, state_reached}
 use Rattle.rly_flush.proofs.Refusing.{all_append, all_weaker, grows, up_to, up_to_more}
 
 -- what holds of each entry holds of those in front
@@ -37,7 +37,7 @@ module _ {D : Type 0} (state : D → DiskState) (consistent : (disk : D) → (st
       (history : IsOneHistory state e) (grew : GrewInRound state b e) (later : Later (state b.journal.disk) (state e.journal.disk))
       (safe : (state b.journal.disk).honest → b.first.broken ≡ false → IsCrashSafe state b e) where
     abbrev Failed : Type 0
-    Failed = Rose (state a.journal.disk) (state e.journal.disk)
+    Failed = HasFailed (state a.journal.disk) (state e.journal.disk)
 
     abbrev Broken : Type 0
     Broken = (a.journal.broken ≡ true) ⊎ Failed
@@ -46,14 +46,14 @@ module _ {D : Type 0} (state : D → DiskState) (consistent : (disk : D) → (st
     since : b.journal.broken ≡ true → Broken
     since broke = ⊎_elim (λ was. inl was) (λ rose. inr (rose_later (state a.journal.disk) rose later)) (so_far.broke broke)
 
-    earlier : (x : Entry) → IsTruthful (Rose (state a.journal.disk) (state b.journal.disk)) ((a.journal.broken ≡ true) ⊎ Rose (state a.journal.disk) (state b.journal.disk)) x → IsTruthful Failed Broken x
+    earlier : (x : Entry) → IsTruthful (HasFailed (state a.journal.disk) (state b.journal.disk)) ((a.journal.broken ≡ true) ⊎ HasFailed (state a.journal.disk) (state b.journal.disk)) x → IsTruthful Failed Broken x
     earlier x truthful = record {
       unsure = λ e. rose_later (state a.journal.disk) (truthful.unsure e) later;
       broken_before = λ e. ⊎_elim (λ was. inl was) (λ rose. inr (rose_later (state a.journal.disk) rose later)) (truthful.broken_before e);
       readable = truthful.readable;
     }
 
-    now : (x : Entry) → IsTruthful (Rose (state b.journal.disk) (state e.journal.disk)) (b.journal.broken ≡ true) x → IsTruthful Failed Broken x
+    now : (x : Entry) → IsTruthful (HasFailed (state b.journal.disk) (state e.journal.disk)) (b.journal.broken ≡ true) x → IsTruthful Failed Broken x
     now x truthful = record {
       unsure = λ is. rose_earlier (state e.journal.disk) so_far.later (truthful.unsure is);
       broken_before = λ is. since (truthful.broken_before is);
@@ -70,20 +70,20 @@ module _ {D : Type 0} (state : D → DiskState) (consistent : (disk : D) → (st
     broke_by false same broke = since (sym (ap (λ (f : FlusherState D). f.journal.broken) same) ∙ broke)
 
     -- what was answered at first was answered before this round
-    held : (s : State (List ℕ)) (image : List ℕ) → (reached b).seq ≤ s.seq → Stands image s → HoldsAnswered a.line.history image
+    held : (s : State (List ℕ)) (image : List ℕ) → (state_reached b).seq ≤ s.seq → Stands image s → HoldsAnswered a.line.history image
     held s image low stands = record {
       s = s;
       stands = stands;
-      answered = up_to_more s.seq (reached b).seq a.line.history low
-          (all_front (λ x. x.1.position ≤ (reached b).seq) a.line.history so_far.grew.added
-          (subst (AllByRecursion (λ x. x.1.position ≤ (reached b).seq)) so_far.grew.history
+      answered = up_to_more s.seq (state_reached b).seq a.line.history low
+          (all_front (λ x. x.1.position ≤ (state_reached b).seq) a.line.history so_far.grew.added
+          (subst (AllByRecursion (λ x. x.1.position ≤ (state_reached b).seq)) so_far.grew.history
           (up_to 0 b.line.start b.line.history so_far.history.legal_but_for_bytes)));
     }
 
-    held_both : (round : IsCrashSafe state b e) (image : List ℕ) → Stands image (reached b) ⊎ Stands image round.target → HoldsAnswered a.line.history image
+    held_both : (round : IsCrashSafe state b e) (image : List ℕ) → Stands image (state_reached b) ⊎ Stands image round.target → HoldsAnswered a.line.history image
     held_both round image stands =
-        let more = grows 0 (reached b) (zip round.calls round.given) (legal_but_for_bytes 0 (reached b) (zip round.calls round.given) round.served.legal) in
-        ⊎_elim (λ s. held (reached b) image (omega arith) s)
+        let more = grows 0 (state_reached b) (zip round.calls round.given) (legal_but_for_bytes 0 (state_reached b) (zip round.calls round.given) round.served.legal) in
+        ⊎_elim (λ s. held (state_reached b) image (omega arith) s)
         (λ s. held round.target image (omega (arith, more, ap (λ (x : State (List ℕ)). x.seq) round.served.state)) s) stands
 
     pub continued_next : IsContinued state a e
@@ -103,5 +103,5 @@ module _ {D : Type 0} (state : D → DiskState) (consistent : (disk : D) → (st
       any_moment = λ honest sound.
           let round = safe (so_far.later.honest.1 honest) (ap (λ (j : JournalState D). j.broken) so_far.first ∙ sound) in
           weaker _ (HoldsAnswered a.line.history) (λ image. ⊎_elim (λ held. held) (λ stands. held_both round image stands))
-          (joined (HoldsAnswered a.line.history) (λ image. Stands image (reached b) ⊎ Stands image round.target) (so_far.any_moment honest sound) round.leaves);
+          (joined (HoldsAnswered a.line.history) (λ image. Stands image (state_reached b) ⊎ Stands image round.target) (so_far.any_moment honest sound) round.leaves);
     }

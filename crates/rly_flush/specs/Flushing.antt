@@ -3,7 +3,7 @@ use Rattle.std.specs.Prelude.{ℕ, ◌≡◌, ◌≤◌, ◌⊎◌, ◌+◌, Lis
 use Rattle.std.specs.List.{AllByRecursion, zip}
 use Rattle.rly_core.specs.Bounds.{IsIn}
 use Rattle.rly_core.specs.declared.refusal.Refusal.TheVariants.{Broken, DeviceRead, Unsure}
-use Rattle.rly_disk.specs.DiskModel.{DiskState, Later, LeavesOnly, Rose}
+use Rattle.rly_disk.specs.DiskModel.{DiskState, Later, LeavesOnly, HasFailed}
 use Rattle.rly_machine.specs.declared.call.Answer.{Answer}
 use Rattle.rly_machine.specs.declared.call.Call.{Call}
 use Rattle.rly_machine.specs.declared.reply.Reply.TheVariants.{Refused}
@@ -14,7 +14,7 @@ use Rattle.rly_journal.specs.Journal.{IsRound, JournalState}
 use Rattle.rly_journal.specs.Rounds.{AreServed, refusals}
 use Rattle.rly_journal.specs.Standing.{Stands}
 use Rattle.rly_line.specs.EndViews.{EndView}
-use Rattle.rly_line.specs.Responding.{AreTold, IsResponding, Responding, calls_in}
+use Rattle.rly_line.specs.Responding.{AreTold, Responding, calls_in}
 
 -- what contracts see of a flusher: the journal that it was given, that journal now, and what became of the calls
 pub record FlusherState (D : Type 0) : Type 0 where
@@ -22,50 +22,26 @@ pub record FlusherState (D : Type 0) : Type 0 where
   pub journal : JournalState D
   pub line : Responding
 
--- the state of a journal as far as was answered: its running state, which where it is broken counts as many commands as its position
+-- the state of a journal as far as was answered: its running state, which where it is broken counts as many commands as
+-- its position
 abbrev pub answered_state : {D : Type 0} → JournalState D → State (List ℕ)
 answered_state j = record j.state { seq = j.position }
 
 -- a flusher with this journal at the end of new lines, which took no call yet
 abbrev pub new_flusher : {D : Type 0} → JournalState D → EndView → FlusherState D
-new_flusher given end = record { first = given; journal = given; line = record { of = end.of; taken = []; start = answered_state given; history = []; lines = end.lines } }
+new_flusher given end = record {
+  first = given;
+  journal = given;
+  line = record { of = end.of; taken = []; start = answered_state given; history = []; lines = end.lines };
+}
 
 -- the state that the history led to
-abbrev pub reached : {D : Type 0} → FlusherState D → State (List ℕ)
-reached f = state_after f.line.start f.line.history
+abbrev pub state_reached : {D : Type 0} → FlusherState D → State (List ℕ)
+state_reached f = state_after f.line.start f.line.history
 
 -- calls that were refused since the journal broke: those of the round that broke it, and those behind it
-abbrev pub fallen : ℕ → List Call → List Call → List Entry
-fallen p broke behind = zip broke (refusals Unsure p broke) ++ zip behind (refusals Broken p behind)
-
--- the round that broke the journal, and what a crash leaves since: the state that the history led to, or that with the commands of that round
-pub record IsBreach {D : Type 0} (state : D → DiskState) (f : FlusherState D) : Type 0 where
-  pub before : List Entry
-  pub calls : List Call
-  pub behind : List Call
-  pub whole : f.line.history ≡ before ++ fallen f.journal.position calls behind
-  pub given : List Answer
-  pub target : State (List ℕ)
-  pub served : AreServed calls given (reached f) target
-  pub images : (image : List ℕ) → (state f.journal.disk).images image → Stands image (reached f) ⊎ Stands image target
-
--- what holds of a flusher at each moment
-pub record IsFlushing {D : Type 0} (state : D → DiskState) (f : FlusherState D) : Type 0 where
-  pub responding : IsResponding f.line
-  pub start : f.line.start ≡ answered_state f.first
-  pub as_given : f.first.broken ≡ false → f.line.start ≡ f.first.state
-  -- there is one history, of the calls that were taken, in order
-  pub answered : calls_in f.line.history ≡ f.line.taken
-  pub legal : Legal f.line.start f.line.history
-  -- the journal is where the history led to
-  pub position_is : f.journal.position ≡ position f.line.start f.line.history
-  pub running : f.journal.broken ≡ false → f.journal.state ≡ reached f
-  pub unharmed : f.journal.broken ≡ false → harm_after 0 f.line.history ≡ 0
-  pub still : f.first.broken ≡ true → f.journal ≡ f.first
-  pub later : Later (state f.first.disk) (state f.journal.disk)
-  -- what a crash leaves now, on an honest disk
-  pub whole : (state f.journal.disk).honest → f.journal.broken ≡ false → (image : List ℕ) → (state f.journal.disk).images image → Stands image (reached f)
-  pub breach : (state f.journal.disk).honest → f.first.broken ≡ false → f.journal.broken ≡ true → IsBreach state f
+abbrev pub entries_since : ℕ → List Call → List Call → List Entry
+entries_since p broke behind = zip broke (refusals Unsure p broke) ++ zip behind (refusals Broken p behind)
 
 -- one round: 1 to 64 calls were taken, and answered by one round of the journal
 pub record IsOneRound {D : Type 0} (state : D → DiskState) (old new : FlusherState D) : Type 0 where
@@ -76,7 +52,8 @@ pub record IsOneRound {D : Type 0} (state : D → DiskState) (old new : FlusherS
   pub history : new.line.history ≡ old.line.history ++ zip calls given
   pub round : IsRound state old.journal new.journal calls given
 
--- why a call is told of a failure: 12 where a device call failed in its round, 11 where the journal was broken before; never 13
+-- why a call is told of a failure: 12 where a device call failed in its round, 11 where the journal was broken before;
+-- never 13
 pub record IsTruthful (failed broken : Type 0) (entry : Entry) : Type 0 where
   pub unsure : entry.1.reply ≡ Refused Unsure → failed
   pub broken_before : entry.1.reply ≡ Refused Broken → broken
@@ -90,28 +67,35 @@ pub record GrewBy (failed broken : Type 0) (before after : List Entry) : Type 0 
 
 -- of a round: a device call failed in it, or the journal was broken at its start
 abbrev pub GrewInRound : {D : Type 0} → (D → DiskState) → FlusherState D → FlusherState D → Type 0
-GrewInRound state old new = GrewBy (Rose (state old.journal.disk) (state new.journal.disk)) (old.journal.broken ≡ true) old.line.history new.line.history
+GrewInRound state old new =
+    GrewBy (HasFailed (state old.journal.disk) (state new.journal.disk)) (old.journal.broken ≡ true)
+    old.line.history new.line.history
 
 -- of rounds: a device call failed since, or the journal was broken at their start
 abbrev pub GrewInRounds : {D : Type 0} → (D → DiskState) → FlusherState D → FlusherState D → Type 0
 GrewInRounds state old new =
-    GrewBy (Rose (state old.journal.disk) (state new.journal.disk)) ((old.journal.broken ≡ true) ⊎ Rose (state old.journal.disk) (state new.journal.disk))
+    GrewBy (HasFailed (state old.journal.disk) (state new.journal.disk))
+    ((old.journal.broken ≡ true) ⊎ HasFailed (state old.journal.disk) (state new.journal.disk))
     old.line.history new.line.history
 
--- the round whose commands may stand or not: that of these calls, which were taken now; where the journal was broken before, the one that broke it
+-- the round whose commands may stand or not: that of these calls, which were taken now; where the journal was broken
+-- before, the one that broke it
 abbrev pub IsDoubtful : {D : Type 0} → FlusherState D → FlusherState D → List Call → Type 0
 IsDoubtful old new calls =
     ((old.journal.broken ≡ false) × (new.line.taken ≡ old.line.taken ++ calls))
-    ⊎ ((old.journal.broken ≡ true) × (before : List Entry) × (behind : List Call) × (old.line.history ≡ before ++ fallen old.journal.position calls behind))
+    ⊎ ((old.journal.broken ≡ true) × (before : List Entry) × (behind : List Call)
+    × (old.line.history ≡ before ++ entries_since old.journal.position calls behind))
 
--- what a crash leaves at any moment from old to new: the state that the history led to before, or that with the commands of one round
+-- what a crash leaves at any moment from old to new: the state that the history led to before, or that with the
+-- commands of one round
 pub record IsCrashSafe {D : Type 0} (state : D → DiskState) (old new : FlusherState D) : Type 0 where
   pub calls : List Call
   pub doubtful : IsDoubtful old new calls
   pub given : List Answer
   pub target : State (List ℕ)
-  pub served : AreServed calls given (reached old) target
-  pub leaves : LeavesOnly (state old.journal.disk) (state new.journal.disk) (λ image. Stands image (reached old) ⊎ Stands image target)
+  pub served : AreServed calls given (state_reached old) target
+  pub leaves : LeavesOnly (state old.journal.disk) (state new.journal.disk)
+      (λ image. Stands image (state_reached old) ⊎ Stands image target)
   pub running : new.journal.broken ≡ false → target ≡ new.journal.state
 
 -- an image holds all that was answered: it stands for a state that no answer's position is above
@@ -143,7 +127,8 @@ pub record IsOneHistory {D : Type 0} (state : D → DiskState) (f : FlusherState
   -- each line was told that start and a beginning of it, with all calls of its seat, unless the seat is gone
   pub told : AreTold f.line.start f.line.history f.line.lines
   -- a crash now leaves all that was answered
-  pub kept : (state f.journal.disk).honest → f.first.broken ≡ false → KeepsAnswered (state f.journal.disk) f.line.history
+  pub kept : (state f.journal.disk).honest → f.first.broken ≡ false
+      → KeepsAnswered (state f.journal.disk) f.line.history
 
 -- what rounds made of a flusher
 pub record IsContinued {D : Type 0} (state : D → DiskState) (old new : FlusherState D) : Type 0 where
@@ -152,7 +137,8 @@ pub record IsContinued {D : Type 0} (state : D → DiskState) (old new : Flusher
   pub history : IsOneHistory state new
   -- the history went on, and tells of a failure only where there was one
   pub grew : GrewInRounds state old new
-  pub broke : new.journal.broken ≡ true → (old.journal.broken ≡ true) ⊎ Rose (state old.journal.disk) (state new.journal.disk)
+  pub broke : new.journal.broken ≡ true
+      → (old.journal.broken ≡ true) ⊎ HasFailed (state old.journal.disk) (state new.journal.disk)
   pub later : Later (state old.journal.disk) (state new.journal.disk)
   -- a crash at any moment of them leaves all that was answered before
   pub any_moment : (state old.journal.disk).honest → old.first.broken ≡ false

@@ -9,8 +9,8 @@ ghost use Rattle.rly_line.specs.Responding.{calls_in};
 ghost use Rattle.rly_line.specs.Submission.{IsBeginning};
 ghost use Rattle.rly_flush.specs.Flushing.{GrewInRound, IsCrashSafe, IsOneHistory, IsOneRound, IsServed, new_flusher};
 
-use crate::batch::{answer_all, collect, reserve};
 use crate::owned_journal::OwnedJournal;
+use crate::round_calls::{answer_all, collect, reserve};
 use rly_disk::Disk;
 use rly_journal::Journal;
 use rly_line::{LineEnd, Responder, Seat};
@@ -35,8 +35,8 @@ pub struct Flusher<D: Disk> {
 
 impl<D: Disk> Model for Flusher<D> {
     ghost use Rattle.std.specs.Prelude.{◌≡◌, ◌≤◌, [], vec_capacity};
-    ghost use Rattle.rly_flush.specs.Flushing.{FlusherState, IsFlushing};
-    ghost use Rattle.rly_flush.specs.Batches.{AreReady};
+    ghost use Rattle.rly_flush.specs.HelpersFlushing.{AreReady, IsFlushing};
+    ghost use Rattle.rly_flush.specs.Flushing.{FlusherState};
 
     ghost Value = { FlusherState D };
 

@@ -7,9 +7,20 @@
 //! seats are gone.
 #![tactic(auto)]
 
-mod batch;
+/// As `assert!`, by one call: the prover then sees one way on where `assert!` has two. `assert!` stands where a later call needs
+/// what was asserted, and where the text names a row.
+#[cfg(test)]
+macro_rules! expect {
+    ($rt:expr; $cond:expr $(,)?) => {
+        crate::expect::expect(&$rt, $cond, stringify!($cond))
+    };
+}
+
+#[cfg(test)]
+mod expect;
 mod flusher;
 mod owned_journal;
+mod round_calls;
 #[cfg(test)]
 mod tests;
 

@@ -138,19 +138,19 @@ fn line_row_2(rt: HostRuntime) -> Result<(), Fail> {
     let asking = thread::spawn(&rt, move || take_first(&rt, alloc, first, second))
         .ok()
         .ok_or("a thread")?;
-    assert!(rt; flusher.round(&rt));
+    expect!(rt; flusher.round(&rt));
     let (reply, mut second) = asking.join(&rt).ok_or("the first is answered")?;
     assert!(rt; matches!(&reply, Reply::Taken(1)), "{reply:?}");
     let asking = thread::spawn(&rt, move || take_at(&rt, alloc, &mut second, 1, 1))
         .ok()
         .ok_or("a thread")?;
-    assert!(rt; flusher.round(&rt));
+    expect!(rt; flusher.round(&rt));
     let reply = asking.join(&rt).ok_or("the second is answered")?;
     assert!(rt; matches!(&reply, Reply::Already(1)), "{reply:?}");
-    assert!(rt; !flusher.round(&rt));
+    expect!(rt; !flusher.round(&rt));
     let finished = flusher.serve(&rt);
-    assert!(rt; !finished.broken);
-    assert!(rt; finished.journal.position() == 1);
+    expect!(rt; !finished.broken);
+    expect!(rt; finished.journal.position() == 1);
     Ok(())
 }
 
@@ -158,10 +158,10 @@ fn line_row_2(rt: HostRuntime) -> Result<(), Fail> {
 #[test]
 fn four_seats_are_served(rt: HostRuntime) -> Result<(), Fail> {
     let (taken, finished) = four_seats(rt, rt.alloc(), device(&rt, rt.alloc())?)?;
-    assert_eq!(rt; taken, 4 * TAKES);
-    assert!(rt; !finished.broken);
+    expect!(rt; taken == 4 * TAKES);
+    expect!(rt; !finished.broken);
     match finished.journal.ask_show(HopId(1)) {
-        Reply::Shown(status) => assert_eq!(rt; status.taken, 4 * TAKES),
+        Reply::Shown(status) => expect!(rt; status.taken == 4 * TAKES),
         other => panic!(rt; "{other:?}"),
     }
     for peer in 1..=4 {
@@ -181,7 +181,7 @@ fn calls_share_a_round(rt: HostRuntime) -> Result<(), Fail> {
         let disk = FaultDisk::new(device(&rt, rt.alloc())?, 1_500, 0, After::Stops);
         let (taken, finished) = four_seats(rt, rt.alloc(), disk)?;
         if !finished.broken {
-            assert_eq!(rt; taken, 4 * TAKES);
+            expect!(rt; taken == 4 * TAKES);
             return Ok(());
         }
     }

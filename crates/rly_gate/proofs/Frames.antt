@@ -3,15 +3,15 @@ use Rattle.std.proofs.Common.{ℕ, suc, ◌≡◌, ◌+◌, ◌-◌, ◌<◌, �
 use Rattle.std.proofs.lemmas.List.{drop-drop, drop-take, drop_all, drop_at, drop_more, length-drop, length-take, set-append_right, set_split, take-append-drop, take-append-le, take-take, take_at}
 use Rattle.byteorder.specs.Endian.{big_bytes}
 use Rattle.rly_disk.specs.DiskModel.{overwritten}
-use Rattle.rly_gate.specs.Group.{body_of, frame_of, open_gate}
+use Rattle.rly_gate.specs.Group.{body_in, frame_of, open_gate}
 
 -- the body in a frame is 5 bytes shorter
-pub length-body : (frame : List ℕ) → 5 ≤ length frame → length (body_of frame) ≡ length frame - 5
+pub length-body : (frame : List ℕ) → 5 ≤ length frame → length (body_in frame) ≡ length frame - 5
 length-body frame long = omega (arith, length-take (length frame - 5) (drop 4 frame), length-drop 4 frame)
 
 -- a frame whose last byte was written
 pub filled : (field frame : List ℕ) (last : ℕ) → length field ≡ 4 → 5 ≤ length frame → last ≡ length frame - 1
-    → set (field ++ drop 4 frame) last 0 ≡ (field ++ body_of frame) ++ 0 ∷ []
+    → set (field ++ drop 4 frame) last 0 ≡ (field ++ body_in frame) ++ 0 ∷ []
 filled field frame last four long is_last =
     let behind : List ℕ = drop 4 frame in
     let count = length-drop 4 frame in
@@ -20,8 +20,8 @@ filled field frame last four long is_last =
     let rest : drop (suc (length frame - 5)) (drop 4 frame) ≡ [] = drop_all (suc (length frame - 5)) (drop 4 frame) (omega (arith, count)) in
     set-append_right field (drop 4 frame) 4 last 0 four (omega arith)
     ∙ ap (λ i. field ++ set (drop 4 frame) i 0) place
-    ∙ ap (λ l. field ++ l) (set_split (drop 4 frame) (length frame - 5) 0 below ∙ ap (λ l. body_of frame ++ 0 ∷ l) rest)
-    ∙ sym (append_assoc field (body_of frame) (0 ∷ []))
+    ∙ ap (λ l. field ++ l) (set_split (drop 4 frame) (length frame - 5) 0 below ∙ ap (λ l. body_in frame ++ 0 ∷ l) rest)
+    ∙ sym (append_assoc field (body_in frame) (0 ∷ []))
 
 -- a write behind a gate and then a write of the gate are one write of both
 pub gate_and_frame : (at gate : ℕ) (frame old : List ℕ) → at + 1 ≤ length old
@@ -43,12 +43,12 @@ gate_and_frame at gate frame old within =
 
 -- a frame whose length and last byte were filled in
 pub frame_filled : (frame buf : List ℕ) (last n : ℕ) → 5 ≤ length frame → last + 1 ≡ length frame → n + 5 ≡ length frame → buf ≡ big_bytes 4 n ++ drop 4 frame
-    → set buf last 0 ≡ frame_of (body_of frame)
+    → set buf last 0 ≡ frame_of (body_in frame)
 frame_filled frame buf last n long is_last count is_buf =
-    let same : n ≡ length (body_of frame) = omega (arith, length-body frame long, count) in
+    let same : n ≡ length (body_in frame) = omega (arith, length-body frame long, count) in
     ap (λ l. set l last 0) is_buf
     ∙ filled (big_bytes 4 n) frame last refl long (omega arith)
-    ∙ ap (λ k. (big_bytes 4 k ++ body_of frame) ++ 0 ∷ []) same
+    ∙ ap (λ k. (big_bytes 4 k ++ body_in frame) ++ 0 ∷ []) same
 
 -- the length that stands in a group
 pub group_length : (image : List ℕ) (at n : ℕ) (rest : List ℕ) → take (length (open_gate ∷ (big_bytes 4 n ++ rest))) (drop at image) ≡ open_gate ∷ (big_bytes 4 n ++ rest)

@@ -24,14 +24,15 @@ abbrev pub group_of : List ℕ → List ℕ
 group_of body = open_gate ∷ frame_of body
 
 -- the body in a frame that isn't filled yet
-abbrev pub body_of : List ℕ → List ℕ
-body_of frame = take (length frame - 5) (drop 4 frame)
+abbrev pub body_in : List ℕ → List ℕ
+body_in frame = take (length frame - 5) (drop 4 frame)
 
 -- these bytes stand at a place
 abbrev pub StandsAt : List ℕ → ℕ → List ℕ → Type 0
 StandsAt image at bytes = take (length bytes) (drop at image) ≡ bytes
 
--- what a crash within an append may leave: all other bytes as they were, and the gate closed or the whole group behind it
+-- what a crash within an append may leave: all other bytes as they were, and the gate closed or the whole group behind
+-- it
 pub record IsAppended (at : ℕ) (body old image : List ℕ) : Type 0 where
   pub outside : SameOutside at (length (group_of body)) old image
   pub whole : IsClosed image at ⊎ StandsAt image at (group_of body)

@@ -1,2 +1,3 @@
 pub mod Group
+pub mod HelpersReading
 pub mod Reading

@@ -1,5 +1,6 @@
 -- What it is to read a group, and to read a disk and do nothing else.
-use Rattle.std.specs.Prelude.{ℕ, ◌≡◌, ◌+◌, ◌<◌, ◌≤◌, ◌^◌, List, ◌∷◌, ◌++◌, length, Option, Some, None, Result, Ok, Err, Vec}
+use Rattle.std.specs.Prelude.{ℕ, ◌≡◌, ◌+◌, ◌<◌, ◌≤◌, ◌^◌, List, ◌∷◌}
+use Rattle.std.specs.Prelude.{◌++◌, length, Option, Some, None, Result, Ok, Err, Vec}
 use Rattle.byteorder.specs.Endian.{big_bytes}
 use Rattle.rly_disk.specs.DiskModel.{DiskState, Later, NothingNew, Settled, SettlesNothing}
 use Rattle.rly_gate.specs.declared.read.GroupFault.{GroupFault}
@@ -28,15 +29,8 @@ IsReadGroup image at end (Err Damaged) = IsOpen image at × HoldsNone image at e
 IsReadGroup image at end (Err OutOfMemory) = Unit {0}
 IsReadGroup image at end (Err Device) = Unit {0}
 
--- what is answered of the length behind an open gate
-abbrev pub IsReadLength : List ℕ → ℕ → ℕ → Result ℕ GroupFault → Type 0
-IsReadLength image at end (Ok n) = StandsAt image (at + 1) (big_bytes 4 n) × (n < 2 ^ 32)
-IsReadLength image at end (Err Damaged) = HoldsNone image at end
-IsReadLength image at end (Err OutOfMemory) = Unit {0}
-IsReadLength image at end (Err Device) = Unit {0}
-
--- nothing was written to a disk: it reads as before, a crash leaves nothing that it might not have left before, and nothing is
--- pending where nothing was; a sync may have been made
+-- nothing was written to a disk: it reads as before, a crash leaves nothing that it might not have left before, and
+-- nothing is pending where nothing was; a sync may have been made
 pub record OnlyRead (old new : DiskState) : Type 0 where
   pub crash : old.honest → NothingNew old new
   pub settled : Settled old → Settled new

@@ -12,8 +12,6 @@ mod append;
 mod gate;
 mod read;
 mod settling;
-#[cfg(test)]
-mod tests;
 
 pub use crate::append::append_group;
 pub use crate::gate::{CLOSED_GATE, OPEN_GATE};

@@ -1,8 +1,9 @@
 ghost use Rattle.std.specs.Prelude.{◌≡◌, ◌≢◌, ◌+◌, ◌<◌, ◌≤◌, ◌↔◌, Err, IfOk, IfSome, IsTrue, OnErr, OnOk, drop, length, take, vec_len};
 ghost use Rattle.byteorder.specs.Endian.{big_bytes};
-ghost use Rattle.rly_disk.specs.DiskModel.{Rose};
+ghost use Rattle.rly_disk.specs.DiskModel.{HasFailed};
 ghost use Rattle.rly_gate.specs.Group.{IsOpen};
-ghost use Rattle.rly_gate.specs.Reading.{HoldsSome, IsReadGroup, IsReadLength, OnlyRead, SyncsNothing};
+ghost use Rattle.rly_gate.specs.Reading.{HoldsSome, IsReadGroup, OnlyRead, SyncsNothing};
+ghost use Rattle.rly_gate.specs.HelpersReading.{IsReadLength};
 
 use crate::gate::{FRAME_OVERHEAD, LENGTH_BYTES, OPEN_GATE};
 use byteorder::{BigEndian, ByteOrder};
@@ -44,7 +45,7 @@ pub fn read_group<D: Disk>(
     ensures memory { (D.state disk.old).honest → result ≡ Err GroupFault.OutOfMemory → HoldsSome (D.state disk.old).seen at end }
     ensures only { OnlyRead (D.state disk.old) (D.state disk.new) }
     ensures unsynced { SyncsNothing (D.state disk.old) (D.state disk.new) }
-    ensures rise { result ≡ Err GroupFault.Device → Rose (D.state disk.old) (D.state disk.new) }
+    ensures rise { result ≡ Err GroupFault.Device → HasFailed (D.state disk.old) (D.state disk.new) }
     ensures no_failure { result ≢ Err GroupFault.Device → (D.state disk.new).failures ≡ (D.state disk.old).failures }
 {
     let Ok(opened) = is_open(disk, at) else {
@@ -70,7 +71,7 @@ fn read_length<D: Disk>(disk: &mut D, at: u64, end: u64) -> Result<usize, GroupF
     ensures memory { result ≢ Err GroupFault.OutOfMemory }
     ensures only { OnlyRead (D.state disk.old) (D.state disk.new) }
     ensures unsynced { SyncsNothing (D.state disk.old) (D.state disk.new) }
-    ensures rise { result ≡ Err GroupFault.Device → Rose (D.state disk.old) (D.state disk.new) }
+    ensures rise { result ≡ Err GroupFault.Device → HasFailed (D.state disk.old) (D.state disk.new) }
     ensures no_failure { result ≢ Err GroupFault.Device → (D.state disk.new).failures ≡ (D.state disk.old).failures }
     ensures within { IfOk result (λ n. at + 6 + n ≤ end) }
 {
@@ -102,7 +103,7 @@ pub fn is_open<D: Disk>(disk: &mut D, at: u64) -> Result<bool, DiskFault>
     ensures read { (D.state disk.old).honest → IfOk result (λ opened. IsTrue opened ↔ IsOpen (D.state disk.old).seen at) }
     ensures only { OnlyRead (D.state disk.old) (D.state disk.new) }
     ensures unsynced { SyncsNothing (D.state disk.old) (D.state disk.new) }
-    ensures rise { OnErr result (Rose (D.state disk.old) (D.state disk.new)) }
+    ensures rise { OnErr result (HasFailed (D.state disk.old) (D.state disk.new)) }
     ensures no_failure { OnOk result ((D.state disk.new).failures ≡ (D.state disk.old).failures) }
     ensures calls { (D.state disk.new).calls ≤ (D.state disk.old).calls + 1 }
 {
@@ -124,7 +125,7 @@ pub fn read_bytes<D: Disk>(
     ensures length { IfOk result (λ bytes. length bytes.items ≡ count) }
     ensures only { OnlyRead (D.state disk.old) (D.state disk.new) }
     ensures unsynced { SyncsNothing (D.state disk.old) (D.state disk.new) }
-    ensures rise { result ≡ Err ReadFault.Device → Rose (D.state disk.old) (D.state disk.new) }
+    ensures rise { result ≡ Err ReadFault.Device → HasFailed (D.state disk.old) (D.state disk.new) }
     ensures no_failure { result ≢ Err ReadFault.Device → (D.state disk.new).failures ≡ (D.state disk.old).failures }
 {
     let Ok(mut bytes) = vec![in alloc; 0u8; count] else {
@@ -143,7 +144,7 @@ pub fn fill<D: Disk>(disk: &mut D, place: u64, buffer: &mut [u8]) -> Result<(), 
         → OnOk result (buffer.new ≡ take (length buffer.old) (drop place (D.state disk.old).seen)) }
     ensures only { OnlyRead (D.state disk.old) (D.state disk.new) }
     ensures unsynced { SyncsNothing (D.state disk.old) (D.state disk.new) }
-    ensures rise { OnErr result (Rose (D.state disk.old) (D.state disk.new)) }
+    ensures rise { OnErr result (HasFailed (D.state disk.old) (D.state disk.new)) }
     ensures no_failure { OnOk result ((D.state disk.new).failures ≡ (D.state disk.old).failures) }
 {
     disk.read_at(place, buffer)

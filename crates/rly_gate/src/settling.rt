@@ -1,5 +1,5 @@
 ghost use Rattle.std.specs.Prelude.{◌≡◌, ◌==◌, ◌+◌, ◌≤◌, length, OnErr, OnOk, if◌then◌else◌};
-ghost use Rattle.rly_disk.specs.DiskModel.{Later, LeavesOnly, Rose, SameOutside, Settled, overwritten};
+ghost use Rattle.rly_disk.specs.DiskModel.{Later, LeavesOnly, HasFailed, SameOutside, Settled, overwritten};
 
 use rly_disk::{Disk, DiskFault};
 
@@ -15,7 +15,7 @@ pub fn settle<D: Disk>(disk: &mut D, at: u64, bytes: &[u8]) -> Result<(), DiskFa
     ensures durable { (D.state disk.old).honest → OnOk result (Settled (D.state disk.new)) }
     ensures written { Settled (D.state disk.old)
         → OnOk result ((D.state disk.new).seen ≡ overwritten at bytes.now (D.state disk.old).seen) }
-    ensures rise { OnErr result (Rose (D.state disk.old) (D.state disk.new)) }
+    ensures rise { OnErr result (HasFailed (D.state disk.old) (D.state disk.new)) }
     ensures no_failure { OnOk result ((D.state disk.new).failures ≡ (D.state disk.old).failures) }
     ensures syncs { (D.state disk.new).syncs ≤ (D.state disk.old).syncs + 1 }
     ensures synced { OnOk result ((D.state disk.new).syncs ≡ (D.state disk.old).syncs + 1) }

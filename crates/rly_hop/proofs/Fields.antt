@@ -6,7 +6,7 @@ use Rattle.std.proofs.lemmas.Nat.{be_bytes_2, be_bytes_8}
 use Rattle.byteorder.specs.Endian.{big_bytes}
 use Rattle.rly_core.specs.declared.refusal.Refusal.{Refusal}
 use Rattle.rly_hop.specs.Rows.{first_row}
-use Rattle.rly_hop.specs.Reading.{number_at, unless}
+use Rattle.rly_hop.specs.Reading.{field_at, found_unless}
 
 -- each item is a byte
 abbrev pub IsBytes : List ℕ → Type 0
@@ -37,16 +37,16 @@ item : (width k : ℕ) (bytes : List ℕ) → k < width → get_or (take width b
 item width k bytes lt = get_or-take width bytes k 0 lt
 
 -- a number of two or eight bytes, spelled again
-pub field_2 : (place : ℕ) (bytes : List ℕ) → IsBytes bytes → place + 2 ≤ length bytes → big_bytes 2 (number_at 2 place bytes) ≡ field 2 place bytes
+pub field_2 : (place : ℕ) (bytes : List ℕ) → IsBytes bytes → place + 2 ≤ length bytes → big_bytes 2 (field_at 2 place bytes) ≡ field 2 place bytes
 field_2 place bytes fits long =
     let rest : List ℕ = drop place bytes in
-    be_bytes_2 (field 2 place bytes) (number_at 2 place bytes) (length-field 2 place bytes long) (field-fits 2 place bytes fits)
+    be_bytes_2 (field 2 place bytes) (field_at 2 place bytes) (length-field 2 place bytes long) (field-fits 2 place bytes fits)
     (omega (arith, item 2 0 rest (omega arith), item 2 1 rest (omega arith)))
 
-pub field_8 : (place : ℕ) (bytes : List ℕ) → IsBytes bytes → place + 8 ≤ length bytes → big_bytes 8 (number_at 8 place bytes) ≡ field 8 place bytes
+pub field_8 : (place : ℕ) (bytes : List ℕ) → IsBytes bytes → place + 8 ≤ length bytes → big_bytes 8 (field_at 8 place bytes) ≡ field 8 place bytes
 field_8 place bytes fits long =
     let rest : List ℕ = drop place bytes in
-    be_bytes_8 (field 8 place bytes) (number_at 8 place bytes) (length-field 8 place bytes long) (field-fits 8 place bytes fits)
+    be_bytes_8 (field 8 place bytes) (field_at 8 place bytes) (length-field 8 place bytes long) (field-fits 8 place bytes fits)
     (omega (arith, item 8 0 rest (omega arith), item 8 1 rest (omega arith), item 8 2 rest (omega arith), item 8 3 rest (omega arith), item 8 4 rest (omega arith), item 8 5 rest (omega arith), item 8 6 rest (omega arith), item 8 7 rest (omega arith)))
 
 -- a field and what is behind it
@@ -54,7 +54,7 @@ pub field-append : (width place behind : ℕ) (bytes : List ℕ) → behind ≡ 
 field-append width place behind bytes e = rw (e, ← drop-drop) (take-append-drop width (drop place bytes))
 
 -- the front of a message: the protocol's two bytes, the version and the kind
-pub front : (bytes : List ℕ) (kind : ℕ) → IsBytes bytes → 8 ≤ length bytes → number_at 2 0 bytes ≡ 0x524c → slice_index bytes 2 ≡ 1 → slice_index bytes 3 ≡ kind → 0x52 ∷ 0x4c ∷ 1 ∷ kind ∷ [] ≡ take 4 bytes
+pub front : (bytes : List ℕ) (kind : ℕ) → IsBytes bytes → 8 ≤ length bytes → field_at 2 0 bytes ≡ 0x524c → slice_index bytes 2 ≡ 1 → slice_index bytes 3 ≡ kind → 0x52 ∷ 0x4c ∷ 1 ∷ kind ∷ [] ≡ take 4 bytes
 front [] kind fits long magic version is = absurd (omega arith)
 front (a ∷ []) kind fits long magic version is = absurd (omega arith)
 front (a ∷ b ∷ []) kind fits long magic version is = absurd (omega arith)
@@ -101,23 +101,23 @@ pub quiet : (a b c d e f g h i : Bool) (x1 x2 x3 x4 x5 x6 x7 x8 x9 : Refusal)
 quiet a b c d e f g h i x1 x2 x3 x4 x5 x6 x7 x8 x9 none =
     rw (none.header, none.magic, none.version, none.kind, none.station, none.fixed, none.payload, none.short, none.long) refl
 
-pub ok-is : {A : Type 0} (x y : A) → unless None x ≡ unless None y → x ≡ y
+pub ok-is : {A : Type 0} (x y : A) → found_unless None x ≡ found_unless None y → x ≡ y
 ok-is x y e = cc
 
-pub unless-is : {A : Type 0} (fault : Option Refusal) (x y : A) → fault ≡ None → x ≡ y → unless fault x ≡ Ok y
+pub unless-is : {A : Type 0} (fault : Option Refusal) (x y : A) → fault ≡ None → x ≡ y → found_unless fault x ≡ Ok y
 unless-is fault x y e same = rw (e, same) refl
 
-pub unless-ok : {A : Type 0} (fault : Option Refusal) (x y : A) → unless fault x ≡ Ok y → (fault ≡ None) × (x ≡ y)
+pub unless-ok : {A : Type 0} (fault : Option Refusal) (x y : A) → found_unless fault x ≡ Ok y → (fault ≡ None) × (x ≡ y)
 unless-ok None x y e = (refl, cc)
 unless-ok (Some fault) x y e = absurd cc
 
 -- what the tests of a datagram's header say
 pub record IsHeader (bytes : List ℕ) : Type 0 where
   pub length_is : 8 ≤ length bytes
-  pub magic : number_at 2 0 bytes ≡ 0x524c
+  pub magic : field_at 2 0 bytes ≡ 0x524c
   pub version : slice_index bytes 2 ≡ 1
-  pub from : 1 ≤ number_at 2 4 bytes
-  pub to : 1 ≤ number_at 2 6 bytes
+  pub from : 1 ≤ field_at 2 4 bytes
+  pub to : 1 ≤ field_at 2 6 bytes
 
 -- the kind is one of the three
 pub known_kind : (kind : ℕ) → not ((kind == 1) || (kind == 2) || (kind == 3)) ≡ false → (kind ≡ 1) ⊎ ((kind ≡ 2) ⊎ (kind ≡ 3))
@@ -132,13 +132,13 @@ positive : (n : ℕ) → (n == 0) ≡ false → 1 ≤ n
 positive zero e = absurd cc
 positive (suc n) e = omega arith
 
-pub IsHeader-from : (bytes : List ℕ) → nat_lt (length bytes) 8 ≡ false → not (number_at 2 0 bytes == 0x524c) ≡ false → not (slice_index bytes 2 == 1) ≡ false → ((number_at 2 4 bytes == 0) || (number_at 2 6 bytes == 0)) ≡ false → IsHeader bytes
+pub IsHeader-from : (bytes : List ℕ) → nat_lt (length bytes) 8 ≡ false → not (field_at 2 0 bytes == 0x524c) ≡ false → not (slice_index bytes 2 == 1) ≡ false → ((field_at 2 4 bytes == 0) || (field_at 2 6 bytes == 0)) ≡ false → IsHeader bytes
 IsHeader-from bytes long magic version station =
-    let parts = or_parts (number_at 2 4 bytes == 0) (number_at 2 6 bytes == 0) station in
+    let parts = or_parts (field_at 2 4 bytes == 0) (field_at 2 6 bytes == 0) station in
     record {
       length_is = ltb-false _ _ long;
       magic = eqb-true _ _ (not-false _ magic);
       version = eqb-true _ _ (not-false _ version);
-      from = positive (number_at 2 4 bytes) parts.0;
-      to = positive (number_at 2 6 bytes) parts.1;
+      from = positive (field_at 2 4 bytes) parts.0;
+      to = positive (field_at 2 6 bytes) parts.1;
     }

@@ -13,26 +13,26 @@ use Rattle.rly_hop.specs.declared.message.Message.{Message}
 use Rattle.rly_hop.specs.declared.message.Message.TheVariants.{Data, Custody, Refused}
 use Rattle.rly_hop.specs.Payloads.{message_bytes}
 use Rattle.rly_hop.specs.Spelling.{IsMessage, IsStation, header, spelling}
-use Rattle.rly_hop.specs.Reading.{first_fault, fixed_length, kind_of, message_at, number_at, reading, station_at, whole_length}
+use Rattle.rly_hop.specs.Reading.{first_fault, fixed_length, kind_of, message_at, field_at, reading, station_at, whole_length}
 use Rattle.rly_hop.proofs.Fields.{IsBytes, IsBytes-drop, IsHeader, IsHeader-from, NoFault, field-append, field_2, field_8, front, joined_3, known_kind, no_fault, ok-is, quiet, unless-is, unless-ok}
 
 -- a station's number, where it isn't 0
-station-fits : (place : ℕ) (bytes : List ℕ) → IsBytes bytes → 1 ≤ number_at 2 place bytes → IsStation (station_at place bytes)
+station-fits : (place : ℕ) (bytes : List ℕ) → IsBytes bytes → 1 ≤ field_at 2 place bytes → IsStation (station_at place bytes)
 station-fits place bytes fits low =
     let rest = IsBytes-drop place bytes fits in
     (low, omega (arith, rest 0, rest 1))
 
-number-fits : (place : ℕ) (bytes : List ℕ) → IsBytes bytes → number_at 8 place bytes < 2 ^ 64
+number-fits : (place : ℕ) (bytes : List ℕ) → IsBytes bytes → field_at 8 place bytes < 2 ^ 64
 number-fits place bytes fits = big_from-lt 0 8 (drop place bytes) (IsBytes-drop place bytes fits)
 
 -- the bytes of the header and of the number behind it
 header-spelled : (bytes rest : List ℕ) (kind : ℕ) → IsBytes bytes → IsHeader bytes → kind_of bytes ≡ kind → 16 ≤ length bytes → drop 16 bytes ≡ rest
-    → bytes ≡ header kind (station_at 4 bytes) (station_at 6 bytes) ++ big_bytes 8 (number_at 8 8 bytes) ++ rest
+    → bytes ≡ header kind (station_at 4 bytes) (station_at 6 bytes) ++ big_bytes 8 (field_at 8 8 bytes) ++ rest
 header-spelled bytes rest kind fits head is long behind =
     let first = front bytes kind fits head.length_is head.magic head.version is in
-    sym (joined_3 (0x52 ∷ 0x4c ∷ 1 ∷ kind ∷ []) (big_bytes 2 (number_at 2 4 bytes)) (big_bytes 2 (number_at 2 6 bytes)) (big_bytes 8 (number_at 8 8 bytes)) rest
+    sym (joined_3 (0x52 ∷ 0x4c ∷ 1 ∷ kind ∷ []) (big_bytes 2 (field_at 2 4 bytes)) (big_bytes 2 (field_at 2 6 bytes)) (big_bytes 8 (field_at 8 8 bytes)) rest
     (drop 8 bytes) (drop 6 bytes) (drop 4 bytes) bytes
-    (ap (λ (x : List ℕ). big_bytes 8 (number_at 8 8 bytes) ++ x) (sym behind) ∙ ap (λ (x : List ℕ). x ++ drop 16 bytes) (field_8 8 bytes fits (omega arith)) ∙ field-append 8 8 16 bytes refl)
+    (ap (λ (x : List ℕ). big_bytes 8 (field_at 8 8 bytes) ++ x) (sym behind) ∙ ap (λ (x : List ℕ). x ++ drop 16 bytes) (field_8 8 bytes fits (omega arith)) ∙ field-append 8 8 16 bytes refl)
     (ap (λ (x : List ℕ). x ++ drop 8 bytes) (field_2 6 bytes fits (omega arith)) ∙ field-append 2 6 8 bytes refl)
     (ap (λ (x : List ℕ). x ++ drop 6 bytes) (field_2 4 bytes fits (omega arith)) ∙ field-append 2 4 6 bytes refl)
     (ap (λ (x : List ℕ). x ++ drop 4 bytes) first ∙ take-append-drop 4 bytes))
@@ -47,10 +47,10 @@ one_item (x ∷ y ∷ xs) e = absurd (omega arith)
 abbrev Spelled : ℕ → List ℕ → Type 0
 Spelled kind bytes = IsMessage (message_at kind bytes) × (bytes ≡ spelling (message_at kind bytes))
 
-data-spelled : (bytes : List ℕ) → IsBytes bytes → IsHeader bytes → kind_of bytes ≡ 1 → number_at 2 16 bytes ≤ 1200 → length bytes ≡ 18 + number_at 2 16 bytes → Spelled 1 bytes
+data-spelled : (bytes : List ℕ) → IsBytes bytes → IsHeader bytes → kind_of bytes ≡ 1 → field_at 2 16 bytes ≤ 1200 → length bytes ≡ 18 + field_at 2 16 bytes → Spelled 1 bytes
 unfolding spelling
 data-spelled bytes fits head is low long =
-    let payload : length (drop 18 bytes) ≡ number_at 2 16 bytes = omega (arith, length-drop 18 bytes) in
+    let payload : length (drop 18 bytes) ≡ field_at 2 16 bytes = omega (arith, length-drop 18 bytes) in
     let behind : drop 16 bytes ≡ big_bytes 2 (length (drop 18 bytes)) ++ drop 18 bytes =
     sym (field-append 2 16 18 bytes refl) ∙ ap (λ (x : List ℕ). x ++ drop 18 bytes) (sym (field_2 16 bytes fits (omega arith)) ∙ ap (big_bytes 2) (sym payload)) in (
       (station-fits 4 bytes fits head.from, station-fits 6 bytes fits head.to, number-fits 8 bytes fits, omega arith),
@@ -75,26 +75,26 @@ refused-spelled bytes fits head is long =
 
 -- none of the nine tests of a datagram is met
 abbrev IsQuiet : List ℕ → Type 0
-IsQuiet bytes = NoFault (nat_lt (length bytes) 8) (not (number_at 2 0 bytes == 0x524c)) (not (slice_index bytes 2 == 1))
-    (not ((kind_of bytes == 1) || (kind_of bytes == 2) || (kind_of bytes == 3))) ((number_at 2 4 bytes == 0) || (number_at 2 6 bytes == 0))
-    (nat_lt (length bytes) (fixed_length (kind_of bytes))) ((kind_of bytes == 1) && nat_lt 1200 (number_at 2 16 bytes))
+IsQuiet bytes = NoFault (nat_lt (length bytes) 8) (not (field_at 2 0 bytes == 0x524c)) (not (slice_index bytes 2 == 1))
+    (not ((kind_of bytes == 1) || (kind_of bytes == 2) || (kind_of bytes == 3))) ((field_at 2 4 bytes == 0) || (field_at 2 6 bytes == 0))
+    (nat_lt (length bytes) (fixed_length (kind_of bytes))) ((kind_of bytes == 1) && nat_lt 1200 (field_at 2 16 bytes))
     (nat_lt (length bytes) (whole_length (kind_of bytes) bytes)) (nat_lt (whole_length (kind_of bytes) bytes) (length bytes))
 
 quiet-from : (bytes : List ℕ) → first_fault bytes ≡ None → IsQuiet bytes
 unfolding first_fault
 quiet-from bytes none =
-    no_fault (nat_lt (length bytes) 8) (not (number_at 2 0 bytes == 0x524c)) (not (slice_index bytes 2 == 1))
-    (not ((kind_of bytes == 1) || (kind_of bytes == 2) || (kind_of bytes == 3))) ((number_at 2 4 bytes == 0) || (number_at 2 6 bytes == 0))
-    (nat_lt (length bytes) (fixed_length (kind_of bytes))) ((kind_of bytes == 1) && nat_lt 1200 (number_at 2 16 bytes))
+    no_fault (nat_lt (length bytes) 8) (not (field_at 2 0 bytes == 0x524c)) (not (slice_index bytes 2 == 1))
+    (not ((kind_of bytes == 1) || (kind_of bytes == 2) || (kind_of bytes == 3))) ((field_at 2 4 bytes == 0) || (field_at 2 6 bytes == 0))
+    (nat_lt (length bytes) (fixed_length (kind_of bytes))) ((kind_of bytes == 1) && nat_lt 1200 (field_at 2 16 bytes))
     (nat_lt (length bytes) (whole_length (kind_of bytes) bytes)) (nat_lt (whole_length (kind_of bytes) bytes) (length bytes))
     Short Magic Version Kind Station Short Long Short Long none
 
 reading-is : (bytes : List ℕ) (m : Message (List ℕ)) → IsQuiet bytes → message_at (kind_of bytes) bytes ≡ m → reading bytes ≡ Ok m
 unfolding reading first_fault
 reading-is bytes m none is =
-    unless-is (first_fault bytes) (message_at (kind_of bytes) bytes) m (quiet (nat_lt (length bytes) 8) (not (number_at 2 0 bytes == 0x524c)) (not (slice_index bytes 2 == 1))
-    (not ((kind_of bytes == 1) || (kind_of bytes == 2) || (kind_of bytes == 3))) ((number_at 2 4 bytes == 0) || (number_at 2 6 bytes == 0))
-    (nat_lt (length bytes) (fixed_length (kind_of bytes))) ((kind_of bytes == 1) && nat_lt 1200 (number_at 2 16 bytes))
+    unless-is (first_fault bytes) (message_at (kind_of bytes) bytes) m (quiet (nat_lt (length bytes) 8) (not (field_at 2 0 bytes == 0x524c)) (not (slice_index bytes 2 == 1))
+    (not ((kind_of bytes == 1) || (kind_of bytes == 2) || (kind_of bytes == 3))) ((field_at 2 4 bytes == 0) || (field_at 2 6 bytes == 0))
+    (nat_lt (length bytes) (fixed_length (kind_of bytes))) ((kind_of bytes == 1) && nat_lt 1200 (field_at 2 16 bytes))
     (nat_lt (length bytes) (whole_length (kind_of bytes) bytes)) (nat_lt (whole_length (kind_of bytes) bytes) (length bytes))
     Short Magic Version Kind Station Short Long Short Long none) is
 
@@ -109,7 +109,7 @@ reading-spelled bytes m fits e =
     let whole : length bytes ≡ whole_length (kind_of bytes) bytes = omega arith in
     subst (λ (x : Message (List ℕ)). IsMessage x × (bytes ≡ spelling x)) parts.1 (elim (known_kind (kind_of bytes) none.kind) [
       | inl first ↦
-          let payload : nat_lt 1200 (number_at 2 16 bytes) ≡ false = subst (λ (k : ℕ). ((k == 1) && nat_lt 1200 (number_at 2 16 bytes)) ≡ false) first none.payload in
+          let payload : nat_lt 1200 (field_at 2 16 bytes) ≡ false = subst (λ (k : ℕ). ((k == 1) && nat_lt 1200 (field_at 2 16 bytes)) ≡ false) first none.payload in
           let exact : length bytes ≡ whole_length 1 bytes = subst (λ (k : ℕ). length bytes ≡ whole_length k bytes) first whole in
           subst (λ (k : ℕ). Spelled k bytes) (sym first) (data-spelled bytes fits head first (ltb-false _ _ payload) exact)
       | inr rest ↦ elim rest [

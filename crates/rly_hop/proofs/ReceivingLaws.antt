@@ -15,7 +15,7 @@ use Rattle.rly_hop.specs.declared.receiving.event.InEvent.TheVariants.{Heard, An
 use Rattle.rly_hop.specs.declared.receiving.event.InAction.{InAction}
 use Rattle.rly_hop.specs.declared.receiving.event.InAction.TheVariants.{Take, Send}
 use Rattle.rly_hop.specs.Receiver.{Receiver}
-use Rattle.rly_hop.specs.Receiving.{Received, answered, received, receiver, told}
+use Rattle.rly_hop.specs.Receiving.{ReceivingResult, after_answer, receiving_step, receiver, take_reply}
 use Rattle.rly_hop.specs.ReceivingRuns.{IsCustodyDue, IsHeard, in_actions, last_take, receiver_after}
 
 -- stations with one number are one
@@ -34,7 +34,7 @@ asked any = Answered any
 
 -- what is named where a Data was heard
 heard : (b : Bool) (r : Receiver) (number : ℕ) (payload : List ℕ) (action : InAction (List ℕ))
-    → (let x : Received = if b then (record r { pending = Some number }, Some (Take number payload)) else (r, None) in x).1 ≡ Some action
+    → (let x : ReceivingResult = if b then (record r { pending = Some number }, Some (Take number payload)) else (r, None) in x).1 ≡ Some action
     → (b ≡ true) × (Take number payload ≡ action)
 heard true r number payload action e = (refl, cc)
 heard false r number payload action e = absurd cc
@@ -46,23 +46,23 @@ above_zero (suc k) n above e = omega arith
 
 -- ---- what stays
 
-pub received-stations : (r : Receiver) (event : InEvent (List ℕ)) → ((received r event).0.own ≡ r.own) × ((received r event).0.peer ≡ r.peer)
+pub received-stations : (r : Receiver) (event : InEvent (List ℕ)) → ((receiving_step r event).0.own ≡ r.own) × ((receiving_step r event).0.peer ≡ r.peer)
 received-stations r (Heard (message.Data from to number payload)) =
     elim ((from.0 == r.peer.0) && (to.0 == r.own.0) && is_none r.pending)
-    as (λ b. ((let x : Received = if b then (record r { pending = Some number }, Some (Take number payload)) else (r, None) in x).0.own ≡ r.own)
-    × ((let x : Received = if b then (record r { pending = Some number }, Some (Take number payload)) else (r, None) in x).0.peer ≡ r.peer))
+    as (λ b. ((let x : ReceivingResult = if b then (record r { pending = Some number }, Some (Take number payload)) else (r, None) in x).0.own ≡ r.own)
+    × ((let x : ReceivingResult = if b then (record r { pending = Some number }, Some (Take number payload)) else (r, None) in x).0.peer ≡ r.peer))
     [ true ↦ (refl, refl) | false ↦ (refl, refl) ]
 received-stations r (Heard (message.Custody from to last)) = (refl, refl)
 received-stations r (Heard (message.Refused from to number refusal)) = (refl, refl)
 received-stations r (Answered any) =
-    elim r.pending as (λ p. ((answered r p any).0.own ≡ r.own) × ((answered r p any).0.peer ≡ r.peer)) [ None ↦ (refl, refl) | Some k ↦ (refl, refl) ]
+    elim r.pending as (λ p. ((after_answer r p any).0.own ≡ r.own) × ((after_answer r p any).0.peer ≡ r.peer)) [ None ↦ (refl, refl) | Some k ↦ (refl, refl) ]
 received-stations r Lost = (refl, refl)
 
 pub after-stations : (r : Receiver) (events : List (InEvent (List ℕ))) → ((receiver_after r events).own ≡ r.own) × ((receiver_after r events).peer ≡ r.peer)
 after-stations r [] = (refl, refl)
 after-stations r (event ∷ events) =
     let now = received-stations r event in
-    let later = after-stations (received r event).0 events in
+    let later = after-stations (receiving_step r event).0 events in
     (later.0 ∙ now.0, later.1 ∙ now.1)
 
 -- ---- the number that waits is that of the last Take
@@ -77,23 +77,23 @@ last_take-step taken (Some (Take number payload)) actions = refl
 last_take-step taken (Some (Send m)) actions = refl
 last_take-step taken None actions = refl
 
-pub IsTaken-step : (r : Receiver) (taken : Option ℕ) (event : InEvent (List ℕ)) → IsTaken r taken → IsTaken (received r event).0 (last_take taken ((received r event).1 ∷ []))
+pub IsTaken-step : (r : Receiver) (taken : Option ℕ) (event : InEvent (List ℕ)) → IsTaken r taken → IsTaken (receiving_step r event).0 (last_take taken ((receiving_step r event).1 ∷ []))
 IsTaken-step r taken (Heard (message.Data from to number payload)) h =
     elim ((from.0 == r.peer.0) && (to.0 == r.own.0) && is_none r.pending)
-    as (λ b. let x : Received = if b then (record r { pending = Some number }, Some (Take number payload)) else (r, None) in IsTaken x.0 (last_take taken (x.1 ∷ [])))
+    as (λ b. let x : ReceivingResult = if b then (record r { pending = Some number }, Some (Take number payload)) else (r, None) in IsTaken x.0 (last_take taken (x.1 ∷ [])))
     [ true ↦ (λ n e. e) | false ↦ h ]
 IsTaken-step r taken (Heard (message.Custody from to last)) h = h
 IsTaken-step r taken (Heard (message.Refused from to number refusal)) h = h
 IsTaken-step r taken (Answered any) h =
-    (elim r.pending as (λ p. ((n : ℕ) → p ≡ Some n → taken ≡ Some n) → IsTaken (answered r p any).0 (last_take taken ((answered r p any).1 ∷ [])))
+    (elim r.pending as (λ p. ((n : ℕ) → p ≡ Some n → taken ≡ Some n) → IsTaken (after_answer r p any).0 (last_take taken ((after_answer r p any).1 ∷ [])))
     [ None ↦ (λ none n e. h n e) | Some k ↦ (λ some n e. absurd cc) ]) h
 IsTaken-step r taken Lost h = λ n e. absurd cc
 
 pub IsTaken-after : (r : Receiver) (taken : Option ℕ) (events : List (InEvent (List ℕ))) → IsTaken r taken → IsTaken (receiver_after r events) (last_take taken (in_actions r events))
 IsTaken-after r taken [] h = h
 IsTaken-after r taken (event ∷ events) h =
-    let later = IsTaken-after (received r event).0 (last_take taken ((received r event).1 ∷ [])) events (IsTaken-step r taken event h) in
-    rw (last_take-step taken (received r event).1 (in_actions (received r event).0 events)) later
+    let later = IsTaken-after (receiving_step r event).0 (last_take taken ((receiving_step r event).1 ∷ [])) events (IsTaken-step r taken event h) in
+    rw (last_take-step taken (receiving_step r event).1 (in_actions (receiving_step r event).0 events)) later
 
 pub IsTaken-first : (own peer : StationId) → IsTaken (receiver own peer) None
 IsTaken-first own peer n e = e
@@ -105,7 +105,7 @@ otherwise : {A : Type 0} (b : Bool) (x y : A) → (if b then None else Some x) �
 otherwise true x y e = absurd cc
 otherwise false x y e = (refl, cc)
 
-told-custody : (r : Receiver) (k : ℕ) (any : TakeAnswer) (from to : StationId) (n : ℕ) → told r k any ≡ Some (Send (message.Custody from to n))
+told-custody : (r : Receiver) (k : ℕ) (any : TakeAnswer) (from to : StationId) (n : ℕ) → take_reply r k any ≡ Some (Send (message.Custody from to n))
     → (from ≡ r.own) × (to ≡ r.peer) × IsCustodyDue (Some k) (Answered any) n
 told-custody r k answer.Taken from to n e = (cc, cc, cc)
 told-custody r k (answer.Already last) from to n e = (cc, cc, cc)
@@ -119,13 +119,13 @@ told-custody r k (answer.Refused refusal) from to n e = absurd cc
 told-custody r k answer.Other from to n e = absurd cc
 
 answered-custody : (r : Receiver) (p taken : Option ℕ) (any : TakeAnswer) (from to : StationId) (n : ℕ) → ((k : ℕ) → p ≡ Some k → taken ≡ Some k)
-    → (answered r p any).1 ≡ Some (Send (message.Custody from to n)) → (from ≡ r.own) × (to ≡ r.peer) × IsCustodyDue taken (Answered any) n
+    → (after_answer r p any).1 ≡ Some (Send (message.Custody from to n)) → (from ≡ r.own) × (to ≡ r.peer) × IsCustodyDue taken (Answered any) n
 answered-custody r None taken any from to n h e = absurd cc
 answered-custody r (Some k) taken any from to n h e =
     subst (λ (x : Option ℕ). (from ≡ r.own) × (to ≡ r.peer) × IsCustodyDue x (Answered any) n) (sym (h k refl)) (told-custody r k any from to n e)
 
 pub received-custody : (r : Receiver) (taken : Option ℕ) (event : InEvent (List ℕ)) (from to : StationId) (n : ℕ) → IsTaken r taken
-    → (received r event).1 ≡ Some (Send (message.Custody from to n)) → (from ≡ r.own) × (to ≡ r.peer) × IsCustodyDue taken event n
+    → (receiving_step r event).1 ≡ Some (Send (message.Custody from to n)) → (from ≡ r.own) × (to ≡ r.peer) × IsCustodyDue taken event n
 received-custody r taken (Heard (message.Data a b number payload)) from to n h e =
     let take = heard (((a.0 == r.peer.0) && (b.0 == r.own.0)) && is_none r.pending) r number payload (Send (message.Custody from to n)) e in
     let same : named (Take number payload) ≡ named (Send (message.Custody from to n)) = ap named take.1 in
@@ -139,7 +139,7 @@ received-custody r taken Lost from to n h e = absurd cc
 abbrev pub IsRefusal : TakeAnswer → ℕ → Type 0
 IsRefusal any code = (refusal : Refusal) × (any ≡ answer.Refused refusal) × (code ≡ number_of refusal)
 
-told-refused : (r : Receiver) (k : ℕ) (any : TakeAnswer) (from to : StationId) (n code : ℕ) → told r k any ≡ Some (Send (message.Refused from to n code))
+told-refused : (r : Receiver) (k : ℕ) (any : TakeAnswer) (from to : StationId) (n code : ℕ) → take_reply r k any ≡ Some (Send (message.Refused from to n code))
     → (from ≡ r.own) × (to ≡ r.peer) × (k ≡ n) × IsRefusal any code
 told-refused r k answer.Taken from to n code e = absurd cc
 told-refused r k (answer.Already last) from to n code e = absurd cc
@@ -151,13 +151,13 @@ told-refused r k (answer.Refused refusal) from to n code e = (cc, cc, cc, (refus
 told-refused r k answer.Other from to n code e = absurd cc
 
 answered-refused : (r : Receiver) (p taken : Option ℕ) (any : TakeAnswer) (from to : StationId) (n code : ℕ) → ((k : ℕ) → p ≡ Some k → taken ≡ Some k)
-    → (answered r p any).1 ≡ Some (Send (message.Refused from to n code)) → (from ≡ r.own) × (to ≡ r.peer) × (taken ≡ Some n) × IsRefusal any code
+    → (after_answer r p any).1 ≡ Some (Send (message.Refused from to n code)) → (from ≡ r.own) × (to ≡ r.peer) × (taken ≡ Some n) × IsRefusal any code
 answered-refused r None taken any from to n code h e = absurd cc
 answered-refused r (Some k) taken any from to n code h e =
     let t = told-refused r k any from to n code e in (t.0, t.1, h k refl ∙ ap some t.2, t.3)
 
 pub received-refused : (r : Receiver) (taken : Option ℕ) (event : InEvent (List ℕ)) (from to : StationId) (n code : ℕ) → IsTaken r taken
-    → (received r event).1 ≡ Some (Send (message.Refused from to n code))
+    → (receiving_step r event).1 ≡ Some (Send (message.Refused from to n code))
     → (from ≡ r.own) × (to ≡ r.peer) × (taken ≡ Some n) × ((refusal : Refusal) × (event ≡ Answered (answer.Refused refusal)) × (code ≡ number_of refusal))
 received-refused r taken (Heard (message.Data a b number payload)) from to n code h e =
     let take = heard (((a.0 == r.peer.0) && (b.0 == r.own.0)) && is_none r.pending) r number payload (Send (message.Refused from to n code)) e in
@@ -172,7 +172,7 @@ received-refused r taken Lost from to n code h e = absurd cc
 
 -- ---- a Take follows the Data that was heard, and nothing is named behind it
 
-told-take : (r : Receiver) (k : ℕ) (any : TakeAnswer) (n : ℕ) (payload : List ℕ) → told r k any ≡ Some (Take n payload) → ⊥
+told-take : (r : Receiver) (k : ℕ) (any : TakeAnswer) (n : ℕ) (payload : List ℕ) → take_reply r k any ≡ Some (Take n payload) → ⊥
 told-take r k answer.Taken n payload e = cc
 told-take r k (answer.Already last) n payload e = cc
 told-take r k (answer.Refused (Gap expected)) n payload e =
@@ -182,12 +182,12 @@ told-take r k (answer.Refused (Gap expected)) n payload e =
 told-take r k (answer.Refused refusal) n payload e = cc
 told-take r k answer.Other n payload e = cc
 
-answered-take : (r : Receiver) (p : Option ℕ) (any : TakeAnswer) (n : ℕ) (payload : List ℕ) → (answered r p any).1 ≡ Some (Take n payload) → ⊥
+answered-take : (r : Receiver) (p : Option ℕ) (any : TakeAnswer) (n : ℕ) (payload : List ℕ) → (after_answer r p any).1 ≡ Some (Take n payload) → ⊥
 answered-take r None any n payload e = cc
 answered-take r (Some k) any n payload e = told-take r k any n payload e
 
-pub received-take : (r : Receiver) (event : InEvent (List ℕ)) (n : ℕ) (payload : List ℕ) → (received r event).1 ≡ Some (Take n payload)
-    → (event ≡ Heard (message.Data r.peer r.own n payload)) × ((received r event).0.pending ≡ Some n)
+pub received-take : (r : Receiver) (event : InEvent (List ℕ)) (n : ℕ) (payload : List ℕ) → (receiving_step r event).1 ≡ Some (Take n payload)
+    → (event ≡ Heard (message.Data r.peer r.own n payload)) × ((receiving_step r event).0.pending ≡ Some n)
 received-take r (Heard (message.Data from to number payload')) n payload e =
     let take = heard (((from.0 == r.peer.0) && (to.0 == r.own.0)) && is_none r.pending) r number payload' (Take n payload) e in
     let same : named (Take number payload') ≡ named (Take n payload) = ap named take.1 in
@@ -203,10 +203,10 @@ received-take r Lost n payload e = absurd cc
 
 pub length-in_actions : (r : Receiver) (events : List (InEvent (List ℕ))) → length (in_actions r events) ≡ length events
 length-in_actions r [] = refl
-length-in_actions r (event ∷ events) = let more = length-in_actions (received r event).0 events in omega (arith, more)
+length-in_actions r (event ∷ events) = let more = length-in_actions (receiving_step r event).0 events in omega (arith, more)
 
 -- a message is not taken while a number waits
-pub waiting : (r : Receiver) (n : ℕ) (m : Message (List ℕ)) → r.pending ≡ Some n → received r (Heard m) ≡ (r, None)
+pub waiting : (r : Receiver) (n : ℕ) (m : Message (List ℕ)) → r.pending ≡ Some n → receiving_step r (Heard m) ≡ (r, None)
 waiting r n (message.Data from to number payload) e =
     let some : is_none r.pending ≡ false = ap is_none e in
     rw (and_right ((from.0 == r.peer.0) && (to.0 == r.own.0)) (is_none r.pending) some) refl
@@ -217,6 +217,6 @@ pub silent : (r : Receiver) (n : ℕ) (heard : List (InEvent (List ℕ))) → r.
     → AllByRecursion (λ (named : Option (InAction (List ℕ))). named ≡ None) (in_actions r heard)
 silent r n [] e h = tt
 silent r n (Heard m ∷ heard) e h =
-    subst (λ (x : Received). (x.1 ≡ None) × AllByRecursion (λ (named : Option (InAction (List ℕ))). named ≡ None) (in_actions x.0 heard)) (sym (waiting r n m e)) (refl, silent r n heard e h.1)
+    subst (λ (x : ReceivingResult). (x.1 ≡ None) × AllByRecursion (λ (named : Option (InAction (List ℕ))). named ≡ None) (in_actions x.0 heard)) (sym (waiting r n m e)) (refl, silent r n heard e h.1)
 silent r n (Answered any ∷ heard) e h = absurd h.0
 silent r n (Lost ∷ heard) e h = absurd h.0

@@ -11,7 +11,7 @@ use Rattle.rly_hop.specs.declared.sending.event.OutAction.{OutAction}
 use Rattle.rly_hop.specs.declared.sending.event.OutAction.TheVariants.{AskWindow, Release, Fetch, Pick, Send}
 use Rattle.rly_hop.specs.Rows.{first_row}
 use Rattle.rly_hop.specs.Sender.{IsInOrder, Sender}
-use Rattle.rly_hop.specs.Sending.{Sent, acknowledged, is_unsure, moved, sender, sent}
+use Rattle.rly_hop.specs.Sending.{SendingResult, after_custody, is_unsure, after_release, sender, sending_step}
 use Rattle.rly_hop.specs.SendingRuns.{IsGiven, IsGivenBy, IsHeardInFlight, IsInFlight, sender_after}
 use Rattle.rly_hop.proofs.ReceivingLaws.{station-is}
 
@@ -30,7 +30,7 @@ can_pick s number = s.ready && (number == s.next) && nat_lt number (2 ^ 64 - 1)
 abbrev can_send : Sender → ℕ → Bool
 can_send s number = s.ready && (number == s.cursor) && nat_lt s.cursor s.next
 
-abbrev fetched : Sender → ℕ → List ℕ → Sent
+abbrev fetched : Sender → ℕ → List ℕ → SendingResult
 fetched s number payload = (record s { cursor = number + 1 }, Some (Send (message.Data s.own s.hop number payload)))
 
 abbrev can_acknowledge : Sender → StationId → StationId → ℕ → Bool
@@ -81,11 +81,11 @@ greatest-is (Some a) last n e =
 
 -- ---- the stations stay
 
-moved-stations : (s : Sender) (p : Option ℕ) → ((moved s p).own ≡ s.own) × ((moved s p).hop ≡ s.hop)
+moved-stations : (s : Sender) (p : Option ℕ) → ((after_release s p).own ≡ s.own) × ((after_release s p).hop ≡ s.hop)
 moved-stations s None = (refl, refl)
 moved-stations s (Some a) = (refl, refl)
 
-pub sent-stations : (s : Sender) (event : OutEvent (List ℕ)) → ((sent s event).0.own ≡ s.own) × ((sent s event).0.hop ≡ s.hop)
+pub sent-stations : (s : Sender) (event : OutEvent (List ℕ)) → ((sending_step s event).0.own ≡ s.own) × ((sending_step s event).0.hop ≡ s.hop)
 sent-stations s (Turn is_open) = (refl, refl)
 sent-stations s (WindowIs first next) =
     either (nat_le first next) (windowed s first next) s (λ x. (x.own ≡ s.own) × (x.hop ≡ s.hop)) (λ _. (refl, refl)) (λ _. (refl, refl))
@@ -109,7 +109,7 @@ pub sender_after-stations : (s : Sender) (events : List (OutEvent (List ℕ))) �
 sender_after-stations s [] = (refl, refl)
 sender_after-stations s (event ∷ events) =
     let now = sent-stations s event in
-    let later = sender_after-stations (sent s event).0 events in
+    let later = sender_after-stations (sending_step s event).0 events in
     (later.0 ∙ now.0, later.1 ∙ now.1)
 
 -- ---- the order of first, cursor and next
@@ -117,13 +117,13 @@ sender_after-stations s (event ∷ events) =
 nothing_acked : (first next n : ℕ) → (let o : Option ℕ = None in o) ≡ Some n → (first ≤ n) × (n < next)
 nothing_acked first next n e = absurd cc
 
-moved-in_order : (s : Sender) (p : Option ℕ) → s.acked ≡ p → IsInOrder s → IsInOrder (moved s p)
+moved-in_order : (s : Sender) (p : Option ℕ) → s.acked ≡ p → IsInOrder s → IsInOrder (after_release s p)
 moved-in_order s None e h = h
 moved-in_order s (Some a) e h =
     let within = h.acked a e in
     record { begun = omega arith; ended = omega (arith, h.ended, within.1); acked = nothing_acked (a + 1) s.next }
 
-acknowledged-in_order : (s : Sender) (from to : StationId) (last : ℕ) → IsInOrder s → IsInOrder (acknowledged s from to last)
+acknowledged-in_order : (s : Sender) (from to : StationId) (last : ℕ) → IsInOrder s → IsInOrder (after_custody s from to last)
 acknowledged-in_order s from to last h =
     either (can_acknowledge s from to last) (record s { acked = Some (option_map_or (λ a. max a last) s.acked last) }) s IsInOrder
     (λ test.
@@ -140,7 +140,7 @@ acknowledged-in_order s from to last h =
     })
     (λ _. h)
 
-pub sent-in_order : (s : Sender) (event : OutEvent (List ℕ)) → IsInOrder s → IsInOrder (sent s event).0
+pub sent-in_order : (s : Sender) (event : OutEvent (List ℕ)) → IsInOrder s → IsInOrder (sending_step s event).0
 sent-in_order s (Turn is_open) h = h
 sent-in_order s (WindowIs first next) h =
     either (nat_le first next) (windowed s first next) s IsInOrder
@@ -171,14 +171,14 @@ sent-in_order s Other h = h
 
 pub sender_after-in_order : (s : Sender) (events : List (OutEvent (List ℕ))) → IsInOrder s → IsInOrder (sender_after s events)
 sender_after-in_order s [] h = h
-sender_after-in_order s (event ∷ events) h = sender_after-in_order (sent s event).0 events (sent-in_order s event h)
+sender_after-in_order s (event ∷ events) h = sender_after-in_order (sending_step s event).0 events (sent-in_order s event h)
 
 pub sender-in_order : (own hop : StationId) (window : ℕ) → IsInOrder (sender own hop window)
 sender-in_order own hop window = record { begun = omega arith; ended = omega arith; acked = nothing_acked 1 1 }
 
 -- ---- each number in the flight was given
 
-moved-flight : (s : Sender) (p : Option ℕ) (n : ℕ) → s.acked ≡ p → IsInOrder s → IsInFlight (moved s p) n → IsInFlight s n
+moved-flight : (s : Sender) (p : Option ℕ) (n : ℕ) → s.acked ≡ p → IsInOrder s → IsInFlight (after_release s p) n → IsInFlight s n
 moved-flight s None n e h flight = flight
 moved-flight s (Some a) n e h flight =
     let within = h.acked a e in
@@ -188,7 +188,7 @@ moved-flight s (Some a) n e h flight =
 abbrev pub Grown : Sender → OutEvent (List ℕ) → ℕ → Sender → Type 0
 Grown s event n x = IsInFlight x n → IsInFlight s n ⊎ IsGivenBy event n
 
-pub sent-flight : (s : Sender) (event : OutEvent (List ℕ)) (n : ℕ) → IsInOrder s → Grown s event n (sent s event).0
+pub sent-flight : (s : Sender) (event : OutEvent (List ℕ)) (n : ℕ) → IsInOrder s → Grown s event n (sending_step s event).0
 sent-flight s (Turn is_open) n h flight = inl flight
 sent-flight s (WindowIs first next) n h flight =
     either (nat_le first next) (windowed s first next) s (Grown s (WindowIs first next) n) (λ _ found. inr (found.begun, found.ended)) (λ _ found. inl found) flight
@@ -221,7 +221,7 @@ sent-flight s Other n h flight = inl flight
 pub flight-given : (s : Sender) (events : List (OutEvent (List ℕ))) (n : ℕ) → IsInOrder s → IsInFlight (sender_after s events) n → IsInFlight s n ⊎ IsGiven events n
 flight-given s [] n h flight = inl flight
 flight-given s (event ∷ events) n h flight =
-    elim (flight-given (sent s event).0 events n (sent-in_order s event h) flight) [
+    elim (flight-given (sending_step s event).0 events n (sent-in_order s event h) flight) [
       | inl now ↦ elim (sent-flight s event n h now) [ inl before ↦ inl before | inr given ↦ inr (inl given) ]
       | inr later ↦ inr (inr later)
     ]
@@ -236,11 +236,11 @@ flight-first own hop window n flight = let never : false ≡ true = flight.ready
 abbrev pub Acked : Sender → OutEvent (List ℕ) → ℕ → Sender → Type 0
 Acked s event n x = x.acked ≡ Some n → (s.acked ≡ Some n) ⊎ ((event ≡ Heard (message.Custody s.hop s.own n)) × IsInFlight s n)
 
-moved-acked : (s : Sender) (p : Option ℕ) (event : OutEvent (List ℕ)) (n : ℕ) → Acked s event n (moved s p)
+moved-acked : (s : Sender) (p : Option ℕ) (event : OutEvent (List ℕ)) (n : ℕ) → Acked s event n (after_release s p)
 moved-acked s None event n e = inl e
 moved-acked s (Some a) event n e = absurd cc
 
-pub sent-acked : (s : Sender) (event : OutEvent (List ℕ)) (n : ℕ) → Acked s event n (sent s event).0
+pub sent-acked : (s : Sender) (event : OutEvent (List ℕ)) (n : ℕ) → Acked s event n (sending_step s event).0
 sent-acked s (Turn is_open) n e = inl e
 sent-acked s (WindowIs first next) n e =
     either (nat_le first next) (windowed s first next) s (Acked s (WindowIs first next) n) (λ _ found. absurd cc) (λ _ found. inl found) e
@@ -275,18 +275,18 @@ sent-acked s Other n e = inl e
 pub acked-heard : (s : Sender) (events : List (OutEvent (List ℕ))) (n : ℕ) → (sender_after s events).acked ≡ Some n → (s.acked ≡ Some n) ⊎ IsHeardInFlight s events n
 acked-heard s [] n e = inl e
 acked-heard s (event ∷ events) n e =
-    elim (acked-heard (sent s event).0 events n e) [
+    elim (acked-heard (sending_step s event).0 events n e) [
       | inl now ↦ elim (sent-acked s event n now) [
         | inl before ↦ inl before
         | inr here ↦ inr (record { earlier = []; later = events; parts = ap (λ (x : OutEvent (List ℕ)). x ∷ events) here.0; in_flight = here.1 })
       ]
       | inr found ↦
           let stations = sent-stations s event in
-          let hop : (sent s event).0.hop ≡ s.hop = stations.1 in
-          let own : (sent s event).0.own ≡ s.own = stations.0 in
+          let hop : (sending_step s event).0.hop ≡ s.hop = stations.1 in
+          let own : (sending_step s event).0.own ≡ s.own = stations.0 in
           let parts : events ≡ found.earlier ++ Heard (message.Custody s.hop s.own n) ∷ found.later =
           subst (λ (x : StationId). events ≡ found.earlier ++ Heard (message.Custody s.hop x n) ∷ found.later) own
-          (subst (λ (x : StationId). events ≡ found.earlier ++ Heard (message.Custody x (sent s event).0.own n) ∷ found.later) hop found.parts) in
+          (subst (λ (x : StationId). events ≡ found.earlier ++ Heard (message.Custody x (sending_step s event).0.own n) ∷ found.later) hop found.parts) in
           inr (record { earlier = event ∷ found.earlier; later = found.later; parts = ap (λ (x : List (OutEvent (List ℕ))). event ∷ x) parts; in_flight = found.in_flight })
     ]
 
@@ -325,7 +325,7 @@ rows-send true None true false false cursor m e = cc
 
 -- what is sent where a payload was fetched
 sending : (b : Bool) (s : Sender) (number : ℕ) (payload : List ℕ) (action : OutAction (List ℕ))
-    → (let x : Sent = if b then fetched s number payload else (s, None) in x).1 ≡ Some action
+    → (let x : SendingResult = if b then fetched s number payload else (s, None) in x).1 ≡ Some action
     → (b ≡ true) × (Send (message.Data s.own s.hop number payload) ≡ action)
 sending true s number payload action e = (refl, cc)
 sending false s number payload action e = absurd cc
@@ -344,7 +344,7 @@ data-is : (a b from to : StationId) (number n : ℕ) (bytes payload : List ℕ) 
     → (a ≡ from) × (b ≡ to) × (number ≡ n) × (bytes ≡ payload)
 data-is a b from to number n bytes payload e = (cc, cc, cc, cc)
 
-pub sent-fetch : (s : Sender) (event : OutEvent (List ℕ)) (n : ℕ) → IsInOrder s → (sent s event).1 ≡ Some (Fetch n) → IsInFlight s n
+pub sent-fetch : (s : Sender) (event : OutEvent (List ℕ)) (n : ℕ) → IsInOrder s → (sending_step s event).1 ≡ Some (Fetch n) → IsInFlight s n
 sent-fetch s (Turn is_open) n h e =
     let found = rows-fetch s.ready s.acked is_open (nat_lt s.cursor s.next) ((s.cursor == s.next) && nat_lt (s.next - s.first) s.window) s.cursor n e in
     let below = ltb-true s.cursor s.next found.1 in
@@ -363,7 +363,7 @@ sent-fetch s (Refused refusal) n h e = absurd cc
 sent-fetch s Nothing n h e = absurd cc
 sent-fetch s Other n h e = absurd cc
 
-pub sent-release : (s : Sender) (event : OutEvent (List ℕ)) (n : ℕ) → IsInOrder s → (sent s event).1 ≡ Some (Release n) → (s.acked ≡ Some n) × IsInFlight s n
+pub sent-release : (s : Sender) (event : OutEvent (List ℕ)) (n : ℕ) → IsInOrder s → (sending_step s event).1 ≡ Some (Release n) → (s.acked ≡ Some n) × IsInFlight s n
 sent-release s (Turn is_open) n h e =
     let found = rows-release s.ready s.acked is_open (nat_lt s.cursor s.next) ((s.cursor == s.next) && nat_lt (s.next - s.first) s.window) s.cursor n e in
     let within = h.acked n found.1 in
@@ -383,7 +383,7 @@ sent-release s Nothing n h e = absurd cc
 sent-release s Other n h e = absurd cc
 
 pub sent-data : (s : Sender) (event : OutEvent (List ℕ)) (from to : StationId) (n : ℕ) (payload : List ℕ) → IsInOrder s
-    → (sent s event).1 ≡ Some (Send (message.Data from to n payload)) → (from ≡ s.own) × (to ≡ s.hop) × (event ≡ Fetched n payload) × IsInFlight s n
+    → (sending_step s event).1 ≡ Some (Send (message.Data from to n payload)) → (from ≡ s.own) × (to ≡ s.hop) × (event ≡ Fetched n payload) × IsInFlight s n
 sent-data s (Turn is_open) from to n payload h e =
     absurd (rows-send s.ready s.acked is_open (nat_lt s.cursor s.next) ((s.cursor == s.next) && nat_lt (s.next - s.first) s.window) s.cursor (message.Data from to n payload) e)
 sent-data s (Fetched number bytes) from to n payload h e =

@@ -1,6 +1,6 @@
 pub mod Rows
 pub mod Payloads
-pub mod Kinds
+pub mod HelpersKinds
 pub mod Spelling
 pub mod Reading
 pub mod Receiver

@@ -1,6 +1,7 @@
 -- Reading a datagram as a message: its faults in the order in which they are looked for, and its fields at their
 -- places (docs/PROTOCOL.md, "Messages").
-use Rattle.std.specs.Prelude.{ℕ, ◌+◌, Bool, ◌&&◌, ◌||◌, not, ◌==◌, nat_lt, if◌then◌else◌, Option, Some, None, Result, Ok, Err, List, [], ◌∷◌, ◌++◌, length, drop, slice_index}
+use Rattle.std.specs.Prelude.{ℕ, ◌+◌, Bool, ◌&&◌, ◌||◌, not, ◌==◌, nat_lt, if◌then◌else◌, Option, Some, None}
+use Rattle.std.specs.Prelude.{Result, Ok, Err, List, [], ◌∷◌, ◌++◌, length, drop, slice_index}
 use Rattle.byteorder.specs.Endian.{big_number}
 use Rattle.rly_core.specs.declared.refusal.Refusal.{Refusal}
 use Rattle.rly_core.specs.declared.refusal.Refusal.TheVariants.{Short, Long, Magic, Version, Kind, Station}
@@ -10,8 +11,8 @@ use Rattle.rly_hop.specs.declared.message.Message.TheVariants.{Data, Custody, Re
 use Rattle.rly_hop.specs.Rows.{first_row}
 
 -- the number in so many bytes at a place
-abbrev pub number_at : ℕ → ℕ → List ℕ → ℕ
-number_at width place bytes = big_number width (drop place bytes)
+abbrev pub field_at : ℕ → ℕ → List ℕ → ℕ
+field_at width place bytes = big_number width (drop place bytes)
 
 -- the byte that says of which kind the message is
 abbrev pub kind_of : List ℕ → ℕ
@@ -23,23 +24,23 @@ fixed_length kind = if kind == 1 then 18 else if kind == 2 then 16 else 17
 
 -- how many bytes the message of this kind has that begins like this
 abbrev pub whole_length : ℕ → List ℕ → ℕ
-whole_length kind bytes = if kind == 1 then 18 + number_at 2 16 bytes else fixed_length kind
+whole_length kind bytes = if kind == 1 then 18 + field_at 2 16 bytes else fixed_length kind
 
 -- what may be wrong with the eight bytes that every message begins with
 abbrev pub header_faults : List ℕ → List (Bool × Option Refusal)
 header_faults bytes =
     (nat_lt (length bytes) 8, Some Short)
-    ∷ (not (number_at 2 0 bytes == 0x524c), Some Magic)
+    ∷ (not (field_at 2 0 bytes == 0x524c), Some Magic)
     ∷ (not (slice_index bytes 2 == 1), Some Version)
     ∷ (not ((kind_of bytes == 1) || (kind_of bytes == 2) || (kind_of bytes == 3)), Some Kind)
-    ∷ ((number_at 2 4 bytes == 0) || (number_at 2 6 bytes == 0), Some Station)
+    ∷ ((field_at 2 4 bytes == 0) || (field_at 2 6 bytes == 0), Some Station)
     ∷ []
 
 -- what may be wrong with how long a message says it is
 abbrev pub length_faults : List ℕ → List (Bool × Option Refusal)
 length_faults bytes =
     (nat_lt (length bytes) (fixed_length (kind_of bytes)), Some Short)
-    ∷ ((kind_of bytes == 1) && nat_lt 1200 (number_at 2 16 bytes), Some Long)
+    ∷ ((kind_of bytes == 1) && nat_lt 1200 (field_at 2 16 bytes), Some Long)
     ∷ []
 
 -- what may be wrong with how many bytes there are
@@ -55,20 +56,20 @@ first_fault bytes = first_row (header_faults bytes ++ length_faults bytes ++ end
 
 -- the station whose number lies at a place
 abbrev pub station_at : ℕ → List ℕ → StationId
-station_at place bytes = record { 0 = number_at 2 place bytes }
+station_at place bytes = record { 0 = field_at 2 place bytes }
 
 -- the message of a kind whose fields lie at their places
 abbrev pub message_at : ℕ → List ℕ → Message (List ℕ)
 message_at kind bytes =
-    if kind == 1 then Data (station_at 4 bytes) (station_at 6 bytes) (number_at 8 8 bytes) (drop 18 bytes)
-    else if kind == 2 then Custody (station_at 4 bytes) (station_at 6 bytes) (number_at 8 8 bytes)
-    else Refused (station_at 4 bytes) (station_at 6 bytes) (number_at 8 8 bytes) (slice_index bytes 16)
+    if kind == 1 then Data (station_at 4 bytes) (station_at 6 bytes) (field_at 8 8 bytes) (drop 18 bytes)
+    else if kind == 2 then Custody (station_at 4 bytes) (station_at 6 bytes) (field_at 8 8 bytes)
+    else Refused (station_at 4 bytes) (station_at 6 bytes) (field_at 8 8 bytes) (slice_index bytes 16)
 
 -- a result that holds what was found, or else the fault
-abbrev pub unless : {A : Type 0} → Option Refusal → A → Result A Refusal
-unless None found = Ok found
-unless (Some fault) found = Err fault
+abbrev pub found_unless : {A : Type 0} → Option Refusal → A → Result A Refusal
+found_unless None found = Ok found
+found_unless (Some fault) found = Err fault
 
 -- what a datagram reads as: its first fault, or else the message in it
 unfoldable pub reading : List ℕ → Result (Message (List ℕ)) Refusal
-reading bytes = unless (first_fault bytes) (message_at (kind_of bytes) bytes)
+reading bytes = found_unless (first_fault bytes) (message_at (kind_of bytes) bytes)

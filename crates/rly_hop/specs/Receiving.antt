@@ -15,41 +15,42 @@ use Rattle.rly_hop.specs.declared.receiving.event.InAction.TheVariants.{Take, Se
 use Rattle.rly_hop.specs.Receiver.{Receiver}
 
 -- what one event leaves: the state, and the action that is named, if one is
-abbrev pub Received : Type 0
-Received = Receiver × Option (InAction (List ℕ))
+abbrev pub ReceivingResult : Type 0
+ReceivingResult = Receiver × Option (InAction (List ℕ))
 
 -- the refusals that the peer station is told of
 abbrev pub is_told : Refusal → Bool
-is_told refusal = list_any (λ told. number_of refusal == told) (1 ∷ 2 ∷ 3 ∷ 5 ∷ 6 ∷ 15 ∷ [])
+is_told refusal = list_any (λ n. number_of refusal == n) (1 ∷ 2 ∷ 3 ∷ 5 ∷ 6 ∷ 15 ∷ [])
 
 -- the messages to the peer station: it keeps all numbers up to last · a Take was refused
-abbrev pub custody : Receiver → ℕ → Option (InAction (List ℕ))
-custody r last = Some (Send (message.Custody r.own r.peer last))
+abbrev pub custody_message : Receiver → ℕ → Option (InAction (List ℕ))
+custody_message r last = Some (Send (message.Custody r.own r.peer last))
 
-abbrev pub refused : Receiver → ℕ → Refusal → Option (InAction (List ℕ))
-refused r number refusal = Some (Send (message.Refused r.own r.peer number (number_of refusal)))
+abbrev pub refusal_message : Receiver → ℕ → Refusal → Option (InAction (List ℕ))
+refusal_message r number refusal = Some (Send (message.Refused r.own r.peer number (number_of refusal)))
 
 -- what is sent on the answer to the Take of this number, row by row
-abbrev pub told : Receiver → ℕ → TakeAnswer → Option (InAction (List ℕ))
-told r number answer.Taken = custody r number
-told r number (answer.Already last) = custody r last
-told r number (answer.Refused (Gap expected)) = if expected == 0 then None else custody r (expected - 1)
-told r number (answer.Refused refusal) = if is_told refusal then refused r number refusal else None
-told r number answer.Other = None
+abbrev pub take_reply : Receiver → ℕ → TakeAnswer → Option (InAction (List ℕ))
+take_reply r number answer.Taken = custody_message r number
+take_reply r number (answer.Already last) = custody_message r last
+take_reply r number (answer.Refused (Gap expected)) = if expected == 0 then None else custody_message r (expected - 1)
+take_reply r number (answer.Refused refusal) = if is_told refusal then refusal_message r number refusal else None
+take_reply r number answer.Other = None
 
 -- an answer ends the wait for it, and changes nothing while nothing waits
-abbrev pub answered : Receiver → Option ℕ → TakeAnswer → Received
-answered r None any = (r, None)
-answered r (Some number) any = (record r { pending = None }, told r number any)
+abbrev pub after_answer : Receiver → Option ℕ → TakeAnswer → ReceivingResult
+after_answer r None any = (r, None)
+after_answer r (Some number) any = (record r { pending = None }, take_reply r number any)
 
 -- each event, row by row: the first row that fits decides
-abbrev pub received : Receiver → InEvent (List ℕ) → Received
-received r (Heard (message.Data from to number payload)) =
-    if (from.0 == r.peer.0) && (to.0 == r.own.0) && is_none r.pending then (record r { pending = Some number }, Some (Take number payload)) else (r, None)
-received r (Heard (message.Custody from to last)) = (r, None)
-received r (Heard (message.Refused from to number refusal)) = (r, None)
-received r (Answered any) = answered r r.pending any
-received r Lost = (record r { pending = None }, None)
+abbrev pub receiving_step : Receiver → InEvent (List ℕ) → ReceivingResult
+receiving_step r (Heard (message.Data from to number payload)) =
+    if (from.0 == r.peer.0) && (to.0 == r.own.0) && is_none r.pending
+    then (record r { pending = Some number }, Some (Take number payload)) else (r, None)
+receiving_step r (Heard (message.Custody from to last)) = (r, None)
+receiving_step r (Heard (message.Refused from to number refusal)) = (r, None)
+receiving_step r (Answered any) = after_answer r r.pending any
+receiving_step r Lost = (record r { pending = None }, None)
 
 -- the core at first
 abbrev pub receiver : StationId → StationId → Receiver

@@ -8,17 +8,17 @@ use Rattle.rly_hop.specs.declared.receiving.event.InEvent.TheVariants.{Heard, An
 use Rattle.rly_hop.specs.declared.receiving.event.InAction.{InAction}
 use Rattle.rly_hop.specs.declared.receiving.event.InAction.TheVariants.{Take, Send}
 use Rattle.rly_hop.specs.Receiver.{Receiver}
-use Rattle.rly_hop.specs.Receiving.{received, receiver}
+use Rattle.rly_hop.specs.Receiving.{receiving_step, receiver}
 
 -- the state after these events, one after the other
 abbrev pub receiver_after : Receiver → List (InEvent (List ℕ)) → Receiver
 receiver_after r [] = r
-receiver_after r (event ∷ events) = receiver_after (received r event).0 events
+receiver_after r (event ∷ events) = receiver_after (receiving_step r event).0 events
 
 -- what was named on each of these events: at most one action
 abbrev pub in_actions : Receiver → List (InEvent (List ℕ)) → List (Option (InAction (List ℕ)))
 in_actions r [] = []
-in_actions r (event ∷ events) = (received r event).1 ∷ in_actions (received r event).0 events
+in_actions r (event ∷ events) = (receiving_step r event).1 ∷ in_actions (receiving_step r event).0 events
 
 -- the number of the last Take among the actions, or else of one before them
 abbrev pub last_take : Option ℕ → List (Option (InAction (List ℕ))) → Option ℕ
@@ -45,5 +45,6 @@ IsCustodyDue taken (Heard message) n = ⊥
 IsCustodyDue taken Lost n = ⊥
 
 -- what a core of these stations names on an event that comes after others
-abbrev pub in_action_after : StationId → StationId → List (InEvent (List ℕ)) → InEvent (List ℕ) → Option (InAction (List ℕ))
-in_action_after own peer before event = (received (receiver_after (receiver own peer) before) event).1
+abbrev pub in_action_after : StationId → StationId → List (InEvent (List ℕ)) → InEvent (List ℕ)
+    → Option (InAction (List ℕ))
+in_action_after own peer before event = (receiving_step (receiver_after (receiver own peer) before) event).1

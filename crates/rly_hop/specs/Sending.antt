@@ -1,5 +1,6 @@
 -- The sending end of custody: what each event leaves, row by row (docs/PROTOCOL.md, "The sending core").
-use Rattle.std.specs.Prelude.{ℕ, ◌+◌, ◌-◌, ◌^◌, Bool, true, false, ◌&&◌, not, ◌==◌, nat_lt, nat_le, if◌then◌else◌, max, Option, Some, None, is_some, List, [], ◌∷◌}
+use Rattle.std.specs.Prelude.{ℕ, ◌+◌, ◌-◌, ◌^◌, Bool, true, false, ◌&&◌, not, ◌==◌, nat_lt, nat_le, if◌then◌else◌}
+use Rattle.std.specs.Prelude.{max, Option, Some, None, is_some, List, [], ◌∷◌}
 use Rattle.std.specs.Option.{option_map, option_map_or}
 use Rattle.std.specs.List.{list_any}
 use Rattle.rly_core.specs.Refusals.{number_of}
@@ -7,15 +8,16 @@ use Rattle.rly_core.specs.declared.refusal.Refusal.{Refusal}
 use Rattle.rly_hop.specs.declared.message.StationId.{StationId}
 use Rattle.rly_hop.specs.declared.message.Message.TheVariants as message
 use Rattle.rly_hop.specs.declared.sending.event.OutEvent.{OutEvent}
-use Rattle.rly_hop.specs.declared.sending.event.OutEvent.TheVariants.{Turn, WindowIs, Picked, Nothing, Fetched, Released, Unchanged, Refused, Other, Heard, Timeout}
+use Rattle.rly_hop.specs.declared.sending.event.OutEvent.TheVariants.{Turn, WindowIs, Picked, Nothing, Fetched, Timeout}
+use Rattle.rly_hop.specs.declared.sending.event.OutEvent.TheVariants.{Released, Unchanged, Refused, Other, Heard}
 use Rattle.rly_hop.specs.declared.sending.event.OutAction.{OutAction}
 use Rattle.rly_hop.specs.declared.sending.event.OutAction.TheVariants.{AskWindow, Release, Fetch, Pick, Send}
 use Rattle.rly_hop.specs.Rows.{first_row}
 use Rattle.rly_hop.specs.Sender.{Sender}
 
 -- what one event leaves: the state, and the action that is named, if one is
-abbrev pub Sent : Type 0
-Sent = Sender × Option (OutAction (List ℕ))
+abbrev pub SendingResult : Type 0
+SendingResult = Sender × Option (OutAction (List ℕ))
 
 -- what a turn names, row by row: the first row that fits decides
 abbrev pub turn : Sender → Bool → Option (OutAction (List ℕ))
@@ -28,13 +30,13 @@ turn s is_open = first_row (
     ∷ []) None
 
 -- a release was answered: the flight begins behind the acknowledged number
-abbrev pub moved : Sender → Option ℕ → Sender
-moved s None = s
-moved s (Some a) = record s { first = a + 1; cursor = max s.cursor (a + 1); acked = None }
+abbrev pub after_release : Sender → Option ℕ → Sender
+after_release s None = s
+after_release s (Some a) = record s { first = a + 1; cursor = max s.cursor (a + 1); acked = None }
 
 -- the hop's station has all numbers up to last
-abbrev pub acknowledged : Sender → StationId → StationId → ℕ → Sender
-acknowledged s from to last =
+abbrev pub after_custody : Sender → StationId → StationId → ℕ → Sender
+after_custody s from to last =
     if (from.0 == s.hop.0) && (to.0 == s.own.0) && s.ready && nat_le s.first last && nat_lt last s.next
     then record s { acked = Some (option_map_or (λ a. max a last) s.acked last) } else s
 
@@ -43,25 +45,37 @@ abbrev pub is_unsure : Refusal → Bool
 is_unsure refusal = list_any (λ unsure. number_of refusal == unsure) (9 ∷ 10 ∷ 11 ∷ 12 ∷ 31 ∷ [])
 
 -- each event, row by row: the first row that fits decides
-abbrev pub sent : Sender → OutEvent (List ℕ) → Sent
-sent s (Turn is_open) = (s, turn s is_open)
-sent s (WindowIs first next) =
-    (if nat_le first next then record s { ready = true; first = first; next = next; cursor = first; acked = None } else s, None)
-sent s (Picked number) =
+abbrev pub sending_step : Sender → OutEvent (List ℕ) → SendingResult
+sending_step s (Turn is_open) = (s, turn s is_open)
+sending_step s (WindowIs first next) = (
+  if nat_le first next
+      then record s { ready = true; first = first; next = next; cursor = first; acked = None } else s,
+  None,
+)
+sending_step s (Picked number) =
     (if s.ready && (number == s.next) && nat_lt number (2 ^ 64 - 1) then record s { next = number + 1 } else s, None)
-sent s (Fetched number payload) =
+sending_step s (Fetched number payload) =
     if s.ready && (number == s.cursor) && nat_lt s.cursor s.next
     then (record s { cursor = number + 1 }, Some (Send (message.Data s.own s.hop number payload))) else (s, None)
-sent s Released = (moved s s.acked, None)
-sent s Unchanged = (moved s s.acked, None)
-sent s (Heard (message.Custody from to last)) = (acknowledged s from to last, None)
-sent s (Heard (message.Data from to number payload)) = (s, None)
-sent s (Heard (message.Refused from to number refusal)) = (s, None)
-sent s Timeout = (record s { cursor = s.first }, None)
-sent s (Refused refusal) = (if is_unsure refusal then record s { ready = false } else s, None)
-sent s Nothing = (s, None)
-sent s Other = (s, None)
+sending_step s Released = (after_release s s.acked, None)
+sending_step s Unchanged = (after_release s s.acked, None)
+sending_step s (Heard (message.Custody from to last)) = (after_custody s from to last, None)
+sending_step s (Heard (message.Data from to number payload)) = (s, None)
+sending_step s (Heard (message.Refused from to number refusal)) = (s, None)
+sending_step s Timeout = (record s { cursor = s.first }, None)
+sending_step s (Refused refusal) = (if is_unsure refusal then record s { ready = false } else s, None)
+sending_step s Nothing = (s, None)
+sending_step s Other = (s, None)
 
 -- the core at first
 abbrev pub sender : StationId → StationId → ℕ → Sender
-sender own hop window = record { own = own; hop = hop; window = window; ready = false; first = 1; next = 1; cursor = 1; acked = None }
+sender own hop window = record {
+  own = own;
+  hop = hop;
+  window = window;
+  ready = false;
+  first = 1;
+  next = 1;
+  cursor = 1;
+  acked = None;
+}

@@ -3,15 +3,16 @@ use Rattle.std.specs.Prelude.{◌≡◌, ◌⊎◌, ℕ, ◌≤◌, ◌<◌, tru
 use Rattle.rly_hop.specs.declared.message.StationId.{StationId}
 use Rattle.rly_hop.specs.declared.message.Message.TheVariants.{Custody}
 use Rattle.rly_hop.specs.declared.sending.event.OutEvent.{OutEvent}
-use Rattle.rly_hop.specs.declared.sending.event.OutEvent.TheVariants.{Turn, WindowIs, Picked, Nothing, Fetched, Released, Unchanged, Refused, Other, Heard, Timeout}
+use Rattle.rly_hop.specs.declared.sending.event.OutEvent.TheVariants.{Turn, WindowIs, Picked, Nothing, Fetched, Timeout}
+use Rattle.rly_hop.specs.declared.sending.event.OutEvent.TheVariants.{Released, Unchanged, Refused, Other, Heard}
 use Rattle.rly_hop.specs.declared.sending.event.OutAction.{OutAction}
 use Rattle.rly_hop.specs.Sender.{Sender}
-use Rattle.rly_hop.specs.Sending.{sender, sent}
+use Rattle.rly_hop.specs.Sending.{sender, sending_step}
 
 -- the state after these events, one after the other
 abbrev pub sender_after : Sender → List (OutEvent (List ℕ)) → Sender
 sender_after s [] = s
-sender_after s (event ∷ events) = sender_after (sent s event).0 events
+sender_after s (event ∷ events) = sender_after (sending_step s event).0 events
 
 -- the window is known, and this number is in the flight that it shows
 pub record IsInFlight (s : Sender) (n : ℕ) : Type 0 where
@@ -46,5 +47,6 @@ IsGiven [] n = ⊥
 IsGiven (event ∷ events) n = IsGivenBy event n ⊎ IsGiven events n
 
 -- what a core of these stations names on an event that comes after others
-abbrev pub out_action_after : StationId → StationId → ℕ → List (OutEvent (List ℕ)) → OutEvent (List ℕ) → Option (OutAction (List ℕ))
-out_action_after own hop window before event = (sent (sender_after (sender own hop window) before) event).1
+abbrev pub out_action_after : StationId → StationId → ℕ → List (OutEvent (List ℕ)) → OutEvent (List ℕ)
+    → Option (OutAction (List ℕ))
+out_action_after own hop window before event = (sending_step (sender_after (sender own hop window) before) event).1

@@ -1,5 +1,6 @@
 -- The spelling of a message: the bytes of its one datagram (docs/PROTOCOL.md, "Messages").
-use Rattle.std.specs.Prelude.{ℕ, ◌^◌, ◌<◌, ◌≤◌, Bool, ◌||◌, ◌==◌, nat_lt, Option, Some, None, List, [], ◌∷◌, ◌++◌, length}
+use Rattle.std.specs.Prelude.{ℕ, ◌^◌, ◌<◌, ◌≤◌, Bool, ◌||◌, ◌==◌, nat_lt}
+use Rattle.std.specs.Prelude.{Option, Some, None, List, [], ◌∷◌, ◌++◌, length}
 use Rattle.byteorder.specs.Endian.{big_bytes}
 use Rattle.rly_core.specs.Bounds.{IsIn}
 use Rattle.rly_core.specs.declared.refusal.Refusal.{Refusal}
@@ -15,7 +16,8 @@ header kind from to = 0x52 ∷ 0x4c ∷ 1 ∷ kind ∷ big_bytes 2 from.0 ++ big
 
 -- the bytes of a message
 unfoldable pub spelling : Message (List ℕ) → List ℕ
-spelling (Data from to number payload) = header 1 from to ++ big_bytes 8 number ++ big_bytes 2 (length payload) ++ payload
+spelling (Data from to number payload) =
+    header 1 from to ++ big_bytes 8 number ++ big_bytes 2 (length payload) ++ payload
 spelling (Custody from to last) = header 2 from to ++ big_bytes 8 last
 spelling (Refused from to number told) = header 3 from to ++ big_bytes 8 number ++ told ∷ []
 
@@ -36,6 +38,9 @@ lacks_station from to = (from.0 == 0) || (to.0 == 0)
 -- why a message has no spelling that can be read, if it has none
 abbrev pub unwritable : Message (List ℕ) → Option Refusal
 unwritable (Data from to number payload) =
-    first_row ((lacks_station from to, Some refusal.Station) ∷ (nat_lt 1200 (length payload), Some refusal.Long) ∷ []) None
+    first_row (
+    (lacks_station from to, Some refusal.Station)
+    ∷ (nat_lt 1200 (length payload), Some refusal.Long)
+    ∷ []) None
 unwritable (Custody from to last) = first_row ((lacks_station from to, Some refusal.Station) ∷ []) None
 unwritable (Refused from to number told) = first_row ((lacks_station from to, Some refusal.Station) ∷ []) None

@@ -1,5 +1,5 @@
 ghost use Rattle.std.specs.Prelude.{◌≡◌, ◌==◌, ◌||◌, false, IfNone, IfSome};
-ghost use Rattle.rly_hop.specs.Kinds.{kind_byte};
+ghost use Rattle.rly_hop.specs.HelpersKinds.{message_kind_byte};
 ghost use Rattle.rly_hop.specs.Reading.{fixed_length};
 
 /// The kinds of message.
@@ -13,7 +13,7 @@ pub(crate) enum Kind {
 impl Kind {
     /// The kind that the byte says, if it says one.
     pub(crate) fn from_byte(byte: u8) -> Option<Kind>
-        ensures known { IfSome result (λ kind. byte ≡ kind_byte kind) }
+        ensures known { IfSome result (λ kind. byte ≡ message_kind_byte kind) }
         ensures unknown { IfNone result (((byte == 1) || (byte == 2) || (byte == 3)) ≡ false) }
     {
         match byte {
@@ -26,14 +26,14 @@ impl Kind {
 
     /// The byte that says it.
     pub(crate) fn byte(self) -> u8
-        ensures { result ≡ kind_byte self }
+        ensures { result ≡ message_kind_byte self }
     {
         self as u8
     }
 
     /// The length in bytes of a message of this kind, without a payload.
     pub(crate) fn fixed_length(self) -> usize
-        ensures { result ≡ fixed_length (kind_byte self) }
+        ensures { result ≡ fixed_length (message_kind_byte self) }
     {
         match self {
             Kind::Data => 18,

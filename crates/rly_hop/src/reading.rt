@@ -3,7 +3,7 @@ ghost use Rattle.rly_hop.specs.declared.message.Message.{Message};
 ghost use Rattle.rly_hop.specs.Spelling.{IsMessage, spelling};
 ghost use Rattle.std.specs.Result.{result_err};
 ghost use Rattle.rly_hop.specs.Payloads.{message_bytes};
-ghost use Rattle.rly_hop.specs.Kinds.{kind_byte};
+ghost use Rattle.rly_hop.specs.HelpersKinds.{message_kind_byte};
 ghost use Rattle.rly_hop.specs.Rows.{first_row};
 ghost use Rattle.rly_hop.specs.Reading.{first_fault, kind_of, header_faults, length_faults, reading, station_at, whole_length};
 
@@ -25,7 +25,7 @@ struct Header {
 /// The header, where its eight bytes are without fault.
 fn read_header(bytes: &[u8]) -> Result<Header, Refusal>
     ensures fault { result_err result ≡ first_row (header_faults bytes.now) None }
-    ensures kind { IfOk result (λ h. kind_of bytes.now ≡ kind_byte h.kind) }
+    ensures kind { IfOk result (λ h. kind_of bytes.now ≡ message_kind_byte h.kind) }
     ensures from { IfOk result (λ h. h.from ≡ station_at 4 bytes.now) }
     ensures to { IfOk result (λ h. h.to ≡ station_at 6 bytes.now) }
     ensures length { IfOk result (λ h. 8 ≤ length bytes.now) }
@@ -65,9 +65,9 @@ fn check_length(found: usize, whole: usize) -> Result<(), Refusal>
 
 /// How many bytes the message has, header and payload included, where it says so without fault.
 fn read_length(kind: Kind, bytes: &[u8]) -> Result<usize, Refusal>
-    requires { kind_of bytes.now ≡ kind_byte kind }
+    requires { kind_of bytes.now ≡ message_kind_byte kind }
     ensures fault { result_err result ≡ first_row (length_faults bytes.now) None }
-    ensures whole { IfOk result (λ whole. whole ≡ whole_length (kind_byte kind) bytes.now) }
+    ensures whole { IfOk result (λ whole. whole ≡ whole_length (message_kind_byte kind) bytes.now) }
 {
     let fixed = kind.fixed_length();
     if bytes.len() < fixed {

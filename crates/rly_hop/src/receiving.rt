@@ -1,7 +1,7 @@
 ghost use Rattle.std.specs.Prelude.{◌≡◌, List, ℕ};
 ghost use Rattle.std.specs.Option.{option_map};
 ghost use Rattle.rly_hop.specs.Payloads.{in_action_bytes, in_event_bytes, message_bytes};
-ghost use Rattle.rly_hop.specs.Receiving.{is_told, received, receiver, told};
+ghost use Rattle.rly_hop.specs.Receiving.{is_told, receiver, receiving_step, take_reply};
 
 mod event;
 
@@ -41,8 +41,8 @@ impl Receiving {
 
     /// What one event leaves, and the one action that it names, if it names one.
     pub fn step<'a>(&mut self, event: InEvent<&'a [u8]>) -> Option<InAction<&'a [u8]>>
-        ensures state { self.new ≡ (received self.old (in_event_bytes event.entry)).0 }
-        ensures action { option_map in_action_bytes result ≡ (received self.old (in_event_bytes event.entry)).1 }
+        ensures state { self.new ≡ (receiving_step self.old (in_event_bytes event.entry)).0 }
+        ensures action { option_map in_action_bytes result ≡ (receiving_step self.old (in_event_bytes event.entry)).1 }
     {
         match event {
             InEvent::Heard(
@@ -71,7 +71,7 @@ impl Receiving {
 
     /// What the peer station is told once the Take of this number was answered, if it is told anything.
     fn reply<'a>(&self, number: u64, answer: TakeAnswer) -> Option<Message<&'a [u8]>>
-        ensures { option_map (λ m. InAction.Send (message_bytes m)) result ≡ told self.now number answer }
+        ensures { option_map (λ m. InAction.Send (message_bytes m)) result ≡ take_reply self.now number answer }
     {
         match answer {
             TakeAnswer::Taken => Some(self.custody(number)),

@@ -1,7 +1,7 @@
 ghost use Rattle.std.specs.Prelude.{◌≡◌, List, ℕ};
 ghost use Rattle.std.specs.Option.{option_map};
 ghost use Rattle.rly_hop.specs.Payloads.{out_action_bytes, out_event_bytes};
-ghost use Rattle.rly_hop.specs.Sending.{acknowledged, is_unsure, moved, sender, sent, turn};
+ghost use Rattle.rly_hop.specs.Sending.{after_custody, after_release, is_unsure, sender, sending_step, turn};
 
 mod event;
 
@@ -54,8 +54,8 @@ impl Sending {
 
     /// What one event leaves, and the one action that it names, if it names one.
     pub fn step<'a>(&mut self, event: OutEvent<&'a [u8]>) -> Option<OutAction<&'a [u8]>>
-        ensures state { self.new ≡ (sent self.old (out_event_bytes event.entry)).0 }
-        ensures action { option_map out_action_bytes result ≡ (sent self.old (out_event_bytes event.entry)).1 }
+        ensures state { self.new ≡ (sending_step self.old (out_event_bytes event.entry)).0 }
+        ensures action { option_map out_action_bytes result ≡ (sending_step self.old (out_event_bytes event.entry)).1 }
     {
         match event {
             OutEvent::Turn { is_open } => return self.turn(is_open),
@@ -97,7 +97,7 @@ impl Sending {
 
     /// The window was answered.
     fn set_window(&mut self, first: u64, next: u64)
-        ensures { self.new ≡ (sent self.old (OutEvent.WindowIs first next)).0 }
+        ensures { self.new ≡ (sending_step self.old (OutEvent.WindowIs first next)).0 }
     {
         if first <= next {
             self.ready = true;
@@ -110,7 +110,7 @@ impl Sending {
 
     /// A datagram was picked.
     fn picked(&mut self, number: u64)
-        ensures { self.new ≡ (sent self.old (OutEvent.Picked number)).0 }
+        ensures { self.new ≡ (sending_step self.old (OutEvent.Picked number)).0 }
     {
         if self.ready && number == self.next && number < u64::MAX {
             self.next = number + 1;
@@ -119,8 +119,8 @@ impl Sending {
 
     /// A payload was fetched: the message that sends it, where it is the one that the cursor stands at.
     fn fetched<'a>(&mut self, number: u64, payload: &'a [u8]) -> Option<OutAction<&'a [u8]>>
-        ensures state { self.new ≡ (sent self.old (OutEvent.Fetched number payload.now)).0 }
-        ensures action { option_map out_action_bytes result ≡ (sent self.old (OutEvent.Fetched number payload.now)).1 }
+        ensures state { self.new ≡ (sending_step self.old (OutEvent.Fetched number payload.now)).0 }
+        ensures action { option_map out_action_bytes result ≡ (sending_step self.old (OutEvent.Fetched number payload.now)).1 }
     {
         if !self.ready || number != self.cursor || self.cursor >= self.next {
             return None;
@@ -136,7 +136,7 @@ impl Sending {
 
     /// A release was answered: what was acknowledged is no longer in flight.
     fn released(&mut self)
-        ensures { self.new ≡ moved self.old self.old.acked }
+        ensures { self.new ≡ after_release self.old self.old.acked }
     {
         if let Some(number) = self.acked.take() {
             self.first = number + 1;
@@ -146,7 +146,7 @@ impl Sending {
 
     /// The hop's station says that it keeps all numbers up to `last`.
     fn acknowledged(&mut self, from: StationId, to: StationId, last: u64)
-        ensures { self.new ≡ acknowledged self.old from to last }
+        ensures { self.new ≡ after_custody self.old from to last }
     {
         if from == self.hop
             && to == self.own

@@ -3,7 +3,7 @@ ghost use Rattle.std.specs.Result.{result_err};
 ghost use Rattle.byteorder.specs.Endian.{big_bytes};
 ghost use Rattle.rly_hop.specs.Payloads.{message_bytes};
 ghost use Rattle.rly_hop.specs.Spelling.{IsMessage, IsStation, header, lacks_station, spelling, unwritable};
-ghost use Rattle.rly_hop.specs.Kinds.{kind_byte};
+ghost use Rattle.rly_hop.specs.HelpersKinds.{message_kind_byte};
 ghost use Rattle.rly_hop.specs.Rows.{first_row};
 
 use crate::kind::Kind;
@@ -71,7 +71,7 @@ fn check_stations(from: StationId, to: StationId) -> Result<(), Refusal>
 /// Writes what is common to all kinds: the header, and the number behind it.
 fn write_front(out: &mut [u8], kind: Kind, from: StationId, to: StationId, number: u64)
     requires { 16 ≤ length out.old }
-    ensures { out.new ≡ header (kind_byte kind) from to ++ big_bytes 8 number ++ drop 16 out.old }
+    ensures { out.new ≡ header (message_kind_byte kind) from to ++ big_bytes 8 number ++ drop 16 out.old }
 {
     BigEndian::write_u16(out, MAGIC);
     out[place::VERSION] = VERSION;

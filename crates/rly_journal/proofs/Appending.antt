@@ -18,9 +18,10 @@ use Rattle.rly_segment.specs.Device.{IsGeometry}
 use Rattle.rly_segment.specs.Heads.{segment_end, segment_place}
 use Rattle.rly_segment.proofs.Segments.{segment_within}
 use Rattle.rly_journal.specs.declared.tail.Tail.{Tail}
-use Rattle.rly_journal.specs.Groups.{Gathers, GroupState, group_body}
-use Rattle.rly_journal.specs.Log.{IsDurable, IsFull, IsShaped, offset}
-use Rattle.rly_journal.specs.Standing.{Commands, Standing, Stands, end_of, first_of, gate_of, state_in}
+use Rattle.rly_journal.specs.HelpersGroups.{Gathers, GroupState, group_body}
+use Rattle.rly_journal.specs.Log.{IsDurable, IsFull, offset}
+use Rattle.rly_journal.specs.HelpersJournal.{IsShaped}
+use Rattle.rly_journal.specs.Standing.{Commands, Standing, Stands, standing_end, first_of, gate_of, state_in}
 use Rattle.rly_journal.proofs.Agreeing.{same_before}
 use Rattle.rly_journal.proofs.Frame.{gate_above}
 use Rattle.rly_journal.proofs.Gathering.{body_gathered}
@@ -62,8 +63,8 @@ append_leaves {a} {b} tail group commands s t durable gathers least most few roo
     let gate : tail.gate ≡ gate_of x = logged.ends.gate in
     let accepted = subst (λ r. AllAccepted length r commands) logged.state gathers.accepted in
     let count : length (group_body group) ≡ length (body_of commands) = ap length same in
-    let end : segment_end tail.geometry tail.segment ≡ end_of x = ap (λ g. segment_end g tail.segment) logged.ends.geometry ∙ ap (segment_end x.geometry) logged.ends.segment in
-    let within : gate_of x + 1 + length (frame_of (body_of commands)) ≤ end_of x = omega (arith, gate, room, count, end, length-frame (body_of commands)) in
+    let end : segment_end tail.geometry tail.segment ≡ standing_end x = ap (λ g. segment_end g tail.segment) logged.ends.geometry ∙ ap (segment_end x.geometry) logged.ends.segment in
+    let within : gate_of x + 1 + length (frame_of (body_of commands)) ≤ standing_end x = omega (arith, gate, room, count, end, length-frame (body_of commands)) in
     let closed : IsClosed a.seen tail.gate = subst (IsClosed a.seen) (sym gate) logged.stands.closed in
     weaker (IsAppended tail.gate (group_body group) a.seen) (λ image. Stands image s ⊎ Stands image t)
     (λ image left. elim (grown x commands logged.stands body accepted (omega (arith, count, few)) within image
@@ -102,8 +103,8 @@ append_durable {a} {b} tail group commands s t durable gathers least most few ro
     let gate : tail.gate ≡ gate_of x = logged.ends.gate in
     let accepted = subst (λ r. AllAccepted length r commands) logged.state gathers.accepted in
     let count : length (group_body group) ≡ length (body_of commands) = ap length same in
-    let end : segment_end tail.geometry tail.segment ≡ end_of x = ap (λ h. segment_end h tail.segment) logged.ends.geometry ∙ ap (segment_end x.geometry) logged.ends.segment in
-    let within : gate_of x + 1 + length (frame_of (body_of commands)) ≤ end_of x = omega (arith, gate, room, count, end, length-frame (body_of commands)) in
+    let end : segment_end tail.geometry tail.segment ≡ standing_end x = ap (λ h. segment_end h tail.segment) logged.ends.geometry ∙ ap (segment_end x.geometry) logged.ends.segment in
+    let within : gate_of x + 1 + length (frame_of (body_of commands)) ≤ standing_end x = omega (arith, gate, room, count, end, length-frame (body_of commands)) in
     let fits : IsGeometry tail.geometry (length a.seen) = subst (λ h. IsGeometry h (length a.seen)) (sym logged.ends.geometry) logged.stands.scanned.fits in
     let below : tail.segment < tail.geometry.segments = subst (λ k. k < tail.geometry.segments) (sym logged.ends.segment)
     (subst (λ h. x.segment < h.segments) (sym logged.ends.geometry) logged.stands.scanned.newest.there) in

@@ -20,7 +20,8 @@ use Rattle.rly_segment.specs.Heads.{head_of as head_of_state}
 use Rattle.rly_segment.proofs.Segments.{segment_within}
 use Rattle.rly_segment.proofs.Standing.{stands_front}
 use Rattle.rly_journal.specs.declared.tail.Tail.{Tail}
-use Rattle.rly_journal.specs.Log.{EndsAt, IsDurable, IsFull, IsLogged, IsShaped}
+use Rattle.rly_journal.specs.Log.{EndsAt, IsDurable, IsFull, IsLogged}
+use Rattle.rly_journal.specs.HelpersJournal.{IsShaped}
 use Rattle.rly_journal.specs.Standing.{Standing, Stands, state_in}
 use Rattle.rly_journal.proofs.Frame.{length-head}
 use Rattle.rly_journal.proofs.Growing.{byte_there, opened, other_bytes, renewed, with_segment}

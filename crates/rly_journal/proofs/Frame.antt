@@ -7,7 +7,7 @@ use Rattle.rly_record.specs.Spelling.{body_of}
 use Rattle.rly_checkpoint.specs.Checkpoint.{checkpoint_of}
 use Rattle.rly_segment.specs.Device.{IsDevice, IsGeometry, device_mark, geometry_in}
 use Rattle.rly_segment.specs.Heads.{HoldsHead, IsNewest, IsPassedOver, generation_in, head_of, segment_place}
-use Rattle.rly_journal.specs.Standing.{Commands, HoldGroups, IsScanned, IsStanding, Standing, behind, end_of, first_of, gate_behind, gate_of}
+use Rattle.rly_journal.specs.Standing.{Commands, HoldGroups, IsScanned, IsStanding, Standing, next_gate, standing_end, first_of, gate_behind, gate_of}
 use Rattle.rly_journal.proofs.Agreeing.{SameBytes, number_still, stands_still}
 
 -- all that the standing reads before the first closed gate is as it was
@@ -19,7 +19,7 @@ pub record SameReads (x : Standing) (old new : List ℕ) : Type 0 where
 -- the gate behind groups lies behind the first one
 pub gate_above : (at : ℕ) (groups : List Commands) → at ≤ gate_behind at groups
 gate_above at [] = omega arith
-gate_above at (commands ∷ groups) = omega (arith, gate_above (behind at commands) groups)
+gate_above at (commands ∷ groups) = omega (arith, gate_above (next_gate at commands) groups)
 
 -- how long a head is behind its gate
 pub length-head : (generation : ℕ) (s : State (List ℕ)) → length (head_of generation s) ≡ 12 + length (checkpoint_of s)
@@ -75,7 +75,7 @@ pub groups_still : {old new : List ℕ} (end from at : ℕ) (groups : List Comma
 groups_still end from at [] low same holds = tt
 groups_still end from at (commands ∷ groups) low same holds =
     let body : List ℕ = body_of commands in
-    let above = gate_above (behind at commands) groups in
+    let above = gate_above (next_gate at commands) groups in
     let group = holds.1 in (
       holds.0,
       record {
@@ -83,7 +83,7 @@ groups_still end from at (commands ∷ groups) low same holds =
         fits = group.fits;
         room = group.room;
       },
-      groups_still end from (behind at commands) groups (omega (arith, low)) same holds.2,
+      groups_still end from (next_gate at commands) groups (omega (arith, low)) same holds.2,
     )
 
 -- the frame law: what was scanned, and then what stands
@@ -94,7 +94,7 @@ frame_scanned {old} {new} x same scanned = record {
   fits = subst (IsGeometry x.geometry) (sym same.header.same_length) scanned.fits;
   newest = newest_still x same scanned.newest;
   head = head_still x same.own scanned.head;
-  groups = groups_still (end_of x) (segment_place x.geometry x.segment) (first_of x) x.groups (omega arith) same.own scanned.groups;
+  groups = groups_still (standing_end x) (segment_place x.geometry x.segment) (first_of x) x.groups (omega arith) same.own scanned.groups;
   accepted = scanned.accepted;
 }
 

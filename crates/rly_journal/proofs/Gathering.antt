@@ -15,7 +15,7 @@ use Rattle.rly_machine.specs.Step.{step}
 use Rattle.rly_machine.proofs.Folding.{accepted_push, fold_push}
 use Rattle.rly_record.specs.Spelling.{HasRecord, IsShort, body_of, record_length, record_of}
 use Rattle.rly_record.proofs.Records.{length-record_of}
-use Rattle.rly_journal.specs.Groups.{Gathers, GroupState, IsTaken, empty_group, group_body}
+use Rattle.rly_journal.specs.HelpersGroups.{Gathers, GroupState, IsTaken, empty_group, group_body}
 use Rattle.rly_journal.specs.Standing.{Commands}
 
 -- one more element of which the same holds
@@ -102,8 +102,8 @@ keep_is kept count size frame front within is_size =
     ∙ ap (λ l. group_of (drop 6 (take kept frame) ++ drop kept frame) (count + 1) l) none
 
 -- the body of a frame that was completed is the group's
-pub body_is : (kept count : ℕ) (frame new : List ℕ) → kept ≤ length frame → drop kept frame ≡ [] → gate.body_of new ≡ big_bytes 2 count ++ drop 6 frame
-    → gate.body_of new ≡ group_body (in_frame kept count frame)
+pub body_is : (kept count : ℕ) (frame new : List ℕ) → kept ≤ length frame → drop kept frame ≡ [] → gate.body_in new ≡ big_bytes 2 count ++ drop 6 frame
+    → gate.body_in new ≡ group_body (in_frame kept count frame)
 body_is kept count frame new within none completed =
     let whole : take kept frame ≡ frame = take_all kept frame (omega (arith, all_kept kept frame within none)) in
     completed ∙ ap (λ l. big_bytes 2 count ++ drop 6 l) (sym whole)

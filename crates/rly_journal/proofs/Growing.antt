@@ -18,7 +18,7 @@ use Rattle.rly_segment.specs.Device.{IsGeometry, number_in}
 use Rattle.rly_segment.specs.Formatted.{IsFormatted}
 use Rattle.rly_segment.specs.Heads.{IsHead, IsOpening, IsPassedOver, first_gate, generation_in, head_of, opened_head, segment_end, segment_place}
 use Rattle.rly_segment.proofs.Standing.{stands_back, stands_front}
-use Rattle.rly_journal.specs.Standing.{AreAccepted, Commands, HoldGroups, IsScanned, IsStanding, Standing, behind, end_of, first_of, gate_behind, gate_of, replayed, state_in}
+use Rattle.rly_journal.specs.Standing.{AreAccepted, Commands, HoldGroups, IsScanned, IsStanding, Standing, next_gate, standing_end, first_of, gate_behind, gate_of, replayed, state_in}
 use Rattle.rly_journal.proofs.Agreeing.{SameBytes, apart, number_of_bytes, number_still, same_before, same_behind}
 use Rattle.rly_journal.proofs.Frame.{SameReads, device_still, frame, frame_scanned, gate_above, geometry_still, length-group, length-head}
 
@@ -33,9 +33,9 @@ closed_there image place stands opened = let e : 0 ≡ open_gate = sym (byte_the
 
 -- ---- one group more
 
-pub gate_behind-more : (at : ℕ) (groups : List Commands) (commands : Commands) → gate_behind at (groups ++ commands ∷ []) ≡ behind (gate_behind at groups) commands
+pub gate_behind-more : (at : ℕ) (groups : List Commands) (commands : Commands) → gate_behind at (groups ++ commands ∷ []) ≡ next_gate (gate_behind at groups) commands
 gate_behind-more at [] commands = refl
-gate_behind-more at (first ∷ groups) commands = gate_behind-more (behind at first) groups commands
+gate_behind-more at (first ∷ groups) commands = gate_behind-more (next_gate at first) groups commands
 
 pub replayed-more : (s : State (List ℕ)) (groups : List Commands) (commands : Commands) → replayed s (groups ++ commands ∷ []) ≡ fold length (replayed s groups) commands
 replayed-more s [] commands = refl
@@ -48,7 +48,7 @@ accepted-more s (first ∷ groups) commands before last = (before.0, accepted-mo
 pub groups-more : (image : List ℕ) (end at : ℕ) (groups : List Commands) (commands : Commands) → HoldGroups image end at groups
     → HaveBody commands → HoldsGroup image (gate_behind at groups) end (body_of commands) → HoldGroups image end at (groups ++ commands ∷ [])
 groups-more image end at [] commands before body group = (body, group, tt)
-groups-more image end at (first ∷ groups) commands before body group = (before.0, before.1, groups-more image end (behind at first) groups commands before.2 body group)
+groups-more image end at (first ∷ groups) commands before body group = (before.0, before.1, groups-more image end (next_gate at first) groups commands before.2 body group)
 
 -- the standing with one group more
 abbrev pub with_group : Standing → Commands → Standing
@@ -74,7 +74,7 @@ other_heads g s t long other same opened =
     ]
 
 -- what a range within the segment, from the first closed gate on, leaves of what is read
-reads_before : {old new : List ℕ} (x : Standing) (n : ℕ) → IsScanned old x → gate_of x + n ≤ end_of x → SameOutside (gate_of x) n old new → SameReads x old new
+reads_before : {old new : List ℕ} (x : Standing) (n : ℕ) → IsScanned old x → gate_of x + n ≤ standing_end x → SameOutside (gate_of x) n old new → SameReads x old new
 reads_before {old} {new} x n scanned within same =
     let above = gate_above (first_of x) x.groups in
     let own : SameOutside (segment_place x.geometry x.segment) x.geometry.length old new = wider (segment_place x.geometry x.segment) x.geometry.length (gate_of x) n (omega (arith, above)) (omega (arith, within)) same in
@@ -86,7 +86,7 @@ reads_before {old} {new} x n scanned within same =
 
 -- a whole group behind the first closed gate
 pub appended : {old new : List ℕ} (x : Standing) (commands : Commands) → IsStanding old x → HaveBody commands → AllAccepted length (state_in x) commands
-    → length (body_of commands) < 2 ^ 32 → gate_of x + 1 + length (frame_of (body_of commands)) ≤ end_of x
+    → length (body_of commands) < 2 ^ 32 → gate_of x + 1 + length (frame_of (body_of commands)) ≤ standing_end x
     → SameOutside (gate_of x) (length (group_of (body_of commands))) old new → StandsAt new (gate_of x) (group_of (body_of commands)) → IsStanding new (with_group x commands)
 appended {old} {new} x commands stands body accepted fits within outside group =
     let whole : List ℕ = open_gate ∷ (big_bytes 4 (length (body_of commands)) ++ body_of commands) in
@@ -94,7 +94,7 @@ appended {old} {new} x commands stands body accepted fits within outside group =
     let front : StandsAt new (gate_of x) (open_gate ∷ (big_bytes 4 (length (body_of commands)) ++ body_of commands)) = stands_front new (gate_of x) whole (0 ∷ []) group in
     let last : StandsAt new (gate_of x + length whole) (0 ∷ []) = stands_back new (gate_of x) whole (0 ∷ []) group in
     let place : gate_of x + length whole ≡ gate_of (with_group x commands) =
-    (let e : gate_of x + length whole ≡ behind (gate_of x) commands = omega (arith, length-group (body_of commands)) in e)
+    (let e : gate_of x + length whole ≡ next_gate (gate_of x) commands = omega (arith, length-group (body_of commands)) in e)
     ∙ sym (gate_behind-more (first_of x) x.groups commands) in
     let before : IsScanned new x = frame_scanned x reads stands.scanned in
     record {
@@ -104,7 +104,7 @@ appended {old} {new} x commands stands body accepted fits within outside group =
         fits = before.fits;
         newest = before.newest;
         head = before.head;
-        groups = groups-more new (end_of x) (first_of x) x.groups commands before.groups body (record { bytes = front; fits = fits; room = within });
+        groups = groups-more new (standing_end x) (first_of x) x.groups commands before.groups body (record { bytes = front; fits = fits; room = within });
         accepted = accepted-more x.checkpoint x.groups commands before.accepted accepted;
       };
       closed = closed_there new (gate_of (with_group x commands)) (subst (λ k. StandsAt new k (0 ∷ [])) place last);
@@ -112,7 +112,7 @@ appended {old} {new} x commands stands body accepted fits within outside group =
 
 -- what a crash within an append leaves: the standing as it was, or with the group
 pub grown : {old : List ℕ} (x : Standing) (commands : Commands) → IsStanding old x → HaveBody commands → AllAccepted length (state_in x) commands
-    → length (body_of commands) < 2 ^ 32 → gate_of x + 1 + length (frame_of (body_of commands)) ≤ end_of x
+    → length (body_of commands) < 2 ^ 32 → gate_of x + 1 + length (frame_of (body_of commands)) ≤ standing_end x
     → (image : List ℕ) → IsAppended (gate_of x) (body_of commands) old image → IsStanding image x ⊎ IsStanding image (with_group x commands)
 grown {old} x commands stands body accepted fits within image left =
     elim left.whole [
@@ -178,10 +178,10 @@ opened {old} {new} x t stands below other sound head small outside whole =
 pub gate_within : (image : List ℕ) (end at : ℕ) (groups : List Commands) → at < end → HoldGroups image end at groups → gate_behind at groups < end
 gate_within image end at [] below holds = below
 gate_within image end at (commands ∷ groups) below holds =
-    gate_within image end (behind at commands) groups (omega (arith, holds.1.room, length-frame (body_of commands))) holds.2
+    gate_within image end (next_gate at commands) groups (omega (arith, holds.1.room, length-frame (body_of commands))) holds.2
 
-pub gate_of-within : {image : List ℕ} (x : Standing) → IsScanned image x → gate_of x < end_of x
-gate_of-within {image} x scanned = gate_within image (end_of x) (first_of x) x.groups (omega (arith, scanned.head.head.room)) scanned.groups
+pub gate_of-within : {image : List ℕ} (x : Standing) → IsScanned image x → gate_of x < standing_end x
+gate_of-within {image} x scanned = gate_within image (standing_end x) (first_of x) x.groups (omega (arith, scanned.head.head.room)) scanned.groups
 
 -- the bytes of one segment lie outside another
 pub other_bytes : {old new : List ℕ} (g : Geometry) (s t : ℕ) → t ≢ s → SameOutside (segment_place g t) g.length old new → SameBytes (segment_place g s) (segment_end g s) old new

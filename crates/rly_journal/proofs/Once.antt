@@ -13,7 +13,7 @@ use Rattle.rly_record.specs.Spelling.{body_of}
 use Rattle.rly_record.proofs.Bodies.{body_once}
 use Rattle.rly_checkpoint.specs.Checkpoint.{checkpoint_of}
 use Rattle.rly_segment.specs.Heads.{HoldsHead, IsNewest, head_of, segment_place}
-use Rattle.rly_journal.specs.Standing.{Commands, HoldGroups, IsStanding, Standing, Stands, behind, end_of, first_of, gate_behind, state_in}
+use Rattle.rly_journal.specs.Standing.{Commands, HoldGroups, IsStanding, Standing, Stands, next_gate, standing_end, first_of, gate_behind, state_in}
 use Rattle.rly_segment.proofs.Standing.{stands_back, stands_front}
 use Rattle.rly_journal.proofs.Growing.{byte_there, generation_there}
 
@@ -85,9 +85,9 @@ groups_once image end at (commands ∷ groups) [] first closed_a second closed_b
 groups_once image end at (one ∷ groups) (other ∷ others) first closed_a second closed_b =
     let bodies : body_of one ≡ body_of other = body_there_once at end (body_of one) (body_of other) first.1 second.1 in
     let same : one ≡ other = (body_once one other [] [] first.0 second.0 (ap (λ l. l ++ []) bodies)).0 in
-    let moved : HoldGroups image end (behind at one) others = subst (λ c. HoldGroups image end (behind at c) others) (sym same) second.2 in
-    let ends : IsClosed image (gate_behind (behind at one) others) = subst (λ c. IsClosed image (gate_behind (behind at c) others)) (sym same) closed_b in
-    let rest : groups ≡ others = groups_once image end (behind at one) groups others first.2 closed_a moved ends in
+    let moved : HoldGroups image end (next_gate at one) others = subst (λ c. HoldGroups image end (next_gate at c) others) (sym same) second.2 in
+    let ends : IsClosed image (gate_behind (next_gate at one) others) = subst (λ c. IsClosed image (gate_behind (next_gate at c) others)) (sym same) closed_b in
+    let rest : groups ≡ others = groups_once image end (next_gate at one) groups others first.2 closed_a moved ends in
     ap (λ c. c ∷ groups) same ∙ ap (λ l. other ∷ l) rest
 
 -- generations have 64 bits
@@ -109,7 +109,7 @@ standing_once one_state {image} x y first second =
     let y3 : Standing = record y2 { generation = x.generation; checkpoint = x.checkpoint } in
     let to_y3 : y2 ≡ y3 = ap (λ n. record y2 { generation = n }) heads.0 ∙ ap (λ c. record y2 { generation = x.generation; checkpoint = c }) heads.1 in
     let second3 : IsStanding image y3 = subst (IsStanding image) to_y3 second2 in
-    let groups : y.groups ≡ x.groups = groups_once image (end_of x) (first_of x) y.groups x.groups second3.scanned.groups second3.closed first.scanned.groups first.closed in
+    let groups : y.groups ≡ x.groups = groups_once image (standing_end x) (first_of x) y.groups x.groups second3.scanned.groups second3.closed first.scanned.groups first.closed in
     sym (to_y1 ∙ to_y2 ∙ to_y3 ∙ ap (λ l. record y3 { groups = l }) groups)
 
 -- no image stands for two states

@@ -11,16 +11,18 @@ use Rattle.rly_machine.specs.Accepted.{is_accepted}
 use Rattle.rly_machine.specs.Fold.{AllAccepted, fold}
 use Rattle.rly_machine.specs.State.{State}
 use Rattle.rly_machine.specs.Step.{step}
-use Rattle.rly_machine.proofs.Folding.{accepted_parts, accepted_push, fold_push, params_fold, seq_fold, stays}
+use Rattle.rly_machine.proofs.Folding.{accepted_parts, accepted_push, fold_push, params_fold, seq_fold}
+use Rattle.rly_machine.proofs.RealReplies.{unaccepted}
 use Rattle.rly_record.specs.Spelling.{HaveBody, body_of}
 use Rattle.rly_segment.specs.Answers.{AreClosed, HoldsNoHead}
 use Rattle.rly_segment.specs.Device.{IsDevice, IsGeometry, geometry_in}
 use Rattle.rly_segment.specs.Heads.{HoldsHead, IsAmbiguous, IsNewest, first_gate, segment_end, segment_place}
-use Rattle.rly_journal.specs.declared.fault.OpenFault.TheVariants.{Damaged}
+use Rattle.rly_journal.specs.declared.open_fault.OpenFault.TheVariants.{Damaged}
 use Rattle.rly_journal.specs.declared.tail.Tail.{Tail}
 use Rattle.rly_journal.specs.Faults.{IsRefused}
-use Rattle.rly_journal.specs.Log.{EndsAt, IsReplayed, IsShaped}
-use Rattle.rly_journal.specs.Standing.{Commands, Standing, end_of, first_of, gate_of}
+use Rattle.rly_journal.specs.Log.{EndsAt}
+use Rattle.rly_journal.specs.HelpersJournal.{IsReplayed, IsShaped}
+use Rattle.rly_journal.specs.Standing.{Commands, Standing, standing_end, first_of, gate_of}
 use Rattle.rly_journal.proofs.Growing.{accepted-more, gate_behind-more, groups-more, replayed-more, with_group}
 use Rattle.rly_journal.proofs.Once.{body_there_once, gate_there}
 
@@ -68,7 +70,7 @@ redoing_left all rest command s t u so_far leaves state = record {
   done = so_far.done;
   all_of = so_far.all_of;
   accepted = so_far.accepted;
-  state = state ∙ stays length t command leaves ∙ so_far.state;
+  state = state ∙ unaccepted length t command leaves ∙ so_far.state;
 }
 
 pub redoing_params : (all rest : Commands) (s t : State (List ℕ)) → IsRedoing all rest s t → t.params ≡ s.params
@@ -93,14 +95,14 @@ with_gate tail gate = record tail { gate = gate }
 
 -- the group that stands at the end, told of the standing
 group_of_standing : {image : List ℕ} (tail : Tail) (x : Standing) (body : List ℕ) → EndsAt tail x
-    → HoldsGroup image tail.gate (segment_end tail.geometry tail.segment) body → HoldsGroup image (gate_of x) (end_of x) body
+    → HoldsGroup image tail.gate (segment_end tail.geometry tail.segment) body → HoldsGroup image (gate_of x) (standing_end x) body
 group_of_standing {image} tail x body ends holds =
-    subst (λ k. HoldsGroup image k (end_of x) body) ends.gate
+    subst (λ k. HoldsGroup image k (standing_end x) body) ends.gate
     (subst (λ n. HoldsGroup image tail.gate (segment_end x.geometry n) body) ends.segment
     (subst (λ g. HoldsGroup image tail.gate (segment_end g tail.segment) body) ends.geometry holds))
 
 group_of_tail : {image : List ℕ} (tail : Tail) (x : Standing) (body : List ℕ) → EndsAt tail x
-    → HoldsGroup image tail.gate (end_of x) body → HoldsGroup image tail.gate (segment_end tail.geometry tail.segment) body
+    → HoldsGroup image tail.gate (standing_end x) body → HoldsGroup image tail.gate (segment_end tail.geometry tail.segment) body
 group_of_tail {image} tail x body ends holds =
     subst (λ g. HoldsGroup image tail.gate (segment_end g tail.segment) body) (sym ends.geometry)
     (subst (λ n. HoldsGroup image tail.gate (segment_end x.geometry n) body) (sym ends.segment) holds)
@@ -111,8 +113,8 @@ pub replayed_more : (image : List ℕ) (tail : Tail) (commands : Commands) (body
 replayed_more image tail commands body s t gate so_far holds have spelled accepted state is =
     let x : Standing = so_far.x in
     let before = so_far.scanned in
-    let group : HoldsGroup image (gate_of so_far.x) (end_of so_far.x) (body_of commands) =
-    subst (HoldsGroup image (gate_of so_far.x) (end_of so_far.x)) spelled (group_of_standing tail so_far.x body so_far.ends holds) in
+    let group : HoldsGroup image (gate_of so_far.x) (standing_end so_far.x) (body_of commands) =
+    subst (HoldsGroup image (gate_of so_far.x) (standing_end so_far.x)) spelled (group_of_standing tail so_far.x body so_far.ends holds) in
     let moved : gate ≡ gate_of so_far.x + 5 + length (body_of commands) = omega (arith, is, so_far.ends.gate, ap length spelled) in
     record {
       x = with_group so_far.x commands;
@@ -122,7 +124,7 @@ replayed_more image tail commands body s t gate so_far holds have spelled accept
         fits = before.fits;
         newest = before.newest;
         head = before.head;
-        groups = groups-more image (end_of so_far.x) (first_of so_far.x) so_far.x.groups commands before.groups have group;
+        groups = groups-more image (standing_end so_far.x) (first_of so_far.x) so_far.x.groups commands before.groups have group;
         accepted = accepted-more so_far.x.checkpoint so_far.x.groups commands before.accepted (subst (λ m. AllAccepted length m commands) so_far.state accepted);
       };
       ends = record {

@@ -11,10 +11,10 @@ use Rattle.rly_record.proofs.Bodies.{body_once}
 use Rattle.rly_checkpoint.proofs.Fitness.{one_state}
 use Rattle.rly_segment.specs.Device.{IsGeometry, geometry_in}
 use Rattle.rly_segment.specs.Heads.{HoldsHead, IsAmbiguous, IsLastOfTie, IsNewest, generation_in}
-use Rattle.rly_journal.specs.declared.fault.OpenFault.{OpenFault}
-use Rattle.rly_journal.specs.declared.fault.OpenFault.TheVariants.{OutOfMemory, NotADevice, BadGeometry, Damaged, Device}
+use Rattle.rly_journal.specs.declared.open_fault.OpenFault.{OpenFault}
+use Rattle.rly_journal.specs.declared.open_fault.OpenFault.TheVariants.{OutOfMemory, NotADevice, BadGeometry, Damaged, Device}
 use Rattle.rly_journal.specs.Faults.{IsDamagedAt, IsHeadless, IsOfImage, IsRefused}
-use Rattle.rly_journal.specs.Standing.{AreAccepted, Commands, HoldGroups, IsScanned, IsStanding, Standing, Stands, behind, end_of, first_of, gate_behind, gate_of, replayed, state_in}
+use Rattle.rly_journal.specs.Standing.{AreAccepted, Commands, HoldGroups, IsScanned, IsStanding, Standing, Stands, next_gate, standing_end, first_of, gate_behind, gate_of, replayed, state_in}
 use Rattle.rly_journal.proofs.Once.{body_there_once, gate_there, head_once, newest_once}
 
 -- a segment whose head is the newest is none of several
@@ -49,10 +49,10 @@ not_broken image end at s (commands ∷ groups) [] first opened none second acce
 not_broken image end at s (one ∷ groups) (other ∷ others) first opened none second accepted closed =
     let bodies : body_of other ≡ body_of one = body_there_once at end (body_of other) (body_of one) second.1 first.1 in
     let same : other ≡ one = (body_once other one [] [] second.0 first.0 (ap (λ l. l ++ []) bodies)).0 in
-    not_broken image end (behind at one) (fold length s one) groups others first.2 opened none
-    (subst (λ c. HoldGroups image end (behind at c) others) same second.2)
+    not_broken image end (next_gate at one) (fold length s one) groups others first.2 opened none
+    (subst (λ c. HoldGroups image end (next_gate at c) others) same second.2)
     (subst (λ c. AreAccepted (fold length s c) others) same accepted.1)
-    (subst (λ c. IsClosed image (gate_behind (behind at c) others)) same closed)
+    (subst (λ c. IsClosed image (gate_behind (next_gate at c) others)) same closed)
 
 -- generations have 64 bits
 small : {image : List ℕ} {x : Standing} → IsScanned image x → x.generation < 2 ^ 64
@@ -60,7 +60,7 @@ small scanned = omega (arith, scanned.head.head.most, scanned.head.sound.seq)
 
 -- what was scanned up to a gate that can't be passed, and what stands
 not_stuck : {image : List ℕ} (x y : Standing) → IsScanned image x → IsOpen image (gate_of x)
-    → ((commands : Commands) → HaveBody commands → HoldsGroup image (gate_of x) (end_of x) (body_of commands) → AllAccepted length (state_in x) commands → ⊥)
+    → ((commands : Commands) → HaveBody commands → HoldsGroup image (gate_of x) (standing_end x) (body_of commands) → AllAccepted length (state_in x) commands → ⊥)
     → IsStanding image y → ⊥
 not_stuck {image} x y scanned opened none second =
     let g : y.geometry ≡ x.geometry = second.scanned.geometry ∙ sym scanned.geometry in
@@ -75,7 +75,7 @@ not_stuck {image} x y scanned opened none second =
     let y3 : Standing = record y2 { generation = x.generation; checkpoint = x.checkpoint } in
     let to_y3 : y2 ≡ y3 = ap (λ n. record y2 { generation = n }) heads.0 ∙ ap (λ c. record y2 { generation = x.generation; checkpoint = c }) heads.1 in
     let second3 : IsStanding image y3 = subst (IsStanding image) to_y3 second2 in
-    not_broken image (end_of x) (first_of x) x.checkpoint x.groups y.groups scanned.groups opened none second3.scanned.groups second3.scanned.accepted second3.closed
+    not_broken image (standing_end x) (first_of x) x.checkpoint x.groups y.groups scanned.groups opened none second3.scanned.groups second3.scanned.accepted second3.closed
 
 not_headless : {image : List ℕ} (g : Geometry) (place : ℕ) (y : Standing) → y.geometry ≡ g → IsHeadless image g place → IsStanding image y → ⊥
 not_headless {image} g place y same headless second =
@@ -90,7 +90,7 @@ not_damaged {image} place y damaged second =
       | inl ambiguous ↦ not_ambiguous (geometry_in image) y.segment place (subst (λ h. IsNewest image h y.segment) second.scanned.geometry second.scanned.newest) ambiguous
       | inr (inl headless) ↦ not_headless (geometry_in image) place y second.scanned.geometry headless second
       | inr (inr broken) ↦ not_stuck broken.x y broken.scanned (subst (IsOpen image) broken.at broken.gate)
-          (λ commands have holds accepted. broken.none commands have (subst (λ k. HoldsGroup image k (end_of broken.x) (body_of commands)) (sym broken.at) holds) accepted) second
+          (λ commands have holds accepted. broken.none commands have (subst (λ k. HoldsGroup image k (standing_end broken.x) (body_of commands)) (sym broken.at) holds) accepted) second
     ]
 
 -- an image that a check refuses stands for no state

@@ -5,7 +5,7 @@ use Rattle.std.proofs.lemmas.List.{drop_at, take_at}
 use Rattle.std.specs.List.{zip}
 use Rattle.rly_core.specs.declared.refusal.Refusal.{Refusal}
 use Rattle.rly_core.specs.declared.refusal.Refusal.TheVariants.{OutOfMemory, Unsure}
-use Rattle.rly_disk.specs.DiskModel.{DiskState, Later, LeavesOnly, Rose}
+use Rattle.rly_disk.specs.DiskModel.{DiskState, Later, LeavesOnly, HasFailed}
 use Rattle.rly_disk.proofs.Composition.{joined, rose_earlier, weaker}
 use Rattle.rly_machine.specs.declared.call.Answer.{Answer}
 use Rattle.rly_machine.specs.declared.call.Call.{Call}
@@ -15,9 +15,10 @@ use Rattle.rly_machine.specs.Ask.{ask_step}
 use Rattle.rly_machine.specs.History.{is_failure, next_state, state_after}
 use Rattle.rly_machine.specs.State.{State}
 use Rattle.rly_machine.proofs.Folding.{seq_fold}
-use Rattle.rly_journal.specs.Groups.{Gathers, GroupState}
+use Rattle.rly_journal.specs.HelpersGroups.{Gathers, GroupState}
 use Rattle.rly_journal.specs.Journal.{Breaks, Goes, IsRound, IsSafe, JournalState, holds_command, is_command}
-use Rattle.rly_journal.specs.Rounds.{AreServed, refusals, unsure_at}
+use Rattle.rly_journal.specs.Rounds.{AreServed, refusals}
+use Rattle.rly_journal.specs.HelpersGroups.{unsure_at}
 use Rattle.rly_journal.specs.Standing.{Commands, Stands}
 use Rattle.rly_journal.proofs.Serving.{served_starved}
 
@@ -94,7 +95,7 @@ safe_refused state old new calls same leaves = record {
 
 pub round_refused : {D : Type 0} (state : D → DiskState) (old new : JournalState D) (calls : List Call) (refusal : Refusal) (position : ℕ) → old.broken ≡ false
     → position ≡ old.position → old.position ≡ old.state.seq → new.position ≡ old.position
-    → ((refusal ≡ OutOfMemory) × (new ≡ old)) ⊎ ((refusal ≡ Unsure) × (new.broken ≡ true) × Rose (state old.disk) (state new.disk))
+    → ((refusal ≡ OutOfMemory) × (new ≡ old)) ⊎ ((refusal ≡ Unsure) × (new.broken ≡ true) × HasFailed (state old.disk) (state new.disk))
     → IsRound state old new calls (refusals refusal position calls)
 round_refused state old new calls refusal position whole same counted kept why =
     elim why [
@@ -124,7 +125,7 @@ round_refused state old new calls refusal position whole same counted kept why =
 
 pub round_served : {D : Type 0} (state : D → DiskState) (old mid new : JournalState D) (calls : List Call) (given : List Answer) → old.broken ≡ false → mid.state ≡ old.state
     → mid.position ≡ old.position → (state mid.disk).failures ≡ (state old.disk).failures → Later (state old.disk) (state mid.disk)
-    → (Goes mid new calls given × ((state new.disk).failures ≡ (state mid.disk).failures)) ⊎ (Breaks mid new calls given × Rose (state mid.disk) (state new.disk))
+    → (Goes mid new calls given × ((state new.disk).failures ≡ (state mid.disk).failures)) ⊎ (Breaks mid new calls given × HasFailed (state mid.disk) (state new.disk))
     → IsRound state old new calls given
 round_served state old mid new calls given whole same kept before later outcome =
     elim outcome [

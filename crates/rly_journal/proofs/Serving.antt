@@ -1,108 +1,33 @@
 -- Calls that are answered one after the other.
-use Rattle.std.proofs.Common.{◌≡◌, ◌⊎◌, ℕ, ◌+◌, ◌-◌, ◌^◌, ◌<◌, ◌≤◌, ◌∙◌, List, [], ◌∷◌, ◌++◌, length, map, take, drop, set, get_or, Bool, true, false, cond, not, Option, Some, None, Result, Err, refl, ap, sym, subst, arith, inl, inr, append_assoc, length-append}
-use Rattle.std.specs.Prelude.{nat_lt, nat_le, nat_eq, slice_get}
+use Rattle.std.proofs.Common.{◌≡◌, ◌⊎◌, ℕ, ◌+◌, ◌-◌, ◌<◌, ◌≤◌, ◌∙◌, List, [], ◌∷◌, ◌++◌, length, map, take, drop, set, get_or, Bool, true, false, cond, Option, Some, None, refl, ap, sym, subst, arith, inl, inr, append_assoc, length-append}
 use Rattle.std.specs.List.{AllByRecursion, zip}
-use Rattle.std.specs.Option.{ok_or}
 use Rattle.std.proofs.lemmas.Bool.{false≢true}
 use Rattle.std.proofs.lemmas.List.{append-nil, drop_more, get_or_at, length-map, length-take, map_more, set_at}
-use Rattle.rly_core.specs.declared.refusal.Refusal.{Refusal}
-use Rattle.rly_core.specs.declared.refusal.Refusal.TheVariants.{Broken, Unsure, OutOfMemory, NoSuchHop, NeverSent, NotInFlight}
+use Rattle.rly_core.specs.declared.refusal.Refusal.TheVariants.{Broken, Unsure, OutOfMemory}
 use Rattle.rly_machine.specs.declared.call.Answer.{Answer}
 use Rattle.rly_machine.specs.declared.call.Call.{Call}
 use Rattle.rly_machine.specs.declared.command.Ask.TheVariants as ask
 use Rattle.rly_machine.specs.declared.command.Command.{Command}
 use Rattle.rly_machine.specs.declared.command.Command.TheVariants.{Take, Pick, Release}
 use Rattle.rly_machine.specs.declared.command.Query.{Query}
-use Rattle.rly_machine.specs.declared.command.Query.TheVariants.{Fetch, Window, Show}
-use Rattle.rly_machine.specs.declared.hop.Item.{Item}
 use Rattle.rly_machine.specs.declared.reply.Reply.{Reply}
 use Rattle.rly_machine.specs.declared.reply.Reply.TheVariants.{Refused}
-use Rattle.rly_machine.specs.Accepted.{is_accepted, max_seq, unless}
+use Rattle.rly_machine.specs.Accepted.{is_accepted, unless}
 use Rattle.rly_machine.specs.Ask.{ask_step}
 use Rattle.rly_machine.specs.History.{Entry, IsAnswered, Legal, LegalBy, harm, is_failure, next_state, state_after, harm_after}
-use Rattle.rly_machine.specs.Pick.{is_idle, pick_refusal, picked_reply}
-use Rattle.rly_machine.specs.Query.{fetched, query_reply}
-use Rattle.rly_machine.specs.Release.{covered, release_refusal}
-use Rattle.rly_machine.specs.State.{State, has_hop, has_peer, hop_at, last_at, next_number}
+use Rattle.rly_machine.specs.Query.{query_reply}
+use Rattle.rly_machine.specs.State.{State}
 use Rattle.rly_machine.specs.Step.{step}
-use Rattle.rly_machine.specs.Take.{is_full, take_refusal}
-use Rattle.rly_machine.proofs.Folding.{seq_step, stays}
+use Rattle.rly_machine.specs.Take.{take_refusal}
 use Rattle.rly_machine.proofs.Histories.{legal_push, state_after-append}
+use Rattle.rly_machine.proofs.RealReplies.{counted, real_query, real_step, unaccepted}
 use Rattle.rly_machine.proofs.Refusals.{may_take}
 use Rattle.rly_record.specs.Spelling.{IsShort, record_of}
-use Rattle.rly_journal.specs.Groups.{Gathers, GroupState, IsTaken}
-use Rattle.rly_journal.specs.Rounds.{AreServed, IsDone, OnlyMemory, refusal_of, refusals, unsure_at}
+use Rattle.rly_journal.specs.HelpersGroups.{Gathers, GroupState, IsTaken}
+use Rattle.rly_journal.specs.Rounds.{AreServed, OnlyMemory, refusal_of, refusals}
+use Rattle.rly_journal.specs.HelpersGroups.{IsOutcome, unsure_at}
 use Rattle.rly_journal.specs.Standing.{Commands}
 use Rattle.rly_journal.proofs.Gathering.{all_push, gathers_push, gathers_still}
-
--- a row of checks that answers no failure
-record IsReal (refusal : Option Reply) : Type 0 where
-  pub real : (reply : Reply) → refusal ≡ Some reply → is_failure reply ≡ false
-
-none_real : IsReal None
-none_real = record { real = λ reply e. absurd (let h : None ≡ Some reply = e in cc) }
-
-row_real : (fails : Bool) (x : Reply) (rest : Option Reply) → is_failure x ≡ false → IsReal rest → IsReal (cond fails (Some x) rest)
-row_real true x rest real_x more = record { real = λ reply e. let same : x ≡ reply = cc in rw (← same) real_x }
-row_real false x rest real_x more = more
-
-unless_real : {P : Type 0} (refusal : Option Reply) (s : State P) (accepted : State P × Reply) → IsReal refusal → is_failure accepted.1 ≡ false
-    → is_failure (unless refusal s accepted).1 ≡ false
-unless_real (Some reply) s accepted row real = row.real reply refl
-unless_real None s accepted row real = real
-
-picked_real : {P : Type 0} (number : ℕ) (dropped : List ℕ) (items : List (Item P)) → is_failure (picked_reply number dropped items) ≡ false
-picked_real number dropped [] = refl
-picked_real number dropped (item ∷ items) = refl
-
--- a step answers no failure
-pub step_real : (s : State (List ℕ)) (command : Command (List ℕ)) → is_failure (step length s command).1 ≡ false
-step_real s (Take peer number hop stamp payload) = unless_real (take_refusal length s peer number hop stamp (length payload)) s _
-    (row_real (not (has_peer s peer)) _ _ refl
-    (row_real (not (has_hop s hop)) _ _ refl
-    (row_real (nat_le (2 ^ 52) stamp) _ _ refl
-    (row_real (nat_lt 1200 (length payload)) _ _ refl
-    (row_real (nat_le number (last_at s peer)) _ _ refl
-    (row_real (nat_lt (last_at s peer + 1) number) _ _ refl
-    (row_real (is_full length s (length payload)) _ _ refl
-    (row_real (nat_le max_seq s.seq) _ _ refl none_real))))))))
-    refl
-step_real s (Pick hop now) = unless_real (pick_refusal s hop now) s _
-    (row_real (not (has_hop s hop)) _ _ refl
-    (row_real (nat_le (2 ^ 52) now) _ _ refl
-    (row_real (nat_le s.params.window (length (hop_at s hop).flight)) _ _ refl
-    (row_real (is_idle (hop_at s hop)) _ _ refl
-    (row_real (nat_le max_seq s.seq) _ _ refl none_real)))))
-    (picked_real _ _ _)
-step_real s (Release hop number) = unless_real (release_refusal s hop number) s _
-    (row_real (not (has_hop s hop)) _ _ refl
-    (row_real (nat_le (next_number (hop_at s hop)) number) _ _ refl
-    (row_real (nat_eq (covered (hop_at s hop) number) 0) _ _ refl
-    (row_real (nat_le max_seq s.seq) _ _ refl none_real))))
-    refl
-
--- nor does a question
-fetched_real : (fails : Bool) (refusal : Refusal) (rest : Result (Item (List ℕ)) Refusal) → is_failure (Refused refusal) ≡ false → is_failure (fetched rest) ≡ false
-    → is_failure (fetched (cond fails (Err refusal) rest)) ≡ false
-fetched_real true refusal rest real more = real
-fetched_real false refusal rest real more = more
-
-found_real : (item : Option (Item (List ℕ))) → is_failure (fetched (ok_or item NotInFlight)) ≡ false
-found_real (Some item) = refl
-found_real None = refl
-
-either_real : (there : Bool) (reply : Reply) → is_failure reply ≡ false → is_failure (cond there reply (Refused NoSuchHop)) ≡ false
-either_real true reply real = real
-either_real false reply real = refl
-
-pub query_real : (s : State (List ℕ)) (query : Query) → is_failure (query_reply s query) ≡ false
-query_real s (Fetch hop number) =
-    fetched_real (not (has_hop s hop)) NoSuchHop _ refl
-    (fetched_real (nat_le (next_number (hop_at s hop)) number) NeverSent _ refl
-    (fetched_real (nat_le number (hop_at s hop).released) NotInFlight _ refl
-    (found_real (slice_get (hop_at s hop).flight (number - (hop_at s hop).released - 1)))))
-query_real s (Window hop) = either_real (has_hop s hop) _ refl
-query_real s (Show hop) = either_real (has_hop s hop) _ refl
 
 -- one call was answered in a state, which then was another, and the group is another
 pub record IsServed (call : Call) (answer : Answer) (old new : GroupState) (s t : State (List ℕ)) : Type 0 where
@@ -139,14 +64,14 @@ starved_served call answer old new s t seat number reply state group position =
 
 -- a command
 pub command_served : (call : Call) (command : Command (List ℕ)) (answer : Answer) (old new : GroupState) (s t : State (List ℕ)) → call.ask ≡ ask.Command command
-    → answer.seat ≡ call.seat → answer.number ≡ call.number → IsDone command answer.reply old new s t → answer.position ≡ t.seq → IsServed call answer old new s t
+    → answer.seat ≡ call.seat → answer.number ≡ call.number → IsOutcome command answer.reply old new s t → answer.position ≡ t.seq → IsServed call answer old new s t
 command_served call command answer old new s t asks seat number done position =
     let by_step : ask_step s call.ask ≡ step length s command = ap (ask_step s) asks in
     elim done [
-      | inl taken ↦ real_served call answer old new s t seat number (ap is_failure taken.0 ∙ step_real s command) (taken.0 ∙ sym (ap (λ r. r.1) by_step))
+      | inl taken ↦ real_served call answer old new s t seat number (ap is_failure taken.0 ∙ real_step length s command) (taken.0 ∙ sym (ap (λ r. r.1) by_step))
           (taken.1.state ∙ sym (ap (λ r. r.0) by_step)) position (inl (command, taken.1))
-      | inr (inl left) ↦ real_served call answer old new s t seat number (ap is_failure left.reply ∙ step_real s command) (left.reply ∙ sym (ap (λ r. r.1) by_step))
-          (left.state ∙ sym (stays length s command left.leaves) ∙ sym (ap (λ r. r.0) by_step)) position (inr (left.group, left.state))
+      | inr (inl left) ↦ real_served call answer old new s t seat number (ap is_failure left.reply ∙ real_step length s command) (left.reply ∙ sym (ap (λ r. r.1) by_step))
+          (left.state ∙ sym (unaccepted length s command left.leaves) ∙ sym (ap (λ r. r.0) by_step)) position (inr (left.group, left.state))
       | inr (inr starved) ↦ starved_served call answer old new s t seat number starved.reply starved.state starved.group position
     ]
 
@@ -155,7 +80,7 @@ pub query_served : (call : Call) (query : Query) (answer : Answer) (group : Grou
     → answer.seat ≡ call.seat → answer.number ≡ call.number → answer.reply ≡ query_reply s query → answer.position ≡ s.seq → IsServed call answer group group s s
 query_served call query answer group s asks seat number reply position =
     let by_step : ask_step s call.ask ≡ (s, query_reply s query) = ap (ask_step s) asks in
-    real_served call answer group group s s seat number (ap is_failure reply ∙ query_real s query) (reply ∙ sym (ap (λ r. r.1) by_step)) (sym (ap (λ r. r.0) by_step)) position (inr (refl, refl))
+    real_served call answer group group s s seat number (ap is_failure reply ∙ real_query s query) (reply ∙ sym (ap (λ r. r.1) by_step)) (sym (ap (λ r. r.0) by_step)) position (inr (refl, refl))
 
 -- want of memory is no harm to the device
 harmless : (reply : Reply) → (is_failure reply ≡ true → reply ≡ Refused OutOfMemory) → harm reply ≡ 0
@@ -311,30 +236,30 @@ never_true false _ = refl
 pub long_leaves : (s : State (List ℕ)) (command : Command (List ℕ)) → (IsShort command → ⊥) → is_accepted (step length s command).1 ≡ false
 long_leaves s (Take peer number hop stamp payload) long = never_true _ (λ accepts.
     long (may_take length s peer number hop stamp (length payload)
-    (accepted_none (take_refusal length s peer number hop stamp (length payload)) s _ (seq_step length s (Take peer number hop stamp payload)) accepts)).short)
+    (accepted_none (take_refusal length s peer number hop stamp (length payload)) s _ (counted length s (Take peer number hop stamp payload)) accepts)).short)
 long_leaves s (Pick hop now) long = absurd (long tt)
 long_leaves s (Release hop number) long = absurd (long tt)
 
 pub long_done : (command : Command (List ℕ)) (reply : Reply) (group : GroupState) (s r t : State (List ℕ)) → r ≡ s → (IsShort command → ⊥)
-    → t ≡ (step length r command).0 → reply ≡ (step length r command).1 → IsDone command reply group group s t
+    → t ≡ (step length r command).0 → reply ≡ (step length r command).1 → IsOutcome command reply group group s t
 long_done command reply group s r t same long state told =
     let leaves = long_leaves s command long in
     inr (inl (record {
       reply = told ∙ ap (λ m. (step length m command).1) same;
       leaves = leaves;
-      state = state ∙ ap (λ m. (step length m command).0) same ∙ stays length s command leaves;
+      state = state ∙ ap (λ m. (step length m command).0) same ∙ unaccepted length s command leaves;
       group = refl;
     }))
 
 pub left_done : (command : Command (List ℕ)) (reply : Reply) (old mid new : GroupState) (s r t : State (List ℕ)) → r ≡ s → old.staged ≡ []
     → mid ≡ record old { staged = record_of command } → new ≡ record mid { staged = [] } → is_accepted reply ≡ false
-    → t ≡ (step length r command).0 → reply ≡ (step length r command).1 → IsDone command reply old new s t
+    → t ≡ (step length r command).0 → reply ≡ (step length r command).1 → IsOutcome command reply old new s t
 left_done command reply old mid new s r t same nothing staged discarded leaves state told =
     let by_step : reply ≡ (step length s command).1 = told ∙ ap (λ m. (step length m command).1) same in
     let not_accepted : is_accepted (step length s command).1 ≡ false = sym (ap is_accepted by_step) ∙ leaves in
     inr (inl (record {
       reply = by_step;
       leaves = not_accepted;
-      state = state ∙ ap (λ m. (step length m command).0) same ∙ stays length s command not_accepted;
+      state = state ∙ ap (λ m. (step length m command).0) same ∙ unaccepted length s command not_accepted;
       group = discarded ∙ ap (λ (g : GroupState). record g { staged = [] }) staged ∙ sym (ap (λ l. record old { staged = l }) nothing);
     }))

@@ -10,9 +10,10 @@ use Rattle.rly_gate.specs.Reading.{HoldsGroup}
 use Rattle.rly_record.specs.Spelling.{HaveBody, body_of}
 use Rattle.rly_segment.specs.Device.{IsDevice, IsGeometry, geometry_in}
 use Rattle.rly_segment.specs.Heads.{HoldsHead, IsAmbiguous, IsNewest, segment_place}
-use Rattle.rly_journal.specs.declared.fault.OpenFault.{OpenFault}
-use Rattle.rly_journal.specs.declared.fault.OpenFault.TheVariants.{OutOfMemory, NotADevice, BadGeometry, Damaged, Device}
-use Rattle.rly_journal.specs.Standing.{Commands, IsScanned, Standing, end_of, gate_of, state_in}
+use Rattle.rly_journal.specs.declared.open_fault.OpenFault.{OpenFault}
+use Rattle.rly_journal.specs.declared.open_fault.OpenFault.TheVariants.{OutOfMemory, NotADevice}
+use Rattle.rly_journal.specs.declared.open_fault.OpenFault.TheVariants.{BadGeometry, Damaged, Device}
+use Rattle.rly_journal.specs.Standing.{Commands, IsScanned, Standing, standing_end, gate_of, state_in}
 
 -- the newest segment has no head that holds a state
 pub record IsHeadless (image : List ℕ) (g : Geometry) (place : ℕ) : Type 0 where
@@ -27,7 +28,7 @@ pub record IsBroken (image : List ℕ) (place : ℕ) : Type 0 where
   pub scanned : IsScanned image x
   pub at : place ≡ gate_of x
   pub gate : IsOpen image place
-  pub none : (commands : Commands) → HaveBody commands → HoldsGroup image place (end_of x) (body_of commands)
+  pub none : (commands : Commands) → HaveBody commands → HoldsGroup image place (standing_end x) (body_of commands)
       → AllAccepted length (state_in x) commands → ⊥
 
 -- the place of the first thing on a device that stands for nothing
@@ -38,7 +39,8 @@ IsDamagedAt image g place = IsAmbiguous image g place ⊎ IsHeadless image g pla
 abbrev pub IsRefused : List ℕ → OpenFault → Type 0
 IsRefused image NotADevice = IsDevice image → ⊥
 IsRefused image BadGeometry = IsDevice image × (IsGeometry (geometry_in image) (length image) → ⊥)
-IsRefused image (Damaged place) = IsDevice image × IsGeometry (geometry_in image) (length image) × IsDamagedAt image (geometry_in image) place
+IsRefused image (Damaged place) =
+    IsDevice image × IsGeometry (geometry_in image) (length image) × IsDamagedAt image (geometry_in image) place
 IsRefused image OutOfMemory = Unit {0}
 IsRefused image Device = Unit {0}
 

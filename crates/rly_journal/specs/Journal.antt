@@ -2,14 +2,14 @@
 use Rattle.std.specs.Prelude.{◌≡◌, ◌⊎◌, ◌+◌, ◌≤◌, ℕ, List, Bool, true, false}
 use Rattle.std.specs.List.{list_any}
 use Rattle.rly_core.specs.declared.refusal.Refusal.TheVariants.{Broken, Unsure}
-use Rattle.rly_disk.specs.DiskModel.{DiskState, IsSpent, LeavesOnly, Rose}
+use Rattle.rly_disk.specs.DiskModel.{DiskState, IsSpent, LeavesOnly, HasFailed}
 use Rattle.rly_machine.specs.declared.call.Answer.{Answer}
 use Rattle.rly_machine.specs.declared.call.Call.{Call}
 use Rattle.rly_machine.specs.declared.command.Ask.{Ask}
 use Rattle.rly_machine.specs.declared.command.Ask.TheVariants.{Command, Query}
 use Rattle.rly_machine.specs.State.{State}
 use Rattle.rly_journal.specs.declared.tail.Tail.{Tail}
-use Rattle.rly_journal.specs.Log.{IsDurable, IsFull, IsShaped}
+use Rattle.rly_journal.specs.Log.{IsFull}
 use Rattle.rly_journal.specs.Rounds.{AreServed, refusals}
 use Rattle.rly_journal.specs.Standing.{Stands}
 
@@ -21,13 +21,6 @@ pub record JournalState (D : Type 0) : Type 0 where
   pub state : State (List ℕ)
   pub position : ℕ
   pub broken : Bool
-
--- how a journal keeps its state: where it isn't broken, on an honest disk nothing is pending, and what the
--- device reads stands for the running state
-pub record IsKept (disk : DiskState) (tail : Tail) (s : State (List ℕ)) (position : ℕ) (broken : Bool) : Type 0 where
-  pub shaped : IsShaped disk.size tail s
-  pub durable : broken ≡ false → disk.honest → IsDurable disk tail s
-  pub counted : broken ≡ false → position ≡ s.seq
 
 -- one sync was made, done or failed; where the counts stand at their last value it isn't counted
 pub record SyncsOnce (old new : DiskState) : Type 0 where
@@ -64,7 +57,7 @@ abbrev pub IsRound : {D : Type 0} → (D → DiskState) → JournalState D → J
 IsRound state old new calls given =
     ((old.broken ≡ true) × (given ≡ refusals Broken old.position calls) × (new ≡ old))
     ⊎ ((old.broken ≡ false) × Goes old new calls given × ((state new.disk).failures ≡ (state old.disk).failures))
-    ⊎ ((old.broken ≡ false) × Breaks old new calls given × Rose (state old.disk) (state new.disk))
+    ⊎ ((old.broken ≡ false) × Breaks old new calls given × HasFailed (state old.disk) (state new.disk))
 
 -- a crash at any moment of a round: what stands for the state before it, or for the state after its accepted commands,
 -- which is the running state where the journal goes on

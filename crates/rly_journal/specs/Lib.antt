@@ -1,6 +1,7 @@
-pub mod Standing
 pub mod Faults
-pub mod Groups
-pub mod Rounds
-pub mod Log
+pub mod HelpersGroups
+pub mod HelpersJournal
 pub mod Journal
+pub mod Log
+pub mod Rounds
+pub mod Standing

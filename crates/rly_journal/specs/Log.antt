@@ -1,13 +1,12 @@
 -- Where the journal ends on a device, and what that has to do with what stands there.
-use Rattle.std.specs.Prelude.{◌≡◌, ℕ, ◌+◌, ◌-◌, ◌<◌, ◌≤◌, List}
+use Rattle.std.specs.Prelude.{◌≡◌, ℕ, ◌-◌, List}
 use Rattle.rly_disk.specs.DiskModel.{DiskState, Settled}
 use Rattle.rly_machine.specs.State.{State}
 use Rattle.rly_reclaim.specs.Room.{IsDue}
 use Rattle.rly_segment.specs.Answers.{AreClosed}
-use Rattle.rly_segment.specs.Device.{IsGeometry}
-use Rattle.rly_segment.specs.Heads.{segment_end, segment_place}
+use Rattle.rly_segment.specs.Heads.{segment_place}
 use Rattle.rly_journal.specs.declared.tail.Tail.{Tail}
-use Rattle.rly_journal.specs.Standing.{IsScanned, IsStanding, Standing, gate_of, state_in}
+use Rattle.rly_journal.specs.Standing.{IsStanding, Standing, gate_of, state_in}
 
 -- the offset of the next gate in its segment
 abbrev pub offset : Tail → ℕ
@@ -22,31 +21,12 @@ pub record IsSameHead (old new : Tail) : Type 0 where
   pub segment : new.segment ≡ old.segment
   pub generation : new.generation ≡ old.generation
 
--- what holds of the end on any disk of so many bytes
-pub record IsShaped (size : ℕ) (tail : Tail) (s : State (List ℕ)) : Type 0 where
-  pub geometry : IsGeometry tail.geometry size
-  pub segment : tail.segment < tail.geometry.segments
-  pub params : s.params ≡ tail.geometry.params
-  pub above : segment_place tail.geometry tail.segment + 13 ≤ tail.gate
-  pub within : tail.gate < segment_end tail.geometry tail.segment
-  pub generation : tail.generation ≤ s.seq + 1
-  -- a segment that is full holds the commands of some group
-  pub full : IsFull tail → tail.generation ≤ s.seq
-
 -- a standing ends there
 pub record EndsAt (tail : Tail) (x : Standing) : Type 0 where
   pub geometry : tail.geometry ≡ x.geometry
   pub segment : tail.segment ≡ x.segment
   pub generation : tail.generation ≡ x.generation
   pub gate : tail.gate ≡ gate_of x
-
--- what was scanned of an image, up to the end, stands for a state
-pub record IsReplayed (image : List ℕ) (tail : Tail) (s : State (List ℕ)) : Type 0 where
-  pub x : Standing
-  pub scanned : IsScanned image x
-  pub ends : EndsAt tail x
-  pub state : s ≡ state_in x
-  pub gates : AreClosed image tail.geometry tail.geometry.segments tail.closed
 
 -- an image stands for a state, and ends there
 pub record IsLogged (image : List ℕ) (tail : Tail) (s : State (List ℕ)) : Type 0 where

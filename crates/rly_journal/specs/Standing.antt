@@ -1,5 +1,5 @@
--- When an image stands for a state (docs/DEFINITIONS.md, "What an image stands for"): the checkpoint of the newest head, followed
--- by the commands of the groups behind it, up to the first closed gate.
+-- When an image stands for a state (docs/DEFINITIONS.md, "What an image stands for"): the checkpoint of the newest
+-- head, followed by the commands of the groups behind it, up to the first closed gate.
 use Rattle.std.specs.Prelude.{◌≡◌, ℕ, ◌+◌, ⊤, List, [], ◌∷◌, length}
 use Rattle.rly_core.specs.declared.params.Geometry.{Geometry}
 use Rattle.rly_machine.specs.declared.command.Command.{Command}
@@ -16,19 +16,19 @@ abbrev pub Commands : Type 0
 Commands = List (Command (List ℕ))
 
 -- the place of the gate behind a group of these commands
-abbrev pub behind : ℕ → Commands → ℕ
-behind at commands = at + 5 + length (body_of commands)
+abbrev pub next_gate : ℕ → Commands → ℕ
+next_gate at commands = at + 5 + length (body_of commands)
 
 -- the place of the gate behind groups that stand one behind the other
 abbrev pub gate_behind : ℕ → List Commands → ℕ
 gate_behind at [] = at
-gate_behind at (commands ∷ groups) = gate_behind (behind at commands) groups
+gate_behind at (commands ∷ groups) = gate_behind (next_gate at commands) groups
 
 -- groups of these commands stand from a gate on, one behind the other, and the gate behind each lies before an end
 abbrev pub HoldGroups : List ℕ → ℕ → ℕ → List Commands → Type 0
 HoldGroups image end at [] = ⊤
 HoldGroups image end at (commands ∷ groups) =
-    HaveBody commands × HoldsGroup image at end (body_of commands) × HoldGroups image end (behind at commands) groups
+    HaveBody commands × HoldsGroup image at end (body_of commands) × HoldGroups image end (next_gate at commands) groups
 
 -- the state after groups
 abbrev pub replayed : State (List ℕ) → List Commands → State (List ℕ)
@@ -40,7 +40,8 @@ abbrev pub AreAccepted : State (List ℕ) → List Commands → Type 0
 AreAccepted s [] = ⊤
 AreAccepted s (commands ∷ groups) = AllAccepted length s commands × AreAccepted (fold length s commands) groups
 
--- what is read of an image: the geometry, the newest segment with the generation and the checkpoint of its head, and the groups behind it
+-- what is read of an image: the geometry, the newest segment with the generation and the checkpoint of its head, and
+-- the groups behind it
 pub record Standing : Type 0 where
   pub geometry : Geometry
   pub segment : ℕ
@@ -53,8 +54,8 @@ abbrev pub first_of : Standing → ℕ
 first_of x = first_gate x.geometry x.segment x.checkpoint
 
 -- the end of the segment
-abbrev pub end_of : Standing → ℕ
-end_of x = segment_end x.geometry x.segment
+abbrev pub standing_end : Standing → ℕ
+standing_end x = segment_end x.geometry x.segment
 
 -- the first closed gate
 abbrev pub gate_of : Standing → ℕ
@@ -71,7 +72,7 @@ pub record IsScanned (image : List ℕ) (x : Standing) : Type 0 where
   pub fits : IsGeometry x.geometry (length image)
   pub newest : IsNewest image x.geometry x.segment
   pub head : HoldsHead image x.geometry x.segment x.generation x.checkpoint
-  pub groups : HoldGroups image (end_of x) (first_of x) x.groups
+  pub groups : HoldGroups image (standing_end x) (first_of x) x.groups
   pub accepted : AreAccepted x.checkpoint x.groups
 
 -- that is all that is read of an image: the gate behind the groups is closed

@@ -1,9 +1,9 @@
 ghost use Rattle.std.specs.Prelude.{◌≡◌, ◌+◌, ◌*◌, ◌<◌, ◌≤◌, ◌^◌, [], ◌++◌, ◌==◌, IfOk, OnErr, OnOk, drop, length, take, vec_capacity, vec_len};
 ghost use Rattle.byteorder.specs.Endian.{big_bytes};
-ghost use Rattle.rly_disk.specs.DiskModel.{Later, LeavesOnly, Rose, Settled, overwritten};
-ghost use Rattle.rly_gate.specs.Group.{IsAppended, IsClosed, body_of, group_of};
+ghost use Rattle.rly_disk.specs.DiskModel.{Later, LeavesOnly, HasFailed, Settled, overwritten};
+ghost use Rattle.rly_gate.specs.Group.{IsAppended, IsClosed, body_in, group_of};
 ghost use Rattle.rly_record.specs.Spelling.{HasRecord, IsShort, record_of};
-ghost use Rattle.rly_journal.specs.Groups.{empty_group, group_body};
+ghost use Rattle.rly_journal.specs.HelpersGroups.{empty_group, group_body};
 
 use byteorder::{BigEndian, ByteOrder};
 use rly_disk::{Disk, DiskFault};
@@ -33,7 +33,7 @@ pub(crate) struct Group {
 
 impl Model for Group {
     ghost use Rattle.std.specs.Prelude.{◌+◌, ◌*◌, ◌≤◌, drop, length, take, vec_capacity};
-    ghost use Rattle.rly_journal.specs.Groups.{GroupState};
+    ghost use Rattle.rly_journal.specs.HelpersGroups.{GroupState};
 
     ghost Value = { GroupState };
 
@@ -117,7 +117,7 @@ impl Group {
         ensures ok { Settled (D.state disk.old) → OnOk result (Settled (D.state disk.new)) }
         ensures written { Settled (D.state disk.old)
             → OnOk result ((D.state disk.new).seen ≡ overwritten at (group_of (group_body self.old)) (D.state disk.old).seen) }
-        ensures rise { OnErr result (Rose (D.state disk.old) (D.state disk.new)) }
+        ensures rise { OnErr result (HasFailed (D.state disk.old) (D.state disk.new)) }
         ensures no_failure { OnOk result ((D.state disk.new).failures ≡ (D.state disk.old).failures) }
         ensures syncs { (D.state disk.new).syncs ≤ (D.state disk.old).syncs + 2 }
         ensures calls { (D.state disk.new).calls ≤ (D.state disk.old).calls + 4 }
@@ -137,7 +137,7 @@ impl Group {
 fn complete(frame: &mut Vec<u8>, count: u16)
     requires long { 6 ≤ length frame.old.items }
     requires room { vec_len frame.old < vec_capacity frame.old }
-    ensures body { body_of frame.new.items ≡ big_bytes 2 count ++ drop 6 frame.old.items }
+    ensures body { body_in frame.new.items ≡ big_bytes 2 count ++ drop 6 frame.old.items }
     ensures len { length frame.new.items ≡ length frame.old.items + 1 }
     ensures capacity { vec_capacity frame.new ≡ vec_capacity frame.old }
 {

@@ -1,22 +1,23 @@
 ghost use Rattle.std.specs.Prelude.{◌≡◌, ◌≢◌, ◌⊎◌, ◌+◌, ◌≤◌, ◌++◌, [], Err, IfErr, IfOk, IsOk, List, MatchResult, Ok, OnErr, OnOk, length, vec_capacity, true, false, if◌then◌else◌};
 ghost use Rattle.rly_core.specs.Bounds.{IsIn};
-ghost use Rattle.rly_disk.specs.DiskModel.{Later, LeavesOnly, Rose, Settled};
+ghost use Rattle.rly_disk.specs.DiskModel.{Later, LeavesOnly, HasFailed, Settled};
 ghost use Rattle.rly_gate.specs.Reading.{OnlyRead};
 ghost use Rattle.rly_machine.specs.declared.call.Answer.{Answer as AnAnswer};
 ghost use Rattle.rly_machine.specs.declared.reply.Reply.{Reply as AReply};
 ghost use Rattle.rly_machine.specs.Sound.{IsSound};
 ghost use Rattle.rly_machine.specs.State.{has_peer, last_at};
-ghost use Rattle.rly_machine.specs.Query.{fetched, item_of, show_reply};
+ghost use Rattle.rly_machine.specs.Query.{fetch_reply, item_of, show_reply};
 ghost use Rattle.rly_journal.specs.Faults.{IsRefused};
 ghost use Rattle.rly_journal.specs.Journal.{Breaks, Goes, IsDueFor, IsRound, IsSafe, SyncsOnce, holds_command};
-ghost use Rattle.rly_journal.specs.Groups.{empty_group};
-ghost use Rattle.rly_journal.specs.Log.{IsDurable, IsSameHead, IsShaped};
+ghost use Rattle.rly_journal.specs.HelpersGroups.{empty_group};
+ghost use Rattle.rly_journal.specs.Log.{IsDurable, IsSameHead};
+ghost use Rattle.rly_journal.specs.HelpersJournal.{IsShaped};
 ghost use Rattle.rly_journal.specs.Rounds.{refusals};
 ghost use Rattle.rly_journal.specs.Standing.{Stands};
 
-use crate::evaluation::{answer_calls, make_unsure, refuse_all};
-use crate::fault::OpenFault;
+use crate::answering::{answer_calls, make_unsure, refuse_all};
 use crate::group::Group;
+use crate::open_fault::OpenFault;
 use crate::recovery::{Recovered, recover};
 use crate::tail::{Tail, append, is_full, renew};
 use rly_core::{HopId, Params, PeerId, Refusal};
@@ -40,14 +41,15 @@ pub struct Journal<D: Disk> {
 
 impl<D: Disk> Model for Journal<D> {
     ghost use Rattle.std.specs.Prelude.{◌≡◌};
-    ghost use Rattle.rly_journal.specs.Groups.{empty_group};
-    ghost use Rattle.rly_journal.specs.Journal.{IsKept, JournalState};
+    ghost use Rattle.rly_journal.specs.HelpersGroups.{empty_group};
+    ghost use Rattle.rly_journal.specs.Journal.{JournalState};
+    ghost use Rattle.rly_journal.specs.HelpersJournal.{IsSoundJournal};
 
     ghost Value = { JournalState D };
 
     ghost view = { λ j. record { disk = j.disk; tail = j.tail; state = j.machine.state; position = j.position; broken = j.broken } };
 
-    ghost invariant = { λ j. IsKept (D.state j.disk) j.tail j.machine.state j.position j.broken × (j.group ≡ empty_group) };
+    ghost invariant = { λ j. IsSoundJournal (D.state j.disk) j.tail j.machine.state j.position j.broken × (j.group ≡ empty_group) };
 }
 
 /// What opening a device made.
@@ -70,7 +72,7 @@ impl<D: Disk> Journal<D> {
         ensures settled { (D.state disk).honest → IfOk result (λ journal. Settled (D.state journal.disk)) }
         // What is refused is durable: it is refused again after a crash.
         ensures stays_refused { (D.state disk).honest → IfErr result (λ failed. failed.0 ≢ OpenFault.Device → Settled (D.state failed.1)) }
-        ensures rise { IfErr result (λ failed. failed.0 ≡ OpenFault.Device → Rose (D.state disk) (D.state failed.1)) }
+        ensures rise { IfErr result (λ failed. failed.0 ≡ OpenFault.Device → HasFailed (D.state disk) (D.state failed.1)) }
         // No call that fails is tried again.
         ensures no_failure { MatchResult result (λ journal. (D.state journal.disk).failures ≡ (D.state disk).failures)
             (λ failed. failed.0 ≢ OpenFault.Device → (D.state failed.1).failures ≡ (D.state disk).failures) }
@@ -143,9 +145,9 @@ impl<D: Disk> Journal<D> {
 
     /// The payload in flight under a custody number.
     pub fn fetch(&mut self, alloc: Global, hop: HopId, number: u64) -> Result<Vec<u8>, Refusal>
-        ensures found { IfOk result (λ bytes. (self.old.broken ≡ false) × (fetched (item_of self.old.state hop number) ≡ AReply.Bytes bytes.items)) }
+        ensures found { IfOk result (λ bytes. (self.old.broken ≡ false) × (fetch_reply (item_of self.old.state hop number) ≡ AReply.Bytes bytes.items)) }
         ensures refused { IfErr result (λ refusal. ((self.old.broken ≡ true) × (refusal ≡ Refusal.Broken)) ⊎ ((self.old.broken ≡ false)
-            × ((fetched (item_of self.old.state hop number) ≡ AReply.Refused refusal) ⊎ (refusal ≡ Refusal.OutOfMemory)))) }
+            × ((fetch_reply (item_of self.old.state hop number) ≡ AReply.Refused refusal) ⊎ (refusal ≡ Refusal.OutOfMemory)))) }
         ensures same { self.new ≡ self.old }
     {
         if self.broken {
@@ -256,7 +258,7 @@ impl<D: Disk> Journal<D> {
         ensures position { self.new.position ≡ self.old.position }
         ensures ready { OnOk result ((self.new.broken ≡ false) × ((D.state self.new.disk).failures ≡ (D.state self.old.disk).failures) × (IsDueFor self.new calls.now → ⊥)) }
         ensures refused { IfErr result (λ refusal. ((refusal ≡ Refusal.OutOfMemory) × (self.new ≡ self.old))
-            ⊎ ((refusal ≡ Refusal.Unsure) × (self.new.broken ≡ true) × Rose (D.state self.old.disk) (D.state self.new.disk))) }
+            ⊎ ((refusal ≡ Refusal.Unsure) × (self.new.broken ≡ true) × HasFailed (D.state self.old.disk) (D.state self.new.disk))) }
         ensures any_moment { (D.state self.old.disk).honest → LeavesOnly (D.state self.old.disk) (D.state self.new.disk) (λ image. Stands image self.old.state) }
         ensures opened { IsDueFor self.old calls.now → OnOk result (self.new.tail.generation ≡ self.old.tail.generation + 1) }
         ensures syncs { (D.state self.new.disk).syncs ≤ (D.state self.old.disk).syncs + 3 }
@@ -287,7 +289,7 @@ impl<D: Disk> Journal<D> {
         ensures emptied { calls.new.items ≡ [] }
         ensures answers { (given : List AnAnswer) × (answers.new.items ≡ answers.old.items ++ given)
             × ((Goes self.old self.new calls.old.items given × ((D.state self.new.disk).failures ≡ (D.state self.old.disk).failures))
-            ⊎ (Breaks self.old self.new calls.old.items given × Rose (D.state self.old.disk) (D.state self.new.disk))) }
+            ⊎ (Breaks self.old self.new calls.old.items given × HasFailed (D.state self.old.disk) (D.state self.new.disk))) }
         ensures any_moment { (D.state self.old.disk).honest → IsSafe D.state self.old self.new calls.old.items }
         ensures syncs { (D.state self.new.disk).syncs ≤ (D.state self.old.disk).syncs + 2 }
         ensures head { IsSameHead self.old.tail self.new.tail }
@@ -322,7 +324,7 @@ fn begin<D: Disk>(alloc: Global, disk: &mut D) -> Result<Begun, OpenFault>
     ensures refused { (D.state disk.old).honest → IfErr result (λ fault. IsRefused (D.state disk.old).seen fault) }
     ensures only { OnlyRead (D.state disk.old) (D.state disk.new) }
     ensures settled { (D.state disk.old).honest → result ≢ Err OpenFault.Device → Settled (D.state disk.new) }
-    ensures rise { result ≡ Err OpenFault.Device → Rose (D.state disk.old) (D.state disk.new) }
+    ensures rise { result ≡ Err OpenFault.Device → HasFailed (D.state disk.old) (D.state disk.new) }
     ensures no_failure { result ≢ Err OpenFault.Device → (D.state disk.new).failures ≡ (D.state disk.old).failures }
     ensures one_sync { SyncsOnce (D.state disk.old) (D.state disk.new) }
 {

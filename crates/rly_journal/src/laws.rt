@@ -5,7 +5,7 @@ ghost use Rattle.std.specs.Prelude.{◌≡◌, ℕ, List};
 ghost use Rattle.rly_core.specs.declared.params.Geometry.{Geometry as AGeometry};
 ghost use Rattle.rly_machine.specs.State.{State, new_state};
 ghost use Rattle.rly_segment.specs.Formatted.{IsFormatted};
-ghost use Rattle.rly_journal.specs.declared.fault.OpenFault.{OpenFault as AFault};
+ghost use Rattle.rly_journal.specs.declared.open_fault.OpenFault.{OpenFault as AFault};
 ghost use Rattle.rly_journal.specs.Faults.{IsOfImage, IsRefused};
 ghost use Rattle.rly_journal.specs.Standing.{Stands};
 

@@ -6,17 +6,15 @@
 //! none of it (`specs/Journal.antt`). It stands on any disk that keeps to the disk model, and is one thread's.
 #![tactic(auto)]
 
-mod evaluation;
-mod fault;
+mod answering;
 mod group;
 mod journal;
 mod laws;
+mod open_fault;
 mod recovery;
 mod tail;
-#[cfg(test)]
-mod tests;
 
-pub use crate::fault::OpenFault;
 pub use crate::journal::Journal;
 pub use crate::laws::{law_formatted_stands, law_refused_stands_for_none, law_stands_for_one};
+pub use crate::open_fault::OpenFault;
 pub use crate::tail::Tail;

@@ -1,11 +1,12 @@
 ghost use Rattle.std.specs.Prelude.{◌≡◌, ◌≢◌, ◌+◌, ◌<◌, ◌≤◌, ◌^◌, Err, IfErr, IfOk, Ok, OnErr, OnOk, length, true, false};
-ghost use Rattle.rly_disk.specs.DiskModel.{Rose};
+ghost use Rattle.rly_disk.specs.DiskModel.{HasFailed};
 ghost use Rattle.rly_gate.specs.Reading.{OnlyRead, SyncsNothing};
 ghost use Rattle.rly_machine.specs.Fold.{AllAccepted, fold};
 ghost use Rattle.rly_journal.specs.Faults.{IsRefused};
-ghost use Rattle.rly_journal.specs.Log.{IsLogged, IsReplayed, IsShaped};
+ghost use Rattle.rly_journal.specs.Log.{IsLogged};
+ghost use Rattle.rly_journal.specs.HelpersJournal.{IsReplayed, IsShaped};
 
-use crate::fault::OpenFault;
+use crate::open_fault::OpenFault;
 use crate::tail::Tail;
 use rly_disk::Disk;
 use rly_gate::{GroupFault, read_group};
@@ -33,7 +34,7 @@ pub(crate) fn recover<D: Disk>(alloc: Global, disk: &mut D) -> Result<Recovered,
     ensures refused { (D.state disk.old).honest → IfErr result (λ fault. IsRefused (D.state disk.old).seen fault) }
     ensures only { OnlyRead (D.state disk.old) (D.state disk.new) }
     ensures unsynced { SyncsNothing (D.state disk.old) (D.state disk.new) }
-    ensures rise { result ≡ Err OpenFault.Device → Rose (D.state disk.old) (D.state disk.new) }
+    ensures rise { result ≡ Err OpenFault.Device → HasFailed (D.state disk.old) (D.state disk.new) }
     ensures no_failure { result ≢ Err OpenFault.Device → (D.state disk.new).failures ≡ (D.state disk.old).failures }
 {
     let mut found = read_newest_head(alloc, disk)?;
@@ -48,7 +49,7 @@ fn read_newest_head<D: Disk>(alloc: Global, disk: &mut D) -> Result<Recovered, O
     ensures refused { (D.state disk.old).honest → IfErr result (λ fault. IsRefused (D.state disk.old).seen fault) }
     ensures only { OnlyRead (D.state disk.old) (D.state disk.new) }
     ensures unsynced { SyncsNothing (D.state disk.old) (D.state disk.new) }
-    ensures rise { result ≡ Err OpenFault.Device → Rose (D.state disk.old) (D.state disk.new) }
+    ensures rise { result ≡ Err OpenFault.Device → HasFailed (D.state disk.old) (D.state disk.new) }
     ensures no_failure { result ≢ Err OpenFault.Device → (D.state disk.new).failures ≡ (D.state disk.old).failures }
 {
     let geometry = match read_header(disk) {
@@ -102,7 +103,7 @@ fn replay_group<D: Disk>(
     ensures progress { result ≡ Ok true → (found.old.tail.gate < found.new.tail.gate) × (found.new.tail.gate < 2 ^ 64) }
     ensures only { OnlyRead (D.state disk.old) (D.state disk.new) }
     ensures unsynced { SyncsNothing (D.state disk.old) (D.state disk.new) }
-    ensures rise { result ≡ Err OpenFault.Device → Rose (D.state disk.old) (D.state disk.new) }
+    ensures rise { result ≡ Err OpenFault.Device → HasFailed (D.state disk.old) (D.state disk.new) }
     ensures no_failure { result ≢ Err OpenFault.Device → (D.state disk.new).failures ≡ (D.state disk.old).failures }
 {
     let at = found.tail.gate;

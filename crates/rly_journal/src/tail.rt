@@ -1,11 +1,12 @@
 ghost use Rattle.std.specs.Prelude.{◌≡◌, ◌⊎◌, ◌+◌, ◌-◌, ◌<◌, ◌≤◌, ◌^◌, ◌↔◌, [], Err, IsTrue, List, OnErr, OnOk, ℕ, length};
 ghost use Rattle.rly_machine.specs.State.{State};
 ghost use Rattle.rly_core.specs.Bounds.{IsIn};
-ghost use Rattle.rly_disk.specs.DiskModel.{Later, LeavesOnly, Rose};
+ghost use Rattle.rly_disk.specs.DiskModel.{Later, LeavesOnly, HasFailed};
 ghost use Rattle.rly_segment.specs.Device.{IsGeometry};
 ghost use Rattle.rly_segment.specs.Heads.{segment_end, segment_place};
-ghost use Rattle.rly_journal.specs.Groups.{Gathers, empty_group, group_body};
-ghost use Rattle.rly_journal.specs.Log.{IsDurable, IsFull, IsSameHead, IsShaped, offset};
+ghost use Rattle.rly_journal.specs.HelpersGroups.{Gathers, empty_group, group_body};
+ghost use Rattle.rly_journal.specs.Log.{IsDurable, IsFull, IsSameHead, offset};
+ghost use Rattle.rly_journal.specs.HelpersJournal.{IsShaped};
 ghost use Rattle.rly_journal.specs.Standing.{Commands, Stands};
 
 use crate::group::Group;
@@ -62,7 +63,7 @@ pub(crate) fn renew<D: Disk>(
         → OnOk result (IsDurable (D.state disk.new) tail.new machine.now.state) }
     ensures err { OnErr result (tail.new ≡ tail.old) }
     ensures memory { result ≡ Err OpeningFault.OutOfMemory → disk.new ≡ disk.old }
-    ensures rise { result ≡ Err OpeningFault.Device → Rose (D.state disk.old) (D.state disk.new) }
+    ensures rise { result ≡ Err OpeningFault.Device → HasFailed (D.state disk.old) (D.state disk.new) }
     ensures no_failure { OnOk result ((D.state disk.new).failures ≡ (D.state disk.old).failures) }
     ensures opened { OnOk result (tail.new.generation ≡ tail.old.generation + 1) }
     ensures syncs { (D.state disk.new).syncs ≤ (D.state disk.old).syncs + 3 }
@@ -106,7 +107,7 @@ pub(crate) fn append<D: Disk>(
     ensures durable { (commands : Commands) (s t : State (List ℕ)) → IsDurable (D.state disk.old) tail.old s → Gathers commands group.old s t
         → OnOk result (IsDurable (D.state disk.new) tail.new t) }
     ensures emptied { group.new ≡ empty_group }
-    ensures rise { OnErr result (Rose (D.state disk.old) (D.state disk.new)) }
+    ensures rise { OnErr result (HasFailed (D.state disk.old) (D.state disk.new)) }
     ensures no_failure { OnOk result ((D.state disk.new).failures ≡ (D.state disk.old).failures) }
     ensures head { IsSameHead tail.old tail.new }
     ensures syncs { (D.state disk.new).syncs ≤ (D.state disk.old).syncs + 2 }

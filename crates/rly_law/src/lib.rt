@@ -11,6 +11,3 @@ mod laws;
 
 pub use control_law::{LONGEST_INTERVAL, step};
 pub use laws::{law_step_falls, law_step_is_the_only_greatest};
-
-#[cfg(test)]
-mod tests;

@@ -2,19 +2,20 @@
 use Rattle.std.proofs.Common.{ℕ, ◌≡◌, ◌+◌, ◌<◌, List, [], ◌∷◌, ◌++◌, map, length, get_or, refl, ap, sym, ◌∙◌, subst, arith}
 use Rattle.std.specs.List.{range_with_len}
 use Rattle.std.proofs.lemmas.List.FromFn.{get_or-map-range_with_len, length-map-range_with_len, map-range_with_len_more}
-use Rattle.rly_line.specs.EndViews.{AreInPlace, line_at, new_teller}
+use Rattle.rly_line.specs.EndViews.{AreInPlace, teller_at, new_teller}
 use Rattle.rly_line.specs.Replies.{Teller}
-use Rattle.rly_line.specs.Submission.{LineId, Taker}
+use Rattle.rly_line.specs.HelpersEnds.{Taker}
+use Rattle.rly_line.specs.Submission.{LineId}
 
 -- each of the new lines is new
-pub new_line_at : (count seat : ℕ) → seat < length (map new_teller (range_with_len 0 count)) → line_at (map new_teller (range_with_len 0 count)) seat ≡ new_teller seat
-new_line_at count seat here =
+pub new_teller_at : (count seat : ℕ) → seat < length (map new_teller (range_with_len 0 count)) → teller_at (map new_teller (range_with_len 0 count)) seat ≡ new_teller seat
+new_teller_at count seat here =
     let below : seat < count = omega (arith, here, length-map-range_with_len new_teller 0 count) in
     get_or-map-range_with_len new_teller 0 count seat seat (new_teller seat) below (omega arith)
 
 -- and in its place
 pub new_in_place : (count : ℕ) → AreInPlace (map new_teller (range_with_len 0 count))
-new_in_place count seat here = ap (λ (t : Teller). t.seat) (new_line_at count seat here)
+new_in_place count seat here = ap (λ (t : Teller). t.seat) (new_teller_at count seat here)
 
 -- what stands between others
 pub between : {X : Type 0} (front : List X) (x : X) (behind : List X) (d : X) → get_or (front ++ x ∷ behind) (length front) d ≡ x

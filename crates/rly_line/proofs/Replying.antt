@@ -5,7 +5,8 @@ use Rattle.rly_machine.specs.declared.call.Answer.{Answer}
 use Rattle.rly_machine.specs.History.{Entry, LegalButForBytes}
 use Rattle.rly_machine.specs.State.{State}
 use Rattle.rly_line.specs.declared.replies.ReplyView.{ReplyView}
-use Rattle.rly_line.specs.Replies.{GoesOn, Tells, Replied, Heard, both_ends, telling, hearing}
+use Rattle.rly_line.specs.HelpersEnds.{Tells, AreReplied, Teaches, both_ends, telling, hearing}
+use Rattle.rly_line.specs.Replies.{GoesOn}
 use Rattle.rly_line.proofs.Views.{each_set, each_push, alone}
 
 abbrev Base : Type 0
@@ -39,7 +40,7 @@ untold seat base known [] told chain none = (refl, chain)
 untold seat base known (x ∷ items) told chain none = absurd (let e : None ≡ Some chain.0 = sym none ∙ chain.2 in cc)
 
 -- a line begins with nothing told
-pub begins : Replied [] (both_ends ∷ [])
+pub begins : AreReplied [] (both_ends ∷ [])
 begins = (
   0,
   0,
@@ -57,7 +58,7 @@ begins = (
 )
 
 -- the line's first pass is cut into those of the two ends, which say whose the line is
-pub forks : (pass : ℕ) (v : ReplyView) (seat : ℕ) → v ≡ both_ends → Forks Replied pass v (telling seat) (hearing seat)
+pub forks : (pass : ℕ) (v : ReplyView) (seat : ℕ) → v ≡ both_ends → Forks AreReplied pass v (telling seat) (hearing seat)
 forks pass v seat is items views rule at =
     let teller = rule.0 in let hearer = rule.1 in let line = rule.6 in
     let left : ReplyView = telling seat in
@@ -89,7 +90,7 @@ forks pass v seat is items views rule at =
 -- an answer is put, which tells a history
 pub puts : (n pass : ℕ) (v : ReplyView) (answer : Answer) (start : State (List ℕ)) (history : List Entry) → v.tells ≡ true
     → (v.base ≡ None) ⊎ (v.base ≡ Some start) → LegalButForBytes start history → GoesOn v.seat v.told answer history
-    → Pushes Replied n pass v answer (λ w. w ≡ record v { base = Some start; told = history })
+    → Pushes AreReplied n pass v answer (λ w. w ≡ record v { base = Some start; told = history })
 puts n pass v answer start history may same legal next items views room rule at =
     let teller = rule.0 in let hearer = rule.1 in let seat = rule.2 in let base = rule.3 in let known = rule.4 in let told = rule.5 in let line = rule.6 in
     let w : ReplyView = record v { base = Some start; told = history } in
@@ -120,7 +121,7 @@ puts n pass v answer start history may same legal next items views room rule at 
 
 -- the seat takes an answer
 pub takes : (pass : ℕ) (v : ReplyView) → v.hears ≡ true
-    → Pops Replied pass v (λ answer w. (w ≡ record v { base = w.base; known = w.known }) × Heard v.seat v.base w.base v.known answer w.known)
+    → Pops AreReplied pass v (λ answer w. (w ≡ record v { base = w.base; known = w.known }) × Teaches v.seat v.base w.base v.known answer w.known)
 takes pass v may answer items views rule at =
     let teller = rule.0 in let hearer = rule.1 in let seat = rule.2 in let base = rule.3 in let known = rule.4 in let told = rule.5 in let line = rule.6 in
     let start = line.chain.0 in let history = line.chain.1 in let is = line.chain.2 in

@@ -7,7 +7,8 @@ use native.Mathlib.Decide.{dec_le, ℕ_discrete}
 use Rattle.crossbeam_channel.specs.Fifo.{Pushes, Pops, Forks, Learns, Merges}
 use Rattle.rly_machine.specs.declared.call.Call.{Call}
 use Rattle.rly_line.specs.declared.submission.LineView.{LineView}
-use Rattle.rly_line.specs.Submission.{AreBeside, calls_of, AreNumbered, Lined, IsNext, idle, taking, together, putting}
+use Rattle.rly_line.specs.HelpersEnds.{idle, taking, together, putting}
+use Rattle.rly_line.specs.Submission.{AreBeside, calls_of, AreNumbered, AreLined, IsNext}
 use Rattle.rly_line.proofs.Views.{alone, at_set, each_set, each_push}
 
 -- a call behind others is the last of its own seat's, and none of another's
@@ -41,7 +42,7 @@ pub numbered_more : (seat : ℕ) (calls : List Call) (x : Call) → AreNumbered 
 numbered_more seat calls x numbered next = numbered_by seat calls x numbered next (ℕ_discrete x.seat.0 seat)
 
 -- the line begins with no call and no seat
-pub begins : Lined [] (taking 0 [] ∷ [])
+pub begins : AreLined [] (taking 0 [] ∷ [])
 begins = (
   (λ _. 0),
   0,
@@ -57,7 +58,7 @@ begins = (
 
 -- a seat puts its next call
 pub puts : (n pass : ℕ) (v : LineView) (call : Call) → v.puts ≡ true → call.seat.0 ≡ v.seat → call.number ≡ length v.put + 1
-    → Pushes Lined n pass v call (λ w. w ≡ record v { put = v.put ++ call ∷ [] })
+    → Pushes AreLined n pass v call (λ w. w ≡ record v { put = v.put ++ call ∷ [] })
 puts n pass v call may mine next items views room rule at =
     let owner = rule.0 in let head = rule.1 in let count = rule.2 in let gone = rule.3 in let line = rule.4 in
     let w : LineView = record v { put = v.put ++ call ∷ [] } in
@@ -105,7 +106,7 @@ there count seat front x behind calls none is (yes past) =
 
 -- the head takes the first call of the line, which is its seat's next
 pub takes : (pass : ℕ) (v : LineView) → v.takes ≡ true
-    → Pops Lined pass v (λ call w. (w ≡ record v { taken = v.taken ++ call ∷ [] }) × IsNext v.seats v.taken call)
+    → Pops AreLined pass v (λ call w. (w ≡ record v { taken = v.taken ++ call ∷ [] }) × IsNext v.seats v.taken call)
 takes pass v may call items views rule at =
     let owner = rule.0 in let head = rule.1 in let count = rule.2 in let gone = rule.3 in let line = rule.4 in
     let w : LineView = record v { taken = v.taken ++ call ∷ [] } in
@@ -144,7 +145,7 @@ takes pass v may call items views rule at =
     )
 
 -- a pass of a new seat is cut from the one that takes
-pub forks : (pass : ℕ) (v : LineView) → v.takes ≡ true → Forks Lined pass v (record v { seats = v.seats + 1 }) (putting v.seats [])
+pub forks : (pass : ℕ) (v : LineView) → v.takes ≡ true → Forks AreLined pass v (record v { seats = v.seats + 1 }) (putting v.seats [])
 forks pass v may items views rule at =
     let owner = rule.0 in let head = rule.1 in let count = rule.2 in let gone = rule.3 in let line = rule.4 in
     let left : LineView = record v { seats = v.seats + 1 } in
@@ -176,7 +177,7 @@ forks pass v may items views rule at =
     )
 
 -- the pass that takes is put together with a seat's
-pub merges : (pass : ℕ) (v : LineView) (other : ℕ) (u : LineView) → v.takes ≡ true → u.puts ≡ true → Merges Lined pass v other u (together v u) idle
+pub merges : (pass : ℕ) (v : LineView) (other : ℕ) (u : LineView) → v.takes ≡ true → u.puts ≡ true → Merges AreLined pass v other u (together v u) idle
 merges pass v other u may theirs items views rule at apart now =
     let owner = rule.0 in let head = rule.1 in let count = rule.2 in let gone = rule.3 in let line = rule.4 in
     let both : LineView = together v u in
@@ -210,7 +211,7 @@ merges pass v other u may theirs items views rule at apart now =
     )
 
 -- and cut again
-pub parts : (pass : ℕ) (v : LineView) → v.takes ≡ true → v.puts ≡ true → Forks Lined pass v (taking v.seats v.taken) (putting v.seat v.put)
+pub parts : (pass : ℕ) (v : LineView) → v.takes ≡ true → v.puts ≡ true → Forks AreLined pass v (taking v.seats v.taken) (putting v.seat v.put)
 parts pass v may puts items views rule at =
     let owner = rule.0 in let head = rule.1 in let count = rule.2 in let gone = rule.3 in let line = rule.4 in
     let left : LineView = taking v.seats v.taken in
@@ -240,7 +241,7 @@ parts pass v may puts items views rule at =
     )
 
 -- what both tell together
-pub learns : (pass : ℕ) (v : LineView) → v.takes ≡ true → v.puts ≡ true → Learns Lined pass v (λ calls. calls_of v.seat (v.taken ++ calls) ≡ v.put)
+pub learns : (pass : ℕ) (v : LineView) → v.takes ≡ true → v.puts ≡ true → Learns AreLined pass v (λ calls. calls_of v.seat (v.taken ++ calls) ≡ v.put)
 learns pass v may puts items views rule at =
     let line = rule.4 in
     ap (λ l. calls_of v.seat (l ++ items)) (line.takes pass v at may).2 ∙ (line.puts pass v at puts).2
@@ -249,7 +250,7 @@ learns pass v may puts items views rule at =
 pub beginning : (seat : ℕ) (taken items put : List Call) → calls_of seat (taken ++ items) ≡ put → put ≡ calls_of seat taken ++ calls_of seat items
 beginning seat taken items put is = sym is ∙ filter-append (λ (c : Call). c.seat.0 == seat) taken items
 
-pub line_law : (items : List Call) (views : List LineView) (taker putter : LineView) → Lined items views → AreBeside views taker putter
+pub line_law : (items : List Call) (views : List LineView) (taker putter : LineView) → AreLined items views → AreBeside views taker putter
     → putter.put ≡ calls_of putter.seat taker.taken ++ calls_of putter.seat items
 line_law items views taker putter rule beside =
     let line = rule.4 in

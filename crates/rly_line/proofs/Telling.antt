@@ -11,12 +11,12 @@ use Rattle.rly_machine.specs.declared.call.SeatId.{SeatId}
 use Rattle.rly_machine.specs.History.{Entry, IsAnswered, harm, harm_after, next_state, state_after, without_bytes}
 use Rattle.rly_machine.specs.State.{State}
 use Rattle.rly_machine.proofs.Histories.{harm_after-append, legal_push, state_after-append}
-use Rattle.rly_line.specs.EndViews.{EndView, line_at, new_teller, with_gone, with_told}
+use Rattle.rly_line.specs.EndViews.{EndView, teller_at, new_teller, with_gone, with_told}
 use Rattle.rly_line.specs.Replies.{MayTell, Teller, entries_of}
 use Rattle.rly_line.specs.Responding.{AreLeft, IsInStep, IsResponding, IsTold, Responding, calls_in, responding}
 use Rattle.rly_line.specs.Story.{StoryView}
 use Rattle.rly_line.specs.Submission.{AreNumbered, IsNext, LineId, calls_of}
-use Rattle.rly_line.proofs.Making.{between, new_in_place, new_line_at}
+use Rattle.rly_line.proofs.Making.{between, new_in_place, new_teller_at}
 use Rattle.rly_line.proofs.Submitting.{numbered_at, numbered_more}
 
 -- the calls of a seat's entries are the seat's calls
@@ -56,7 +56,7 @@ module _ (r : Responding) (call : Call) (answer : Answer) (left : List Call) (ho
   History = r.history ++ (call, answer) ∷ []
 
   abbrev its_line : Teller
-  its_line = line_at r.lines call.seat.0
+  its_line = teller_at r.lines call.seat.0
 
   -- the call's seat is there
   pub seat_there : call.seat.0 < length r.lines
@@ -115,18 +115,18 @@ module _ (r : Responding) (call : Call) (answer : Answer) (left : List Call) (ho
       (λ gone. absurd (true≢false gone))
 
   each_told : (now : Teller) → IsTold r.start History now → (seat : ℕ) → seat < length (set r.lines call.seat.0 now) → Dec (seat ≡ call.seat.0)
-      → IsTold r.start History (line_at (set r.lines call.seat.0 now) seat)
+      → IsTold r.start History (teller_at (set r.lines call.seat.0 now) seat)
   each_told now told seat here (yes own) =
       subst (λ (t : Teller). IsTold r.start History t)
       (sym (ap (λ (k : ℕ). get_or (set r.lines call.seat.0 now) k (new_teller seat)) own ∙ get_or-set_same r.lines call.seat.0 now (new_teller seat) seat_there)) told
   each_told now told seat here (no other) =
       let there : seat < length r.lines = subst (λ (n : ℕ). seat < n) (length-set r.lines call.seat.0 now) here in
-      let same : get_or (set r.lines call.seat.0 now) seat (new_teller seat) ≡ line_at r.lines seat = get_or-set_other r.lines call.seat.0 seat now (new_teller seat) other in
+      let same : get_or (set r.lines call.seat.0 now) seat (new_teller seat) ≡ teller_at r.lines seat = get_or-set_other r.lines call.seat.0 seat now (new_teller seat) other in
       subst (λ (t : Teller). IsTold r.start History t) (sym same)
-      (older (line_at r.lines seat) (holds.told seat there) (λ _ e. other (sym (e ∙ holds.in_place seat there))))
+      (older (teller_at r.lines seat) (holds.told seat there) (λ _ e. other (sym (e ∙ holds.in_place seat there))))
 
   each_in_place : (now : Teller) → now.seat ≡ call.seat.0 → (seat : ℕ) → seat < length (set r.lines call.seat.0 now) → Dec (seat ≡ call.seat.0)
-      → (line_at (set r.lines call.seat.0 now) seat).seat ≡ seat
+      → (teller_at (set r.lines call.seat.0 now) seat).seat ≡ seat
   each_in_place now mine seat here (yes own) =
       ap (λ (t : Teller). t.seat) (ap (λ (k : ℕ). get_or (set r.lines call.seat.0 now) k (new_teller seat)) own ∙ get_or-set_same r.lines call.seat.0 now (new_teller seat) seat_there) ∙ mine ∙ sym own
   each_in_place now mine seat here (no other) =
@@ -165,7 +165,7 @@ none_yet of start count = record {
   seated = λ k d lt. absurd (omega arith);
   numbered = λ _. tt;
   in_place = new_in_place count;
-  told = λ seat here. subst (IsTold start []) (sym (new_line_at count seat here)) (record { base = inl refl; rest = []; whole = refl; up_to_date = λ _. refl });
+  told = λ seat here. subst (IsTold start []) (sym (new_teller_at count seat here)) (record { base = inl refl; rest = []; whole = refl; up_to_date = λ _. refl });
 }
 
 -- at new lines
@@ -192,26 +192,26 @@ module _ (line : EndView) (story pushed : StoryView) (call : Call) (answer : Ans
   pub seat_ok : answer.seat.0 < length line.lines
   seat_ok = subst (λ (s : SeatId). s.0 < length line.lines) (sym answered.seat) (seat_there (responding line story) call answer next.0 holds next.1)
 
-  pub may_ok : (line_at line.lines answer.seat.0).gone ≡ false → MayTell (line_at line.lines answer.seat.0) pushed.start answer pushed.history
-  may_ok = subst (λ (y : SeatId × StoryView). (line_at line.lines y.0.0).gone ≡ false → MayTell (line_at line.lines y.0.0) y.1.start answer y.1.history)
+  pub may_ok : (teller_at line.lines answer.seat.0).gone ≡ false → MayTell (teller_at line.lines answer.seat.0) pushed.start answer pushed.history
+  may_ok = subst (λ (y : SeatId × StoryView). (teller_at line.lines y.0.0).gone ≡ false → MayTell (teller_at line.lines y.0.0) y.1.start answer y.1.history)
       (λ i. (sym answered.seat i, sym is i)) (may_tell (responding line story) call answer next.0 holds next.1 answered)
 
   put_back : (of : LineId) (taken : List Call) (lines : List Teller) (now : Teller) → of ≡ line.of → taken ≡ line.taken → lines ≡ set line.lines call.seat.0 now
-      → IsTold story.start Longer.history now → now.seat ≡ (line_at line.lines call.seat.0).seat
+      → IsTold story.start Longer.history now → now.seat ≡ (teller_at line.lines call.seat.0).seat
       → IsResponding (record { of = of; taken = taken; start = pushed.start; history = pushed.history; lines = lines })
   put_back of taken lines now at same lines_are told mine =
       subst (λ (y : LineId × List Call × StoryView × List Teller). IsResponding (record { of = y.0; taken = y.1; start = y.2.start; history = y.2.history; lines = y.3 }))
       (λ i. (sym at i, sym same i, sym is i, sym lines_are i)) (goes_on (responding line story) call answer next.0 holds next.1 now told mine answered)
 
   pub after_ok : (after : EndView) (told : Bool) → after.of ≡ line.of → after.taken ≡ line.taken
-      → MatchBool told (after.lines ≡ set line.lines answer.seat.0 (with_told (line_at line.lines answer.seat.0) pushed))
-      (after.lines ≡ set line.lines answer.seat.0 (with_gone (line_at line.lines answer.seat.0)))
+      → MatchBool told (after.lines ≡ set line.lines answer.seat.0 (with_told (teller_at line.lines answer.seat.0) pushed))
+      (after.lines ≡ set line.lines answer.seat.0 (with_gone (teller_at line.lines answer.seat.0)))
       → IsResponding (responding after pushed)
-  after_ok after true at taken lines = put_back after.of after.taken after.lines (with_told (line_at line.lines call.seat.0) Longer) at taken
-      (lines ∙ ap (λ (y : SeatId × StoryView). set line.lines y.0.0 (with_told (line_at line.lines y.0.0) y.1)) (λ i. (answered.seat i, is i)))
+  after_ok after true at taken lines = put_back after.of after.taken after.lines (with_told (teller_at line.lines call.seat.0) Longer) at taken
+      (lines ∙ ap (λ (y : SeatId × StoryView). set line.lines y.0.0 (with_told (teller_at line.lines y.0.0) y.1)) (λ i. (answered.seat i, is i)))
       (told_now (responding line story) call answer next.0 holds next.1) refl
-  after_ok after false at taken lines = put_back after.of after.taken after.lines (with_gone (line_at line.lines call.seat.0)) at taken
-      (lines ∙ ap (λ (s : SeatId). set line.lines s.0 (with_gone (line_at line.lines s.0))) answered.seat)
+  after_ok after false at taken lines = put_back after.of after.taken after.lines (with_gone (teller_at line.lines call.seat.0)) at taken
+      (lines ∙ ap (λ (s : SeatId). set line.lines s.0 (with_gone (teller_at line.lines s.0))) answered.seat)
       (gone_now (responding line story) call answer next.0 holds next.1) refl
 
 -- the thread that answers each call on a machine stays in step with it

@@ -5,7 +5,8 @@ use Rattle.rly_line.specs.Replies.{Teller}
 use Rattle.rly_line.specs.Story.{StoryView}
 use Rattle.rly_line.specs.Submission.{LineId}
 
--- what contracts see of it: which line it takes calls from and how many that holds, the calls that were taken, and what each seat's line was told
+-- what contracts see of it: which line it takes calls from and how many that holds, the calls that were taken, and
+-- what each seat's line was told
 pub record EndView : Type 0 where
   pub of : LineId
   pub capacity : ℕ
@@ -17,8 +18,8 @@ abbrev pub new_teller : ℕ → Teller
 new_teller number = record { seat = number; capacity = 1; base = None; told = []; gone = false }
 
 -- the line of a seat
-abbrev pub line_at : List Teller → ℕ → Teller
-line_at lines seat = slice_index_or lines seat (new_teller seat)
+abbrev pub teller_at : List Teller → ℕ → Teller
+teller_at lines seat = slice_index_or lines seat (new_teller seat)
 
 -- a line once it was told a history, and once its seat was found gone
 abbrev pub with_told : Teller → StoryView → Teller
@@ -29,4 +30,4 @@ with_gone line = record line { gone = true }
 
 -- each line is that of the seat at its place
 abbrev pub AreInPlace : List Teller → Type 0
-AreInPlace lines = (seat : ℕ) → seat < length lines → (line_at lines seat).seat ≡ seat
+AreInPlace lines = (seat : ℕ) → seat < length lines → (teller_at lines seat).seat ≡ seat

@@ -3,13 +3,13 @@ use Rattle.std.specs.Prelude.{ℕ, ◌≡◌, ◌<◌, ◌⊎◌, List, [], ◌+
 use Rattle.rly_machine.specs.declared.call.Call.{Call}
 use Rattle.rly_machine.specs.History.{Entry, LegalButForBytes, harm_after, state_after}
 use Rattle.rly_machine.specs.State.{State}
-use Rattle.rly_line.specs.EndViews.{AreInPlace, EndView, line_at}
+use Rattle.rly_line.specs.EndViews.{AreInPlace, EndView, teller_at}
 use Rattle.rly_line.specs.Replies.{Teller, entries_of}
 use Rattle.rly_line.specs.Story.{StoryView}
 use Rattle.rly_line.specs.Submission.{AreNumbered, LineId, calls_of}
 
--- what contracts see of it: which line it takes calls from, the calls that were taken, the state that it began in, the history that it made, and what
--- each seat's line was told
+-- what contracts see of it: which line it takes calls from, the calls that were taken, the state that it began in, the
+-- history that it made, and what each seat's line was told
 pub record Responding : Type 0 where
   pub of : LineId
   pub taken : List Call
@@ -19,7 +19,13 @@ pub record Responding : Type 0 where
 
 -- its end of all lines and its history, as one value
 abbrev pub responding : EndView → StoryView → Responding
-responding line story = record { of = line.of; taken = line.taken; start = story.start; history = story.history; lines = line.lines }
+responding line story = record {
+  of = line.of;
+  taken = line.taken;
+  start = story.start;
+  history = story.history;
+  lines = line.lines;
+}
 
 -- the calls of a history
 abbrev pub calls_in : List Entry → List Call
@@ -29,7 +35,8 @@ calls_in history = map (λ entry. entry.0) history
 abbrev pub AreLeft : Responding → List Call → Type 0
 AreLeft r left = r.taken ≡ calls_in r.history ++ left
 
--- a line was told nothing, or the start and a beginning of the history. The rest has no call of its seat, unless the seat is gone
+-- a line was told nothing, or the start and a beginning of the history. The rest has no call of its seat, unless the
+-- seat is gone
 pub record IsTold (start : State (List ℕ)) (history : List Entry) (line : Teller) : Type 0 where
   pub base : (line.base ≡ None) ⊎ (line.base ≡ Some start)
   pub rest : List Entry
@@ -37,7 +44,7 @@ pub record IsTold (start : State (List ℕ)) (history : List Entry) (line : Tell
   pub up_to_date : line.gone ≡ false → entries_of line.seat rest ≡ []
 
 abbrev pub AreTold : State (List ℕ) → List Entry → List Teller → Type 0
-AreTold start history lines = (seat : ℕ) → seat < length lines → IsTold start history (line_at lines seat)
+AreTold start history lines = (seat : ℕ) → seat < length lines → IsTold start history (teller_at lines seat)
 
 -- what holds of the thread at each moment
 pub record IsResponding (r : Responding) : Type 0 where

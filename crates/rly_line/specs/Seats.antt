@@ -1,5 +1,6 @@
 -- A caller's seat: what it put, and what it knows.
-use Rattle.std.specs.Prelude.{ℕ, ◌≡◌, ◌+◌, ◌⊎◌, List, [], ◌∷◌, ◌++◌, Bool, true, false, Option, Some, None, length, Result, Ok, Err}
+use Rattle.std.specs.Prelude.{ℕ, ◌≡◌, ◌+◌, ◌⊎◌, List, [], ◌∷◌, ◌++◌, length}
+use Rattle.std.specs.Prelude.{Bool, true, false, Option, Some, None, Result, Ok, Err}
 use Rattle.rly_machine.specs.declared.call.Answer.{Answer}
 use Rattle.rly_machine.specs.declared.call.Call.{Call}
 use Rattle.rly_machine.specs.declared.call.SeatId.{SeatId}
@@ -8,10 +9,11 @@ use Rattle.rly_machine.specs.History.{Entry, LegalButForBytes}
 use Rattle.rly_machine.specs.State.{State}
 use Rattle.rly_line.specs.declared.call_error.CallError.{CallError}
 use Rattle.rly_line.specs.declared.call_error.CallError.TheVariants.{Closed, Lost}
-use Rattle.rly_line.specs.Replies.{Hearer, entries_of}
-use Rattle.rly_line.specs.Submission.{LineId, Putter}
+use Rattle.rly_line.specs.Replies.{entries_of}
+use Rattle.rly_line.specs.Submission.{LineId}
 
--- what contracts see of a seat: which line it puts calls into, the calls that it put, the base state and the history that it knows, and whether it is shut
+-- what contracts see of a seat: which line it puts calls into, the calls that it put, the base state and the history
+-- that it knows, and whether it is shut
 pub record Caller : Type 0 where
   pub of : LineId
   pub seat : SeatId
@@ -29,13 +31,14 @@ abbrev pub next_call : Caller → Ask → Call
 next_call c ask = record { seat = c.seat; number = length c.put + 1; ask = ask }
 
 -- a seat after its ask was answered, where it was another before
-pub record Answered (before : Caller) (ask : Ask) (answer : Answer) (after : Caller) : Type 0 where
+pub record IsAnsweredWith (before : Caller) (ask : Ask) (answer : Answer) (after : Caller) : Type 0 where
   pub of : after.of ≡ before.of
   pub seat : after.seat ≡ before.seat
   pub open_still : after.shut ≡ false
   -- the calls that it put grew by this ask, under the next number
   pub put : after.put ≡ before.put ++ next_call before ask ∷ []
-  -- what it knows begins with all that it knew, and ends with its call of that number and this answer; between them are calls of others
+  -- what it knows begins with all that it knew, and ends with its call of that number and this answer; between them
+  -- are calls of others
   pub between : List Entry
   pub call : Call
   pub known : after.known ≡ (before.known ++ between) ++ (call, answer) ∷ []
@@ -53,17 +56,11 @@ pub record Answered (before : Caller) (ask : Ask) (answer : Answer) (after : Cal
 -- a seat after its ask was not answered: it was handed back and not put, or it was put and no answer came
 abbrev pub IsUnanswered : Caller → Ask → CallError → Caller → Type 0
 IsUnanswered before ask (Closed back) after = (back ≡ ask) × (after ≡ before)
-IsUnanswered before ask Lost after = after ≡ record before { put = before.put ++ next_call before ask ∷ []; shut = true }
+IsUnanswered before ask Lost after =
+    after ≡ record before { put = before.put ++ next_call before ask ∷ []; shut = true }
 
 -- a call was not put
-abbrev pub IsClosed : Result Answer CallError → Type 0
-IsClosed (Ok _) = ⊥
-IsClosed (Err (Closed _)) = Unit {0}
-IsClosed (Err Lost) = ⊥
-
--- the two ends of a seat are its own; it counts its calls; and while it is open all of them were answered
-pub record IsSeated (seat : SeatId) (p : Putter) (h : Hearer) (calls : ℕ) (shut : Bool) : Type 0 where
-  pub puts : p.seat ≡ seat.0
-  pub hears : h.seat ≡ seat.0
-  pub count : calls ≡ length p.put
-  pub answered : shut ≡ false → length (entries_of seat.0 h.known) ≡ length p.put
+abbrev pub IsNotPut : Result Answer CallError → Type 0
+IsNotPut (Ok _) = ⊥
+IsNotPut (Err (Closed _)) = Unit {0}
+IsNotPut (Err Lost) = ⊥

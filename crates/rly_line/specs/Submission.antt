@@ -1,10 +1,10 @@
--- The line that calls go into, under one rule: of each seat, the calls that were taken, and behind them those in the line, are those that it put.
-use Rattle.std.specs.Prelude.{ℕ, ◌≡◌, ◌+◌, ◌<◌, ◌≤◌, ◌==◌, List, [], ◌∷◌, ◌++◌, true, false, filter, length}
+-- The line that calls go into, under one rule: of each seat, the calls that were taken, and behind them those in the
+-- line, are those that it put.
+use Rattle.std.specs.Prelude.{ℕ, ◌≡◌, ◌+◌, ◌<◌, ◌≤◌, ◌==◌, List, [], ◌∷◌, ◌++◌, true, filter, length}
 use mathlib.Core.Option.{some}
 use lib.ListN.{get_elem?}
 use Rattle.atomic_table.specs.Seated.{TableId}
 use Rattle.atomic_table.specs.declared.badge.Badge.{Badge}
-use Rattle.crossbeam_channel.specs.Claims.{Pass}
 use Rattle.crossbeam_channel.specs.declared.flavors.array.Key.{Key}
 use Rattle.rly_machine.specs.declared.call.Call.{Call}
 use Rattle.rly_line.specs.declared.submission.LineView.{LineView}
@@ -29,44 +29,14 @@ pub record IsLine (owner : ℕ → ℕ) (head count : ℕ) (gone items : List Ca
       → (pass ≡ head) × (v.seats ≡ count) × (v.taken ≡ gone)
 
 -- the rule
-abbrev pub Lined : List Call → List LineView → Type 0
-Lined items views = (owner : ℕ → ℕ) × (head : ℕ) × (count : ℕ) × (gone : List Call) × IsLine owner head count gone items views
-
--- the view of the pass that takes, and that of a seat's pass
-abbrev pub taking : ℕ → List Call → LineView
-taking seats taken = record { puts = false; seat = 0; put = []; takes = true; seats = seats; taken = taken }
-
-abbrev pub putting : ℕ → List Call → LineView
-putting seat put = record { puts = true; seat = seat; put = put; takes = false; seats = 0; taken = [] }
-
--- what both know together, and what is left of the view of a pass that was given up
-abbrev pub together : LineView → LineView → LineView
-together taker putter = record taker { puts = true; seat = putter.seat; put = putter.put }
-
-abbrev pub idle : LineView
-idle = record { puts = false; seat = 0; put = []; takes = false; seats = 0; taken = [] }
+abbrev pub AreLined : List Call → List LineView → Type 0
+AreLined items views =
+    (owner : ℕ → ℕ) × (head : ℕ) × (count : ℕ) × (gone : List Call) × IsLine owner head count gone items views
 
 -- which line it is, as the channel names itself
 pub record LineId : Type 0 where
   pub table : TableId
   pub key : Badge (Key Call)
-
--- the line that a pass is of
-abbrev pub line_of : Pass Call LineView → LineId
-line_of pass = record { table = pass.table_id; key = pass.me.0.of }
-
--- what contracts see of a seat's end of the line, and of the other end
-pub record Putter : Type 0 where
-  pub of : LineId
-  pub seat : ℕ
-  pub put : List Call
-
-pub record Taker : Type 0 where
-  pub of : LineId
-  -- so many calls the line holds
-  pub capacity : ℕ
-  pub seats : ℕ
-  pub taken : List Call
 
 -- a call is the next of its seat, one of so many, behind those taken
 pub record IsNext (seats : ℕ) (taken : List Call) (call : Call) : Type 0 where

@@ -31,7 +31,7 @@ impl Model for LineEnd {
 }
 
 impl LineEnd {
-    ghost use Rattle.rly_line.specs.EndViews.{AreInPlace, line_at, with_gone, with_told};
+    ghost use Rattle.rly_line.specs.EndViews.{AreInPlace, teller_at, with_gone, with_told};
 
     /// The end of these lines.
     pub(crate) fn new(calls: TakeEnd, replies: Vec<TellEnd>) -> LineEnd
@@ -63,13 +63,13 @@ impl LineEnd {
     /// not where the seat is gone, and then never again.
     pub fn tell<T: Standing, R: Wait>(&mut self, rt: &R, answer: Answer, story: &Story<T>) -> bool
         requires seat { answer.seat.0 < length self.old.lines }
-        requires may { (line_at self.old.lines answer.seat.0).gone ≡ false
-            → MayTell (line_at self.old.lines answer.seat.0) story.now.start answer story.now.history }
+        requires may { (teller_at self.old.lines answer.seat.0).gone ≡ false
+            → MayTell (teller_at self.old.lines answer.seat.0) story.now.start answer story.now.history }
         ensures of { self.new.of ≡ self.old.of }
         ensures taken { self.new.taken ≡ self.old.taken }
         ensures told { MatchBool result
-            (self.new.lines ≡ slice_set self.old.lines answer.seat.0 (with_told (line_at self.old.lines answer.seat.0) story.now))
-            (self.new.lines ≡ slice_set self.old.lines answer.seat.0 (with_gone (line_at self.old.lines answer.seat.0))) }
+            (self.new.lines ≡ slice_set self.old.lines answer.seat.0 (with_told (teller_at self.old.lines answer.seat.0) story.now))
+            (self.new.lines ≡ slice_set self.old.lines answer.seat.0 (with_gone (teller_at self.old.lines answer.seat.0))) }
     {
         let seat = answer.seat.0 as usize;
         let line = &mut self.replies[seat];

@@ -3,7 +3,8 @@
 ghost use Rattle.std.specs.Prelude.{◌≡◌, ℕ, ◌∷◌, [], None, Some, false, true, IfNone, IfSome, IfOk, MatchBool};
 ghost use Rattle.crossbeam_channel.specs.Claims.{view, IsSeatAt};
 ghost use Rattle.crossbeam_channel.specs.Ends.{sends_on, receives_on};
-ghost use Rattle.rly_line.specs.Replies.{Heard, MayTell};
+ghost use Rattle.rly_line.specs.HelpersEnds.{Teaches};
+ghost use Rattle.rly_line.specs.Replies.{MayTell};
 
 use crate::story::{Standing, Story};
 use crossbeam_channel::protocol::{Lesson, Outcome, Protocol, Split};
@@ -48,11 +49,11 @@ pub struct ReplyView {
 pub struct Replied;
 
 impl Protocol<Answer, ReplyView> for Replied {
-    ghost use Rattle.rly_line.specs.Replies as replies;
+    ghost use Rattle.rly_line.specs.HelpersEnds as helpers;
 
-    ghost holds = { replies.Replied };
+    ghost holds = { helpers.AreReplied };
 
-    ghost first = { replies.both_ends };
+    ghost first = { helpers.both_ends };
 }
 
 /// Whose line it is, for the proof alone.
@@ -70,7 +71,7 @@ struct Ends<W> {
 }
 
 impl<W: Whose> Split<ReplyView> for Ends<W> {
-    ghost use Rattle.rly_line.specs.Replies.{telling, hearing};
+    ghost use Rattle.rly_line.specs.HelpersEnds.{telling, hearing};
 
     ghost left = { λ v. telling W.seat };
 
@@ -117,9 +118,9 @@ struct Takes;
 
 impl Outcome<Answer, ReplyView> for Takes {
     ghost use Rattle.std.specs.Prelude.{◌≡◌};
-    ghost use Rattle.rly_line.specs.Replies.{Heard};
+    ghost use Rattle.rly_line.specs.HelpersEnds.{Teaches};
 
-    ghost then = { λ v answer w. (w ≡ record v { base = w.base; known = w.known }) × Heard v.seat v.base w.base v.known answer w.known };
+    ghost then = { λ v answer w. (w ≡ record v { base = w.base; known = w.known }) × Teaches v.seat v.base w.base v.known answer w.known };
 }
 
 impl Lesson<Answer, ReplyView> for Takes {
@@ -193,7 +194,7 @@ impl Model for HearEnd {
     ghost use Rattle.std.specs.Prelude.{◌≡◌, true};
     ghost use Rattle.crossbeam_channel.specs.Claims.{view as pass_view, IsSeatAt};
     ghost use Rattle.crossbeam_channel.specs.Ends.{receives_on};
-    ghost use Rattle.rly_line.specs.Replies.{Hearer};
+    ghost use Rattle.rly_line.specs.HelpersEnds.{Hearer};
 
     ghost Value = { Hearer };
 
@@ -206,7 +207,7 @@ impl HearEnd {
     /// Waits for an answer. None: there was none, and the other end is gone.
     pub fn hear<R: Wait>(&mut self, rt: &R) -> Option<Answer>
         ensures seat { self.new.seat ≡ self.old.seat }
-        ensures heard { IfSome result (λ answer. Heard self.old.seat self.old.base self.new.base self.old.known answer self.new.known) }
+        ensures heard { IfSome result (λ answer. Teaches self.old.seat self.old.base self.new.base self.old.known answer self.new.known) }
         ensures none { IfNone result (self.new ≡ self.old) }
     {
         match self.line.recv_as::<Takes, R>(rt, &mut self.pass) {

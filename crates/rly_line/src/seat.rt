@@ -22,7 +22,8 @@ pub struct Seat {
 }
 
 impl Model for Seat {
-    ghost use Rattle.rly_line.specs.Seats.{Caller, IsSeated};
+    ghost use Rattle.rly_line.specs.HelpersEnds.{IsSeated};
+    ghost use Rattle.rly_line.specs.Seats.{Caller};
 
     ghost Value = { Caller };
 
@@ -32,7 +33,7 @@ impl Model for Seat {
 }
 
 impl Seat {
-    ghost use Rattle.rly_line.specs.Seats.{Answered, IsClosed, IsUnanswered, new_caller};
+    ghost use Rattle.rly_line.specs.Seats.{IsAnsweredWith, IsNotPut, IsUnanswered, new_caller};
     ghost use Rattle.rly_line.specs.Submission.{IsBeginning};
 
     /// A seat at its two ends, of which nothing was asked.
@@ -83,9 +84,9 @@ impl Seat {
     /// Asks, and waits for the answer. Closed: the call was not put, and is handed back. Lost: it was
     /// put, no answer came, and each later call is Closed; so it is after 2^52 calls.
     pub fn call<R: Wait>(&mut self, rt: &R, ask: Ask) -> Result<Answer, CallError>
-        ensures ok { IfOk result (λ answer. Answered self.old ask answer self.new) }
+        ensures ok { IfOk result (λ answer. IsAnsweredWith self.old ask answer self.new) }
         ensures err { IfErr result (λ error. IsUnanswered self.old ask error self.new) }
-        ensures shut { (self.old.shut ≡ true) ⊎ (2 ^ 52 ≤ length self.old.put) → IsClosed result }
+        ensures shut { (self.old.shut ≡ true) ⊎ (2 ^ 52 ≤ length self.old.put) → IsNotPut result }
     {
         if self.is_shut || self.calls >= MAX_CALLS {
             return Err(CallError::Closed(ask));

@@ -34,11 +34,12 @@ pub struct Lined;
 
 impl Protocol<Call, LineView> for Lined {
     ghost use Rattle.std.specs.Prelude.{[]};
+    ghost use Rattle.rly_line.specs.HelpersEnds as helpers;
     ghost use Rattle.rly_line.specs.Submission as submission;
 
-    ghost holds = { submission.Lined };
+    ghost holds = { submission.AreLined };
 
-    ghost first = { submission.taking 0 [] };
+    ghost first = { helpers.taking 0 [] };
 }
 
 /// A pass of a new seat is cut from the one that takes.
@@ -46,7 +47,7 @@ pub struct Seats;
 
 impl Split<LineView> for Seats {
     ghost use Rattle.std.specs.Prelude.{◌+◌, []};
-    ghost use Rattle.rly_line.specs.Submission.{putting};
+    ghost use Rattle.rly_line.specs.HelpersEnds.{putting};
 
     ghost left = { λ v. record v { seats = v.seats + 1 } };
 
@@ -84,7 +85,7 @@ impl Lesson<Call, LineView> for Takes {
 struct Together;
 
 impl Join<LineView> for Together {
-    ghost use Rattle.rly_line.specs.Submission.{idle, together};
+    ghost use Rattle.rly_line.specs.HelpersEnds.{idle, together};
 
     ghost both = { λ v w. together v w };
 
@@ -92,7 +93,7 @@ impl Join<LineView> for Together {
 }
 
 impl Split<LineView> for Together {
-    ghost use Rattle.rly_line.specs.Submission.{putting, taking};
+    ghost use Rattle.rly_line.specs.HelpersEnds.{putting, taking};
 
     ghost left = { λ v. taking v.seats v.taken };
 
@@ -118,7 +119,7 @@ impl Model for Line {
     ghost use Rattle.std.specs.Prelude.{◌≡◌, true};
     ghost use Rattle.crossbeam_channel.specs.Claims.{view as pass_view, IsSeatAt};
     ghost use Rattle.crossbeam_channel.specs.Ends.{receives_on, ruled_capacity, sends_on};
-    ghost use Rattle.rly_line.specs.Submission.{Taker, line_of};
+    ghost use Rattle.rly_line.specs.HelpersEnds.{Taker, line_of};
 
     ghost Value = { Taker };
 
@@ -169,7 +170,7 @@ impl Model for SubmitEnd {
     ghost use Rattle.std.specs.Prelude.{◌≡◌, true};
     ghost use Rattle.crossbeam_channel.specs.Claims.{view as pass_view, IsSeatAt};
     ghost use Rattle.crossbeam_channel.specs.Ends.{sends_on};
-    ghost use Rattle.rly_line.specs.Submission.{Putter, line_of};
+    ghost use Rattle.rly_line.specs.HelpersEnds.{Putter, line_of};
 
     ghost Value = { Putter };
 
@@ -205,7 +206,7 @@ impl Model for TakeEnd {
     ghost use Rattle.std.specs.Prelude.{◌≡◌, true};
     ghost use Rattle.crossbeam_channel.specs.Claims.{view as pass_view, IsSeatAt};
     ghost use Rattle.crossbeam_channel.specs.Ends.{receives_on, ruled_capacity};
-    ghost use Rattle.rly_line.specs.Submission.{Taker, line_of};
+    ghost use Rattle.rly_line.specs.HelpersEnds.{Taker, line_of};
 
     ghost Value = { Taker };
 

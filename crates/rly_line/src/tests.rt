@@ -100,20 +100,20 @@ fn line_row_2(rt: HostRuntime) -> Result<(), Fail> {
     let mut calls = Responder::new(line, &machine);
     let second = seats.pop().ok_or("two seats")?;
     let first = seats.pop().ok_or("two seats")?;
-    assert_eq!(rt; (first.id().0, second.id().0), (0, 1));
+    expect!(rt; (first.id().0, second.id().0) == (0, 1));
     let asking = thread::spawn(&rt, move || take_first(&rt, alloc, first, second))
         .ok()
         .ok_or("a thread")?;
-    assert!(rt; answer_one(&rt, alloc, &mut machine, &mut calls));
+    expect!(rt; answer_one(&rt, alloc, &mut machine, &mut calls));
     let (reply, mut second) = asking.join(&rt).ok_or("the first is answered")?;
     assert!(rt; matches!(&reply, Reply::Taken(1)), "{reply:?}");
     let asking = thread::spawn(&rt, move || take_at(&rt, alloc, &mut second))
         .ok()
         .ok_or("a thread")?;
-    assert!(rt; answer_one(&rt, alloc, &mut machine, &mut calls));
+    expect!(rt; answer_one(&rt, alloc, &mut machine, &mut calls));
     let reply = asking.join(&rt).ok_or("the second is answered")?;
     assert!(rt; matches!(&reply, Reply::Already(1)), "{reply:?}");
-    assert!(rt; !answer_one(&rt, alloc, &mut machine, &mut calls));
+    expect!(rt; !answer_one(&rt, alloc, &mut machine, &mut calls));
     Ok(())
 }
 
@@ -150,7 +150,7 @@ fn a_full_line_is_waited_for(rt: HostRuntime) -> Result<(), Fail> {
         }
     }
     for asked in asking {
-        assert_eq!(rt; asked.join(&rt), ASKS);
+        expect!(rt; asked.join(&rt) == ASKS);
     }
     Ok(())
 }
@@ -161,8 +161,8 @@ fn both_ends_agree(rt: HostRuntime) -> Result<(), Fail> {
     let (mut seats, mut line) = make(rt.alloc(), 1, 2)?;
     let seat = seats.pop().ok_or("a seat")?;
     let seat = line.law_beginning(seat);
-    assert_eq!(rt; seat.id().0, 1);
-    assert!(rt; line.more(&rt).is_none());
+    expect!(rt; seat.id().0 == 1);
+    expect!(rt; line.more(&rt).is_none());
     Ok(())
 }
 
@@ -174,7 +174,7 @@ fn nobody_answers(rt: HostRuntime) -> Result<(), Fail> {
     drop(line);
     match seat.call(&rt, window()) {
         Err(CallError::Closed(Ask::Query(query))) => {
-            assert_eq!(rt; query, Query::Window { hop: HopId(1) });
+            expect!(rt; query == Query::Window { hop: HopId(1) });
         }
         other => panic!(rt; "{other:?}"),
     }
@@ -197,9 +197,9 @@ fn an_answer_is_lost(rt: HostRuntime) -> Result<(), Fail> {
     .ok()
     .ok_or("a thread")?;
     let call = line.wait(&rt).ok_or("a call")?;
-    assert_eq!(rt; (call.seat.0, call.number), (0, 1));
-    assert!(rt; line.more(&rt).is_none());
+    expect!(rt; (call.seat.0, call.number) == (0, 1));
+    expect!(rt; line.more(&rt).is_none());
     drop(line);
-    assert_eq!(rt; asking.join(&rt), (true, true));
+    expect!(rt; asking.join(&rt) == (true, true));
     Ok(())
 }

@@ -17,10 +17,10 @@ use Rattle.rly_machine.specs.declared.hop.Item.{Item}
 use Rattle.rly_machine.specs.declared.reply.Reply.{Reply}
 use Rattle.rly_machine.specs.declared.reply.Reply.TheVariants.{Taken, Already, Picked, Nothing, Released, Unchanged, Bytes, WindowIs, Shown, Refused}
 use Rattle.rly_machine.specs.Accepted.{accept, max_seq, unless}
-use Rattle.rly_machine.specs.Custody.{KeepsCustody, Told, and_then, ids_of, nothing, times, told, told_along}
+use Rattle.rly_machine.specs.Custody.{HopAccount, KeepsCustody, account_along, account_of, and_then, ids_of, nothing, times}
 use Rattle.rly_machine.specs.Fold.{fold}
 use Rattle.rly_machine.specs.Pick.{is_idle, outcome_of, pick_refusal, pick_reply, picked_reply, waiting_of, with_picked}
-use Rattle.rly_machine.specs.Release.{covered, release_refusal, with_released}
+use Rattle.rly_machine.specs.Release.{covered_count, release_refusal, with_released}
 use Rattle.rly_machine.specs.Take.{is_full, take_refusal, with_taken}
 use Rattle.rly_machine.specs.State.{State, HopState, has_hop, has_peer, hop_at, last_at, new_hop, new_state, next_number}
 use Rattle.rly_machine.specs.Step.{step}
@@ -29,7 +29,7 @@ use Rattle.rly_machine.proofs.Waiting.{waiting_length}
 
 -- a row of commands took a hop from one state to another: each id that waited or was taken is dropped, sent or
 -- waits; those in flight are those that were sent, less those released; and the numbers rise by one
-pub record Moves {P : Type 0} (before after : HopState P) (tells : Told) : Type 0 where
+pub record Moves {P : Type 0} (before after : HopState P) (tells : HopAccount) : Type 0 where
   pub placed : (id : ℕ) → times id (ids_of before.queue) + times id tells.taken ≡ times id tells.dropped + times id tells.sent + times id (ids_of after.queue)
   pub fewer : before.released ≤ after.released
   pub within : after.released - before.released ≤ length (ids_of before.flight ++ tells.sent)
@@ -59,7 +59,7 @@ no_moves h = record {
 }
 
 -- two rows, one behind the other
-pub moves_again : {P : Type 0} (a b c : HopState P) (one two : Told) → Moves a b one → Moves b c two → Moves a c (and_then one two)
+pub moves_again : {P : Type 0} (a b c : HopState P) (one two : HopAccount) → Moves a b one → Moves b c two → Moves a c (and_then one two)
 moves_again {P} a b c one two first second =
     let k : ℕ = b.released - a.released in
     let line : List ℕ = ids_of a.flight ++ one.sent in
@@ -99,7 +99,7 @@ IsQuiet (Refused refusal) = Unit {0}
 IsQuiet _ = ⊥
 
 -- tell nothing
-quiet_told : {P : Type 0} (hop : HopId) (command : Command P) (reply : Reply) → IsQuiet reply → told hop command reply ≡ nothing
+quiet_told : {P : Type 0} (hop : HopId) (command : Command P) (reply : Reply) → IsQuiet reply → account_of hop command reply ≡ nothing
 quiet_told hop (Take _ _ _ _ _) (Already last) q = refl
 quiet_told hop (Pick _ _) (Already last) q = refl
 quiet_told hop (Release _ _) (Already last) q = refl
@@ -148,14 +148,14 @@ release_quiet : {P : Type 0} (s : State P) (hop : HopId) (number : ℕ) (reply :
 release_quiet s hop number reply =
     quiet_check (not (has_hop s hop)) _ _ reply tt
     (quiet_check (nat_le (next_number (hop_at s hop)) number) _ _ reply tt
-    (quiet_check (nat_eq (covered (hop_at s hop) number) 0) _ _ reply tt
+    (quiet_check (nat_eq (covered_count (hop_at s hop) number) 0) _ _ reply tt
     (quiet_check (nat_le max_seq s.seq) _ _ reply tt (none_quiet reply))))
 
 -- a refused command moves nothing
 moves_unless : {P : Type 0} (refusal : Option Reply) (s : State P) (accepted : State P × Reply) (hop : HopId) (command : Command P)
     → ((reply : Reply) → refusal ≡ Some reply → IsQuiet reply)
-    → (refusal ≡ None → Moves (hop_at s hop) (hop_at accepted.0 hop) (told hop command accepted.1))
-    → Moves (hop_at s hop) (hop_at (unless refusal s accepted).0 hop) (told hop command (unless refusal s accepted).1)
+    → (refusal ≡ None → Moves (hop_at s hop) (hop_at accepted.0 hop) (account_of hop command accepted.1))
+    → Moves (hop_at s hop) (hop_at (unless refusal s accepted).0 hop) (account_of hop command (unless refusal s accepted).1)
 moves_unless None s accepted hop command quiet moves = moves refl
 moves_unless (Some reply) s accepted hop command quiet moves =
     subst (Moves (hop_at s hop) (hop_at s hop)) (sym (quiet_told hop command reply (quiet reply refl))) (no_moves (hop_at s hop))
@@ -191,7 +191,7 @@ moves_released {P} h count within =
     }
 
 -- what a pick tells of its own hop
-picked_tells : {P : Type 0} → HopState P → ℕ → List (Item P) → Told
+picked_tells : {P : Type 0} → HopState P → ℕ → List (Item P) → HopAccount
 picked_tells h count [] = nothing
 picked_tells h count (item ∷ behind) = record { taken = []; dropped = ids_of (take count h.queue); sent = item.id ∷ []; numbers = next_number h ∷ [] }
 
@@ -245,27 +245,27 @@ other_hop : {P : Type 0} (s : State P) (hop to : HopId) (h : HopState P) → 0 <
 other_hop {P} s hop to h from hop_from differ = get_or-set_other s.hops (to.0 - 1) (hop.0 - 1) h new_hop (λ same. differ (let e : to.0 ≡ hop.0 = omega (arith, same) in e))
 
 -- a change of one hop, with what it tells
-moves_at : {P : Type 0} (s : State P) (hop to : HopId) (h : HopState P) (tells : Told) → 0 < hop.0 → 0 < to.0 → to.0 ≤ length s.hops
+moves_at : {P : Type 0} (s : State P) (hop to : HopId) (h : HopState P) (tells : HopAccount) → 0 < hop.0 → 0 < to.0 → to.0 ≤ length s.hops
     → Moves (hop_at s to) h tells → Moves (hop_at s hop) (hop_at (accept s to h) hop) (cond (nat_eq to.0 hop.0) tells nothing)
 moves_at {P} s hop to h tells hop_from from below moves = elim (cases_eq to.0 hop.0) [
   | inl same ↦ (let here : hop_at s to ≡ hop_at s hop = ap (λ n. get_or s.hops (n - 1) new_hop) same in
-      subst (λ (t : Told). Moves (hop_at s hop) (hop_at (accept s to h) hop) t) (sym (ap (λ b. cond b tells nothing) (eq-eqb to.0 hop.0 same)))
+      subst (λ (t : HopAccount). Moves (hop_at s hop) (hop_at (accept s to h) hop) t) (sym (ap (λ b. cond b tells nothing) (eq-eqb to.0 hop.0 same)))
       (subst (λ (after : HopState P). Moves (hop_at s hop) after tells) (sym (own_hop s hop to h from below same))
       (subst (λ (before : HopState P). Moves before h tells) here moves)))
-  | inr differ ↦ subst (λ (t : Told). Moves (hop_at s hop) (hop_at (accept s to h) hop) t) (sym (ap (λ b. cond b tells nothing) (ne_eqb to.0 hop.0 differ)))
+  | inr differ ↦ subst (λ (t : HopAccount). Moves (hop_at s hop) (hop_at (accept s to h) hop) t) (sym (ap (λ b. cond b tells nothing) (ne_eqb to.0 hop.0 differ)))
       (subst (λ (after : HopState P). Moves (hop_at s hop) after nothing) (sym (other_hop s hop to h from hop_from differ)) (no_moves (hop_at s hop)))
 ]
 
 -- what the reply to a pick tells
 told_of_pick : {P : Type 0} (hop to : HopId) (now : ℕ) (h : HopState P) (count : ℕ) (rest : List (Item P))
-    → told {P = P} hop (Pick to now) (picked_reply (next_number h) (ids_of (take count h.queue)) rest) ≡ cond (nat_eq to.0 hop.0) (picked_tells h count rest) nothing
+    → account_of {P = P} hop (Pick to now) (picked_reply (next_number h) (ids_of (take count h.queue)) rest) ≡ cond (nat_eq to.0 hop.0) (picked_tells h count rest) nothing
 unfolding picked_tells
 told_of_pick {P} hop to now h count [] = elim (nat_eq to.0 hop.0) as (λ b. nothing ≡ cond b nothing nothing) [ true ↦ refl | false ↦ refl ]
 told_of_pick {P} hop to now h count (item ∷ behind) = refl
 
 -- each step
 pub moves_step : {P : Type 0} (len : P → ℕ) (s : State P) (command : Command P) (hop : HopId) → 0 < hop.0
-    → Moves (hop_at s hop) (hop_at (step len s command).0 hop) (told hop command (step len s command).1)
+    → Moves (hop_at s hop) (hop_at (step len s command).0 hop) (account_of hop command (step len s command).1)
 moves_step {P} len s (Take peer number to stamp payload) hop hop_from =
     moves_unless (take_refusal len s peer number to stamp (len payload)) s _ hop (Take peer number to stamp payload) (take_quiet len s peer number to stamp (len payload))
     (λ none. (let may = may_take len s peer number to stamp (len payload) none in
@@ -276,7 +276,7 @@ moves_step {P} len s (Pick to now) hop hop_from =
     (λ none. (let may = may_pick s to now none in
     let h : HopState P = hop_at s to in
     let size = waiting_length len (hop_at s to).queue in
-    subst (λ (t : Told). Moves (hop_at s hop) (hop_at (accept s to (with_picked (hop_at s to) now (outcome_of len s.params (hop_at s to) now))) hop) t)
+    subst (λ (t : HopAccount). Moves (hop_at s hop) (hop_at (accept s to (with_picked (hop_at s to) now (outcome_of len s.params (hop_at s to) now))) hop) t)
     (sym (told_of_pick hop to now (hop_at s to) (outcome_of len s.params (hop_at s to) now).dropped (drop (outcome_of len s.params (hop_at s to) now).dropped (hop_at s to).queue)))
     (moves_at s hop to (with_picked (hop_at s to) now (outcome_of len s.params (hop_at s to) now)) _ hop_from may.hop_from may.hop_to
     (moves_picked (hop_at s to) now (outcome_of len s.params (hop_at s to) now) (drop (outcome_of len s.params (hop_at s to) now).dropped (hop_at s to).queue) refl
@@ -284,24 +284,24 @@ moves_step {P} len s (Pick to now) hop hop_from =
 moves_step {P} len s (Release to number) hop hop_from =
     moves_unless (release_refusal s to number) s _ hop (Release to number) (release_quiet s to number)
     (λ none. (let may = may_release s to number none in
-    subst (λ (t : Told). Moves (hop_at s hop) (hop_at (accept s to (with_released (hop_at s to) (covered (hop_at s to) number))) hop) t)
+    subst (λ (t : HopAccount). Moves (hop_at s hop) (hop_at (accept s to (with_released (hop_at s to) (covered_count (hop_at s to) number))) hop) t)
     (elim (nat_eq to.0 hop.0) as (λ b. cond b nothing nothing ≡ nothing) [ true ↦ refl | false ↦ refl ])
-    (moves_at s hop to (with_released (hop_at s to) (covered (hop_at s to) number)) nothing hop_from may.hop_from may.hop_to
-    (moves_released (hop_at s to) (covered (hop_at s to) number) (omega (arith, may.given))))))
+    (moves_at s hop to (with_released (hop_at s to) (covered_count (hop_at s to) number)) nothing hop_from may.hop_from may.hop_to
+    (moves_released (hop_at s to) (covered_count (hop_at s to) number) (omega (arith, may.given))))))
 
 -- each row of commands
 pub moves_fold : {P : Type 0} (len : P → ℕ) (s : State P) (commands : List (Command P)) (hop : HopId) → 0 < hop.0
-    → Moves (hop_at s hop) (hop_at (fold len s commands) hop) (told_along len hop s commands)
+    → Moves (hop_at s hop) (hop_at (fold len s commands) hop) (account_along len hop s commands)
 moves_fold len s [] hop hop_from = no_moves (hop_at s hop)
 moves_fold len s (command ∷ commands) hop hop_from =
     moves_again (hop_at s hop) (hop_at (step len s command).0 hop) (hop_at (fold len (step len s command).0 commands) hop)
-    (told hop command (step len s command).1) (told_along len hop (step len s command).0 commands)
+    (account_of hop command (step len s command).1) (account_along len hop (step len s command).0 commands)
     (moves_step len s command hop hop_from) (moves_fold len (step len s command).0 commands hop hop_from)
 
 -- a pick and a release tell of nothing taken
-pick_takes_none : (P : Type 0) (hop to : HopId) (now : ℕ) (reply : Reply) → (told {P = P} hop (Pick to now) reply).taken ≡ []
+pick_takes_none : (P : Type 0) (hop to : HopId) (now : ℕ) (reply : Reply) → (account_of {P = P} hop (Pick to now) reply).taken ≡ []
 pick_takes_none P hop to now (Picked number id dropped) =
-    elim (nat_eq to.0 hop.0) as (λ b. (let t : Told = cond b (record { taken = []; dropped = dropped; sent = id ∷ []; numbers = number ∷ [] }) nothing in t.taken) ≡ []) [ true ↦ refl | false ↦ refl ]
+    elim (nat_eq to.0 hop.0) as (λ b. (let t : HopAccount = cond b (record { taken = []; dropped = dropped; sent = id ∷ []; numbers = number ∷ [] }) nothing in t.taken) ≡ []) [ true ↦ refl | false ↦ refl ]
 pick_takes_none P hop to now (Taken id) = refl
 pick_takes_none P hop to now (Already last) = refl
 pick_takes_none P hop to now Nothing = refl
@@ -313,24 +313,24 @@ pick_takes_none P hop to now (Shown status) = refl
 pick_takes_none P hop to now (Refused refusal) = refl
 
 -- what a step takes has the next id
-record Fresh {P : Type 0} (s after : State P) (tells : Told) : Type 0 where
+record Fresh {P : Type 0} (s after : State P) (tells : HopAccount) : Type 0 where
   rises : s.seq ≤ after.seq
   taken : (tells.taken ≡ []) ⊎ ((tells.taken ≡ (s.seq + 1) ∷ []) × (after.seq ≡ s.seq + 1))
 
 fresh_unless : {P : Type 0} (refusal : Option Reply) (s : State P) (accepted : State P × Reply) (hop : HopId) (command : Command P)
     → ((reply : Reply) → refusal ≡ Some reply → IsQuiet reply)
-    → Fresh s accepted.0 (told hop command accepted.1)
-    → Fresh s (unless refusal s accepted).0 (told hop command (unless refusal s accepted).1)
+    → Fresh s accepted.0 (account_of hop command accepted.1)
+    → Fresh s (unless refusal s accepted).0 (account_of hop command (unless refusal s accepted).1)
 fresh_unless None s accepted hop command quiet fresh = fresh
-fresh_unless (Some reply) s accepted hop command quiet fresh = record { rises = omega arith; taken = inl (ap (λ (t : Told). t.taken) (quiet_told hop command reply (quiet reply refl))) }
+fresh_unless (Some reply) s accepted hop command quiet fresh = record { rises = omega arith; taken = inl (ap (λ (t : HopAccount). t.taken) (quiet_told hop command reply (quiet reply refl))) }
 
-fresh_step : {P : Type 0} (len : P → ℕ) (s : State P) (command : Command P) (hop : HopId) → Fresh s (step len s command).0 (told hop command (step len s command).1)
+fresh_step : {P : Type 0} (len : P → ℕ) (s : State P) (command : Command P) (hop : HopId) → Fresh s (step len s command).0 (account_of hop command (step len s command).1)
 fresh_step len s (Take peer number to stamp payload) hop =
     fresh_unless (take_refusal len s peer number to stamp (len payload)) s _ hop (Take peer number to stamp payload) (take_quiet len s peer number to stamp (len payload))
     (record {
       rises = omega arith;
-      taken = elim (nat_eq to.0 hop.0) as (λ b. ((let t : Told = cond b (record { taken = (s.seq + 1) ∷ []; dropped = []; sent = []; numbers = [] }) nothing in t.taken) ≡ [])
-          ⊎ (((let t : Told = cond b (record { taken = (s.seq + 1) ∷ []; dropped = []; sent = []; numbers = [] }) nothing in t.taken) ≡ (s.seq + 1) ∷ []) × (s.seq + 1 ≡ s.seq + 1))) [ true ↦ inr (refl, refl) | false ↦ inl refl ];
+      taken = elim (nat_eq to.0 hop.0) as (λ b. ((let t : HopAccount = cond b (record { taken = (s.seq + 1) ∷ []; dropped = []; sent = []; numbers = [] }) nothing in t.taken) ≡ [])
+          ⊎ (((let t : HopAccount = cond b (record { taken = (s.seq + 1) ∷ []; dropped = []; sent = []; numbers = [] }) nothing in t.taken) ≡ (s.seq + 1) ∷ []) × (s.seq + 1 ≡ s.seq + 1))) [ true ↦ inr (refl, refl) | false ↦ inl refl ];
     })
 fresh_step {P} len s (Pick to now) hop =
     fresh_unless (pick_refusal s to now) s _ hop (Pick to now) (pick_quiet s to now)
@@ -345,13 +345,13 @@ times_other id x differ =
 
 -- no id is taken twice, and none of those that were given before
 taken_once : {P : Type 0} (len : P → ℕ) (hop : HopId) (s : State P) (commands : List (Command P)) (id : ℕ)
-    → (times id (told_along len hop s commands).taken ≤ 1) × (id ≤ s.seq → times id (told_along len hop s commands).taken ≡ 0)
+    → (times id (account_along len hop s commands).taken ≤ 1) × (id ≤ s.seq → times id (account_along len hop s commands).taken ≡ 0)
 taken_once len hop s [] id = (omega arith, λ old. refl)
 taken_once {P} len hop s (command ∷ commands) id =
     let fresh = fresh_step len s command hop in
     let rest = taken_once len hop (step len s command).0 commands id in
-    let first : List ℕ = (told hop command (step len s command).1).taken in
-    let parts = times-append id (told hop command (step len s command).1).taken (told_along len hop (step len s command).0 commands).taken in
+    let first : List ℕ = (account_of hop command (step len s command).1).taken in
+    let parts = times-append id (account_of hop command (step len s command).1).taken (account_along len hop (step len s command).0 commands).taken in
     elim fresh.taken [
       | inl none ↦ (let e = ap (times id) none in
           (omega (arith, parts, e, rest.0), λ old. (let later = rest.1 (omega (arith, old, fresh.rises)) in omega (arith, parts, e, later))))
@@ -365,9 +365,9 @@ taken_once {P} len hop s (command ∷ commands) id =
     ]
 
 -- one reply tells of nothing taken at one of two hops
-apart : {P : Type 0} (a b : HopId) → (a.0 ≡ b.0 → ⊥) → (command : Command P) (reply : Reply) → ((told a command reply).taken ≡ []) ⊎ ((told b command reply).taken ≡ [])
+apart : {P : Type 0} (a b : HopId) → (a.0 ≡ b.0 → ⊥) → (command : Command P) (reply : Reply) → ((account_of a command reply).taken ≡ []) ⊎ ((account_of b command reply).taken ≡ [])
 apart a b differ (Take peer number to stamp payload) (Taken id) =
-    let at : Bool → Told = λ is. cond is (record { taken = id ∷ []; dropped = []; sent = []; numbers = [] }) nothing in
+    let at : Bool → HopAccount = λ is. cond is (record { taken = id ∷ []; dropped = []; sent = []; numbers = [] }) nothing in
     elim (cases_eq to.0 a.0) [
       | inl here ↦ inr (ap (λ is. (at is).taken) (ne_eqb to.0 b.0 (λ there. differ (sym here ∙ there))))
       | inr elsewhere ↦ inl (ap (λ is. (at is).taken) (ne_eqb to.0 a.0 elsewhere))
@@ -401,7 +401,7 @@ one_more id seq after first x y taken old-x old-y below =
 
 -- no id is taken at two hops
 pub taken_apart : {P : Type 0} (len : P → ℕ) (a b : HopId) → (a.0 ≡ b.0 → ⊥) → (s : State P) (commands : List (Command P)) (id : ℕ)
-    → times id (told_along len a s commands).taken + times id (told_along len b s commands).taken ≤ 1
+    → times id (account_along len a s commands).taken + times id (account_along len b s commands).taken ≤ 1
 taken_apart len a b differ s [] id = omega arith
 taken_apart {P} len a b differ s (command ∷ commands) id =
     let after : State P = (step len s command).0 in
@@ -409,31 +409,31 @@ taken_apart {P} len a b differ s (command ∷ commands) id =
     let later-a = taken_once len a after commands id in
     let later-b = taken_once len b after commands id in
     let rest = taken_apart len a b differ after commands id in
-    let parts-a = times-append id (told a command reply).taken (told_along len a after commands).taken in
-    let parts-b = times-append id (told b command reply).taken (told_along len b after commands).taken in
+    let parts-a = times-append id (account_of a command reply).taken (account_along len a after commands).taken in
+    let parts-b = times-append id (account_of b command reply).taken (account_along len b after commands).taken in
     elim (apart a b differ command reply) [
       | inl none ↦ (let e = ap (times id) none in
-          let more = one_more id s.seq after.seq (told b command reply).taken _ _ (fresh_step len s command b).taken later-a.1 later-b.1 rest in
+          let more = one_more id s.seq after.seq (account_of b command reply).taken _ _ (fresh_step len s command b).taken later-a.1 later-b.1 rest in
           omega (arith, parts-a, parts-b, e, more))
       | inr none ↦ (let e = ap (times id) none in
-          let more = one_more id s.seq after.seq (told a command reply).taken _ _ (fresh_step len s command a).taken later-a.1 later-b.1 rest in
+          let more = one_more id s.seq after.seq (account_of a command reply).taken _ _ (fresh_step len s command a).taken later-a.1 later-b.1 rest in
           omega (arith, parts-a, parts-b, e, more))
     ]
 
 -- what becomes of the items of each hop of a new spool
 pub custody_kept : {P : Type 0} (len : P → ℕ) (params : Params) (commands : List (Command P)) (hop : HopId) → has_hop (new_state {P = P} params) hop ≡ true
-    → KeepsCustody (hop_at (fold len (new_state params) commands) hop) (told_along len hop (new_state params) commands)
+    → KeepsCustody (hop_at (fold len (new_state params) commands) hop) (account_along len hop (new_state params) commands)
 custody_kept {P} len params commands hop there =
     let s : State P = new_state params in
     let found = among (length (replicate params.hops (let h : HopState P = new_hop in h))) hop.0 there in
     let moves = moves_fold len s commands hop found.0 in
     let size = length-replicate params.hops (let h : HopState P = new_hop in h) in
     let start : hop_at s hop ≡ new_hop = get_or-replicate params.hops (hop.0 - 1) (let h : HopState P = new_hop in h) new_hop (omega (arith, found.0, found.1, size)) in
-    let moves' = subst (λ (h : HopState P). Moves h (hop_at (fold len (new_state params) commands) hop) (told_along len hop (new_state params) commands)) start moves in
+    let moves' = subst (λ (h : HopState P). Moves h (hop_at (fold len (new_state params) commands) hop) (account_along len hop (new_state params) commands)) start moves in
     record {
       once = λ id. (taken_once len hop s commands id).0;
       placed = λ id. omega (arith, moves'.placed id);
-      flight = moves'.flight ∙ ap (λ k. drop k (told_along len hop (new_state params) commands).sent) (let e : (hop_at (fold len (new_state params) commands) hop).released - 0 ≡ (hop_at (fold len (new_state params) commands) hop).released = omega arith in e);
+      flight = moves'.flight ∙ ap (λ k. drop k (account_along len hop (new_state params) commands).sent) (let e : (hop_at (fold len (new_state params) commands) hop).released - 0 ≡ (hop_at (fold len (new_state params) commands) hop).released = omega arith in e);
       released = omega (arith, moves'.within);
       count = moves'.count;
       numbered = λ k below. (let at = moves'.numbered k below in omega (arith, at));

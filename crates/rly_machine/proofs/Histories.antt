@@ -11,6 +11,7 @@ use Rattle.rly_machine.specs.Fold.{AllAccepted, fold}
 use Rattle.rly_machine.specs.History.{Entry, IsAnswered, LegalBy, accepted_by, accepted_of, harm, harm_after, is_failure, next_state, state_after, without_bytes}
 use Rattle.rly_machine.specs.State.{State}
 use Rattle.rly_machine.specs.Step.{step}
+use Rattle.rly_machine.proofs.Folding.{accepted_append, fold_append}
 use Rattle.rly_machine.proofs.RealReplies.{counted, unaccepted}
 
 pub state_after-append : (s : State (List ℕ)) (xs ys : List Entry) → state_after s (xs ++ ys) ≡ state_after (state_after s xs) ys
@@ -82,14 +83,6 @@ adds_ask s (ask.Command command) reply same = adds_command s command (is_failure
 adds_ask s (ask.Query query) reply same =
     let stays = same_both (is_failure reply) s in (stays, tt, omega (arith, ap (λ (x : State (List ℕ)). x.seq) stays))
 
-fold-append : (s : State (List ℕ)) (xs ys : List (Command (List ℕ))) → fold length s (xs ++ ys) ≡ fold length (fold length s xs) ys
-fold-append s [] ys = refl
-fold-append s (x ∷ xs) ys = fold-append (step length s x).0 xs ys
-
-accepted-append : (s : State (List ℕ)) (xs ys : List (Command (List ℕ))) → AllAccepted length s xs → AllAccepted length (fold length s xs) ys → AllAccepted length s (xs ++ ys)
-accepted-append s [] ys first more = more
-accepted-append s (x ∷ xs) ys first more = (first.0, accepted-append (step length s x).0 xs ys first.1 more)
-
 -- a history that is legal but for bytes is the fold of its accepted commands
 pub folds : (harmed : ℕ) (s : State (List ℕ)) (history : List Entry) → LegalBy without_bytes harmed s history
     → (state_after s history ≡ fold length s (accepted_of history)) × AllAccepted length s (accepted_of history)
@@ -100,7 +93,7 @@ folds harmed s (x ∷ xs) legal =
     let rest = folds (harm x.1.reply) (next_state s x) xs legal.1 in
     let first : List (Command (List ℕ)) = accepted_by x.0.ask x.1.reply in
     let more : List (Command (List ℕ)) = accepted_of xs in (
-      rest.0 ∙ ap (λ y. fold length y more) one.0 ∙ sym (fold-append s first more),
-      accepted-append s first more one.1 (subst (λ y. AllAccepted length y more) one.0 rest.1),
+      rest.0 ∙ ap (λ y. fold length y more) one.0 ∙ sym (fold_append length s first more),
+      accepted_append length s first more one.1 (subst (λ y. AllAccepted length y more) one.0 rest.1),
       omega (arith, rest.2, one.2, length-append first more),
     )

@@ -18,19 +18,20 @@ use Rattle.rly_machine.specs.State.{State, HopState, has_hop, hop_at, live_line,
 use Rattle.rly_machine.specs.Accepted.{accept, unless}
 use Rattle.rly_codel.specs.Cases.{Outcome}
 use Rattle.rly_machine.specs.Pick.{outcome_of, pick_refusal, pick_reply, pick_step, with_picked}
-use Rattle.rly_machine.specs.Release.{covered, release_refusal, release_step, with_released}
+use Rattle.rly_machine.specs.Release.{covered_count, release_refusal, release_step, with_released}
 use Rattle.rly_machine.specs.Take.{take_refusal, take_step, with_taken}
 use Rattle.rly_machine.specs.Sound.{IsLive, IsSound, IsSoundHop}
-use Rattle.rly_machine.specs.Kept.{IsHopAt, IsKept, hop_of, spare_of, state_of}
+use Rattle.rly_machine.specs.HelpersMachine.{IsHopAt, KeepsCounts}
+use Rattle.rly_machine.specs.Kept.{hop_state, spare_of, state_of}
 use Rattle.rly_machine.proofs.Refusals.{among, may_pick, may_take, may_release}
 use Rattle.rly_machine.proofs.Picking.{bytes_picked, fair_outcome, items_picked, sound_pick}
 use Rattle.rly_machine.proofs.Soundness.{sound_take, sound_release, items_taken, bytes_taken, items_released, bytes_released}
 
 -- a hop written back with another capacity is the hop that was
-pub same_hops : {P : Type 0} (hops : List (Hop P)) (i : ℕ) (old new : Hop P) → old ≡ get_or hops i old → hop_of new ≡ hop_of old
-    → map hop_of (set hops i new) ≡ map hop_of hops
+pub same_hops : {P : Type 0} (hops : List (Hop P)) (i : ℕ) (old new : Hop P) → old ≡ get_or hops i old → hop_state new ≡ hop_state old
+    → map hop_state (set hops i new) ≡ map hop_state hops
 same_hops {P} hops i old new read same =
-    let f : Hop P → HopState P = hop_of in
+    let f : Hop P → HopState P = hop_state in
     map-set f hops i new
     ∙ ap (set (map f hops) i) same
     ∙ sym (map-set f hops i old)
@@ -38,7 +39,7 @@ same_hops {P} hops i old new read same =
     ∙ ap (map f) (set-get_or hops i old)
 
 -- so the state stays
-pub same_state : {P A B : Type 0} (params : Params) (hops : Vec (Hop P) A) (lasts : Vec ℕ B) (seq i : ℕ) (old new : Hop P) → old ≡ get_or hops.items i old → hop_of new ≡ hop_of old
+pub same_state : {P A B : Type 0} (params : Params) (hops : Vec (Hop P) A) (lasts : Vec ℕ B) (seq i : ℕ) (old new : Hop P) → old ≡ get_or hops.items i old → hop_state new ≡ hop_state old
     → state_of params (with_item hops i new) lasts seq ≡ state_of params hops lasts seq
 same_state {P} params hops lasts seq i old new read same =
     ap (λ hs. let r : State P = record { params = params; hops = hs; lasts = lasts.items; seq = seq } in r) (same_hops hops.items i old new read same)
@@ -55,24 +56,24 @@ room_made {P} hops i new below queue_room flight_room =
     omega (arith, is_free, queue_room, flight_room)
 
 -- a hop read from the fields is the state's
-pub read_hop : {P : Type 0} (hops : List (Hop P)) (i : ℕ) (old : Hop P) → i < length hops → old ≡ get_or hops i old → hop_of old ≡ get_or (map hop_of hops) i new_hop
+pub read_hop : {P : Type 0} (hops : List (Hop P)) (i : ℕ) (old : Hop P) → i < length hops → old ≡ get_or hops i old → hop_state old ≡ get_or (map hop_state hops) i new_hop
 read_hop {P} hops i old below read =
-    let f : Hop P → HopState P = hop_of in
+    let f : Hop P → HopState P = hop_state in
     ap f read ∙ sym (get_or-map f hops i old new_hop below)
 
 -- a hop written to the fields is written to the state
 pub written_hop : {P : Type 0} (hops : List (Hop P)) (i : ℕ) (old new : Hop P) (change : HopState P → HopState P)
-    → i < length hops → old ≡ get_or hops i old → hop_of new ≡ change (hop_of old)
-    → map hop_of (set hops i new) ≡ set (map hop_of hops) i (change (get_or (map hop_of hops) i new_hop))
+    → i < length hops → old ≡ get_or hops i old → hop_state new ≡ change (hop_state old)
+    → map hop_state (set hops i new) ≡ set (map hop_state hops) i (change (get_or (map hop_state hops) i new_hop))
 written_hop {P} hops i old new change below read changed =
-    let f : Hop P → HopState P = hop_of in
+    let f : Hop P → HopState P = hop_state in
     map-set f hops i new ∙ ap (set (map f hops) i) (changed ∙ ap change (read_hop hops i old below read))
 
 -- a hop read from the fields is sound
 pub sound_read : {P A B : Type 0} (len : P → ℕ) (params : Params) (hops : Vec (Hop P) A) (lasts : Vec ℕ B) (seq items bytes i : ℕ) (old : Hop P)
-    → IsKept len (state_of params hops lasts seq) items bytes → i < length hops.items → old ≡ get_or hops.items i old → IsSoundHop len params seq (hop_of old)
+    → KeepsCounts len (state_of params hops lasts seq) items bytes → i < length hops.items → old ≡ get_or hops.items i old → IsSoundHop len params seq (hop_state old)
 sound_read {P} len params hops lasts seq items bytes i old kept below read =
-    let f : Hop P → HopState P = hop_of in
+    let f : Hop P → HopState P = hop_state in
     let place : i < length (map f hops.items) = omega (arith, length-map hops.items f) in
     subst (IsSoundHop len params seq) (sym (read_hop hops.items i old below read))
     (All-get_or (IsSoundHop len params seq) (map f hops.items) i new_hop place kept.sound.hops)
@@ -82,13 +83,13 @@ pub place_of : {P A B : Type 0} (params : Params) (hops : Vec (Hop P) A) (lasts 
     → state_of params hops lasts seq ≡ s → has_hop s hop ≡ true → hop.0 - 1 < length hops.items
 place_of {P} params hops lasts seq s hop same there =
     let found = among (length s.hops) hop.0 there in
-    let f : Hop P → HopState P = hop_of in
+    let f : Hop P → HopState P = hop_state in
     let count : length (map f hops.items) ≡ length s.hops = ap (λ (s : State P). length s.hops) same in
     omega (arith, found.0, found.1, count, length-map hops.items f)
 
 -- a hop that is read from the fields
 pub hop_is_read : {P A B : Type 0} (len : P → ℕ) (params : Params) (hops : Vec (Hop P) A) (lasts : Vec ℕ B) (seq items bytes : ℕ) (s : State P) (hop : HopId) (index : ℕ) (found : Hop P)
-    → IsKept len (state_of params hops lasts seq) items bytes → state_of params hops lasts seq ≡ s → has_hop s hop ≡ true → index ≡ hop.0 - 1
+    → KeepsCounts len (state_of params hops lasts seq) items bytes → state_of params hops lasts seq ≡ s → has_hop s hop ≡ true → index ≡ hop.0 - 1
     → found ≡ get_or hops.items index found → IsHopAt len s hop found
 hop_is_read {P} len params hops lasts seq items bytes s hop index found kept same there is_index read =
     let below : hop.0 - 1 < length hops.items = place_of params hops lasts seq s hop same there in
@@ -104,24 +105,24 @@ hop_is_read {P} len params hops lasts seq items bytes s hop index found kept sam
 -- the machine's fields after a Take that no check refuses
 pub kept_take : {P A B : Type 0} (len : P → ℕ) (params : Params) (hops : Vec (Hop P) A) (lasts : Vec ℕ B) (seq items bytes : ℕ)
     (peer : PeerId) (number : ℕ) (hop : HopId) (stamp : ℕ) (payload : P) (old new : Hop P)
-    → IsKept len (state_of params hops lasts seq) items bytes
+    → KeepsCounts len (state_of params hops lasts seq) items bytes
     → take_refusal len (state_of params hops lasts seq) peer number hop stamp (len payload) ≡ None
     → old ≡ get_or hops.items (hop.0 - 1) old
-    → hop_of new ≡ with_taken (hop_of old) (seq + 1) stamp payload
+    → hop_state new ≡ with_taken (hop_state old) (seq + 1) stamp payload
     → (state_of params (with_item hops (hop.0 - 1) new) (with_item lasts (peer.0 - 1) number) (seq + 1)
     ≡ (take_step len (state_of params hops lasts seq) peer number hop stamp payload).0)
-    × IsKept len (state_of params (with_item hops (hop.0 - 1) new) (with_item lasts (peer.0 - 1) number) (seq + 1)) (items + 1) (bytes + len payload)
+    × KeepsCounts len (state_of params (with_item hops (hop.0 - 1) new) (with_item lasts (peer.0 - 1) number) (seq + 1)) (items + 1) (bytes + len payload)
 kept_take {P} len params hops lasts seq items bytes peer number hop stamp payload old new kept may read changed =
     let s : State P = state_of params hops lasts seq in
     let facts = may_take len s peer number hop stamp (len payload) may in
-    let place : hop.0 - 1 < length hops.items = omega (arith, facts.hop_from, facts.hop_to, length-map hops.items (let f : Hop P → HopState P = hop_of in f)) in
+    let place : hop.0 - 1 < length hops.items = omega (arith, facts.hop_from, facts.hop_to, length-map hops.items (let f : Hop P → HopState P = hop_state in f)) in
     let after : State P = record (accept s hop (with_taken (hop_at s hop) (seq + 1) stamp payload)) { lasts = set lasts.items (peer.0 - 1) number } in
     let written = written_hop hops.items (hop.0 - 1) old new (λ h. with_taken h (seq + 1) stamp payload) place read changed in
     let is_after : state_of params (with_item hops (hop.0 - 1) new) (with_item lasts (peer.0 - 1) number) (seq + 1) ≡ after =
     ap (λ hs. let r : State P = record { params = params; hops = hs; lasts = set lasts.items (peer.0 - 1) number; seq = seq + 1 } in r) written in
     let accepted : State P × Reply = (after, Taken (seq + 1)) in (
       is_after ∙ sym (ap (λ r. (unless r s accepted).0) may),
-      subst (λ (t : State P). IsKept len t (items + 1) (bytes + len payload)) (sym is_after) (record {
+      subst (λ (t : State P). KeepsCounts len t (items + 1) (bytes + len payload)) (sym is_after) (record {
         sound = sound_take len s peer number hop stamp payload kept.sound facts;
         items = ap (λ n. n + 1) kept.items ∙ sym (items_taken s hop stamp payload facts.hop_from facts.hop_to);
         bytes = ap (λ n. n + len payload) kept.bytes ∙ sym (bytes_taken len s hop stamp payload facts.hop_from facts.hop_to);
@@ -131,37 +132,37 @@ kept_take {P} len params hops lasts seq items bytes peer number hop stamp payloa
 -- the machine's fields after a Release that no check refuses
 pub kept_release : {P A B : Type 0} (len : P → ℕ) (params : Params) (hops : Vec (Hop P) A) (lasts : Vec ℕ B) (seq items bytes : ℕ)
     (hop : HopId) (number gone : ℕ) (old new : Hop P)
-    → IsKept len (state_of params hops lasts seq) items bytes
+    → KeepsCounts len (state_of params hops lasts seq) items bytes
     → release_refusal (state_of params hops lasts seq) hop number ≡ None
     → old ≡ get_or hops.items (hop.0 - 1) old
-    → hop_of new ≡ with_released (hop_of old) (number - old.released)
+    → hop_state new ≡ with_released (hop_state old) (number - old.released)
     → gone + bytes_of len new.flight.items ≡ bytes_of len old.flight.items
     → (state_of params (with_item hops (hop.0 - 1) new) lasts (seq + 1) ≡ (release_step (state_of params hops lasts seq) hop number).0)
-    × IsKept len (state_of params (with_item hops (hop.0 - 1) new) lasts (seq + 1)) (items - (number - old.released)) (bytes - gone)
+    × KeepsCounts len (state_of params (with_item hops (hop.0 - 1) new) lasts (seq + 1)) (items - (number - old.released)) (bytes - gone)
 kept_release {P} len params hops lasts seq items bytes hop number gone old new kept may read changed weighed =
     let s : State P = state_of params hops lasts seq in
     let facts = may_release s hop number may in
-    let place : hop.0 - 1 < length hops.items = omega (arith, facts.hop_from, facts.hop_to, length-map hops.items (let f : Hop P → HopState P = hop_of in f)) in
-    let count : ℕ = covered (hop_at s hop) number in
-    let after : State P = accept s hop (with_released (hop_at s hop) (covered (hop_at s hop) number)) in
+    let place : hop.0 - 1 < length hops.items = omega (arith, facts.hop_from, facts.hop_to, length-map hops.items (let f : Hop P → HopState P = hop_state in f)) in
+    let count : ℕ = covered_count (hop_at s hop) number in
+    let after : State P = accept s hop (with_released (hop_at s hop) (covered_count (hop_at s hop) number)) in
     let is_read = read_hop hops.items (hop.0 - 1) old place read in
-    let written = written_hop hops.items (hop.0 - 1) old new (λ h. with_released h (covered h number)) place read changed in
+    let written = written_hop hops.items (hop.0 - 1) old new (λ h. with_released h (covered_count h number)) place read changed in
     let is_after : state_of params (with_item hops (hop.0 - 1) new) lasts (seq + 1) ≡ after =
     ap (λ hs. let r : State P = record { params = params; hops = hs; lasts = lasts.items; seq = seq + 1 } in r) written in
-    let accepted : State P × Reply = (after, Released (covered (hop_at s hop) number)) in
-    let within : covered (hop_at s hop) number ≤ length (hop_at s hop).flight = omega (arith, facts.given) in
-    let fewer = items_released s hop (covered (hop_at s hop) number) facts.hop_from facts.hop_to within in
-    let lighter = bytes_released len s hop (covered (hop_at s hop) number) facts.hop_from facts.hop_to in
-    let same_count : number - old.released ≡ covered (hop_at s hop) number = ap (λ (h : HopState P). number - h.released) is_read in
+    let accepted : State P × Reply = (after, Released (covered_count (hop_at s hop) number)) in
+    let within : covered_count (hop_at s hop) number ≤ length (hop_at s hop).flight = omega (arith, facts.given) in
+    let fewer = items_released s hop (covered_count (hop_at s hop) number) facts.hop_from facts.hop_to within in
+    let lighter = bytes_released len s hop (covered_count (hop_at s hop) number) facts.hop_from facts.hop_to in
+    let same_count : number - old.released ≡ covered_count (hop_at s hop) number = ap (λ (h : HopState P). number - h.released) is_read in
     let left : drop (number - old.released) old.flight.items ≡ new.flight.items = sym (ap (λ (h : HopState P). h.flight) changed) in
     let length_of : Item P → ℕ = λ item. len item.payload in
     let parts = sum_by-take-drop length_of old.flight.items (number - old.released) in
     let left_bytes : sum_by length_of (drop (number - old.released) old.flight.items) ≡ bytes_of len new.flight.items = ap (sum_by length_of) left in
-    let same_gone : gone ≡ bytes_of len (take (covered (hop_at s hop) number) (hop_at s hop).flight) =
+    let same_gone : gone ≡ bytes_of len (take (covered_count (hop_at s hop) number) (hop_at s hop).flight) =
     (let e : gone ≡ sum_by length_of (take (number - old.released) old.flight.items) = omega (arith, parts, left_bytes, weighed) in
     e ∙ ap (λ (h : HopState P). bytes_of len (take (number - h.released) h.flight)) is_read) in (
       is_after ∙ sym (ap (λ r. (unless r s accepted).0) may),
-      subst (λ (t : State P). IsKept len t (items - (number - old.released)) (bytes - gone)) (sym is_after) (record {
+      subst (λ (t : State P). KeepsCounts len t (items - (number - old.released)) (bytes - gone)) (sym is_after) (record {
         sound = sound_release len s hop number kept.sound facts;
         items = omega (arith, fewer, same_count, kept.items);
         bytes = omega (arith, lighter, same_gone, kept.bytes);
@@ -171,19 +172,19 @@ kept_release {P} len params hops lasts seq items bytes hop number gone old new k
 -- the machine's fields after a Pick that no check refuses
 pub kept_pick : {P A B : Type 0} (len : P → ℕ) (params : Params) (hops : Vec (Hop P) A) (lasts : Vec ℕ B) (seq items bytes : ℕ)
     (hop : HopId) (now count gone : ℕ) (old new : Hop P)
-    → IsKept len (state_of params hops lasts seq) items bytes
+    → KeepsCounts len (state_of params hops lasts seq) items bytes
     → pick_refusal (state_of params hops lasts seq) hop now ≡ None
     → old ≡ get_or hops.items (hop.0 - 1) old
-    → hop_of new ≡ with_picked (hop_of old) now (outcome_of len params (hop_of old) now)
-    → count ≡ (outcome_of len params (hop_of old) now).dropped
-    → gone ≡ bytes_of len (take (outcome_of len params (hop_of old) now).dropped old.queue.items)
+    → hop_state new ≡ with_picked (hop_state old) now (outcome_of len params (hop_state old) now)
+    → count ≡ (outcome_of len params (hop_state old) now).dropped
+    → gone ≡ bytes_of len (take (outcome_of len params (hop_state old) now).dropped old.queue.items)
     → (state_of params (with_item hops (hop.0 - 1) new) lasts (seq + 1) ≡ (pick_step len (state_of params hops lasts seq) hop now).0)
-    × IsKept len (state_of params (with_item hops (hop.0 - 1) new) lasts (seq + 1)) (items - count) (bytes - gone)
+    × KeepsCounts len (state_of params (with_item hops (hop.0 - 1) new) lasts (seq + 1)) (items - count) (bytes - gone)
     × (count ≤ items) × (gone ≤ bytes)
 kept_pick {P} len params hops lasts seq items bytes hop now count gone old new kept may read changed counted weighed =
     let s : State P = state_of params hops lasts seq in
     let facts = may_pick s hop now may in
-    let place : hop.0 - 1 < length hops.items = omega (arith, facts.hop_from, facts.hop_to, length-map hops.items (let f : Hop P → HopState P = hop_of in f)) in
+    let place : hop.0 - 1 < length hops.items = omega (arith, facts.hop_from, facts.hop_to, length-map hops.items (let f : Hop P → HopState P = hop_state in f)) in
     let outcome : Outcome = outcome_of len params (hop_at s hop) now in
     let after : State P = accept s hop (with_picked (hop_at s hop) now (outcome_of len params (hop_at s hop) now)) in
     let is_read = read_hop hops.items (hop.0 - 1) old place read in
@@ -199,7 +200,7 @@ kept_pick {P} len params hops lasts seq items bytes hop now count gone old new k
     let same_gone : gone ≡ bytes_of len (take (outcome_of len params (hop_at s hop) now).dropped (hop_at s hop).queue) =
     weighed ∙ ap (λ (h : HopState P). bytes_of len (take (outcome_of len params h now).dropped h.queue)) is_read in (
       is_after ∙ sym (ap (λ r. (unless r s accepted).0) may),
-      subst (λ (t : State P). IsKept len t (items - count) (bytes - gone)) (sym is_after) (record {
+      subst (λ (t : State P). KeepsCounts len t (items - count) (bytes - gone)) (sym is_after) (record {
         sound = sound_pick len s hop now kept.sound facts;
         items = omega (arith, fewer, same_count, kept.items);
         bytes = omega (arith, lighter, same_gone, kept.bytes);

@@ -6,7 +6,7 @@ pub mod Keeping
 pub mod Runs
 pub mod Mapping
 pub mod CustodyRuns
+pub mod RealReplies
 pub mod Folding
 pub mod Restoring
-pub mod RealReplies
 pub mod Histories

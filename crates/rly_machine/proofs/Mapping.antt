@@ -17,7 +17,7 @@ use Rattle.rly_machine.specs.declared.reply.Reply.TheVariants.{Taken, Already, R
 use Rattle.rly_machine.specs.State.{State, HopState, is_among, has_peer, hop_at, last_at, live_line, live_items, live_bytes, bytes_of, new_hop}
 use Rattle.rly_machine.specs.Accepted.{accept, max_seq, unless}
 use Rattle.rly_machine.specs.Pick.{outcome_of, pick_refusal, pick_reply, picked_reply, waiting_of, with_picked}
-use Rattle.rly_machine.specs.Release.{covered, release_refusal, with_released}
+use Rattle.rly_machine.specs.Release.{covered_count, release_refusal, with_released}
 use Rattle.rly_machine.specs.Take.{take_refusal, with_taken}
 use Rattle.rly_machine.specs.Step.{step}
 use Rattle.rly_machine.specs.Fold.{fold}
@@ -178,11 +178,11 @@ mapped_step {P} {Q} len len' f same s (Pick hop now) =
     ∙ ap (λ (reply : Reply). let r : State Q × Reply = (map_state f (accept s hop (with_picked (hop_at s hop) now (outcome_of len s.params (hop_at s hop) now))), reply) in r)
     (ap (λ (o : Outcome). pick_reply (map_hop f (hop_at s hop)) o.dropped) (decides (hop_at s hop)) ∙ mapped_pick_reply f (hop_at s hop) (outcome_of len s.params (hop_at s hop) now).dropped))
 mapped_step {P} {Q} len len' f same s (Release hop number) =
-    let count' : HopState Q → ℕ = λ h. covered h number in
+    let count' : HopState Q → ℕ = λ h. covered_count h number in
     mapped_unless f _ _ s _ _ (mapped_release_refusal f s hop number)
-    (ap (λ (t : State Q). let r : State Q × Reply = (t, Released (covered (hop_at (map_state f s) hop) number)) in r)
-    (mapped_accept f s hop (λ h. with_released h (covered h number)) (λ h. with_released h (covered h number)) (λ h. mapped_with_released f (covered h number) h))
-    ∙ ap (λ (h : HopState Q). let r : State Q × Reply = (map_state f (accept s hop (with_released (hop_at s hop) (covered (hop_at s hop) number))), Released (covered h number)) in r) (mapped_hop_at f s hop))
+    (ap (λ (t : State Q). let r : State Q × Reply = (t, Released (covered_count (hop_at (map_state f s) hop) number)) in r)
+    (mapped_accept f s hop (λ h. with_released h (covered_count h number)) (λ h. with_released h (covered_count h number)) (λ h. mapped_with_released f (covered_count h number) h))
+    ∙ ap (λ (h : HopState Q). let r : State Q × Reply = (map_state f (accept s hop (with_released (hop_at s hop) (covered_count (hop_at s hop) number))), Released (covered_count h number)) in r) (mapped_hop_at f s hop))
 
 -- a row of commands
 pub mapped_fold : {P Q : Type 0} (len : P → ℕ) (len' : Q → ℕ) (f : P → Q) → ((p : P) → len' (f p) ≡ len p) → (s : State P) (commands : List (Command P))

@@ -20,9 +20,9 @@ use Rattle.rly_machine.specs.State.{HopState, State, has_hop, has_peer, hop_at, 
 use Rattle.rly_machine.specs.Accepted.{is_accepted, max_seq, unless}
 use Rattle.rly_machine.specs.Take.{is_full, take_refusal}
 use Rattle.rly_machine.specs.Pick.{is_idle, outcome_of, pick_refusal, pick_reply, picked_reply}
-use Rattle.rly_machine.specs.Release.{covered, release_refusal}
+use Rattle.rly_machine.specs.Release.{covered_count, release_refusal}
 use Rattle.rly_machine.specs.Step.{step}
-use Rattle.rly_machine.specs.Query.{fetched, item_of, query_reply, status_of}
+use Rattle.rly_machine.specs.Query.{fetch_reply, item_of, query_reply, status_of}
 use Rattle.rly_machine.specs.Ask.{ask_step}
 use Rattle.rly_machine.specs.History.{is_failure, harm}
 
@@ -58,7 +58,7 @@ checks_pick s hop now =
 checks_release : {P : Type 0} (s : State P) (hop : HopId) (number : ℕ) → Checks (release_refusal s hop number)
 checks_release s hop number =
     row (not (has_hop s hop)) (Refused NoSuchHop) _ refl (row (nat_le (next_number (hop_at s hop)) number) (Refused NeverSent) _ refl
-    (row (nat_eq (covered (hop_at s hop) number) 0) Unchanged _ refl (row (nat_le max_seq s.seq) (Refused Spent) _ refl passes)))
+    (row (nat_eq (covered_count (hop_at s hop) number) 0) Unchanged _ refl (row (nat_le max_seq s.seq) (Refused Spent) _ refl passes)))
 
 -- what a step comes to: a check's reply and the state as it was, or an accepted command's
 record Comes {P : Type 0} (s : State P) (after : State P × Reply) : Type 0 where
@@ -94,6 +94,10 @@ step_comes len s (Pick hop now) =
     (pick_counts (hop_at s hop) (outcome_of len s.params (hop_at s hop) now).dropped) refl
 step_comes len s (Release hop number) = comes (release_refusal s hop number) s _ (checks_release s hop number) refl refl refl
 
+-- no reply to a command is a failure
+pub real_step : {P : Type 0} (len : P → ℕ) (s : State P) (command : Command P) → is_failure (step len s command).1 ≡ false
+real_step len s command = (step_comes len s command).real
+
 -- a command that was not accepted leaves the state
 pub unaccepted : {P : Type 0} (len : P → ℕ) (s : State P) (command : Command P) → is_accepted (step len s command).1 ≡ false → (step len s command).0 ≡ s
 unaccepted len s command = (step_comes len s command).stays
@@ -109,7 +113,7 @@ Fetches (Err refusal) = is_failure (Refused refusal) ≡ false
 record RealFetch {P : Type 0} (r : Result (Item P) Refusal) : Type 0 where
   fetches : Fetches r
 
-fetched_real : (r : Result (Item (List ℕ)) Refusal) → RealFetch r → is_failure (fetched r) ≡ false
+fetched_real : (r : Result (Item (List ℕ)) Refusal) → RealFetch r → is_failure (fetch_reply r) ≡ false
 fetched_real (Ok item) real = refl
 fetched_real (Err refusal) real = real.fetches
 
@@ -125,7 +129,8 @@ real_cond : (b : Bool) (x y : Reply) → is_failure x ≡ false → is_failure y
 real_cond true x y real others = real
 real_cond false x y real others = others
 
-real_query : (s : State (List ℕ)) (query : Query) → is_failure (query_reply s query) ≡ false
+-- nor is one to a question
+pub real_query : (s : State (List ℕ)) (query : Query) → is_failure (query_reply s query) ≡ false
 real_query s (Fetch hop number) = fetched_real (item_of s hop number)
     (fetch_row (not (has_hop s hop)) NoSuchHop _ refl (fetch_row (nat_le (next_number (hop_at s hop)) number) NeverSent _ refl
     (fetch_row (nat_le number (hop_at s hop).released) NotInFlight _ refl (fetch_end (slice_get (hop_at s hop).flight (number - (hop_at s hop).released - 1))))))

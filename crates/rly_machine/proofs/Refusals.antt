@@ -7,7 +7,7 @@ use Rattle.rly_core.specs.declared.ids.PeerId.{PeerId}
 use Rattle.rly_machine.specs.State.{State, is_among, has_hop, has_peer, hop_at, last_at, live_items, live_bytes, next_number}
 use Rattle.rly_machine.specs.Accepted.{max_seq}
 use Rattle.rly_machine.specs.Pick.{is_idle, pick_refusal}
-use Rattle.rly_machine.specs.Release.{covered, release_refusal}
+use Rattle.rly_machine.specs.Release.{covered_count, release_refusal}
 use Rattle.rly_machine.specs.Take.{take_refusal}
 
 -- a check that didn't fail, and the row behind it
@@ -77,7 +77,7 @@ pub may_release : {P : Type 0} (s : State P) (hop : HopId) (number : ℕ) → re
 may_release s hop number h =
     let a = passed (not (has_hop s hop)) _ _ h in
     let b = passed (nat_le (next_number (hop_at s hop)) number) _ _ a.1 in
-    let c = passed (nat_eq (covered (hop_at s hop) number) 0) _ _ b.1 in
+    let c = passed (nat_eq (covered_count (hop_at s hop) number) 0) _ _ b.1 in
     let d = passed (nat_le max_seq s.seq) _ _ c.1 in
     let the_hop = among _ _ (not-false _ a.0) in
     let below : number < (hop_at s hop).released + length (hop_at s hop).flight + 1 = leb-false _ _ b.0 in

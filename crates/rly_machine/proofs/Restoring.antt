@@ -5,25 +5,25 @@ use Rattle.std.proofs.lemmas.List.Sums.{sum_by_more, sum_by_more_le}
 use Rattle.rly_machine.specs.declared.hop.Hop.{Hop}
 use Rattle.rly_machine.specs.declared.hop.Item.{Item}
 use Rattle.rly_machine.specs.State.{HopState, bytes_of, new_hop}
-use Rattle.rly_machine.specs.Kept.{hop_of}
+use Rattle.rly_machine.specs.Kept.{hop_state}
 use Rattle.rly_machine.proofs.Keeping.{read_hop}
 
 -- the next hop counts beside those so far
 pub counted_more : {P : Type 0} (f : HopState P → ℕ) (hops : List (Hop P)) (i : ℕ) (old : Hop P) → i < length hops → old ≡ get_or hops i old
-    → sum_by f (take (i + 1) (map hop_of hops)) ≡ sum_by f (take i (map hop_of hops)) + f (hop_of old)
+    → sum_by f (take (i + 1) (map hop_state hops)) ≡ sum_by f (take i (map hop_state hops)) + f (hop_state old)
 counted_more {P} f hops i old below read =
-    let view : Hop P → HopState P = hop_of in
+    let view : Hop P → HopState P = hop_state in
     let place : i < length (map view hops) = omega (arith, length-map hops view) in
     sum_by_more f (map view hops) i new_hop place ∙ ap (λ h. sum_by f (take i (map view hops)) + f h) (sym (read_hop hops i old below read))
 
 -- and no more than all of them
 pub counted_le : {P : Type 0} (f : HopState P → ℕ) (hops : List (Hop P)) (i : ℕ) (old : Hop P) → i < length hops → old ≡ get_or hops i old
-    → sum_by f (take i (map hop_of hops)) + f (hop_of old) ≤ sum_by f (map hop_of hops)
+    → sum_by f (take i (map hop_state hops)) + f (hop_state old) ≤ sum_by f (map hop_state hops)
 counted_le {P} f hops i old below read =
-    let view : Hop P → HopState P = hop_of in
+    let view : Hop P → HopState P = hop_state in
     let place : i < length (map view hops) = omega (arith, length-map hops view) in
     let all = sum_by_more_le f (map view hops) i new_hop place in
-    let same : f (get_or (map view hops) i new_hop) ≡ f (hop_of old) = ap f (sym (read_hop hops i old below read)) in
+    let same : f (get_or (map view hops) i new_hop) ≡ f (hop_state old) = ap f (sym (read_hop hops i old below read)) in
     omega (arith, all, same)
 
 -- the payload bytes of the next item, beside those so far

@@ -11,7 +11,7 @@ use Rattle.rly_core.specs.declared.params.Params.{Params}
 use Rattle.rly_machine.specs.declared.hop.Item.{Item}
 use Rattle.rly_machine.specs.State.{State, HopState, hop_at, last_at, live_line, live_items, live_bytes, bytes_of, new_hop}
 use Rattle.rly_machine.specs.Accepted.{accept, max_seq}
-use Rattle.rly_machine.specs.Release.{covered, with_released}
+use Rattle.rly_machine.specs.Release.{covered_count, with_released}
 use Rattle.rly_machine.specs.Take.{with_taken}
 use Rattle.rly_machine.specs.Sound.{IsSound, IsSoundHop, IsLive, ComesBefore}
 use Rattle.rly_machine.proofs.Refusals.{MayTake, MayRelease}
@@ -188,16 +188,16 @@ bytes_released {P} len s hop count from to =
 -- an accepted Release keeps a spool sound
 pub sound_release : {P : Type 0} (len : P → ℕ) (s : State P) (hop : HopId) (number : ℕ)
     → IsSound len s → MayRelease s hop number
-    → IsSound len (accept s hop (with_released (hop_at s hop) (covered (hop_at s hop) number)))
+    → IsSound len (accept s hop (with_released (hop_at s hop) (covered_count (hop_at s hop) number)))
 sound_release {P} len s hop number sound may =
     let place : hop.0 - 1 < length s.hops = omega (arith, may.hop_from, may.hop_to) in
     let old = All-get_or (IsSoundHop len s.params s.seq) s.hops (hop.0 - 1) new_hop place sound.hops in
-    let count : ℕ = covered (hop_at s hop) number in
-    let within : covered (hop_at s hop) number ≤ length (hop_at s hop).flight = omega (arith, may.given) in
+    let count : ℕ = covered_count (hop_at s hop) number in
+    let within : covered_count (hop_at s hop) number ≤ length (hop_at s hop).flight = omega (arith, may.given) in
     sound_accept len s hop _ s.lasts sound may.hop_from may.hop_to may.seq
-    (sound_released len s.params s.seq (covered (hop_at s hop) number) (hop_at s hop) within old)
+    (sound_released len s.params s.seq (covered_count (hop_at s hop) number) (hop_at s hop) within old)
     refl
     (All-weaker (λ n. n ≤ s.seq) (λ n. n ≤ s.seq + 1) (λ n was. omega arith) s.lasts sound.lasts)
     refl
-    (omega (arith, items_released s hop (covered (hop_at s hop) number) may.hop_from may.hop_to within, sound.items))
-    (omega (arith, bytes_released len s hop (covered (hop_at s hop) number) may.hop_from may.hop_to, sound.bytes))
+    (omega (arith, items_released s hop (covered_count (hop_at s hop) number) may.hop_from may.hop_to within, sound.items))
+    (omega (arith, bytes_released len s hop (covered_count (hop_at s hop) number) may.hop_from may.hop_to, sound.bytes))

@@ -4,7 +4,7 @@ use Rattle.std.proofs.lemmas.List.{get_or-map, length-map}
 use Rattle.std.proofs.lemmas.List.Elements.{All-get_or, All-map}
 use Rattle.std.proofs.lemmas.List.Sums.{sum_by-drop_more, sum_by-take-drop}
 use Rattle.std.specs.List.{All}
-use Rattle.rly_codel.specs.Waiting.{Waiting, bytes_of}
+use Rattle.rly_codel.specs.Waiting.{Waiting, waiting_bytes}
 use Rattle.rly_machine.specs.declared.hop.Item.{Item}
 use Rattle.rly_machine.specs.Pick.{waiting_of}
 use Rattle.rly_machine.specs.Sound.{IsLive}
@@ -15,7 +15,7 @@ waiting_length {P} len items = length-map items (λ (item : Item P). let w : Wai
 
 -- the bytes of an item, and of those behind it
 pub behind_step : {P : Type 0} (len : P → ℕ) (items : List (Item P)) (i : ℕ) (item : Item P) → i < length items → item ≡ get_or items i item
-    → bytes_of (drop i (waiting_of len items)) ≡ len item.payload + bytes_of (drop (i + 1) (waiting_of len items))
+    → waiting_bytes (drop i (waiting_of len items)) ≡ len item.payload + waiting_bytes (drop (i + 1) (waiting_of len items))
 behind_step {P} len items i item below read =
     let seen : Item P → Waiting = λ item. record { stamp = item.stamp; bytes = len item.payload } in
     let below' : i < length (map seen items) = omega (arith, length-map items seen) in
@@ -26,7 +26,7 @@ behind_step {P} len items i item below read =
     omega (arith, more, bytes)
 
 -- those behind are no more than all
-pub behind_le : (xs : List Waiting) (n : ℕ) → bytes_of (drop n xs) ≤ bytes_of xs
+pub behind_le : (xs : List Waiting) (n : ℕ) → waiting_bytes (drop n xs) ≤ waiting_bytes xs
 behind_le xs n = let size : Waiting → ℕ = λ w. w.bytes in omega (arith, sum_by-take-drop size xs n)
 
 -- no stamp is above the hop's moment

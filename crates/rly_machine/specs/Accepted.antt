@@ -9,7 +9,8 @@ use Rattle.rly_machine.specs.State.{State, HopState}
 abbrev pub max_seq : ℕ
 max_seq = 2 ^ 48 - 1
 
--- what a step comes to: the answer of the first check that fails and the state as it was, or else what an accepted command leaves
+-- what a step comes to: the answer of the first check that fails and the state as it was, or else what an accepted
+-- command leaves
 abbrev pub unless : {P : Type 0} → Option Reply → State P → State P × Reply → State P × Reply
 unless (Some reply) s accepted = (s, reply)
 unless None s accepted = accepted

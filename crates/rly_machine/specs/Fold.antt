@@ -13,4 +13,5 @@ fold len s (command ∷ commands) = fold len (step len s command).0 commands
 -- each of a row of commands is accepted in the state that those before it left
 abbrev pub AllAccepted : {P : Type 0} → (P → ℕ) → State P → List (Command P) → Type 0
 AllAccepted len s [] = Unit {0}
-AllAccepted len s (command ∷ commands) = IsTrue (is_accepted (step len s command).1) × AllAccepted len (step len s command).0 commands
+AllAccepted len s (command ∷ commands) =
+    IsTrue (is_accepted (step len s command).1) × AllAccepted len (step len s command).0 commands

@@ -65,7 +65,8 @@ pub record IsAnswered (shown : Reply → Reply) (harmed : ℕ) (s : State (List 
 -- each call of a history was answered in the state that those before it left
 abbrev pub LegalBy : (Reply → Reply) → ℕ → State (List ℕ) → List Entry → Type 0
 LegalBy shown harmed s [] = Unit {0}
-LegalBy shown harmed s (entry ∷ entries) = IsAnswered shown harmed s entry × LegalBy shown (harm entry.1.reply) (next_state s entry) entries
+LegalBy shown harmed s (entry ∷ entries) =
+    IsAnswered shown harmed s entry × LegalBy shown (harm entry.1.reply) (next_state s entry) entries
 
 -- a history is legal from a base state
 abbrev pub Legal : State (List ℕ) → List Entry → Type 0

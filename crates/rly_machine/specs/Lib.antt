@@ -9,6 +9,7 @@ pub mod Ask
 pub mod Fold
 pub mod Sound
 pub mod Kept
+pub mod HelpersMachine
 pub mod Custody
 pub mod Map
 pub mod History

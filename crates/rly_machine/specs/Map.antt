@@ -9,7 +9,15 @@ abbrev pub map_item : {P Q : Type 0} → (P → Q) → Item P → Item Q
 map_item f item = record { id = item.id; stamp = item.stamp; payload = f item.payload }
 
 abbrev pub map_hop : {P Q : Type 0} → (P → Q) → HopState P → HopState Q
-map_hop f h = record { queue = map (map_item f) h.queue; flight = map (map_item f) h.flight; codel = h.codel; moment = h.moment; taken = h.taken; dropped = h.dropped; released = h.released }
+map_hop f h = record {
+  queue = map (map_item f) h.queue;
+  flight = map (map_item f) h.flight;
+  codel = h.codel;
+  moment = h.moment;
+  taken = h.taken;
+  dropped = h.dropped;
+  released = h.released;
+}
 
 abbrev pub map_state : {P Q : Type 0} → (P → Q) → State P → State Q
 map_state f s = record { params = s.params; hops = map (map_hop f) s.hops; lasts = s.lasts; seq = s.seq }

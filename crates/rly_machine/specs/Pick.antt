@@ -1,5 +1,6 @@
 -- Pick: CoDel drops what is due, and the item behind goes into flight.
-use Rattle.std.specs.Prelude.{ℕ, ◌+◌, ◌^◌, List, [], ◌∷◌, ◌++◌, length, map, take, drop, nat_le, ◌==◌, not, ◌&&◌, max, Bool, if◌then◌else◌, Option, Some, None}
+use Rattle.std.specs.Prelude.{ℕ, ◌+◌, ◌^◌, nat_le, ◌==◌, not, ◌&&◌, max, Bool, if◌then◌else◌, Option, Some, None}
+use Rattle.std.specs.Prelude.{List, [], ◌∷◌, ◌++◌, length, map, take, drop}
 use Rattle.rly_core.specs.declared.ids.HopId.{HopId}
 use Rattle.rly_core.specs.declared.params.Params.{Params}
 use Rattle.rly_core.specs.declared.refusal.Refusal.TheVariants.{NoSuchHop, BadMoment, WindowFull, Empty, Spent}
@@ -43,7 +44,8 @@ with_sent h = record h { queue = drop 1 h.queue; flight = h.flight ++ take 1 h.q
 
 -- a hop after CoDel decided: the dropped items are gone, and the one behind them is in flight
 abbrev pub with_picked : {P : Type 0} → HopState P → ℕ → Outcome → HopState P
-with_picked h now outcome = with_sent (with_dropped (record h { codel = outcome.state; moment = max now h.moment }) outcome.dropped)
+with_picked h now outcome =
+    with_sent (with_dropped (record h { codel = outcome.state; moment = max now h.moment }) outcome.dropped)
 
 -- the answer where items are left behind those dropped: the first of them got a number
 abbrev pub picked_reply : {P : Type 0} → ℕ → List ℕ → List (Item P) → Reply

@@ -1,5 +1,6 @@
 -- The questions: Fetch, Window and Show.
-use Rattle.std.specs.Prelude.{ℕ, ◌+◌, ◌-◌, ◌<◌, List, length, slice_get, nat_le, ◌==◌, not, if◌then◌else◌, Result, Ok, Err}
+use Rattle.std.specs.Prelude.{ℕ, ◌+◌, ◌-◌, ◌<◌, nat_le, ◌==◌, not, if◌then◌else◌}
+use Rattle.std.specs.Prelude.{List, length, slice_get, Result, Ok, Err}
 use Rattle.std.specs.Option.{ok_or}
 use Rattle.rly_core.specs.declared.ids.HopId.{HopId}
 use Rattle.rly_core.specs.declared.refusal.Refusal.{Refusal}
@@ -21,19 +22,29 @@ item_of s hop number =
     else ok_or (slice_get (hop_at s hop).flight (number - (hop_at s hop).released - 1)) NotInFlight
 
 -- Fetch: the bytes in flight under a number
-abbrev pub fetched : Result (Item (List ℕ)) Refusal → Reply
-fetched (Ok item) = Bytes item.payload
-fetched (Err refusal) = Refused refusal
+abbrev pub fetch_reply : Result (Item (List ℕ)) Refusal → Reply
+fetch_reply (Ok item) = Bytes item.payload
+fetch_reply (Err refusal) = Refused refusal
 
 -- Window: the least number in flight, or else the next one; and the next one
 abbrev pub window_reply : {P : Type 0} → State P → HopId → Reply
 window_reply s hop =
     let h = hop_at s hop in
-    if has_hop s hop then WindowIs (if length h.flight == 0 then next_number h else h.released + 1) (next_number h) else Refused NoSuchHop
+    if has_hop s hop
+    then WindowIs (if length h.flight == 0 then next_number h else h.released + 1) (next_number h)
+    else Refused NoSuchHop
 
 -- all numbers of a hop
 abbrev pub status_of : {P : Type 0} → HopState P → HopStatus
-status_of h = record { taken = h.taken; queued = length h.queue; flight = length h.flight; dropped = h.dropped; released = h.released; codel = h.codel; moment = h.moment }
+status_of h = record {
+  taken = h.taken;
+  queued = length h.queue;
+  flight = length h.flight;
+  dropped = h.dropped;
+  released = h.released;
+  codel = h.codel;
+  moment = h.moment;
+}
 
 -- Show
 abbrev pub show_reply : {P : Type 0} → State P → HopId → Reply
@@ -41,7 +52,7 @@ show_reply s hop = if has_hop s hop then Shown (status_of (hop_at s hop)) else R
 
 -- the reply to a question
 abbrev pub query_reply : State (List ℕ) → Query → Reply
-query_reply s (Fetch hop number) = fetched (item_of s hop number)
+query_reply s (Fetch hop number) = fetch_reply (item_of s hop number)
 query_reply s (Window hop) = window_reply s hop
 query_reply s (Show hop) = show_reply s hop
 

@@ -8,15 +8,15 @@ use Rattle.rly_machine.specs.Accepted.{accept, max_seq, unless}
 use Rattle.rly_machine.specs.State.{State, HopState, has_hop, hop_at, next_number}
 
 -- how many in flight have a number up to one that was given
-abbrev pub covered : {P : Type 0} → HopState P → ℕ → ℕ
-covered h number = number - h.released
+abbrev pub covered_count : {P : Type 0} → HopState P → ℕ → ℕ
+covered_count h number = number - h.released
 
 -- the checks of Release
 abbrev pub release_refusal : {P : Type 0} → State P → HopId → ℕ → Option Reply
 release_refusal s hop number =
     if not (has_hop s hop) then Some (Refused NoSuchHop)
     else if nat_le (next_number (hop_at s hop)) number then Some (Refused NeverSent)
-    else if covered (hop_at s hop) number == 0 then Some Unchanged
+    else if covered_count (hop_at s hop) number == 0 then Some Unchanged
     else if nat_le max_seq s.seq then Some (Refused Spent)
     else None
 
@@ -26,5 +26,7 @@ with_released h count = record h { flight = drop count h.flight; released = h.re
 
 -- Release: the next hop took custody of all in flight up to a number
 abbrev pub release_step : {P : Type 0} → State P → HopId → ℕ → State P × Reply
-release_step s hop number = unless (release_refusal s hop number) s
-    (accept s hop (with_released (hop_at s hop) (covered (hop_at s hop) number)), Released (covered (hop_at s hop) number))
+release_step s hop number = unless (release_refusal s hop number) s (
+  accept s hop (with_released (hop_at s hop) (covered_count (hop_at s hop) number)),
+  Released (covered_count (hop_at s hop) number),
+)

@@ -1,9 +1,10 @@
 -- The state of a spool, over any payload P. No index, cache or buffer is part of it.
-use Rattle.std.specs.Prelude.{ℕ, ◌+◌, ◌-◌, List, [], ◌++◌, length, replicate, slice_index, slice_index_or, sum_by, Bool, nat_lt, nat_le, ◌&&◌}
+use Rattle.std.specs.Prelude.{ℕ, ◌+◌, ◌-◌, Bool, nat_lt, nat_le, ◌&&◌}
+use Rattle.std.specs.Prelude.{List, [], ◌++◌, length, replicate, slice_index, slice_index_or, sum_by}
 use Rattle.rly_core.specs.declared.ids.HopId.{HopId}
 use Rattle.rly_core.specs.declared.ids.PeerId.{PeerId}
 use Rattle.rly_core.specs.declared.params.Params.{Params}
-use Rattle.rly_codel.specs.Start as start
+use Rattle.rly_codel.specs.Start.{new_codel}
 use Rattle.rly_codel.specs.declared.state.CodelState.{CodelState}
 use Rattle.rly_machine.specs.declared.hop.Item.{Item}
 
@@ -24,18 +25,20 @@ pub record State (P : Type 0) : Type 0 where
   pub lasts : List ℕ
   pub seq : ℕ
 
--- what contracts see of a machine: its state and, for each hop, how many more items its queue and its flight hold without memory
+-- what contracts see of a machine: its state and, for each hop, how many more items its queue and its flight hold
+-- without memory
 pub record Spool (P : Type 0) : Type 0 where
   pub state : State P
   pub spare : List ℕ
 
 -- a hop that nothing has come to
 abbrev pub new_hop : {P : Type 0} → HopState P
-new_hop = record { queue = []; flight = []; codel = start.new_state; moment = 0; taken = 0; dropped = 0; released = 0 }
+new_hop = record { queue = []; flight = []; codel = new_codel; moment = 0; taken = 0; dropped = 0; released = 0 }
 
 -- a spool that nothing has come to
 abbrev pub new_state : {P : Type 0} → Params → State P
-new_state params = record { params = params; hops = replicate params.hops new_hop; lasts = replicate params.peers 0; seq = 0 }
+new_state params =
+    record { params = params; hops = replicate params.hops new_hop; lasts = replicate params.peers 0; seq = 0 }
 
 -- whether one of so many has this number, counted from 1
 abbrev pub is_among : ℕ → ℕ → Bool

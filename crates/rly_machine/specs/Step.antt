@@ -17,8 +17,10 @@ step len s (Release hop number) = release_step s hop number
 -- there is room for a command, so that it takes no memory: at a Take's hop, if it is there, for one more
 -- item; at a Pick's hop for one more item in flight, and for as many dropped ids as items wait
 abbrev pub HasRoom : {P : Type 0} → Spool P → ℕ → Command P → Type 0
-HasRoom spool ids (Take peer number hop stamp payload) = IsTrue (has_hop spool.state hop) → 0 < slice_index spool.spare (hop.0 - 1)
-HasRoom spool ids (Pick hop now) = IsTrue (has_hop spool.state hop) → (0 < slice_index spool.spare (hop.0 - 1)) × (length (hop_at spool.state hop).queue ≤ ids)
+HasRoom spool ids (Take peer number hop stamp payload) =
+    IsTrue (has_hop spool.state hop) → 0 < slice_index spool.spare (hop.0 - 1)
+HasRoom spool ids (Pick hop now) = IsTrue (has_hop spool.state hop)
+    → (0 < slice_index spool.spare (hop.0 - 1)) × (length (hop_at spool.state hop).queue ≤ ids)
 HasRoom spool ids (Release hop number) = Unit {0}
 
 -- a command for which memory may be wanted, for the places and the ids that it needs

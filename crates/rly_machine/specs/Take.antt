@@ -1,8 +1,10 @@
 -- Take: a datagram comes in. Its checks stand in a row: the first that fails is answered, and nothing changes.
-use Rattle.std.specs.Prelude.{ℕ, ◌+◌, ◌-◌, ◌^◌, [], ◌∷◌, ◌++◌, slice_set, nat_lt, nat_le, ◌||◌, not, max, Bool, if◌then◌else◌, Option, Some, None}
+use Rattle.std.specs.Prelude.{ℕ, ◌+◌, ◌-◌, ◌^◌, nat_lt, nat_le, ◌||◌, not, max, Bool, if◌then◌else◌}
+use Rattle.std.specs.Prelude.{[], ◌∷◌, ◌++◌, slice_set, Option, Some, None}
 use Rattle.rly_core.specs.declared.ids.HopId.{HopId}
 use Rattle.rly_core.specs.declared.ids.PeerId.{PeerId}
-use Rattle.rly_core.specs.declared.refusal.Refusal.TheVariants.{NoSuchPeer, NoSuchHop, BadMoment, TooLong, Gap, Full, Spent}
+use Rattle.rly_core.specs.declared.refusal.Refusal.TheVariants.{NoSuchPeer, NoSuchHop, BadMoment}
+use Rattle.rly_core.specs.declared.refusal.Refusal.TheVariants.{TooLong, Gap, Full, Spent}
 use Rattle.rly_machine.specs.declared.reply.Reply.{Reply}
 use Rattle.rly_machine.specs.declared.reply.Reply.TheVariants.{Taken, Already, Refused}
 use Rattle.rly_machine.specs.Accepted.{accept, max_seq, unless}
@@ -35,5 +37,9 @@ with_taken h id stamp payload = record h {
 
 -- Take: a datagram comes in
 abbrev pub take_step : {P : Type 0} → (P → ℕ) → State P → PeerId → ℕ → HopId → ℕ → P → State P × Reply
-take_step len s peer number hop stamp payload = unless (take_refusal len s peer number hop stamp (len payload)) s
-    (record (accept s hop (with_taken (hop_at s hop) (s.seq + 1) stamp payload)) { lasts = slice_set s.lasts (peer.0 - 1) number }, Taken (s.seq + 1))
+take_step len s peer number hop stamp payload = unless (take_refusal len s peer number hop stamp (len payload)) s (
+  record (accept s hop (with_taken (hop_at s hop) (s.seq + 1) stamp payload)) {
+    lasts = slice_set s.lasts (peer.0 - 1) number;
+  },
+  Taken (s.seq + 1),
+)

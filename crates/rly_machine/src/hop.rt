@@ -41,7 +41,7 @@ pub struct Hop<C> {
 }
 
 impl<C> Hop<C> {
-    ghost use Rattle.rly_machine.specs.Kept.{hop_of};
+    ghost use Rattle.rly_machine.specs.Kept.{hop_state};
     ghost use Rattle.rly_machine.specs.Pick.{is_idle};
     ghost use Rattle.rly_machine.specs.State.{new_hop, next_number};
     ghost use Rattle.rly_machine.specs.Query.{status_of};
@@ -49,7 +49,7 @@ impl<C> Hop<C> {
 
     /// A hop that nothing has come to. It takes no memory.
     pub(crate) fn new(alloc: Global) -> Hop<C>
-        ensures { hop_of result ≡ new_hop }
+        ensures { hop_state result ≡ new_hop }
     {
         Hop {
             queue: VecDeque::new(alloc),
@@ -64,7 +64,7 @@ impl<C> Hop<C> {
 
     /// All numbers of the hop.
     pub(crate) fn status(&self) -> HopStatus
-        ensures { result ≡ status_of (hop_of self.now) }
+        ensures { result ≡ status_of (hop_state self.now) }
     {
         HopStatus {
             taken: self.taken,
@@ -80,7 +80,7 @@ impl<C> Hop<C> {
     /// Makes room for one more datagram in the queue and one more in flight. Where memory is
     /// refused, the hop is as it was. Answers how many wait.
     pub(crate) fn reserve(&mut self) -> Result<usize, AllocError>
-        ensures hop { hop_of self.new ≡ hop_of self.old }
+        ensures hop { hop_state self.new ≡ hop_state self.old }
         ensures queue { OnOk result (deque_len self.new.queue < deque_capacity self.new.queue) }
         ensures flight { OnOk result (deque_len self.new.flight < deque_capacity self.new.flight) }
         ensures waiting { IfOk result (λ count. count ≡ length self.new.queue.items) }
@@ -93,14 +93,14 @@ impl<C> Hop<C> {
     /// The custody number that the next datagram in flight gets.
     pub(crate) fn next_number(&self) -> u64
         requires { self.now.released + length self.now.flight.items + 1 < 2 ^ 64 }
-        ensures { result ≡ next_number (hop_of self.now) }
+        ensures { result ≡ next_number (hop_state self.now) }
     {
         self.released + self.flight.len() as u64 + 1
     }
 
     /// Whether there is nothing that a pick would change.
     pub(crate) fn is_idle(&self) -> bool
-        ensures { result ≡ is_idle (hop_of self.now) }
+        ensures { result ≡ is_idle (hop_state self.now) }
     {
         self.queue.is_empty() && self.codel.first_above_time == 0 && !self.codel.dropping
     }
@@ -109,7 +109,7 @@ impl<C> Hop<C> {
     pub(crate) fn take(&mut self, id: u64, stamp: u64, payload: C)
         requires room { deque_len self.old.queue < deque_capacity self.old.queue }
         requires count { self.old.taken + 1 < 2 ^ 64 }
-        ensures { hop_of self.new ≡ with_taken (hop_of self.old) id stamp payload }
+        ensures { hop_state self.new ≡ with_taken (hop_state self.old) id stamp payload }
     {
         let stamp = stamp.max(self.moment);
         self.moment = stamp;
@@ -119,7 +119,7 @@ impl<C> Hop<C> {
 }
 
 impl<C: Content> Hop<C> {
-    ghost use Rattle.rly_machine.specs.Kept.{hop_of};
+    ghost use Rattle.rly_machine.specs.Kept.{hop_state};
     ghost use Rattle.rly_machine.specs.Accepted.{max_seq};
     ghost use Rattle.rly_machine.specs.Pick.{outcome_of, pick_reply, picked_reply, waiting_of, with_dropped, with_picked, with_sent};
     ghost use Rattle.rly_machine.specs.Sound.{IsSoundHop};
@@ -129,16 +129,16 @@ impl<C: Content> Hop<C> {
 
     /// How many datagrams it keeps, in flight and waiting.
     pub fn live_items(&self) -> u64
-        requires { length (live_line (hop_of self.now)) < 2 ^ 64 }
-        ensures { result ≡ length (live_line (hop_of self.now)) }
+        requires { length (live_line (hop_state self.now)) < 2 ^ 64 }
+        ensures { result ≡ length (live_line (hop_state self.now)) }
     {
         self.flight.len() as u64 + self.queue.len() as u64
     }
 
     /// How many payload bytes those have.
     pub fn live_bytes(&self) -> u64
-        requires { bytes_of C.length_of (live_line (hop_of self.now)) < 2 ^ 64 }
-        ensures { result ≡ bytes_of C.length_of (live_line (hop_of self.now)) }
+        requires { bytes_of C.length_of (live_line (hop_state self.now)) < 2 ^ 64 }
+        ensures { result ≡ bytes_of C.length_of (live_line (hop_state self.now)) }
     {
         payload_bytes(&self.flight) + payload_bytes(&self.queue)
     }
@@ -148,7 +148,7 @@ impl<C: Content> Hop<C> {
         requires flight { count ≤ length self.old.flight.items }
         requires bytes { bytes_of C.length_of self.old.flight.items < 2 ^ 64 }
         requires count_fits { self.old.released + count < 2 ^ 64 }
-        ensures hop { hop_of self.new ≡ with_released (hop_of self.old) count }
+        ensures hop { hop_state self.new ≡ with_released (hop_state self.old) count }
         ensures bytes { result + bytes_of C.length_of self.new.flight.items ≡ bytes_of C.length_of self.old.flight.items }
     {
         let mut bytes = 0;
@@ -166,15 +166,15 @@ impl<C: Content> Hop<C> {
     pub(crate) fn pick(&mut self, now: u64, params: &Params, ids: Vec<u64>) -> (Reply, Dropped)
         requires params { IsWithinLimits params.now }
         requires moment { now < 2 ^ 52 }
-        requires sound { IsSoundHop C.length_of params.now max_seq (hop_of self.old) }
+        requires sound { IsSoundHop C.length_of params.now max_seq (hop_state self.old) }
         requires bytes { bytes_of C.length_of self.old.queue.items < 2 ^ 64 }
         requires flight { deque_len self.old.flight < deque_capacity self.old.flight }
         requires no_ids { ids.items ≡ [] }
         requires room { length self.old.queue.items ≤ vec_capacity ids }
-        ensures hop { hop_of self.new ≡ with_picked (hop_of self.old) now (outcome_of C.length_of params.now (hop_of self.old) now) }
-        ensures reply { result.0 ≡ pick_reply (hop_of self.old) (outcome_of C.length_of params.now (hop_of self.old) now).dropped }
-        ensures items { result.1.items ≡ (outcome_of C.length_of params.now (hop_of self.old) now).dropped }
-        ensures bytes { result.1.bytes ≡ bytes_of C.length_of (take (outcome_of C.length_of params.now (hop_of self.old) now).dropped self.old.queue.items) }
+        ensures hop { hop_state self.new ≡ with_picked (hop_state self.old) now (outcome_of C.length_of params.now (hop_state self.old) now) }
+        ensures reply { result.0 ≡ pick_reply (hop_state self.old) (outcome_of C.length_of params.now (hop_state self.old) now).dropped }
+        ensures items { result.1.items ≡ (outcome_of C.length_of params.now (hop_state self.old) now).dropped }
+        ensures bytes { result.1.bytes ≡ bytes_of C.length_of (take (outcome_of C.length_of params.now (hop_state self.old) now).dropped self.old.queue.items) }
     {
         let now = now.max(self.moment);
         let number = self.next_number();
@@ -194,7 +194,7 @@ impl<C: Content> Hop<C> {
         requires fits { self.old.dropped + count < 2 ^ 64 }
         requires no_ids { ids.old.items ≡ [] }
         requires room { count ≤ vec_capacity ids.old }
-        ensures hop { hop_of self.new ≡ with_dropped (hop_of self.old) count }
+        ensures hop { hop_state self.new ≡ with_dropped (hop_state self.old) count }
         ensures capacity { deque_capacity self.new.flight ≡ deque_capacity self.old.flight }
         ensures ids { ids.new.items ≡ map (λ item. item.id) (take count self.old.queue.items) }
         ensures items { result.items ≡ count }
@@ -217,7 +217,7 @@ impl<C: Content> Hop<C> {
     /// Moves the first of the queue, if there is one, into flight under a number.
     fn send(&mut self, number: u64, dropped: Vec<u64>) -> Reply
         requires { deque_len self.old.flight < deque_capacity self.old.flight }
-        ensures hop { hop_of self.new ≡ with_sent (hop_of self.old) }
+        ensures hop { hop_state self.new ≡ with_sent (hop_state self.old) }
         ensures reply { result ≡ picked_reply number dropped.items self.old.queue.items }
     {
         let Some(item) = self.queue.pop_front() else {

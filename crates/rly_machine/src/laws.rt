@@ -4,7 +4,7 @@ ghost use Rattle.std.specs.Prelude.{◌≡◌, ◌≢◌, ◌+◌, ◌≤◌, �
 ghost use Rattle.rly_core.specs.Limits.{IsWithinLimits};
 ghost use Rattle.rly_core.specs.declared.params.Params.{Params};
 ghost use Rattle.rly_core.specs.declared.ids.HopId.{HopId};
-ghost use Rattle.rly_machine.specs.Custody.{KeepsCustody, times, told_along};
+ghost use Rattle.rly_machine.specs.Custody.{KeepsCustody, times, account_along};
 ghost use Rattle.rly_machine.specs.Fold.{fold};
 ghost use Rattle.rly_machine.specs.Map.{map_command, map_state};
 ghost use Rattle.rly_machine.specs.Sound.{IsSound};
@@ -40,8 +40,8 @@ pub fn law_map<P: Content, Q: Content>()
 /// id is taken at two hops.
 pub fn law_custody<C: Content>()
     ensures kept { (params : Params) (commands : List (Command C)) (hop : HopId) → IsTrue (has_hop (new_state {P = C} params) hop)
-        → KeepsCustody (hop_at (fold C.length_of (new_state params) commands) hop) (told_along C.length_of hop (new_state params) commands) }
+        → KeepsCustody (hop_at (fold C.length_of (new_state params) commands) hop) (account_along C.length_of hop (new_state params) commands) }
     ensures apart { (params : Params) (commands : List (Command C)) (hop other : HopId) (id : ℕ) → hop ≢ other
-        → times id (told_along C.length_of hop (new_state params) commands).taken
-        + times id (told_along C.length_of other (new_state params) commands).taken ≤ 1 }
+        → times id (account_along C.length_of hop (new_state params) commands).taken
+        + times id (account_along C.length_of other (new_state params) commands).taken ≤ 1 }
 {}

@@ -18,8 +18,6 @@ mod question;
 mod queue;
 mod reply;
 mod room;
-#[cfg(test)]
-mod tests;
 
 pub use crate::call::{Answer, Call, SeatId};
 pub use crate::command::{Ask, Command, Query};

@@ -1,5 +1,5 @@
 ghost use Rattle.std.specs.Prelude.{◌≡◌, ◌<◌, ◌^◌, length, map, sum_by};
-ghost use Rattle.rly_machine.specs.Kept.{hop_of};
+ghost use Rattle.rly_machine.specs.Kept.{hop_state};
 ghost use Rattle.rly_machine.specs.State.{bytes_of, live_line};
 
 use crate::content::Content;
@@ -17,10 +17,10 @@ pub(crate) struct Live {
 impl Live {
     /// Counts it.
     pub(crate) fn of<C: Content>(hops: &[Hop<C>]) -> Live
-        requires items { sum_by (λ h. length (live_line h)) (map hop_of hops.now) < 2 ^ 64 }
-        requires bytes { sum_by (λ h. bytes_of C.length_of (live_line h)) (map hop_of hops.now) < 2 ^ 64 }
-        ensures items { result.items ≡ sum_by (λ h. length (live_line h)) (map hop_of hops.now) }
-        ensures bytes { result.bytes ≡ sum_by (λ h. bytes_of C.length_of (live_line h)) (map hop_of hops.now) }
+        requires items { sum_by (λ h. length (live_line h)) (map hop_state hops.now) < 2 ^ 64 }
+        requires bytes { sum_by (λ h. bytes_of C.length_of (live_line h)) (map hop_state hops.now) < 2 ^ 64 }
+        ensures items { result.items ≡ sum_by (λ h. length (live_line h)) (map hop_state hops.now) }
+        ensures bytes { result.bytes ≡ sum_by (λ h. bytes_of C.length_of (live_line h)) (map hop_state hops.now) }
     {
         let mut items = 0;
         let mut bytes = 0;

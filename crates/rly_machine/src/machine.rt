@@ -1,14 +1,15 @@
 ghost use Rattle.std.specs.Prelude.{◌≡◌, ◌+◌, ◌-◌, ◌<◌, ◌≤◌, Err, IfErr, IfOk, IsOk, IsTrue, MatchOption, Ok, OnErr, OnOk, Some, false, length, map, slice_get, slice_index};
 ghost use Rattle.std.specs.Option.{SomeIff};
 ghost use Rattle.rly_core.specs.Limits.{IsWithinLimits};
-ghost use Rattle.rly_machine.specs.Kept.{IsHopAt, hop_of};
+ghost use Rattle.rly_machine.specs.HelpersMachine.{IsHopAt};
+ghost use Rattle.rly_machine.specs.Kept.{hop_state};
 ghost use Rattle.rly_machine.specs.Sound.{IsSound};
 ghost use Rattle.rly_machine.specs.State.{has_hop, has_peer, hop_at, last_at, live_bytes, live_items, new_state};
 ghost use Rattle.rly_machine.specs.Step.{HasRoom, NeedsRoom, step};
 ghost use Rattle.rly_machine.specs.Query.{item_of, show_reply, window_reply};
 ghost use Rattle.rly_machine.specs.Take.{take_refusal, take_step};
 ghost use Rattle.rly_machine.specs.Pick.{pick_refusal, pick_step};
-ghost use Rattle.rly_machine.specs.Release.{covered, release_refusal, release_step};
+ghost use Rattle.rly_machine.specs.Release.{covered_count, release_refusal, release_step};
 
 use crate::command::{Ask, Command, Query};
 use crate::content::{Content, Payload};
@@ -33,14 +34,15 @@ pub struct Machine<C: Content> {
 }
 
 impl<C: Content> Model for Machine<C> {
-    ghost use Rattle.rly_machine.specs.Kept.{IsKept, spare_of, state_of};
+    ghost use Rattle.rly_machine.specs.HelpersMachine.{KeepsCounts};
+    ghost use Rattle.rly_machine.specs.Kept.{spare_of, state_of};
     ghost use Rattle.rly_machine.specs.State.{Spool};
 
     ghost Value = { Spool C };
 
     ghost view = { λ m. record { state = state_of m.params m.hops m.lasts m.seq; spare = spare_of m.hops } };
 
-    ghost invariant = { λ m. IsKept C.length_of (state_of m.params m.hops m.lasts m.seq) m.live_items m.live_bytes };
+    ghost invariant = { λ m. KeepsCounts C.length_of (state_of m.params m.hops m.lasts m.seq) m.live_items m.live_bytes };
 }
 
 impl<C: Content> Machine<C> {
@@ -132,7 +134,7 @@ impl<C: Content> Machine<C> {
 
     /// The hops with all that they keep, in the order of their numbers.
     pub fn hops(&self) -> &[Hop<C>]
-        ensures { map hop_of result.now ≡ self.now.state.hops }
+        ensures { map hop_state result.now ≡ self.now.state.hops }
     {
         self.hops.as_slice()
     }
@@ -381,7 +383,7 @@ impl<C: Content> Machine<C> {
     fn accept_release(&mut self, hop: HopId, number: u64) -> Reply
         requires { release_refusal self.old.state hop number ≡ None }
         ensures state { self.new.state ≡ (release_step self.old.state hop number).0 }
-        ensures reply { result ≡ Reply.Released (covered (hop_at self.old.state hop) number) }
+        ensures reply { result ≡ Reply.Released (covered_count (hop_at self.old.state hop) number) }
     {
         let hop = &mut self.hops[hop.0 as usize - 1];
         let count = number - hop.released;

@@ -1,5 +1,5 @@
 ghost use Rattle.std.specs.Prelude.{◌≡◌, ◌+◌, ◌<◌, ◌^◌, List};
-ghost use Rattle.rly_codel.specs.Waiting.{Waiting, bytes_of};
+ghost use Rattle.rly_codel.specs.Waiting.{Waiting, waiting_bytes};
 ghost use Rattle.rly_machine.specs.Pick.{waiting_of};
 
 use crate::content::Content;
@@ -19,12 +19,12 @@ impl<'a, C: Content> Model for Queue<'a, C> {
 
     ghost view = { λ queue. waiting_of C.length_of queue.items.now.items };
 
-    ghost invariant = { λ queue. bytes_of (waiting_of C.length_of queue.items.now.items) < 2 ^ 64 };
+    ghost invariant = { λ queue. waiting_bytes (waiting_of C.length_of queue.items.now.items) < 2 ^ 64 };
 }
 
 impl<'a, C: Content> Queue<'a, C> {
     pub(crate) fn new(items: &'a VecDeque<Item<C>>) -> Queue<'a, C>
-        requires { bytes_of (waiting_of C.length_of items.now.items) < 2 ^ 64 }
+        requires { waiting_bytes (waiting_of C.length_of items.now.items) < 2 ^ 64 }
         ensures { result ≡ waiting_of C.length_of items.now.items }
     {
         Queue { items }

@@ -7,12 +7,11 @@ use Rattle.std.proofs.lemmas.Bool.{cases_lt, lt-leb}
 use Rattle.rly_core.specs.declared.limits.TheConstants.{MOMENT_LIMIT}
 use Rattle.rly_plan.specs.declared.contacts.Contact.{Contact}
 use Rattle.rly_plan.specs.declared.contacts.Summed.{Summed}
-use Rattle.rly_plan.specs.LinkClock.{is_within, is_open, count_below, link, end_of}
-use Rattle.rly_plan.specs.Sums.{contacts_in, AreSummed, sum_after, end_after, IsKept}
-use Rattle.rly_plan.specs.Search.{or_later, latest, HasBegun}
+use Rattle.rly_plan.specs.LinkClock.{lies_in, lies_in_any, count_below, open_moments}
+use Rattle.rly_plan.specs.HelpersContacts.{last_end, contacts_in, AreSummed, sum_after, end_after, AreTotalled, or_later, latest, HasBegun}
 
 -- no contact is open before the first begins
-pub closed_before : (front sum : ℕ) (es : List Summed) (t : ℕ) → AreSummed front sum es → t < front → is_open (contacts_in es) t ≡ false
+pub closed_before : (front sum : ℕ) (es : List Summed) (t : ℕ) → AreSummed front sum es → t < front → lies_in_any (contacts_in es) t ≡ false
 closed_before front sum [] t kept before = refl
 closed_before front sum (e ∷ es) t kept before =
     let early : t < e.contact.begin = omega (arith, kept.0) in
@@ -63,7 +62,7 @@ open_either e None rest t begun same ended = rw (le-leb e.contact.begin t begun,
 open_either e (Some x) rest t begun same ended = rw (le-leb e.contact.begin t begun, le-ltb t e.contact.end ended) same
 
 -- whether the link is open, by the entry that is found
-pub open_at_latest : (front sum : ℕ) (es : List Summed) (t : ℕ) → AreSummed front sum es → is_open (contacts_in es) t ≡ is_open_in (latest es t) t
+pub open_at_latest : (front sum : ℕ) (es : List Summed) (t : ℕ) → AreSummed front sum es → lies_in_any (contacts_in es) t ≡ is_open_in (latest es t) t
 open_at_latest front sum [] t kept = refl
 open_at_latest front sum (e ∷ es) t kept =
     elim (cases_lt t e.contact.begin) [
@@ -73,7 +72,7 @@ open_at_latest front sum (e ∷ es) t kept =
 
 -- one more moment, inside the contact or not
 one_more : (c : Contact) (n : ℕ) (before rest count : ℕ) (b : Bool) → count ≡ before + rest → before ≡ min n c.end - c.begin → (n < c.end → b ≡ false)
-    → count + cond (is_within n c || b) 1 0 ≡ (min (suc n) c.end - c.begin) + (rest + cond b 1 0)
+    → count + cond (lies_in n c || b) 1 0 ≡ (min (suc n) c.end - c.begin) + (rest + cond b 1 0)
 one_more c n before rest count b counted is closed =
     elim (cases_lt n c.begin) [
       | inl early ↦ elim (cases_lt n c.end) [
@@ -87,10 +86,10 @@ one_more c n before rest count b counted is closed =
     ]
 
 -- the first contact's part of the link clock, where the others begin when it has ended
-pub link_front : (c : Contact) (cs : List Contact) (t : ℕ) → ((u : ℕ) → u < c.end → is_open cs u ≡ false) → link (c ∷ cs) t ≡ (min t c.end - c.begin) + link cs t
+pub link_front : (c : Contact) (cs : List Contact) (t : ℕ) → ((u : ℕ) → u < c.end → lies_in_any cs u ≡ false) → open_moments (c ∷ cs) t ≡ (min t c.end - c.begin) + open_moments cs t
 unfolding count_below
 link_front c cs zero closed = omega arith
-link_front c cs (suc n) closed = one_more c n _ (link cs n) (link (c ∷ cs) n) (is_open cs n) (link_front c cs n closed) refl (closed n)
+link_front c cs (suc n) closed = one_more c n _ (open_moments cs n) (open_moments (c ∷ cs) n) (lies_in_any cs n) (link_front c cs n closed) refl (closed n)
 
 sum_either : (e : Summed) (o : Option Summed) (sum rest t : ℕ) → e.contact.begin ≤ t → e.before ≡ sum → (sum + (e.contact.end - e.contact.begin)) + rest ≡ sum_in (sum + (e.contact.end - e.contact.begin)) o t
     → IfSome o (λ _. e.contact.end ≤ t) → sum + ((min t e.contact.end - e.contact.begin) + rest) ≡ sum_in sum (or_later e o) t
@@ -98,13 +97,13 @@ sum_either e None sum rest t begun is same ended = omega (arith, same, is)
 sum_either e (Some x) sum rest t begun is same ended = omega (arith, same, ended)
 
 -- the link clock, by the entry that is found
-pub link_at_latest : (front sum : ℕ) (es : List Summed) (t : ℕ) → AreSummed front sum es → sum + link (contacts_in es) t ≡ sum_in sum (latest es t) t
-link_at_latest front sum [] t kept = rw (count_none (is_open []) t (λ u h. refl)) (omega arith)
+pub link_at_latest : (front sum : ℕ) (es : List Summed) (t : ℕ) → AreSummed front sum es → sum + open_moments (contacts_in es) t ≡ sum_in sum (latest es t) t
+link_at_latest front sum [] t kept = rw (count_none (lies_in_any []) t (λ u h. refl)) (omega arith)
 link_at_latest front sum (e ∷ es) t kept =
     elim (cases_lt t e.contact.begin) [
-      | inl early ↦ rw (latest_early e es t early, count_none (is_open (contacts_in (e ∷ es))) t (λ u h. closed_before e.contact.begin sum (e ∷ es) u (omega arith, kept.1, kept.2, kept.3, kept.4) (omega arith))) (omega arith)
+      | inl early ↦ rw (latest_early e es t early, count_none (lies_in_any (contacts_in (e ∷ es))) t (λ u h. closed_before e.contact.begin sum (e ∷ es) u (omega arith, kept.1, kept.2, kept.3, kept.4) (omega arith))) (omega arith)
       | inr begun ↦ rw (latest_late e es t begun, link_front e.contact (contacts_in es) t (λ u h. closed_before e.contact.end _ es u kept.4 h))
-          (sum_either e (latest es t) sum (link (contacts_in es) t) t begun kept.3 (link_at_latest e.contact.end _ es t kept.4) (begun_since e.contact.end _ es t kept.4))
+          (sum_either e (latest es t) sum (open_moments (contacts_in es) t) t begun kept.3 (link_at_latest e.contact.end _ es t kept.4) (begun_since e.contact.end _ es t kept.4))
     ]
 
 found_either : (e : Summed) (o : Option Summed) (t : ℕ) → HasBegun t e → IfSome o (HasBegun t) → IfSome (or_later e o) (HasBegun t)
@@ -161,11 +160,11 @@ pub sum_below_end : (front sum : ℕ) (es : List Summed) → AreSummed front sum
 sum_below_end front sum [] kept below = below
 sum_below_end front sum (e ∷ es) kept below = sum_below_end e.contact.end _ es kept.4 (omega (arith, kept.0, kept.1, below))
 
-end_behind : (e : Summed) (es : List Summed) → end_of (contacts_in (e ∷ es)) ≡ end_after e.contact.end es
+end_behind : (e : Summed) (es : List Summed) → last_end (contacts_in (e ∷ es)) ≡ end_after e.contact.end es
 end_behind e [] = refl
 end_behind e (f ∷ es) = end_behind f es
 
-pub end_is : (es : List Summed) → end_of (contacts_in es) ≡ end_after 0 es
+pub end_is : (es : List Summed) → last_end (contacts_in es) ≡ end_after 0 es
 end_is [] = refl
 end_is (e ∷ es) = end_behind e es
 
@@ -187,26 +186,26 @@ latest_where es t (suc k) d within some parts =
     rw less (sym (latest_at es t k d (omega arith) parts.0 parts.1))
 
 -- the answers, from the entry that was found
-pub open_found : (es seen : List Summed) (cs : List Contact) (t : ℕ) (o : Option Summed) → AreSummed 0 0 es → contacts_in es ≡ cs → seen ≡ es → o ≡ latest seen t → is_open_in o t ≡ is_open cs t
+pub open_found : (es seen : List Summed) (cs : List Contact) (t : ℕ) (o : Option Summed) → AreSummed 0 0 es → contacts_in es ≡ cs → seen ≡ es → o ≡ latest seen t → is_open_in o t ≡ lies_in_any cs t
 open_found es seen cs t o kept same read found = rw (found, read, ← same) (sym (open_at_latest 0 0 es t kept))
 
-pub link_found : (es seen : List Summed) (cs : List Contact) (t : ℕ) (o : Option Summed) → AreSummed 0 0 es → contacts_in es ≡ cs → seen ≡ es → o ≡ latest seen t → sum_in 0 o t ≡ link cs t
+pub link_found : (es seen : List Summed) (cs : List Contact) (t : ℕ) (o : Option Summed) → AreSummed 0 0 es → contacts_in es ≡ cs → seen ≡ es → o ≡ latest seen t → sum_in 0 o t ≡ open_moments cs t
 link_found es seen cs t o kept same read found = rw (found, read, ← same) (omega (arith, link_at_latest 0 0 es t kept))
 
 -- after one more contact
-pub kept_push : (es : List Summed) (total : ℕ) (cs : List Contact) (n : Contact) → IsKept es total → contacts_in es ≡ cs → end_of cs ≤ n.begin → n.begin < n.end → n.end < MOMENT_LIMIT
-    → IsKept (es ++ record { contact = n; before = total } ∷ []) (total + (n.end - n.begin))
+pub kept_push : (es : List Summed) (total : ℕ) (cs : List Contact) (n : Contact) → AreTotalled es total → contacts_in es ≡ cs → last_end cs ≤ n.begin → n.begin < n.end → n.end < MOMENT_LIMIT
+    → AreTotalled (es ++ record { contact = n; before = total } ∷ []) (total + (n.end - n.begin))
 kept_push es total cs n kept same behind lasts bounded =
-    let ended : end_after 0 es ≤ n.begin = omega (arith, behind, end_is es, ap end_of same) in
+    let ended : end_after 0 es ≤ n.begin = omega (arith, behind, end_is es, ap last_end same) in
     record {
       summed = summed_push 0 0 es _ kept.summed ended kept.total_is lasts bounded;
       total_is = rw (sum_push 0 es (record { contact = n; before = total })) (ap (λ s. s + (n.end - n.begin)) kept.total_is);
     }
 
 -- the open time in all contacts is at most when the last ends
-pub total_below : (es : List Summed) (total : ℕ) (cs : List Contact) → IsKept es total → contacts_in es ≡ cs → total ≤ end_of cs
-total_below es total cs kept same = omega (arith, sum_below_end 0 0 es kept.summed (omega arith), kept.total_is, end_is es, ap end_of same)
+pub total_below : (es : List Summed) (total : ℕ) (cs : List Contact) → AreTotalled es total → contacts_in es ≡ cs → total ≤ last_end cs
+total_below es total cs kept same = omega (arith, sum_below_end 0 0 es kept.summed (omega arith), kept.total_is, end_is es, ap last_end same)
 
 -- with no contacts the link clock stays at 0
-pub never_open : (t : ℕ) → link [] t ≡ 0
-never_open t = count_none (is_open []) t (λ u h. refl)
+pub never_open : (t : ℕ) → open_moments [] t ≡ 0
+never_open t = count_none (lies_in_any []) t (λ u h. refl)

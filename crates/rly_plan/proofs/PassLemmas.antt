@@ -5,7 +5,7 @@ use Rattle.std.proofs.lemmas.Bool.{and_parts, cases_eq, ne_eqb, false≢true}
 use Rattle.std.proofs.lemmas.List.{drop_more}
 use Rattle.rly_core.specs.declared.limits.TheConstants.{MAX_CONTACTS, MAX_HOPS, MAX_PEERS, MOMENT_LIMIT}
 use Rattle.rly_plan.specs.declared.draft.ContactDraft.{ContactDraft}
-use Rattle.rly_plan.specs.LinkClock.{end_of}
+use Rattle.rly_plan.specs.HelpersContacts.{last_end}
 use Rattle.rly_plan.specs.Draft.{HopText, PlanText}
 use Rattle.rly_plan.specs.Passes.{all_numbered, hop_in_range, is_in_range, is_station, neighbour_in_range, route_in_range, rows_in_range, is_between, number, contact_in_range, all_adjacent, are_apart, repeats, contact_from}
 
@@ -51,7 +51,7 @@ contact_bounds c h =
     (omega (arith, bounds.0), omega (arith, bounds.1))
 
 -- a contact that stands apart begins when those in front of it have ended
-pub ended_at : (ds : List ContactDraft) (i : ℕ) (d : ContactDraft) → all_adjacent are_apart ds ≡ true → i < length ds → end_of (map contact_from (take i ds)) ≤ number (get_or ds i d).begin
+pub ended_at : (ds : List ContactDraft) (i : ℕ) (d : ContactDraft) → all_adjacent are_apart ds ≡ true → i < length ds → last_end (map contact_from (take i ds)) ≤ number (get_or ds i d).begin
 ended_at [] i d apart within = absurd (omega arith)
 ended_at (x ∷ ds) zero d apart within = omega arith
 ended_at (x ∷ []) (suc i) d apart within = absurd (omega arith)

@@ -14,8 +14,8 @@ use Rattle.rly_plan.specs.declared.draft.RouteDraft.{RouteDraft}
 use Rattle.rly_plan.specs.ContactPlan.{ContactPlan}
 use Rattle.rly_plan.specs.Draft.{HopText, PlanText, draft_of}
 use Rattle.rly_plan.specs.Keys.{keys_are_known}
-use Rattle.rly_plan.specs.Passes.{all_adjacent, all_numbered, are_apart, contact_from, contact_in_range, hop_from, hop_in_range, is_between, is_in_range, is_sorted, is_station, leads_to_hops, neighbour_from, neighbour_in_range, number, number_16, overlaps, plan_from, plan_of, plan_of_document, plan_of_draft, repeats, route_from, route_in_range, rows_in_range}
-use Rattle.rly_plan.specs.Sound.{IsStation, AreInOrder, IsSound}
+use Rattle.rly_plan.specs.Passes.{all_adjacent, all_numbered, are_apart, contact_from, contact_in_range, hop_from, hop_in_range, is_between, is_in_range, is_sorted, is_station, leads_to_hops, neighbour_from, neighbour_in_range, number, number_16, overlaps, plan_from, plan_of_text, plan_of_document, plan_of_draft, repeats, route_from, route_in_range, rows_in_range}
+use Rattle.rly_plan.specs.Sound.{IsStationNumber, AreInOrder, IsSoundPlan}
 use Rattle.rly_plan.proofs.PassLemmas.{between_bounds, contact_bounds}
 
 -- ---- what passed
@@ -92,14 +92,14 @@ within_16 low high (negsuc n) fits h = absurd (false≢true h)
 sixteen : (low high : ℕ) (z : ℤ) → high ≤ 65535 → is_between low high z ≡ true → IsIn low high (number_16 z)
 sixteen low high z fits h = rw (within_16 low high z fits h) (between_bounds low high z h)
 
-neighbour_sound : (n : ℕ) (p : NeighbourDraft) → neighbour_in_range n p ≡ true → IsStation (number_16 p.station)
+neighbour_sound : (n : ℕ) (p : NeighbourDraft) → neighbour_in_range n p ≡ true → IsStationNumber (number_16 p.station)
 neighbour_sound n p h = sixteen 1 65535 p.station (omega arith) (and_parts (is_between n n p.id) (is_station p.station) h).1
 
-route_sound : (hops : ℕ) (r : RouteDraft) → hops ≤ 65535 → route_in_range r ≡ true → is_between 1 hops r.hop ≡ true → IsStation (number_16 r.destination) × IsIn 1 hops (number_16 r.hop)
+route_sound : (hops : ℕ) (r : RouteDraft) → hops ≤ 65535 → route_in_range r ≡ true → is_between 1 hops r.hop ≡ true → IsStationNumber (number_16 r.destination) × IsIn 1 hops (number_16 r.hop)
 route_sound hops r fits h leads = (sixteen 1 65535 r.destination (omega arith) (and_parts (is_station r.destination) (is_between 1 MAX_HOPS r.hop) h).0, sixteen 1 hops r.hop fits leads)
 
 routes_sound : (hops : ℕ) (rs : List RouteDraft) → hops ≤ 65535 → list_all route_in_range rs ≡ true → list_all (λ r. is_between 1 hops r.hop) rs ≡ true
-    → All (λ r. IsStation r.destination × IsIn 1 hops r.hop.0) (map route_from rs)
+    → All (λ r. IsStationNumber r.destination × IsIn 1 hops r.hop.0) (map route_from rs)
 routes_sound hops [] fits h leads k d within = absurd (omega arith)
 routes_sound hops (r ∷ rs) fits h leads zero d within =
     route_sound hops r fits (and_parts (route_in_range r) (list_all route_in_range rs) h).0 (and_parts (is_between 1 hops r.hop) (list_all (λ r. is_between 1 hops r.hop) rs) leads).0
@@ -128,7 +128,7 @@ pairs_apart (x ∷ ds) ranged apart zero (suc j) d order within = first_apart x 
 pairs_apart (x ∷ ds) ranged apart (suc i) (suc j) d order within =
     pairs_apart ds (and_parts (contact_in_range x) (list_all contact_in_range ds) ranged).1 (apart_behind x ds apart) i j d (omega arith) (omega arith)
 
-hop_sound : (n : ℕ) (h : HopText) → hop_in_range n h ≡ true → all_adjacent are_apart h.contacts ≡ true → IsStation (number_16 h.neighbour.station) × AreInOrder (map contact_from h.contacts)
+hop_sound : (n : ℕ) (h : HopText) → hop_in_range n h ≡ true → all_adjacent are_apart h.contacts ≡ true → IsStationNumber (number_16 h.neighbour.station) × AreInOrder (map contact_from h.contacts)
 hop_sound n h ranged apart =
     let (neighbour, rest) = and_parts (neighbour_in_range n h.neighbour) (nat_le (length h.contacts) MAX_CONTACTS && list_all contact_in_range h.contacts) ranged in
     let (counted, lasting) = and_parts (nat_le (length h.contacts) MAX_CONTACTS) (list_all contact_in_range h.contacts) rest in (
@@ -141,7 +141,7 @@ hop_sound n h ranged apart =
     )
 
 hops_sound : (n : ℕ) (hs : List HopText) → all_numbered hop_in_range n hs ≡ true → list_all (λ h. all_adjacent are_apart h.contacts) hs ≡ true
-    → All (λ h. IsStation h.neighbour.station × AreInOrder h.contacts) (map hop_from hs)
+    → All (λ h. IsStationNumber h.neighbour.station × AreInOrder h.contacts) (map hop_from hs)
 hops_sound n [] ranged apart k d within = absurd (omega arith)
 hops_sound n (h ∷ hs) ranged apart zero d within =
     hop_sound n h (and_parts (hop_in_range n h) (all_numbered hop_in_range (n + 1) hs) ranged).0 (and_parts (all_adjacent are_apart h.contacts) (list_all (λ h. all_adjacent are_apart h.contacts) hs) apart).0
@@ -156,7 +156,7 @@ counted_rows test f most rows h =
     let (least, greatest) = and_parts (nat_le 1 (length rows)) (nat_le (length rows) most) counted in
     (rw (length_of_map f rows) (leb-true 1 (length rows) least, leb-true (length rows) most greatest), ranged)
 
-draft_sound : (d : PlanText) → is_in_range d ≡ true → overlaps d ≡ false → leads_to_hops d ≡ true → IsSound (plan_from d)
+draft_sound : (d : PlanText) → is_in_range d ≡ true → overlaps d ≡ false → leads_to_hops d ≡ true → IsSoundPlan (plan_from d)
 draft_sound d ranged apart leads =
     let (station, in_rows) = and_parts (is_station d.station) (rows_in_range neighbour_in_range MAX_PEERS d.peers && (rows_in_range hop_in_range MAX_HOPS d.hops && list_all route_in_range d.routes)) ranged in
     let (in_peers, in_rest) = and_parts (rows_in_range neighbour_in_range MAX_PEERS d.peers) (rows_in_range hop_in_range MAX_HOPS d.hops && list_all route_in_range d.routes) in_rows in
@@ -171,7 +171,7 @@ draft_sound d ranged apart leads =
       station = sixteen 1 65535 d.station (omega arith) station;
       peer_count = peers.0;
       hop_count = hops.0;
-      peers = numbered_map neighbour_in_range neighbour_from (λ p. IsStation p.station) neighbour_sound 1 d.peers peers.1;
+      peers = numbered_map neighbour_in_range neighbour_from (λ p. IsStationNumber p.station) neighbour_sound 1 d.peers peers.1;
       hops = hops_sound 1 d.hops hops.1 (not-false (list_all (λ h. all_adjacent are_apart h.contacts) d.hops) contacts);
       routes = rw hop_count (routes_sound (length d.hops) d.routes (omega (arith, hops.0, hop_count)) in_routes leads);
       one_peer_a_station = distinct_map (λ p. number_16 p.station) neighbour_from (λ p. p.station) (λ p. refl) d.peers peers_once;
@@ -180,8 +180,8 @@ draft_sound d ranged apart leads =
     }
 
 -- what a text writes is sound
-pub plan_sound : (text : List ℕ) (plan : ContactPlan) → plan_of text ≡ Ok plan → IsSound plan
-unfolding plan_of
+pub plan_sound : (text : List ℕ) (plan : ContactPlan) → plan_of_text text ≡ Ok plan → IsSoundPlan plan
+unfolding plan_of_text
 plan_sound text plan h =
     let (d, found) = passed (parse_document text) plan h in
-    subst IsSound found.made (draft_sound d found.ranged found.apart found.leads)
+    subst IsSoundPlan found.made (draft_sound d found.ranged found.apart found.leads)

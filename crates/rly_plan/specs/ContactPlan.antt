@@ -6,7 +6,7 @@ use Rattle.rly_plan.specs.declared.contacts.Contact.{Contact}
 use Rattle.rly_plan.specs.declared.neighbour.Neighbour.{Neighbour}
 use Rattle.rly_plan.specs.declared.plan.Hop.{Hop}
 use Rattle.rly_plan.specs.declared.plan.Route.{Route}
-use Rattle.rly_plan.specs.LinkClock as clock
+use Rattle.rly_plan.specs.LinkClock.{lies_in_any, open_moments}
 
 -- this station, its neighbours on both sides in the order of their ids, and the routes in the order of the file
 pub record ContactPlan : Type 0 where
@@ -23,8 +23,8 @@ at_number xs (suc n) = slice_get xs n
 abbrev pub peer_at : ContactPlan → PeerId → Option Neighbour
 peer_at plan peer = at_number plan.peers peer.0
 
-abbrev pub hop_at : ContactPlan → HopId → Option Neighbour
-hop_at plan hop = option_map (λ h. h.neighbour) (at_number plan.hops hop.0)
+abbrev pub next_hop_at : ContactPlan → HopId → Option Neighbour
+next_hop_at plan hop = option_map (λ h. h.neighbour) (at_number plan.hops hop.0)
 
 -- the contacts of a hop: none for a hop that isn't there
 abbrev pub contacts_of : ContactPlan → HopId → List Contact
@@ -32,11 +32,11 @@ contacts_of plan hop = unwrap_or (option_map (λ h. h.contacts) (at_number plan.
 
 -- the hop's link is open at the moment
 abbrev pub is_open : ContactPlan → HopId → ℕ → Bool
-is_open plan hop moment = clock.is_open (contacts_of plan hop) moment
+is_open plan hop moment = lies_in_any (contacts_of plan hop) moment
 
 -- the hop's link clock
 abbrev pub link : ContactPlan → HopId → ℕ → ℕ
-link plan hop moment = clock.link (contacts_of plan hop) moment
+link plan hop moment = open_moments (contacts_of plan hop) moment
 
 -- the hop of the route that names the destination
 abbrev pub hop_for : ContactPlan → ℕ → Option HopId

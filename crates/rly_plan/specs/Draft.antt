@@ -48,8 +48,8 @@ pair_of (item begin (item end no_items)) = do
   Some (record { begin = b; end = e })
 pair_of _ = None
 
-abbrev pub contact_of : Data → Option ContactDraft
-contact_of value = as_array value >>= pair_of
+abbrev pub contact_draft_of : Data → Option ContactDraft
+contact_draft_of value = as_array value >>= pair_of
 
 abbrev pub neighbour_of : Members → Option NeighbourDraft
 neighbour_of ms = do
@@ -59,17 +59,17 @@ neighbour_of ms = do
   remote ← text_at (codes "remote") ms
   Some (record { id = id; station = station; addresses = record { listen = listen; remote = remote } })
 
-abbrev pub peer_of : Data → Option NeighbourDraft
-peer_of value = as_table value >>= neighbour_of
+abbrev pub peer_draft_of : Data → Option NeighbourDraft
+peer_draft_of value = as_table value >>= neighbour_of
 
 abbrev pub hop_in : Members → Option HopText
 hop_in ms = do
   neighbour ← neighbour_of ms
-  contacts ← items_at contact_of (get_member (codes "contacts") ms)
+  contacts ← items_at contact_draft_of (get_member (codes "contacts") ms)
   Some (record { neighbour = neighbour; contacts = contacts })
 
-abbrev pub hop_of : Data → Option HopText
-hop_of value = as_table value >>= hop_in
+abbrev pub hop_draft_of : Data → Option HopText
+hop_draft_of value = as_table value >>= hop_in
 
 abbrev pub route_in : Members → Option RouteDraft
 route_in ms = do
@@ -77,18 +77,18 @@ route_in ms = do
   hop ← integer_at (codes "hop") ms
   Some (record { destination = destination; hop = hop })
 
-abbrev pub route_of : Data → Option RouteDraft
-route_of value = as_table value >>= route_in
+abbrev pub route_draft_of : Data → Option RouteDraft
+route_draft_of value = as_table value >>= route_in
 
 -- `route` may be left out
 abbrev pub routes_at : Option Data → Option (List RouteDraft)
 routes_at None = Some []
-routes_at (Some value) = items_at route_of (Some value)
+routes_at (Some value) = items_at route_draft_of (Some value)
 
 abbrev pub draft_of : Members → Option PlanText
 draft_of ms = do
   station ← integer_at (codes "station") ms
-  peers ← items_at peer_of (get_member (codes "peer") ms)
-  hops ← items_at hop_of (get_member (codes "hop") ms)
+  peers ← items_at peer_draft_of (get_member (codes "peer") ms)
+  hops ← items_at hop_draft_of (get_member (codes "hop") ms)
   routes ← routes_at (get_member (codes "route") ms)
   Some (record { station = station; peers = peers; hops = hops; routes = routes })

@@ -1,6 +1,5 @@
 pub mod LinkClock
-pub mod Sums
-pub mod Search
+pub mod HelpersContacts
 pub mod Endpoints
 pub mod ContactPlan
 pub mod Keys

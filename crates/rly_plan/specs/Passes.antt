@@ -1,5 +1,6 @@
 -- The passes over a whole plan, in their order: the plan of a text, or the first fault (docs/FORMATS.md, "The plan").
-use Rattle.std.specs.Prelude.{ℕ, ◌+◌, ◌-◌, ◌==◌, nat_le, ℤ, pos, negsuc, Bool, true, false, not, ◌&&◌, ◌||◌, List, [], ◌∷◌, map, length, Option, Some, None, Result, Ok, Err, if◌then◌else◌}
+use Rattle.std.specs.Prelude.{ℕ, ◌+◌, ◌-◌, ◌==◌, nat_le, ℤ, pos, negsuc, List, [], ◌∷◌, map, length}
+use Rattle.std.specs.Prelude.{Bool, true, false, not, ◌&&◌, ◌||◌, if◌then◌else◌, Option, Some, None, Result, Ok, Err}
 use Rattle.std.specs.List.{list_all, list_any}
 use Rattle.toml.specs.Data.{Members}
 use Rattle.toml.specs.Parse.{parse_document}
@@ -47,7 +48,9 @@ abbrev pub contact_in_range : ContactDraft → Bool
 contact_in_range c = is_between 0 (MOMENT_LIMIT - 1) c.begin && is_between (number c.begin + 1) (MOMENT_LIMIT - 1) c.end
 
 abbrev pub hop_in_range : ℕ → HopText → Bool
-hop_in_range id h = neighbour_in_range id h.neighbour && (nat_le (length h.contacts) MAX_CONTACTS && list_all contact_in_range h.contacts)
+hop_in_range id h =
+    neighbour_in_range id h.neighbour
+    && (nat_le (length h.contacts) MAX_CONTACTS && list_all contact_in_range h.contacts)
 
 abbrev pub route_in_range : RouteDraft → Bool
 route_in_range r = is_station r.destination && is_between 1 MAX_HOPS r.hop
@@ -141,5 +144,5 @@ plan_of_document None = Err Syntax
 plan_of_document (Some ms) = if not (keys_are_known ms) then Err Unknown else plan_of_draft (draft_of ms)
 
 -- the plan that a text writes, or the first fault of its passes
-unfoldable pub plan_of : List ℕ → Result ContactPlan Refusal
-plan_of text = plan_of_document (parse_document text)
+unfoldable pub plan_of_text : List ℕ → Result ContactPlan Refusal
+plan_of_text text = plan_of_document (parse_document text)

@@ -7,8 +7,8 @@ use Rattle.rly_plan.specs.declared.contacts.Contact.{Contact}
 use Rattle.rly_plan.specs.ContactPlan.{ContactPlan}
 
 -- the number of a station or a destination
-abbrev pub IsStation : ℕ → Type 0
-IsStation n = IsIn 1 65535 n
+abbrev pub IsStationNumber : ℕ → Type 0
+IsStationNumber n = IsIn 1 65535 n
 
 -- each contact lasts, and ends before any later one begins or as it begins
 pub record AreInOrder (contacts : List Contact) : Type 0 where
@@ -16,13 +16,13 @@ pub record AreInOrder (contacts : List Contact) : Type 0 where
   pub lasting : All (λ c. (c.begin < c.end) × (c.end < MOMENT_LIMIT)) contacts
   pub apart : AllPairs (λ c d. c.end ≤ d.begin) contacts
 
-pub record IsSound (plan : ContactPlan) : Type 0 where
-  pub station : IsStation plan.station
+pub record IsSoundPlan (plan : ContactPlan) : Type 0 where
+  pub station : IsStationNumber plan.station
   pub peer_count : IsIn 1 MAX_PEERS (length plan.peers)
   pub hop_count : IsIn 1 MAX_HOPS (length plan.hops)
-  pub peers : All (λ p. IsStation p.station) plan.peers
-  pub hops : All (λ h. IsStation h.neighbour.station × AreInOrder h.contacts) plan.hops
-  pub routes : All (λ r. IsStation r.destination × IsIn 1 (length plan.hops) r.hop.0) plan.routes
+  pub peers : All (λ p. IsStationNumber p.station) plan.peers
+  pub hops : All (λ h. IsStationNumber h.neighbour.station × AreInOrder h.contacts) plan.hops
+  pub routes : All (λ r. IsStationNumber r.destination × IsIn 1 (length plan.hops) r.hop.0) plan.routes
   pub one_peer_a_station : AllPairs (λ p q. p.station ≢ q.station) plan.peers
   pub one_hop_a_station : AllPairs (λ h k. h.neighbour.station ≢ k.neighbour.station) plan.hops
   pub one_route_a_destination : AllPairs (λ r s. r.destination ≢ s.destination) plan.routes

@@ -1,7 +1,6 @@
 ghost use Rattle.std.specs.Prelude.{◌≡◌, ◌<◌, ◌≤◌, [], ◌∷◌, ◌++◌, IfSome, OnOk, OnErr};
-ghost use Rattle.rly_plan.specs.LinkClock.{end_of, is_open, link};
-ghost use Rattle.rly_plan.specs.Search.{latest, HasBegun};
-ghost use Rattle.rly_plan.specs.Sums.{AreSummed};
+ghost use Rattle.rly_plan.specs.HelpersContacts.{AreSummed, HasBegun, last_end, latest};
+ghost use Rattle.rly_plan.specs.LinkClock.{lies_in_any, open_moments};
 
 use rly_core::limits::MOMENT_LIMIT;
 use std::alloc::{AllocError, Global};
@@ -38,11 +37,11 @@ impl Model for Contacts {
 
     ghost Value = { List Contact };
 
-    ghost use Rattle.rly_plan.specs.Sums.{contacts_in, IsKept};
+    ghost use Rattle.rly_plan.specs.HelpersContacts.{AreTotalled, contacts_in};
 
     ghost view = { λ c. contacts_in c.entries.items };
 
-    ghost invariant = { λ c. IsKept c.entries.items c.total };
+    ghost invariant = { λ c. AreTotalled c.entries.items c.total };
 }
 
 impl Contacts {
@@ -58,7 +57,7 @@ impl Contacts {
 
     /// Puts a contact behind the others. An `Err` leaves them as they were.
     pub(crate) fn push(&mut self, contact: Contact) -> Result<(), AllocError>
-        requires behind { end_of self.old ≤ contact.begin }
+        requires behind { last_end self.old ≤ contact.begin }
         requires lasts { contact.begin < contact.end }
         requires bounded { contact.end < MOMENT_LIMIT }
         ensures ok { OnOk result (self.new ≡ self.old ++ contact ∷ []) }
@@ -75,7 +74,7 @@ impl Contacts {
 
     /// Whether the moment lies in a contact.
     pub(crate) fn is_open(&self, moment: u64) -> bool
-        ensures { result ≡ is_open self.now moment }
+        ensures { result ≡ lies_in_any self.now moment }
     {
         match latest(&self.entries, moment) {
             Some(entry) => moment < entry.contact.end,
@@ -85,7 +84,7 @@ impl Contacts {
 
     /// How many of the moments before this one lie in a contact.
     pub(crate) fn link(&self, moment: u64) -> u64
-        ensures { result ≡ link self.now moment }
+        ensures { result ≡ open_moments self.now moment }
     {
         match latest(&self.entries, moment) {
             Some(entry) => { entry.before + (moment.min(entry.contact.end) - entry.contact.begin) }

@@ -95,9 +95,9 @@ trait Item: Drop {
 }
 
 impl Item for ContactDraft {
-    ghost use Rattle.rly_plan.specs.Draft.{contact_of};
+    ghost use Rattle.rly_plan.specs.Draft.{contact_draft_of};
 
-    ghost shape = { contact_of };
+    ghost shape = { contact_draft_of };
 
     fn read(_alloc: Global, value: &Value) -> Result<Option<ContactDraft>, AllocError> {
         let Some(pair) = value.as_array() else {
@@ -114,9 +114,9 @@ impl Item for ContactDraft {
 }
 
 impl Item for NeighbourDraft {
-    ghost use Rattle.rly_plan.specs.Draft.{peer_of};
+    ghost use Rattle.rly_plan.specs.Draft.{peer_draft_of};
 
-    ghost shape = { peer_of };
+    ghost shape = { peer_draft_of };
 
     fn read(alloc: Global, value: &Value) -> Result<Option<NeighbourDraft>, AllocError> {
         match value.as_table() {
@@ -127,9 +127,9 @@ impl Item for NeighbourDraft {
 }
 
 impl Item for HopDraft {
-    ghost use Rattle.rly_plan.specs.Draft.{hop_of};
+    ghost use Rattle.rly_plan.specs.Draft.{hop_draft_of};
 
-    ghost shape = { hop_of };
+    ghost shape = { hop_draft_of };
 
     fn read(alloc: Global, value: &Value) -> Result<Option<HopDraft>, AllocError> {
         let Some(table) = value.as_table() else {
@@ -149,9 +149,9 @@ impl Item for HopDraft {
 }
 
 impl Item for RouteDraft {
-    ghost use Rattle.rly_plan.specs.Draft.{route_of};
+    ghost use Rattle.rly_plan.specs.Draft.{route_draft_of};
 
-    ghost shape = { route_of };
+    ghost shape = { route_draft_of };
 
     fn read(_alloc: Global, value: &Value) -> Result<Option<RouteDraft>, AllocError> {
         let Some(table) = value.as_table() else {

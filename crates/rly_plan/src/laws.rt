@@ -2,8 +2,8 @@
 
 ghost use Rattle.std.specs.Prelude.{◌≡◌, ℕ, List, Ok, ◌+◌, ◌-◌, ◌<◌, ◌≤◌, false, true};
 ghost use Rattle.rly_plan.specs.ContactPlan.{ContactPlan, is_open, link};
-ghost use Rattle.rly_plan.specs.Passes.{plan_of};
-ghost use Rattle.rly_plan.specs.Sound.{IsSound};
+ghost use Rattle.rly_plan.specs.Passes.{plan_of_text};
+ghost use Rattle.rly_plan.specs.Sound.{IsSoundPlan};
 
 use crate::plan::Plan;
 use rly_core::HopId;
@@ -37,5 +37,5 @@ pub fn law_link_runs_while_open(plan: &Plan, hop: HopId, earlier: u64, later: u6
 /// Whatever its text, a plan is sound: its numbers are in range, its contacts in order and apart,
 /// its stations and destinations there once, and its routes lead to hops that are there.
 pub fn law_plan_is_sound()
-    ensures { (text : List ℕ) (plan : ContactPlan) → plan_of text ≡ Ok plan → IsSound plan }
+    ensures { (text : List ℕ) (plan : ContactPlan) → plan_of_text text ≡ Ok plan → IsSoundPlan plan }
 {}

@@ -6,8 +6,19 @@
 //! holds no handle, and once a plan is read it takes no memory; the workers call it.
 #![tactic(auto)]
 
+/// As `assert!`, by one call: the prover then sees one way on where `assert!` has two. `assert!` stands where a later call needs
+/// what was asserted, and where the text names a row.
+#[cfg(test)]
+macro_rules! expect {
+    ($rt:expr; $cond:expr $(,)?) => {
+        crate::expect::expect(&$rt, $cond, stringify!($cond))
+    };
+}
+
 mod contacts;
 mod draft;
+#[cfg(test)]
+mod expect;
 mod keys;
 mod laws;
 mod neighbour;

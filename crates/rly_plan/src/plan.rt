@@ -50,15 +50,15 @@ impl Model for Plan {
 
 impl Plan {
     ghost use Rattle.std.specs.Prelude.{◌≡◌, ◌≢◌, length, IfErr, IfOk, Ok, Err, option_copied};
-    ghost use Rattle.rly_plan.specs.ContactPlan.{hop_at, hop_for, is_open, link, peer_at};
-    ghost use Rattle.rly_plan.specs.Passes.{plan_of};
+    ghost use Rattle.rly_plan.specs.ContactPlan.{next_hop_at, hop_for, is_open, link, peer_at};
+    ghost use Rattle.rly_plan.specs.Passes.{plan_of_text};
 
     /// The plan that a text writes (`docs/FORMATS.md`, "The plan"), or the first fault of its
     /// passes: 50 to 54. 14 is answered only where memory was refused.
-    #[tactic(auto, unfolding(crate::specs::Passes::plan_of))]
+    #[tactic(auto, unfolding(crate::specs::Passes::plan_of_text))]
     pub fn from_toml(alloc: Global, text: &str) -> Result<Plan, Refusal>
-        ensures plan { IfOk result (λ plan. plan_of text.now ≡ Ok plan) }
-        ensures fault { IfErr result (λ fault. fault ≢ Refusal.OutOfMemory → plan_of text.now ≡ Err fault) }
+        ensures plan { IfOk result (λ plan. plan_of_text text.now ≡ Ok plan) }
+        ensures fault { IfErr result (λ fault. fault ≢ Refusal.OutOfMemory → plan_of_text text.now ≡ Err fault) }
     {
         let document = match toml::table_from_str(alloc, text) {
             Ok(document) => document,
@@ -106,7 +106,7 @@ impl Plan {
 
     /// The neighbour that the hop of this id leads to.
     pub fn hop(&self, hop: HopId) -> Option<&Neighbour>
-        ensures { option_copied result ≡ hop_at self.now hop }
+        ensures { option_copied result ≡ next_hop_at self.now hop }
     {
         match at_number(&self.hops, hop.0) {
             Some(hop) => Some(&hop.neighbour),

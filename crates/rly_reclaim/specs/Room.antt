@@ -15,6 +15,7 @@ least_length g =
 abbrev pub Fits : Geometry → Type 0
 Fits g = least_length g ≤ g.length
 
--- the largest group has no room behind so many bytes of a segment: before a round that holds a command, a new segment is opened
+-- the largest group has no room behind so many bytes of a segment: before a round that holds a command, a new segment
+-- is opened
 abbrev pub IsDue : Geometry → ℕ → Type 0
 IsDue g offset = g.length < offset + group_room

@@ -5,7 +5,5 @@
 #![tactic(auto)]
 
 mod room;
-#[cfg(test)]
-mod tests;
 
 pub use crate::room::{GROUP_ROOM, fits, is_due, least_length};

@@ -12,10 +12,10 @@ use Rattle.std.proofs.lemmas.List.Sums.{sum_by-cons}
 use Rattle.byteorder.specs.Endian.{big_bytes}
 use Rattle.rly_machine.specs.declared.command.Command.{Command}
 use Rattle.rly_machine.specs.declared.command.Command.TheVariants.{Take, Pick, Release}
-use Rattle.rly_record.specs.declared.fault.DecodeFault.{DecodeFault}
-use Rattle.rly_record.specs.declared.fault.DecodeFault.TheVariants.{OutOfMemory, Malformed}
+use Rattle.rly_record.specs.declared.decode_fault.DecodeFault.{DecodeFault}
+use Rattle.rly_record.specs.declared.decode_fault.DecodeFault.TheVariants.{OutOfMemory, Malformed}
 use Rattle.rly_record.specs.Spelling.{IsShort, record_of, record_length, body_of, body_length, HasRecord, HaveBody}
-use Rattle.rly_record.specs.Reading.{◌>>=◌, Fails, Gives, behind, in_front, many_at, number_at, command_at, body_at, whole_body}
+use Rattle.rly_record.specs.HelpersReading.{◌>>=◌, Fails, Gives, behind, in_front, many_at, field_at, command_at, body_at, whole_body}
 use Rattle.rly_record.proofs.Fields.{IsBytes, bind_some, bind_is, some_is, Takes, Takes-then, wide_2, number_takes, number_again}
 use Rattle.rly_record.proofs.Readers.{Reads, many_reads}
 use Rattle.rly_record.proofs.Records.{command_takes, command_again, is_refused, length-record_of, one_reading}
@@ -59,7 +59,7 @@ ended body = cond (eqb (length body.1) 0) (Some body.0) None
 body_takes : (bytes : List ℕ) (x : AllFound) → IsBytes bytes → body_at bytes ≡ Some x → Takes bytes (body_of x.0) x.1 × HaveBody x.0
 unfolding body_at
 body_takes bytes x fits e =
-    let a = bind_some (number_at 2 bytes) counted x e in
+    let a = bind_some (field_at 2 bytes) counted x e in
     let count = a.0 in
     let g = guard_goes (eqb count.0 0 || ltb 64 count.0) (many_at command_at count.0 count.1) x a.2 in
     let tests = or_parts (eqb count.0 0) (ltb 64 count.0) g.0 in
@@ -78,7 +78,7 @@ body_again commands rest fits =
     let z : Option AllFound = Some (commands, rest) in
     let tests : (eqb n 0 || ltb 64 n) ≡ false = or_from _ _ (ne_eqb n 0 (λ none. omega (arith, fits.0.0))) (le-ltb _ _ fits.0.1) in
     ap body_at (append_assoc (big_bytes 2 n) (flat_map record_of commands) rest)
-    ∙ bind_is (number_at 2 (big_bytes 2 n ++ tail)) (n, tail) counted z (number_again 2 n tail (omega (arith, fits.0.1))) (rw tests ((many_reads n command_reads).again commands rest (record { count = refl; each = fits.1 })))
+    ∙ bind_is (field_at 2 (big_bytes 2 n ++ tail)) (n, tail) counted z (number_again 2 n tail (omega (arith, fits.0.1))) (rw tests ((many_reads n command_reads).again commands rest (record { count = refl; each = fits.1 })))
 
 pub whole_takes : (bytes : List ℕ) (commands : List (Command (List ℕ))) → IsBytes bytes → whole_body bytes ≡ Some commands → HaveBody commands × (bytes ≡ body_of commands)
 unfolding whole_body

@@ -5,7 +5,7 @@ use Rattle.std.proofs.lemmas.List.{take_at, drop_at, take-append-drop, length-ap
 use Rattle.std.proofs.lemmas.Nat.{be_bytes_2, be_bytes_4, be_bytes_8}
 use Rattle.byteorder.specs.Endian.{big_bytes, big_number}
 use Rattle.byteorder.specs.Numbers.{big_from-lt, big_number-reads_back, length-bytes_high_first}
-use Rattle.rly_record.specs.Reading.{◌>>=◌, number_at, payload_at}
+use Rattle.rly_record.specs.HelpersReading.{◌>>=◌, field_at, payload_at}
 
 -- each item is a byte
 abbrev pub IsBytes : List ℕ → Type 0
@@ -81,7 +81,7 @@ wide_8 bytes fits long =
     be_bytes_8 (take 8 bytes) (big_number 8 bytes) (omega (arith, length-take 8 bytes)) (IsBytes-take 8 bytes fits)
     (omega (arith, item 8 0 bytes (omega arith), item 8 1 bytes (omega arith), item 8 2 bytes (omega arith), item 8 3 bytes (omega arith), item 8 4 bytes (omega arith), item 8 5 bytes (omega arith), item 8 6 bytes (omega arith), item 8 7 bytes (omega arith)))
 
-pub number_takes : (width : ℕ) → IsWide width → (bytes : List ℕ) (n : ℕ) (rest : List ℕ) → IsBytes bytes → number_at width bytes ≡ Some (n, rest) → Takes bytes (big_bytes width n) rest × (n < 256 ^ width)
+pub number_takes : (width : ℕ) → IsWide width → (bytes : List ℕ) (n : ℕ) (rest : List ℕ) → IsBytes bytes → field_at width bytes ≡ Some (n, rest) → Takes bytes (big_bytes width n) rest × (n < 256 ^ width)
 number_takes width wide bytes n rest fits e =
     let g = guard_some (ltb (length bytes) width) (big_number width bytes, drop width bytes) (n, rest) e in
     let long : width ≤ length bytes = ltb-false _ _ g.0 in
@@ -94,7 +94,7 @@ number_takes width wide bytes n rest fits e =
     let below : n < 256 ^ width = subst (λ (k : ℕ). k < 256 ^ width) n-is (big_from-lt 0 width bytes fits) in
     (record { parts = parts; rest_fits = rest-fits }, below)
 
-pub number_again : (width n : ℕ) (rest : List ℕ) → n < 256 ^ width → number_at width (big_bytes width n ++ rest) ≡ Some (n, rest)
+pub number_again : (width n : ℕ) (rest : List ℕ) → n < 256 ^ width → field_at width (big_bytes width n ++ rest) ≡ Some (n, rest)
 number_again width n rest lt =
     let size : length (big_bytes width n) ≡ width = length-bytes_high_first width n in
     let long : ltb (length (big_bytes width n ++ rest)) width ≡ false = le-ltb _ _ (omega (arith, length-append (big_bytes width n) rest)) in
@@ -105,7 +105,7 @@ number_again width n rest lt =
 pub payload_takes : (bytes payload rest : List ℕ) → IsBytes bytes → payload_at bytes ≡ Some (payload, rest) → Takes bytes (big_bytes 2 (length payload) ++ payload) rest × (length payload ≤ 1200)
 unfolding payload_at
 payload_takes bytes payload rest fits e =
-    let b = bind_some (number_at 2 bytes) (λ (size : ℕ × List ℕ). cond (ltb 1200 size.0 || ltb (length size.1) size.0) None (Some (take size.0 size.1, drop size.0 size.1))) (payload, rest) e in
+    let b = bind_some (field_at 2 bytes) (λ (size : ℕ × List ℕ). cond (ltb 1200 size.0 || ltb (length size.1) size.0) None (Some (take size.0 size.1, drop size.0 size.1))) (payload, rest) e in
     let n = b.0 in
     let t = number_takes 2 wide_2 bytes n.0 n.1 fits b.1 in
     let g = guard_some (ltb 1200 n.0 || ltb (length n.1) n.0) (take n.0 n.1, drop n.0 n.1) (payload, rest) b.2 in
@@ -126,5 +126,5 @@ payload_again payload rest short =
     let tests : (ltb 1200 size || ltb (length tail) size) ≡ false = or_from _ _ (le-ltb _ _ short) (le-ltb _ _ (omega (arith, length-append payload rest))) in
     let below : size < 256 ^ 2 = omega arith in
     let cut : (let p : List ℕ × List ℕ = (take size tail, drop size tail) in p) ≡ (payload, rest) = rw (take_at payload rest size refl, drop_at payload rest size refl) refl in
-    bind_is (number_at 2 (big_bytes 2 size ++ tail)) (size, tail) (λ (n : ℕ × List ℕ). cond (ltb 1200 n.0 || ltb (length n.1) n.0) None (Some (take n.0 n.1, drop n.0 n.1))) (Some (payload, rest))
+    bind_is (field_at 2 (big_bytes 2 size ++ tail)) (size, tail) (λ (n : ℕ × List ℕ). cond (ltb 1200 n.0 || ltb (length n.1) n.0) None (Some (take n.0 n.1, drop n.0 n.1))) (Some (payload, rest))
     (number_again 2 size tail below) (rw tests (ap (λ (p : List ℕ × List ℕ). Some p) cut))

@@ -1,9 +1,9 @@
 -- Reading things one behind the other.
 use Rattle.std.proofs.Common.{◌≡◌, ℕ, suc, ◌+◌, ◌-◌, ◌<◌, ◌≤◌, List, [], ◌∷◌, ◌++◌, Option, Some, None, refl, sym, ap, ◌∙◌, append_assoc, arith}
 use Rattle.std.proofs.lemmas.List.{append-nil}
-use Rattle.rly_record.specs.Reading.{◌>>=◌, Fails, Reader, many_at}
-use Rattle.rly_record.specs.declared.fault.DecodeFault.{DecodeFault}
-use Rattle.rly_record.specs.declared.fault.DecodeFault.TheVariants.{OutOfMemory, Malformed}
+use Rattle.rly_record.specs.HelpersReading.{◌>>=◌, Fails, Reader, many_at}
+use Rattle.rly_record.specs.declared.decode_fault.DecodeFault.{DecodeFault}
+use Rattle.rly_record.specs.declared.decode_fault.DecodeFault.TheVariants.{OutOfMemory, Malformed}
 
 -- what was read before, and what is still read
 abbrev pub with_front : {A : Type 0} → List A → Option (List A × List ℕ) → Option (List A × List ℕ)

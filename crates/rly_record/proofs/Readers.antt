@@ -3,7 +3,7 @@ use Rattle.std.proofs.Common.{◌≡◌, ℕ, zero, suc, ◌^◌, ◌<◌, List,
 use Rattle.std.specs.List.{AllByRecursion, flat_map}
 use Rattle.std.proofs.lemmas.List.Concat.{flat_map-cons}
 use Rattle.byteorder.specs.Endian.{big_bytes}
-use Rattle.rly_record.specs.Reading.{◌>>=◌, Reader, ◌⊗◌, made_at, many_at, number_at, then_at}
+use Rattle.rly_record.specs.HelpersReading.{◌>>=◌, Reader, ◌⊗◌, made_at, many_at, field_at, then_at}
 use Rattle.rly_record.proofs.Fields.{IsBytes, bind_some, bind_is, some_is, Takes, Takes-then, IsWide, wide_2, wide_4, wide_8, number_takes, number_again}
 
 -- what is read is what was spelled, and what is spelled is read again
@@ -11,19 +11,19 @@ pub record Reads {A : Type 0} (read : Reader A) (spell : A → List ℕ) (Fits :
   pub takes : (bytes : List ℕ) (a : A) (rest : List ℕ) → IsBytes bytes → read bytes ≡ Some (a, rest) → Takes bytes (spell a) rest × Fits a
   pub again : (a : A) (rest : List ℕ) → Fits a → read (spell a ++ rest) ≡ Some (a, rest)
 
-number_reads : (width : ℕ) → IsWide width → Reads (number_at width) (big_bytes width) (λ n. n < 256 ^ width)
+number_reads : (width : ℕ) → IsWide width → Reads (field_at width) (big_bytes width) (λ n. n < 256 ^ width)
 number_reads width wide = record {
   takes = λ bytes n rest fits e. number_takes width wide bytes n rest fits e;
   again = λ n rest lt. number_again width n rest lt;
 }
 
-pub u16_reads : Reads (number_at 2) (big_bytes 2) (λ n. n < 256 ^ 2)
+pub u16_reads : Reads (field_at 2) (big_bytes 2) (λ n. n < 256 ^ 2)
 u16_reads = number_reads 2 wide_2
 
-pub u32_reads : Reads (number_at 4) (big_bytes 4) (λ n. n < 256 ^ 4)
+pub u32_reads : Reads (field_at 4) (big_bytes 4) (λ n. n < 256 ^ 4)
 u32_reads = number_reads 4 wide_4
 
-pub u64_reads : Reads (number_at 8) (big_bytes 8) (λ n. n < 256 ^ 8)
+pub u64_reads : Reads (field_at 8) (big_bytes 8) (λ n. n < 256 ^ 8)
 u64_reads = number_reads 8 wide_8
 
 -- a thing and, behind it, another that depends on it

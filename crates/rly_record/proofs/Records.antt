@@ -7,10 +7,10 @@ use Rattle.rly_core.specs.declared.ids.HopId.{HopId}
 use Rattle.rly_core.specs.declared.ids.PeerId.{PeerId}
 use Rattle.rly_machine.specs.declared.command.Command.{Command}
 use Rattle.rly_machine.specs.declared.command.Command.TheVariants.{Take, Pick, Release}
-use Rattle.rly_record.specs.declared.fault.DecodeFault.{DecodeFault}
-use Rattle.rly_record.specs.declared.fault.DecodeFault.TheVariants.{OutOfMemory, Malformed}
+use Rattle.rly_record.specs.declared.decode_fault.DecodeFault.{DecodeFault}
+use Rattle.rly_record.specs.declared.decode_fault.DecodeFault.TheVariants.{OutOfMemory, Malformed}
 use Rattle.rly_record.specs.Spelling.{record_of, record_length, CarriesBytes, HasRecord}
-use Rattle.rly_record.specs.Reading.{Fails, Reader, made_at, payload_at, take_at, pick_at, release_at, command_at}
+use Rattle.rly_record.specs.HelpersReading.{Fails, Reader, made_at, payload_at, take_at, pick_at, release_at, command_at}
 use Rattle.rly_record.proofs.Fields.{IsBytes, IsBytes-rest, bind_some, bind_is, chosen, some_is, Takes, payload_takes, payload_again}
 use Rattle.rly_record.proofs.Readers.{Reads, u16_reads, u64_reads, pair_reads}
 

@@ -1,3 +1,3 @@
-pub mod Kinds
+pub mod HelpersKinds
+pub mod HelpersReading
 pub mod Spelling
-pub mod Reading

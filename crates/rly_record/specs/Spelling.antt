@@ -1,5 +1,5 @@
--- The bytes of records and bodies (docs/FORMATS.md, "Bodies and records"). Each command has one record, and each list of commands
--- one body, since both are functions of what they spell.
+-- The bytes of records and bodies (docs/FORMATS.md, "Bodies and records"). Each command has one record, and each list
+-- of commands one body, since both are functions of what they spell.
 use Rattle.std.specs.Prelude.{ℕ, ◌+◌, ◌^◌, ◌<◌, ◌≤◌, ⊤, List, ◌∷◌, ◌++◌, length, sum_by}
 use Rattle.std.specs.List.{AllByRecursion, flat_map}
 use Rattle.byteorder.specs.Endian.{big_bytes}
@@ -10,7 +10,8 @@ use Rattle.rly_machine.specs.declared.command.Command.TheVariants.{Take, Pick, R
 -- the record of a command: its kind in one byte, then its fields, each number with its highest byte first
 unfoldable pub record_of : Command (List ℕ) → List ℕ
 record_of (Take peer number hop stamp payload) =
-    1 ∷ big_bytes 2 peer.0 ++ big_bytes 8 number ++ big_bytes 2 hop.0 ++ big_bytes 8 stamp ++ big_bytes 2 (length payload) ++ payload
+    1 ∷ big_bytes 2 peer.0 ++ big_bytes 8 number ++ big_bytes 2 hop.0 ++ big_bytes 8 stamp
+    ++ big_bytes 2 (length payload) ++ payload
 record_of (Pick hop now) = 2 ∷ big_bytes 2 hop.0 ++ big_bytes 8 now
 record_of (Release hop number) = 3 ∷ big_bytes 2 hop.0 ++ big_bytes 8 number
 

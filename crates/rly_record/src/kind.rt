@@ -1,5 +1,5 @@
 ghost use Rattle.std.specs.Prelude.{◌≡◌, ◌==◌, ◌||◌, false, IfNone, IfSome};
-ghost use Rattle.rly_record.specs.Kinds.{kind_byte};
+ghost use Rattle.rly_record.specs.HelpersKinds.{record_kind_byte};
 
 /// The kinds of record, each under the byte that a record of it begins with.
 #[derive(Clone, Copy, Debug, PartialEq, Eq)]
@@ -12,7 +12,7 @@ pub(crate) enum Kind {
 impl Kind {
     /// The kind that the byte says, if it says one.
     pub(crate) fn from_byte(byte: u8) -> Option<Kind>
-        ensures known { IfSome result (λ kind. byte ≡ kind_byte kind) }
+        ensures known { IfSome result (λ kind. byte ≡ record_kind_byte kind) }
         ensures unknown { IfNone result (((byte == 1) || (byte == 2) || (byte == 3)) ≡ false) }
     {
         match byte {
@@ -25,7 +25,7 @@ impl Kind {
 
     /// The byte that says it.
     pub(crate) fn byte(self) -> u8
-        ensures { result ≡ kind_byte self }
+        ensures { result ≡ record_kind_byte self }
     {
         self as u8
     }

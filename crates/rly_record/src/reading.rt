@@ -1,9 +1,9 @@
 ghost use Rattle.std.specs.Prelude.{◌≡◌, ◌≤◌, ◌<◌, ◌++◌, ◌∷◌, ℕ, List, length, drop, Some, Err, IfOk, IsOkUnless, IsSome, MatchResult, OnErr};
 ghost use Rattle.rly_machine.specs.declared.command.Command.{Command};
 ghost use Rattle.rly_record.specs.Spelling.{CarriesBytes, HasRecord, HaveBody, body_of, record_of};
-ghost use Rattle.rly_record.specs.Reading.{Gives, behind, command_at, command_bytes, in_front, many_at, number_at, payload_at, pick_at, release_at, take_at, whole_body};
+ghost use Rattle.rly_record.specs.HelpersReading.{Gives, behind, command_at, command_bytes, in_front, many_at, field_at, payload_at, pick_at, release_at, take_at, whole_body};
 
-use crate::fault::DecodeFault;
+use crate::decode_fault::DecodeFault;
 use crate::kind::Kind;
 use byteorder::{BigEndian, ByteOrder};
 use rly_core::limits::{MAX_PAYLOAD, MAX_ROUND};
@@ -49,7 +49,7 @@ pub fn read_body(alloc: Global, bytes: &[u8]) -> Result<Vec<Command<Payload>>, D
 
 /// A number of two bytes, and what stands behind it.
 fn u16_of(bytes: &[u8]) -> Result<(u16, &[u8]), DecodeFault>
-    ensures gives { Gives (λ x. (x.0, x.1.now)) result (number_at 2 bytes.now) }
+    ensures gives { Gives (λ x. (x.0, x.1.now)) result (field_at 2 bytes.now) }
     ensures malformed { IsOkUnless result DecodeFault.Malformed }
 {
     if bytes.len() < 2 {
@@ -60,7 +60,7 @@ fn u16_of(bytes: &[u8]) -> Result<(u16, &[u8]), DecodeFault>
 
 /// A number of eight bytes, and what stands behind it.
 fn u64_of(bytes: &[u8]) -> Result<(u64, &[u8]), DecodeFault>
-    ensures gives { Gives (λ x. (x.0, x.1.now)) result (number_at 8 bytes.now) }
+    ensures gives { Gives (λ x. (x.0, x.1.now)) result (field_at 8 bytes.now) }
     ensures malformed { IsOkUnless result DecodeFault.Malformed }
 {
     if bytes.len() < 8 {
@@ -70,7 +70,7 @@ fn u64_of(bytes: &[u8]) -> Result<(u64, &[u8]), DecodeFault>
 }
 
 /// A payload behind its length.
-#[tactic(auto, unfolding(crate::specs::Reading::payload_at))]
+#[tactic(auto, unfolding(crate::specs::HelpersReading::payload_at))]
 fn payload_of(bytes: &[u8]) -> Result<(&[u8], &[u8]), DecodeFault>
     ensures gives { Gives (λ x. (x.0.now, x.1.now)) result (payload_at bytes.now) }
     ensures malformed { IsOkUnless result DecodeFault.Malformed }
@@ -84,7 +84,7 @@ fn payload_of(bytes: &[u8]) -> Result<(&[u8], &[u8]), DecodeFault>
 }
 
 /// The fields of a Take.
-#[tactic(auto, unfolding(crate::specs::Reading::take_at))]
+#[tactic(auto, unfolding(crate::specs::HelpersReading::take_at))]
 fn take_of(bytes: &[u8]) -> Result<(Command<&[u8]>, &[u8]), DecodeFault>
     ensures gives { Gives (λ x. (command_bytes x.0, x.1.now)) result (take_at bytes.now) }
     ensures malformed { IsOkUnless result DecodeFault.Malformed }
@@ -105,7 +105,7 @@ fn take_of(bytes: &[u8]) -> Result<(Command<&[u8]>, &[u8]), DecodeFault>
 }
 
 /// The fields of a Pick.
-#[tactic(auto, unfolding(crate::specs::Reading::pick_at))]
+#[tactic(auto, unfolding(crate::specs::HelpersReading::pick_at))]
 fn pick_of(bytes: &[u8]) -> Result<(Command<&[u8]>, &[u8]), DecodeFault>
     ensures gives { Gives (λ x. (command_bytes x.0, x.1.now)) result (pick_at bytes.now) }
     ensures malformed { IsOkUnless result DecodeFault.Malformed }
@@ -117,7 +117,7 @@ fn pick_of(bytes: &[u8]) -> Result<(Command<&[u8]>, &[u8]), DecodeFault>
 }
 
 /// The fields of a Release.
-#[tactic(auto, unfolding(crate::specs::Reading::release_at))]
+#[tactic(auto, unfolding(crate::specs::HelpersReading::release_at))]
 fn release_of(bytes: &[u8]) -> Result<(Command<&[u8]>, &[u8]), DecodeFault>
     ensures gives { Gives (λ x. (command_bytes x.0, x.1.now)) result (release_at bytes.now) }
     ensures malformed { IsOkUnless result DecodeFault.Malformed }
@@ -129,7 +129,7 @@ fn release_of(bytes: &[u8]) -> Result<(Command<&[u8]>, &[u8]), DecodeFault>
 }
 
 /// The record at the front, its payload borrowed, and what stands behind it.
-#[tactic(auto, unfolding(crate::specs::Reading::command_at))]
+#[tactic(auto, unfolding(crate::specs::HelpersReading::command_at))]
 fn command_of(bytes: &[u8]) -> Result<(Command<&[u8]>, &[u8]), DecodeFault>
     ensures gives { Gives (λ x. (command_bytes x.0, x.1.now)) result (command_at bytes.now) }
     ensures malformed { IsOkUnless result DecodeFault.Malformed }
@@ -201,7 +201,7 @@ fn commands_of(
 }
 
 /// A body and nothing behind it. Memory is wanted once it is seen to be one.
-#[tactic(auto, unfolding(crate::specs::Reading::body_at, crate::specs::Reading::whole_body))]
+#[tactic(auto, unfolding(crate::specs::HelpersReading::body_at, crate::specs::HelpersReading::whole_body))]
 fn body_of_bytes(alloc: Global, bytes: &[u8]) -> Result<Vec<Command<Payload>>, DecodeFault>
     ensures gives { Gives (λ commands. commands.items) result (whole_body bytes.now) }
     ensures memory { result ≡ Err DecodeFault.OutOfMemory → IsSome (whole_body bytes.now) }

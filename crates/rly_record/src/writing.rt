@@ -2,7 +2,7 @@ ghost use Rattle.std.specs.Prelude.{◌≡◌, ◌≤◌, ◌<◌, ◌+◌, ◌^
 ghost use Rattle.std.specs.Vec.{vec_capacity};
 ghost use Rattle.byteorder.specs.Endian.{big_bytes};
 ghost use Rattle.rly_core.specs.Bounds.{IsIn};
-ghost use Rattle.rly_record.specs.Kinds.{kind_byte};
+ghost use Rattle.rly_record.specs.HelpersKinds.{record_kind_byte};
 ghost use Rattle.rly_record.specs.Spelling.{HasRecord, HaveBody, IsShort, body_length, body_of, record_length, record_of};
 
 use crate::kind::Kind;
@@ -149,7 +149,7 @@ fn take_fields(peer: PeerId, number: u64, hop: HopId, stamp: u64, size: u16) -> 
 
 /// The record of a Pick or a Release: a hop and a number.
 fn short_record(kind: Kind, hop: HopId, number: u64) -> [u8; SHORT_LENGTH]
-    ensures fields { result ≡ kind_byte kind ∷ big_bytes 2 hop.0 ++ big_bytes 8 number }
+    ensures fields { result ≡ record_kind_byte kind ∷ big_bytes 2 hop.0 ++ big_bytes 8 number }
     ensures fits { (hop.0 < 2 ^ 16) × (number < 2 ^ 64) }
 {
     let mut fields = [0; SHORT_LENGTH];

@@ -40,14 +40,14 @@ pub(crate) fn expect_replies(
     steps: &[Step],
     answers: &[Answer],
 ) -> Result<(), AllocError> {
-    assert_eq!(rt; answers.len(), steps.len());
+    assert!(rt; answers.len() == steps.len());
     for (step, answer) in steps.iter().zip(answers) {
         let reply = reply_of(alloc, machine, *step)?;
         assert!(rt;
             is_same(&answer.reply, &reply),
             "{step:?}: {answer:?}, not {reply:?}"
         );
-        assert_eq!(rt; answer.position, machine.seq(), "{step:?}");
+        assert!(rt; answer.position == machine.seq(), "{step:?}");
     }
     Ok(())
 }
@@ -139,9 +139,9 @@ pub(crate) fn expect_numbers<D: Disk>(
     journal: &mut Journal<D>,
     machine: &mut Machine<Payload>,
 ) -> Result<(), AllocError> {
-    assert_eq!(rt; journal.position(), machine.seq());
-    assert_eq!(rt; journal.last(PEER).ok().as_ref(), machine.lasts().first());
-    assert!(rt; is_same(&journal.ask_show(HOP), &machine.ask_show(HOP)));
+    expect!(rt; journal.position() == machine.seq());
+    expect!(rt; journal.last(PEER).ok().as_ref() == machine.lasts().first());
+    expect!(rt; is_same(&journal.ask_show(HOP), &machine.ask_show(HOP)));
     let Reply::WindowIs { first, next } = machine.ask_window(HOP) else {
         panic!(rt; "no window");
     };
@@ -155,8 +155,8 @@ pub(crate) fn expect_numbers<D: Disk>(
     expect_replies(rt, alloc, machine, &steps, &answers)?;
     for number in 0..=next {
         match (journal.fetch(alloc, HOP, number), machine.item(HOP, number)) {
-            (Ok(bytes), Ok(item)) => assert!(rt; bytes.as_slice() == item.payload.as_slice()),
-            (Err(refusal), Err(other)) => assert_eq!(rt; refusal, other),
+            (Ok(bytes), Ok(item)) => expect!(rt; bytes.as_slice() == item.payload.as_slice()),
+            (Err(refusal), Err(other)) => expect!(rt; refusal == other),
             _ => panic!(rt; "number {number}"),
         }
     }
@@ -170,7 +170,7 @@ pub(crate) fn expect_refused(rt: &impl Abort, answers: &[Answer], refusal: Refus
             is_same(&answer.reply, &Reply::Refused(refusal)),
             "{answer:?}"
         );
-        assert_eq!(rt; answer.position, position);
+        expect!(rt; answer.position == position);
     }
 }
 
@@ -184,10 +184,10 @@ pub(crate) fn expect_broken<D: Disk>(
 ) -> Result<(), AllocError> {
     let answers = ask_all(rt, alloc, journal, steps)?;
     expect_refused(rt, &answers, Refusal::Broken, position);
-    assert!(rt; journal.is_broken());
-    assert_eq!(rt; journal.position(), position);
-    assert_eq!(rt; journal.last(PEER), Err(Refusal::Broken));
-    assert_eq!(rt; journal.fetch(alloc, HOP, 1).err(), Some(Refusal::Broken));
-    assert!(rt; is_same(&journal.ask_show(HOP), &Reply::Refused(Refusal::Broken)));
+    expect!(rt; journal.is_broken());
+    expect!(rt; journal.position() == position);
+    expect!(rt; journal.last(PEER) == Err(Refusal::Broken));
+    expect!(rt; journal.fetch(alloc, HOP, 1).err() == Some(Refusal::Broken));
+    expect!(rt; is_same(&journal.ask_show(HOP), &Reply::Refused(Refusal::Broken)));
     Ok(())
 }

@@ -33,7 +33,7 @@ pub(crate) const SECOND_GATE: usize = 82_972;
 /// Device E as it was formatted, on zeroed bytes.
 pub(crate) fn device_e(rt: &impl Abort, alloc: Global) -> Result<MemDisk, AllocError> {
     let mut disk = MemDisk::new(alloc, vec![in alloc; 0u8; SIZE]?);
-    assert!(rt; format(alloc, &mut disk, &DEVICE_E) == Ok(()));
+    expect!(rt; format(alloc, &mut disk, &DEVICE_E) == Ok(()));
     Ok(disk)
 }
 
@@ -46,14 +46,22 @@ pub(crate) fn formatted(rt: &impl Abort, alloc: Global) -> Result<Vec<u8>, Alloc
 /// Its bytes once the first datagram was taken: the line `take 1 1 1 0 41`.
 pub(crate) fn taken(rt: &impl Abort, alloc: Global) -> Result<Vec<u8>, AllocError> {
     let mut journal = opened(rt, alloc, device_e(rt, alloc)?);
-    let answers = ask_all(rt, alloc, &mut journal, &[FIRST_TAKE])?;
-    assert!(rt;
-        answers
-            .iter()
-            .all(|answer| matches!(answer.reply, Reply::Taken(1)))
-    );
+    take_first(rt, alloc, &mut journal)?;
     let mut disk = journal.into_disk();
     bytes_of(rt, alloc, &mut disk)
+}
+
+/// Takes the first datagram.
+fn take_first(
+    rt: &impl Abort,
+    alloc: Global,
+    journal: &mut Journal<MemDisk>,
+) -> Result<(), AllocError> {
+    let answers = ask_all(rt, alloc, journal, &[FIRST_TAKE])?;
+    expect!(rt; answers
+            .iter()
+            .all(|answer| matches!(answer.reply, Reply::Taken(1))));
+    Ok(())
 }
 
 /// The line `take 1 1 1 0 41`.
@@ -79,6 +87,6 @@ pub(crate) fn bytes_of<D: Disk>(
     disk: &mut D,
 ) -> Result<Vec<u8>, AllocError> {
     let mut bytes = vec![in alloc; 0u8; disk.size() as usize]?;
-    assert!(rt; disk.read_at(0, &mut bytes).is_ok());
+    expect!(rt; disk.read_at(0, &mut bytes).is_ok());
     Ok(bytes)
 }

@@ -42,7 +42,7 @@ pub(crate) fn run(
     match Journal::open(alloc, disk) {
         Ok(journal) => ask_rounds(rt, alloc, journal, script, from),
         Err((fault, disk)) => {
-            assert_eq!(rt; fault, OpenFault::Device);
+            expect!(rt; fault == OpenFault::Device);
             Ok(Ended {
                 disk,
                 answered: from,
@@ -61,22 +61,34 @@ fn ask_rounds(
     from: usize,
 ) -> Result<Ended, AllocError> {
     let mut journal = journal;
-    let mut machine = machine_after(alloc, script, from)?;
-    let mut answered = from;
-    for index in from..script.steps.len() {
-        if script.round(index).is_empty() || journal.is_broken() {
-            break;
-        }
-        if ask_round(rt, alloc, &mut journal, &mut machine, script, index)? {
-            answered = index + 1;
-        }
-    }
+    let answered = answered_rounds(rt, alloc, &mut journal, script, from)?;
     let failed = journal.is_broken();
     Ok(Ended {
         disk: journal.into_disk(),
         answered,
         failed,
     })
+}
+
+/// Asks them, and says up to which round they were answered.
+fn answered_rounds(
+    rt: &impl Abort,
+    alloc: Global,
+    journal: &mut Journal<FaultDisk<MemDisk>>,
+    script: Script,
+    from: usize,
+) -> Result<usize, AllocError> {
+    let mut machine = machine_after(alloc, script, from)?;
+    let mut answered = from;
+    for index in from..script.steps.len() {
+        if script.round(index).is_empty() || journal.is_broken() {
+            break;
+        }
+        if ask_round(rt, alloc, journal, &mut machine, script, index)? {
+            answered = index.saturating_add(1);
+        }
+    }
+    Ok(answered)
 }
 
 /// Asks a round, and says whether it was answered. The answers are the plain machine's; where the device failed all of them are
@@ -111,15 +123,28 @@ pub(crate) fn standing<D: Disk>(
     ended: (usize, bool),
 ) -> Result<(usize, Machine<Payload>), AllocError> {
     let (answered, failed) = ended;
+    let position = journal.position();
     let machine = machine_after(alloc, script, answered)?;
-    if journal.position() == machine.seq() {
+    if position == machine.seq() {
         return Ok((answered, machine));
     }
     assert!(rt;
         failed && answered < script.steps.len(),
         "an answer was lost"
     );
-    let more = machine_after(alloc, script, answered + 1)?;
-    assert_eq!(rt; journal.position(), more.seq(), "a part of a round stands");
-    Ok((answered + 1, more))
+    let next = answered.saturating_add(1);
+    Ok((next, standing_at(rt, alloc, script, next, position)?))
+}
+
+/// The plain machine after so many rounds, at a journal's position.
+fn standing_at(
+    rt: &impl Abort,
+    alloc: Global,
+    script: Script,
+    rounds: usize,
+    position: u64,
+) -> Result<Machine<Payload>, AllocError> {
+    let machine = machine_after(alloc, script, rounds)?;
+    assert!(rt; position == machine.seq(), "a part of a round stands");
+    Ok(machine)
 }

@@ -5,10 +5,21 @@
 //! (docs/FORMATS.md, docs/DEFINITIONS.md). No crate may call it: it has no code but tests, on devices in memory.
 #![tactic(auto)]
 
+/// As `assert!`, by one call: the prover then sees one way on where `assert!` has two. `assert!` stands where a later call needs
+/// what was asserted, and where the text names a row.
+#[cfg(test)]
+macro_rules! expect {
+    ($rt:expr; $cond:expr $(,)?) => {
+        crate::expect::expect(&$rt, $cond, stringify!($cond))
+    };
+}
+
 #[cfg(test)]
 mod comparison;
 #[cfg(test)]
 mod device;
+#[cfg(test)]
+mod expect;
 #[cfg(test)]
 mod faults;
 #[cfg(test)]

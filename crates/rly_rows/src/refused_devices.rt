@@ -96,23 +96,64 @@ fn expect_opening(
     want: Option<OpenFault>,
 ) -> Result<(), AllocError> {
     let disk = MemDisk::new(alloc, Vec::from_slice(alloc, bytes)?);
-    match (Journal::open(alloc, disk), want) {
-        (Ok(journal), None) => {
+    match Journal::open(alloc, disk) {
+        Ok(journal) => {
+            expect!(rt; want == None);
             let mut journal = journal;
-            let mut machine = Machine::new(alloc, DEVICE_E.params)?;
-            assert!(rt; journal.params() == DEVICE_E.params && !journal.is_broken());
-            expect_state(rt, alloc, &mut journal, &mut machine)
+            expect_empty(rt, alloc, &mut journal)
         }
-        (Err((fault, disk)), Some(other)) => {
+        Err((fault, disk)) => {
+            expect!(rt; want == Some(fault));
             let mut disk = disk;
-            assert_eq!(rt; fault, other);
-            let read = bytes_of(rt, alloc, &mut disk)?;
-            assert!(rt; read.as_slice() == bytes);
-            Ok(())
+            expect_unchanged(rt, alloc, &mut disk, bytes)
         }
-        (Ok(_), Some(fault)) => panic!(rt; "opened, not {fault:?}"),
-        (Err((fault, _)), None) => panic!(rt; "{fault:?}"),
     }
+}
+
+/// A journal in the empty state.
+fn expect_empty(
+    rt: &impl Abort,
+    alloc: Global,
+    journal: &mut Journal<MemDisk>,
+) -> Result<(), AllocError> {
+    let mut machine = Machine::new(alloc, DEVICE_E.params)?;
+    expect!(rt; journal.params() == DEVICE_E.params && !journal.is_broken());
+    expect_state(rt, alloc, journal, &mut machine)
+}
+
+/// A disk that reads as before.
+fn expect_unchanged(
+    rt: &impl Abort,
+    alloc: Global,
+    disk: &mut MemDisk,
+    bytes: &[u8],
+) -> Result<(), AllocError> {
+    let read = bytes_of(rt, alloc, disk)?;
+    expect!(rt; read.as_slice() == bytes);
+    Ok(())
+}
+
+/// A row's device, opened.
+fn expect_row(
+    rt: &impl Abort,
+    alloc: Global,
+    device: &[u8],
+    size: usize,
+    changes: &[(usize, u8)],
+    want: Option<OpenFault>,
+) -> Result<(), AllocError> {
+    let mut bytes = Vec::from_slice(alloc, device)?;
+    for (place, byte) in changes {
+        set(rt, &mut bytes, *place, *byte);
+    }
+    bytes.truncate(size);
+    expect_opening(rt, alloc, &bytes, want)
+}
+
+/// Sets one byte.
+fn set(rt: &impl Abort, bytes: &mut [u8], place: usize, byte: u8) {
+    assert!(rt; place < bytes.len());
+    bytes[place] = byte;
 }
 
 #[test]
@@ -120,15 +161,9 @@ fn changed_devices(rt: HostRuntime) -> Result<(), Fail> {
     let alloc = rt.alloc();
     let new = formatted(&rt, alloc)?;
     let used = taken(&rt, alloc)?;
-    for (base, size, changes, want) in ROWS {
-        let device = if base == Base::Taken { &used } else { &new };
-        let mut bytes = Vec::from_slice(alloc, device)?;
-        for (place, byte) in changes {
-            assert!(rt; *place < bytes.len());
-            bytes[*place] = *byte;
-        }
-        bytes.truncate(size);
-        expect_opening(&rt, alloc, &bytes, want)?;
+    for (base, size, changes, want) in &ROWS {
+        let device = if *base == Base::Taken { &used } else { &new };
+        expect_row(&rt, alloc, device, *size, changes, *want)?;
     }
     Ok(())
 }

@@ -8,7 +8,7 @@ use rly_checkpoint::{DecodeFault, read_checkpoint, write_checkpoint};
 use rly_core::Refusal;
 use rly_disk::{Disk, MemDisk};
 use rly_journal::{Journal, OpenFault};
-use rly_machine::{Answer, Machine, Payload, Reply};
+use rly_machine::{Answer, Call, Machine, Payload, Reply};
 use rly_segment::{FormatFault, format};
 use std::alloc::{AllocError, Global};
 use std::process::Abort;
@@ -52,16 +52,16 @@ fn expect_format(rt: &impl Abort, alloc: Global) -> Result<MemDisk, AllocError> 
     match format(alloc, &mut disk, &DEVICE_E) {
         Ok(()) => return Ok(disk),
         Err(FormatFault::OutOfMemory) => {
-            assert_eq!(rt; disk.calls(), 0);
+            expect!(rt; disk.calls() == 0);
             let bytes = read(rt, alloc, &mut disk)?;
-            assert!(rt; bytes.iter().all(|byte| *byte == 0));
+            expect!(rt; bytes.iter().all(|byte| *byte == 0));
         }
         Err(fault) => {
-            assert_eq!(rt; fault, FormatFault::Device);
-            assert!(rt; disk.failures() > 0);
+            expect!(rt; fault == FormatFault::Device);
+            expect!(rt; disk.failures() > 0);
         }
     }
-    assert_eq!(rt; format(alloc, &mut disk, &DEVICE_E), Ok(()));
+    expect!(rt; format(alloc, &mut disk, &DEVICE_E) == Ok(()));
     Ok(disk)
 }
 
@@ -78,13 +78,13 @@ fn expect_opening(
         Ok(journal) => return Ok(journal),
         Err((OpenFault::OutOfMemory, disk)) => disk,
         Err((fault, disk)) => {
-            assert_eq!(rt; fault, OpenFault::Device);
-            assert!(rt; disk.failures() > failures);
+            expect!(rt; fault == OpenFault::Device);
+            expect!(rt; disk.failures() > failures);
             disk
         }
     };
     let same = read(rt, alloc, &mut disk)?;
-    assert!(rt; same.as_slice() == bytes.as_slice());
+    expect!(rt; same.as_slice() == bytes.as_slice());
     match Journal::open(alloc, disk) {
         Ok(journal) => Ok(journal),
         Err((fault, _)) => panic!(rt; "{fault:?}"),
@@ -104,15 +104,25 @@ fn expect_round(
     };
     let mut answers = Vec::new(alloc);
     let position = journal.position();
-    assert!(rt; 1 <= calls.len() && calls.len() <= 64);
-    if journal.round(alloc, &mut calls, &mut answers).is_err() {
+    if round(rt, alloc, journal, &mut calls, &mut answers).is_err() {
         assert!(rt; calls.len() == steps.len() && answers.is_empty());
-        assert_eq!(rt; journal.position(), position);
-        assert!(rt; 1 <= calls.len() && calls.len() <= 64);
-        journal.round(alloc, &mut calls, &mut answers)?;
+        expect!(rt; journal.position() == position);
+        round(rt, alloc, journal, &mut calls, &mut answers)?;
     }
     assert!(rt; calls.is_empty() && answers.len() == steps.len());
     Ok(answers)
+}
+
+/// Asks for a round.
+fn round(
+    rt: &impl Abort,
+    alloc: Global,
+    journal: &mut Journal<MemDisk>,
+    calls: &mut Vec<Call>,
+    answers: &mut Vec<Answer>,
+) -> Result<(), AllocError> {
+    assert!(rt; 1 <= calls.len() && calls.len() <= 64);
+    journal.round(alloc, calls, answers)
 }
 
 /// The plain machine's reply to a step, which it makes.
@@ -147,7 +157,7 @@ fn expect_answers(
                 "{step:?}: {answer:?}, not {reply:?}"
             );
         }
-        assert_eq!(rt; answer.position, machine.seq());
+        expect!(rt; answer.position == machine.seq());
     }
     Ok(refused)
 }
@@ -185,7 +195,7 @@ fn expect_reopening(
     expect_refused(rt, answers, Refusal::Unsure, position);
     expect_broken(rt, alloc, &mut journal, steps, position)?;
     let disk = journal.into_disk();
-    assert!(rt; disk.failures() > 0);
+    expect!(rt; disk.failures() > 0);
     let journal = expect_opening(rt, alloc, disk)?;
     if journal.position() != position {
         for step in steps {
@@ -210,12 +220,12 @@ fn expect_same(
         Step::Fetch { number: 1 },
     ];
     for _ in 0..2 {
-        assert_eq!(rt; journal.position(), machine.seq());
+        expect!(rt; journal.position() == machine.seq());
         journal = expect_served(rt, alloc, journal, machine, &questions)?;
         match (journal.fetch(alloc, HOP, 2), machine.item(HOP, 2)) {
-            (Ok(bytes), Ok(item)) => assert!(rt; bytes.as_slice() == item.payload.as_slice()),
+            (Ok(bytes), Ok(item)) => expect!(rt; bytes.as_slice() == item.payload.as_slice()),
             (Err(Refusal::OutOfMemory), Ok(_)) => {}
-            (Err(refusal), Err(other)) => assert_eq!(rt; refusal, other),
+            (Err(refusal), Err(other)) => expect!(rt; refusal == other),
             _ => panic!(rt; "one of them has it"),
         }
     }
@@ -260,17 +270,17 @@ fn a_checkpoint_in_scarce_memory(rt: HostRuntime) -> Result<(), Fail> {
     };
     let mut out = Vec::new(alloc);
     if write_checkpoint(&machine, &mut out).is_err() {
-        assert!(rt; out.is_empty());
+        expect!(rt; out.is_empty());
         write_checkpoint(&machine, &mut out)?;
     }
     let again = match read_checkpoint(alloc, DEVICE_E.params, &out) {
         Ok(machine) => machine,
         Err(fault) => {
-            assert_eq!(rt; fault, DecodeFault::OutOfMemory);
+            expect!(rt; fault == DecodeFault::OutOfMemory);
             read_checkpoint(alloc, DEVICE_E.params, &out)?
         }
     };
-    assert_eq!(rt; again.seq(), machine.seq());
-    assert!(rt; is_same(&again.ask_show(HOP), &machine.ask_show(HOP)));
+    expect!(rt; again.seq() == machine.seq());
+    expect!(rt; is_same(&again.ask_show(HOP), &machine.ask_show(HOP)));
     Ok(())
 }

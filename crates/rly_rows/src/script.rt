@@ -116,7 +116,7 @@ pub(crate) fn ask_all<D: Disk>(
     journal.round(alloc, &mut calls, &mut answers)?;
     assert!(rt; calls.is_empty() && answers.len() == steps.len());
     for (index, answer) in answers.iter().enumerate() {
-        assert!(rt; answer.seat == SEAT && answer.number == index as u64);
+        expect!(rt; answer.seat == SEAT && answer.number == index as u64);
     }
     Ok(answers)
 }

@@ -14,7 +14,7 @@ const HEADER: [u8; 51] = [
 const HEAD: [u8; 13] = [0xa5, 0, 0, 0, 0, 0, 0, 0, 1, 0, 0, 0, 0x57];
 
 /// Places 164 to 195 once the first datagram was taken: a group of one Take, and the closed gate behind it.
-const FIRST_GROUP: [u8; 32] = [
+pub(crate) const FIRST_GROUP: [u8; 32] = [
     0xa5, 0, 0, 0, 0x1a, 0, 1, 1, 0, 1, 0, 0, 0, 0, 0, 0, 0, 1, 0, 1, 0, 0, 0, 0, 0, 0, 0, 0, 0, 1,
     0x41, 0,
 ];
@@ -25,31 +25,31 @@ fn are_zero(bytes: &[u8], place: usize, count: usize) -> bool {
 }
 
 /// Whether these bytes stand from a place on.
-fn stand_at(bytes: &[u8], place: usize, want: &[u8]) -> bool {
+pub(crate) fn stand_at(bytes: &[u8], place: usize, want: &[u8]) -> bool {
     bytes.iter().skip(place).take(want.len()).eq(want.iter())
 }
 
 #[test]
 fn a_device_that_was_formatted(rt: HostRuntime) -> Result<(), Fail> {
     let bytes = formatted(&rt, rt.alloc())?;
-    assert_eq!(rt; bytes.len(), SIZE);
-    assert!(rt; stand_at(&bytes, 0, &HEADER));
-    assert!(rt; are_zero(&bytes, 51, 13));
-    assert!(rt; stand_at(&bytes, 64, &HEAD));
-    assert!(rt; are_zero(&bytes, 77, 87));
-    assert!(rt; are_zero(&bytes, 164, SIZE - 164));
-    assert_eq!(rt; bytes.get(SECOND_GATE), Some(&0));
+    assert!(rt; bytes.len() == SIZE);
+    expect!(rt; stand_at(&bytes, 0, &HEADER));
+    expect!(rt; are_zero(&bytes, 51, 13));
+    expect!(rt; stand_at(&bytes, 64, &HEAD));
+    expect!(rt; are_zero(&bytes, 77, 87));
+    expect!(rt; are_zero(&bytes, 164, SIZE - 164));
+    expect!(rt; bytes.get(SECOND_GATE) == Some(&0));
     Ok(())
 }
 
 #[test]
 fn a_device_that_took_one_datagram(rt: HostRuntime) -> Result<(), Fail> {
     let bytes = taken(&rt, rt.alloc())?;
-    assert_eq!(rt; bytes.len(), SIZE);
-    assert!(rt; stand_at(&bytes, 0, &HEADER));
-    assert!(rt; stand_at(&bytes, 64, &HEAD));
-    assert!(rt; are_zero(&bytes, 77, 87));
-    assert!(rt; stand_at(&bytes, 164, &FIRST_GROUP));
-    assert!(rt; are_zero(&bytes, 196, SIZE - 196));
+    assert!(rt; bytes.len() == SIZE);
+    expect!(rt; stand_at(&bytes, 0, &HEADER));
+    expect!(rt; stand_at(&bytes, 64, &HEAD));
+    expect!(rt; are_zero(&bytes, 77, 87));
+    expect!(rt; stand_at(&bytes, 164, &FIRST_GROUP));
+    expect!(rt; are_zero(&bytes, 196, SIZE - 196));
     Ok(())
 }

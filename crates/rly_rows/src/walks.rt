@@ -1,9 +1,10 @@
 //! Scripts on a device that is stopped at each of its calls in turn, and then crashes, or goes on.
-use crate::comparison::{expect_numbers, expect_state, machine_after};
+use crate::comparison::{expect_numbers, expect_state};
 use crate::device::{SECOND_GATE, bytes_of, formatted, opened};
 use crate::faults::{Ended, KINDS, TORN_WRITES, run, standing};
 use crate::script::{Script, Step, take};
 use rly_disk::{After, Disk, FaultDisk, MemDisk, Torn};
+use rly_journal::Journal;
 use std::alloc::{AllocError, Global};
 use std::process::Abort;
 use std::test::Fail;
@@ -40,10 +41,34 @@ fn stop_at(
         failed,
     } = ended;
     assert!(rt; !failed || disk.calls() == at, "calls after the failed one");
-    let mut journal = opened(rt, alloc, disk.into_inner().crash(kind));
-    let (stand, mut machine) = standing(rt, alloc, &journal, script, (answered, failed))?;
-    expect_state(rt, alloc, &mut journal, &mut machine)?;
+    let crashed = disk.into_inner().crash(kind);
+    let stand = expect_standing(rt, alloc, script, crashed, (answered, failed))?;
     Ok(failed.then_some(stand.saturating_sub(answered)))
+}
+
+/// Opens what a crash left of a run, and expects the state of the rounds that stand. Answers how many these are.
+fn expect_standing(
+    rt: &impl Abort,
+    alloc: Global,
+    script: Script,
+    disk: MemDisk,
+    ended: (usize, bool),
+) -> Result<usize, AllocError> {
+    let mut journal = opened(rt, alloc, disk);
+    expect_rounds(rt, alloc, script, &mut journal, ended)
+}
+
+/// Expects of a journal the state of the rounds that stand.
+fn expect_rounds(
+    rt: &impl Abort,
+    alloc: Global,
+    script: Script,
+    journal: &mut Journal<MemDisk>,
+    ended: (usize, bool),
+) -> Result<usize, AllocError> {
+    let (stand, mut machine) = standing(rt, alloc, journal, script, ended)?;
+    expect_state(rt, alloc, journal, &mut machine)?;
+    Ok(stand)
 }
 
 /// Stops a script at each device call in turn, with each torn write, and crashes in each way. Answers how many there are.
@@ -83,16 +108,46 @@ fn go_on(
     if !ended.failed {
         return Ok(false);
     }
-    assert_eq!(rt; ended.disk.calls(), at, "calls after the failed one");
-    let mut journal = opened(rt, alloc, ended.disk);
-    let (from, mut machine) = standing(rt, alloc, &journal, script, (ended.answered, true))?;
-    expect_numbers(rt, alloc, &mut journal, &mut machine)?;
-    let ended = run(rt, alloc, journal.into_disk(), script, from)?;
-    assert!(rt; !ended.failed);
-    let mut journal = opened(rt, alloc, ended.disk.into_inner().crash(Torn::AsSynced));
-    let mut machine = machine_after(alloc, script, ended.answered)?;
-    expect_state(rt, alloc, &mut journal, &mut machine)?;
+    let Ended { disk, answered, .. } = ended;
+    assert!(rt; disk.calls() == at, "calls after the failed one");
+    let mut journal = opened(rt, alloc, disk);
+    let from = expect_found(rt, alloc, script, &mut journal, answered)?;
+    finish(rt, alloc, script, journal.into_disk(), from)?;
     Ok(true)
+}
+
+/// Expects of a journal that was opened behind a failure the numbers of the rounds that stand, and answers how many these are.
+fn expect_found(
+    rt: &impl Abort,
+    alloc: Global,
+    script: Script,
+    journal: &mut Journal<FaultDisk<MemDisk>>,
+    answered: usize,
+) -> Result<usize, AllocError> {
+    let (from, mut machine) = standing(rt, alloc, journal, script, (answered, true))?;
+    expect_numbers(rt, alloc, journal, &mut machine)?;
+    Ok(from)
+}
+
+/// Goes on from a round to the end of the script, where no call fails any more, and crashes.
+fn finish(
+    rt: &impl Abort,
+    alloc: Global,
+    script: Script,
+    disk: FaultDisk<MemDisk>,
+    from: usize,
+) -> Result<(), AllocError> {
+    let ended = run(rt, alloc, disk, script, from)?;
+    let Ended {
+        disk,
+        answered,
+        failed,
+    } = ended;
+    expect!(rt; !failed);
+    let crashed = disk.into_inner().crash(Torn::AsSynced);
+    let stand = expect_standing(rt, alloc, script, crashed, (answered, false))?;
+    expect!(rt; stand == answered);
+    Ok(())
 }
 
 /// Fails the device at each call of a script in turn, with each torn write, and goes on. Answers how many there are.
@@ -123,14 +178,11 @@ fn expect_syncs(
     let image = formatted(rt, alloc)?;
     let disk = failing(alloc, &image, 0, 0, After::Stops)?;
     let mut ended = run(rt, alloc, disk, script, 0)?;
-    assert_eq!(rt; (ended.failed, ended.disk.syncs()), (false, syncs));
+    expect!(rt; (ended.failed, ended.disk.syncs()) == (false, syncs));
     let calls = ended.disk.calls();
     let bytes = bytes_of(rt, alloc, &mut ended.disk)?;
-    assert_eq!(rt; bytes.get(SECOND_GATE), Some(&0xa5));
-    assert_eq!(rt;
-        (bytes.get(72), bytes.get(SECOND_GATE + 8)),
-        (generations.first(), generations.last())
-    );
+    expect!(rt; bytes.get(SECOND_GATE) == Some(&0xa5));
+    expect!(rt; (bytes.get(72), bytes.get(SECOND_GATE + 8)) == (generations.first(), generations.last()));
     Ok(calls)
 }
 
@@ -164,8 +216,8 @@ fn rounds_of_one_call(rt: HostRuntime) -> Result<(), Fail> {
         calls: 1,
     };
     let calls = expect_syncs(&rt, alloc, script, 33, [3, 2])?;
-    assert_eq!(rt; stop_at_each_call(&rt, alloc, script)?, calls);
-    assert_eq!(rt; go_on_at_each_call(&rt, alloc, script)?, calls);
+    expect!(rt; stop_at_each_call(&rt, alloc, script)? == calls);
+    expect!(rt; go_on_at_each_call(&rt, alloc, script)? == calls);
     Ok(())
 }
 
@@ -204,8 +256,8 @@ fn rounds_of_seven_calls(rt: HostRuntime) -> Result<(), Fail> {
         calls: 7,
     };
     let calls = expect_syncs(&rt, alloc, script, 17, [3, 2])?;
-    assert_eq!(rt; stop_at_each_call(&rt, alloc, script)?, calls);
-    assert_eq!(rt; go_on_at_each_call(&rt, alloc, script)?, calls);
+    expect!(rt; stop_at_each_call(&rt, alloc, script)? == calls);
+    expect!(rt; go_on_at_each_call(&rt, alloc, script)? == calls);
     Ok(())
 }
 
@@ -218,7 +270,7 @@ fn rounds_of_sixty_four_calls(rt: HostRuntime) -> Result<(), Fail> {
         calls: 64,
     };
     let calls = expect_syncs(&rt, alloc, script, 13, [3, 2])?;
-    assert_eq!(rt; stop_at_each_call(&rt, alloc, script)?, calls);
-    assert_eq!(rt; go_on_at_each_call(&rt, alloc, script)?, calls);
+    expect!(rt; stop_at_each_call(&rt, alloc, script)? == calls);
+    expect!(rt; go_on_at_each_call(&rt, alloc, script)? == calls);
     Ok(())
 }

@@ -1,8 +1,9 @@
 //! Rounds on device E, with and without a failed sync.
 use crate::comparison::{expect_broken, expect_refused, expect_state, is_same};
-use crate::device::{FIRST_TAKE, device_e, opened};
+use crate::device::{FIRST_TAKE, bytes_of, device_e, opened};
 use crate::faults::{KINDS, standing};
 use crate::script::{PEER, Script, Step, ask_all};
+use crate::stored_devices::{FIRST_GROUP, stand_at};
 use rly_core::Refusal;
 use rly_disk::{After, Disk, FaultDisk, MemDisk};
 use rly_journal::Journal;
@@ -45,9 +46,8 @@ fn failing_at_the_second_sync(
     rt: &impl Abort,
     alloc: Global,
 ) -> Result<Journal<FaultDisk<MemDisk>>, AllocError> {
-    let calls = calls_of_opening(rt, alloc)?;
-    assert!(rt; calls < 100);
-    let disk = FaultDisk::new(device_e(rt, alloc)?, calls + 4, 0, After::GoesOn);
+    let at = calls_of_opening(rt, alloc)?.saturating_add(4);
+    let disk = FaultDisk::new(device_e(rt, alloc)?, at, 0, After::GoesOn);
     Ok(opened(rt, alloc, disk))
 }
 
@@ -62,11 +62,8 @@ fn expect_unsure(
     expect_refused(rt, &answers, Refusal::Unsure, 0);
     expect_broken(rt, alloc, &mut journal, steps, 0)?;
     let disk = journal.into_disk();
-    assert_eq!(rt; (disk.failures(), disk.syncs()), (1, 3));
-    assert_eq!(rt;
-        disk.calls(),
-        calls_of_opening(rt, alloc)?.saturating_add(4)
-    );
+    expect!(rt; (disk.failures(), disk.syncs()) == (1, 3));
+    expect!(rt; disk.calls() == calls_of_opening(rt, alloc)?.saturating_add(4));
     Ok(disk)
 }
 
@@ -89,12 +86,29 @@ fn two_copies_in_one_round(rt: HostRuntime) -> Result<(), Fail> {
     let disk = opened(&rt, alloc, disk).into_disk();
     let syncs = disk.syncs();
     let mut journal = opened(&rt, alloc, disk);
-    let answers = ask_all(&rt, alloc, &mut journal, &TWICE)?;
-    assert_eq!(rt; answers.len(), 2);
-    assert!(rt; is_same(&answers[0].reply, &Reply::Taken(1)) && answers[0].position == 1);
-    assert!(rt; is_same(&answers[1].reply, &Reply::Already(1)) && answers[1].position == 1);
+    expect_copies(&rt, alloc, &mut journal)?;
+    let disk = journal.into_disk();
     // each opening makes one sync
-    assert_eq!(rt; journal.into_disk().syncs(), syncs.saturating_add(1 + 2));
+    expect!(rt; disk.syncs() == syncs.saturating_add(1 + 2));
+    let mut disk = disk.into_inner();
+    let bytes = bytes_of(&rt, alloc, &mut disk)?;
+    expect!(rt; stand_at(&bytes, 164, &FIRST_GROUP));
+    let journal = opened(&rt, alloc, disk);
+    expect!(rt; journal.last(PEER) == Ok(1) && journal.position() == 1);
+    Ok(())
+}
+
+/// Takes the first datagram twice in one round: it is taken once.
+fn expect_copies(
+    rt: &impl Abort,
+    alloc: Global,
+    journal: &mut Journal<FaultDisk<MemDisk>>,
+) -> Result<(), AllocError> {
+    let answers = ask_all(rt, alloc, journal, &TWICE)?;
+    assert!(rt; answers.len() == 2);
+    expect!(rt; is_same(&answers[0].reply, &Reply::Taken(1)) && answers[0].position == 1);
+    expect!(rt; is_same(&answers[1].reply, &Reply::Already(1)) && answers[1].position == 1);
+    expect!(rt; journal.position() == 1);
     Ok(())
 }
 
@@ -103,7 +117,7 @@ fn two_copies_and_a_failed_sync(rt: HostRuntime) -> Result<(), Fail> {
     let alloc = rt.alloc();
     let disk = expect_unsure(&rt, alloc, &TWICE)?;
     let mut journal = opened(&rt, alloc, disk);
-    assert!(rt; matches!(journal.last(PEER), Ok(0 | 1)));
+    expect!(rt; matches!(journal.last(PEER), Ok(0 | 1)));
     expect_whole(&rt, alloc, &mut journal, &TWICE)?;
     for kind in KINDS {
         let disk = expect_unsure(&rt, alloc, &TWICE)?;
@@ -119,7 +133,7 @@ fn three_takes_and_a_failed_sync(rt: HostRuntime) -> Result<(), Fail> {
     let alloc = rt.alloc();
     let disk = expect_unsure(&rt, alloc, &THREE)?;
     let mut journal = opened(&rt, alloc, disk);
-    assert!(rt; matches!(journal.last(PEER), Ok(0 | 3)));
+    expect!(rt; matches!(journal.last(PEER), Ok(0 | 3)));
     expect_whole(&rt, alloc, &mut journal, &THREE)?;
     for kind in KINDS {
         let disk = expect_unsure(&rt, alloc, &THREE)?;

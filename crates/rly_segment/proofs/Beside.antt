@@ -8,7 +8,7 @@ use Rattle.rly_gate.specs.Reading.{OnlyRead}
 use Rattle.rly_segment.specs.Device.{IsGeometry, device_length}
 use Rattle.rly_segment.specs.Formatted.{IsSameBeside}
 use Rattle.rly_segment.specs.Heads.{segment_place}
-use Rattle.rly_segment.specs.Writing.{IsClosing}
+use Rattle.rly_segment.specs.HelpersWriting.{IsClosing}
 
 -- a range that lies in the header's fields or in the segments
 abbrev pub IsPart : Geometry → ℕ → ℕ → Type 0

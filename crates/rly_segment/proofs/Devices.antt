@@ -12,7 +12,7 @@ use Rattle.rly_machine.specs.State.{new_state}
 use Rattle.rly_segment.specs.Device.{IsDevice, IsGeometry, header_of}
 use Rattle.rly_segment.specs.Formatted.{IsFormatted, IsFormatting}
 use Rattle.rly_segment.specs.Heads.{head_of, segment_place}
-use Rattle.rly_segment.specs.Writing.{IsClosing, IsFilled}
+use Rattle.rly_segment.specs.HelpersWriting.{IsClosing, IsUnopened}
 use Rattle.rly_segment.proofs.Gates.{stays_closed}
 use Rattle.rly_segment.proofs.HeaderFields.{geometry_read, mark_read}
 
@@ -22,7 +22,7 @@ no_device image closed device = closed device.gate
 
 module _ (g : Geometry) (head : List ℕ) (is_head : head ≡ head_of 1 (new_state g.params) ++ 0 ∷ []) where
   -- a filled device whose gate is open
-  pub formatted : (old image : List ℕ) → IsGeometry g (length old) → IsFilled g head old → SameOutside 0 1 old image → IsOpen image 0 → IsFormatted g image
+  pub formatted : (old image : List ℕ) → IsGeometry g (length old) → IsUnopened g head old → SameOutside 0 1 old image → IsOpen image 0 → IsFormatted g image
   formatted old image geometry filled same opened =
       let header : StandsAt image 1 (header_of g) = part 0 1 same 1 (length (header_of g)) (inr (omega arith)) ∙ filled.header in
       let first : StandsAt image (segment_place g 0) (open_gate ∷ head) = part 0 1 same (segment_place g 0) (length (open_gate ∷ head)) (inr (omega arith)) ∙ filled.head in
@@ -39,7 +39,7 @@ module _ (g : Geometry) (head : List ℕ) (is_head : head ≡ head_of 1 (new_sta
       }
 
   -- while the header's gate is opened
-  pub while_opened : (first old image : List ℕ) → IsGeometry g (length old) → IsFilled g head old → SameOutside 0 1 old image → IsFormatting g first image
+  pub while_opened : (first old image : List ℕ) → IsGeometry g (length old) → IsUnopened g head old → SameOutside 0 1 old image → IsFormatting g first image
   while_opened first old image geometry filled same =
       elim (cases_eq (get_or image 0 0) open_gate) [
         | inl opened ↦ inr (inr (formatted old image geometry filled same opened))
@@ -78,7 +78,7 @@ module _ {a b e : DiskState} (g : Geometry) (settled : Settled a) (only : OnlyRe
       (joined (IsFormatting g a.seen) (λ c. IsClosed c 0) format_closed second)
 
   -- all of it
-  pub format_leaves : {f h : DiskState} (head : List ℕ) → head ≡ head_of 1 (new_state g.params) ++ 0 ∷ [] → IsGeometry g (length f.seen) → IsFilled g head f.seen
+  pub format_leaves : {f h : DiskState} (head : List ℕ) → head ≡ head_of 1 (new_state g.params) ++ 0 ∷ [] → IsGeometry g (length f.seen) → IsUnopened g head f.seen
       → LeavesOnly e f (λ image. IsClosed image 0) → LeavesOnly f h (SameOutside 0 1 f.seen) → LeavesOnly a h (IsFormatting g a.seen)
   format_leaves {f} head is_head geometry filled second third =
       weaker (λ c. IsFormatting g a.seen c ⊎ SameOutside 0 1 f.seen c) (IsFormatting g a.seen)
@@ -86,7 +86,7 @@ module _ {a b e : DiskState} (g : Geometry) (settled : Settled a) (only : OnlyRe
       (joined (IsFormatting g a.seen) (SameOutside 0 1 f.seen) (format_filled second) third)
 
 -- what is read at the end
-pub format_done : (g : Geometry) (head old new : List ℕ) → head ≡ head_of 1 (new_state g.params) ++ 0 ∷ [] → IsGeometry g (length old) → IsFilled g head old
+pub format_done : (g : Geometry) (head old new : List ℕ) → head ≡ head_of 1 (new_state g.params) ++ 0 ∷ [] → IsGeometry g (length old) → IsUnopened g head old
     → new ≡ overwritten 0 (open_gate ∷ []) old → IsFormatted g new
 format_done g head old new is_head geometry filled is =
     let room : 1 ≤ length old = omega (arith, geometry.room) in

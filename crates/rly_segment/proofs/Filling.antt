@@ -10,7 +10,7 @@ use Rattle.rly_gate.proofs.Appending.{gate_opened}
 use Rattle.rly_gate.specs.Group.{IsClosed, StandsAt, open_gate}
 use Rattle.rly_segment.specs.Device.{IsGeometry, header_of}
 use Rattle.rly_segment.specs.Heads.{NoneIsOpen, segment_place}
-use Rattle.rly_segment.specs.Writing.{IsFilled}
+use Rattle.rly_segment.specs.HelpersWriting.{IsUnopened}
 use Rattle.rly_segment.proofs.Gates.{in_a_row, keeps_closed, stays_closed}
 use Rattle.rly_segment.proofs.Segments.{segment_behind, segment_within}
 
@@ -49,7 +49,7 @@ closed_next g segment size old new geometry there long count written so_far t be
 -- all but the header's gate
 pub filled : (g : Geometry) (size : ℕ) (head fields first second third last : List ℕ) → IsGeometry g size → 1 + length head ≤ g.length → length first ≡ size
     → fields ≡ header_of g → length (header_of g) ≡ 50 → NoneIsOpen first g
-    → second ≡ overwritten 65 head first → third ≡ overwritten 1 fields second → last ≡ overwritten 64 (open_gate ∷ []) third → IsFilled g head last
+    → second ≡ overwritten 65 head first → third ≡ overwritten 1 fields second → last ≡ overwritten 64 (open_gate ∷ []) third → IsUnopened g head last
 filled g size head fields first second third last geometry room count is_header header_length none is_second is_third is_last = record {
   header = part 64 1 third_last 1 (length (header_of g)) (inl (omega (arith, header_length)))
       ∙ ap (λ l. take (length (header_of g)) (drop 1 l)) is_third

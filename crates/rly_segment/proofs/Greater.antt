@@ -6,7 +6,8 @@ use Rattle.std.proofs.lemmas.List.{get_or-set_other, get_or-set_same}
 use Rattle.rly_core.specs.declared.params.Geometry.{Geometry}
 use Rattle.rly_gate.specs.Group.{IsClosed, IsOpen}
 use Rattle.rly_segment.specs.declared.generations.Greatest.{Greatest}
-use Rattle.rly_segment.specs.Answers.{AreClosed, IsFound, IsGreatest, IsReadGate}
+use Rattle.rly_segment.specs.Answers.{AreClosed}
+use Rattle.rly_segment.specs.HelpersNewest.{IsFound, IsGreatest, IsReadGate}
 use Rattle.rly_segment.specs.Heads.{IsLastOfTie, IsNewest, generation_in, segment_place}
 
 -- the last of one more

@@ -10,7 +10,7 @@ use Rattle.rly_gate.specs.Group.{IsClosed, IsOpen, StandsAt, open_gate}
 use Rattle.rly_core.specs.declared.params.Geometry.{Geometry}
 use Rattle.rly_machine.specs.State.{State}
 use Rattle.rly_segment.specs.Heads.{IsOpening, generation_in, head_of, segment_place}
-use Rattle.rly_segment.specs.Writing.{IsClosing, IsReplacing}
+use Rattle.rly_segment.specs.HelpersWriting.{IsClosing, IsReplacing}
 use Rattle.rly_segment.proofs.Gates.{stays_closed}
 
 module _ (place : ℕ) (bytes old : List ℕ) where

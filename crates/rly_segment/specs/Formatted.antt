@@ -14,7 +14,8 @@ pub record IsFormatted (g : Geometry) (image : List ℕ) : Type 0 where
   pub head : StandsAt image (segment_place g 0) (opened_head 1 (new_state g.params))
   pub others : (t : ℕ) → 0 < t → t < g.segments → IsClosed image (segment_place g t)
 
--- the bytes that are no part of the device are as they were: those behind the header's fields, and those behind the last segment
+-- the bytes that are no part of the device are as they were: those behind the header's fields, and those behind the
+-- last segment
 pub record IsSameBeside (g : Geometry) (old image : List ℕ) : Type 0 where
   pub same_length : length image ≡ length old
   pub header : (i : ℕ) → 51 ≤ i → i < 64 → slice_index image i ≡ slice_index old i

@@ -82,7 +82,8 @@ abbrev pub IsPassedOver : Geometry → ℕ → List ℕ → List ℕ → Type 0
 IsPassedOver g segment old image = IsOpen image (segment_place g segment)
     → IsOpen old (segment_place g segment) × (generation_in image g segment ≡ generation_in old g segment)
 
--- what a crash within the opening of a segment may leave: all bytes outside it as they were, and the whole head, or none that is newer
+-- what a crash within the opening of a segment may leave: all bytes outside it as they were, and the whole head, or
+-- none that is newer
 pub record IsOpening (g : Geometry) (segment generation : ℕ) (s : State (List ℕ)) (old image : List ℕ) : Type 0 where
   pub outside : SameOutside (segment_place g segment) g.length old image
   pub whole : IsPassedOver g segment old image ⊎ StandsAt image (segment_place g segment) (opened_head generation s)

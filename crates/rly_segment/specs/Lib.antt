@@ -2,4 +2,5 @@ pub mod Answers
 pub mod Device
 pub mod Formatted
 pub mod Heads
-pub mod Writing
+pub mod HelpersNewest
+pub mod HelpersWriting

@@ -1,12 +1,12 @@
 ghost use Rattle.std.specs.Prelude.{◌^◌, ◌≡◌, ◌+◌, ◌<◌, ◌≤◌, ◌↔◌, ◌∷◌, ◌++◌, [], ℕ, Err, IfOk, IsTrue, OnErr, OnOk, length};
-ghost use Rattle.rly_disk.specs.DiskModel.{Later, LeavesOnly, Rose, Settled};
+ghost use Rattle.rly_disk.specs.DiskModel.{Later, LeavesOnly, HasFailed, Settled};
 ghost use Rattle.rly_gate.specs.Group.{IsClosed};
 ghost use Rattle.rly_core.specs.Limits.{IsWithinLimits};
 ghost use Rattle.rly_machine.specs.State.{new_state};
 ghost use Rattle.rly_segment.specs.Device.{IsGeometry, header_of};
 ghost use Rattle.rly_segment.specs.Formatted.{IsFormatted, IsFormatting, IsSameBeside};
 ghost use Rattle.rly_segment.specs.Heads.{NoneIsOpen, head_of, segment_place};
-ghost use Rattle.rly_segment.specs.Writing.{IsFilled, limits_of, shape_of};
+ghost use Rattle.rly_segment.specs.HelpersWriting.{IsUnopened, limits_of, shape_of};
 
 use crate::head_bytes::head_bytes;
 use crate::header::{DEVICE_MARK, is_geometry};
@@ -50,7 +50,7 @@ pub fn format<D: Disk>(alloc: Global, disk: &mut D, geometry: &Geometry) -> Resu
     ensures formatted { Settled (D.state disk.old) → OnOk result (IsFormatted geometry.now (D.state disk.new).seen) }
     ensures untouched { result ≡ Err FormatFault.BadGeometry → disk.new ≡ disk.old }
     ensures memory { result ≡ Err FormatFault.OutOfMemory → disk.new ≡ disk.old }
-    ensures rise { result ≡ Err FormatFault.Device → Rose (D.state disk.old) (D.state disk.new) }
+    ensures rise { result ≡ Err FormatFault.Device → HasFailed (D.state disk.old) (D.state disk.new) }
     ensures no_failure { OnOk result ((D.state disk.new).failures ≡ (D.state disk.old).failures) }
     ensures syncs { (D.state disk.new).syncs ≤ (D.state disk.old).syncs + 7 }
     ensures synced { OnOk result ((D.state disk.new).syncs ≡ (D.state disk.old).syncs + 7) }
@@ -87,7 +87,7 @@ fn write_device<D: Disk>(disk: &mut D, geometry: &Geometry, head: &[u8]) -> Resu
     ensures beside { Settled (D.state disk.old) → LeavesOnly (D.state disk.old) (D.state disk.new) (IsSameBeside geometry.now (D.state disk.old).seen) }
     ensures ok { Settled (D.state disk.old) → OnOk result (Settled (D.state disk.new)) }
     ensures formatted { Settled (D.state disk.old) → OnOk result (IsFormatted geometry.now (D.state disk.new).seen) }
-    ensures rise { OnErr result (Rose (D.state disk.old) (D.state disk.new)) }
+    ensures rise { OnErr result (HasFailed (D.state disk.old) (D.state disk.new)) }
     ensures no_failure { OnOk result ((D.state disk.new).failures ≡ (D.state disk.old).failures) }
     ensures syncs { (D.state disk.new).syncs ≤ (D.state disk.old).syncs + 7 }
     ensures synced { OnOk result ((D.state disk.new).syncs ≡ (D.state disk.old).syncs + 7) }
@@ -108,8 +108,8 @@ fn write_contents<D: Disk>(disk: &mut D, geometry: &Geometry, head: &[u8]) -> Re
         → LeavesOnly (D.state disk.old) (D.state disk.new) (λ image. IsClosed image 0) }
     ensures beside { Settled (D.state disk.old) → LeavesOnly (D.state disk.old) (D.state disk.new) (IsSameBeside geometry.now (D.state disk.old).seen) }
     ensures ok { Settled (D.state disk.old) → OnOk result (Settled (D.state disk.new)) }
-    ensures filled { Settled (D.state disk.old) → OnOk result (IsFilled geometry.now head.now (D.state disk.new).seen) }
-    ensures rise { OnErr result (Rose (D.state disk.old) (D.state disk.new)) }
+    ensures filled { Settled (D.state disk.old) → OnOk result (IsUnopened geometry.now head.now (D.state disk.new).seen) }
+    ensures rise { OnErr result (HasFailed (D.state disk.old) (D.state disk.new)) }
     ensures no_failure { OnOk result ((D.state disk.new).failures ≡ (D.state disk.old).failures) }
     ensures syncs { (D.state disk.new).syncs ≤ (D.state disk.old).syncs + 5 }
     ensures synced { OnOk result ((D.state disk.new).syncs ≡ (D.state disk.old).syncs + 5) }
@@ -131,7 +131,7 @@ fn close_gates<D: Disk>(disk: &mut D, geometry: &Geometry) -> Result<(), DiskFau
     ensures beside { Settled (D.state disk.old) → LeavesOnly (D.state disk.old) (D.state disk.new) (IsSameBeside geometry.now (D.state disk.old).seen) }
     ensures ok { Settled (D.state disk.old) → OnOk result (Settled (D.state disk.new)) }
     ensures closed { Settled (D.state disk.old) → OnOk result (NoneIsOpen (D.state disk.new).seen geometry.now) }
-    ensures rise { OnErr result (Rose (D.state disk.old) (D.state disk.new)) }
+    ensures rise { OnErr result (HasFailed (D.state disk.old) (D.state disk.new)) }
     ensures no_failure { OnOk result ((D.state disk.new).failures ≡ (D.state disk.old).failures) }
     ensures syncs { (D.state disk.new).syncs ≤ (D.state disk.old).syncs + 2 }
     ensures synced { OnOk result ((D.state disk.new).syncs ≡ (D.state disk.old).syncs + 2) }

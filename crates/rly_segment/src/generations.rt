@@ -1,8 +1,9 @@
 ghost use Rattle.std.specs.Prelude.{◌≡◌, ◌≢◌, ◌+◌, ◌<◌, ◌≤◌, Err, IfOk, IfSome, List, OnErr, OnOk, ℕ};
 ghost use Rattle.rly_core.specs.declared.params.Geometry.{Geometry};
-ghost use Rattle.rly_disk.specs.DiskModel.{Rose};
+ghost use Rattle.rly_disk.specs.DiskModel.{HasFailed};
 ghost use Rattle.rly_gate.specs.Reading.{OnlyRead, SyncsNothing};
-ghost use Rattle.rly_segment.specs.Answers.{IsFound, IsReadGate, IsReadNewest};
+ghost use Rattle.rly_segment.specs.Answers.{IsReadNewest};
+ghost use Rattle.rly_segment.specs.HelpersNewest.{IsFound, IsReadGate};
 ghost use Rattle.rly_segment.specs.Device.{IsGeometry};
 ghost use Rattle.rly_segment.specs.Heads.{segment_place};
 
@@ -49,7 +50,7 @@ pub fn newest<D: Disk>(disk: &mut D, geometry: &Geometry) -> Result<NewestHead, 
     ensures read { (D.state disk.old).honest → IsReadNewest (D.state disk.old).seen geometry.now result }
     ensures only { OnlyRead (D.state disk.old) (D.state disk.new) }
     ensures unsynced { SyncsNothing (D.state disk.old) (D.state disk.new) }
-    ensures rise { result ≡ Err NewestFault.Device → Rose (D.state disk.old) (D.state disk.new) }
+    ensures rise { result ≡ Err NewestFault.Device → HasFailed (D.state disk.old) (D.state disk.new) }
     ensures no_failure { result ≢ Err NewestFault.Device → (D.state disk.new).failures ≡ (D.state disk.old).failures }
 {
     let mut closed = [false; MAX_SEGMENTS as usize];
@@ -81,7 +82,7 @@ fn read_gate<D: Disk>(disk: &mut D, place: u64) -> Result<Option<u64>, DiskFault
         → IfOk result (λ gate. IsReadGate (D.state disk.old).seen place gate) }
     ensures only { OnlyRead (D.state disk.old) (D.state disk.new) }
     ensures unsynced { SyncsNothing (D.state disk.old) (D.state disk.new) }
-    ensures rise { OnErr result (Rose (D.state disk.old) (D.state disk.new)) }
+    ensures rise { OnErr result (HasFailed (D.state disk.old) (D.state disk.new)) }
     ensures no_failure { OnOk result ((D.state disk.new).failures ≡ (D.state disk.old).failures) }
 {
     let mut start = [0u8; GENERATION_END];

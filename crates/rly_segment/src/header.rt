@@ -1,5 +1,5 @@
 ghost use Rattle.std.specs.Prelude.{◌≡◌, ◌≢◌, ◌↔◌, Err, IfOk, IsTrue, length};
-ghost use Rattle.rly_disk.specs.DiskModel.{Rose};
+ghost use Rattle.rly_disk.specs.DiskModel.{HasFailed};
 ghost use Rattle.rly_gate.specs.Group.{IsOpen, StandsAt};
 ghost use Rattle.rly_gate.specs.Reading.{OnlyRead, SyncsNothing};
 ghost use Rattle.rly_segment.specs.Answers.{IsReadHeader};
@@ -35,7 +35,7 @@ pub fn read_header<D: Disk>(disk: &mut D) -> Result<Geometry, HeaderFault>
     ensures read { (D.state disk.old).honest → IsReadHeader (D.state disk.old).seen result }
     ensures only { OnlyRead (D.state disk.old) (D.state disk.new) }
     ensures unsynced { SyncsNothing (D.state disk.old) (D.state disk.new) }
-    ensures rise { result ≡ Err HeaderFault.Device → Rose (D.state disk.old) (D.state disk.new) }
+    ensures rise { result ≡ Err HeaderFault.Device → HasFailed (D.state disk.old) (D.state disk.new) }
     ensures no_failure { result ≢ Err HeaderFault.Device → (D.state disk.new).failures ≡ (D.state disk.old).failures }
 {
     let size = disk.size();

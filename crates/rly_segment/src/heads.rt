@@ -1,7 +1,7 @@
 ghost use Rattle.std.specs.Prelude.{◌≡◌, ◌≢◌, ◌+◌, ◌<◌, ◌≤◌, ◌^◌, ◌++◌, ◌↔◌, Err, IfOk, IsTrue, OnErr, OnOk};
 ghost use Rattle.byteorder.specs.Endian.{big_bytes};
 ghost use Rattle.rly_core.specs.Bounds.{IsIn};
-ghost use Rattle.rly_disk.specs.DiskModel.{Rose};
+ghost use Rattle.rly_disk.specs.DiskModel.{HasFailed};
 ghost use Rattle.rly_gate.specs.Group.{StandsAt};
 ghost use Rattle.rly_gate.specs.Reading.{OnlyRead, SyncsNothing};
 ghost use Rattle.rly_segment.specs.Answers.{IsReadHead};
@@ -67,7 +67,7 @@ pub fn read_head<D: Disk>(
     ensures read { (D.state disk.old).honest → IsReadHead (D.state disk.old).seen geometry.now segment result }
     ensures only { OnlyRead (D.state disk.old) (D.state disk.new) }
     ensures unsynced { SyncsNothing (D.state disk.old) (D.state disk.new) }
-    ensures rise { result ≡ Err HeadFault.Device → Rose (D.state disk.old) (D.state disk.new) }
+    ensures rise { result ≡ Err HeadFault.Device → HasFailed (D.state disk.old) (D.state disk.new) }
     ensures no_failure { result ≢ Err HeadFault.Device → (D.state disk.new).failures ≡ (D.state disk.old).failures }
 {
     let place = segment_place(geometry, segment);
@@ -108,7 +108,7 @@ fn read_start<D: Disk>(disk: &mut D, place: u64) -> Result<Start, DiskFault>
     ensures fits { IfOk result (λ start. (start.generation < 2 ^ 64) × (start.length < 2 ^ 32)) }
     ensures only { OnlyRead (D.state disk.old) (D.state disk.new) }
     ensures unsynced { SyncsNothing (D.state disk.old) (D.state disk.new) }
-    ensures rise { OnErr result (Rose (D.state disk.old) (D.state disk.new)) }
+    ensures rise { OnErr result (HasFailed (D.state disk.old) (D.state disk.new)) }
     ensures no_failure { OnOk result ((D.state disk.new).failures ≡ (D.state disk.old).failures) }
 {
     let mut start = [0u8; START_BYTES];

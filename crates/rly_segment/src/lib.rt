@@ -15,10 +15,6 @@ mod header;
 mod heads;
 mod layout;
 mod opening;
-#[cfg(test)]
-mod tests;
-#[cfg(test)]
-mod tests_writing;
 
 pub use crate::formatting::{FormatFault, format};
 pub use crate::generations::{NewestFault, NewestHead, newest};

@@ -1,9 +1,9 @@
 ghost use Rattle.std.specs.Prelude.{◌^◌, ◌≡◌, ◌+◌, ◌<◌, ◌≤◌, ◌↔◌, ◌∷◌, ◌==◌, Err, IfOk, IsTrue, OnErr, OnOk, if◌then◌else◌, length};
-ghost use Rattle.rly_disk.specs.DiskModel.{Later, LeavesOnly, Rose, SameOutside, Settled, overwritten};
+ghost use Rattle.rly_disk.specs.DiskModel.{Later, LeavesOnly, HasFailed, SameOutside, Settled, overwritten};
 ghost use Rattle.rly_gate.specs.Group.{IsClosed, open_gate};
 ghost use Rattle.rly_segment.specs.Device.{IsGeometry};
 ghost use Rattle.rly_segment.specs.Heads.{IsHead, IsOpening, first_gate, opened_head, segment_place};
-ghost use Rattle.rly_segment.specs.Writing.{IsClosing, IsReplacing};
+ghost use Rattle.rly_segment.specs.HelpersWriting.{IsClosing, IsReplacing};
 
 use crate::head_bytes::head_bytes;
 use crate::layout::segment_place;
@@ -54,7 +54,7 @@ pub fn open_segment<D: Disk>(
     ensures written { Settled (D.state disk.old) → OnOk result ((D.state disk.new).seen
         ≡ overwritten (segment_place geometry.now target.segment) (opened_head generation machine.now.state) (D.state disk.old).seen) }
     ensures memory { result ≡ Err OpeningFault.OutOfMemory → disk.new ≡ disk.old }
-    ensures rise { result ≡ Err OpeningFault.Device → Rose (D.state disk.old) (D.state disk.new) }
+    ensures rise { result ≡ Err OpeningFault.Device → HasFailed (D.state disk.old) (D.state disk.new) }
     ensures no_failure { OnOk result ((D.state disk.new).failures ≡ (D.state disk.old).failures) }
     ensures syncs { (D.state disk.new).syncs ≤ (D.state disk.old).syncs + 3 }
     ensures synced { OnOk result ((D.state disk.new).syncs ≡ (D.state disk.old).syncs + 3) }
@@ -82,7 +82,7 @@ fn replace<D: Disk>(disk: &mut D, place: u64, closed: bool, behind: &[u8]) -> Re
     ensures ok { Settled (D.state disk.old) → OnOk result (Settled (D.state disk.new)) }
     ensures written { Settled (D.state disk.old)
         → OnOk result ((D.state disk.new).seen ≡ overwritten place (open_gate ∷ behind.now) (D.state disk.old).seen) }
-    ensures rise { OnErr result (Rose (D.state disk.old) (D.state disk.new)) }
+    ensures rise { OnErr result (HasFailed (D.state disk.old) (D.state disk.new)) }
     ensures no_failure { OnOk result ((D.state disk.new).failures ≡ (D.state disk.old).failures) }
     ensures syncs { (D.state disk.new).syncs ≤ (D.state disk.old).syncs + 3 }
     ensures synced { OnOk result ((D.state disk.new).syncs ≡ (D.state disk.old).syncs + 3) }
@@ -106,7 +106,7 @@ pub(crate) fn close_gate<D: Disk>(disk: &mut D, place: u64, closed: bool) -> Res
     ensures closed { Settled (D.state disk.old) → (IsTrue closed ↔ IsClosed (D.state disk.old).seen place)
         → OnOk result (IsClosed (D.state disk.new).seen place) }
     ensures others { Settled (D.state disk.old) → OnOk result (SameOutside place 1 (D.state disk.old).seen (D.state disk.new).seen) }
-    ensures rise { OnErr result (Rose (D.state disk.old) (D.state disk.new)) }
+    ensures rise { OnErr result (HasFailed (D.state disk.old) (D.state disk.new)) }
     ensures no_failure { OnOk result ((D.state disk.new).failures ≡ (D.state disk.old).failures) }
     ensures syncs { (D.state disk.new).syncs ≤ (D.state disk.old).syncs + 1 }
     ensures synced { OnOk result ((D.state disk.new).syncs ≡ (D.state disk.old).syncs + 1) }

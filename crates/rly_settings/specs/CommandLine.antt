@@ -2,7 +2,8 @@
 use Rattle.std.specs.Prelude.{◌≡◌, ◌≢◌, ⊤, ℕ, List, [], ◌∷◌, true, Option, Some, None, codes, unwrap_or}
 use Rattle.std.specs.Str.Parse.{ParsesUnsigned}
 use Rattle.std.specs.declared.num.ParseIntError.{ParseIntError}
-use Rattle.clap.specs.Words.{App, IsAmong, Kinds, fault_of, ReadsOne, Row, Rule, Text, first_of, new_app, kind_of, new_rule, one_of, subcommand_of, with_rule, with_subcommand}
+use Rattle.clap.specs.Words.{App, IsAmong, Kinds, ReadsOne, Row, Rule, Text, fault_of, first_of, kind_of, one_of}
+use Rattle.clap.specs.Words.{new_app, new_rule, subcommand_of, with_rule, with_subcommand}
 use Rattle.clap.specs.declared.builder.action.ArgAction.TheVariants.{Set}
 use Rattle.clap.specs.declared.builder.value_parser.ValueParser.TheVariants as parser
 use Rattle.clap.specs.declared.error.Error.{Error}
@@ -66,13 +67,16 @@ unfoldable pub audit_app : App
 audit_app = with_rule (new_app (codes "audit")) (path_rule (codes "file"))
 
 unfoldable pub serve_app : App
-serve_app = with_rule (with_rule (with_rule (new_app (codes "serve")) (path_rule (codes "file"))) (path_rule (codes "plan")))
+serve_app = with_rule (with_rule (with_rule (new_app (codes "serve"))
+    (path_rule (codes "file"))) (path_rule (codes "plan")))
     (option_rule (codes "turns") (codes "0"))
 
 -- the program: a version, and a command, which has to be there
 unfoldable pub rly_top : App
 rly_top = let new = new_app (codes "rly") in
-    record new { top = record new.top { has_version = true; subcommand_required = true; arg_required_else_help = true } }
+    record new {
+      top = record new.top { has_version = true; subcommand_required = true; arg_required_else_help = true };
+    }
 
 unfoldable pub rly_app : App
 rly_app = with_subcommand (with_subcommand (with_subcommand (with_subcommand (with_subcommand rly_top
@@ -91,7 +95,8 @@ ReadsNumber (Some text) n = ReadsOne {E = ParseIntError} (ParsesUnsigned 64 10) 
 
 -- the number of an option: what is read of its value, or the default
 abbrev pub HasNumber : List Row → Text → ℕ → ℕ → Type 0
-HasNumber rows name default n = (given : Option ℕ) × ReadsNumber (one_of name rows) given × (n ≡ unwrap_or given default)
+HasNumber rows name default n =
+    (given : Option ℕ) × ReadsNumber (one_of name rows) given × (n ≡ unwrap_or given default)
 
 -- the path under a name
 abbrev pub path_in : Text → List Row → Text

@@ -6,9 +6,20 @@
 //! is checked by whoever obeys them. `rly_daemon` calls it.
 #![tactic(auto)]
 
+/// As `assert!`, by one call: the prover then sees one way on where `assert!` has two. `assert!` stands where a later call needs
+/// what was asserted, and where the text names a row.
+#[cfg(test)]
+macro_rules! expect {
+    ($rt:expr; $cond:expr $(,)?) => {
+        crate::expect::expect(&$rt, $cond, stringify!($cond))
+    };
+}
+
 mod arguments;
 mod command_line;
 mod commands;
+#[cfg(test)]
+mod expect;
 mod given;
 #[cfg(test)]
 mod tests;

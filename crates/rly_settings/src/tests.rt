@@ -25,32 +25,26 @@ fn are_asked(rt: &impl AllocGlobal, words: &[&str]) -> bool {
 fn what_is_left_out_is_the_default(rt: HostRuntime) {
     let params = Params::DEFAULT;
     let sim = settings_of(&rt, ["rly", "sim"].as_slice());
-    assert_eq!(rt; sim, Some(Settings::Sim { params }));
+    expect!(rt; sim == Some(Settings::Sim { params }));
     let format = settings_of(&rt, ["rly", "format", "spool"].as_slice());
     let file = "spool";
-    assert_eq!(rt;
-        format,
-        Some(Settings::Format {
+    expect!(rt; format == Some(Settings::Format {
             file,
             params,
             segments: 2,
             length: None
-        })
-    );
+        }));
     let play = settings_of(&rt, ["rly", "play", "spool"].as_slice());
-    assert_eq!(rt; play, Some(Settings::Play { file, batch: 1 }));
+    expect!(rt; play == Some(Settings::Play { file, batch: 1 }));
     let audit = settings_of(&rt, ["rly", "audit", "spool"].as_slice());
-    assert_eq!(rt; audit, Some(Settings::Audit { file }));
+    expect!(rt; audit == Some(Settings::Audit { file }));
     let serve = settings_of(&rt, ["rly", "serve", "spool", "plan.toml"].as_slice());
     let plan = "plan.toml";
-    assert_eq!(rt;
-        serve,
-        Some(Settings::Serve {
+    expect!(rt; serve == Some(Settings::Serve {
             file,
             plan,
             turns: 0
-        })
-    );
+        }));
 }
 
 #[test]
@@ -73,28 +67,22 @@ fn what_is_given_is_read(rt: HostRuntime) {
     };
     let format = settings_of(&rt, words.as_slice());
     let file = "spool";
-    assert_eq!(rt;
-        format,
-        Some(Settings::Format {
+    expect!(rt; format == Some(Settings::Format {
             file,
             params,
             segments: 3,
             length: Some(4096)
-        })
-    );
+        }));
     let play = settings_of(&rt, ["rly", "play", "--batch", "64", "spool"].as_slice());
-    assert_eq!(rt; play, Some(Settings::Play { file, batch: 64 }));
+    expect!(rt; play == Some(Settings::Play { file, batch: 64 }));
     let words = ["rly", "serve", "--turns", "20", "spool", "plan.toml"];
     let serve = settings_of(&rt, words.as_slice());
     let plan = "plan.toml";
-    assert_eq!(rt;
-        serve,
-        Some(Settings::Serve {
+    expect!(rt; serve == Some(Settings::Serve {
             file,
             plan,
             turns: 20
-        })
-    );
+        }));
 }
 
 #[test]
@@ -157,8 +145,8 @@ fn bad_words_behind_serve_are_refused(rt: HostRuntime) {
 
 #[test]
 fn help_and_the_version_are_questions(rt: HostRuntime) {
-    assert!(rt; are_asked(&rt, ["rly", "--version"].as_slice()));
-    assert!(rt; are_asked(&rt, ["rly", "--help"].as_slice()));
+    expect!(rt; are_asked(&rt, ["rly", "--version"].as_slice()));
+    expect!(rt; are_asked(&rt, ["rly", "--help"].as_slice()));
     for command in ["sim", "format", "play", "audit", "serve"] {
         assert!(rt;
             are_asked(&rt, ["rly", command, "--help"].as_slice()),

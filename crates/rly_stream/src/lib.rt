@@ -7,8 +7,6 @@
 
 mod fault;
 mod streams;
-#[cfg(test)]
-mod tests;
 
 pub use crate::fault::StreamFault;
 pub use crate::streams::{read_some, write_whole};

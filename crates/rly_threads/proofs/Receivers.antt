@@ -7,39 +7,40 @@ use Rattle.rly_hop.specs.declared.receiving.event.InEvent.{InEvent}
 use Rattle.rly_hop.specs.declared.receiving.event.InEvent.TheVariants.{Answered}
 use Rattle.rly_hop.specs.declared.receiving.event.TakeAnswer.TheVariants as answer
 use Rattle.rly_hop.specs.Receiver.{Receiver}
-use Rattle.rly_hop.specs.Receiving.{received}
+use Rattle.rly_hop.specs.Receiving.{receiving_step}
 use Rattle.rly_machine.specs.declared.command.Ask.{Ask}
 use Rattle.rly_threads.specs.declared.turn.Worker.TheVariants as worker
-use Rattle.rly_threads.specs.Ends.{Tells}
-use Rattle.rly_threads.specs.Intake.{Intake, datagram_in, event_of, intake_done, lacks_memory, on_action, on_answer, on_call, on_hearing, on_take, packets_in, take_of}
-use Rattle.rly_threads.specs.Runs.{Did, Grew, Told}
+use Rattle.rly_threads.specs.Ends.{TellsMore}
+use Rattle.rly_threads.specs.Intake.{Intake, datagram_in, intake_event, intake_done, lacks_memory, intake_on_action, intake_on_answer, intake_on_call, intake_on_hearing, intake_on_take, intake_packets, take_ask}
+use Rattle.rly_threads.specs.HelpersTurns.{Did, Grew}
+use Rattle.rly_threads.specs.Runs.{EndsView}
 use Rattle.rly_threads.specs.Turns.{Given, Made, around_call, message_in, nothing_done}
 use Rattle.rly_threads.proofs.Grown.{did_ask, did_nothing, did_turn, no_call, refused_call}
 
-pub asked : (w : Intake) (old mid new : Told) (r left : Receiver) (made : Made) (ask : Ask) (event : InEvent (List ℕ)) (action : Option (InAction (List ℕ)))
-    → event ≡ event_of made.outcome → left ≡ (received r event).0 → action ≡ (received r event).1
-    → Tells old.asked mid.asked ((ask, made.outcome) ∷ []) → Tells old.handed mid.handed (around_call (worker.Receiver w.peer) made)
-    → mid ≡ record old { asked = mid.asked; handed = mid.handed } → Tells mid.sent new.sent (packets_in action) → new ≡ record mid { sent = new.sent }
-    → Did old new left (on_answer w made ask (received r (event_of made.outcome)))
+pub asked : (w : Intake) (old mid new : EndsView) (r left : Receiver) (made : Made) (ask : Ask) (event : InEvent (List ℕ)) (action : Option (InAction (List ℕ)))
+    → event ≡ intake_event made.outcome → left ≡ (receiving_step r event).0 → action ≡ (receiving_step r event).1
+    → TellsMore old.asked mid.asked ((ask, made.outcome) ∷ []) → TellsMore old.handed mid.handed (around_call (worker.Receiver w.peer) made)
+    → mid ≡ record old { asked = mid.asked; handed = mid.handed } → TellsMore mid.sent new.sent (intake_packets action) → new ≡ record mid { sent = new.sent }
+    → Did old new left (intake_on_answer w made ask (receiving_step r (intake_event made.outcome)))
 asked w old mid new r left made ask event action told after named made_call around quiet sent quiet_end =
-    did_ask old mid new left (received r (event_of made.outcome)).0 ask made.outcome (packets_in (received r (event_of made.outcome)).1) (around_call (worker.Receiver w.peer) made)
-    (after ∙ ap (λ e. (received r e).0) told) made_call around quiet
-    (subst (λ a. Tells mid.sent new.sent (packets_in a)) (named ∙ ap (λ e. (received r e).1) told) sent) quiet_end
+    did_ask old mid new left (receiving_step r (intake_event made.outcome)).0 ask made.outcome (intake_packets (receiving_step r (intake_event made.outcome)).1) (around_call (worker.Receiver w.peer) made)
+    (after ∙ ap (λ e. (receiving_step r e).0) told) made_call around quiet
+    (subst (λ a. TellsMore mid.sent new.sent (intake_packets a)) (named ∙ ap (λ e. (receiving_step r e).1) told) sent) quiet_end
 
-pub turned : (w : Intake) (old mid new : Told) (r core left : Receiver) (given : Given) (action : Option (InAction (List ℕ)))
-    → Tells old.heard mid.heard (given.heard ∷ []) → mid ≡ record old { heard = mid.heard }
-    → core ≡ (on_hearing r (message_in given.heard)).0 → action ≡ (on_hearing r (message_in given.heard)).1
-    → Did mid new left (on_action w given.now given.made core action)
+pub turned : (w : Intake) (old mid new : EndsView) (r core left : Receiver) (given : Given) (action : Option (InAction (List ℕ)))
+    → TellsMore old.heard mid.heard (given.heard ∷ []) → mid ≡ record old { heard = mid.heard }
+    → core ≡ (intake_on_hearing r (message_in given.heard)).0 → action ≡ (intake_on_hearing r (message_in given.heard)).1
+    → Did mid new left (intake_on_action w given.now given.made core action)
     → (left ≡ (intake_done w r given).core) × Grew old new (given ∷ []) (intake_done w r given)
 turned w old mid new r core left given action heard quiet hearing named did =
-    let same : on_action w given.now given.made core action ≡ intake_done w r given = λ i. on_action w given.now given.made (hearing i) (named i) in
+    let same : intake_on_action w given.now given.made core action ≡ intake_done w r given = λ i. intake_on_action w given.now given.made (hearing i) (named i) in
     let whole : Did mid new left (intake_done w r given) = subst (Did mid new left) same did in
     (whole.left, did_turn old mid new left (intake_done w r given) given heard quiet whole)
 
 -- the core named no Take
-pub nothing_taken : (w : Intake) (told : Told) (now : ℕ) (r : Receiver) (action : Option (InAction (List ℕ))) → None ≡ datagram_in action
-    → Did told told r (on_action w now no_call r action)
-nothing_taken w told now r action none = subst (λ t. Did told told r (on_take w now no_call r t)) none (did_nothing told r)
+pub nothing_taken : (w : Intake) (told : EndsView) (now : ℕ) (r : Receiver) (action : Option (InAction (List ℕ))) → None ≡ datagram_in action
+    → Did told told r (intake_on_action w now no_call r action)
+nothing_taken w told now r action none = subst (λ t. Did told told r (intake_on_take w now no_call r t)) none (did_nothing told r)
 
 -- memory is refused for bytes alone
 lacks_for_bytes : (made : Made) (payload : List ℕ) → 0 < length payload → lacks_memory made payload ≡ made.refused
@@ -47,9 +48,9 @@ lacks_for_bytes made [] none = absurd (omega (arith, none))
 lacks_for_bytes made (byte ∷ payload) some = refl
 
 -- memory was refused for the bytes of the payload of its Take
-pub refused : (w : Intake) (told : Told) (now : ℕ) (r left : Receiver) (action : Option (InAction (List ℕ))) (taken : ℕ × List ℕ) → Some taken ≡ datagram_in action
-    → 0 < length taken.1 → left ≡ (received r (Answered (answer.Refused refusal.OutOfMemory))).0 → Did told told left (on_action w now refused_call r action)
+pub refused : (w : Intake) (told : EndsView) (now : ℕ) (r left : Receiver) (action : Option (InAction (List ℕ))) (taken : ℕ × List ℕ) → Some taken ≡ datagram_in action
+    → 0 < length taken.1 → left ≡ (receiving_step r (Answered (answer.Refused refusal.OutOfMemory))).0 → Did told told left (intake_on_action w now refused_call r action)
 refused w told now r left action taken some bytes after =
-    subst (λ t. Did told told left (on_take w now refused_call r t)) some
-    (subst (λ lacks. Did told told left (on_call w refused_call r (take_of w now taken.0 taken.1) lacks)) (sym (lacks_for_bytes refused_call taken.1 bytes))
+    subst (λ t. Did told told left (intake_on_take w now refused_call r t)) some
+    (subst (λ lacks. Did told told left (intake_on_call w refused_call r (take_ask w now taken.0 taken.1) lacks)) (sym (lacks_for_bytes refused_call taken.1 bytes))
     (subst (λ l. Did told told left (nothing_done l)) after (did_nothing told left)))

@@ -3,13 +3,13 @@ use Rattle.std.specs.Prelude.{◌≡◌, ◌⊎◌, ℕ, ◌<◌, ◌-◌, ◌^�
 use Rattle.rly_threads.specs.declared.link.LinkFault.{LinkFault}
 
 -- what was told grew by these; who tells nothing may tell anything later
-abbrev pub Tells : {A : Type 0} → Option (List A) → Option (List A) → List A → Type 0
-Tells None new more = ⊤
-Tells (Some told) new more = new ≡ Some (told ++ more)
+abbrev pub TellsMore : {A : Type 0} → Option (List A) → Option (List A) → List A → Type 0
+TellsMore None new more = ⊤
+TellsMore (Some told) new more = new ≡ Some (told ++ more)
 
 -- a count of failures rose, or stands at its last value
-abbrev pub Rose : ℕ → ℕ → Type 0
-Rose old new = (old < new) ⊎ (old ≡ 2 ^ 64 - 1)
+abbrev pub FailuresRose : ℕ → ℕ → Type 0
+FailuresRose old new = (old < new) ⊎ (old ≡ 2 ^ 64 - 1)
 
 -- the packet that a receive put at the front of a buffer, if it did
 abbrev pub packet_in : Option ℕ → List ℕ → Option (List ℕ)

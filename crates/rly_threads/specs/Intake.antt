@@ -1,5 +1,6 @@
 -- A receiving worker, turn by turn (docs/PROTOCOL.md, "The receiving core").
-use Rattle.std.specs.Prelude.{ℕ, List, [], ◌∷◌, nat_lt, if◌then◌else◌, Bool, true, false, Option, Some, None, unwrap_or, Ok, Err, length}
+use Rattle.std.specs.Prelude.{ℕ, List, [], ◌∷◌, nat_lt, if◌then◌else◌, Bool, true, false, length}
+use Rattle.std.specs.Prelude.{Option, Some, None, unwrap_or, Ok, Err}
 use Rattle.byteorder.specs.Endian.{big_number}
 use Rattle.rly_core.specs.declared.ids.HopId.{HopId}
 use Rattle.rly_core.specs.declared.ids.PeerId.{PeerId}
@@ -12,7 +13,7 @@ use Rattle.rly_hop.specs.declared.receiving.event.InEvent.TheVariants.{Heard, An
 use Rattle.rly_hop.specs.declared.receiving.event.TakeAnswer.{TakeAnswer}
 use Rattle.rly_hop.specs.declared.receiving.event.TakeAnswer.TheVariants as answer
 use Rattle.rly_hop.specs.Receiver.{Receiver}
-use Rattle.rly_hop.specs.Receiving.{Received, received}
+use Rattle.rly_hop.specs.Receiving.{ReceivingResult, receiving_step}
 use Rattle.rly_line.specs.declared.call_error.CallError.TheVariants as error
 use Rattle.rly_machine.specs.declared.command.Ask.{Ask}
 use Rattle.rly_machine.specs.declared.command.Ask.TheVariants.{Command}
@@ -21,7 +22,8 @@ use Rattle.rly_machine.specs.declared.reply.Reply.{Reply}
 use Rattle.rly_machine.specs.declared.reply.Reply.TheVariants as reply
 use Rattle.rly_plan.specs.ContactPlan.{ContactPlan, hop_for, link}
 use Rattle.rly_threads.specs.declared.turn.Worker.TheVariants as worker
-use Rattle.rly_threads.specs.Turns.{Done, Given, Made, Outcome, around_call, message_in, nothing_done, packets_of, started}
+use Rattle.rly_threads.specs.Turns.{CallOutcome, Done, Given, Made, around_call, message_in, nothing_done}
+use Rattle.rly_threads.specs.Turns.{packets_of, with_start}
 
 -- the peer that is received from, and the plan by which its datagrams are routed
 pub record Intake : Type 0 where
@@ -32,14 +34,17 @@ abbrev pub intake : ContactPlan → PeerId → Intake
 intake plan peer = record { plan = plan; peer = peer }
 
 -- the hop that a payload goes to by its first two bytes: none, hop 0, where it has fewer or there is no route
-abbrev pub hop_of : ContactPlan → List ℕ → HopId
-hop_of plan payload =
-    if nat_lt (length payload) 2 then record { 0 = 0 } else unwrap_or (hop_for plan (big_number 2 payload)) (record { 0 = 0 })
+abbrev pub hop_of_payload : ContactPlan → List ℕ → HopId
+hop_of_payload plan payload =
+    if nat_lt (length payload) 2 then record { 0 = 0 }
+    else unwrap_or (hop_for plan (big_number 2 payload)) (record { 0 = 0 })
 
 -- the command that takes a datagram, stamped by the link clock of its hop
-abbrev pub take_of : Intake → ℕ → ℕ → List ℕ → Ask
-take_of w now number payload =
-    Command (command.Take w.peer number (hop_of w.plan payload) (link w.plan (hop_of w.plan payload) now) payload)
+abbrev pub take_ask : Intake → ℕ → ℕ → List ℕ → Ask
+take_ask w now number payload =
+    Command
+    (command.Take w.peer number (hop_of_payload w.plan payload)
+    (link w.plan (hop_of_payload w.plan payload) now) payload)
 
 -- what the core is told of the reply to its Take
 abbrev pub answer_in : Reply → TakeAnswer
@@ -54,31 +59,35 @@ answer_in (reply.Bytes payload) = answer.Other
 answer_in (reply.WindowIs first next) = answer.Other
 answer_in (reply.Shown status) = answer.Other
 
-abbrev pub event_of : Outcome → InEvent (List ℕ)
-event_of (Ok a) = Answered (answer_in a.reply)
-event_of (Err (error.Closed back)) = Answered (answer.Refused refusal.Closed)
-event_of (Err error.Lost) = Lost
+abbrev pub intake_event : CallOutcome → InEvent (List ℕ)
+intake_event (Ok a) = Answered (answer_in a.reply)
+intake_event (Err (error.Closed back)) = Answered (answer.Refused refusal.Closed)
+intake_event (Err error.Lost) = Lost
 
 -- what is sent by an action
-abbrev pub packets_in : Option (InAction (List ℕ)) → List (List ℕ)
-packets_in (Some (Send m)) = packets_of m
-packets_in (Some (Take number payload)) = []
-packets_in None = []
+abbrev pub intake_packets : Option (InAction (List ℕ)) → List (List ℕ)
+intake_packets (Some (Send m)) = packets_of m
+intake_packets (Some (Take number payload)) = []
+intake_packets None = []
 
 -- what hearing a message leaves, or nothing
-abbrev pub on_hearing : Receiver → Option (Message (List ℕ)) → Received
-on_hearing r None = (r, None)
-on_hearing r (Some m) = received r (Heard m)
+abbrev pub intake_on_hearing : Receiver → Option (Message (List ℕ)) → ReceivingResult
+intake_on_hearing r None = (r, None)
+intake_on_hearing r (Some m) = receiving_step r (Heard m)
 
 -- the answer is given to the core, and what it names then is sent
-abbrev pub on_answer : Intake → Made → Ask → Received → Done Receiver
-on_answer w made ask left =
-    record { core = left.0; asked = (ask, made.outcome) ∷ []; sent = packets_in left.1; handed = around_call (worker.Receiver w.peer) made }
+abbrev pub intake_on_answer : Intake → Made → Ask → ReceivingResult → Done Receiver
+intake_on_answer w made ask left = record {
+  core = left.0;
+  asked = (ask, made.outcome) ∷ [];
+  sent = intake_packets left.1;
+  handed = around_call (worker.Receiver w.peer) made;
+}
 
 -- the call is made, unless memory was refused for its payload: then the core is told so
-abbrev pub on_call : Intake → Made → Receiver → Ask → Bool → Done Receiver
-on_call w made r ask true = nothing_done (received r (Answered (answer.Refused refusal.OutOfMemory))).0
-on_call w made r ask false = on_answer w made ask (received r (event_of made.outcome))
+abbrev pub intake_on_call : Intake → Made → Receiver → Ask → Bool → Done Receiver
+intake_on_call w made r ask true = nothing_done (receiving_step r (Answered (answer.Refused refusal.OutOfMemory))).0
+intake_on_call w made r ask false = intake_on_answer w made ask (receiving_step r (intake_event made.outcome))
 
 -- the number and the payload of the datagram that an action takes
 abbrev pub datagram_in : Option (InAction (List ℕ)) → Option (ℕ × List ℕ)
@@ -92,18 +101,19 @@ lacks_memory made [] = false
 lacks_memory made (byte ∷ payload) = made.refused
 
 -- the core's Take is asked
-abbrev pub on_take : Intake → ℕ → Made → Receiver → Option (ℕ × List ℕ) → Done Receiver
-on_take w now made r (Some taken) = on_call w made r (take_of w now taken.0 taken.1) (lacks_memory made taken.1)
-on_take w now made r None = nothing_done r
+abbrev pub intake_on_take : Intake → ℕ → Made → Receiver → Option (ℕ × List ℕ) → Done Receiver
+intake_on_take w now made r (Some taken) =
+    intake_on_call w made r (take_ask w now taken.0 taken.1) (lacks_memory made taken.1)
+intake_on_take w now made r None = nothing_done r
 
-abbrev pub on_action : Intake → ℕ → Made → Receiver → Option (InAction (List ℕ)) → Done Receiver
-on_action w now made r action = on_take w now made r (datagram_in action)
+abbrev pub intake_on_action : Intake → ℕ → Made → Receiver → Option (InAction (List ℕ)) → Done Receiver
+intake_on_action w now made r action = intake_on_take w now made r (datagram_in action)
 
 -- one turn, behind its start
 abbrev pub intake_done : Intake → Receiver → Given → Done Receiver
 intake_done w r given =
-    let heard = on_hearing r (message_in given.heard) in on_action w given.now given.made heard.0 heard.1
+    let heard = intake_on_hearing r (message_in given.heard) in intake_on_action w given.now given.made heard.0 heard.1
 
 -- one turn
 abbrev pub intake_turn : Intake → Receiver → Given → Done Receiver
-intake_turn w r given = started (worker.Receiver w.peer) given (intake_done w r given)
+intake_turn w r given = with_start (worker.Receiver w.peer) given (intake_done w r given)

@@ -4,4 +4,5 @@ pub mod Intake
 pub mod Outlet
 pub mod Runs
 pub mod Memory
+pub mod HelpersTurns
 pub mod Relay

@@ -7,45 +7,50 @@ use Rattle.rly_hop.specs.Receiving.{receiver}
 use Rattle.rly_hop.specs.Sending.{sender}
 use Rattle.rly_line.specs.EndViews.{EndView, new_teller}
 use Rattle.rly_line.specs.Submission.{LineId}
-use Rattle.rly_plan.specs.ContactPlan.{ContactPlan, hop_at, peer_at}
+use Rattle.rly_plan.specs.ContactPlan.{ContactPlan, next_hop_at, peer_at}
 use Rattle.rly_threads.specs.declared.relay.Post.{Post}
 use Rattle.rly_threads.specs.declared.turn.Worker.{Worker}
 use Rattle.rly_threads.specs.declared.turn.Worker.TheVariants as worker
 use Rattle.rly_threads.specs.Intake.{intake, intake_turn}
 use Rattle.rly_threads.specs.Outlet.{outlet, outlet_turn, ticking}
-use Rattle.rly_threads.specs.Runs.{Ran, Told}
+use Rattle.rly_threads.specs.Runs.{Ran, EndsView}
 use Rattle.rly_threads.specs.Turns.{Given, Handed, done_in}
 
 -- the end of a new line of so many seats, which has room for a call of each
 abbrev pub new_end : LineId → ℕ → EndView
 new_end line seats = record { of = line; capacity = seats; taken = []; lines = map new_teller (range_with_len 0 seats) }
 
--- a receiver of a peer of the plan, from its start to its end: it asked and sent what its core names for what it was given, in order,
--- and nothing else
-abbrev pub HasReceived : ContactPlan → PeerId → Told → Told → Type 0
+-- a receiver of a peer of the plan, from its start to its end: it asked and sent what its core names for what it was
+-- given, in order, and nothing else
+abbrev pub HasReceived : ContactPlan → PeerId → EndsView → EndsView → Type 0
 HasReceived plan peer old new =
     IfSome (peer_at plan peer) (λ neighbour. (turns : List Given)
     × Ran old new (worker.Receiver peer) turns
-    (done_in (intake_turn (intake plan peer)) (receiver (record { 0 = plan.station }) (record { 0 = neighbour.station })) turns))
+    (done_in (intake_turn (intake plan peer))
+    (receiver (record { 0 = plan.station }) (record { 0 = neighbour.station })) turns))
 
 -- the same of a sender to a hop of the plan, which may have so many datagrams in flight
-abbrev pub HasSent : ContactPlan → ℕ → HopId → Told → Told → Type 0
+abbrev pub HasSent : ContactPlan → ℕ → HopId → EndsView → EndsView → Type 0
 HasSent plan window hop old new =
-    IfSome (hop_at plan hop) (λ neighbour. (turns : List Given)
+    IfSome (next_hop_at plan hop) (λ neighbour. (turns : List Given)
     × Ran old new (worker.Sender hop) turns
-    (done_in (outlet_turn (outlet plan hop)) (ticking (sender (record { 0 = plan.station }) (record { 0 = neighbour.station }) window) 0) turns))
+    (done_in (outlet_turn (outlet plan hop))
+    (ticking (sender (record { 0 = plan.station }) (record { 0 = neighbour.station }) window) 0) turns))
 
-abbrev pub HasWorked : ContactPlan → ℕ → Worker → Told → Told → Type 0
+abbrev pub HasWorked : ContactPlan → ℕ → Worker → EndsView → EndsView → Type 0
 HasWorked plan window (worker.Receiver peer) old new = HasReceived plan peer old new
 HasWorked plan window (worker.Sender hop) old new = HasSent plan window hop old new
 
 -- what the link and the turns at a post tell; a seat tells nothing
-abbrev pub told_at : Option (List (Option (List ℕ))) → Option (List (List ℕ)) → Option (List Handed) → Told
+abbrev pub told_at : Option (List (Option (List ℕ))) → Option (List (List ℕ)) → Option (List Handed) → EndsView
 told_at heard sent handed = record { heard = heard; sent = sent; asked = None; handed = handed }
 
 -- a post of a worker that ended, beside what it was
-abbrev pub HasEnded : {L T : Type 0} → (L → Option (List (Option (List ℕ)))) → (L → Option (List (List ℕ))) → (T → Option (List Handed))
+abbrev pub HasEnded : {L T : Type 0}
+    → (L → Option (List (Option (List ℕ)))) → (L → Option (List (List ℕ))) → (T → Option (List Handed))
     → ContactPlan → ℕ → Post L T → Post L T → Type 0
 HasEnded heard sent handed plan window post ended =
     (ended.worker ≡ post.worker)
-    × HasWorked plan window post.worker (told_at (heard post.link) (sent post.link) (handed post.turn)) (told_at (heard ended.link) (sent ended.link) (handed ended.turn))
+    × HasWorked plan window post.worker
+    (told_at (heard post.link) (sent post.link) (handed post.turn))
+    (told_at (heard ended.link) (sent ended.link) (handed ended.turn))

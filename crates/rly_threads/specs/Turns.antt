@@ -14,22 +14,23 @@ use Rattle.rly_threads.specs.declared.turn.Point.TheVariants as point
 use Rattle.rly_threads.specs.declared.turn.Worker.{Worker}
 
 -- what became of a call
-abbrev pub Outcome : Type 0
-Outcome = Result Answer CallError
+abbrev pub CallOutcome : Type 0
+CallOutcome = Result Answer CallError
 
 -- what a worker was handed, where
 abbrev pub Handed : Type 0
 Handed = Worker × Point × Go
 
--- What became of the call that a worker made in a turn, if it made one, and what it was handed before it and behind it. Where
--- memory was refused for the bytes of a payload the call was not made.
+-- What became of the call that a worker made in a turn, if it made one, and what it was handed before it and behind it.
+-- Where memory was refused for the bytes of a payload the call was not made.
 pub record Made : Type 0 where
   pub refused : Bool
-  pub outcome : Outcome
+  pub outcome : CallOutcome
   pub before : Go
   pub behind : Go
 
--- what a worker was given in a turn: its moment, the packet that its link gave, if it gave one, and what became of its call
+-- what a worker was given in a turn: its moment, the packet that its link gave, if it gave one, and what became of its
+-- call
 pub record Given : Type 0 where
   pub now : ℕ
   pub heard : Option (List ℕ)
@@ -38,7 +39,7 @@ pub record Given : Type 0 where
 -- what a worker did: the state that it is left in, what it asked, what it sent, and where it was handed what
 pub record Done (C : Type 0) : Type 0 where
   pub core : C
-  pub asked : List (Ask × Outcome)
+  pub asked : List (Ask × CallOutcome)
   pub sent : List (List ℕ)
   pub handed : List Handed
 
@@ -47,13 +48,18 @@ abbrev pub nothing_done : {C : Type 0} → C → Done C
 nothing_done c = record { core = c; asked = []; sent = []; handed = [] }
 
 -- it did this, and then that
-abbrev pub joined : {C : Type 0} → Done C → Done C → Done C
-joined d e = record { core = e.core; asked = d.asked ++ e.asked; sent = d.sent ++ e.sent; handed = d.handed ++ e.handed }
+abbrev pub done_both : {C : Type 0} → Done C → Done C → Done C
+done_both d e = record {
+  core = e.core;
+  asked = d.asked ++ e.asked;
+  sent = d.sent ++ e.sent;
+  handed = d.handed ++ e.handed;
+}
 
 -- what it does in turn after turn, where it does so in one
 abbrev pub done_in : {C : Type 0} → (C → Given → Done C) → C → List Given → Done C
 done_in act c [] = nothing_done c
-done_in act c (given ∷ turns) = joined (act c given) (done_in act (act c given).core turns)
+done_in act c (given ∷ turns) = done_both (act c given) (done_in act (act c given).core turns)
 
 -- the message in what a link gave, if it is one
 abbrev pub message_in : Option (List ℕ) → Option (Message (List ℕ))
@@ -70,8 +76,13 @@ abbrev pub packets_of : Message (List ℕ) → List (List ℕ)
 packets_of m = packet_unless (unwritable m) (spelling m)
 
 -- what a worker does in a turn, behind what it was handed at its start
-abbrev pub started : {C : Type 0} → Worker → Given → Done C → Done C
-started worker given d = record { core = d.core; asked = d.asked; sent = d.sent; handed = (worker, point.Start, record { now = given.now; on = true }) ∷ d.handed }
+abbrev pub with_start : {C : Type 0} → Worker → Given → Done C → Done C
+with_start worker given d = record {
+  core = d.core;
+  asked = d.asked;
+  sent = d.sent;
+  handed = (worker, point.Start, record { now = given.now; on = true }) ∷ d.handed;
+}
 
 -- what a worker is handed before a call and behind it
 abbrev pub around_call : Worker → Made → List Handed

@@ -1,10 +1,10 @@
 // The interface of what answers a worker's calls.
 ghost use Rattle.std.specs.Prelude.{◌≡◌, ◌^◌, ◌≤◌, ◌⊎◌, ◌∷◌, [], true, IfErr, IfOk, List, Option, Result, length};
 ghost use Rattle.rly_line.specs.declared.call_error.CallError.{CallError as AnError};
-ghost use Rattle.rly_line.specs.Seats.{Answered, IsClosed, IsUnanswered};
+ghost use Rattle.rly_line.specs.Seats.{IsAnsweredWith, IsNotPut, IsUnanswered};
 ghost use Rattle.rly_machine.specs.declared.call.Answer.{Answer as AnAnswer};
 ghost use Rattle.rly_machine.specs.declared.command.Ask.{Ask as AnAsk};
-ghost use Rattle.rly_threads.specs.Ends.{Tells};
+ghost use Rattle.rly_threads.specs.Ends.{TellsMore};
 
 use rly_line::{CallError, Seat};
 use rly_machine::{Answer, Ask};
@@ -17,7 +17,7 @@ pub trait Desk {
 
     /// Asks, and waits for the answer.
     fn call<R: Wait>(&mut self, rt: &R, ask: Ask) -> Result<Answer, CallError>
-        ensures { Tells (asked self.old) (asked self.new) ((ask, result) ∷ []) };
+        ensures { TellsMore (asked self.old) (asked self.new) ((ask, result) ∷ []) };
 }
 
 impl Desk for Seat {
@@ -26,9 +26,9 @@ impl Desk for Seat {
     ghost asked = { λ _. None };
 
     fn call<R: Wait>(&mut self, rt: &R, ask: Ask) -> Result<Answer, CallError>
-        ensures ok { IfOk result (λ answer. Answered self.old ask answer self.new) }
+        ensures ok { IfOk result (λ answer. IsAnsweredWith self.old ask answer self.new) }
         ensures err { IfErr result (λ error. IsUnanswered self.old ask error self.new) }
-        ensures shut { (self.old.shut ≡ true) ⊎ (2 ^ 52 ≤ length self.old.put) → IsClosed result }
+        ensures shut { (self.old.shut ≡ true) ⊎ (2 ^ 52 ≤ length self.old.put) → IsNotPut result }
     {
         Seat::call(self, rt, ask)
     }

@@ -3,7 +3,7 @@ ghost use Rattle.std.specs.Option.{option_map};
 ghost use Rattle.rly_hop.specs.Payloads.{message_bytes};
 ghost use Rattle.rly_threads.specs.declared.turn.Go.{Go as AGo};
 ghost use Rattle.rly_threads.specs.declared.turn.Point.{Point as APoint};
-ghost use Rattle.rly_threads.specs.Ends.{Tells, packet_in};
+ghost use Rattle.rly_threads.specs.Ends.{TellsMore, packet_in};
 ghost use Rattle.rly_threads.specs.Turns.{message_in, packets_of};
 
 use crate::desk::Desk;
@@ -30,9 +30,9 @@ pub struct Ends<L: Link, K: Desk, T: Turn> {
 }
 
 impl<L: Link, K: Desk, T: Turn> Model for Ends<L, K, T> {
-    ghost use Rattle.rly_threads.specs.Runs.{Told};
+    ghost use Rattle.rly_threads.specs.Runs.{EndsView};
 
-    ghost Value = { Told };
+    ghost Value = { EndsView };
 
     ghost view = { λ e. record { heard = L.heard e.link; sent = L.sent e.link; asked = K.asked e.desk; handed = T.told e.turn } };
 }
@@ -40,7 +40,7 @@ impl<L: Link, K: Desk, T: Turn> Model for Ends<L, K, T> {
 impl<L: Link, K: Desk, T: Turn> Ends<L, K, T> {
     /// A worker has come to a point.
     pub(crate) fn between<R: Wait>(&mut self, rt: &R, worker: Worker, point: Point) -> Go
-        ensures told { Tells self.old.handed self.new.handed ((worker, point, result) ∷ []) }
+        ensures told { TellsMore self.old.handed self.new.handed ((worker, point, result) ∷ []) }
         ensures same { self.new ≡ record self.old { handed = self.new.handed } }
     {
         self.turn.between(rt, worker, point)
@@ -50,7 +50,7 @@ impl<L: Link, K: Desk, T: Turn> Ends<L, K, T> {
     /// that fails gave nothing.
     pub(crate) fn hear(&mut self, buffer: &mut [u8]) -> Option<usize>
         ensures bound { IfSome result (λ count. count ≤ length buffer.new) }
-        ensures told { Tells self.old.heard self.new.heard (packet_in result buffer.new ∷ []) }
+        ensures told { TellsMore self.old.heard self.new.heard (packet_in result buffer.new ∷ []) }
         ensures same { self.new ≡ record self.old { heard = self.new.heard } }
     {
         match self.link.recv(buffer) {
@@ -62,7 +62,7 @@ impl<L: Link, K: Desk, T: Turn> Ends<L, K, T> {
     /// Sends a message that has a spelling. Where the link fails nothing is left to do: what is sent may be lost on
     /// its way as well.
     pub(crate) fn send(&mut self, message: Message<&[u8]>)
-        ensures told { Tells self.old.sent self.new.sent (packets_of (message_bytes message.entry)) }
+        ensures told { TellsMore self.old.sent self.new.sent (packets_of (message_bytes message.entry)) }
         ensures same { self.new ≡ record self.old { sent = self.new.sent } }
     {
         let mut packet = [0; MAX_MESSAGE];
@@ -79,9 +79,9 @@ impl<L: Link, K: Desk, T: Turn> Ends<L, K, T> {
         worker: Worker,
         ask: Ask,
     ) -> Result<Answer, CallError>
-        ensures asked { Tells self.old.asked self.new.asked ((ask, result) ∷ []) }
+        ensures asked { TellsMore self.old.asked self.new.asked ((ask, result) ∷ []) }
         ensures told { (before : AGo) × (behind : AGo)
-            × Tells self.old.handed self.new.handed ((worker, APoint.Call, before) ∷ (worker, APoint.Answered, behind) ∷ []) }
+            × TellsMore self.old.handed self.new.handed ((worker, APoint.Call, before) ∷ (worker, APoint.Answered, behind) ∷ []) }
         ensures same { self.new ≡ record self.old { asked = self.new.asked; handed = self.new.handed } }
     {
         self.between(rt, worker, Point::Call);

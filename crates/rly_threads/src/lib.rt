@@ -8,8 +8,19 @@
 //! that they run side by side is shown by tests alone. The program calls it.
 #![tactic(auto)]
 
+/// As `assert!`, by one call: the prover then sees one way on where `assert!` has two. `assert!` stands where a later call needs
+/// what was asserted, and where the text names a row.
+#[cfg(test)]
+macro_rules! expect {
+    ($rt:expr; $cond:expr $(,)?) => {
+        crate::expect::expect(&$rt, $cond, stringify!($cond))
+    };
+}
+
 mod desk;
 mod ends;
+#[cfg(test)]
+mod expect;
 mod link;
 mod mem_desk;
 mod mem_link;

@@ -1,6 +1,6 @@
 // The interface of a link to one neighbour.
 ghost use Rattle.std.specs.Prelude.{◌≡◌, ◌≤◌, ◌∷◌, [], IfOk, IfSome, List, OnErr, OnOk, Option, length, ℕ};
-ghost use Rattle.rly_threads.specs.Ends.{Rose, Tells, packet_of};
+ghost use Rattle.rly_threads.specs.Ends.{FailuresRose, TellsMore, packet_of};
 
 /// A call of a link failed.
 #[derive(Clone, Copy, Debug, PartialEq, Eq, Drop)]
@@ -21,16 +21,16 @@ pub trait Link {
     /// doesn't fit into the buffer is lost.
     fn recv(&mut self, buffer: &mut [u8]) -> Result<Option<usize>, LinkFault>
         ensures bound { IfOk result (λ found. IfSome found (λ count. count ≤ length buffer.new)) }
-        ensures heard { Tells (heard self.old) (heard self.new) (packet_of result buffer.new ∷ []) }
+        ensures heard { TellsMore (heard self.old) (heard self.new) (packet_of result buffer.new ∷ []) }
         ensures sent { sent self.new ≡ sent self.old }
-        ensures rise { OnErr result (Rose (failed self.old) (failed self.new)) }
+        ensures rise { OnErr result (FailuresRose (failed self.old) (failed self.new)) }
         ensures no_failure { OnOk result (failed self.new ≡ failed self.old) };
 
     /// Sends a packet, which may be lost on its way.
     fn send(&mut self, packet: &[u8]) -> Result<(), LinkFault>
-        ensures sent { Tells (sent self.old) (sent self.new) (packet.now ∷ []) }
+        ensures sent { TellsMore (sent self.old) (sent self.new) (packet.now ∷ []) }
         ensures heard { heard self.new ≡ heard self.old }
-        ensures rise { OnErr result (Rose (failed self.old) (failed self.new)) }
+        ensures rise { OnErr result (FailuresRose (failed self.old) (failed self.new)) }
         ensures no_failure { OnOk result (failed self.new ≡ failed self.old) };
 
     /// How many of its calls failed. The count has 64 bits: where it stands at its last value each call fails.

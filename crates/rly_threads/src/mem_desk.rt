@@ -1,7 +1,7 @@
 //! A desk in memory. In proofs it tells all that it was asked and answered.
 
 ghost use Rattle.std.specs.Prelude.{◌≡◌, []};
-ghost use Rattle.rly_threads.specs.Memory.{IsReply};
+ghost use Rattle.rly_threads.specs.HelpersTurns.{IsReply};
 
 use crate::desk::Desk;
 use http_server::Log;

@@ -1,8 +1,8 @@
 //! A link in memory. In proofs it tells all that it gave and was given.
 
 ghost use Rattle.std.specs.Prelude.{◌≡◌, ◌≤◌, [], IfOk, IfSome, OnErr, OnOk, length};
-ghost use Rattle.rly_threads.specs.Ends.{Rose};
-ghost use Rattle.rly_threads.specs.Memory.{bytes_of, heard_of, sent_of};
+ghost use Rattle.rly_threads.specs.Ends.{FailuresRose};
+ghost use Rattle.rly_threads.specs.Memory.{log_bytes, heard_of, sent_of};
 
 use crate::link::{Link, LinkFault};
 use http_server::Log;
@@ -71,7 +71,7 @@ impl MemLink {
     /// Counts a call that failed.
     fn fail(&mut self) -> LinkFault
         ensures same { self.new ≡ record self.old { failures = self.new.failures } }
-        ensures rise { Rose self.old.failures self.new.failures }
+        ensures rise { FailuresRose self.old.failures self.new.failures }
     {
         self.failures = self.failures.saturating_add(1);
         LinkFault
@@ -82,7 +82,7 @@ impl MemLink {
         ensures bound { IfOk result (λ found. IfSome found (λ count. count ≤ length buffer.new)) }
         ensures heard { self.new.heard ≡ self.old.heard }
         ensures sent { self.new.sent ≡ self.old.sent }
-        ensures rise { OnErr result (Rose self.old.failures self.new.failures) }
+        ensures rise { OnErr result (FailuresRose self.old.failures self.new.failures) }
         ensures no_failure { OnOk result (self.new.failures ≡ self.old.failures) }
     {
         let place = self.next;
@@ -147,7 +147,7 @@ fn copied(packet: &[u8], buffer: &mut [u8]) -> usize
 
 /// These bytes, in proofs alone.
 fn bytes_in(packet: &[u8]) -> Bytes
-    ensures { bytes_of result ≡ packet.now }
+    ensures { log_bytes result ≡ packet.now }
 {
     let mut bytes = Log::new();
     for byte in packet {

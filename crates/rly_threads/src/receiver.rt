@@ -1,11 +1,11 @@
 ghost use Rattle.std.specs.Prelude.{◌≡◌, ◌∷◌, [], false};
 ghost use Rattle.std.specs.Option.{option_map};
 ghost use Rattle.rly_hop.specs.Payloads.{in_action_bytes, in_event_bytes, message_bytes};
-ghost use Rattle.rly_hop.specs.Receiving.{received};
-ghost use Rattle.rly_threads.specs.Ends.{Tells};
-ghost use Rattle.rly_threads.specs.Intake.{answer_in, datagram_in, event_of, hop_of, intake, intake_done, on_action, on_answer, on_hearing, packets_in, take_of};
+ghost use Rattle.rly_hop.specs.Receiving.{receiving_step};
+ghost use Rattle.rly_threads.specs.Ends.{TellsMore};
+ghost use Rattle.rly_threads.specs.Intake.{answer_in, datagram_in, intake_event, hop_of_payload, intake, intake_done, intake_on_action, intake_on_answer, intake_on_hearing, intake_packets, take_ask};
 ghost use Rattle.rly_threads.specs.Relay.{HasReceived};
-ghost use Rattle.rly_threads.specs.Runs.{Did, Grew};
+ghost use Rattle.rly_threads.specs.HelpersTurns.{Did, Grew};
 ghost use Rattle.rly_threads.specs.Turns.{Given, Made};
 
 use crate::desk::Desk;
@@ -81,8 +81,8 @@ impl<'a> Intake<'a> {
     fn hear<'b>(&mut self, message: Option<Message<&'b [u8]>>) -> Option<InAction<&'b [u8]>>
         ensures plan { self.new.plan ≡ self.old.plan }
         ensures peer { self.new.peer ≡ self.old.peer }
-        ensures core { self.new.core ≡ (on_hearing self.old.core (option_map message_bytes message.entry)).0 }
-        ensures action { option_map in_action_bytes result ≡ (on_hearing self.old.core (option_map message_bytes message.entry)).1 }
+        ensures core { self.new.core ≡ (intake_on_hearing self.old.core (option_map message_bytes message.entry)).0 }
+        ensures action { option_map in_action_bytes result ≡ (intake_on_hearing self.old.core (option_map message_bytes message.entry)).1 }
     {
         self.core.step(InEvent::Heard(message?))
     }
@@ -99,14 +99,14 @@ impl<'a> Intake<'a> {
         ensures plan { self.new.plan ≡ self.old.plan }
         ensures peer { self.new.peer ≡ self.old.peer }
         ensures done { (made : Made) × Did ends.old ends.new self.new.core
-            (on_action (intake self.old.plan.now self.old.peer) now made self.old.core (option_map in_action_bytes action.entry)) }
+            (intake_on_action (intake self.old.plan.now self.old.peer) now made self.old.core (option_map in_action_bytes action.entry)) }
     {
         let Some((number, payload)) = datagram_in(action) else {
             return;
         };
         match Payload::copy_of(alloc, payload) {
             Ok(payload) => {
-                let ask = self.take_of(now, number, payload);
+                let ask = self.take_ask(now, number, payload);
                 self.ask(rt, ask, ends);
             }
             Err(_) => {
@@ -126,18 +126,18 @@ impl<'a> Intake<'a> {
         ensures plan { self.new.plan ≡ self.old.plan }
         ensures peer { self.new.peer ≡ self.old.peer }
         ensures done { (made : Made) × (made.refused ≡ false) × Did ends.old ends.new self.new.core
-            (on_answer (intake self.old.plan.now self.old.peer) made ask (received self.old.core (event_of made.outcome))) }
+            (intake_on_answer (intake self.old.plan.now self.old.peer) made ask (receiving_step self.old.core (intake_event made.outcome))) }
     {
         let outcome = ends.call(rt, Worker::Receiver(self.peer), ask);
-        let action = self.core.step(event_of(&outcome));
+        let action = self.core.step(intake_event(&outcome));
         send_named(action, ends);
     }
 
     /// The command that takes a datagram which arrived under a number.
-    fn take_of(&self, now: u64, number: u64, payload: Payload) -> Ask
-        ensures { result ≡ take_of (intake self.now.plan.now self.now.peer) now number payload }
+    fn take_ask(&self, now: u64, number: u64, payload: Payload) -> Ask
+        ensures { result ≡ take_ask (intake self.now.plan.now self.now.peer) now number payload }
     {
-        let hop = hop_of(self.plan, payload.as_slice());
+        let hop = hop_of_payload(self.plan, payload.as_slice());
         Ask::Command(Command::Take {
             peer: self.peer,
             number,
@@ -161,7 +161,7 @@ fn datagram_in<'a>(action: Option<InAction<&'a [u8]>>) -> Option<(u64, &'a [u8])
 
 /// Sends the message that an action names, if it names one.
 fn send_named<L: Link, K: Desk, T: Turn>(action: Option<InAction<&[u8]>>, ends: &mut Ends<L, K, T>)
-    ensures told { Tells ends.old.sent ends.new.sent (packets_in (option_map in_action_bytes action.entry)) }
+    ensures told { TellsMore ends.old.sent ends.new.sent (intake_packets (option_map in_action_bytes action.entry)) }
     ensures same { ends.new ≡ record ends.old { sent = ends.new.sent } }
 {
     match action {
@@ -171,8 +171,8 @@ fn send_named<L: Link, K: Desk, T: Turn>(action: Option<InAction<&[u8]>>, ends: 
 }
 
 /// The hop that a payload goes to, by its first two bytes: hop 0, which is none, where it has fewer or there is no route.
-fn hop_of(plan: &Plan, payload: &[u8]) -> HopId
-    ensures { result ≡ hop_of plan.now payload.now }
+fn hop_of_payload(plan: &Plan, payload: &[u8]) -> HopId
+    ensures { result ≡ hop_of_payload plan.now payload.now }
 {
     if payload.len() < 2 {
         return HopId(0);
@@ -182,8 +182,8 @@ fn hop_of(plan: &Plan, payload: &[u8]) -> HopId
 }
 
 /// What the core is told of its Take.
-fn event_of<'a>(outcome: &Result<Answer, CallError>) -> InEvent<&'a [u8]>
-    ensures { in_event_bytes result ≡ event_of outcome.now }
+fn intake_event<'a>(outcome: &Result<Answer, CallError>) -> InEvent<&'a [u8]>
+    ensures { in_event_bytes result ≡ intake_event outcome.now }
 {
     match outcome {
         Ok(answer) => InEvent::Answered(answer_in(&answer.reply)),

@@ -1,11 +1,11 @@
 ghost use Rattle.std.specs.Prelude.{◌≡◌, ◌<◌, ◌∷◌, []};
 ghost use Rattle.std.specs.Option.{option_map};
 ghost use Rattle.rly_hop.specs.Payloads.{message_bytes, out_action_bytes, out_event_bytes};
-ghost use Rattle.rly_hop.specs.Sending.{sent};
-ghost use Rattle.rly_threads.specs.Ends.{Tells};
-ghost use Rattle.rly_threads.specs.Outlet.{ask_of, event_in, event_of, on_action, on_answer, on_hearing, outlet, outlet_done, packets_in, tick, ticking};
+ghost use Rattle.rly_hop.specs.Sending.{sending_step};
+ghost use Rattle.rly_threads.specs.Ends.{TellsMore};
+ghost use Rattle.rly_threads.specs.Outlet.{named_ask, event_in, outlet_event, outlet_on_action, outlet_on_answer, outlet_on_hearing, outlet, outlet_done, outlet_packets, tick, ticking};
 ghost use Rattle.rly_threads.specs.Relay.{HasSent};
-ghost use Rattle.rly_threads.specs.Runs.{Did, Grew};
+ghost use Rattle.rly_threads.specs.HelpersTurns.{Did, Grew};
 ghost use Rattle.rly_threads.specs.Turns.{Given, Made};
 
 use crate::desk::Desk;
@@ -96,7 +96,7 @@ impl<'a> Outlet<'a> {
         ensures plan { self.new.plan ≡ self.old.plan }
         ensures hop { self.new.hop ≡ self.old.hop }
         ensures turns { self.new.turns ≡ self.old.turns }
-        ensures core { self.new.core ≡ on_hearing self.old.core (option_map message_bytes message.entry) }
+        ensures core { self.new.core ≡ outlet_on_hearing self.old.core (option_map message_bytes message.entry) }
     {
         if let Some(message) = message {
             let _nothing = self.core.step(OutEvent::Heard(message));
@@ -115,12 +115,12 @@ impl<'a> Outlet<'a> {
         ensures hop { self.new.hop ≡ self.old.hop }
         ensures turns { self.new.turns ≡ self.old.turns }
         ensures done { (made : Made) × Did ends.old ends.new self.new.core
-            (on_action (outlet self.old.plan.now self.old.hop) now made self.old.core (option_map out_action_bytes action.entry)) }
+            (outlet_on_action (outlet self.old.plan.now self.old.hop) now made self.old.core (option_map out_action_bytes action.entry)) }
     {
         let Some(action) = action else {
             return;
         };
-        let Some(ask) = self.ask_of(now, action) else {
+        let Some(ask) = self.named_ask(now, action) else {
             return;
         };
         self.ask(rt, action, ask, ends);
@@ -138,10 +138,10 @@ impl<'a> Outlet<'a> {
         ensures hop { self.new.hop ≡ self.old.hop }
         ensures turns { self.new.turns ≡ self.old.turns }
         ensures done { (made : Made) × Did ends.old ends.new self.new.core
-            (on_answer (outlet self.old.plan.now self.old.hop) made ask (sent self.old.core (event_of (out_action_bytes action.entry) made.outcome))) }
+            (outlet_on_answer (outlet self.old.plan.now self.old.hop) made ask (sending_step self.old.core (outlet_event (out_action_bytes action.entry) made.outcome))) }
     {
         let outcome = ends.call(rt, Worker::Sender(self.hop), ask);
-        let named = self.core.step(event_of(action, &outcome));
+        let named = self.core.step(outlet_event(action, &outcome));
         send_named(named, ends);
     }
 
@@ -161,8 +161,8 @@ impl<'a> Outlet<'a> {
     }
 
     /// The call that an action of the core's turn names.
-    fn ask_of(&self, now: u64, action: OutAction<&[u8]>) -> Option<Ask>
-        ensures { result ≡ ask_of (outlet self.now.plan.now self.now.hop) now (out_action_bytes action.entry) }
+    fn named_ask(&self, now: u64, action: OutAction<&[u8]>) -> Option<Ask>
+        ensures { result ≡ named_ask (outlet self.now.plan.now self.now.hop) now (out_action_bytes action.entry) }
     {
         let hop = self.hop;
         match action {
@@ -180,7 +180,7 @@ impl<'a> Outlet<'a> {
 
 /// Sends the message that an action names, if it names one.
 fn send_named<L: Link, K: Desk, T: Turn>(action: Option<OutAction<&[u8]>>, ends: &mut Ends<L, K, T>)
-    ensures told { Tells ends.old.sent ends.new.sent (packets_in (option_map out_action_bytes action.entry)) }
+    ensures told { TellsMore ends.old.sent ends.new.sent (outlet_packets (option_map out_action_bytes action.entry)) }
     ensures same { ends.new ≡ record ends.old { sent = ends.new.sent } }
 {
     match action {
@@ -190,11 +190,11 @@ fn send_named<L: Link, K: Desk, T: Turn>(action: Option<OutAction<&[u8]>>, ends:
 }
 
 /// What the core is told of a call that it named.
-fn event_of<'a>(
+fn outlet_event<'a>(
     action: OutAction<&[u8]>,
     outcome: &'a Result<Answer, CallError>,
 ) -> OutEvent<&'a [u8]>
-    ensures { out_event_bytes result ≡ event_of (out_action_bytes action.entry) outcome.now }
+    ensures { out_event_bytes result ≡ outlet_event (out_action_bytes action.entry) outcome.now }
 {
     match outcome {
         Ok(answer) => event_in(action, &answer.reply),

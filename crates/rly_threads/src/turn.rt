@@ -3,7 +3,7 @@ ghost use Rattle.std.specs.Prelude.{◌∷◌, [], List, Option};
 ghost use Rattle.rly_threads.specs.declared.turn.Go.{Go as AGo};
 ghost use Rattle.rly_threads.specs.declared.turn.Point.{Point as APoint};
 ghost use Rattle.rly_threads.specs.declared.turn.Worker.{Worker as AWorker};
-ghost use Rattle.rly_threads.specs.Ends.{Tells};
+ghost use Rattle.rly_threads.specs.Ends.{TellsMore};
 
 use rly_core::{HopId, PeerId};
 use std::sync::Wait;
@@ -45,5 +45,5 @@ pub trait Turn {
     /// A worker has come to this point. The moment that it is handed at `Start` is its turn's; where `on` is false
     /// there, the worker ends.
     fn between<R: Wait>(&mut self, rt: &R, worker: Worker, point: Point) -> Go
-        ensures { Tells (told self.old) (told self.new) ((worker, point, result) ∷ []) };
+        ensures { TellsMore (told self.old) (told self.new) ((worker, point, result) ∷ []) };
 }

@@ -4,7 +4,7 @@ ghost use Rattle.rly_core.specs.Refusals.{number_of};
 ghost use Rattle.rly_core.specs.declared.refusal.Refusal.{Refusal};
 ghost use Rattle.rly_hop.specs.declared.message.StationId.{StationId};
 ghost use Rattle.rly_hop.specs.declared.receiving.event.InEvent.{InEvent};
-ghost use Rattle.rly_hop.specs.Receiving.{received, receiver};
+ghost use Rattle.rly_hop.specs.Receiving.{receiver, receiving_step};
 ghost use Rattle.rly_hop.specs.ReceivingRuns.{IsCustodyDue, IsHeard, in_action_after, in_actions, last_take, receiver_after};
 
 use crate::message::Message;
@@ -42,5 +42,5 @@ pub fn law_nothing_is_named_while_an_answer_is_due()
     ensures none { (own peer : StationId) (before heard : List (InEvent (List ℕ))) (event : InEvent (List ℕ)) (n : ℕ) (payload : List ℕ) →
         in_action_after own peer before event ≡ Some (InAction.Take n payload) →
         AllByRecursion IsHeard heard →
-        AllByRecursion (λ named. named ≡ None) (in_actions (received (receiver_after (receiver own peer) before) event).0 heard) }
+        AllByRecursion (λ named. named ≡ None) (in_actions (receiving_step (receiver_after (receiver own peer) before) event).0 heard) }
 {}

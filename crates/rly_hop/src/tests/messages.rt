@@ -1,5 +1,6 @@
 use crate::{Message, StationId, read_message, write_message};
 use rly_core::Refusal;
+use std::process::Abort;
 use std::test::Fail;
 
 /// Data from station 3 to 7, number 1, payload `000c41`.
@@ -40,9 +41,9 @@ const FULL_MESSAGE: Message<&[u8]> = Message::Refused {
 
 #[test]
 fn the_worked_messages_are_read(rt: HostRuntime) -> Result<(), Fail> {
-    assert_eq!(rt; read_message(&DATA)?, DATA_MESSAGE);
-    assert_eq!(rt; read_message(&CUSTODY)?, CUSTODY_MESSAGE);
-    assert_eq!(rt; read_message(&FULL)?, FULL_MESSAGE);
+    expect!(rt; read_message(&DATA)? == DATA_MESSAGE);
+    expect!(rt; read_message(&CUSTODY)? == CUSTODY_MESSAGE);
+    expect!(rt; read_message(&FULL)? == FULL_MESSAGE);
     Ok(())
 }
 
@@ -50,15 +51,15 @@ fn the_worked_messages_are_read(rt: HostRuntime) -> Result<(), Fail> {
 fn the_worked_messages_are_written(rt: HostRuntime) -> Result<(), Fail> {
     let mut out = [0xee; 1_300];
     let length = write_message(DATA_MESSAGE, &mut out)?;
-    assert_eq!(rt; length, 21);
-    assert_eq!(rt; &out[..21], DATA.as_slice());
-    assert_eq!(rt; out[21], 0xee);
+    assert!(rt; length == 21);
+    expect!(rt; &out[..21] == DATA.as_slice());
+    expect!(rt; out[21] == 0xee);
     let length = write_message(CUSTODY_MESSAGE, &mut out)?;
-    assert_eq!(rt; length, 16);
-    assert_eq!(rt; &out[..16], CUSTODY.as_slice());
+    assert!(rt; length == 16);
+    expect!(rt; &out[..16] == CUSTODY.as_slice());
     let length = write_message(FULL_MESSAGE, &mut out)?;
-    assert_eq!(rt; length, 17);
-    assert_eq!(rt; &out[..17], FULL.as_slice());
+    assert!(rt; length == 17);
+    expect!(rt; &out[..17] == FULL.as_slice());
     Ok(())
 }
 
@@ -66,84 +67,72 @@ fn fault(bytes: &[u8]) -> Option<Refusal> {
     read_message(bytes).err()
 }
 
-#[test]
-fn faults_of_the_header(rt: HostRuntime) -> Result<(), Fail> {
-    assert_eq!(rt; fault(&[]), Some(Refusal::Short));
-    assert_eq!(rt;
-        fault(&[0x52, 0x4c, 0x01, 0x01, 0x00, 0x03, 0x00]),
-        Some(Refusal::Short)
-    );
-    assert_eq!(rt;
-        fault(&[0x52, 0x4d, 0x02, 0x07, 0, 0, 0, 0]),
-        Some(Refusal::Magic)
-    );
-    assert_eq!(rt;
-        fault(&[0x4c, 0x52, 0x01, 0x01, 0, 3, 0, 7]),
-        Some(Refusal::Magic)
-    );
-    assert_eq!(rt;
-        fault(&[0x52, 0x4c, 0x02, 0x07, 0, 0, 0, 0]),
-        Some(Refusal::Version)
-    );
-    assert_eq!(rt;
-        fault(&[0x52, 0x4c, 0x01, 0x07, 0, 0, 0, 0]),
-        Some(Refusal::Kind)
-    );
-    assert_eq!(rt;
-        fault(&[0x52, 0x4c, 0x01, 0x00, 0, 3, 0, 7]),
-        Some(Refusal::Kind)
-    );
-    assert_eq!(rt;
-        fault(&[0x52, 0x4c, 0x01, 0x02, 0, 0, 0, 7]),
-        Some(Refusal::Station)
-    );
-    assert_eq!(rt;
-        fault(&[0x52, 0x4c, 0x01, 0x02, 0, 3, 0, 0]),
-        Some(Refusal::Station)
-    );
-    Ok(())
+/// Each of these is refused so.
+fn are_refused(rt: &impl Abort, rows: &[(&[u8], Refusal)]) {
+    for (bytes, refusal) in rows {
+        assert!(rt; fault(bytes) == Some(*refusal), "{bytes:?}");
+    }
 }
 
 #[test]
-fn faults_of_the_length(rt: HostRuntime) -> Result<(), Fail> {
-    assert_eq!(rt; fault(&CUSTODY[..15]), Some(Refusal::Short));
-    assert_eq!(rt;
-        fault(&[
-            0x52, 0x4c, 0x01, 0x02, 0x00, 0x07, 0x00, 0x03, 0, 0, 0, 0, 0, 0, 0, 1, 0,
-        ]),
-        Some(Refusal::Long)
+fn faults_of_the_header(rt: HostRuntime) {
+    are_refused(
+        &rt,
+        &[
+            (&[], Refusal::Short),
+            (&[0x52, 0x4c, 0x01, 0x01, 0x00, 0x03, 0x00], Refusal::Short),
+            (&[0x52, 0x4d, 0x02, 0x07, 0, 0, 0, 0], Refusal::Magic),
+            (&[0x4c, 0x52, 0x01, 0x01, 0, 3, 0, 7], Refusal::Magic),
+            (&[0x52, 0x4c, 0x02, 0x07, 0, 0, 0, 0], Refusal::Version),
+            (&[0x52, 0x4c, 0x01, 0x07, 0, 0, 0, 0], Refusal::Kind),
+            (&[0x52, 0x4c, 0x01, 0x00, 0, 3, 0, 7], Refusal::Kind),
+            (&[0x52, 0x4c, 0x01, 0x02, 0, 0, 0, 7], Refusal::Station),
+            (&[0x52, 0x4c, 0x01, 0x02, 0, 3, 0, 0], Refusal::Station),
+        ],
     );
-    assert_eq!(rt; fault(&FULL[..16]), Some(Refusal::Short));
-    assert_eq!(rt;
-        fault(&[
-            0x52, 0x4c, 0x01, 0x03, 0x00, 0x07, 0x00, 0x03, 0, 0, 0, 0, 0, 0, 0, 1, 6, 0,
-        ]),
-        Some(Refusal::Long)
+}
+
+/// One byte more than a custody, a refusal and a Data have.
+const CUSTODY_AND_MORE: [u8; 17] = [
+    0x52, 0x4c, 0x01, 0x02, 0x00, 0x07, 0x00, 0x03, 0, 0, 0, 0, 0, 0, 0, 1, 0,
+];
+
+const FULL_AND_MORE: [u8; 18] = [
+    0x52, 0x4c, 0x01, 0x03, 0x00, 0x07, 0x00, 0x03, 0, 0, 0, 0, 0, 0, 0, 1, 6, 0,
+];
+
+const DATA_AND_MORE: [u8; 22] = [
+    0x52, 0x4c, 0x01, 0x01, 0x00, 0x03, 0x00, 0x07, 0, 0, 0, 0, 0, 0, 0, 1, 0x00, 0x03, 0x00, 0x0c,
+    0x41, 0,
+];
+
+/// Data that say that 1,201 and 1,200 bytes follow.
+const DATA_OF_1201: [u8; 21] = [
+    0x52, 0x4c, 0x01, 0x01, 0x00, 0x03, 0x00, 0x07, 0, 0, 0, 0, 0, 0, 0, 1, 0x04, 0xb1, 0x00, 0x0c,
+    0x41,
+];
+
+const DATA_OF_1200: [u8; 21] = [
+    0x52, 0x4c, 0x01, 0x01, 0x00, 0x03, 0x00, 0x07, 0, 0, 0, 0, 0, 0, 0, 1, 0x04, 0xb0, 0x00, 0x0c,
+    0x41,
+];
+
+#[test]
+fn faults_of_the_length(rt: HostRuntime) {
+    are_refused(
+        &rt,
+        &[
+            (&CUSTODY[..15], Refusal::Short),
+            (&CUSTODY_AND_MORE, Refusal::Long),
+            (&FULL[..16], Refusal::Short),
+            (&FULL_AND_MORE, Refusal::Long),
+            (&DATA[..17], Refusal::Short),
+            (&DATA[..20], Refusal::Short),
+            (&DATA_AND_MORE, Refusal::Long),
+            (&DATA_OF_1201, Refusal::Long),
+            (&DATA_OF_1200, Refusal::Short),
+        ],
     );
-    assert_eq!(rt; fault(&DATA[..17]), Some(Refusal::Short));
-    assert_eq!(rt; fault(&DATA[..20]), Some(Refusal::Short));
-    assert_eq!(rt;
-        fault(&[
-            0x52, 0x4c, 0x01, 0x01, 0x00, 0x03, 0x00, 0x07, 0, 0, 0, 0, 0, 0, 0, 1, 0x00, 0x03,
-            0x00, 0x0c, 0x41, 0,
-        ]),
-        Some(Refusal::Long)
-    );
-    assert_eq!(rt;
-        fault(&[
-            0x52, 0x4c, 0x01, 0x01, 0x00, 0x03, 0x00, 0x07, 0, 0, 0, 0, 0, 0, 0, 1, 0x04, 0xb1,
-            0x00, 0x0c, 0x41,
-        ]),
-        Some(Refusal::Long)
-    );
-    assert_eq!(rt;
-        fault(&[
-            0x52, 0x4c, 0x01, 0x01, 0x00, 0x03, 0x00, 0x07, 0, 0, 0, 0, 0, 0, 0, 1, 0x04, 0xb0,
-            0x00, 0x0c, 0x41,
-        ]),
-        Some(Refusal::Short)
-    );
-    Ok(())
 }
 
 #[test]
@@ -156,8 +145,8 @@ fn the_longest_message_is_written_and_read(rt: HostRuntime) -> Result<(), Fail> 
         payload: payload.as_slice(),
     };
     let mut out = [0; 1_218];
-    assert_eq!(rt; write_message(message, &mut out)?, 1_218);
-    assert_eq!(rt; read_message(&out)?, message);
+    expect!(rt; write_message(message, &mut out)? == 1_218);
+    expect!(rt; read_message(&out)? == message);
     Ok(())
 }
 
@@ -171,19 +160,19 @@ fn what_has_no_spelling_is_not_written(rt: HostRuntime) {
         number: 1,
         payload: payload.as_slice(),
     };
-    assert_eq!(rt; write_message(long, &mut out), Err(Refusal::Long));
+    expect!(rt; write_message(long, &mut out) == Err(Refusal::Long));
     let from_none = Message::Data {
         from: StationId(0),
         to: StationId(7),
         number: 1,
         payload: payload.as_slice(),
     };
-    assert_eq!(rt; write_message(from_none, &mut out), Err(Refusal::Station));
+    expect!(rt; write_message(from_none, &mut out) == Err(Refusal::Station));
     let to_none = Message::Custody {
         from: StationId(7),
         to: StationId(0),
         last: 1,
     };
-    assert_eq!(rt; write_message(to_none, &mut out), Err(Refusal::Station));
-    assert_eq!(rt; out[0], 0xee);
+    expect!(rt; write_message(to_none, &mut out) == Err(Refusal::Station));
+    expect!(rt; out[0] == 0xee);
 }

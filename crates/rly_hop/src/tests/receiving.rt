@@ -1,5 +1,6 @@
 use crate::{InAction, InEvent, Message, Receiving, StationId, TakeAnswer};
 use rly_core::Refusal;
+use std::process::Abort;
 
 const OWN: StationId = StationId(7);
 
@@ -8,6 +9,9 @@ const PEER: StationId = StationId(3);
 const OTHER: StationId = StationId(9);
 
 const PAYLOAD: &[u8] = &[0x00, 0x0c, 0x41];
+
+/// An event, and what a core names on it.
+type Row = (InEvent<&'static [u8]>, Option<InAction<&'static [u8]>>);
 
 fn data(from: StationId, to: StationId, number: u64) -> InEvent<&'static [u8]> {
     InEvent::Heard(Message::Data {
@@ -45,53 +49,66 @@ fn answered(answer: TakeAnswer) -> Option<InAction<&'static [u8]>> {
     waiting(5).step(InEvent::Answered(answer))
 }
 
+/// A core names this on these events, one after the other.
+fn names(rt: &impl Abort, core: &mut Receiving, rows: &[Row]) {
+    for (event, named) in rows {
+        assert!(rt; core.step(*event) == *named, "{event:?}");
+    }
+}
+
 #[test]
 fn data_of_the_peer_station_is_taken(rt: HostRuntime) {
     let mut core = Receiving::new(OWN, PEER);
-    assert_eq!(rt; core.step(data(PEER, OWN, 5)), take(5));
+    expect!(rt; core.step(data(PEER, OWN, 5)) == take(5));
 }
 
 #[test]
 fn nothing_else_is_taken(rt: HostRuntime) {
-    let mut core = Receiving::new(OWN, PEER);
-    assert_eq!(rt; core.step(data(OTHER, OWN, 5)), None);
-    assert_eq!(rt; core.step(data(PEER, OTHER, 5)), None);
-    assert_eq!(rt; core.step(data(OWN, PEER, 5)), None);
-    assert_eq!(rt;
-        core.step(InEvent::Heard(Message::Custody {
-            from: PEER,
-            to: OWN,
-            last: 5
-        })),
-        None
+    let custody = Message::Custody {
+        from: PEER,
+        to: OWN,
+        last: 5,
+    };
+    let refused = Message::Refused {
+        from: PEER,
+        to: OWN,
+        number: 5,
+        refusal: 6,
+    };
+    names(
+        &rt,
+        &mut Receiving::new(OWN, PEER),
+        &[
+            (data(OTHER, OWN, 5), None),
+            (data(PEER, OTHER, 5), None),
+            (data(OWN, PEER, 5), None),
+            (InEvent::Heard(custody), None),
+            (InEvent::Heard(refused), None),
+            (data(PEER, OWN, 6), take(6)),
+        ],
     );
-    assert_eq!(rt;
-        core.step(InEvent::Heard(Message::Refused {
-            from: PEER,
-            to: OWN,
-            number: 5,
-            refusal: 6
-        })),
-        None
-    );
-    assert_eq!(rt; core.step(data(PEER, OWN, 6)), take(6));
 }
 
 #[test]
 fn one_take_waits_at_a_time(rt: HostRuntime) {
-    let mut core = waiting(5);
-    assert_eq!(rt; core.step(data(PEER, OWN, 6)), None);
-    assert_eq!(rt; core.step(InEvent::Answered(TakeAnswer::Taken)), custody(5));
-    assert_eq!(rt; core.step(data(PEER, OWN, 6)), take(6));
+    names(
+        &rt,
+        &mut waiting(5),
+        &[
+            (data(PEER, OWN, 6), None),
+            (InEvent::Answered(TakeAnswer::Taken), custody(5)),
+            (data(PEER, OWN, 6), take(6)),
+        ],
+    );
 }
 
 #[test]
 fn custody_follows_the_answer(rt: HostRuntime) {
-    assert_eq!(rt; answered(TakeAnswer::Taken), custody(5));
-    assert_eq!(rt; answered(TakeAnswer::Already(8)), custody(8));
-    assert_eq!(rt; answered(TakeAnswer::Refused(Refusal::Gap(3))), custody(2));
-    assert_eq!(rt; answered(TakeAnswer::Refused(Refusal::Gap(1))), custody(0));
-    assert_eq!(rt; answered(TakeAnswer::Refused(Refusal::Gap(0))), None);
+    expect!(rt; answered(TakeAnswer::Taken) == custody(5));
+    expect!(rt; answered(TakeAnswer::Already(8)) == custody(8));
+    expect!(rt; answered(TakeAnswer::Refused(Refusal::Gap(3))) == custody(2));
+    expect!(rt; answered(TakeAnswer::Refused(Refusal::Gap(1))) == custody(0));
+    expect!(rt; answered(TakeAnswer::Refused(Refusal::Gap(0))) == None);
 }
 
 #[test]
@@ -105,15 +122,12 @@ fn six_refusals_are_told(rt: HostRuntime) {
         (Refusal::Spent, 15),
     ];
     for (refusal, number) in told {
-        assert_eq!(rt;
-            answered(TakeAnswer::Refused(refusal)),
-            Some(InAction::Send(Message::Refused {
+        expect!(rt; answered(TakeAnswer::Refused(refusal)) == Some(InAction::Send(Message::Refused {
                 from: OWN,
                 to: PEER,
                 number: 5,
                 refusal: number,
-            }))
-        );
+            })));
     }
 }
 
@@ -133,9 +147,9 @@ fn other_answers_are_not_told(rt: HostRuntime) {
         Refusal::Lost,
     ];
     for refusal in untold {
-        assert_eq!(rt; answered(TakeAnswer::Refused(refusal)), None);
+        expect!(rt; answered(TakeAnswer::Refused(refusal)) == None);
     }
-    assert_eq!(rt; answered(TakeAnswer::Other), None);
+    expect!(rt; answered(TakeAnswer::Other) == None);
 }
 
 /// What a core that waits for the answer to number 5 makes of Data 6 after the event.
@@ -157,17 +171,22 @@ fn every_answer_ends_the_wait(rt: HostRuntime) {
         TakeAnswer::Other,
     ];
     for answer in answers {
-        assert_eq!(rt; next_after(InEvent::Answered(answer)), take(6));
+        expect!(rt; next_after(InEvent::Answered(answer)) == take(6));
     }
-    assert_eq!(rt; waiting(5).step(InEvent::Lost), None);
-    assert_eq!(rt; next_after(InEvent::Lost), take(6));
+    expect!(rt; waiting(5).step(InEvent::Lost) == None);
+    expect!(rt; next_after(InEvent::Lost) == take(6));
 }
 
 #[test]
 fn an_answer_that_nothing_waits_for_changes_nothing(rt: HostRuntime) {
-    let mut core = Receiving::new(OWN, PEER);
-    assert_eq!(rt; core.step(InEvent::Answered(TakeAnswer::Taken)), None);
-    assert_eq!(rt; core.step(InEvent::Answered(TakeAnswer::Already(8))), None);
-    assert_eq!(rt; core.step(InEvent::Lost), None);
-    assert_eq!(rt; core.step(data(PEER, OWN, 1)), take(1));
+    names(
+        &rt,
+        &mut Receiving::new(OWN, PEER),
+        &[
+            (InEvent::Answered(TakeAnswer::Taken), None),
+            (InEvent::Answered(TakeAnswer::Already(8)), None),
+            (InEvent::Lost, None),
+            (data(PEER, OWN, 1), take(1)),
+        ],
+    );
 }

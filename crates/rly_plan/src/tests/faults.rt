@@ -20,11 +20,19 @@ fn changed(alloc: Global, old: &str, new: &str) -> Result<String, AllocError> {
     }
 }
 
+/// The answer for the whole plan with `new` in place of the first `old`.
+fn answer_to_change(alloc: Global, old: &str, new: &str) -> Result<u8, AllocError> {
+    let text = changed(alloc, old, new)?;
+    Ok(answer(alloc, text.as_str()))
+}
+
 /// Each change of the whole plan gets its answer.
 fn check_changes(rt: &impl Abort, alloc: Global, changes: &[(&str, &str, u8)]) -> Result<(), Fail> {
     for (old, new, number) in changes {
-        let text = changed(alloc, old, new)?;
-        assert_eq!(rt; answer(alloc, text.as_str()), *number, "{new} for {old}");
+        assert!(rt;
+            answer_to_change(alloc, old, new)? == *number,
+            "{new} for {old}"
+        );
     }
     Ok(())
 }
@@ -77,7 +85,7 @@ fn what_is_no_plan_is_50(rt: HostRuntime) -> Result<(), Fail> {
             ("hop = 1\n", "hop = true\n", 50),
         ],
     )?;
-    for (text, number) in [
+    for (text, number) in &[
         ("", 50),
         ("station = 7\npeer = []\n", 50),
         ("station = 7\nhop = []\n", 50),
@@ -87,7 +95,7 @@ fn what_is_no_plan_is_50(rt: HostRuntime) -> Result<(), Fail> {
         ("station = 7\npeer = []\nhop = []\nroute = 5\n", 50),
         ("station = 7\npeer = []\nhop = []\nroute = []\n", 53),
     ] {
-        assert_eq!(rt; answer(rt.alloc(), text), number, "{text}");
+        assert!(rt; answer(rt.alloc(), text) == *number, "{text}");
     }
     Ok(())
 }
@@ -141,19 +149,31 @@ fn a_number_out_of_its_range_is_53(rt: HostRuntime) -> Result<(), Fail> {
     )
 }
 
+/// The answer for the whole plan with one more neighbour of this station behind it.
+fn answer_to_neighbour(alloc: Global, tail: &str, station: u64) -> Result<u8, AllocError> {
+    let text = format!(in alloc; "{WHOLE}{tail}station = {station}\n")?;
+    Ok(answer(alloc, text.as_str()))
+}
+
+/// The answer for the whole plan with one more route to this destination behind it.
+fn answer_to_route(alloc: Global, destination: u64) -> Result<u8, AllocError> {
+    let text = format!(in alloc; "{WHOLE}[[route]]\nhop = 1\ndestination = {destination}\n")?;
+    Ok(answer(alloc, text.as_str()))
+}
+
+const PEER: &str = "[[peer]]\nid = 2\nlisten = ''\nremote = ''\n";
+
+const HOP: &str = "[[hop]]\nid = 2\nlisten = ''\nremote = ''\ncontacts = []\n";
+
 #[test]
 fn what_is_there_twice_is_52(rt: HostRuntime) -> Result<(), Fail> {
-    let peer = "[[peer]]\nid = 2\nlisten = ''\nremote = ''\n";
-    let hop = "[[hop]]\nid = 2\nlisten = ''\nremote = ''\ncontacts = []\n";
-    for (tail, first, number) in [(peer, 3, 52), (peer, 9, 0), (hop, 9, 52), (hop, 3, 0)] {
-        let text = format!(in rt.alloc(); "{WHOLE}{tail}station = {first}\n")?;
-        assert_eq!(rt; answer(rt.alloc(), text.as_str()), number, "{text}");
+    for (tail, station, number) in &[(PEER, 3, 52), (PEER, 9, 0), (HOP, 9, 52), (HOP, 3, 0)] {
+        let found = answer_to_neighbour(rt.alloc(), tail, *station)?;
+        assert!(rt; found == *number, "{tail} {station}");
     }
-    for (destination, number) in [(12, 52), (7, 0)] {
-        let text = format!(in rt.alloc();
-            "{WHOLE}[[route]]\nhop = 1\ndestination = {destination}\n"
-        )?;
-        assert_eq!(rt; answer(rt.alloc(), text.as_str()), number, "{text}");
+    for (destination, number) in &[(12, 52), (7, 0)] {
+        let found = answer_to_route(rt.alloc(), *destination)?;
+        assert!(rt; found == *number, "{destination}");
     }
     Ok(())
 }
@@ -179,26 +199,30 @@ fn neighbours(alloc: Global, count: u64, more: &str) -> Result<String, AllocErro
     Ok(text)
 }
 
+/// The answer for a plan with so many peers, hops, and contacts of each hop.
+fn answer_to_counts(alloc: Global, peers: u64, hops: u64, each: u64) -> Result<u8, AllocError> {
+    let contacts = contacts(alloc, each)?;
+    let more = format!(in alloc; ", contacts = [{contacts}]")?;
+    let peers = neighbours(alloc, peers, "")?;
+    let hops = neighbours(alloc, hops, more.as_str())?;
+    let text = format!(in alloc; "station = 7\npeer = [{peers}]\nhop = [{hops}]\n")?;
+    Ok(answer(alloc, text.as_str()))
+}
+
+/// So many peers, hops, and contacts of each hop, and the answer.
+const COUNTS: [(u64, u64, u64, u8); 5] = [
+    (64, 64, 1, 0),
+    (1, 1, 4_096, 0),
+    (65, 1, 1, 53),
+    (1, 65, 1, 53),
+    (1, 1, 4_097, 53),
+];
+
 #[test]
 fn counts_are_met_and_not_passed(rt: HostRuntime) -> Result<(), Fail> {
-    let alloc = rt.alloc();
-    for (peer_count, hop_count, contact_count, number) in [
-        (64, 64, 1, 0),
-        (1, 1, 4_096, 0),
-        (65, 1, 1, 53),
-        (1, 65, 1, 53),
-        (1, 1, 4_097, 53),
-    ] {
-        let contacts = contacts(alloc, contact_count)?;
-        let more = format!(in alloc; ", contacts = [{contacts}]")?;
-        let peers = neighbours(alloc, peer_count, "")?;
-        let hops = neighbours(alloc, hop_count, more.as_str())?;
-        let text = format!(in alloc; "station = 7\npeer = [{peers}]\nhop = [{hops}]\n")?;
-        assert_eq!(rt;
-            answer(alloc, text.as_str()),
-            number,
-            "{peer_count} {hop_count} {contact_count}"
-        );
+    for (peers, hops, contacts, number) in &COUNTS {
+        let found = answer_to_counts(rt.alloc(), *peers, *hops, *contacts)?;
+        assert!(rt; found == *number, "{peers} {hops} {contacts}");
     }
     Ok(())
 }

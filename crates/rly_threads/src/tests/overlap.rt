@@ -159,12 +159,12 @@ fn receivers_overlap(rt: HostRuntime) -> Result<(), Fail> {
         let relayed = run_relay(&rt, alloc, journal(alloc)?, &plan, posts)
             .ok()
             .ok_or("a relay")?;
-        assert!(rt; relayed.complete);
-        assert_eq!(rt; gave_up.load(Ordering::SeqCst), 0);
-        assert_eq!(rt; answered.load(Ordering::SeqCst), 3);
-        assert!(rt; !relayed.finished.broken);
+        expect!(rt; relayed.complete);
+        expect!(rt; gave_up.load(Ordering::SeqCst) == 0);
+        expect!(rt; answered.load(Ordering::SeqCst) == 3);
+        expect!(rt; !relayed.finished.broken);
         for peer in [PeerId(1), PeerId(2)] {
-            assert!(rt; matches!(relayed.finished.journal.last(peer), Ok(1)));
+            expect!(rt; matches!(relayed.finished.journal.last(peer), Ok(1)));
         }
     }
     Ok(())

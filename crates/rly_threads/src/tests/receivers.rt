@@ -43,11 +43,11 @@ fn hear_one<R: Wait>(rt: &R, alloc: Global, packet: &[u8]) -> Result<MemEnds, Fa
 #[test]
 fn custody_is_sent(rt: HostRuntime) -> Result<(), Fail> {
     let ends = hear_one(&rt, rt.alloc(), DATA)?;
-    assert_eq!(rt; ends.link.delivered().len(), 1);
-    assert_eq!(rt; ends.link.delivered()[0].as_slice(), CUSTODY);
-    assert_eq!(rt; ends.link.calls(), 3);
-    assert_eq!(rt; ends.desk.calls(), 1);
-    assert_eq!(rt; ends.desk.machine().item_count(), 1);
+    assert!(rt; ends.link.delivered().len() == 1);
+    expect!(rt; ends.link.delivered()[0].as_slice() == CUSTODY);
+    expect!(rt; ends.link.calls() == 3);
+    expect!(rt; ends.desk.calls() == 1);
+    expect!(rt; ends.desk.machine().item_count() == 1);
     Ok(())
 }
 
@@ -58,8 +58,8 @@ fn full_is_told(rt: HostRuntime) -> Result<(), Fail> {
     let link = MemLink::new(alloc, script(alloc, 1, &[0], DATA)?, 0);
     let ends = receive(&rt, alloc, spool_with(alloc, 1, 2)?, link, 2)?;
     let refused = b"\x52\x4c\x01\x03\x00\x07\x00\x03\x00\x00\x00\x00\x00\x00\x00\x01\x06";
-    assert_eq!(rt; ends.link.delivered().len(), 1);
-    assert_eq!(rt; ends.link.delivered()[0].as_slice(), refused.as_slice());
+    assert!(rt; ends.link.delivered().len() == 1);
+    expect!(rt; ends.link.delivered()[0].as_slice() == refused.as_slice());
     Ok(())
 }
 
@@ -74,9 +74,9 @@ fn no_route_is_told(rt: HostRuntime) -> Result<(), Fail> {
         b"\x52\x4c\x01\x01\x00\x03\x00\x07\x00\x00\x00\x00\x00\x00\x00\x01\x00\x01\x0c";
     for packet in [no_route, no_destination] {
         let ends = hear_one(&rt, alloc, packet)?;
-        assert_eq!(rt; ends.link.delivered().len(), 1);
-        assert_eq!(rt; ends.link.delivered()[0].as_slice(), refused.as_slice());
-        assert_eq!(rt; ends.desk.machine().item_count(), 0);
+        assert!(rt; ends.link.delivered().len() == 1);
+        expect!(rt; ends.link.delivered()[0].as_slice() == refused.as_slice());
+        expect!(rt; ends.desk.machine().item_count() == 0);
     }
     Ok(())
 }
@@ -90,8 +90,8 @@ fn others_are_not_heard(rt: HostRuntime) -> Result<(), Fail> {
         b"\x52\x4c\x01\x01\x00\x03\x00\x07\x00\x00\x00\x00\x00\x00\x00\x01\x00\x03\x00\x0c";
     for packet in [other_station, too_short] {
         let ends = hear_one(&rt, rt.alloc(), packet)?;
-        assert_eq!(rt; ends.link.delivered().len(), 0);
-        assert_eq!(rt; ends.desk.calls(), 0);
+        assert!(rt; ends.link.delivered().len() == 0);
+        expect!(rt; ends.desk.calls() == 0);
     }
     Ok(())
 }
@@ -106,13 +106,13 @@ fn link_fails_once(rt: HostRuntime) -> Result<(), Fail> {
         let link = MemLink::new(alloc, script(alloc, 64, &places, DATA)?, fails_at);
         let machine = Machine::new(alloc, Params::DEFAULT)?;
         let ends = receive(&rt, alloc, machine, link, 64)?;
-        assert_eq!(rt; ends.link.failures(), 1);
+        expect!(rt; ends.link.failures() == 1);
         assert!(rt; ends.link.delivered().len() >= 15);
         for packet in ends.link.delivered() {
-            assert_eq!(rt; packet.as_slice(), CUSTODY);
+            expect!(rt; packet.as_slice() == CUSTODY);
         }
-        assert!(rt; matches!(ends.desk.machine().lasts().first(), Some(1)));
-        assert_eq!(rt; ends.desk.machine().item_count(), 1);
+        expect!(rt; matches!(ends.desk.machine().lasts().first(), Some(1)));
+        expect!(rt; ends.desk.machine().item_count() == 1);
     }
     Ok(())
 }

@@ -49,14 +49,11 @@ fn a_datagram_goes_out(rt: HostRuntime) -> Result<(), Fail> {
     ] {
         let ends = send(&rt, alloc, link_with(alloc, &[3], 0)?, 150, turns)?;
         let status = hop_status(ends.desk.machine()).ok_or("hop 1")?;
-        assert_eq!(rt; ends.desk.calls(), turns);
-        assert_eq!(rt;
-            (status.queued, status.flight, status.released),
-            (queued, flight, released)
-        );
-        assert_eq!(rt; ends.link.delivered().len(), sent);
+        expect!(rt; ends.desk.calls() == turns);
+        expect!(rt; (status.queued, status.flight, status.released) == (queued, flight, released));
+        assert!(rt; ends.link.delivered().len() == sent);
         for packet in ends.link.delivered() {
-            assert_eq!(rt; packet.as_slice(), DATA);
+            expect!(rt; packet.as_slice() == DATA);
         }
     }
     Ok(())
@@ -68,9 +65,9 @@ fn nothing_goes_out_between_contacts(rt: HostRuntime) -> Result<(), Fail> {
     let alloc = rt.alloc();
     let ends = send(&rt, alloc, link_with(alloc, &[], 0)?, 200, 64)?;
     let status = hop_status(ends.desk.machine()).ok_or("hop 1")?;
-    assert_eq!(rt; ends.desk.calls(), 1);
-    assert_eq!(rt; ends.link.delivered().len(), 0);
-    assert_eq!(rt; status.queued, 1);
+    expect!(rt; ends.desk.calls() == 1);
+    assert!(rt; ends.link.delivered().len() == 0);
+    expect!(rt; status.queued == 1);
     Ok(())
 }
 
@@ -80,9 +77,9 @@ fn data_is_sent_again(rt: HostRuntime) -> Result<(), Fail> {
     let alloc = rt.alloc();
     for (turns, sent) in [(16, 1), (17, 2), (32, 2), (33, 3)] {
         let ends = send(&rt, alloc, link_with(alloc, &[], 0)?, 100, turns)?;
-        assert_eq!(rt; ends.link.delivered().len(), sent);
+        assert!(rt; ends.link.delivered().len() == sent);
         for packet in ends.link.delivered() {
-            assert_eq!(rt; packet.as_slice(), DATA);
+            expect!(rt; packet.as_slice() == DATA);
         }
     }
     Ok(())
@@ -95,9 +92,9 @@ fn link_fails_once(rt: HostRuntime) -> Result<(), Fail> {
     for fails_at in 1..66 {
         let ends = send(&rt, alloc, link_with(alloc, &[40, 56], fails_at)?, 100, 64)?;
         let status = hop_status(ends.desk.machine()).ok_or("hop 1")?;
-        assert_eq!(rt; ends.link.failures(), 1);
+        expect!(rt; ends.link.failures() == 1);
         assert!(rt; ends.link.delivered().len() >= 2);
-        assert_eq!(rt; (status.queued, status.flight, status.released), (0, 0, 1));
+        expect!(rt; (status.queued, status.flight, status.released) == (0, 0, 1));
     }
     Ok(())
 }

@@ -1,7 +1,7 @@
 use Rattle.std.proofs.Common.{arith}
 use Rattle.std.proofs.lemmas.Result.{err_from_is_err_and}
-use Rattle.rly_record.specs.Reading.{many_at}
-use Rattle.rly_checkpoint.specs.Reading.{entry_at}
+use Rattle.rly_record.specs.HelpersReading.{many_at}
+use Rattle.rly_checkpoint.specs.HelpersReading.{entry_at}
 use Rattle.rly_record.proofs.Loops.{goes_on, ends, is_done}
 use Rattle.rly_checkpoint.proofs.reading.entries_of.Goals as goal
 

@@ -1,7 +1,7 @@
 use Rattle.std.proofs.Common.{◌≡◌, ◌+◌, ◌-◌, ◌≤◌, vec_len}
 use Rattle.std.specs.Vec.{vec_capacity}
-use Rattle.rly_record.specs.Reading.{many_at}
-use Rattle.rly_checkpoint.specs.Reading.{entry_at}
+use Rattle.rly_record.specs.HelpersReading.{many_at}
+use Rattle.rly_checkpoint.specs.HelpersReading.{entry_at}
 use Rattle.rly_record.proofs.Loops.{with_front}
 use Rattle.rly_checkpoint.proofs.reading.entries_of.Given as goal
 

@@ -1,13 +1,13 @@
 use Rattle.std.proofs.Common.{◌≡◌, ◌+◌, ◌-◌, ◌≤◌, map, vec_len}
 use Rattle.std.specs.Vec.{vec_capacity}
-use Rattle.rly_machine.specs.Kept.{hop_of}
-use Rattle.rly_record.specs.Reading.{many_at}
-use Rattle.rly_checkpoint.specs.Reading.{hop_bytes_at}
+use Rattle.rly_machine.specs.Kept.{hop_state}
+use Rattle.rly_record.specs.HelpersReading.{many_at}
+use Rattle.rly_checkpoint.specs.HelpersReading.{hop_bytes_at}
 use Rattle.rly_record.proofs.Loops.{with_front}
 use Rattle.rly_checkpoint.proofs.reading.hops_of.Given as goal
 
 abbrev pub invariant-loop : goal.invariant-loop
 invariant-loop l = record {
-  so_far : with_front (map hop_of l.hops.items) (many_at hop_bytes_at (l.count - l.counter) l.rest) ≡ many_at hop_bytes_at l.count l.bytes;
+  so_far : with_front (map hop_state l.hops.items) (many_at hop_bytes_at (l.count - l.counter) l.rest) ≡ many_at hop_bytes_at l.count l.bytes;
   room : vec_len l.hops + (l.count - l.counter) ≤ vec_capacity l.hops;
 }

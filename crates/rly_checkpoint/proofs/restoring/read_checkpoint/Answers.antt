@@ -5,7 +5,7 @@ use Rattle.rly_machine.specs.Kept.{state_of}
 use Rattle.rly_machine.specs.Sound.{IsSound}
 use Rattle.rly_record.proofs.Records.{is_refused}
 use Rattle.rly_checkpoint.specs.Checkpoint.{checkpoint_of}
-use Rattle.rly_checkpoint.specs.Reading.{whole_state}
+use Rattle.rly_checkpoint.specs.HelpersReading.{whole_state}
 use Rattle.rly_checkpoint.proofs.Parts.{whole_takes}
 use Rattle.rly_checkpoint.proofs.Restored.{hops_read, peers_read, same_state, sound_again}
 use Rattle.rly_checkpoint.proofs.restoring.read_checkpoint.Goals as goal

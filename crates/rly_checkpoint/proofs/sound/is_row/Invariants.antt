@@ -1,12 +1,12 @@
-use Rattle.rly_machine.specs.Kept.{hop_of}
+use Rattle.rly_machine.specs.Kept.{hop_state}
 use Rattle.rly_machine.specs.State.{live_line}
 use Rattle.std.proofs.Common.{drop}
-use Rattle.rly_checkpoint.specs.Line.{IsRow}
+use Rattle.rly_checkpoint.specs.HelpersRows.{IsRow}
 use Rattle.rly_checkpoint.proofs.sound.is_row.Given as goal
 
 -- the whole is a row exactly where the rest is one behind the last item
 abbrev pub invariant-loop-index : goal.invariant-loop-index
 invariant-loop-index l = record {
-  there : IsRow l.hop.moment l.seq 0 0 (live_line (hop_of l.hop)) → IsRow l.hop.moment l.seq l.id l.stamp (drop l.index (live_line (hop_of l.hop)));
-  back : IsRow l.hop.moment l.seq l.id l.stamp (drop l.index (live_line (hop_of l.hop))) → IsRow l.hop.moment l.seq 0 0 (live_line (hop_of l.hop));
+  there : IsRow l.hop.moment l.seq 0 0 (live_line (hop_state l.hop)) → IsRow l.hop.moment l.seq l.id l.stamp (drop l.index (live_line (hop_state l.hop)));
+  back : IsRow l.hop.moment l.seq l.id l.stamp (drop l.index (live_line (hop_state l.hop))) → IsRow l.hop.moment l.seq 0 0 (live_line (hop_state l.hop));
 }

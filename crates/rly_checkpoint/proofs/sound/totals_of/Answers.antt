@@ -1,6 +1,6 @@
 use Rattle.std.proofs.Common.{List, ℕ, length, arith}
 use Rattle.std.proofs.lemmas.Bool.{iff_false}
-use Rattle.rly_machine.specs.Kept.{hop_of}
+use Rattle.rly_machine.specs.Kept.{hop_state}
 use Rattle.rly_machine.specs.Sound.{IsSoundHop}
 use Rattle.rly_machine.specs.State.{HopState, bytes_of, live_line}
 use Rattle.rly_machine.proofs.Restoring.{counted_more}
@@ -17,7 +17,7 @@ returns-then-items-params-clause-none c all =
 
 pub live_bytes-requires : goal.live_bytes-requires
 live_bytes-requires c =
-    omega (arith, hop_bytes_below c.args.params.now c.args.seq (hop_of c.hop-item.result) c.requires.params (c.is_sound_hop.ensures.0 c.if-not-is_sound_hop.false) (omega (arith, c.if-items-params.false, c.live_items-items.ensures)))
+    omega (arith, hop_bytes_below c.args.params.now c.args.seq (hop_state c.hop-item.result) c.requires.params (c.is_sound_hop.ensures.0 c.if-not-is_sound_hop.false) (omega (arith, c.if-items-params.false, c.live_items-items.ensures)))
 
 pub overflow_add-totals-in-loop-hop-2 : goal.overflow_add-totals-in-loop-hop-2
 overflow_add-totals-in-loop-hop-2 c =
@@ -27,14 +27,14 @@ overflow_add-totals-in-loop-hop-2 c =
       c.loop-hop.invariant.few_bytes,
       c.requires.count,
       c.loop-hop-test.true,
-      hop_bytes_below c.args.params.now c.args.seq (hop_of c.hop-item.result) c.requires.params (c.is_sound_hop.ensures.0 c.if-not-is_sound_hop.false) (omega (arith, c.if-items-params.false, c.live_items-items.ensures)),
+      hop_bytes_below c.args.params.now c.args.seq (hop_state c.hop-item.result) c.requires.params (c.is_sound_hop.ensures.0 c.if-not-is_sound_hop.false) (omega (arith, c.if-items-params.false, c.live_items-items.ensures)),
     )
 
 pub loop-hop-preserved : goal.loop-hop-preserved
 loop-hop-preserved c =
     let i = c.loop-hop.hop-index in
     let sound = c.is_sound_hop.ensures.0 c.if-not-is_sound_hop.false in
-    let bytes = hop_bytes_below c.args.params.now c.args.seq (hop_of c.hop-item.result) c.requires.params sound (omega (arith, c.if-items-params.false, c.live_items-items.ensures)) in
+    let bytes = hop_bytes_below c.args.params.now c.args.seq (hop_state c.hop-item.result) c.requires.params sound (omega (arith, c.if-items-params.false, c.live_items-items.ensures)) in
     record {
       sound = hop_more (IsSoundHop length c.args.params.now c.args.seq) c.args.hops.now i c.hop-item.result c.loop-hop-test.true c.hop-item.is c.loop-hop.invariant.sound sound;
       taken = omega (arith, counted_more (λ (h : HopState (List ℕ)). h.taken) c.args.hops.now i c.hop-item.result c.loop-hop-test.true c.hop-item.is, c.loop-hop.invariant.taken);

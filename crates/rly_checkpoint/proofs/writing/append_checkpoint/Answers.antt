@@ -1,6 +1,6 @@
 use Rattle.std.proofs.Common.{subst, sym}
 use Rattle.std.specs.Prelude.{All}
-use Rattle.rly_checkpoint.specs.Fitting.{HopFits}
+use Rattle.rly_checkpoint.specs.HelpersFitting.{HopFits}
 use Rattle.rly_checkpoint.proofs.Fitness.{hops_fit}
 use Rattle.rly_checkpoint.proofs.writing.append_checkpoint.Goals as goal
 

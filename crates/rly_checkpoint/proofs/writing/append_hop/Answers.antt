@@ -1,42 +1,42 @@
 use Rattle.std.proofs.Common.{List, ℕ, length, ◌≡◌, ◌∙◌, ap, arith}
-use Rattle.rly_machine.specs.Kept.{hop_of}
+use Rattle.rly_machine.specs.Kept.{hop_state}
 use Rattle.rly_checkpoint.proofs.Sizes.{length-codel_of, length-lines}
 use Rattle.rly_checkpoint.proofs.Written.{hop_written}
 use Rattle.rly_checkpoint.proofs.writing.append_hop.Goals as goal
 
 pub append_number-requires : goal.append_number-requires
-append_number-requires c = omega (arith, length-lines (hop_of c.args.hop.now), c.requires.room)
+append_number-requires c = omega (arith, length-lines (hop_state c.args.hop.now), c.requires.room)
 
 pub append-requires : goal.append-requires
 append-requires c =
     let codel : length c.codel_bytes.result ≡ 33 = ap (λ (t : List ℕ). length t) c.codel_bytes.ensures ∙ length-codel_of c.args.hop.now.codel in
-    omega (arith, length-lines (hop_of c.args.hop.now), c.requires.room, c.append_number.ensures.len, c.append_number.ensures.capacity, codel)
+    omega (arith, length-lines (hop_state c.args.hop.now), c.requires.room, c.append_number.ensures.len, c.append_number.ensures.capacity, codel)
 
 pub append-requires-2 : goal.append-requires-2
 append-requires-2 c =
     let codel : length c.codel_bytes.result ≡ 33 = ap (λ (t : List ℕ). length t) c.codel_bytes.ensures ∙ length-codel_of c.args.hop.now.codel in
     let counts : length c.counts_bytes.result ≡ 30 = ap (λ (t : List ℕ). length t) c.counts_bytes.ensures in
-    omega (arith, length-lines (hop_of c.args.hop.now), c.requires.room, c.append_number.ensures.len, c.append_number.ensures.capacity, c.append.ensures.len, c.append.ensures.capacity, codel, counts)
+    omega (arith, length-lines (hop_state c.args.hop.now), c.requires.room, c.append_number.ensures.len, c.append_number.ensures.capacity, c.append.ensures.len, c.append.ensures.capacity, codel, counts)
 
 pub append_entries-requires-clause-room : goal.append_entries-requires-clause-room
 append_entries-requires-clause-room c =
     let codel : length c.codel_bytes.result ≡ 33 = ap (λ (t : List ℕ). length t) c.codel_bytes.ensures ∙ length-codel_of c.args.hop.now.codel in
     let counts : length c.counts_bytes.result ≡ 30 = ap (λ (t : List ℕ). length t) c.counts_bytes.ensures in
-    omega (arith, length-lines (hop_of c.args.hop.now), c.requires.room, c.append_number.ensures.len, c.append_number.ensures.capacity, c.append.ensures.len, c.append.ensures.capacity, c.append-2.ensures.len, c.append-2.ensures.capacity, codel, counts)
+    omega (arith, length-lines (hop_state c.args.hop.now), c.requires.room, c.append_number.ensures.len, c.append_number.ensures.capacity, c.append.ensures.len, c.append.ensures.capacity, c.append-2.ensures.len, c.append-2.ensures.capacity, codel, counts)
 
 pub append_entries-requires-2-clause-room : goal.append_entries-requires-2-clause-room
 append_entries-requires-2-clause-room c =
     let codel : length c.codel_bytes.result ≡ 33 = ap (λ (t : List ℕ). length t) c.codel_bytes.ensures ∙ length-codel_of c.args.hop.now.codel in
     let counts : length c.counts_bytes.result ≡ 30 = ap (λ (t : List ℕ). length t) c.counts_bytes.ensures in
-    omega (arith, length-lines (hop_of c.args.hop.now), c.requires.room, c.append_number.ensures.len, c.append_number.ensures.capacity, c.append.ensures.len, c.append.ensures.capacity, c.append-2.ensures.len, c.append-2.ensures.capacity, c.append_entries.ensures.len, c.append_entries.ensures.capacity, codel, counts)
+    omega (arith, length-lines (hop_state c.args.hop.now), c.requires.room, c.append_number.ensures.len, c.append_number.ensures.capacity, c.append.ensures.len, c.append.ensures.capacity, c.append-2.ensures.len, c.append-2.ensures.capacity, c.append_entries.ensures.len, c.append_entries.ensures.capacity, codel, counts)
 
 pub returns-clause-items : goal.returns-clause-items
 returns-clause-items c =
-    hop_written (hop_of c.args.hop.now) c.codel_bytes.result c.counts_bytes.result c.args.out.now.items c.append_number.new.out.items c.append.new.out.items c.append-2.new.out.items c.append_entries.new.out.items c.append_entries-2.new.out.items
+    hop_written (hop_state c.args.hop.now) c.codel_bytes.result c.counts_bytes.result c.args.out.now.items c.append_number.new.out.items c.append.new.out.items c.append-2.new.out.items c.append_entries.new.out.items c.append_entries-2.new.out.items
     c.codel_bytes.ensures c.counts_bytes.ensures c.append_number.ensures.items c.append.ensures.items c.append-2.ensures.items c.append_entries.ensures.items c.append_entries-2.ensures.items
 
 pub returns-clause-len : goal.returns-clause-len
 returns-clause-len c =
     let codel : length c.codel_bytes.result ≡ 33 = ap (λ (t : List ℕ). length t) c.codel_bytes.ensures ∙ length-codel_of c.args.hop.now.codel in
     let counts : length c.counts_bytes.result ≡ 30 = ap (λ (t : List ℕ). length t) c.counts_bytes.ensures in
-    omega (arith, length-lines (hop_of c.args.hop.now), c.append_number.ensures.len, c.append.ensures.len, c.append-2.ensures.len, c.append_entries.ensures.len, c.append_entries-2.ensures.len, codel, counts)
+    omega (arith, length-lines (hop_state c.args.hop.now), c.append_number.ensures.len, c.append.ensures.len, c.append-2.ensures.len, c.append_entries.ensures.len, c.append_entries-2.ensures.len, codel, counts)

@@ -1,6 +1,6 @@
 use Rattle.std.proofs.Common.{◌≡◌, ◌-◌, ◌^◌}
 use Rattle.rly_gate.specs.Reading.{OnlyRead, SyncsNothing}
-use Rattle.rly_journal.specs.Log.{IsReplayed, IsShaped}
+use Rattle.rly_journal.specs.HelpersJournal.{IsReplayed, IsShaped}
 use Rattle.rly_journal.proofs.recovery.recover.Given as goal
 
 abbrev pub invariant-groups : goal.invariant-groups

@@ -1,7 +1,7 @@
 use Rattle.std.proofs.Common.{◌≡◌, ◌+◌, arith, false, length, rules, subst, sym, true, ◌∙◌}
 use Rattle.rly_gate.specs.Reading.{HoldsGroup, HoldsNone}
 use Rattle.rly_machine.specs.Fold.{AllAccepted}
-use Rattle.rly_journal.specs.Log.{IsShaped}
+use Rattle.rly_journal.specs.HelpersJournal.{IsShaped}
 use Rattle.rly_journal.proofs.Recovering.{refused_body, refused_commands, replayed_more, shape_more, with_gate}
 use Rattle.rly_journal.proofs.recovery.replay_group.Goals as goal
 

@@ -1,6 +1,7 @@
 use Rattle.std.proofs.Common.{◌+◌, length, subst, sym}
-use Rattle.rly_journal.specs.Groups.{group_body}
-use Rattle.rly_journal.specs.Log.{IsDurable, IsShaped}
+use Rattle.rly_journal.specs.HelpersGroups.{group_body}
+use Rattle.rly_journal.specs.Log.{IsDurable}
+use Rattle.rly_journal.specs.HelpersJournal.{IsShaped}
 use Rattle.rly_journal.proofs.Appending.{append_durable, append_leaves, append_shape, kept_shape, room_left}
 use Rattle.rly_journal.proofs.tail.append.Goals as goal
 

@@ -1,6 +1,6 @@
 use Rattle.std.proofs.Common.{rules, ◌≡◌, length, subst, sym}
 use Rattle.rly_journal.proofs.Ending.{other, renew_durable, renew_leaves, renew_room, renew_shape, renewed_tail, other_head}
-use Rattle.rly_journal.specs.Log.{IsShaped}
+use Rattle.rly_journal.specs.HelpersJournal.{IsShaped}
 use Rattle.rly_journal.proofs.tail.renew.Goals as goal
 
 pub open_segment-requires-clause-head : goal.open_segment-requires-clause-head

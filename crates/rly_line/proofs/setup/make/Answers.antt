@@ -2,7 +2,7 @@ use Rattle.std.proofs.Common.{◌+◌, ap, map, sym, ◌∙◌}
 use Rattle.std.specs.List.{range_with_len}
 use Rattle.rly_line.specs.EndViews.{new_teller}
 use Rattle.rly_line.specs.Seats.{new_caller}
-use Rattle.rly_line.specs.Submission.{Putter, Taker}
+use Rattle.rly_line.specs.HelpersEnds.{Putter, Taker}
 use Rattle.rly_line.proofs.Making.{new_end, next_line, one_more}
 use Rattle.rly_line.proofs.setup.make.Goals as goal
 

@@ -3,7 +3,7 @@ use Rattle.std.proofs.Common.{Option, sym, subst, arith, rules}
 use Rattle.std.specs.Prelude.{IfSome}
 use Rattle.std.proofs.lemmas.List.Sorted.{IsPartitionPoint-from_clause, IsPartitionedBy-leb}
 use Rattle.rly_plan.specs.declared.contacts.Summed.{Summed}
-use Rattle.rly_plan.specs.Search.{HasBegun}
+use Rattle.rly_plan.specs.HelpersContacts.{HasBegun}
 use Rattle.rly_plan.proofs.LinkLemmas.{begins_ascend, has_begun, latest_none, latest_where, found_has_begun}
 use Rattle.rly_plan.proofs.contacts.latest.Goals as goal
 

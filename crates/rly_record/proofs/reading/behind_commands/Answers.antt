@@ -1,5 +1,5 @@
 use Rattle.std.proofs.lemmas.Result.{err_from_is_err_and}
-use Rattle.rly_record.specs.Reading.{behind, command_at, command_bytes, many_at}
+use Rattle.rly_record.specs.HelpersReading.{behind, command_at, command_bytes, many_at}
 use Rattle.rly_record.proofs.Bodies.{passes_none, passes_on, passed}
 use Rattle.rly_record.proofs.reading.behind_commands.Goals as goal
 

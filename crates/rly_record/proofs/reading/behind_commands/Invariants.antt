@@ -1,5 +1,5 @@
 use Rattle.std.proofs.Common.{◌≡◌, ◌-◌}
-use Rattle.rly_record.specs.Reading.{behind, command_at, many_at}
+use Rattle.rly_record.specs.HelpersReading.{behind, command_at, many_at}
 use Rattle.rly_record.proofs.reading.behind_commands.Given as goal
 
 abbrev pub invariant-loop : goal.invariant-loop

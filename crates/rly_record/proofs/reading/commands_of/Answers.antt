@@ -1,6 +1,6 @@
 use Rattle.std.proofs.Common.{ap, arith}
 use Rattle.std.proofs.lemmas.Result.{err_from_is_err_and}
-use Rattle.rly_record.specs.Reading.{command_at, command_bytes, in_front, many_at}
+use Rattle.rly_record.specs.HelpersReading.{command_at, command_bytes, in_front, many_at}
 use Rattle.rly_record.proofs.Bodies.{front_fails}
 use Rattle.rly_record.proofs.Loops.{goes_on, ends, is_done}
 use Rattle.rly_record.proofs.Records.{kept_found}

@@ -1,6 +1,6 @@
 use Rattle.std.proofs.Common.{◌≡◌, ◌+◌, ◌-◌, ◌≤◌, vec_len}
 use Rattle.std.specs.Vec.{vec_capacity}
-use Rattle.rly_record.specs.Reading.{command_at, many_at}
+use Rattle.rly_record.specs.HelpersReading.{command_at, many_at}
 use Rattle.rly_record.proofs.Loops.{with_front}
 use Rattle.rly_record.proofs.reading.commands_of.Given as goal
 

@@ -1,7 +1,7 @@
 use Rattle.std.proofs.Common.{◌++◌, ap, ◌∙◌, arith}
 use Rattle.std.proofs.lemmas.Result.{err_from_is_err_and}
 use Rattle.rly_record.specs.Spelling.{record_of}
-use Rattle.rly_record.specs.Reading.{command_at, command_bytes}
+use Rattle.rly_record.specs.HelpersReading.{command_at, command_bytes}
 use Rattle.rly_record.proofs.Fields.{IsBytes}
 use Rattle.rly_record.proofs.Records.{behind_front, command_again, command_takes, is_refused, kept_found, length-behind, one_reading, bytes_spelled}
 use Rattle.rly_record.proofs.reading.read_command.Goals as goal

@@ -1,6 +1,6 @@
 use Rattle.std.proofs.Common.{◌≡◌, refl}
 use Rattle.rly_segment.specs.Device.{header_of}
-use Rattle.rly_segment.specs.Writing.{limits_of, shape_of}
+use Rattle.rly_segment.specs.HelpersWriting.{limits_of, shape_of}
 use Rattle.rly_segment.proofs.formatting.header_fields.Goals as goal
 
 pub returns : goal.returns

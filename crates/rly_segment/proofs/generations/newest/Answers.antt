@@ -1,7 +1,7 @@
 use Rattle.std.proofs.Common.{◌<◌, arith, length, ◌∙◌, subst, inr}
 use Rattle.std.proofs.lemmas.List.{length-set}
 use Rattle.rly_gate.proofs.Rereading.{only_again}
-use Rattle.rly_segment.specs.Answers.{IsFound}
+use Rattle.rly_segment.specs.HelpersNewest.{IsFound}
 use Rattle.rly_segment.specs.Heads.{segment_place}
 use Rattle.rly_segment.proofs.Unsynced.{unsynced_again}
 use Rattle.rly_segment.proofs.Greater.{closed_more, gate_same, last_of_tie, newest_of}

@@ -1,7 +1,8 @@
 use Rattle.std.proofs.Common.{◌≡◌, ◌<◌, length}
 use Rattle.std.specs.Prelude.{IfSome}
 use Rattle.rly_gate.specs.Reading.{OnlyRead, SyncsNothing}
-use Rattle.rly_segment.specs.Answers.{AreClosed, IsFound}
+use Rattle.rly_segment.specs.Answers.{AreClosed}
+use Rattle.rly_segment.specs.HelpersNewest.{IsFound}
 use Rattle.rly_segment.proofs.generations.newest.Given as goal
 
 abbrev pub invariant-loop-segment : goal.invariant-loop-segment

@@ -2,9 +2,9 @@ use Rattle.std.proofs.Common.{◌≡◌, ◌∙◌, ◌∷◌, [], refl, subst, 
 use Rattle.rly_threads.specs.declared.turn.Go.{Go}
 use Rattle.rly_threads.specs.declared.turn.Point.TheVariants.{Start}
 use Rattle.rly_threads.specs.declared.turn.Worker.TheVariants.{Receiver}
-use Rattle.rly_threads.specs.Ends.{Tells}
+use Rattle.rly_threads.specs.Ends.{TellsMore}
 use Rattle.rly_threads.specs.Intake.{Intake, intake, intake_done, intake_turn}
-use Rattle.rly_threads.specs.Runs.{Grew}
+use Rattle.rly_threads.specs.HelpersTurns.{Grew}
 use Rattle.rly_threads.proofs.Grown.{begun, gone_on, is_on}
 use Rattle.rly_threads.proofs.receiver.receiver_run.Goals as goal
 
@@ -19,7 +19,7 @@ loop-turn-preserved g c =
     let grew = subst (λ (w : Intake). Grew c.between-go.new.self c.turn.new.ends (done.0 ∷ []) (intake_done w c.loop-turn.intake.core done.0)) same done.3 in
     let left = subst (λ (w : Intake). c.turn.new.self.core ≡ (intake_done w c.loop-turn.intake.core done.0).core) same done.2 in
     let go : c.between-go.result ≡ record { now = done.0.now; on = true } = λ i. record { now = sym done.1 i; on = is_on c.between-go.result.on c.if-not-go.false i } in
-    let start = subst (λ (x : Go). Tells c.loop-turn.ends.handed c.between-go.new.self.handed ((Receiver c.args.peer, Start, x) ∷ [])) go c.between-go.ensures.told in (
+    let start = subst (λ (x : Go). TellsMore c.loop-turn.ends.handed c.between-go.new.self.handed ((Receiver c.args.peer, Start, x) ∷ [])) go c.between-go.ensures.told in (
       c.turn.ensures.plan ∙ before.0,
       c.turn.ensures.peer ∙ before.1,
       gone_on (intake_turn (intake c.args.plan.now c.args.peer)) c.new-core.result c.loop-turn.intake.core c.turn.new.self.core c.args.ends.now c.loop-turn.ends c.between-go.new.self c.turn.new.ends

@@ -2,7 +2,8 @@ use Rattle.std.proofs.Common.{List, subst, sym}
 use Rattle.rly_machine.specs.declared.call.Call.{Call}
 use Rattle.rly_line.specs.Responding.{Responding, calls_in}
 use Rattle.rly_line.specs.Submission.{IsBeginning}
-use Rattle.rly_flush.specs.Flushing.{FlusherState, IsFlushing}
+use Rattle.rly_flush.specs.HelpersFlushing.{IsFlushing}
+use Rattle.rly_flush.specs.Flushing.{FlusherState}
 use Rattle.rly_flush.proofs.flusher.Flusher.law_beginning.Goals as goal
 
 pub invariant_of-self : goal.invariant_of-self

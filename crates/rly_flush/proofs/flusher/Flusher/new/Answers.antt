@@ -1,5 +1,6 @@
 use Rattle.std.proofs.Common.{arith, subst, sym}
-use Rattle.rly_flush.specs.Flushing.{IsFlushing, IsOneHistory}
+use Rattle.rly_flush.specs.HelpersFlushing.{IsFlushing}
+use Rattle.rly_flush.specs.Flushing.{IsOneHistory}
 use Rattle.rly_flush.proofs.Crashing.{at_first, one_history}
 use Rattle.rly_flush.proofs.flusher.Flusher.new.Goals as goal
 

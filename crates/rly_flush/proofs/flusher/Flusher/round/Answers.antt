@@ -2,8 +2,9 @@ use Rattle.std.proofs.Common.{◌≡◌, false, List, arith, subst, sym}
 use Rattle.rly_machine.specs.declared.call.Answer.{Answer}
 use Rattle.rly_machine.specs.declared.call.Call.{Call}
 use Rattle.rly_line.specs.Responding.{IsResponding, Responding}
-use Rattle.rly_flush.specs.Batches.{said_of}
-use Rattle.rly_flush.specs.Flushing.{FlusherState, GrewInRound, IsCrashSafe, IsFlushing, IsOneHistory}
+use Rattle.rly_flush.specs.HelpersFlushing.{said_of}
+use Rattle.rly_flush.specs.HelpersFlushing.{IsFlushing}
+use Rattle.rly_flush.specs.Flushing.{FlusherState, GrewInRound, IsCrashSafe, IsOneHistory}
 use Rattle.rly_flush.proofs.Crashing.{IsRounded, grew, kept_next, legal_now, line_now, next_of, on, one_history, round_safe, same_line, still_safe}
 use Rattle.rly_flush.proofs.flusher.Flusher.round.Goals as goal
 

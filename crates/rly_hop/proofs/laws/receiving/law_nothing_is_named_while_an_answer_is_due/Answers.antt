@@ -1,4 +1,4 @@
-use Rattle.rly_hop.specs.Receiving.{received, receiver}
+use Rattle.rly_hop.specs.Receiving.{receiving_step, receiver}
 use Rattle.rly_hop.specs.ReceivingRuns.{receiver_after}
 use Rattle.rly_hop.proofs.ReceivingLaws.{length-in_actions, received-take, silent}
 use Rattle.rly_hop.proofs.laws.receiving.law_nothing_is_named_while_an_answer_is_due.Goals as goal
@@ -8,4 +8,4 @@ returns-clause-one c own peer events = length-in_actions (receiver own peer) eve
 
 pub returns-clause-none : goal.returns-clause-none
 returns-clause-none c own peer before heard event n payload e h =
-    silent (received (receiver_after (receiver own peer) before) event).0 n heard (received-take (receiver_after (receiver own peer) before) event n payload e).1 h
+    silent (receiving_step (receiver_after (receiver own peer) before) event).0 n heard (received-take (receiver_after (receiver own peer) before) event n payload e).1 h

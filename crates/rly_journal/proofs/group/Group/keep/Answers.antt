@@ -1,5 +1,5 @@
 use Rattle.std.proofs.Common.{◌+◌, ◌++◌, ◌∙◌, [], ap}
-use Rattle.rly_journal.specs.Groups.{GroupState}
+use Rattle.rly_journal.specs.HelpersGroups.{GroupState}
 use Rattle.rly_journal.proofs.Gathering.{group_of, keep_is}
 use Rattle.rly_journal.proofs.group.Group.keep.Goals as goal
 

@@ -1,7 +1,7 @@
 use Rattle.std.proofs.Common.{◌≡◌, ◌+◌, ◌++◌, ◌∙◌, [], ap, arith, drop, length, length-append}
 use Rattle.rly_record.specs.Spelling.{record_of}
 use Rattle.rly_record.proofs.Records.{length-record_of}
-use Rattle.rly_journal.specs.Groups.{GroupState}
+use Rattle.rly_journal.specs.HelpersGroups.{GroupState}
 use Rattle.rly_journal.proofs.Gathering.{all_kept, on_ok_holds, record_fits, stage_room}
 use Rattle.rly_journal.proofs.group.Group.stage.Goals as goal
 

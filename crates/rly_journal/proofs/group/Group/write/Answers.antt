@@ -1,9 +1,9 @@
 use Rattle.std.proofs.Common.{◌≡◌, ◌≤◌, ◌∙◌, [], List, ℕ, ap, arith, drop, length, subst}
 use Rattle.std.specs.Prelude.{OnOk}
 use Rattle.rly_disk.specs.DiskModel.{LeavesOnly, overwritten}
-use Rattle.rly_gate.specs.Group.{IsAppended, body_of, group_of}
+use Rattle.rly_gate.specs.Group.{IsAppended, body_in, group_of}
 use Rattle.rly_gate.proofs.Frames.{length-body, length-frame}
-use Rattle.rly_journal.specs.Groups.{GroupState, group_body}
+use Rattle.rly_journal.specs.HelpersGroups.{GroupState, group_body}
 use Rattle.rly_journal.proofs.Gathering.{all_kept, body_is, length-over, records_length}
 use Rattle.rly_journal.proofs.group.Group.write.Goals as goal
 
@@ -25,7 +25,7 @@ invariant_of-self g c =
     let full = all_kept c.self.inside.kept c.self.inside.frame.items c.self.invariant.1 none in
     let long : 5 ≤ length c.deref_mut.result.now = omega (arith, ap length c.deref_mut.ensures.value, c.complete.ensures.len, full, c.self.invariant.0) in
     let same : length c.append_group-written.new.frame ≡ length c.complete.new.frame.items =
-    omega (arith, ap length c.append_group-written.ensures.frame, length-frame (body_of c.deref_mut.result.now), length-body c.deref_mut.result.now long, ap length c.deref_mut.ensures.value) in
+    omega (arith, ap length c.append_group-written.ensures.frame, length-frame (body_in c.deref_mut.result.now), length-body c.deref_mut.result.now long, ap length c.deref_mut.ensures.value) in
     let size = length-over c.complete.new.frame.items c.append_group-written.new.frame c.complete.new.frame.len c.complete.new.frame.ok.0 same in (
       c.self.invariant.0,
       omega (arith, size, c.complete.ensures.len, full),
@@ -38,8 +38,8 @@ invariant_of-self g c =
 pub returns-clause-any_moment : goal.returns-clause-any_moment
 returns-clause-any_moment g c settled closed =
     let none : drop c.self.inside.kept c.self.inside.frame.items ≡ [] = ap (λ (g : GroupState). g.staged) c.self.view_is ∙ c.requires.nothing_staged in
-    let same : body_of c.deref_mut.result.now ≡ group_body c.args.self.now =
-    ap body_of c.deref_mut.ensures.value
+    let same : body_in c.deref_mut.result.now ≡ group_body c.args.self.now =
+    ap body_in c.deref_mut.ensures.value
     ∙ body_is c.self.inside.kept c.self.inside.count c.self.inside.frame.items c.complete.new.frame.items c.self.invariant.1 none c.complete.ensures.body
     ∙ ap group_body c.self.view_is in
     subst (λ (b : List ℕ). LeavesOnly (g.D.Disk.state c.args.disk.now) (g.D.Disk.state c.append_group-written.new.disk) (IsAppended c.args.at b (g.D.Disk.state c.args.disk.now).seen))
@@ -48,8 +48,8 @@ returns-clause-any_moment g c settled closed =
 pub returns-clause-written : goal.returns-clause-written
 returns-clause-written g c settled =
     let none : drop c.self.inside.kept c.self.inside.frame.items ≡ [] = ap (λ (g : GroupState). g.staged) c.self.view_is ∙ c.requires.nothing_staged in
-    let same : body_of c.deref_mut.result.now ≡ group_body c.args.self.now =
-    ap body_of c.deref_mut.ensures.value
+    let same : body_in c.deref_mut.result.now ≡ group_body c.args.self.now =
+    ap body_in c.deref_mut.ensures.value
     ∙ body_is c.self.inside.kept c.self.inside.count c.self.inside.frame.items c.complete.new.frame.items c.self.invariant.1 none c.complete.ensures.body
     ∙ ap group_body c.self.view_is in
     subst (λ (b : List ℕ). OnOk c.append_group-written.result ((g.D.Disk.state c.append_group-written.new.disk).seen ≡ overwritten c.args.at (group_of b) (g.D.Disk.state c.args.disk.now).seen))

@@ -1,8 +1,8 @@
 use Rattle.std.proofs.Common.{◌≡◌, ◌∙◌, true, false, ap, arith, inr, refl, subst, sym, map}
-use Rattle.rly_disk.specs.DiskModel.{Rose}
+use Rattle.rly_disk.specs.DiskModel.{HasFailed}
 use Rattle.rly_journal.specs.Journal.{Breaks, IsSafe}
 use Rattle.rly_journal.specs.Log.{IsFull}
-use Rattle.rly_journal.specs.Rounds.{unsure_at}
+use Rattle.rly_journal.specs.HelpersGroups.{unsure_at}
 use Rattle.rly_journal.proofs.Gathering.{body_most}
 use Rattle.rly_journal.proofs.Rounding.{moved, unsure_answers, was_asked}
 use Rattle.rly_journal.proofs.Serving.{made_unsure}
@@ -81,7 +81,7 @@ returns-in-Err-clause-answers g c =
               unsure = made_unsure c.args.calls.now.items answered.0 c.self.inside.machine.state c.answer_calls.new.machine.state c.self.inside.position answered.2;
               position = refl;
             }),
-        subst (λ j. Rose (g.D.Disk.state j.disk) (g.D.Disk.state c.append.new.disk)) c.self.view_is c.in-Err.ensures.rise,
+        subst (λ j. HasFailed (g.D.Disk.state j.disk) (g.D.Disk.state c.append.new.disk)) c.self.view_is c.in-Err.ensures.rise,
       ),
     )
 

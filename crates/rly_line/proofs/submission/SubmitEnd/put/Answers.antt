@@ -1,5 +1,5 @@
 use Rattle.std.proofs.Common.{ap, sym, ◌∙◌, length, ◌+◌}
-use Rattle.rly_line.specs.Submission.{Putter}
+use Rattle.rly_line.specs.HelpersEnds.{Putter}
 use Rattle.rly_line.proofs.Submitting.{puts}
 use Rattle.rly_line.proofs.submission.SubmitEnd.put.Goals as goal
 

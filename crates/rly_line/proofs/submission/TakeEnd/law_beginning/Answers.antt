@@ -1,7 +1,8 @@
 use Rattle.std.proofs.Common.{◌≡◌, ◌∙◌, ◌++◌, ap, subst}
 use Rattle.crossbeam_channel.specs.Claims.{view}
 use Rattle.rly_line.specs.declared.submission.LineView.{LineView}
-use Rattle.rly_line.specs.Submission.{IsBeginning, Putter, Taker, calls_of, together}
+use Rattle.rly_line.specs.HelpersEnds.{Putter, Taker, together}
+use Rattle.rly_line.specs.Submission.{IsBeginning, calls_of}
 use Rattle.rly_line.proofs.Submitting.{beginning, learns, merges, parts}
 use Rattle.rly_line.proofs.submission.TakeEnd.law_beginning.Goals as goal
 

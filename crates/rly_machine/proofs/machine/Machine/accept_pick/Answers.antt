@@ -5,7 +5,7 @@ use Rattle.rly_machine.specs.State.{Spool, State}
 use Rattle.rly_machine.proofs.Keeping.{kept_pick, place_of, sound_read}
 use Rattle.rly_machine.proofs.Refusals.{may_pick}
 use Rattle.rly_machine.proofs.Soundness.{sound_later}
-use Rattle.rly_machine.specs.Kept.{hop_of, state_of}
+use Rattle.rly_machine.specs.Kept.{hop_state, state_of}
 use Rattle.rly_machine.proofs.machine.Machine.accept_pick.Goals as goal
 
 pub pick-reply-requires-clause-sound : goal.pick-reply-requires-clause-sound
@@ -16,7 +16,7 @@ pick-reply-requires-clause-sound g c =
     let may = may_pick (state_of c.self.inside.params c.self.inside.hops c.self.inside.lasts c.self.inside.seq) c.args.hop c.args.now accepted in
     let below = place_of c.self.inside.params c.self.inside.hops c.self.inside.lasts c.self.inside.seq c.args.self.now.state c.args.hop same (may_pick c.args.self.now.state c.args.hop c.args.now c.requires.accepted).hop_there in
     let sound = sound_read len c.self.inside.params c.self.inside.hops c.self.inside.lasts c.self.inside.seq c.self.inside.live_items c.self.inside.live_bytes _ c.index_mut.result.now c.self.invariant below c.index_mut.ensures.value in
-    sound_later len c.self.inside.params c.self.inside.seq max_seq (hop_of c.index_mut.result.now) c.self.invariant.sound.seq sound
+    sound_later len c.self.inside.params c.self.inside.seq max_seq (hop_state c.index_mut.result.now) c.self.invariant.sound.seq sound
 
 pub overflow_sub-self : goal.overflow_sub-self
 overflow_sub-self g c =

@@ -1,6 +1,6 @@
 use Rattle.std.proofs.Common.{◌≡◌, ◌-◌, ◌<◌, length, arith, ap, sym, subst, ◌∙◌, None, ℕ}
 use Rattle.std.proofs.lemmas.List.{length-map}
-use Rattle.rly_machine.specs.Kept.{hop_of, state_of}
+use Rattle.rly_machine.specs.Kept.{hop_state, state_of}
 use Rattle.rly_machine.specs.State.{Spool, State, HopState}
 use Rattle.rly_machine.specs.Take.{take_refusal, take_step}
 use Rattle.rly_machine.specs.declared.hop.Hop.{Hop}
@@ -14,7 +14,7 @@ take-requires-clause-count g c =
     let same = ap (λ (v : Spool g.row.C.Denot). v.state) c.self.view_is in
     let accepted = subst (λ (s : State g.row.C.Denot). take_refusal len s c.args.peer c.args.number c.args.hop c.args.stamp (len c.args.payload) ≡ None) (sym same) c.requires.accepted in
     let may = may_take len (state_of c.self.inside.params c.self.inside.hops c.self.inside.lasts c.self.inside.seq) c.args.peer c.args.number c.args.hop c.args.stamp (len c.args.payload) accepted in
-    let f : Hop g.row.C.Denot → HopState g.row.C.Denot = hop_of in
+    let f : Hop g.row.C.Denot → HopState g.row.C.Denot = hop_state in
     let below : c.args.hop.0 - 1 < length c.self.inside.hops.items = omega (arith, may.hop_from, may.hop_to, length-map c.self.inside.hops.items f) in
     let sound = sound_read len c.self.inside.params c.self.inside.hops c.self.inside.lasts c.self.inside.seq c.self.inside.live_items c.self.inside.live_bytes (c.args.hop.0 - 1) c.index_mut-2.result.now c.self.invariant below c.index_mut-2.ensures.value in
     omega (arith, sound.taken, c.self.invariant.sound.seq)

@@ -13,7 +13,7 @@ returns-clause-done g c =
       made,
       refl,
       asked (intake c.args.self.now.plan.now c.args.self.now.peer) c.args.ends.now c.call-outcome.new.self c.send_named.new.ends
-          c.args.self.now.core c.step-action.new.self made c.args.ask (in_event_bytes c.event_of.result) (option_map in_action_bytes c.step-action.result)
-          c.event_of.ensures c.step-action.ensures.state c.step-action.ensures.action c.call-outcome.ensures.asked around.2 c.call-outcome.ensures.same
+          c.args.self.now.core c.step-action.new.self made c.args.ask (in_event_bytes c.intake_event.result) (option_map in_action_bytes c.step-action.result)
+          c.intake_event.ensures c.step-action.ensures.state c.step-action.ensures.action c.call-outcome.ensures.asked around.2 c.call-outcome.ensures.same
           c.send_named.ensures.told c.send_named.ensures.same,
     )

@@ -7,8 +7,8 @@ use Rattle.rly_threads.proofs.sender.Outlet.act.Goals as goal
 pub returns-in_default-clause-done : goal.returns-in_default-clause-done
 returns-in_default-clause-done g c = (no_call, rw c.in_default.is (did_nothing c.args.ends.now c.args.self.now.core))
 
-pub returns-in_default-ask_of-clause-done : goal.returns-in_default-ask_of-clause-done
-returns-in_default-ask_of-clause-done g c = (
+pub returns-in_default-named_ask-clause-done : goal.returns-in_default-named_ask-clause-done
+returns-in_default-named_ask-clause-done g c = (
   no_call,
-  rw c.in-Some.is (nothing_asked (outlet c.args.self.now.plan.now c.args.self.now.hop) c.args.ends.now c.args.now c.args.self.now.core (out_action_bytes c.in-Some.action) c.in_default-ask_of.ensures),
+  rw c.in-Some.is (nothing_asked (outlet c.args.self.now.plan.now c.args.self.now.hop) c.args.ends.now c.args.now c.args.self.now.core (out_action_bytes c.in-Some.action) c.in_default-named_ask.ensures),
 )

@@ -1,0 +1,78 @@
+-- Helpers: reading a checkpoint from left to right, as the private functions do it: what stands at the front and the
+-- bytes behind it, or nothing where no such thing stands there. What is read here need not be sound. Nothing here is
+-- claimed.
+use Rattle.std.specs.Prelude.{ℕ, ◌*◌, ◌==◌, ◌||◌, not, nat_lt, if◌then◌else◌, Bool, true}
+use Rattle.std.specs.Prelude.{false, List, [], ◌∷◌, length, take, drop, Option, Some, None}
+use Rattle.rly_core.specs.declared.params.Params.{Params}
+use Rattle.rly_codel.specs.declared.state.CodelState.{CodelState}
+use Rattle.rly_machine.specs.declared.hop.Item.{Item}
+use Rattle.rly_machine.specs.State.{State, HopState}
+use Rattle.rly_record.specs.HelpersReading.{◌>>=◌, Reader, ◌⊗◌, made_at, many_at, field_at, then_at}
+
+-- a flag
+unfoldable pub flag_at : Reader Bool
+flag_at [] = None
+flag_at (flag ∷ bytes) = if flag == 0 then Some (false, bytes) else if flag == 1 then Some (true, bytes) else None
+
+-- CoDel's state
+unfoldable pub codel_at : Reader CodelState
+codel_at = made_at
+    (λ (first_above_time, (drop_next, (count, (lastcount, dropping)))). record {
+      first_above_time = first_above_time;
+      drop_next = drop_next;
+      count = count;
+      lastcount = lastcount;
+      dropping = dropping;
+    })
+    (field_at 8 ⊗ field_at 8 ⊗ field_at 8 ⊗ field_at 8 ⊗ flag_at)
+
+-- so many bytes of a payload, behind the byte that says that they are inline
+unfoldable pub inline_at : ℕ → Reader (List ℕ)
+inline_at size [] = None
+inline_at size (form ∷ bytes) =
+    if not (form == 0) || nat_lt (length bytes) size then None else Some (take size bytes, drop size bytes)
+
+-- an entry
+unfoldable pub entry_at : Reader (Item (List ℕ))
+entry_at = made_at
+    (λ (id, (stamp, (size, payload))). record { id = id; stamp = stamp; payload = payload })
+    (field_at 8 ⊗ field_at 8 ⊗ then_at (field_at 2) inline_at)
+
+-- so many entries, of which each has 19 bytes at least
+unfoldable pub entries_at : ℕ → Reader (List (Item (List ℕ)))
+entries_at count bytes = if nat_lt (length bytes) (19 * count) then None else many_at entry_at count bytes
+
+-- what is in flight and what waits, behind the counts of both
+unfoldable pub lines_at : Reader (List (Item (List ℕ)) × List (Item (List ℕ)))
+lines_at = made_at (λ (in_flight, (waiting, lines)). lines)
+    (then_at (field_at 2) (λ in_flight. then_at (field_at 4) (λ waiting. entries_at in_flight ⊗ entries_at waiting)))
+
+-- a hop's counts: what it took, dropped and released
+unfoldable pub counts_at : Reader (ℕ × (ℕ × ℕ))
+counts_at = field_at 8 ⊗ field_at 8 ⊗ field_at 8
+
+-- a hop
+unfoldable pub hop_bytes_at : Reader (HopState (List ℕ))
+hop_bytes_at = made_at
+    (λ (moment, (codel, ((taken, (dropped, released)), (flight, queue)))). record {
+      queue = queue;
+      flight = flight;
+      codel = codel;
+      moment = moment;
+      taken = taken;
+      dropped = dropped;
+      released = released;
+    })
+    (field_at 8 ⊗ codel_at ⊗ counts_at ⊗ lines_at)
+
+-- a whole state, of which the parameters say how many hops and peers it has
+unfoldable pub state_at : Params → Reader (State (List ℕ))
+state_at params = made_at
+    (λ (seq, (lasts, hops)). record { params = params; hops = hops; lasts = lasts; seq = seq })
+    (field_at 8 ⊗ many_at (field_at 8) params.peers ⊗ many_at hop_bytes_at params.hops)
+
+-- a whole state and nothing behind it
+unfoldable pub whole_state : Params → List ℕ → Option (State (List ℕ))
+whole_state params bytes = do
+  state ← state_at params bytes
+  if length state.1 == 0 then Some state.0 else None

@@ -1,0 +1,237 @@
+//! Whole runs of the program on files.
+
+use crate::programs::expect;
+use crate::spools::takes;
+use rly_daemon::{FileDisk, Host};
+use std::alloc::Global;
+use std::process::Abort;
+use std::test::Fail;
+use std::{fs, process};
+
+/// A path for the file of a test, which is not there yet.
+pub(super) fn path_of(rt: &HostRuntime, name: &str) -> Result<String, Fail> {
+    let folder = std::env::temp_dir(rt)?;
+    let path = format!(in rt.alloc();
+        "{}/rly-{}-{name}",
+        folder.as_str(),
+        process::id(rt.process())
+    )?;
+    let _gone = fs::remove_file(rt, path.as_str());
+    Ok(path)
+}
+
+/// Formats a file as the small device: one hop, one peer, 16 items, 4,096 bytes.
+pub(super) fn make_small(rt: &(impl Abort + Host), path: &str) {
+    let words = [
+        "rly",
+        "format",
+        path,
+        "--hops=1",
+        "--peers=1",
+        "--items=16",
+        "--bytes=4096",
+    ];
+    expect(rt, &words, b"", 0, b"formatted 165880\n", b"");
+}
+
+/// Checks that a run is refused.
+fn expect_refused(rt: &(impl Abort + Host), words: &[&str], errors: &[u8]) {
+    expect(rt, words, b"show 1\n", 1, b"", errors);
+}
+
+/// Checks that `play` is refused on a device.
+fn expect_play_refused(rt: &(impl Abort + Host), path: &str, errors: &[u8]) {
+    expect_refused(rt, &["rly", "play", path], errors);
+}
+
+/// The header of the small device.
+const SMALL_HEADER: &[u8] = b"a5524c594445563031000100010001000800020001\
+43dc0000001000001000000005dc000000000000138800000000000186a0";
+
+/// Checks the bytes of a new small device.
+fn expect_new(rt: &(impl Abort + AllocGlobal), bytes: &[u8]) -> Result<(), Fail> {
+    assert!(rt; bytes.len() == 165_880);
+    let header = hex::decode(rt.alloc(), SMALL_HEADER)?;
+    expect!(rt; bytes.iter().take(51).eq(header.iter()));
+    let head = b"\xa5\0\0\0\0\0\0\0\x01\0\0\0\x57".as_slice();
+    expect!(rt; bytes.iter().skip(64).take(13).eq(head.iter()));
+    expect!(rt; bytes.iter().skip(77).take(87).all(|byte| *byte == 0));
+    expect!(rt; bytes.get(164) == Some(&0));
+    Ok(())
+}
+
+#[test]
+fn a_new_device_is_as_the_format_says(rt: HostRuntime) -> Result<(), Fail> {
+    let path = path_of(&rt, "new")?;
+    make_small(&rt, path.as_str());
+    let bytes = fs::read(&rt, path.as_str())?;
+    expect_new(&rt, bytes.as_slice())?;
+    fs::remove_file(&rt, path.as_str())?;
+    Ok(())
+}
+
+/// Lines of several runs of `play` on one device, and what each writes.
+const RUNS: [(&[u8], &[u8]); 5] = [
+    (b"take 1 1 1 0 41\n", b"taken 1 1\n"),
+    (b"take 1 1 1 0 41\n", b"already 1 1\n"),
+    (b"pick 1 5", b"picked 1 1 1\n"),
+    (b"fetch 1 1\n", b"bytes 1 1 41\n"),
+    (b"done 1 1\nno\n", b"released 1 1\nrefused 16 line\n"),
+];
+
+#[test]
+fn play_goes_on_where_it_stopped(rt: HostRuntime) -> Result<(), Fail> {
+    let path = path_of(&rt, "stopped")?;
+    make_small(&rt, path.as_str());
+    for (input, output) in &RUNS {
+        expect(
+            &rt,
+            &["rly", "play", path.as_str()],
+            *input,
+            0,
+            *output,
+            b"",
+        );
+    }
+    fs::remove_file(&rt, path.as_str())?;
+    Ok(())
+}
+
+/// Options of geometries that are out of their limits.
+const BAD_GEOMETRIES: [&str; 8] = [
+    "--hops=65537",
+    "--items=0",
+    "--segments=3",
+    "--segments=1",
+    "--segments=18446744073709551615",
+    "--length=1154840",
+    "--length=2147483648",
+    "--length=18446744073709551615",
+];
+
+/// Checks that `format` is refused for an option, and makes no file.
+fn expect_untouched(rt: &(impl Abort + Host), path: &str, option: &str) {
+    let words = ["rly", "format", path, option];
+    expect_refused(rt, &words, b"refused 21 badgeometry\n");
+    expect!(rt; matches!(fs::exists(rt, path), Ok(false)));
+}
+
+#[test]
+fn geometries_out_of_limits_touch_no_file(rt: HostRuntime) -> Result<(), Fail> {
+    let path = path_of(&rt, "refused")?;
+    for option in &BAD_GEOMETRIES {
+        expect_untouched(&rt, path.as_str(), *option);
+    }
+    Ok(())
+}
+
+#[test]
+fn format_never_shortens_a_file(rt: HostRuntime) -> Result<(), Fail> {
+    let path = path_of(&rt, "long")?;
+    fs::write(&rt, path.as_str(), vec![in rt.alloc(); 7u8; 200_000]?)?;
+    make_small(&rt, path.as_str());
+    let bytes = fs::read(&rt, path.as_str())?;
+    expect_kept(&rt, bytes.as_slice());
+    fs::remove_file(&rt, path.as_str())?;
+    Ok(())
+}
+
+/// Checks that what lies behind the small device is as it was.
+fn expect_kept(rt: &impl Abort, bytes: &[u8]) {
+    assert!(rt; bytes.len() == 200_000);
+    expect!(rt; bytes.iter().skip(165_880).all(|byte| *byte == 7));
+}
+
+/// Checks that `play` is refused on a device with a byte that is 0.
+fn expect_damage(
+    rt: &(impl Abort + Host),
+    path: &str,
+    device: &[u8],
+    place: usize,
+    errors: &[u8],
+) -> Result<(), Fail> {
+    let mut bytes = Vec::from_slice(rt.alloc(), device)?;
+    if let Some(byte) = bytes.get_mut(place) {
+        *byte = 0;
+    }
+    fs::write(rt, path, bytes.as_slice())?;
+    expect_play_refused(rt, path, errors);
+    Ok(())
+}
+
+/// Checks what `play` says of a file that is none, of one that is too short, and of changed devices.
+fn expect_no_device(rt: &(impl Abort + Host), path: &str) -> Result<(), Fail> {
+    expect_play_refused(rt, path, b"refused 23 device\n");
+    fs::write(rt, path, [0xa5u8; 63].as_slice())?;
+    expect_play_refused(rt, path, b"refused 20 notadevice\n");
+    make_small(rt, path);
+    let device = fs::read(rt, path)?;
+    let bytes = device.as_slice();
+    expect_damage(rt, path, bytes, 64, b"refused 22 damaged 64\n")?;
+    expect_damage(rt, path, bytes, 0, b"refused 20 notadevice\n")?;
+    fs::write(rt, path, &bytes[..bytes.len().saturating_sub(1)])?;
+    expect_play_refused(rt, path, b"refused 21 badgeometry\n");
+    Ok(())
+}
+
+#[test]
+fn a_file_that_is_no_device_is_refused(rt: HostRuntime) -> Result<(), Fail> {
+    let path = path_of(&rt, "damaged")?;
+    expect_no_device(&rt, path.as_str())?;
+    fs::remove_file(&rt, path.as_str())?;
+    Ok(())
+}
+
+#[test]
+fn a_device_is_one_process_s(rt: HostRuntime) -> Result<(), Fail> {
+    let path = path_of(&rt, "locked")?;
+    make_small(&rt, path.as_str());
+    let disk = FileDisk::open(&rt, path.as_str()).ok().ok_or("a device")?;
+    expect_play_refused(&rt, path.as_str(), b"refused 23 device\n");
+    let words = ["rly", "format", path.as_str()];
+    expect_refused(&rt, &words, b"refused 23 device\n");
+    drop(disk);
+    fs::remove_file(&rt, path.as_str())?;
+    Ok(())
+}
+
+/// Six takes of 1,000 bytes and three picks.
+fn busy_lines(alloc: Global) -> Result<String, Fail> {
+    let mut lines = takes(alloc, 6, 1_000)?;
+    lines.push_str("pick 1 10000\npick 1 110000\npick 1 210000\n")?;
+    Ok(lines)
+}
+
+/// What `play` writes for them.
+const BUSY_REPLIES: &[u8] = b"taken 1 1\ntaken 1 2\ntaken 1 3\ntaken 1 4\ntaken 1 5\ntaken 1 6\n\
+picked 1 1 1\npicked 1 2 3 dropped 2\npicked 1 3 5 dropped 4\n";
+
+/// What `audit` tells then.
+const BUSY_BOOKS: &[u8] = b"hop 1 taken 6 queued 1 flight 3 dropped 2 released 0\n\
+peer 1 last 6\nseq 9\nbalance ok\n";
+
+/// Cuts a device within its header.
+fn cut(rt: &HostRuntime, path: &str) -> Result<(), Fail> {
+    let mut bytes = fs::read(rt, path)?;
+    bytes.truncate(63);
+    fs::write(rt, path, bytes.as_slice())?;
+    Ok(())
+}
+
+/// The books of a device are what `play` left, whatever runs there were; other files have none.
+#[test]
+fn audit_tells_what_play_left(rt: HostRuntime) -> Result<(), Fail> {
+    let name = path_of(&rt, "audited")?;
+    let path = name.as_str();
+    expect_refused(&rt, &["rly", "audit", path], b"refused 23 device\n");
+    let words = ["rly", "format", path, "--hops=1", "--peers=1"];
+    expect(&rt, &words, b"", 0, b"formatted 2309272\n", b"");
+    let lines = busy_lines(rt.alloc())?;
+    let words = ["rly", "play", path, "--batch=7"];
+    expect(&rt, &words, lines.as_bytes(), 0, BUSY_REPLIES, b"");
+    expect(&rt, &["rly", "audit", path], b"", 0, BUSY_BOOKS, b"");
+    cut(&rt, path)?;
+    expect_refused(&rt, &["rly", "audit", path], b"refused 20 notadevice\n");
+    fs::remove_file(&rt, path)?;
+    Ok(())
+}

@@ -1,0 +1,96 @@
+//! A link over loopback, and the wall clock.
+
+use crate::serving::plan_with;
+use rly_core::PeerId;
+use rly_daemon::{Host, UdpLink, WallClock};
+use rly_plan::Plan;
+use rly_threads::{Link, MAX_PACKET, Point, Turn, Worker};
+use std::net::UdpSocket;
+use std::process::Abort;
+use std::test::Fail;
+use std::time::{Clock, Duration};
+
+/// A link that receives at one address and sends to another.
+fn link_of(rt: HostRuntime, listen: &str, remote: &str) -> Result<UdpLink<HostRuntime>, Fail> {
+    let text = plan_with(rt.alloc(), 1, 1, listen, remote)?;
+    let plan = Plan::from_toml(rt.alloc(), text.as_str())?;
+    let neighbour = plan.peer(PeerId(1)).ok_or("peer 1")?;
+    Ok(UdpLink::open(&rt, rt, &neighbour.addresses)?)
+}
+
+/// Checks that a link gives a packet of so many bytes for one that another socket sends.
+fn expect_heard(
+    rt: &(impl Abort + Host),
+    link: &mut UdpLink<HostRuntime>,
+    sent: &[u8],
+    count: usize,
+) -> Result<(), Fail> {
+    let mut buffer = [0; MAX_PACKET];
+    let other = UdpSocket::bind(rt, "127.0.0.1:0")?;
+    other.send_to(sent, "127.0.0.1:4021")?;
+    expect!(rt; link.recv(&mut buffer) == Ok(Some(count)));
+    expect!(rt; buffer.get(..count) == sent.get(..count));
+    Ok(())
+}
+
+/// Checks that a packet comes to the neighbour's socket.
+fn expect_sent(rt: &(impl Abort + Host), link: &mut UdpLink<HostRuntime>) -> Result<(), Fail> {
+    let mut buffer = [0; MAX_PACKET];
+    let remote = UdpSocket::bind(rt, "127.0.0.1:4022")?;
+    remote.set_read_timeout(Some(Duration::from_millis(1_000)))?;
+    expect!(rt; link.send(b"xyz") == Ok(()));
+    expect!(rt; remote.recv(&mut buffer)? == 3);
+    expect!(rt; &buffer[..3] == b"xyz".as_slice());
+    Ok(())
+}
+
+/// A link hears packets from any address, and sends to its neighbour's. A packet that is too long for its buffer is cut.
+#[test]
+fn a_link_carries_packets(rt: HostRuntime) -> Result<(), Fail> {
+    let mut link = link_of(rt, "127.0.0.1:4021", "127.0.0.1:4022")?;
+    expect!(rt; link.recv(&mut [0; MAX_PACKET]) == Ok(None));
+    expect_heard(&rt, &mut link, b"abc", 3)?;
+    expect_heard(&rt, &mut link, &[7; 1_400], MAX_PACKET)?;
+    expect_sent(&rt, &mut link)?;
+    expect!(rt; link.failures() == 0);
+    Ok(())
+}
+
+/// Checks that each send of a packet that UDP can't carry fails, and is counted.
+fn expect_counted(rt: &(impl Abort + Host), link: &mut UdpLink<HostRuntime>, packet: &[u8]) {
+    for count in 1..=3 {
+        expect!(rt; link.send(packet).is_err());
+        expect!(rt; link.failures() == count);
+    }
+    assert!(rt; link.send(b"abc").is_ok());
+    expect!(rt; link.failures() == 3);
+}
+
+/// Each send of a packet that UDP can't carry fails, and is counted.
+#[test]
+fn failures_of_a_link_are_counted(rt: HostRuntime) -> Result<(), Fail> {
+    let mut link = link_of(rt, "127.0.0.1:0", "127.0.0.1:4024")?;
+    let packet = vec![in rt.alloc(); 0u8; 65_536]?;
+    expect_counted(&rt, &mut link, packet.as_slice());
+    Ok(())
+}
+
+/// The moments are the system's, in microseconds, and the turns end.
+#[test]
+fn a_wall_clock_ends_its_worker(rt: HostRuntime) -> Result<(), Fail> {
+    let worker = Worker::Receiver(PeerId(1));
+    let mut turn = WallClock::new(rt, 3);
+    for on in [true, true, true, false, false] {
+        let before = rt.since_1970()?.as_micros();
+        let go = turn.between(&rt, worker, Point::Start);
+        let behind = rt.since_1970()?.as_micros();
+        expect!(rt; go.on == on);
+        expect!(rt; before <= u128::from(go.now) && u128::from(go.now) <= behind);
+        expect!(rt; turn.between(&rt, worker, Point::Call).now == go.now);
+    }
+    let mut endless = WallClock::new(rt, 0);
+    for _turn in 0..100 {
+        expect!(rt; endless.between(&rt, worker, Point::Start).on);
+    }
+    Ok(())
+}

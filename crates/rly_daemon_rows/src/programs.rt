@@ -1,0 +1,186 @@
+//! Whole runs of the program, up to the status.
+
+use rly_daemon::{Host, run};
+use std::cell::Cell;
+use std::io;
+use std::io::{Error, ErrorKind, Read, Write};
+use std::process::Abort;
+
+/// The status of a run, its output and its errors.
+#[derive(Drop)]
+pub(super) struct Finished {
+    pub(super) status: u8,
+    pub(super) output: Vec<u8>,
+    pub(super) errors: Vec<u8>,
+}
+
+pub(super) fn finish(rt: &impl Host, words: &[&str], input: &[u8]) -> Finished {
+    let mut reader = input;
+    let mut output = Vec::new(rt.alloc());
+    let mut errors = Vec::new(rt.alloc());
+    let status = run(rt, words, &mut reader, &mut output, &mut errors);
+    Finished {
+        status,
+        output,
+        errors,
+    }
+}
+
+/// Checks the status of a run, its output and its errors.
+pub(super) fn expect(
+    rt: &(impl Abort + Host),
+    words: &[&str],
+    input: &[u8],
+    status: u8,
+    output: &[u8],
+    errors: &[u8],
+) {
+    let run = finish(rt, words, input);
+    assert!(rt; run.status == status, "{words:?}");
+    assert!(rt; run.output.as_slice() == output, "{words:?}");
+    assert!(rt; run.errors.as_slice() == errors, "{words:?}");
+}
+
+/// Checks that a command line is called bad: nothing is put out, and something is told.
+fn expect_bad(rt: &(impl Abort + Host), words: &[&str]) {
+    let run = finish(rt, words, b"");
+    assert!(rt; run.status == 2, "{words:?}");
+    assert!(rt;
+        run.output.is_empty() && !run.errors.is_empty(),
+        "{words:?}"
+    );
+}
+
+#[test]
+fn an_empty_input_has_an_empty_output(rt: HostRuntime) {
+    expect(&rt, &["rly", "sim"], b"", 0, b"", b"");
+}
+
+#[test]
+fn options_reach_the_machine(rt: HostRuntime) {
+    expect(
+        &rt,
+        &["rly", "sim", "--items", "1"],
+        b"take 1 1 1 0 41\ntake 1 2 1 0 41\n",
+        0,
+        b"taken 1 1\nrefused 6 full\n",
+        b"",
+    );
+}
+
+/// Options whose values are out of their limits.
+const OUT_OF_LIMITS: [&str; 5] = [
+    "--hops=65537",
+    "--hops=0",
+    "--items=16385",
+    "--target=100001",
+    "--window=65",
+];
+
+#[test]
+fn options_out_of_limits_are_refused(rt: HostRuntime) {
+    let refused = b"refused 21 badgeometry\n";
+    for word in &OUT_OF_LIMITS {
+        expect(&rt, &["rly", "sim", *word], b"done 1 0\n", 1, b"", refused);
+    }
+}
+
+/// Command lines that say nothing, or nothing that `rly` does.
+const BAD_COMMAND_LINES: [&[&str]; 17] = [
+    &["rly", "sim", "--hops=x"],
+    &["rly", "sim", "--hops=-1"],
+    &["rly", "sim", "--hops=18446744073709551616"],
+    &["rly", "sim", "--lanes=1"],
+    &["rly", "sim", "1"],
+    &["rly", "sim", "--hops=1", "--hops=1"],
+    &["rly"],
+    &["rly", "simulate"],
+    &["rly", "play", "--batch=1"],
+    &["rly", "play", "x", "--batch=0"],
+    &["rly", "play", "x", "--batch=65"],
+    &["rly", "play", "x", "--batch=1", "--batch=1"],
+    &["rly", "play", "x", "--hops=1"],
+    &["rly", "play", "x", "y"],
+    &["rly", "format"],
+    &["rly", "format", "x", "--length=x"],
+    &["rly", "format", "x", "--segments=-1"],
+];
+
+#[test]
+fn bad_command_lines_have_status_2(rt: HostRuntime) {
+    for words in &BAD_COMMAND_LINES {
+        expect_bad(&rt, *words);
+    }
+}
+
+#[test]
+fn help_has_status_0(rt: HostRuntime) {
+    let help = finish(&rt, &["rly", "sim", "--help"], b"");
+    expect!(rt; help.status == 0);
+    expect!(rt; help.errors.is_empty() && !help.output.is_empty());
+}
+
+#[test]
+fn the_version_has_status_0(rt: HostRuntime) {
+    expect(&rt, &["rly", "--version"], b"", 0, b"rly 0.1.0\n", b"");
+}
+
+/// One who types a line once the one before it was answered, three in all.
+#[derive(Drop)]
+struct Typist<'a> {
+    typed: usize,
+    answered: &'a Cell<usize>,
+}
+
+impl Read for Typist<'_> {
+    fn read(&mut self, buffer: &mut [u8]) -> io::Result<usize> {
+        if self.answered.get() != self.typed {
+            return Err(Error::from(ErrorKind::TimedOut));
+        }
+        if self.typed == 3 || buffer.len() < 9 {
+            return Ok(0);
+        }
+        buffer[..9].copy_from_slice(b"done 1 0\n");
+        self.typed = self.typed.saturating_add(1);
+        Ok(9)
+    }
+}
+
+/// A screen that shows an answer when it is flushed.
+#[derive(Drop)]
+struct Screen<'a> {
+    held: usize,
+    answered: &'a Cell<usize>,
+}
+
+impl Write for Screen<'_> {
+    fn write(&mut self, text: &[u8]) -> io::Result<usize> {
+        self.held = text.iter().filter(|byte| **byte == b'\n').count();
+        Ok(text.len())
+    }
+
+    fn flush(&mut self) -> io::Result<()> {
+        let answered = self.answered.get();
+        self.answered.set(answered.saturating_add(self.held));
+        self.held = 0;
+        Ok(())
+    }
+}
+
+#[test]
+fn each_line_is_answered_before_the_next(rt: HostRuntime) {
+    let answered = Cell::new(0);
+    let mut reader = Typist {
+        typed: 0,
+        answered: &answered,
+    };
+    let mut writer = Screen {
+        held: 0,
+        answered: &answered,
+    };
+    let mut errors = Vec::new(rt.alloc());
+    let words = ["rly", "sim"];
+    let status = run(&rt, &words, &mut reader, &mut writer, &mut errors);
+    expect!(rt; status == 0);
+    expect!(rt; answered.get() == 3);
+}

@@ -1,0 +1,242 @@
+//! `rly serve`, over loopback and on files.
+
+ghost use Rattle.std.specs.Prelude.{IfOk};
+ghost use Rattle.rly_plan.specs.Sound.{IsSoundPlan};
+
+use crate::devices::{make_small, path_of};
+use crate::programs::expect;
+use crate::spools::small_disk;
+use rly_core::Refusal;
+use rly_daemon::{Host, ServeFault, read_plan, serve};
+use rly_disk::{After, Disk, FaultDisk, MemDisk};
+use rly_journal::Journal;
+use rly_plan::Plan;
+use std::alloc::{AllocError, Global};
+use std::net::UdpSocket;
+use std::process::Abort;
+use std::test::Fail;
+use std::time::Duration;
+use std::{fs, thread};
+
+/// Station 7, with station 3 upstream and station 9 as the next hop.
+const PLAN: &str = r#"station = 7
+[[peer]]
+id = 1
+station = 3
+listen = "127.0.0.1:4001"
+remote = "127.0.0.1:4002"
+[[hop]]
+id = 1
+station = 9
+listen = "127.0.0.1:4003"
+remote = "127.0.0.1:4004"
+contacts = [[100, 200], [300, 350]]
+[[route]]
+destination = 12
+hop = 1
+"#;
+
+/// Data from station 3 to station 7, number 1, payload `000c41`.
+const DATA: &[u8] =
+    b"\x52\x4c\x01\x01\x00\x03\x00\x07\x00\x00\x00\x00\x00\x00\x00\x01\x00\x03\x00\x0c\x41";
+
+/// Its custody.
+const CUSTODY: &[u8] = b"\x52\x4c\x01\x02\x00\x07\x00\x03\x00\x00\x00\x00\x00\x00\x00\x01";
+
+/// A neighbour that sends a datagram every 10 ms, so many times at most, until it hears something. Whether
+/// that is the datagram's custody.
+fn hears_custody(socket: &UdpSocket, relay: &str, times: u64) -> bool {
+    let mut buffer = [0; 64];
+    for _sent in 0..times {
+        let _lost = socket.send_to(DATA, relay);
+        if let Ok(count) = socket.recv(&mut buffer) {
+            return &buffer[..count] == CUSTODY;
+        }
+    }
+    false
+}
+
+/// The socket of a neighbour, which waits 10 ms for a packet.
+fn socket_at(rt: &impl Host, address: &str) -> Result<UdpSocket, Fail> {
+    let socket = UdpSocket::bind(rt, address)?;
+    socket.set_read_timeout(Some(Duration::from_millis(10)))?;
+    Ok(socket)
+}
+
+/// Runs a relay beside a neighbour that sends a datagram, and checks that it hears the datagram's custody.
+fn expect_custody(rt: &(impl Abort + Host), device: &str, plan: &str) -> Result<(), Fail> {
+    let socket = socket_at(rt, "127.0.0.1:4002")?;
+    let neighbour = thread::spawn(rt, move || hears_custody(&socket, "127.0.0.1:4001", 100))
+        .ok()
+        .ok_or("a thread")?;
+    let words = ["rly", "serve", device, plan, "--turns", "20"];
+    expect(rt, &words, b"", 0, b"", b"");
+    expect!(rt; neighbour.join(rt));
+    Ok(())
+}
+
+/// The books of a small device with one datagram.
+const ONE_TAKEN: &[u8] = b"hop 1 taken 1 queued 1 flight 0 dropped 0 released 0\n\
+peer 1 last 1\nseq 1\nbalance ok\n";
+
+/// A datagram that comes over UDP is taken and its custody sent.
+#[test]
+fn serve_custody(rt: HostRuntime) -> Result<(), Fail> {
+    let device = path_of(&rt, "served")?;
+    let plan = path_of(&rt, "plan")?;
+    make_small(&rt, device.as_str());
+    fs::write(&rt, plan.as_str(), PLAN)?;
+    expect_custody(&rt, device.as_str(), plan.as_str())?;
+    expect(
+        &rt,
+        &["rly", "audit", device.as_str()],
+        b"",
+        0,
+        ONE_TAKEN,
+        b"",
+    );
+    fs::remove_file(&rt, plan.as_str())?;
+    fs::remove_file(&rt, device.as_str())?;
+    Ok(())
+}
+
+/// A plan of so many peers and hops, whose links all have these addresses.
+pub(super) fn plan_with(
+    alloc: Global,
+    peers: u16,
+    hops: u16,
+    listen: &str,
+    remote: &str,
+) -> Result<String, AllocError> {
+    let mut text = String::new(alloc);
+    writeln!(text, "station = 7")?;
+    for id in 1..=peers {
+        writeln!(text, "[[peer]]\nid = {id}\nstation = {id}")?;
+        writeln!(text, "listen = \"{listen}\"\nremote = \"{remote}\"")?;
+    }
+    for id in 1..=hops {
+        writeln!(text, "[[hop]]\nid = {id}\nstation = {id}")?;
+        writeln!(text, "listen = \"{listen}\"\nremote = \"{remote}\"")?;
+        writeln!(text, "contacts = []")?;
+    }
+    Ok(text)
+}
+
+/// Checks how a relay of one turn ends, and what is told.
+fn expect_end(rt: &(impl Abort + Host), device: &str, plan: &str, status: u8, errors: &str) {
+    let words = ["rly", "serve", device, plan, "--turns=1"];
+    expect(rt, &words, b"", status, b"", errors.as_bytes());
+}
+
+/// Plans that no relay is started for where its device can't be opened, and what is told.
+const PLANS: [(&str, &str); 3] = [
+    ("station = 7\n", "refused 50 plan\n"),
+    ("color = 7\n", "refused 54 plan\n"),
+    (PLAN, "refused 23 device\n"),
+];
+
+/// Checks in which order a relay looks at its plan and its device.
+fn expect_needs(rt: &(impl Abort + Host), device: &str, plan: &str) -> Result<(), Fail> {
+    expect_end(rt, device, plan, 1, "rly: plan failed\n");
+    fs::write(rt, plan, b"station = 7 # \xff\n".as_slice())?;
+    expect_end(rt, device, plan, 1, "rly: plan failed\n");
+    for (text, errors) in &PLANS {
+        fs::write(rt, plan, *text)?;
+        expect_end(rt, device, plan, 1, *errors);
+    }
+    fs::write(rt, device, b"no device".as_slice())?;
+    expect_end(rt, device, plan, 1, "refused 20 notadevice\n");
+    fs::remove_file(rt, plan)?;
+    expect_end(rt, device, plan, 1, "rly: plan failed\n");
+    fs::remove_file(rt, device)?;
+    Ok(())
+}
+
+/// The plan is looked at first, then the file, then the device in it.
+#[test]
+fn a_relay_needs_a_plan_and_a_device(rt: HostRuntime) -> Result<(), Fail> {
+    let device = path_of(&rt, "unserved")?;
+    let plan = path_of(&rt, "unserved-plan")?;
+    expect_needs(&rt, device.as_str(), plan.as_str())
+}
+
+/// An address whose port the system picks.
+const FREE: &str = "127.0.0.1:0";
+
+/// Plans of so many peers and hops and with these addresses: how a relay of theirs ends on a small device, and what is told.
+const LINKS: [(u16, u16, &str, &str, u8, &str); 6] = [
+    (2, 1, "nowhere", "nowhere", 1, "refused 21 badgeometry\n"),
+    (1, 2, "nowhere", "nowhere", 1, "refused 21 badgeometry\n"),
+    (1, 1, "nowhere", FREE, 1, "rly: link failed\n"),
+    (1, 1, FREE, "nowhere", 1, "rly: link failed\n"),
+    (1, 1, "127.0.0.1:4019", FREE, 1, "rly: link failed\n"),
+    (1, 1, FREE, FREE, 0, ""),
+];
+
+/// Checks how relays end on a small device.
+fn expect_links(rt: &(impl Abort + Host), device: &str, plan: &str) -> Result<(), Fail> {
+    for (peers, hops, listen, remote, status, errors) in &LINKS {
+        let text = plan_with(rt.alloc(), *peers, *hops, *listen, *remote)?;
+        fs::write(rt, plan, text.as_str())?;
+        expect_end(rt, device, plan, *status, *errors);
+    }
+    fs::remove_file(rt, plan)?;
+    fs::remove_file(rt, device)?;
+    Ok(())
+}
+
+/// The device needs each peer and each hop of the plan, before any link is opened; then the system judges the
+/// addresses of the links, none of which is there twice.
+#[test]
+fn a_relay_needs_room_and_links(rt: HostRuntime) -> Result<(), Fail> {
+    let device = path_of(&rt, "narrow")?;
+    let plan = path_of(&rt, "narrow-plan")?;
+    make_small(&rt, device.as_str());
+    expect_links(&rt, device.as_str(), plan.as_str())
+}
+
+/// A small device whose first write behind its opening fails.
+fn failing(rt: &(impl Abort + AllocGlobal)) -> Result<FaultDisk<MemDisk>, Fail> {
+    let disk = small_disk(rt)?;
+    let before = disk.calls();
+    let journal = Journal::open(rt.alloc(), disk).ok().ok_or("a journal")?;
+    let disk = journal.into_disk();
+    let opening = disk.calls().wrapping_sub(before);
+    Ok(FaultDisk::new(disk, opening.wrapping_add(1), 0, After::GoesOn))
+}
+
+/// The plan of a relay at other addresses, by a file.
+fn other_plan(rt: &HostRuntime) -> Result<Plan, Fail>
+    ensures { IfOk result (λ plan. IsSoundPlan plan) }
+{
+    let text = PLAN.replace(rt.alloc(), "127.0.0.1:400", "127.0.0.1:403")?;
+    let path = path_of(rt, "broken-plan")?;
+    fs::write(rt, path.as_str(), text.as_str())?;
+    let plan = read_plan(rt, path.as_str())?;
+    fs::remove_file(rt, path.as_str())?;
+    Ok(plan)
+}
+
+/// Runs a relay on a device whose first write fails, and checks that it ends broken.
+fn expect_broken(rt: &(impl Abort + Host), plan: &Plan) -> Result<(), Fail>
+    requires { IsSoundPlan plan.now }
+{
+    let journal = Journal::open(rt.alloc(), failing(rt)?)
+        .ok()
+        .ok_or("a journal")?;
+    expect!(rt; serve(rt, journal, plan, 20).err() == Some(ServeFault::Refused(Refusal::Broken)));
+    Ok(())
+}
+
+/// Where a write of the device fails, nothing is acknowledged, and the relay ends broken.
+#[test]
+fn a_failed_write_ends_a_relay_broken(rt: HostRuntime) -> Result<(), Fail> {
+    let plan = other_plan(&rt)?;
+    let socket = socket_at(&rt, "127.0.0.1:4032")?;
+    let neighbour = thread::spawn(&rt, move || hears_custody(&socket, "127.0.0.1:4031", 20))
+        .ok()
+        .ok_or("a thread")?;
+    expect_broken(&rt, &plan)?;
+    expect!(rt; !neighbour.join(&rt));
+    Ok(())
+}

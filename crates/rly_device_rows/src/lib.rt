@@ -1,0 +1,30 @@
+//! Tests of devices and streams: disks, groups behind their gates, heads, and segments that are opened, stopped at each call.
+//!
+//! A contract says what one call does for all inputs. These tests compare calls with what a person wrote down
+//! (docs/FORMATS.md), on disks in memory. They stand over the built libraries, so that these are proved once. No crate may
+//! call it: it has no code but tests.
+#![tactic(auto)]
+
+/// As `assert!`, by one call: the prover then sees one way on where `assert!` has two. `assert!` stands where a later call needs
+/// what was asserted, and where the text names a row.
+#[cfg(test)]
+macro_rules! expect {
+    ($rt:expr; $cond:expr $(,)?) => {
+        crate::expect::expect(&$rt, $cond, stringify!($cond))
+    };
+}
+
+#[cfg(test)]
+mod disks;
+#[cfg(test)]
+mod expect;
+#[cfg(test)]
+mod groups;
+#[cfg(test)]
+mod heads;
+#[cfg(test)]
+mod opening;
+#[cfg(test)]
+mod room;
+#[cfg(test)]
+mod streams;

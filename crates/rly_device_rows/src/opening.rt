@@ -1,0 +1,280 @@
+//! Devices that are formatted and segments that are opened, stopped at each call.
+ghost use Rattle.std.specs.Prelude.{IsTrue};
+ghost use Rattle.rly_segment.specs.Device.{IsGeometry};
+
+use rly_core::limits::{SEGMENT_LENGTH_LIMIT, SEGMENTS};
+use rly_core::{Geometry, Params};
+use rly_disk::{After, Disk, FaultDisk, MemDisk, Torn};
+use rly_machine::Machine;
+use rly_reclaim::fits;
+use rly_segment::{FormatFault, OpeningFault, Target, format, open_segment};
+use std::alloc::{AllocError, Global};
+use std::process::Abort;
+use std::test::Fail;
+
+const DEVICE_E: Geometry = Geometry {
+    params: Params {
+        hops: 1,
+        peers: 1,
+        window: 8,
+        items: 16,
+        bytes: 4_096,
+        maxpacket: 1_500,
+        target: 5_000,
+        interval: 100_000,
+    },
+    segments: 2,
+    length: 82_908,
+};
+
+const SIZE: usize = 165_880;
+
+/// Where the second segment begins.
+const SECOND: usize = 82_972;
+
+/// The bytes at places 0 to 50 of that device.
+const HEADER: [u8; 51] = [
+    0xa5, 0x52, 0x4c, 0x59, 0x44, 0x45, 0x56, 0x30, 0x31, 0, 1, 0, 1, 0, 1, 0, 8, 0, 2, 0, 1, 0x43,
+    0xdc, 0, 0, 0, 0x10, 0, 0, 0x10, 0, 0, 0, 5, 0xdc, 0, 0, 0, 0, 0, 0, 0x13, 0x88, 0, 0, 0, 0, 0,
+    1, 0x86, 0xa0,
+];
+
+/// The bytes at the front of the head of the empty state. 87 bytes 00 and a closed gate follow.
+const HEAD: [u8; 13] = [0xa5, 0, 0, 0, 0, 0, 0, 0, 1, 0, 0, 0, 0x57];
+
+const KINDS: [Torn; 5] = [
+    Torn::AsRead,
+    Torn::AsSynced,
+    Torn::Fill(0xa5),
+    Torn::Fill(0),
+    Torn::Split(1),
+];
+
+fn disk_of(alloc: Global, byte: u8, size: usize) -> Result<MemDisk, AllocError> {
+    Ok(MemDisk::new(alloc, vec![in alloc; byte; size]?))
+}
+
+fn bytes_of<D: Disk>(alloc: Global, disk: &mut D) -> Result<Vec<u8>, AllocError> {
+    let mut bytes = vec![in alloc; 0u8; disk.size() as usize]?;
+    let _ = disk.read_at(0, &mut bytes);
+    Ok(bytes)
+}
+
+/// Whether the head of the empty state stands at a place, with a closed gate behind it.
+fn is_new_head(bytes: &[u8], place: usize) -> bool {
+    bytes.iter().skip(place).take(13).eq(HEAD.iter())
+        && bytes
+            .iter()
+            .skip(place)
+            .skip(13)
+            .take(88)
+            .all(|byte| *byte == 0)
+}
+
+/// Whether the gate of the second segment is closed.
+fn is_second_closed(bytes: &[u8]) -> bool {
+    bytes.iter().skip(SECOND).take(1).all(|byte| *byte != 0xa5)
+}
+
+/// Whether these are the bytes of a new device.
+fn is_formatted(bytes: &[u8]) -> bool {
+    bytes.len() == SIZE
+        && bytes.starts_with(&HEADER)
+        && is_new_head(bytes, 64)
+        && is_second_closed(bytes)
+}
+
+/// Formats a device that is filled with one byte.
+fn expect_formatted(rt: &impl Abort, alloc: Global, byte: u8) -> Result<(), AllocError> {
+    let mut disk = disk_of(alloc, byte, SIZE)?;
+    expect!(rt; format(alloc, &mut disk, &DEVICE_E) == Ok(()));
+    let bytes = bytes_of(alloc, &mut disk)?;
+    expect_beside(rt, &bytes, byte);
+    Ok(())
+}
+
+/// These are the bytes of a new device, and beside what was written all have the byte of before.
+fn expect_beside(rt: &impl Abort, bytes: &[u8], byte: u8) {
+    expect!(rt; is_formatted(bytes));
+    expect!(rt; bytes.iter().skip(51).take(13).all(|b| *b == byte));
+    expect!(rt; bytes.get(SECOND) == Some(&0));
+    expect!(rt; bytes.iter().skip(165).filter(|b| **b != byte).count() <= 1);
+}
+
+#[test]
+fn a_device_is_formatted(rt: HostRuntime) -> Result<(), Fail> {
+    for byte in [0xa5, 0] {
+        expect_formatted(&rt, rt.alloc(), byte)?;
+    }
+    Ok(())
+}
+
+/// Refuses to format, and makes no call of the disk.
+fn expect_bad_geometry(
+    rt: &impl Abort,
+    alloc: Global,
+    geometry: &Geometry,
+    size: usize,
+) -> Result<(), AllocError> {
+    let mut disk = FaultDisk::new(disk_of(alloc, 0xa5, size)?, 0, 0, After::Stops);
+    expect!(rt; format(alloc, &mut disk, geometry) == Err(FormatFault::BadGeometry));
+    expect!(rt; disk.calls() == 0);
+    expect!(rt; bytes_of(alloc, &mut disk)?.iter().all(|byte| *byte == 0xa5));
+    Ok(())
+}
+
+#[test]
+fn a_bad_geometry_is_refused(rt: HostRuntime) -> Result<(), Fail> {
+    let short = Geometry {
+        length: 82_907,
+        ..DEVICE_E
+    };
+    let three = Geometry {
+        segments: 3,
+        length: 60_000,
+        ..DEVICE_E
+    };
+    for (geometry, size) in [(short, SIZE), (three, SIZE), (DEVICE_E, SIZE - 1)] {
+        expect_bad_geometry(&rt, rt.alloc(), &geometry, size)?;
+    }
+    Ok(())
+}
+
+/// What is left of a format that stops at a call, after a crash.
+fn stopped_format(
+    rt: &impl Abort,
+    alloc: Global,
+    at: u64,
+    kind: Torn,
+) -> Result<MemDisk, AllocError> {
+    let mut disk = FaultDisk::new(disk_of(alloc, 0xa5, SIZE)?, at, 1, After::Stops);
+    assert!(rt;
+        format(alloc, &mut disk, &DEVICE_E) == Err(FormatFault::Device),
+        "call {at}"
+    );
+    Ok(disk.into_inner().crash(kind))
+}
+
+/// The old bytes, no device, or the new one.
+fn expect_old_or_new(
+    rt: &impl Abort,
+    alloc: Global,
+    disk: MemDisk,
+    at: u64,
+) -> Result<(), AllocError> {
+    let mut disk = disk;
+    let bytes = bytes_of(alloc, &mut disk)?;
+    let old = bytes.iter().all(|byte| *byte == 0xa5);
+    assert!(rt; bytes.len() == SIZE);
+    assert!(rt;
+        old || bytes.first() != Some(&0xa5) || is_formatted(&bytes),
+        "call {at}"
+    );
+    Ok(())
+}
+
+/// A format that stops at each of its calls, and a crash of each kind, leave the old bytes, no
+/// device or the new one.
+#[test]
+fn a_crash_within_a_format(rt: HostRuntime) -> Result<(), Fail> {
+    for at in 1..=15 {
+        for kind in KINDS {
+            let disk = stopped_format(&rt, rt.alloc(), at, kind)?;
+            expect_old_or_new(&rt, rt.alloc(), disk, at)?;
+        }
+    }
+    Ok(())
+}
+
+/// Whether a device of so many bytes may have a geometry.
+fn may_have(geometry: &Geometry, size: u64) -> bool
+    ensures { IsTrue result → IsGeometry geometry.now size }
+{
+    geometry.params.check().is_ok()
+        && geometry.segments == SEGMENTS
+        && geometry.length < SEGMENT_LENGTH_LIMIT
+        && fits(geometry)
+        && 64 + geometry.segments * geometry.length <= size
+}
+
+/// Opens the second segment for an empty spool.
+fn open<D: Disk>(
+    rt: &impl Abort,
+    alloc: Global,
+    disk: &mut D,
+    closed: bool,
+) -> Result<u64, OpeningFault> {
+    assert!(rt; may_have(&DEVICE_E, disk.size()));
+    let Ok(machine) = Machine::new(alloc, DEVICE_E.params) else {
+        return Err(OpeningFault::OutOfMemory);
+    };
+    let target = Target { segment: 1, closed };
+    open_segment(alloc, disk, &DEVICE_E, target, 1, &machine)
+}
+
+/// The whole head stands in the second segment, and all other bytes are as before.
+fn expect_head(rt: &impl Abort, bytes: &[u8], byte: u8) {
+    assert!(rt; bytes.len() == SIZE);
+    expect!(rt; is_new_head(bytes, SECOND));
+    expect!(rt; bytes.iter().take(SECOND).all(|b| *b == byte));
+    expect!(rt; bytes.iter().skip(SECOND + 101).all(|b| *b == byte));
+}
+
+/// Opens the second segment of a device that is filled with one byte.
+fn expect_opened(rt: &impl Abort, alloc: Global, byte: u8, calls: u64) -> Result<(), AllocError> {
+    let mut disk = FaultDisk::new(disk_of(alloc, byte, SIZE)?, 0, 0, After::Stops);
+    expect!(rt; open(rt, alloc, &mut disk, byte == 0) == Ok(83_072));
+    expect!(rt; (disk.calls(), disk.syncs()) == (calls, 3));
+    let bytes = bytes_of(alloc, &mut disk)?;
+    expect_head(rt, &bytes, byte);
+    Ok(())
+}
+
+#[test]
+fn a_segment_is_opened(rt: HostRuntime) -> Result<(), Fail> {
+    for (byte, calls) in [(0xa5, 6), (0, 5)] {
+        expect_opened(&rt, rt.alloc(), byte, calls)?;
+    }
+    Ok(())
+}
+
+/// What is left of an opening that stops at a call, after a crash.
+fn stopped_opening(
+    rt: &impl Abort,
+    alloc: Global,
+    byte: u8,
+    at: u64,
+    kind: Torn,
+) -> Result<MemDisk, AllocError> {
+    let mut disk = FaultDisk::new(disk_of(alloc, byte, SIZE)?, at, 1, After::Stops);
+    assert!(rt;
+        open(rt, alloc, &mut disk, byte == 0) == Err(OpeningFault::Device),
+        "call {at}"
+    );
+    Ok(disk.into_inner().crash(kind))
+}
+
+/// The gate closed, the whole head, or the open gate that was there with the generation that it had.
+fn expect_closed_or_whole(rt: &impl Abort, bytes: &[u8], byte: u8, at: u64) {
+    assert!(rt; bytes.len() == SIZE);
+    assert!(rt; bytes.iter().take(SECOND).all(|b| *b == byte), "call {at}");
+    let kept = byte == 0xa5 && bytes.iter().skip(SECOND).all(|b| *b == byte);
+    let head = is_new_head(bytes, SECOND);
+    assert!(rt; is_second_closed(bytes) || kept || head, "call {at}");
+}
+
+/// An opening that stops at each of its calls, and a crash of each kind, leave the gate closed, the
+/// whole head, or the open gate that was there with the generation that it had.
+#[test]
+fn a_crash_within_an_opening(rt: HostRuntime) -> Result<(), Fail> {
+    for (byte, calls) in [(0xa5, 6), (0, 5)] {
+        for at in 1..=calls {
+            for kind in KINDS {
+                let mut disk = stopped_opening(&rt, rt.alloc(), byte, at, kind)?;
+                let bytes = bytes_of(rt.alloc(), &mut disk)?;
+                expect_closed_or_whole(&rt, &bytes, byte, at);
+            }
+        }
+    }
+    Ok(())
+}

@@ -1,0 +1,140 @@
+//! Readers and writers that give and take little at a time, are interrupted, and fail.
+
+use rly_stream::{StreamFault, read_some, write_whole};
+use std::io;
+use std::io::{Error, ErrorKind, Read, Write};
+use std::test::Fail;
+
+/// A reader that gives its bytes one at a time, interrupted before each, and then fails.
+#[derive(Drop)]
+struct Failing<'a> {
+    bytes: &'a [u8],
+    interrupted: bool,
+}
+
+impl Read for Failing<'_> {
+    fn read(&mut self, buffer: &mut [u8]) -> io::Result<usize> {
+        self.interrupted = !self.interrupted;
+        if self.interrupted {
+            return Err(Error::from(ErrorKind::Interrupted));
+        }
+        let Some((first, rest)) = self.bytes.split_first() else {
+            return Err(Error::from(ErrorKind::TimedOut));
+        };
+        if buffer.is_empty() {
+            return Ok(0);
+        }
+        buffer[0] = *first;
+        self.bytes = rest;
+        Ok(1)
+    }
+}
+
+/// A writer that takes so many bytes, three at a time and interrupted before each, and then fails.
+#[derive(Drop)]
+struct Full {
+    written: Vec<u8>,
+    room: usize,
+    interrupted: bool,
+    fault: ErrorKind,
+}
+
+impl Write for Full {
+    fn write(&mut self, text: &[u8]) -> io::Result<usize> {
+        self.interrupted = !self.interrupted;
+        if self.interrupted {
+            return Err(Error::from(ErrorKind::Interrupted));
+        }
+        let count = text.len().min(3).min(self.room);
+        if count == 0 {
+            return Err(Error::from(self.fault));
+        }
+        self.written.extend_from_slice(&text[..count])?;
+        self.room -= count;
+        Ok(count)
+    }
+
+    fn flush(&mut self) -> io::Result<()> {
+        Ok(())
+    }
+}
+
+/// A writer that takes nothing and doesn't fail.
+#[derive(Drop)]
+struct Shut;
+
+impl Write for Shut {
+    fn write(&mut self, _text: &[u8]) -> io::Result<usize> {
+        Ok(0)
+    }
+
+    fn flush(&mut self) -> io::Result<()> {
+        Ok(())
+    }
+}
+
+#[test]
+fn what_there_is_is_read(rt: HostRuntime) -> Result<(), Fail> {
+    let mut reader = b"take".as_slice();
+    let mut buffer = [0u8; 8];
+    expect!(rt; read_some(&mut reader, &mut buffer) == Ok(4));
+    expect!(rt; &buffer[..4] == b"take".as_slice());
+    expect!(rt; read_some(&mut reader, &mut buffer) == Ok(0));
+    Ok(())
+}
+
+#[test]
+fn an_interrupted_read_is_made_again(rt: HostRuntime) -> Result<(), Fail> {
+    let mut reader = Failing {
+        bytes: b"ok",
+        interrupted: false,
+    };
+    let mut buffer = [0u8; 8];
+    expect!(rt; read_some(&mut reader, &mut buffer) == Ok(1));
+    expect!(rt; buffer[0] == b'o');
+    expect!(rt; read_some(&mut reader, &mut buffer) == Ok(1));
+    expect!(rt; buffer[0] == b'k');
+    expect!(rt; read_some(&mut reader, &mut buffer) == Err(StreamFault::Input));
+    Ok(())
+}
+
+#[test]
+fn all_is_written(rt: HostRuntime) -> Result<(), Fail> {
+    let mut writer = Full {
+        written: Vec::new(rt.alloc()),
+        room: 20,
+        interrupted: false,
+        fault: ErrorKind::TimedOut,
+    };
+    expect!(rt; write_whole(&mut writer, b"hop 1 taken 6") == Ok(()));
+    expect!(rt; write_whole(&mut writer, b"") == Ok(()));
+    expect!(rt; write_whole(&mut writer, b" end") == Ok(()));
+    expect!(rt; writer.written.as_slice() == b"hop 1 taken 6 end".as_slice());
+    Ok(())
+}
+
+#[test]
+fn a_writer_that_fails_has_a_beginning(rt: HostRuntime) -> Result<(), Fail> {
+    let text = b"hop 1 taken 6".as_slice();
+    for room in 0..text.len() {
+        let mut writer = Full {
+            written: Vec::new(rt.alloc()),
+            room,
+            interrupted: false,
+            fault: ErrorKind::TimedOut,
+        };
+        expect!(rt; write_whole(&mut writer, text) == Err(StreamFault::Output));
+        expect!(rt; writer.written.as_slice() == &text[..room]);
+    }
+    expect!(rt; write_whole(&mut Shut, text) == Err(StreamFault::Output));
+    Ok(())
+}
+
+#[test]
+fn faults_have_their_lines(rt: HostRuntime) -> Result<(), Fail> {
+    let input = format!(in rt.alloc(); "{}", StreamFault::Input)?;
+    expect!(rt; input.as_str() == "rly: input failed");
+    let output = format!(in rt.alloc(); "{}", StreamFault::Output)?;
+    expect!(rt; output.as_str() == "rly: output failed");
+    Ok(())
+}

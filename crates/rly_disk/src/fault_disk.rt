@@ -1,0 +1,211 @@
+// A disk that fails at a chosen call.
+ghost use Rattle.std.specs.Prelude.{◌≡◌, ◌⊎◌, ◌≤◌, ◌<◌, ◌+◌, ◌-◌, ◌^◌, List, ℕ, Bool, true, false, length, take, IsTrue, IsErr, OnOk, OnErr, is_ok, slice_range, if◌then◌else◌};
+ghost use Rattle.rly_disk.specs.DiskModel.{DiskState, overwritten, IsWritten, NothingNew, SettlesNothing, Settled, Consistent, IsSpent, HasFailed, Counted, Later};
+
+use crate::{Counts, Disk, DiskFault};
+
+/// What a disk does after the call that was chosen to fail.
+#[derive(Clone, Copy, Debug, PartialEq, Eq, Drop)]
+pub enum After {
+    GoesOn,
+    Stops,
+}
+
+/// A disk that fails at a chosen call, and otherwise does what the disk in it does.
+#[derive(Debug, Drop)]
+pub struct FaultDisk<D> {
+    inner: D,
+    at: u64,
+    torn: u64,
+    after: After,
+    counts: Counts,
+}
+
+impl<D: Disk> FaultDisk<D> {
+    ghost use Rattle.rly_disk.specs.FaultDisk.{inner_of, fault_plan, torn_of, fault_state, fails_next};
+
+    /// Call number `at`, counted from 1, fails; 0 is none. With `After::Stops` each later call fails too. A failing write
+    /// has put its first `torn` bytes, a failing read or sync has done nothing. The counts begin at 0.
+    pub fn new(inner: D, at: u64, torn: u64, after: After) -> Self
+        ensures inner { inner_of result ≡ inner }
+        ensures plan { fault_plan result ≡ (at, torn, after) }
+        ensures calls { (fault_state D.state result).calls ≡ 0 }
+        ensures failures { (fault_state D.state result).failures ≡ 0 }
+        ensures syncs { (fault_state D.state result).syncs ≡ 0 }
+        ensures failed_reads { (fault_state D.state result).failed_reads ≡ 0 }
+    {
+        FaultDisk {
+            inner,
+            at,
+            torn,
+            after,
+            counts: Counts::new(),
+        }
+    }
+
+    /// The disk in it.
+    pub fn into_inner(self) -> D
+        ensures { result ≡ inner_of self }
+    {
+        let FaultDisk {
+            inner,
+            at: _,
+            torn: _,
+            after: _,
+            counts: _,
+        } = self;
+        inner
+    }
+
+    // Whether the next call is one that was chosen to fail.
+    fn fails_next(&self) -> bool
+        requires { self.now.counts.calls < 2 ^ 64 - 1 }
+        ensures { result ≡ fails_next self.now }
+    {
+        let number = self.counts.calls + 1;
+        match self.after {
+            After::GoesOn => number == self.at,
+            After::Stops => self.at != 0 && number >= self.at,
+        }
+    }
+}
+
+impl<D: Disk> Disk for FaultDisk<D> {
+    ghost use Rattle.rly_disk.specs.FaultDisk.{inner_of, fault_plan, torn_of, fault_state, fails_next};
+    ghost use Rattle.rly_disk.specs.HelpersFaultDisk.{fault_consistent, fault_calls_lead};
+
+    ghost state = { fault_state D.state };
+
+    ghost consistent = { λ disk honest. fault_consistent D.state disk (D.consistent disk.inner honest) };
+
+    ghost calls_lead = { λ disk. fault_calls_lead disk };
+
+    fn size(&self) -> u64 {
+        self.inner.size()
+    }
+
+    fn read_at(&mut self, place: u64, buffer: &mut [u8]) -> Result<(), DiskFault>
+        requires { place + length buffer.old ≤ (fault_state D.state self.old).size }
+        ensures bytes { (fault_state D.state self.old).honest
+            → OnOk result (buffer.new ≡ slice_range (fault_state D.state self.old).seen place (place + length buffer.old)) }
+        ensures crash { (fault_state D.state self.old).honest → NothingNew (fault_state D.state self.old) (fault_state D.state self.new) }
+        ensures unsettled { (fault_state D.state self.old).honest → SettlesNothing (fault_state D.state self.old) (fault_state D.state self.new) }
+        ensures stays_settled { Settled (fault_state D.state self.old) → Settled (fault_state D.state self.new) }
+        ensures rise { OnErr result (HasFailed (fault_state D.state self.old) (fault_state D.state self.new)) }
+        ensures no_failure { OnOk result ((fault_state D.state self.new).failures ≡ (fault_state D.state self.old).failures) }
+        ensures counted { ¬ IsSpent (fault_state D.state self.old)
+            → Counted (if is_ok result then 0 else 1) 0 (if is_ok result then 0 else 1) (fault_state D.state self.old) (fault_state D.state self.new) }
+        ensures spent { IsSpent (fault_state D.state self.old) → IsErr result × (self.new ≡ self.old) }
+        ensures later { Later (fault_state D.state self.old) (fault_state D.state self.new) }
+        // The call that was chosen fails, and no other but where the disk in it fails.
+        ensures chosen { IsTrue (fails_next self.old) → IsErr result }
+        ensures passed { fails_next self.old ≡ false → ¬ IsSpent (fault_state D.state self.old)
+            → OnErr result (HasFailed (D.state (inner_of self.old)) (D.state (inner_of self.new))) }
+        // It makes that call of the disk in it, once.
+        ensures once { fails_next self.old ≡ false → ¬ IsSpent (fault_state D.state self.old) → ¬ IsSpent (D.state (inner_of self.old))
+            → Counted (if is_ok result then 0 else 1) 0 (if is_ok result then 0 else 1) (D.state (inner_of self.old)) (D.state (inner_of self.new)) }
+        ensures plan { fault_plan self.new ≡ fault_plan self.old }
+        ensures nothing_done { IsTrue (fails_next self.old) → inner_of self.new ≡ inner_of self.old }
+    {
+        if self.counts.is_spent() {
+            return Err(DiskFault);
+        }
+        if self.fails_next() {
+            self.counts.count_read(true);
+            return Err(DiskFault);
+        }
+        let outcome = self.inner.read_at(place, buffer);
+        self.counts.count_read(outcome.is_err());
+        outcome
+    }
+
+    fn write_at(&mut self, place: u64, bytes: &[u8]) -> Result<(), DiskFault>
+        requires { place + length bytes.now ≤ (fault_state D.state self.old).size }
+        ensures written { (fault_state D.state self.old).honest
+            → OnOk result ((fault_state D.state self.new).seen ≡ overwritten place bytes.now (fault_state D.state self.old).seen) }
+        ensures crash { (fault_state D.state self.old).honest → IsWritten place (length bytes.now) (fault_state D.state self.old) (fault_state D.state self.new) }
+        ensures rise { OnErr result (HasFailed (fault_state D.state self.old) (fault_state D.state self.new)) }
+        ensures no_failure { OnOk result ((fault_state D.state self.new).failures ≡ (fault_state D.state self.old).failures) }
+        ensures counted { ¬ IsSpent (fault_state D.state self.old)
+            → Counted (if is_ok result then 0 else 1) 0 0 (fault_state D.state self.old) (fault_state D.state self.new) }
+        ensures spent { IsSpent (fault_state D.state self.old) → IsErr result × (self.new ≡ self.old) }
+        ensures later { Later (fault_state D.state self.old) (fault_state D.state self.new) }
+        // The call that was chosen fails, and no other but where the disk in it fails.
+        ensures chosen { IsTrue (fails_next self.old) → IsErr result }
+        ensures passed { fails_next self.old ≡ false → ¬ IsSpent (fault_state D.state self.old)
+            → OnErr result (HasFailed (D.state (inner_of self.old)) (D.state (inner_of self.new))) }
+        // It makes one write of the disk in it, a chosen one too, and nothing else.
+        ensures once { ¬ IsSpent (fault_state D.state self.old) → ¬ IsSpent (D.state (inner_of self.old))
+            → (D.state (inner_of self.new)).calls ≡ (D.state (inner_of self.old)).calls + 1 }
+        ensures no_sync { ¬ IsSpent (fault_state D.state self.old) → ¬ IsSpent (D.state (inner_of self.old))
+            → (D.state (inner_of self.new)).syncs ≡ (D.state (inner_of self.old)).syncs }
+        ensures plan { fault_plan self.new ≡ fault_plan self.old }
+        // The first bytes of a write that was chosen are put, unless the disk in it fails.
+        ensures put { (fault_state D.state self.old).honest → IsTrue (fails_next self.old) → ¬ IsSpent (fault_state D.state self.old)
+            → ((fault_state D.state self.new).seen ≡ overwritten place (take (torn_of self.old) bytes.now) (fault_state D.state self.old).seen)
+            ⊎ HasFailed (D.state (inner_of self.old)) (D.state (inner_of self.new)) }
+    {
+        if self.counts.is_spent() {
+            return Err(DiskFault);
+        }
+        if self.fails_next() {
+            let put = self.torn.min(bytes.len() as u64) as usize;
+            // Where this fails too, it is still one failure.
+            let _ = self.inner.write_at(place, &bytes[..put]);
+            self.counts.count_write(true);
+            return Err(DiskFault);
+        }
+        let outcome = self.inner.write_at(place, bytes);
+        self.counts.count_write(outcome.is_err());
+        outcome
+    }
+
+    fn sync(&mut self) -> Result<(), DiskFault>
+        ensures settled { (fault_state D.state self.old).honest → OnOk result (Settled (fault_state D.state self.new)) }
+        ensures crash { (fault_state D.state self.old).honest → NothingNew (fault_state D.state self.old) (fault_state D.state self.new) }
+        ensures unsettled { (fault_state D.state self.old).honest → OnErr result (SettlesNothing (fault_state D.state self.old) (fault_state D.state self.new)) }
+        ensures stays_settled { Settled (fault_state D.state self.old) → Settled (fault_state D.state self.new) }
+        ensures rise { OnErr result (HasFailed (fault_state D.state self.old) (fault_state D.state self.new)) }
+        ensures no_failure { OnOk result ((fault_state D.state self.new).failures ≡ (fault_state D.state self.old).failures) }
+        ensures counted { ¬ IsSpent (fault_state D.state self.old)
+            → Counted (if is_ok result then 0 else 1) 1 0 (fault_state D.state self.old) (fault_state D.state self.new) }
+        ensures spent { IsSpent (fault_state D.state self.old) → IsErr result × (self.new ≡ self.old) }
+        ensures later { Later (fault_state D.state self.old) (fault_state D.state self.new) }
+        // The call that was chosen fails, and no other but where the disk in it fails.
+        ensures chosen { IsTrue (fails_next self.old) → IsErr result }
+        ensures passed { fails_next self.old ≡ false → ¬ IsSpent (fault_state D.state self.old)
+            → OnErr result (HasFailed (D.state (inner_of self.old)) (D.state (inner_of self.new))) }
+        // It makes that call of the disk in it, once.
+        ensures once { fails_next self.old ≡ false → ¬ IsSpent (fault_state D.state self.old) → ¬ IsSpent (D.state (inner_of self.old))
+            → Counted (if is_ok result then 0 else 1) 1 0 (D.state (inner_of self.old)) (D.state (inner_of self.new)) }
+        ensures plan { fault_plan self.new ≡ fault_plan self.old }
+        ensures nothing_done { IsTrue (fails_next self.old) → inner_of self.new ≡ inner_of self.old }
+    {
+        if self.counts.is_spent() {
+            return Err(DiskFault);
+        }
+        if self.fails_next() {
+            self.counts.count_sync(true);
+            return Err(DiskFault);
+        }
+        let outcome = self.inner.sync();
+        self.counts.count_sync(outcome.is_err());
+        outcome
+    }
+
+    fn failures(&self) -> u64 {
+        self.counts.failures
+    }
+
+    fn calls(&self) -> u64 {
+        self.counts.calls
+    }
+
+    fn syncs(&self) -> u64 {
+        self.counts.syncs
+    }
+
+    fn failed_reads(&self) -> u64 {
+        self.counts.failed_reads
+    }
+}

@@ -1,0 +1,32 @@
+//! Tests of the limits, of CoDel, and of the plain machine with its records and checkpoints: worked rows, byte by byte.
+//!
+//! A contract says what one call does for all inputs. These tests compare calls with what a person wrote down
+//! (docs/DEFINITIONS.md, docs/FORMATS.md). They stand over the built libraries, so that these are proved once. No crate may
+//! call it: it has no code but tests.
+#![tactic(auto)]
+
+/// As `assert!`, by one call: the prover then sees one way on where `assert!` has two. `assert!` stands where a later call needs
+/// what was asserted, and where the text names a row.
+#[cfg(test)]
+macro_rules! expect {
+    ($rt:expr; $cond:expr $(,)?) => {
+        crate::expect::expect(&$rt, $cond, stringify!($cond))
+    };
+}
+
+#[cfg(test)]
+mod checkpoints;
+#[cfg(test)]
+mod commands;
+#[cfg(test)]
+mod control_law;
+#[cfg(test)]
+mod dequeues;
+#[cfg(test)]
+mod expect;
+#[cfg(test)]
+mod machine;
+#[cfg(test)]
+mod params;
+#[cfg(test)]
+mod records;

@@ -1,0 +1,261 @@
+//! The plain machine: a datagram from its take to its release, and spools that are restored.
+ghost use Rattle.std.specs.Prelude.{◌≡◌, [], ◌∷◌, IfOk, length};
+ghost use Rattle.rly_machine.specs.State.{hop_at};
+
+use crate::commands::{run, take};
+use rly_core::{HopId, Params, PeerId, Refusal};
+use rly_machine::{CodelState, Command, Hop, HopStatus, Item, Machine, Payload, Reply};
+use std::alloc::{AllocError, Global};
+use std::collections::VecDeque;
+use std::process::Abort;
+use std::test::Fail;
+
+/// The reply to a take of peer 1.
+fn reply_to_take(
+    alloc: Global,
+    machine: &mut Machine<Payload>,
+    number: u64,
+    hop: u16,
+    stamp: u64,
+    bytes: &[u8],
+) -> Result<Reply, AllocError> {
+    let command = take(alloc, number, hop, stamp, bytes)?;
+    run(alloc, machine, command)
+}
+
+/// Two datagrams are taken, at two hops, and one of them once more.
+fn expect_takes(
+    rt: &impl Abort,
+    alloc: Global,
+    machine: &mut Machine<Payload>,
+) -> Result<(), AllocError> {
+    expect!(rt; matches!(&reply_to_take(alloc, machine, 1, 1, 900, b"A")?, Reply::Taken(1)));
+    expect!(rt; matches!(&reply_to_take(alloc, machine, 2, 2, 0, b"")?, Reply::Taken(2)));
+    expect!(rt; matches!(&reply_to_take(alloc, machine, 2, 2, 0, b"")?, Reply::Already(2)));
+    Ok(())
+}
+
+/// The first one is picked at hop 1.
+fn expect_pick(
+    rt: &impl Abort,
+    alloc: Global,
+    machine: &mut Machine<Payload>,
+) -> Result<(), AllocError> {
+    let pick = Command::Pick {
+        hop: HopId(1),
+        now: 50,
+    };
+    match &run(alloc, machine, pick)? {
+        Reply::Picked {
+            number,
+            id,
+            dropped,
+        } => {
+            expect!(rt; *number == 1 && *id == 1 && dropped.as_slice().is_empty());
+        }
+        _ => panic!(rt; "not picked"),
+    }
+    Ok(())
+}
+
+/// It is in flight.
+fn expect_flight(rt: &impl Abort, machine: &Machine<Payload>) {
+    match machine.item(HopId(1), 1) {
+        Ok(item) => {
+            expect!(rt; item.stamp == 900 && item.payload.as_slice() == b"A".as_slice());
+        }
+        Err(refusal) => panic!(rt; "{refusal}"),
+    }
+    expect!(rt; matches!(
+            &machine.ask_window(HopId(1)),
+            Reply::WindowIs { first: 1, next: 2 }
+        ));
+}
+
+/// It is released.
+fn expect_release(
+    rt: &impl Abort,
+    alloc: Global,
+    machine: &mut Machine<Payload>,
+) -> Result<(), AllocError> {
+    let release = Command::Release {
+        hop: HopId(1),
+        number: 1,
+    };
+    expect!(rt; matches!(&run(alloc, machine, release)?, Reply::Released(1)));
+    Ok(())
+}
+
+/// It isn't in flight any more, and the other one never was.
+fn expect_no_flight(rt: &impl Abort, machine: &Machine<Payload>) {
+    expect!(rt; matches!(
+            &machine.ask_window(HopId(1)),
+            Reply::WindowIs { first: 2, next: 2 }
+        ));
+    expect!(rt; matches!(&machine.item(HopId(1), 1), Err(Refusal::NotInFlight)));
+    expect!(rt; matches!(&machine.item(HopId(2), 1), Err(Refusal::NeverSent)));
+    match machine.ask_show(HopId(1)) {
+        Reply::Shown(status) => expect_status(rt, &status),
+        _ => panic!(rt; "no such hop"),
+    }
+}
+
+/// The books of hop 1 say so.
+fn expect_status(rt: &impl Abort, status: &HopStatus) {
+    let HopStatus {
+        taken,
+        queued,
+        flight,
+        dropped,
+        released,
+        moment,
+        ..
+    } = *status;
+    expect!(rt; taken == 1 && queued == 0 && flight == 0 && dropped == 0 && released == 1);
+    expect!(rt; moment == 900);
+}
+
+/// Two datagrams are taken at two hops, picked, fetched and released, by each call of the machine.
+#[test]
+fn a_datagram_passes_through(rt: HostRuntime) -> Result<(), Fail> {
+    let alloc = rt.alloc();
+    let mut machine: Machine<Payload> = Machine::new(alloc, Params::DEFAULT)?;
+    expect_takes(&rt, alloc, &mut machine)?;
+    expect_pick(&rt, alloc, &mut machine)?;
+    expect_flight(&rt, &machine);
+    expect_release(&rt, alloc, &mut machine)?;
+    expect_no_flight(&rt, &machine);
+    Ok(())
+}
+
+#[test]
+fn a_payload_gives_its_bytes_back(rt: HostRuntime) -> Result<(), Fail> {
+    let payload = Payload::new(b"abc".to_vec(rt.alloc())?);
+    expect!(rt; payload.as_slice() == b"abc".as_slice());
+    let bytes = payload.into_bytes();
+    expect!(rt; bytes.as_slice() == b"abc".as_slice());
+    Ok(())
+}
+
+/// A spool of one hop and one peer, for five bytes.
+const SMALL: Params = Params {
+    hops: 1,
+    peers: 1,
+    bytes: 5,
+    ..Params::DEFAULT
+};
+
+/// A queue of one item.
+fn alone(
+    alloc: Global,
+    id: u64,
+    stamp: u64,
+    bytes: &[u8],
+) -> Result<VecDeque<Item<Payload>>, AllocError>
+    ensures { IfOk result (λ queue. queue.items ≡ (record { id = id; stamp = stamp; payload = bytes.now }) ∷ []) }
+{
+    let payload = Payload::new(bytes.to_vec(alloc)?);
+    let mut queue = VecDeque::new(alloc);
+    queue.push_back(Item { id, stamp, payload })?;
+    Ok(queue)
+}
+
+/// One item was released, the next one is in flight, and a third one waits.
+fn restored(alloc: Global) -> Result<Machine<Payload>, AllocError>
+    ensures { IfOk result (λ machine. length (hop_at machine.state (record { 0 = 1 })).queue ≡ 1) }
+{
+    let flight = alone(alloc, 4, 10, b"BB")?;
+    let queue = alone(alloc, 5, 20, b"C")?;
+    let hop = Hop {
+        queue,
+        flight,
+        codel: CodelState::NEW,
+        moment: 20,
+        taken: 3,
+        dropped: 0,
+        released: 1,
+    };
+    Machine::restore(SMALL, 6, vec![in alloc; 3u64]?, vec![in alloc; hop]?)
+}
+
+/// A spool that nothing has come to, restored.
+fn restored_empty(alloc: Global) -> Result<Machine<Payload>, AllocError> {
+    let hop = Hop {
+        queue: VecDeque::new(alloc),
+        flight: VecDeque::new(alloc),
+        codel: CodelState::NEW,
+        moment: 0,
+        taken: 0,
+        dropped: 0,
+        released: 0,
+    };
+    Machine::restore(SMALL, 0, vec![in alloc; 0u64]?, vec![in alloc; hop]?)
+}
+
+/// It has what it was restored from.
+fn expect_restored(rt: &impl Abort, machine: &Machine<Payload>)
+    requires { length (hop_at machine.now.state (record { 0 = 1 })).queue ≡ 1 }
+{
+    machine.law_sound();
+    expect!(rt; machine.seq() == 6 && machine.last(PeerId(1)) == 3);
+    expect!(rt; machine.params() == SMALL);
+    expect!(rt; machine.lasts() == [3].as_slice());
+    assert!(rt; machine.hops().len() == 1);
+    expect!(rt; machine.queued(HopId(1), 0).payload.as_slice() == b"C".as_slice());
+}
+
+/// Its last datagram was taken, three bytes more don't fit, and two do.
+fn expect_room(
+    rt: &impl Abort,
+    alloc: Global,
+    machine: &mut Machine<Payload>,
+) -> Result<(), AllocError> {
+    expect!(rt; matches!(&reply_to_take(alloc, machine, 3, 1, 30, b"C")?, Reply::Already(3)));
+    let long = reply_to_take(alloc, machine, 4, 1, 30, b"DDD")?;
+    expect!(rt; matches!(&long, Reply::Refused(Refusal::Full)));
+    expect!(rt; matches!(&reply_to_take(alloc, machine, 4, 1, 30, b"DD")?, Reply::Taken(7)));
+    Ok(())
+}
+
+/// What waited is picked.
+fn expect_restored_pick(
+    rt: &impl Abort,
+    alloc: Global,
+    machine: &mut Machine<Payload>,
+) -> Result<(), AllocError> {
+    let pick = Command::Pick {
+        hop: HopId(1),
+        now: 31,
+    };
+    expect!(rt; matches!(
+            &run(alloc, machine, pick)?,
+            Reply::Picked {
+                number: 3,
+                id: 5,
+                ..
+            }
+        ));
+    Ok(())
+}
+
+/// A restored spool goes on where it was, its bytes in flight counted: two more fit, three don't.
+#[test]
+fn a_restored_spool_goes_on(rt: HostRuntime) -> Result<(), Fail> {
+    let alloc = rt.alloc();
+    let mut machine = restored(alloc)?;
+    expect_restored(&rt, &machine);
+    expect_room(&rt, alloc, &mut machine)?;
+    expect_restored_pick(&rt, alloc, &mut machine)?;
+    Ok(())
+}
+
+/// An empty one takes its first datagram.
+#[test]
+fn an_empty_restored_spool_begins(rt: HostRuntime) -> Result<(), Fail> {
+    let alloc = rt.alloc();
+    let mut machine = restored_empty(alloc)?;
+    expect!(rt; machine.seq() == 0 && machine.last(PeerId(1)) == 0);
+    let first = reply_to_take(alloc, &mut machine, 1, 1, 900, b"ABCDE")?;
+    expect!(rt; matches!(&first, Reply::Taken(1)));
+    Ok(())
+}

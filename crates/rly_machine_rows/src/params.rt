@@ -1,0 +1,94 @@
+//! The limits of a spool's parameters, and the texts of refusals.
+use rly_core::{Params, Refusal};
+use std::test::Fail;
+
+#[test]
+fn default_params_are_within_the_limits(rt: HostRuntime) {
+    expect!(rt; Params::default().check() == Ok(()));
+}
+
+/// Each parameter as small as it may be.
+const LEAST: Params = Params {
+    hops: 1,
+    peers: 1,
+    window: 1,
+    items: 1,
+    bytes: 1,
+    maxpacket: 0,
+    target: 1,
+    interval: 1,
+};
+
+/// Each as great as it may be.
+const GREATEST: Params = Params {
+    hops: 64,
+    peers: 64,
+    window: 64,
+    items: 16_384,
+    bytes: 16_777_216,
+    maxpacket: 65_535,
+    target: 3_600_000_000,
+    interval: 3_600_000_000,
+};
+
+/// One parameter out of its limits.
+const BEYOND: [Params; 11] = [
+    Params {
+        hops: 65_537,
+        ..LEAST
+    },
+    Params {
+        hops: 65,
+        ..GREATEST
+    },
+    Params {
+        peers: 65,
+        ..GREATEST
+    },
+    Params { peers: 0, ..LEAST },
+    Params {
+        window: 65,
+        ..GREATEST
+    },
+    Params {
+        items: 16_385,
+        ..GREATEST
+    },
+    Params {
+        bytes: 16_777_217,
+        ..GREATEST
+    },
+    Params {
+        maxpacket: 65_536,
+        ..GREATEST
+    },
+    Params { target: 0, ..LEAST },
+    Params { target: 2, ..LEAST },
+    Params {
+        interval: 3_600_000_001,
+        ..GREATEST
+    },
+];
+
+#[test]
+fn each_limit_is_met_and_not_passed(rt: HostRuntime) {
+    expect!(rt; LEAST.check().is_ok() && GREATEST.check().is_ok());
+    for params in &BEYOND {
+        assert!(rt; params.check() == Err(Refusal::BadGeometry), "{params:?}");
+    }
+}
+
+#[test]
+fn refusals_print_their_number_text_and_value(rt: HostRuntime) -> Result<(), Fail> {
+    for (refusal, line) in [
+        (Refusal::Gap(2), "refused 4 gap 2"),
+        (Refusal::Line, "refused 16 line"),
+        (Refusal::Damaged(82_972), "refused 22 damaged 82972"),
+        (Refusal::OutOfMemory, "refused 14 memory"),
+        (Refusal::Overlap, "refused 52 plan"),
+    ] {
+        let printed = refusal.to_string(rt.alloc())?;
+        expect!(rt; printed.as_str() == line);
+    }
+    Ok(())
+}

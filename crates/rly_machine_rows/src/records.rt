@@ -1,0 +1,377 @@
+//! Records and bodies of records, byte by byte.
+ghost use Rattle.std.specs.Prelude.{◌≤◌, length, IfOk};
+ghost use Rattle.rly_record.specs.Spelling.{IsShort};
+
+use rly_core::{HopId, PeerId};
+use rly_machine::{Command, Payload};
+use rly_record::{DecodeFault, read_body, read_command, record_len, write_body, write_command};
+use std::alloc::{AllocError, Global};
+use std::process::Abort;
+use std::test::Fail;
+
+/// The record of `take 1 1 1 0 41`.
+const TAKE: [u8; 24] = [
+    0x01, 0x00, 0x01, 0, 0, 0, 0, 0, 0, 0, 1, 0x00, 0x01, 0, 0, 0, 0, 0, 0, 0, 0, 0x00, 0x01, 0x41,
+];
+
+/// Its body.
+const TAKE_BODY: [u8; 26] = [
+    0x00, 0x01, 0x01, 0x00, 0x01, 0, 0, 0, 0, 0, 0, 0, 1, 0x00, 0x01, 0, 0, 0, 0, 0, 0, 0, 0, 0x00,
+    0x01, 0x41,
+];
+
+/// The record of a Pick of hop 1 at 10,000.
+const PICK: [u8; 11] = [0x02, 0x00, 0x01, 0, 0, 0, 0, 0, 0, 0x27, 0x10];
+
+/// The record of a Release of hop 1 up to 3.
+const RELEASE: [u8; 11] = [0x03, 0x00, 0x01, 0, 0, 0, 0, 0, 0, 0, 0x03];
+
+/// The body of that Pick and that Release.
+const TWO: [u8; 24] = [
+    0x00, 0x02, 0x02, 0x00, 0x01, 0, 0, 0, 0, 0, 0, 0x27, 0x10, 0x03, 0x00, 0x01, 0, 0, 0, 0, 0, 0,
+    0, 0x03,
+];
+
+fn take(alloc: Global, payload: &[u8]) -> Result<Command<Payload>, AllocError>
+    requires { length payload.now ≤ 1200 }
+    ensures { IfOk result IsShort }
+{
+    Ok(Command::Take {
+        peer: PeerId(1),
+        number: 1,
+        hop: HopId(1),
+        stamp: 0,
+        payload: Payload::new(Vec::from_slice(alloc, payload)?),
+    })
+}
+
+fn pick() -> Command<Payload>
+    ensures { IsShort result }
+{
+    Command::Pick {
+        hop: HopId(1),
+        now: 10_000,
+    }
+}
+
+fn release() -> Command<Payload>
+    ensures { IsShort result }
+{
+    Command::Release {
+        hop: HopId(1),
+        number: 3,
+    }
+}
+
+fn write_one(command: Command<Payload>, out: &mut Vec<u8>) -> Result<(), AllocError>
+    requires { IsShort command }
+{
+    write_body(&[command], out)
+}
+
+fn write_two(
+    first: Command<Payload>,
+    second: Command<Payload>,
+    out: &mut Vec<u8>,
+) -> Result<(), AllocError>
+    requires first { IsShort first }
+    requires second { IsShort second }
+{
+    write_body(&[first, second], out)
+}
+
+/// Whether the bytes are refused as no body.
+fn is_malformed(alloc: Global, bytes: &[u8]) -> bool {
+    matches!(read_body(alloc, bytes), Err(DecodeFault::Malformed))
+}
+
+/// Whether the bytes are refused as no record.
+fn is_no_record(alloc: Global, bytes: &[u8]) -> bool {
+    matches!(read_command(alloc, bytes), Err(DecodeFault::Malformed))
+}
+
+/// Writes a record.
+fn expect_record(
+    rt: &impl Abort,
+    alloc: Global,
+    command: &Command<Payload>,
+    want: &[u8],
+) -> Result<(), AllocError>
+    requires { IsShort command.now }
+{
+    assert!(rt; record_len(command) == want.len());
+    let mut out = Vec::new(alloc);
+    write_command(command, &mut out)?;
+    expect!(rt; out.as_slice() == want);
+    Ok(())
+}
+
+#[test]
+fn the_worked_records_are_written(rt: HostRuntime) -> Result<(), Fail> {
+    let alloc = rt.alloc();
+    expect_record(&rt, alloc, &take(alloc, &[0x41])?, &TAKE)?;
+    expect_record(&rt, alloc, &pick(), &PICK)?;
+    expect_record(&rt, alloc, &release(), &RELEASE)?;
+    Ok(())
+}
+
+#[test]
+fn a_record_is_written_behind_another(rt: HostRuntime) -> Result<(), Fail> {
+    let mut out = Vec::new(rt.alloc());
+    write_command(&pick(), &mut out)?;
+    write_command(&release(), &mut out)?;
+    expect!(rt; out.as_slice() == &TWO[2..]);
+    Ok(())
+}
+
+/// Writes two bodies, the second over the first.
+fn expect_bodies(rt: &impl Abort, alloc: Global, out: &mut Vec<u8>) -> Result<(), AllocError> {
+    write_one(take(alloc, &[0x41])?, out)?;
+    expect!(rt; out.as_slice() == TAKE_BODY.as_slice());
+    out.clear();
+    write_two(pick(), release(), out)?;
+    expect!(rt; out.as_slice() == TWO.as_slice());
+    expect!(rt; out.capacity() == 50);
+    Ok(())
+}
+
+#[test]
+fn the_worked_bodies_are_written(rt: HostRuntime) -> Result<(), Fail> {
+    let alloc = rt.alloc();
+    let mut out = Vec::with_capacity(alloc, 50)?;
+    expect_bodies(&rt, alloc, &mut out)?;
+    Ok(())
+}
+
+#[test]
+fn a_body_is_written_behind_what_is_there(rt: HostRuntime) -> Result<(), Fail> {
+    let alloc = rt.alloc();
+    let mut out = Vec::from_slice(alloc, &[0xa5, 0xee])?;
+    write_two(pick(), release(), &mut out)?;
+    assert!(rt; out.len() == 26);
+    expect!(rt; &out.as_slice()[..2] == [0xa5, 0xee].as_slice());
+    expect!(rt; &out.as_slice()[2..] == TWO.as_slice());
+    Ok(())
+}
+
+fn is_worked_take(command: &Command<Payload>) -> bool {
+    match command {
+        Command::Take {
+            peer,
+            number,
+            hop,
+            stamp,
+            payload,
+        } => {
+            *peer == PeerId(1)
+                && *number == 1
+                && *hop == HopId(1)
+                && *stamp == 0
+                && payload.as_slice() == [0x41].as_slice()
+        }
+        _ => false,
+    }
+}
+
+fn is_worked_pick(command: &Command<Payload>) -> bool {
+    match command {
+        Command::Pick { hop, now } => *hop == HopId(1) && *now == 10_000,
+        _ => false,
+    }
+}
+
+fn is_worked_release(command: &Command<Payload>) -> bool {
+    match command {
+        Command::Release { hop, number } => *hop == HopId(1) && *number == 3,
+        _ => false,
+    }
+}
+
+/// Reads the worked Take in front of what may follow.
+fn expect_take(rt: &impl Abort, alloc: Global, bytes: &[u8]) -> Result<(), DecodeFault> {
+    let (command, length) = read_command(alloc, bytes)?;
+    expect!(rt; is_worked_take(&command) && length == 24);
+    Ok(())
+}
+
+/// Reads the worked Pick.
+fn expect_pick(rt: &impl Abort, alloc: Global, bytes: &[u8]) -> Result<(), DecodeFault> {
+    let (command, length) = read_command(alloc, bytes)?;
+    expect!(rt; is_worked_pick(&command) && length == 11);
+    Ok(())
+}
+
+/// Reads the worked Release.
+fn expect_release(rt: &impl Abort, alloc: Global, bytes: &[u8]) -> Result<(), DecodeFault> {
+    let (command, length) = read_command(alloc, bytes)?;
+    expect!(rt; is_worked_release(&command) && length == 11);
+    Ok(())
+}
+
+#[test]
+fn the_worked_records_are_read(rt: HostRuntime) -> Result<(), Fail> {
+    let alloc = rt.alloc();
+    expect_take(&rt, alloc, &TAKE)?;
+    expect_pick(&rt, alloc, &PICK)?;
+    expect_release(&rt, alloc, &RELEASE)?;
+    // other bytes may follow a record
+    expect_pick(&rt, alloc, &TWO[2..])?;
+    Ok(())
+}
+
+/// Whether a body has the worked Take alone.
+fn has_take(alloc: Global, bytes: &[u8]) -> Result<bool, DecodeFault> {
+    let commands = read_body(alloc, bytes)?;
+    Ok(commands.len() == 1 && is_worked_take(&commands[0]))
+}
+
+/// Whether a body has the worked Pick and Release.
+fn has_two(alloc: Global, bytes: &[u8]) -> Result<bool, DecodeFault> {
+    let commands = read_body(alloc, bytes)?;
+    Ok(commands.len() == 2 && is_worked_pick(&commands[0]) && is_worked_release(&commands[1]))
+}
+
+#[test]
+fn the_worked_bodies_are_read(rt: HostRuntime) -> Result<(), Fail> {
+    expect!(rt; has_take(rt.alloc(), &TAKE_BODY)?);
+    expect!(rt; has_two(rt.alloc(), &TWO)?);
+    Ok(())
+}
+
+#[test]
+fn each_cut_of_a_good_body_is_refused(rt: HostRuntime) {
+    for length in 0..TAKE_BODY.len() {
+        assert!(rt; is_malformed(rt.alloc(), &TAKE_BODY[..length]), "{length}");
+    }
+    for length in 0..TWO.len() {
+        assert!(rt; is_malformed(rt.alloc(), &TWO[..length]), "{length}");
+    }
+    for length in 0..TAKE.len() {
+        assert!(rt; is_no_record(rt.alloc(), &TAKE[..length]), "{length}");
+    }
+}
+
+#[test]
+fn a_byte_behind_the_last_record_is_refused(rt: HostRuntime) -> Result<(), Fail> {
+    let alloc = rt.alloc();
+    let mut bytes = Vec::from_slice(alloc, &TAKE_BODY)?;
+    bytes.push(0x00)?;
+    expect!(rt; is_malformed(alloc, &bytes));
+    Ok(())
+}
+
+/// The bytes of a body of so many of the worked Picks.
+fn picks(alloc: Global, count: u8) -> Result<Vec<u8>, AllocError> {
+    let mut bytes = vec![in alloc; 0, count]?;
+    for _ in 0..count {
+        bytes.extend_from_slice(&PICK)?;
+    }
+    Ok(bytes)
+}
+
+/// How many commands are read of a body of so many of the worked Picks, `None` where it is refused as no body.
+fn picks_read(alloc: Global, count: u8) -> Result<Option<usize>, DecodeFault> {
+    let bytes = picks(alloc, count)?;
+    match read_body(alloc, &bytes) {
+        Ok(commands) => Ok(Some(commands.len())),
+        Err(DecodeFault::Malformed) => Ok(None),
+        Err(fault) => Err(fault),
+    }
+}
+
+#[test]
+fn a_body_has_1_to_64_records(rt: HostRuntime) -> Result<(), Fail> {
+    for (count, want) in [(0, None), (1, Some(1)), (64, Some(64)), (65, None)] {
+        expect!(rt; picks_read(rt.alloc(), count)? == want);
+    }
+    Ok(())
+}
+
+/// Reads a Pick's bytes under another kind, as a record and as a body.
+fn expect_no_kind(rt: &impl Abort, alloc: Global, kind: u8) -> Result<(), AllocError> {
+    let mut body = vec![in alloc; 0, 1, kind]?;
+    body.extend_from_slice(&PICK[1..])?;
+    expect!(rt; is_no_record(alloc, &body.as_slice()[2..]));
+    expect!(rt; is_malformed(alloc, &body));
+    Ok(())
+}
+
+#[test]
+fn no_other_kind_is_read(rt: HostRuntime) -> Result<(), Fail> {
+    for kind in [0x00, 0x04, 0xff] {
+        expect_no_kind(&rt, rt.alloc(), kind)?;
+    }
+    Ok(())
+}
+
+/// The bytes of a Take of peer 0xfffe, number 2^64 - 1, hop 0xfffd and stamp 2^64 - 2 with a payload of so many bytes 07.
+fn long_take(alloc: Global, size: u16) -> Result<Vec<u8>, AllocError> {
+    let mut bytes = vec![in alloc;
+        0x01, 0xff, 0xfe, 0xff, 0xff, 0xff, 0xff, 0xff, 0xff, 0xff, 0xff, 0xff, 0xfd, 0xff, 0xff,
+        0xff, 0xff, 0xff, 0xff, 0xff, 0xfe,
+    ]?;
+    bytes.extend_from_slice(&size.to_be_bytes())?;
+    for _ in 0..size {
+        bytes.push(0x07)?;
+    }
+    Ok(bytes)
+}
+
+/// Reads the longest Take, whose bytes these are.
+fn expect_long_take(rt: &impl Abort, alloc: Global, bytes: &[u8]) -> Result<(), DecodeFault> {
+    let (command, length) = read_command(alloc, bytes)?;
+    assert!(rt; bytes.len() == 1_223 && length == 1_223);
+    let Command::Take {
+        peer,
+        number,
+        hop,
+        stamp,
+        payload,
+    } = &command
+    else {
+        panic!(rt; "the record is a Take's");
+    };
+    expect!(rt; *peer == PeerId(0xfffe) && *number == u64::MAX);
+    expect!(rt; *hop == HopId(0xfffd) && *stamp == u64::MAX - 1);
+    expect!(rt; payload.as_slice().iter().eq(bytes.iter().skip(23)));
+    Ok(())
+}
+
+#[test]
+fn a_payload_has_at_most_1200_bytes(rt: HostRuntime) -> Result<(), Fail> {
+    let alloc = rt.alloc();
+    expect_long_take(&rt, alloc, &long_take(alloc, 1_200)?)?;
+    expect!(rt; is_no_record(alloc, &long_take(alloc, 1_201)?));
+    Ok(())
+}
+
+/// What stands for a payload by its length alone.
+#[derive(Drop)]
+struct Length {
+    length: usize,
+}
+
+impl rly_machine::Content for Length {
+    ghost length_of = { λ content. content.length };
+
+    fn len(&self) -> usize {
+        self.length
+    }
+}
+
+#[test]
+fn lengths_of_records_over_another_content(rt: HostRuntime) {
+    let command = Command::Take {
+        peer: PeerId(1),
+        number: 1,
+        hop: HopId(1),
+        stamp: 0,
+        payload: Length { length: 1_200 },
+    };
+    expect!(rt; record_len(&command) == 1_223);
+    let command: Command<Length> = Command::Pick {
+        hop: HopId(1),
+        now: 0,
+    };
+    expect!(rt; record_len(&command) == 11);
+}

@@ -1,7 +1,0 @@
-use Rattle.std.proofs.Common.{[], ◌∷◌}
-use Rattle.std.proofs.lemmas.List.Elements.{All-from_recursion}
-use Rattle.rly_record.specs.Spelling.{IsShort}
-use Rattle.rly_record.proofs.tests.write_one.Goals as goal
-
-pub write_body-requires-clause-short : goal.write_body-requires-clause-short
-write_body-requires-clause-short c = All-from_recursion IsShort (c.args.command ∷ []) (c.requires, tt)

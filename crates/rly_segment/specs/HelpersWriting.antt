@@ -1,0 +1,39 @@
+-- Helpers: what a crash may leave within the private steps of an opening and of a format. Nothing here is claimed: what
+-- it may leave within the whole calls is said by `Heads` and `Formatted`.
+use Rattle.std.specs.Prelude.{◌≡◌, ◌⊎◌, ℕ, ◌<◌, List, ◌∷◌, ◌++◌, length}
+use Rattle.byteorder.specs.Endian.{big_bytes}
+use Rattle.rly_core.specs.declared.params.Geometry.{Geometry}
+use Rattle.rly_core.specs.declared.params.Params.{Params}
+use Rattle.rly_disk.specs.DiskModel.{SameOutside}
+use Rattle.rly_gate.specs.Group.{IsClosed, IsOpen, StandsAt, open_gate}
+use Rattle.rly_segment.specs.Device.{device_mark, header_of}
+use Rattle.rly_segment.specs.Heads.{segment_place}
+
+-- within the closing of a gate: all other bytes as they were, and where the gate is open, it was
+pub record IsClosing (place : ℕ) (old image : List ℕ) : Type 0 where
+  pub outside : SameOutside place 1 old image
+  pub gate : IsOpen image place → image ≡ old
+
+-- within a write of bytes behind a gate, which is closed before it and opened after it: all other bytes as they were,
+-- and where the gate is open, the bytes that were there or the whole ones
+pub record IsReplacing (place : ℕ) (behind old image : List ℕ) : Type 0 where
+  pub outside : SameOutside place (length (open_gate ∷ behind)) old image
+  pub whole : (IsOpen image place → image ≡ old) ⊎ StandsAt image place (open_gate ∷ behind)
+
+-- all of a new device but the header's gate, where these bytes stand behind the first segment's gate
+pub record IsUnopened (g : Geometry) (behind image : List ℕ) : Type 0 where
+  pub header : StandsAt image 1 (header_of g)
+  pub head : StandsAt image (segment_place g 0) (open_gate ∷ behind)
+  pub others : (t : ℕ) → 0 < t → t < g.segments → IsClosed image (segment_place g t)
+
+-- the first fields of a header: the mark, the counts and the segments' length
+abbrev pub shape_of : Geometry → List ℕ
+shape_of g =
+    device_mark ++ big_bytes 2 g.params.hops ++ big_bytes 2 g.params.peers ++ big_bytes 2 g.params.window
+    ++ big_bytes 2 g.segments ++ big_bytes 4 g.length
+
+-- the fields behind them
+abbrev pub limits_of : Params → List ℕ
+limits_of p =
+    big_bytes 4 p.items ++ big_bytes 4 p.bytes ++ big_bytes 4 p.maxpacket ++ big_bytes 8 p.target
+    ++ big_bytes 8 p.interval

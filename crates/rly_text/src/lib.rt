@@ -1,0 +1,22 @@
+//! The language of lines of the program `rly`: what a line asks, the line of its reply, and the commands
+//! `sim` and `play`, which answer the lines of any reader. It has no handles.
+//!
+//! `specs/Grammar.antt` says what a line asks, `specs/Replies.antt` the line of a reply, `specs/Text.antt`
+//! the text for a whole input, and `specs/Playing.antt` that of a play with what becomes of its journal.
+//! `sim` and `play` write these texts. `rly_daemon` calls them, and hands them on; tests call them too.
+#![tactic(auto)]
+
+mod bytes;
+mod grammar;
+mod line_batch;
+mod line_evaluation;
+mod line_reader;
+mod outflow;
+mod playing;
+mod reply_line;
+mod simulation;
+mod text_fault;
+
+pub use crate::playing::play;
+pub use crate::simulation::sim;
+pub use crate::text_fault::TextFault;

@@ -1,0 +1,154 @@
+ghost use Rattle.std.specs.Prelude.{◌≡◌, ◌≤◌, ◌++◌, vec_capacity, vec_len};
+ghost use Rattle.rly_text.specs.HelpersReading.{kept_of};
+
+use crate::bytes::position_of;
+use crate::text_fault::TextFault;
+use rly_core::limits;
+use rly_stream::read_some;
+use std::alloc::{AllocError, Global};
+use std::io::Read;
+use std::marker::Model;
+
+/// How many bytes are read at once.
+const CHUNK: usize = 65_536;
+
+/// How many bytes are kept of a line: one more than a command may have.
+const KEPT: usize = limits::MAX_LINE as usize + 1;
+
+/// Reads lines from any reader in the memory that it is made with, however long they are. Contracts
+/// see the bytes that it has read ahead, what it keeps of the last line, and how many bytes it took.
+#[derive(Debug, Drop)]
+pub struct LineReader {
+    chunk: Vec<u8>,
+    at: usize,
+    end: usize,
+    line: Vec<u8>,
+    total: u64,
+}
+
+impl Model for LineReader {
+    ghost use Rattle.std.specs.Prelude.{vec_capacity, vec_len};
+    ghost use Rattle.rly_text.specs.HelpersReading.{Reading, IsReading, reading_of};
+
+    ghost Value = { Reading };
+
+    ghost view = { λ r. reading_of r.chunk.items r.at r.end r.line.items r.total };
+
+    ghost invariant = { λ r. IsReading (vec_len r.chunk) r.at r.end (vec_len r.line) (vec_capacity r.line) r.total };
+}
+
+impl LineReader {
+    ghost use Rattle.std.specs.Prelude.{◌≡◌, ◌<◌, ◌^◌, ◌==◌, [], length, IfErr, IfOk, true, false};
+    ghost use Rattle.std.specs.Io.KnownBytes.{IsAtEnd, Keeps, prepend_known};
+    ghost use Rattle.rly_text.specs.HelpersReading.{Fills, TakesLine, TakesPiece, nothing_read};
+
+    /// A reader of lines that has read nothing.
+    pub fn new(alloc: Global) -> Result<LineReader, AllocError>
+        ensures { IfOk result (λ lines. lines ≡ nothing_read) }
+    {
+        let chunk = vec![in alloc; 0u8; CHUNK]?;
+        let line = Vec::with_capacity(alloc, KEPT)?;
+        Ok(LineReader {
+            chunk,
+            at: 0,
+            end: 0,
+            line,
+            total: 0,
+        })
+    }
+
+    /// What is kept of the last line, without its newline: all of it, or of a longer one its first
+    /// 4,097 bytes.
+    pub fn line(&self) -> &[u8]
+        ensures { result.now ≡ self.now.line }
+    {
+        self.line.as_slice()
+    }
+
+    /// Whether all that was read ahead is used up, so that the next line waits for the reader.
+    pub fn is_drained(&self) -> bool
+        ensures { result ≡ (length self.now.ahead == 0) }
+    {
+        self.at == self.end
+    }
+
+    /// Takes the next line, and answers whether there was one. A longer line than a command may
+    /// have is used up too. Where the reader fails, or gives 2^64 - 1 bytes or more, the answer is
+    /// `Input`.
+    pub fn next_line<R: Read>(&mut self, reader: &mut R) -> Result<bool, TextFault>
+        ensures line { IfOk result (λ found. TakesLine found (prepend_known self.old.ahead (R.remaining reader.old))
+            (prepend_known self.new.ahead (R.remaining reader.new)) self.new.line) }
+        ensures progress { result ≡ Ok true → (self.old.taken < self.new.taken) × (self.new.taken < 2 ^ 64) }
+        ensures fault { IfErr result (λ fault. fault ≡ TextFault.Input) }
+    {
+        self.forget_line();
+        if self.take_piece() {
+            return Ok(true);
+        }
+        while self.fill(reader)? {
+            if self.take_piece() {
+                return Ok(true);
+            }
+        }
+        Ok(!self.line().is_empty())
+    }
+
+    /// Keeps nothing of the last line.
+    fn forget_line(&mut self)
+        ensures { self.new ≡ record self.old { line = [] } }
+    {
+        self.line.clear();
+    }
+
+    /// Takes from what was read ahead a piece of the line: up to its newline, or all there is. It
+    /// answers whether the line ended.
+    fn take_piece(&mut self) -> bool
+        ensures { TakesPiece result self.old self.new }
+    {
+        let ahead = &self.chunk[self.at..self.end];
+        match position_of(ahead, b'\n') {
+            Some(count) => {
+                keep(&mut self.line, &ahead[..count]);
+                self.at += count + 1;
+                true
+            }
+            None => {
+                keep(&mut self.line, ahead);
+                self.at = self.end;
+                false
+            }
+        }
+    }
+
+    /// Reads ahead once more, and answers whether there was anything.
+    fn fill<R: Read>(&mut self, reader: &mut R) -> Result<bool, TextFault>
+        requires { self.old.ahead ≡ [] }
+        ensures filled { IfOk result (λ found. Fills found self.old self.new) }
+        ensures bytes { IfOk result (λ found. Keeps (R.remaining reader.old) (prepend_known self.new.ahead (R.remaining reader.new))) }
+        ensures end { result ≡ Ok false → IsAtEnd (R.remaining reader.new) }
+        ensures fault { IfErr result (λ fault. fault ≡ TextFault.Input) }
+    {
+        let count = read_some(reader, &mut self.chunk)?;
+        let total = self.total.saturating_add(count as u64);
+        if total == u64::MAX {
+            return Err(TextFault::Input);
+        }
+        self.at = 0;
+        self.end = count;
+        self.total = total;
+        Ok(count > 0)
+    }
+}
+
+/// Adds to what is kept of a line as much of a piece as has room.
+fn keep(line: &mut Vec<u8>, piece: &[u8])
+    requires short { vec_len line.old ≤ 4097 }
+    requires room { 4097 ≤ vec_capacity line.old }
+    ensures line { line.new.items ≡ kept_of (line.old.items ++ piece.now) }
+    ensures short { vec_len line.new ≤ 4097 }
+    ensures room { 4097 ≤ vec_capacity line.new }
+{
+    let count = (KEPT - line.len()).min(piece.len());
+    // The room was made with the line, so this never fails.
+    let _kept = line.extend_from_slice(&piece[..count]);
+}

@@ -1,0 +1,235 @@
+ghost use Rattle.std.specs.Prelude.{◌≡◌, ◌≤◌, Some, length};
+ghost use Rattle.hex.specs.Hex.{encode_lower};
+
+use rly_audit::HopCounts;
+use rly_core::{HopId, PeerId};
+use rly_machine::{Ask, CodelState, Command, HopStatus, Ids, Payload, Query, Reply};
+use std::fmt;
+
+/// What of an ask its reply line repeats.
+#[derive(Clone, Copy, Debug, PartialEq, Eq)]
+pub struct Subject {
+    /// The peer of a Take; 0 in any other ask.
+    pub peer: PeerId,
+    /// The hop.
+    pub hop: HopId,
+    /// The custody number; 0 in an ask that has none.
+    pub number: u64,
+}
+
+impl Subject {
+    ghost use Rattle.rly_text.specs.Replies.{subject_of};
+
+    /// What the reply to an ask repeats of it.
+    pub fn of(ask: &Ask) -> Subject
+        ensures { result ≡ subject_of ask.now }
+    {
+        match ask {
+            Ask::Command(
+                Command::Take {
+                    peer,
+                    number,
+                    hop,
+                    ..
+                },
+            ) => Subject {
+                peer: *peer,
+                hop: *hop,
+                number: *number,
+            },
+            Ask::Command(Command::Release { hop, number })
+            | Ask::Query(Query::Fetch { hop, number }) => Subject {
+                peer: PeerId(0),
+                hop: *hop,
+                number: *number,
+            },
+            Ask::Command(Command::Pick { hop, .. })
+            | Ask::Query(Query::Window { hop } | Query::Show { hop }) => Subject {
+                peer: PeerId(0),
+                hop: *hop,
+                number: 0,
+            },
+        }
+    }
+}
+
+/// A reply with what its line repeats of the ask. It displays as that line, without a newline
+/// (`docs/COMMANDS.md`, "Replies").
+#[derive(Debug, Drop)]
+pub struct ReplyLine<'a> {
+    /// What the line repeats.
+    pub subject: Subject,
+    /// The reply.
+    pub reply: &'a Reply,
+}
+
+impl fmt::Display for ReplyLine<'_> {
+    ghost use Rattle.rly_text.specs.Replies.{reply_text};
+
+    ghost output = { λ line. Some (reply_text line.subject line.reply.now) };
+
+    fn fmt<W: fmt::Write>(&self, f: &mut fmt::Formatter<W>) -> fmt::Result {
+        let Subject { peer, hop, number } = self.subject;
+        let (peer, hop) = (peer.0, hop.0);
+        match self.reply {
+            Reply::Taken(id) => write!(f, "taken {peer} {id}"),
+            Reply::Already(last) => write!(f, "already {peer} {last}"),
+            Reply::Picked {
+                number,
+                id,
+                dropped,
+            } => write!(f, "picked {hop} {number} {id}{}", Dropped { ids: dropped }),
+            Reply::Nothing => write!(f, "nothing {hop}"),
+            Reply::Released(count) => write!(f, "released {hop} {count}"),
+            Reply::Unchanged => write!(f, "unchanged {hop}"),
+            Reply::Bytes(payload) => write!(f, "bytes {hop} {number} {}", Hexadecimal { payload }),
+            Reply::WindowIs { first, next } => write!(f, "window {hop} {first} {next}"),
+            Reply::Shown(status) => write!(f, "{}", StatusLine { hop, status }),
+            Reply::Refused(refusal) => write!(f, "{refusal}"),
+        }
+    }
+}
+
+/// The ids that were dropped, where there are any.
+#[derive(Drop)]
+struct Dropped<'a> {
+    ids: &'a Ids,
+}
+
+impl fmt::Display for Dropped<'_> {
+    ghost use Rattle.rly_text.specs.Replies.{dropped_text};
+
+    ghost output = { λ dropped. Some (dropped_text dropped.ids.now) };
+
+    #[tactic(auto, unfolding(crate::specs::Replies::dropped_text))]
+    fn fmt<W: fmt::Write>(&self, f: &mut fmt::Formatter<W>) -> fmt::Result {
+        let ids = self.ids.as_slice();
+        if ids.is_empty() {
+            return Ok(());
+        }
+        write!(f, " dropped{}", SpacedIds { ids })
+    }
+}
+
+/// Ids, each behind a space.
+#[derive(Drop)]
+struct SpacedIds<'a> {
+    ids: &'a [u64],
+}
+
+impl fmt::Display for SpacedIds<'_> {
+    ghost use Rattle.rly_text.specs.Replies.{ids_text};
+
+    ghost output = { λ spaced. Some (ids_text spaced.ids.now) };
+
+    #[tactic(auto, using(std::proofs::lemmas::Grind::common_steps), unfolding(crate::specs::Replies::ids_text))]
+    fn fmt<W: fmt::Write>(&self, f: &mut fmt::Formatter<W>) -> fmt::Result {
+        for id in self.ids {
+            write!(f, " {id}")?;
+        }
+        Ok(())
+    }
+}
+
+/// A payload in hexadecimal, a dash where it has no bytes.
+#[derive(Drop)]
+struct Hexadecimal<'a> {
+    payload: &'a Payload,
+}
+
+impl fmt::Display for Hexadecimal<'_> {
+    ghost use Rattle.rly_text.specs.Replies.{payload_text};
+
+    ghost output = { λ hexadecimal. Some (payload_text hexadecimal.payload.now) };
+
+    #[tactic(auto, unfolding(crate::specs::Replies::payload_text))]
+    fn fmt<W: fmt::Write>(&self, f: &mut fmt::Formatter<W>) -> fmt::Result {
+        let bytes = self.payload.as_slice();
+        if bytes.is_empty() {
+            return write!(f, "-");
+        }
+        write!(f, "{}", Digits { bytes })
+    }
+}
+
+/// How many bytes of a payload are written at once.
+const PIECE: usize = 64;
+
+/// Bytes, each as two hexadecimal digits.
+#[derive(Drop)]
+struct Digits<'a> {
+    bytes: &'a [u8],
+}
+
+impl fmt::Display for Digits<'_> {
+    ghost output = { λ digits. Some (encode_lower digits.bytes.now) };
+
+    fn fmt<W: fmt::Write>(&self, f: &mut fmt::Formatter<W>) -> fmt::Result {
+        let mut buffer = [0; 2 * PIECE];
+        for piece in self.bytes.chunks(PIECE) {
+            f.write_str(digits_of(piece, &mut buffer))?;
+        }
+        Ok(())
+    }
+}
+
+/// The digits of at most 64 bytes, in a buffer.
+fn digits_of<'a>(bytes: &[u8], buffer: &'a mut [u8; 2 * PIECE]) -> &'a str
+    requires { length bytes.now ≤ 64 }
+    ensures { result.now ≡ encode_lower bytes.now }
+{
+    let digits = &mut buffer[..2 * bytes.len()];
+    hex::encode_to_slice(bytes, digits).unwrap();
+    str::from_utf8(digits).unwrap()
+}
+
+/// All numbers of a hop, as a line.
+#[derive(Drop)]
+struct StatusLine<'a> {
+    hop: u16,
+    status: &'a HopStatus,
+}
+
+impl fmt::Display for StatusLine<'_> {
+    ghost use Rattle.rly_text.specs.Replies.{status_text};
+
+    ghost output = { λ line. Some (status_text (record { 0 = line.hop }) line.status.now) };
+
+    fn fmt<W: fmt::Write>(&self, f: &mut fmt::Formatter<W>) -> fmt::Result {
+        let (hop, status) = (self.hop, self.status);
+        let counts = HopCounts { status };
+        let codel = Discards {
+            codel: &status.codel,
+        };
+        write!(f, "hop {hop}{counts}{codel} moment {}", status.moment)
+    }
+}
+
+/// CoDel's state of a hop.
+#[derive(Drop)]
+struct Discards<'a> {
+    codel: &'a CodelState,
+}
+
+impl fmt::Display for Discards<'_> {
+    ghost use Rattle.rly_text.specs.Replies.{discards_text};
+
+    ghost output = { λ discards. Some (discards_text discards.codel.now) };
+
+    #[tactic(auto, unfolding(crate::specs::Replies::discards_text))]
+    fn fmt<W: fmt::Write>(&self, f: &mut fmt::Formatter<W>) -> fmt::Result {
+        let CodelState {
+            first_above_time,
+            drop_next,
+            count,
+            lastcount,
+            dropping,
+        } = *self.codel;
+        let dropping = if dropping { "yes" } else { "no" };
+        write!(
+            f,
+            " first {first_above_time} next {drop_next} count {count}"
+        )?;
+        write!(f, " last {lastcount} dropping {dropping}")
+    }
+}
