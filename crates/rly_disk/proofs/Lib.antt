@@ -6,3 +6,5 @@ pub mod Overwritten
 pub mod Ranges
 mod RecordLemmas
 mod Steps
+pub mod TraceRanges
+pub mod Traces

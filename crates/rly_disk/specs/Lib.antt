@@ -5,3 +5,4 @@ pub mod HelpersMemDisk
 pub mod HelpersRecord
 pub mod MemDisk
 pub mod Record
+pub mod Trace

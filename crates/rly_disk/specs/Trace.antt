@@ -1,0 +1,170 @@
+-- What a row of calls did to a disk, as one list of events, and what follows from such a list.
+use Rattle.std.specs.Prelude.{◌≡◌, ◌⊎◌, ◌↔◌, ◌≤◌, ◌+◌, ◌-◌, ◌^◌, ℕ, Bool, true, false, nat_le, if◌then◌else◌}
+use Rattle.std.specs.Prelude.{List, [], ◌∷◌, ◌++◌, length, take}
+use Rattle.rly_disk.specs.DiskModel.{DiskState, IsTorn, overwritten}
+
+-- a call of a disk, done or failed
+pub data DeviceEvent : Type 0 where
+  -- so many bytes were read from a place on
+  Read : (place count : ℕ) → DeviceEvent
+  FailedRead : (place count : ℕ) → DeviceEvent
+  -- these bytes were written from a place on
+  Write : (place : ℕ) (bytes : List ℕ) → DeviceEvent
+  -- the write of these bytes failed; in their range a read now gives the others, of which none lies behind it
+  FailedWrite : (place : ℕ) (bytes left : List ℕ) → DeviceEvent
+  Sync : DeviceEvent
+  FailedSync : DeviceEvent
+
+abbrev pub is_failed_call : DeviceEvent → Bool
+is_failed_call (Read place count) = false
+is_failed_call (FailedRead place count) = true
+is_failed_call (Write place bytes) = false
+is_failed_call (FailedWrite place bytes left) = true
+is_failed_call Sync = false
+is_failed_call FailedSync = true
+
+abbrev pub is_sync_call : DeviceEvent → Bool
+is_sync_call (Read place count) = false
+is_sync_call (FailedRead place count) = false
+is_sync_call (Write place bytes) = false
+is_sync_call (FailedWrite place bytes left) = false
+is_sync_call Sync = true
+is_sync_call FailedSync = true
+
+abbrev pub is_failed_read : DeviceEvent → Bool
+is_failed_read (Read place count) = false
+is_failed_read (FailedRead place count) = true
+is_failed_read (Write place bytes) = false
+is_failed_read (FailedWrite place bytes left) = false
+is_failed_read Sync = false
+is_failed_read FailedSync = false
+
+-- how many of the events are of this kind
+abbrev pub count_of : (DeviceEvent → Bool) → List DeviceEvent → ℕ
+count_of kind [] = 0
+count_of kind (event ∷ events) = (if kind event then 1 else 0) + count_of kind events
+
+-- what a read gives after an event, from what it gave before it
+abbrev pub seen_after : DeviceEvent → List ℕ → List ℕ
+seen_after (Read place count) seen = seen
+seen_after (FailedRead place count) seen = seen
+seen_after (Write place bytes) seen = overwritten place bytes seen
+seen_after (FailedWrite place bytes left) seen = overwritten place (take (length bytes) left) seen
+seen_after Sync seen = seen
+seen_after FailedSync seen = seen
+
+-- the crash images after an event, from what a read gave and the images before it. A write leaves any bytes in its range,
+-- from its first moment on; a sync leaves what a read gives; a read and a failed sync change nothing
+abbrev pub images_after : DeviceEvent → List ℕ → (List ℕ → Type 0) → List ℕ → Type 0
+images_after (Read place count) seen images = images
+images_after (FailedRead place count) seen images = images
+images_after (Write place bytes) seen images = IsTorn place (length bytes) images
+images_after (FailedWrite place bytes left) seen images = IsTorn place (length bytes) images
+images_after Sync seen images = λ image. image ≡ seen
+images_after FailedSync seen images = images
+
+-- the same after a list of events
+abbrev pub seen_at_end : List DeviceEvent → List ℕ → List ℕ
+seen_at_end [] seen = seen
+seen_at_end (event ∷ events) seen = seen_at_end events (seen_after event seen)
+
+abbrev pub images_at_end : List DeviceEvent → List ℕ → (List ℕ → Type 0) → List ℕ → Type 0
+images_at_end [] seen images = images
+images_at_end (event ∷ events) seen images =
+    images_at_end events (seen_after event seen) (images_after event seen images)
+
+-- the images of any moment of a list of events: before an event, within it or after it
+abbrev pub images_within : List DeviceEvent → List ℕ → (List ℕ → Type 0) → List ℕ → Type 0
+images_within [] seen images image = images image
+images_within (event ∷ events) seen images image =
+    images image ⊎ images_within events (seen_after event seen) (images_after event seen images) image
+
+-- the events are reads and syncs that failed: they settle nothing
+abbrev pub is_still : List DeviceEvent → Bool
+is_still [] = true
+is_still (Read place count ∷ events) = is_still events
+is_still (FailedRead place count ∷ events) = is_still events
+is_still (Write place bytes ∷ events) = false
+is_still (FailedWrite place bytes left ∷ events) = false
+is_still (Sync ∷ events) = false
+is_still (FailedSync ∷ events) = is_still events
+
+-- what the events make of an honest disk
+pub record Follows (events : List DeviceEvent) (old new : DiskState) : Type 0 where
+  pub seen : new.seen ≡ seen_at_end events old.seen
+  pub images : (c : List ℕ) → new.images c → images_at_end events old.seen old.images c
+  pub still : is_still events ≡ true → (c : List ℕ) → old.images c → new.images c
+  pub later : old.moment ≤ new.moment
+  pub since : (t : ℕ) (c : List ℕ) → t ≤ old.moment
+      → new.since t c → old.since t c ⊎ images_within events old.seen old.images c
+  pub keeps : (t : ℕ) (c : List ℕ) → t ≤ old.moment → old.since t c → new.since t c
+
+-- these events and no others lead from one state of a disk to another: on any disk they account for its counts, on an
+-- honest one also for its bytes and for what a crash leaves
+pub record Leads (events : List DeviceEvent) (old new : DiskState) : Type 0 where
+  pub calls : new.calls ≡ old.calls + length events
+  pub failures : new.failures ≡ old.failures + count_of is_failed_call events
+  pub syncs : new.syncs ≡ old.syncs + count_of is_sync_call events
+  pub failed_reads : new.failed_reads ≡ old.failed_reads + count_of is_failed_read events
+  pub size : new.size ≡ old.size
+  pub honest : new.honest ↔ old.honest
+  pub follows : old.honest → Follows events old new
+
+-- the event is this call, failed
+abbrev pub IsFailed : DeviceEvent → DeviceEvent → Type 0
+IsFailed (Read place count) event = event ≡ FailedRead place count
+IsFailed (Write place bytes) event = (left : List ℕ) × (event ≡ FailedWrite place bytes left)
+IsFailed Sync event = event ≡ FailedSync
+IsFailed (FailedRead place count) event = ⊥
+IsFailed (FailedWrite place bytes left) event = ⊥
+IsFailed FailedSync event = ⊥
+
+-- the counts stand at their last value
+abbrev pub is_spent : DiskState → Bool
+is_spent disk = nat_le (2 ^ 64 - 1) disk.calls
+
+-- of a row of calls those in front of one were made, and it failed: it is the last event, it isn't tried again, and
+-- nothing goes on after it
+pub record EndsAtFailure (calls events : List DeviceEvent) : Type 0 where
+  pub done : List DeviceEvent
+  pub call : DeviceEvent
+  pub rest : List DeviceEvent
+  pub last : DeviceEvent
+  pub calls_are : calls ≡ done ++ call ∷ rest
+  pub failed : IsFailed call last
+  pub events_are : events ≡ done ++ last ∷ []
+
+-- of a row of calls those in front of one were made, which wasn't counted, since the counts stand at their last value
+pub record EndsUncounted (calls events : List DeviceEvent) : Type 0 where
+  pub call : DeviceEvent
+  pub rest : List DeviceEvent
+  pub calls_are : calls ≡ events ++ call ∷ rest
+
+abbrev pub IsCut : Bool → List DeviceEvent → List DeviceEvent → Type 0
+IsCut spent calls events = EndsAtFailure calls events ⊎ ((spent ≡ true) × EndsUncounted calls events)
+
+-- the calls of a row were made: all of them, done, or those up to the first that failed
+abbrev pub IsMade : Bool → Bool → List DeviceEvent → List DeviceEvent → Type 0
+IsMade true spent calls events = events ≡ calls
+IsMade false spent calls events = IsCut spent calls events
+
+-- each write lies in a range of n bytes
+abbrev pub WritesWithin : ℕ → ℕ → List DeviceEvent → Type 0
+WritesWithin place n [] = Unit {0}
+WritesWithin place n (Read at count ∷ calls) = WritesWithin place n calls
+WritesWithin place n (FailedRead at count ∷ calls) = WritesWithin place n calls
+WritesWithin place n (Write at bytes ∷ calls) =
+    (place ≤ at) × (at + length bytes ≤ place + n) × WritesWithin place n calls
+WritesWithin place n (FailedWrite at bytes left ∷ calls) =
+    (place ≤ at) × (at + length bytes ≤ place + n) × WritesWithin place n calls
+WritesWithin place n (Sync ∷ calls) = WritesWithin place n calls
+WritesWithin place n (FailedSync ∷ calls) = WritesWithin place n calls
+
+-- a row of calls of a disk was made, whole or up to the first that failed, and nothing else; where none was made the disk
+-- is the same
+pub record Makes {D : Type 0} (state : D → DiskState) (calls : List DeviceEvent) (whole : Bool) (old new : D)
+    : Type 0 where
+  pub events : List DeviceEvent
+  pub leads : Leads events (state old) (state new)
+  pub made : IsMade whole (is_spent (state new)) calls events
+  pub untouched : events ≡ [] → new ≡ old
