@@ -217,26 +217,21 @@ fn other_plan(rt: &HostRuntime) -> Result<Plan, Fail>
     Ok(plan)
 }
 
-/// Runs a relay on a device whose first write fails, and checks that it ends broken.
-fn expect_broken(rt: &(impl Abort + Host), plan: &Plan) -> Result<(), Fail>
-    requires { IsSoundPlan plan.now }
-{
-    let journal = Journal::open(rt.alloc(), failing(rt)?)
-        .ok()
-        .ok_or("a journal")?;
-    expect!(rt; serve(rt, journal, plan, 20).err() == Some(ServeFault::Refused(Refusal::Broken)));
-    Ok(())
-}
-
 /// Where a write of the device fails, nothing is acknowledged, and the relay ends broken.
 #[test]
 fn a_failed_write_ends_a_relay_broken(rt: HostRuntime) -> Result<(), Fail> {
     let plan = other_plan(&rt)?;
+    let journal = Journal::open(rt.alloc(), failing(&rt)?)
+        .ok()
+        .ok_or("a journal")?;
     let socket = socket_at(&rt, "127.0.0.1:4032")?;
     let neighbour = thread::spawn(&rt, move || hears_custody(&socket, "127.0.0.1:4031", 20))
         .ok()
         .ok_or("a thread")?;
-    expect_broken(&rt, &plan)?;
-    expect!(rt; !neighbour.join(&rt));
+    assert_eq!(rt;
+        serve(&rt, journal, &plan, 20).err(),
+        Some(ServeFault::Refused(Refusal::Broken))
+    );
+    assert!(rt; !neighbour.join(&rt));
     Ok(())
 }
