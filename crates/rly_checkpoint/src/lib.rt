@@ -1,10 +1,11 @@
 //! A whole spool as bytes, and back: its checkpoint, which the head of a segment holds.
 //!
-//! Writing and reading meet one spelling (`specs/Checkpoint.antt`; `docs/FORMATS.md`, "Heads"): what is written is the
-//! checkpoint of the spool's state, what is read is the one sound state that has this checkpoint, and only bytes for which there
-//! is none are malformed. Reading takes memory for the peers and hops that the parameters count, and for no more datagrams than
-//! the bytes have room for; writing takes none where the caller's buffer has the room.
-//! Callers: `rly_segment` and `rly_journal`.
+//! Writing and reading meet one spelling (`specs/Checkpoint.antt`; `docs/FORMATS.md`, "Heads").
+//! What is written is the checkpoint of the spool's state. What is read is the one sound state
+//! with this checkpoint, and only bytes for which there is none are malformed. Reading takes
+//! memory for the peers and hops that the parameters count, and for no more datagrams than the
+//! bytes have room for. Writing takes none if the caller's buffer has the room. Callers:
+//! `rly_segment` and `rly_journal`.
 #![tactic(auto)]
 
 mod laws;

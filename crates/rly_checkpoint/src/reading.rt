@@ -7,7 +7,7 @@ ghost use Rattle.rly_machine.specs.Kept.{hop_state, state_of};
 use crate::writing::ENTRY_LENGTH;
 use byteorder::{BigEndian, ByteOrder};
 use rly_core::Params;
-use rly_machine::{CodelState, Hop, Item, Payload};
+use rly_machine::{CodelState, Hop, Item, Payload, Queue};
 use rly_record::DecodeFault;
 use std::alloc::Global;
 use std::collections::VecDeque;
@@ -197,7 +197,7 @@ fn hop_of_bytes(alloc: Global, bytes: &[u8]) -> Result<(Hop<Payload>, &[u8]), De
     let (counts, rest) = counts_of(rest)?;
     let (lines, rest) = lines_of(alloc, rest)?;
     let hop = Hop {
-        queue: VecDeque::from_vec(lines.queue),
+        queue: Queue::of(alloc, lines.queue)?,
         flight: VecDeque::from_vec(lines.flight),
         codel,
         moment,

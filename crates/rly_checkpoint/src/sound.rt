@@ -147,7 +147,7 @@ fn live_at(hop: &Hop<Payload>, index: usize) -> &Item<Payload>
     if index < in_flight {
         &hop.flight[index]
     } else {
-        &hop.queue[index - in_flight]
+        hop.queue.item(index - in_flight)
     }
 }
 

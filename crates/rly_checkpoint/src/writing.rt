@@ -7,7 +7,7 @@ ghost use Rattle.rly_checkpoint.specs.Checkpoint.{checkpoint_of, codel_of, entry
 ghost use Rattle.rly_checkpoint.specs.HelpersFitting.{EntryFits, HopFits};
 
 use byteorder::{BigEndian, ByteOrder};
-use rly_machine::{CodelState, Hop, Item, Machine, Payload};
+use rly_machine::{CodelState, Hop, Item, Machine, Payload, Queue};
 use std::alloc::AllocError;
 use std::collections::VecDeque;
 
@@ -121,8 +121,8 @@ fn append_hop(hop: &Hop<Payload>, out: &mut Vec<u8>)
     append_number(hop.moment, out);
     append(&codel_bytes(&hop.codel), out);
     append(&counts_bytes(hop), out);
-    append_entries(&hop.flight, out);
-    append_entries(&hop.queue, out);
+    append_flight(&hop.flight, out);
+    append_queue(&hop.queue, out);
 }
 
 /// CoDel's state.
@@ -153,8 +153,8 @@ fn counts_bytes(hop: &Hop<Payload>) -> [u8; COUNTS_LENGTH]
     bytes
 }
 
-/// Adds entries for which there is room.
-fn append_entries(items: &VecDeque<Item<Payload>>, out: &mut Vec<u8>)
+/// Adds the entries of those in flight, for which there is room.
+fn append_flight(items: &VecDeque<Item<Payload>>, out: &mut Vec<u8>)
     requires fit { AllByRecursion EntryFits items.now.items }
     requires room { vec_len out.old + length (flat_map entry_of items.now.items) ≤ vec_capacity out.old }
     ensures items { out.new.items ≡ out.old.items ++ flat_map entry_of items.now.items }
@@ -164,6 +164,20 @@ fn append_entries(items: &VecDeque<Item<Payload>>, out: &mut Vec<u8>)
     let count = items.len();
     for index in 0..count {
         append_entry(&items[index], out);
+    }
+}
+
+/// Adds the entries of those that wait, for which there is room.
+fn append_queue(items: &Queue<Payload>, out: &mut Vec<u8>)
+    requires fit { AllByRecursion EntryFits items.now.items }
+    requires room { vec_len out.old + length (flat_map entry_of items.now.items) ≤ vec_capacity out.old }
+    ensures items { out.new.items ≡ out.old.items ++ flat_map entry_of items.now.items }
+    ensures len { vec_len out.new ≡ vec_len out.old + length (flat_map entry_of items.now.items) }
+    ensures capacity { vec_capacity out.old ≤ vec_capacity out.new }
+{
+    let count = items.len();
+    for index in 0..count {
+        append_entry(items.item(index), out);
     }
 }
 

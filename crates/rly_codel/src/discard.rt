@@ -6,7 +6,7 @@ ghost use Rattle.rly_codel.specs.Loop.{dequeue_by_loop, dodequeue, drop_loop, dr
 use crate::lane::Lane;
 use crate::state::{CodelState, Verdict};
 use rly_core::Params;
-use rly_law::step;
+use rly_law::{Control, Plain};
 
 /// Decides how many items at the front of the lane are dropped at `now`, a moment of the lane's
 /// clock, and whether the one behind them is delivered (RFC 8289 section 5, `dequeue`).
@@ -36,7 +36,44 @@ pub fn dequeue<L: Lane>(state: &mut CodelState, lane: &L, now: u64, params: &Par
     ensures lastcount { state.new.lastcount ≤ state.new.count }
     ensures count { state.new.count ≤ state.old.count + result.dropped }
 {
-    let dropped = drop_from_front(state, lane, now, params);
+    dequeue_with(state, lane, now, params, &Plain::new(params.interval))
+}
+
+/// The same as `dequeue`, with drop times by a control law that the caller keeps, at the interval of the parameters.
+pub fn dequeue_with<L: Lane, T: Control>(
+    state: &mut CodelState,
+    lane: &L,
+    now: u64,
+    params: &Params,
+    control: &T,
+) -> Verdict
+    requires params { IsWithinLimits params.now }
+    requires now { now < 2 ^ 52 }
+    requires stamps { All (λ item. item.stamp ≤ now) (L.waiting lane.now) }
+    requires first_above_time { state.old.first_above_time < 2 ^ 53 }
+    requires drop_next { state.old.drop_next < 2 ^ 53 }
+    requires lastcount { state.old.lastcount ≤ state.old.count }
+    requires count { state.old.count + length (L.waiting lane.now) < 2 ^ 63 }
+    requires control { T.interval control.now ≡ params.now.interval }
+
+    ensures state { state.new ≡ (dequeue_of params.now now (L.waiting lane.now) state.old).state }
+    ensures dropped { result.dropped
+        ≡ (dequeue_of params.now now (L.waiting lane.now) state.old).dropped }
+    ensures delivered { IsTrue result.delivered ↔ (result.dropped < length (L.waiting lane.now)) }
+
+    // A lane that isn't empty always delivers.
+    ensures last_is_delivered { 0 < length (L.waiting lane.now)
+        → result.dropped < length (L.waiting lane.now) }
+    ensures empty { length (L.waiting lane.now) ≡ 0 → result.dropped ≡ 0 }
+
+    // What the next call needs.
+    ensures first_above_time { state.new.first_above_time
+        ≤ max state.old.first_above_time (now + params.now.interval) }
+    ensures drop_next { state.new.drop_next ≤ max state.old.drop_next (now + params.now.interval) }
+    ensures lastcount { state.new.lastcount ≤ state.new.count }
+    ensures count { state.new.count ≤ state.old.count + result.dropped }
+{
+    let dropped = drop_from_front(state, lane, now, params, control);
     Verdict {
         dropped,
         delivered: dropped < lane.count(),
@@ -44,8 +81,15 @@ pub fn dequeue<L: Lane>(state: &mut CodelState, lane: &L, now: u64, params: &Par
 }
 
 /// Goes along the candidates as the RFC does, and says how many it drops.
-fn drop_from_front<L: Lane>(state: &mut CodelState, lane: &L, now: u64, params: &Params) -> usize
+fn drop_from_front<L: Lane, T: Control>(
+    state: &mut CodelState,
+    lane: &L,
+    now: u64,
+    params: &Params,
+    control: &T,
+) -> usize
     requires params { IsWithinLimits params.now }
+    requires control { T.interval control.now ≡ params.now.interval }
     requires now { now < 2 ^ 52 }
     requires stamps { All (λ item. item.stamp ≤ now) (L.waiting lane.now) }
     requires first_above_time { state.old.first_above_time < 2 ^ 53 }
@@ -61,9 +105,9 @@ fn drop_from_front<L: Lane>(state: &mut CodelState, lane: &L, now: u64, params: 
     let ok_to_drop = look_at(state, lane, 0, now, params);
     if was_dropping {
         state.dropping = ok_to_drop;
-        drop_while_due(state, lane, now, params)
+        drop_while_due(state, lane, now, params, control)
     } else if ok_to_drop {
-        enter_phase(state, lane, now, params);
+        enter_phase(state, lane, now, params, control);
         1
     } else {
         0
@@ -114,13 +158,20 @@ fn is_below_target<L: Lane>(lane: &L, index: usize, now: u64, params: &Params) -
         (L.waiting lane.now) index }
 {
     let sojourn_time = now - lane.stamp(index);
-    sojourn_time < params.target || lane.has_at_most_behind(index, params.maxpacket)
+    sojourn_time < params.target || lane.bytes_behind(index) <= params.maxpacket
 }
 
 /// Drops what is due in a phase, and says how many items that is. The candidate at the front has
 /// been looked at, and may be dropped where the phase is on.
-fn drop_while_due<L: Lane>(state: &mut CodelState, lane: &L, now: u64, params: &Params) -> usize
+fn drop_while_due<L: Lane, T: Control>(
+    state: &mut CodelState,
+    lane: &L,
+    now: u64,
+    params: &Params,
+    control: &T,
+) -> usize
     requires params { IsWithinLimits params.now }
+    requires control { T.interval control.now ≡ params.now.interval }
     requires now { now < 2 ^ 52 }
     requires stamps { All (λ item. item.stamp ≤ now) (L.waiting lane.now) }
     requires count { state.old.count + length (L.waiting lane.now) < 2 ^ 63 }
@@ -131,15 +182,23 @@ fn drop_while_due<L: Lane>(state: &mut CodelState, lane: &L, now: u64, params: &
     let mut dropped: usize = 0;
     while state.dropping && now >= state.drop_next {
         dropped += 1;
-        count_drop(state, lane, dropped, now, params);
+        count_drop(state, lane, dropped, now, params, control);
     }
     dropped
 }
 
 /// Counts one drop of a phase and looks at the candidate at `next`, behind the item that is
 /// dropped: where it may be dropped the next drop time is set, and else the phase ends.
-fn count_drop<L: Lane>(state: &mut CodelState, lane: &L, next: usize, now: u64, params: &Params)
+fn count_drop<L: Lane, T: Control>(
+    state: &mut CodelState,
+    lane: &L,
+    next: usize,
+    now: u64,
+    params: &Params,
+    control: &T,
+)
     requires params { IsWithinLimits params.now }
+    requires control { T.interval control.now ≡ params.now.interval }
     requires now { now < 2 ^ 52 }
     requires stamps { All (λ item. item.stamp ≤ now) (L.waiting lane.now) }
     requires next { next ≤ length (L.waiting lane.now) }
@@ -151,7 +210,7 @@ fn count_drop<L: Lane>(state: &mut CodelState, lane: &L, next: usize, now: u64, 
 {
     state.count += 1;
     if look_at(state, lane, next, now, params) {
-        state.drop_next += step(params.interval, state.count);
+        state.drop_next += control.step(state.count);
     } else {
         state.dropping = false;
     }
@@ -159,8 +218,15 @@ fn count_drop<L: Lane>(state: &mut CodelState, lane: &L, next: usize, now: u64, 
 
 /// Drops the candidate at the front, and begins a phase with the count that the last one came to,
 /// where that was above 1 and is not 16 intervals ago.
-fn enter_phase<L: Lane>(state: &mut CodelState, lane: &L, now: u64, params: &Params)
+fn enter_phase<L: Lane, T: Control>(
+    state: &mut CodelState,
+    lane: &L,
+    now: u64,
+    params: &Params,
+    control: &T,
+)
     requires params { IsWithinLimits params.now }
+    requires control { T.interval control.now ≡ params.now.interval }
     requires now { now < 2 ^ 52 }
     requires stamps { All (λ item. item.stamp ≤ now) (L.waiting lane.now) }
     requires drop_next { state.old.drop_next < 2 ^ 53 }
@@ -173,6 +239,6 @@ fn enter_phase<L: Lane>(state: &mut CodelState, lane: &L, now: u64, params: &Par
     let is_recent = now < state.drop_next + 16 * params.interval;
     state.dropping = true;
     state.count = if delta > 1 && is_recent { delta } else { 1 };
-    state.drop_next = now + step(params.interval, state.count);
+    state.drop_next = now + control.step(state.count);
     state.lastcount = state.count;
 }

@@ -1,4 +1,4 @@
-ghost use Rattle.std.specs.Prelude.{◌≡◌, ◌+◌, ◌<◌, List, length, nat_le, drop, HoldsAt};
+ghost use Rattle.std.specs.Prelude.{◌≡◌, ◌+◌, ◌<◌, List, length, drop, HoldsAt};
 ghost use Rattle.rly_codel.specs.Waiting.{Waiting, waiting_bytes};
 
 /// A queue that CoDel looks at: items from the front on, each with a stamp and a payload length.
@@ -15,9 +15,9 @@ pub trait Lane {
         requires { index < length (waiting self.now) }
         ensures { HoldsAt (λ item. item.stamp ≡ result) (waiting self.now) index };
 
-    /// Whether the items behind an item have at most so many payload bytes, its own not among them. It is asked once for
-    /// each item that may be dropped, so it looks at no more items than it takes to tell.
-    fn has_at_most_behind(&self, index: usize, bytes: u64) -> bool
+    /// How many payload bytes the items behind an item have, its own not among them. It is asked once for each item that may be
+    /// dropped, so it is told without a look at those.
+    fn bytes_behind(&self, index: usize) -> u64
         requires { index < length (waiting self.now) }
-        ensures { result ≡ nat_le (waiting_bytes (drop (index + 1) (waiting self.now))) bytes };
+        ensures { result ≡ waiting_bytes (drop (index + 1) (waiting self.now)) };
 }

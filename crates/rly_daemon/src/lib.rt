@@ -1,9 +1,9 @@
 //! The program `rly` as a library: its commands, and what the running relay needs of the system.
 //!
-//! `run` is the whole program up to its status, and `specs/Program.antt` says what a command leaves that
-//! ended well. The file, the sockets and the clock of `rly serve` stand here, and `specs/Serving.antt` says which
-//! workers it starts. The calls of `rly_text` and `rly_settings` are handed on. It is the edge: only a program and
-//! tests call it.
+//! `run` is the whole program up to its status; `specs/Program.antt` says what a command leaves
+//! that ended well. The file, the sockets and the clock of `rly serve` stand here, and
+//! `specs/Serving.antt` says which workers it starts. The calls of `rly_text` and `rly_settings`
+//! are handed on. This is the edge: only the program and tests call it.
 #![tactic(auto)]
 
 mod command_fault;

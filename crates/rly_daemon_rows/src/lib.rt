@@ -1,8 +1,10 @@
-//! Tests of the program `rly` up to its status, on real files, over loopback and with the system's clock.
+//! Tests of the program `rly` up to its status, on real files, over loopback and with the
+//! system's clock.
 //!
-//! Nothing is proved of what a real file, socket or clock does, nor of the texts of standard error: whole runs of `run` and of
-//! `serve` show them (docs/COMMANDS.md, docs/FORMATS.md). No crate may call this one: it has no code but tests. They stand in
-//! a crate of their own, since with them the functions of `rly_daemon` would be proved a second time.
+//! Nothing is proved of what a real file, socket or clock does, nor of the texts of standard
+//! error. Whole runs of `run` and of `serve` show them (docs/COMMANDS.md, docs/FORMATS.md). The
+//! crate has no code but tests, so no crate may call it. With these tests the functions of
+//! `rly_daemon` would be proved a second time, so they stand here.
 #![tactic(auto)]
 
 /// As `assert!`, by one call: the prover then sees one way on where `assert!` has two. `assert!` stands where a later call needs

@@ -2,6 +2,7 @@
 use rly_disk::{After, Disk, FaultDisk, MemDisk, Torn};
 use rly_gate::{GroupFault, append_group, read_group};
 use std::alloc::{AllocError, Global};
+use std::process::Abort;
 use std::test::Fail;
 
 /// The body of one Take of peer 1, number 1, hop 1, stamp 0, payload `41`: a count and its record.
@@ -24,39 +25,66 @@ fn empty_disk(alloc: Global) -> Result<MemDisk, AllocError> {
     Ok(MemDisk::new(alloc, vec![in alloc; 0u8; 256]?))
 }
 
-#[test]
-fn a_group_is_appended_in_four_calls(rt: HostRuntime) -> Result<(), Fail> {
-    let alloc = rt.alloc();
-    let mut disk = FaultDisk::new(empty_disk(alloc)?, 0, 0, After::Stops);
+/// Appends the group at the first place of a disk of 256 bytes, and says whether no call failed.
+fn is_appended(rt: &impl Abort, disk: &mut FaultDisk<MemDisk>) -> bool {
     assert!(rt; disk.size() == 256);
     let mut frame = FRAME;
-    expect!(rt; append_group(&mut disk, 0, &mut frame) == Ok(()));
-    expect!(rt; (disk.calls(), disk.syncs(), disk.failures()) == (4, 2, 0));
+    append_group(disk, 0, &mut frame).is_ok()
+}
+
+/// Reads the group there, if one stands there, and says whether it has that body.
+fn has_body<D: Disk>(
+    rt: &impl Abort,
+    alloc: Global,
+    disk: &mut D,
+    place: u64,
+) -> Result<Option<bool>, GroupFault> {
+    assert!(rt; disk.size() == 256 && place < 256);
+    match read_group(alloc, disk, place, 256)? {
+        Some(body) => Ok(Some(body.as_slice() == BODY.as_slice())),
+        None => Ok(None),
+    }
+}
+
+/// The bytes of the group stand there.
+fn expect_group(rt: &impl Abort, disk: &mut FaultDisk<MemDisk>) {
     assert!(rt; disk.size() == 256);
     let mut bytes = [0u8; 32];
     expect!(rt; disk.read_at(0, &mut bytes) == Ok(()));
     expect!(rt; bytes.as_slice() == GROUP.as_slice());
-    assert!(rt; disk.size() == 256);
-    match read_group(alloc, &mut disk, 0, 256) {
-        Ok(Some(body)) => expect!(rt; body.as_slice() == BODY.as_slice()),
-        _ => panic!(rt; "no group"),
-    }
-    assert!(rt; disk.size() == 256);
-    expect!(rt; matches!(&read_group(alloc, &mut disk, 31, 256), Ok(None)));
+}
+
+#[test]
+fn a_group_is_appended_in_four_calls(rt: HostRuntime) -> Result<(), Fail> {
+    let alloc = rt.alloc();
+    let mut disk = FaultDisk::new(empty_disk(alloc)?, 0, 0, After::Stops);
+    expect!(rt; is_appended(&rt, &mut disk));
+    expect!(rt; (disk.calls(), disk.syncs(), disk.failures()) == (4, 2, 0));
+    expect_group(&rt, &mut disk);
+    expect!(rt; matches!(has_body(&rt, alloc, &mut disk, 0), Ok(Some(true))));
+    expect!(rt; matches!(has_body(&rt, alloc, &mut disk, 31), Ok(None)));
     Ok(())
+}
+
+/// Reads the group of a disk of 32 bytes, where it has to end before a place, and says whether one stands there.
+fn has_group(
+    rt: &impl Abort,
+    alloc: Global,
+    disk: &mut MemDisk,
+    end: u64,
+) -> Result<bool, GroupFault> {
+    assert!(rt; disk.size() == 32 && 0 < end && end <= 32);
+    Ok(read_group(alloc, disk, 0, end)?.is_some())
 }
 
 #[test]
 fn a_group_that_does_not_end_before_the_end_is_damaged(rt: HostRuntime) -> Result<(), Fail> {
     let alloc = rt.alloc();
     let mut disk = MemDisk::new(alloc, GROUP.to_vec(alloc)?);
-    assert!(rt; disk.size() == 32);
-    expect!(rt; matches!(&read_group(alloc, &mut disk, 0, 32), Ok(Some(_))));
-    assert!(rt; disk.size() == 32);
-    for end in [1, 5, 6, 31] {
-        assert!(rt; disk.size() == 32);
-        let read = read_group(alloc, &mut disk, 0, end);
-        assert!(rt; matches!(&read, Err(GroupFault::Damaged)), "end {end}");
+    expect!(rt; matches!(has_group(&rt, alloc, &mut disk, 32), Ok(true)));
+    for end in &[1, 5, 6, 31] {
+        let read = has_group(&rt, alloc, &mut disk, *end);
+        expect!(rt; matches!(read, Err(GroupFault::Damaged)));
     }
     Ok(())
 }
@@ -81,23 +109,23 @@ fn a_crash_leaves_the_group_or_none(rt: HostRuntime) -> Result<(), Fail> {
     Ok(())
 }
 
-fn stops(
-    rt: &impl std::process::Abort,
+/// An append that stops at a call, and a crash.
+fn crashed(
+    rt: &impl Abort,
     alloc: Global,
     at: u64,
     torn: u64,
     kind: Torn,
-) -> Result<(), AllocError> {
+) -> Result<MemDisk, AllocError> {
     let mut disk = FaultDisk::new(empty_disk(alloc)?, at, torn, After::Stops);
-    assert!(rt; disk.size() == 256);
-    let mut frame = FRAME;
-    expect!(rt; append_group(&mut disk, 0, &mut frame).is_err());
-    let mut disk = disk.into_inner().crash(kind);
-    assert!(rt; disk.size() == 256);
-    match read_group(alloc, &mut disk, 0, 256) {
-        Ok(None) => {}
-        Ok(Some(body)) => expect!(rt; body.as_slice() == BODY.as_slice()),
-        Err(_) => panic!(rt; "call {at}, torn {torn}"),
-    }
+    expect!(rt; !is_appended(rt, &mut disk));
+    Ok(disk.into_inner().crash(kind))
+}
+
+/// Stops an append at a call, and expects the group or none.
+fn stops(rt: &impl Abort, alloc: Global, at: u64, torn: u64, kind: Torn) -> Result<(), AllocError> {
+    let mut disk = crashed(rt, alloc, at, torn, kind)?;
+    let found = has_body(rt, alloc, &mut disk, 0);
+    expect!(rt; matches!(found, Ok(None | Some(true))));
     Ok(())
 }

@@ -1,8 +1,9 @@
-//! Tests of devices and streams: disks, groups behind their gates, heads, and segments that are opened, stopped at each call.
+//! Tests of devices and streams: disks, groups, heads, and the opening of segments, stopped at
+//! each call.
 //!
-//! A contract says what one call does for all inputs. These tests compare calls with what a person wrote down
-//! (docs/FORMATS.md), on disks in memory. They stand over the built libraries, so that these are proved once. No crate may
-//! call it: it has no code but tests.
+//! A contract says what one call does for all inputs. These tests compare calls with what a
+//! person wrote down (docs/FORMATS.md), on disks in memory. They use the built libraries, so that
+//! these are proved once. The crate has no code but tests, so no crate may call it.
 #![tactic(auto)]
 
 /// As `assert!`, by one call: the prover then sees one way on where `assert!` has two. `assert!` stands where a later call needs

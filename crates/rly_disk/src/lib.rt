@@ -1,9 +1,11 @@
 //! A disk, and what a crash may leave of it at any moment: the ground of every crash claim.
 //!
-//! It states the disk model (`specs/DiskModel.antt`; docs/DEFINITIONS.md, "The disk model") as the contract of `trait Disk`,
-//! and what a row of calls did as one list of events (`specs/Trace.antt`), of which the laws here say what follows. `MemDisk`
-//! and `FaultDisk` keep to it, for tests and simulations. All crates that hold a device are generic over `Disk`; their proofs
-//! join calls by `proofs/Composition.antt` and `proofs/Traces.antt`, and speak of ranges by `proofs/Ranges.antt`.
+//! The contract of `trait Disk` is the disk model (`specs/DiskModel.antt`; docs/DEFINITIONS.md,
+//! "The disk model"). What several calls did is one list of events (`specs/Trace.antt`), and
+//! the laws here say what follows from it. `MemDisk` and `FaultDisk` keep to the model, for tests
+//! and simulations. All crates that hold a device are generic over `Disk`. Their proofs join
+//! calls by `proofs/Composition.antt` and `proofs/Traces.antt`, and speak of ranges by
+//! `proofs/Ranges.antt`.
 #![tactic(auto)]
 
 mod counts;

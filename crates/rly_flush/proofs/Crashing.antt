@@ -1,26 +1,26 @@
 -- What a crash leaves of a journal that a flusher owns, round by round.
-use Rattle.std.proofs.Common.{ℕ, ◌≡◌, ◌≤◌, ◌⊎◌, inl, inr, ⊎_elim, ◌++◌, ◌∷◌, [], List, Bool, true, false, refl, sym, ap, subst, ◌∙◌, arith, append_assoc, append-nil}
+use Rattle.std.proofs.Common.{ℕ, ◌≡◌, ◌⊎◌, inl, inr, ⊎_elim, ◌++◌, ◌∷◌, [], List, Bool, true, false, refl, sym, ap, subst, ◌∙◌, arith, append_assoc, append-nil}
 use Rattle.std.proofs.lemmas.Bool.{false≢true}
 use Rattle.std.specs.List.{zip}
 use Rattle.rly_core.specs.declared.refusal.Refusal.{Refusal}
 use Rattle.rly_core.specs.declared.refusal.Refusal.TheVariants.{Broken, Unsure}
-use Rattle.rly_disk.specs.DiskModel.{Consistent, DiskState, Later, LeavesOnly, Settled}
-use Rattle.rly_disk.proofs.Composition.{at_exit, later_again, started}
+use Rattle.rly_disk.specs.DiskModel.{Consistent, DiskState, LeavesOnly, Settled}
+use Rattle.rly_disk.proofs.Composition.{at_exit, later_again, started, started_settled}
 use Rattle.rly_machine.specs.declared.call.Answer.{Answer}
 use Rattle.rly_machine.specs.declared.call.Call.{Call}
-use Rattle.rly_machine.specs.History.{Entry, LegalBy, harm_after, state_after, without_bytes}
+use Rattle.rly_machine.specs.History.{Entry, LegalBy, LegalButForBytes, harm_after, state_after, without_bytes}
 use Rattle.rly_machine.specs.State.{State}
 use Rattle.rly_machine.proofs.Histories.{folds, legal_append, legal_but_for_bytes}
-use Rattle.rly_journal.specs.Journal.{IsRound, IsSafe, JournalState}
+use Rattle.rly_journal.specs.Journal.{IsRound, JournalState}
 use Rattle.rly_journal.specs.Rounds.{AreServed, refusal_of, refusals}
 use Rattle.rly_journal.specs.Standing.{Stands}
 use Rattle.rly_line.specs.Replies.{Teller}
 use Rattle.rly_line.specs.Responding.{IsResponding, Responding, calls_in}
 use Rattle.rly_line.specs.Submission.{LineId}
-use Rattle.rly_flush.specs.HelpersFlushing.{IsBreach, IsFlushing}
-use Rattle.rly_flush.specs.Flushing.{FlusherState, GrewInRound, HoldsAnswered, IsCrashSafe, IsOneHistory, KeepsAnswered, answered_state, entries_since, state_reached}
+use Rattle.rly_flush.specs.HelpersFlushing.{IsFlushing, IsRounded}
+use Rattle.rly_flush.specs.Flushing.{FlusherState, GrewInRound, HoldsAnswered, IsCrashSafe, IsDoubtful, IsOneHistory, answered_state, entries_since, state_reached}
 use Rattle.rly_flush.proofs.Joining.{GoesOn, goes_on}
-use Rattle.rly_flush.proofs.Refusing.{calls_in_append, calls_in_zip, grows, up_to, up_to_more}
+use Rattle.rly_flush.proofs.Refusing.{calls_in_append, calls_in_zip, grows, up_to}
 
 -- a flusher once these calls were taken and answered
 abbrev pub next_of : {D : Type 0} → FlusherState D → JournalState D → List Teller → List Call → List Answer → FlusherState D
@@ -30,99 +30,89 @@ next_of old journal lines calls given = record {
   line = record { of = old.line.of; taken = old.line.taken ++ calls; start = old.line.start; history = old.line.history ++ zip calls given; lines = lines };
 }
 
--- what is known of the journal's round for them
-pub record IsRounded {D : Type 0} (state : D → DiskState) (old new : JournalState D) (calls : List Call) (given : List Answer) : Type 0 where
-  pub round : IsRound state old new calls given
-  pub safe : (state old.disk).honest → old.broken ≡ false → IsSafe state old new calls
-  pub durable : (state new.disk).honest → new.broken ≡ false → Settled (state new.disk) × Stands (state new.disk).seen new.state
-  pub later : Later (state old.disk) (state new.disk)
-
 -- refusals behind refusals
 pub refusals_append : (refusal : Refusal) (p : ℕ) (front back : List Call)
     → zip (front ++ back) (refusals refusal p (front ++ back)) ≡ zip front (refusals refusal p front) ++ zip back (refusals refusal p back)
 refusals_append refusal p [] back = refl
 refusals_append refusal p (call ∷ front) back = ap (λ l. (call, refusal_of refusal p call) ∷ l) (refusals_append refusal p front back)
 
+-- the round that broke the journal is refused, and then each behind it
+refused_first : {given : List Answer} {p q : ℕ} (history : List Entry) (calls : List Call) → given ≡ refusals Unsure p calls → q ≡ p
+    → history ++ zip calls given ≡ history ++ entries_since q calls []
+refused_first history calls refused same = rw (refused, same, append-nil)
+
+refused_again : {history : List Entry} {given : List Answer} {p q : ℕ} (before : List Entry) (broke behind calls : List Call) → history ≡ before ++ entries_since p broke behind
+    → given ≡ refusals Broken p calls → q ≡ p → history ++ zip calls given ≡ before ++ entries_since q broke (behind ++ calls)
+refused_again {history} {given} {p} before broke behind calls whole refused same = rw (whole, refused, same, refusals_append Broken p behind calls) (simp append_assoc)
+
 module _ {D : Type 0} (state : D → DiskState) (consistent : (disk : D) → (state disk).honest → Consistent (state disk)) where
-  -- calls that are not served lead to no other state
-  none_served : (s : State (List ℕ)) → AreServed [] [] s s
-  none_served s = record { count = refl; legal = tt; only = tt; state = refl }
+  -- between rounds, where the journal goes on
+  pub at_rest : (f : FlusherState D) → f.journal.state ≡ state_reached f → f.journal.broken ≡ false → Settled (state f.journal.disk) × Stands (state f.journal.disk).seen f.journal.state
+      → IsCrashSafe state f f
+  at_rest f same whole stands = record {
+    calls = [];
+    doubtful = inl (whole, sym (append-nil f.line.taken));
+    given = [];
+    target = state_reached f;
+    served = record { count = refl; legal = tt; only = tt; state = refl };
+    leaves = started_settled (state f.journal.disk) (λ image. Stands image (state_reached f) ⊎ Stands image (state_reached f)) stands.0
+        (inl (subst (Stands (state f.journal.disk).seen) same stands.1));
+    running = λ _. sym same;
+  }
+
+  -- while it is broken, from one moment to others
+  broken_safe : {a b : FlusherState D} (old new : FlusherState D) (safe : IsCrashSafe state a b) → state_reached a ≡ state_reached old
+      → LeavesOnly (state old.journal.disk) (state new.journal.disk) (λ image. Stands image (state_reached a) ⊎ Stands image safe.target) → new.journal.broken ≡ true
+      → IsDoubtful old new safe.calls → IsCrashSafe state old new
+  broken_safe old new safe same leaves broke doubtful = record {
+    calls = safe.calls;
+    doubtful = doubtful;
+    given = safe.given;
+    target = safe.target;
+    served = subst (λ s. AreServed safe.calls safe.given s safe.target) same safe.served;
+    leaves = subst (λ s. LeavesOnly (state old.journal.disk) (state new.journal.disk) (λ image. Stands image s ⊎ Stands image safe.target)) same leaves;
+    running = λ whole. absurd (false≢true (sym whole ∙ broke));
+  }
+
+  -- what a crash leaves of a round holds all that was answered before it
+  pub holds_answered : (old new : FlusherState D) (safe : IsCrashSafe state old new) → LegalButForBytes old.line.start old.line.history → (image : List ℕ)
+      → Stands image (state_reached old) ⊎ Stands image safe.target → HoldsAnswered old.line.history image
+  holds_answered old new safe legal image (inl stands) = record {
+    s = state_reached old;
+    stands = stands;
+    answered = up_to (state_reached old).seq 0 old.line.start old.line.history legal (omega arith);
+  }
+  holds_answered old new safe legal image (inr stands) =
+      let more = grows 0 (state_reached old) (zip safe.calls safe.given) (legal_but_for_bytes 0 (state_reached old) (zip safe.calls safe.given) safe.served.legal) in
+      record {
+        s = safe.target;
+        stands = stands;
+        answered = up_to safe.target.seq 0 old.line.start old.line.history legal (omega (arith, more, ap (λ (x : State (List ℕ)). x.seq) safe.served.state));
+      }
+
+  -- all that holds at an exit
+  pub one_history : (f : FlusherState D) → IsFlushing state f → IsOneHistory state f
+  one_history f is =
+      let bytes = legal_but_for_bytes 0 f.line.start f.line.history is.legal in
+      let all = folds 0 f.line.start f.line.history bytes in
+      record {
+        calls = is.answered;
+        start = is.start;
+        as_given = is.as_given;
+        legal = is.legal;
+        legal_but_for_bytes = bytes;
+        position_is = is.position_is ∙ all.2;
+        state_is = λ whole. is.running whole ∙ all.0;
+        accepted = all.1;
+        still = is.still;
+        later = is.later;
+        told = is.responding.told;
+        kept = λ honest sound image left.
+            let safe = is.safe honest sound in
+            holds_answered f f safe bytes image (at_exit (λ c. Stands c (state_reached f) ⊎ Stands c safe.target) safe.leaves (consistent f.journal.disk honest) image left);
+      }
 
   module _ (old : FlusherState D) (kept : IsFlushing state old) where
-    bytes : LegalBy without_bytes 0 old.line.start old.line.history
-    bytes = legal_but_for_bytes 0 old.line.start old.line.history kept.legal
-
-    holds_now : (s : State (List ℕ)) (image : List ℕ) → (state_reached old).seq ≤ s.seq → Stands image s → HoldsAnswered old.line.history image
-    holds_now s image low stands = record {
-      s = s;
-      stands = stands;
-      answered = up_to_more s.seq (state_reached old).seq old.line.history low (up_to 0 old.line.start old.line.history bytes);
-    }
-
-    served_above : (calls : List Call) (given : List Answer) (target : State (List ℕ)) → AreServed calls given (state_reached old) target → (state_reached old).seq ≤ target.seq
-    served_above calls given target served =
-        let more = grows 0 (state_reached old) (zip calls given) (legal_but_for_bytes 0 (state_reached old) (zip calls given) served.legal) in
-        omega (arith, more, ap (λ (x : State (List ℕ)). x.seq) served.state)
-
-    keeps : (broken : Bool) → old.journal.broken ≡ broken → (state old.journal.disk).honest → old.first.broken ≡ false → KeepsAnswered (state old.journal.disk) old.line.history
-    keeps false whole honest sound image is = holds_now (state_reached old) image (omega arith) (kept.whole honest whole image is)
-    keeps true broke honest sound image is =
-        let breach = kept.breach honest sound broke in
-        ⊎_elim (λ stands. holds_now (state_reached old) image (omega arith) stands)
-        (λ stands. holds_now breach.target image (served_above breach.calls breach.given breach.target breach.served) stands)
-        (breach.images image is)
-
-    -- all that holds at an exit
-    pub one_history : IsOneHistory state old
-    one_history =
-        let all = folds 0 old.line.start old.line.history bytes in
-        record {
-          calls = kept.answered;
-          start = kept.start;
-          as_given = kept.as_given;
-          legal = kept.legal;
-          legal_but_for_bytes = bytes;
-          position_is = kept.position_is ∙ all.2;
-          state_is = λ whole. kept.running whole ∙ all.0;
-          accepted = all.1;
-          still = kept.still;
-          later = kept.later;
-          told = kept.responding.told;
-          kept = λ honest sound. keeps old.journal.broken refl honest sound;
-        }
-
-    -- broken before: the device was not called since
-    broken_safe : (next : FlusherState D) → next.journal ≡ old.journal → (state old.journal.disk).honest → old.first.broken ≡ false → old.journal.broken ≡ true → IsCrashSafe state old next
-    broken_safe next same honest sound broke =
-        let breach = kept.breach honest sound broke in
-        record {
-          calls = breach.calls;
-          doubtful = inr (broke, breach.before, breach.behind, breach.whole);
-          given = breach.given;
-          target = breach.target;
-          served = breach.served;
-          leaves = subst (λ (j : JournalState D). LeavesOnly (state old.journal.disk) (state j.disk) (λ image. Stands image (state_reached old) ⊎ Stands image breach.target)) (sym same)
-              (started (state old.journal.disk) (λ image. Stands image (state_reached old) ⊎ Stands image breach.target) (consistent old.journal.disk honest) breach.images);
-          running = λ whole. absurd (false≢true (sym whole ∙ ap (λ (j : JournalState D). j.broken) same ∙ broke));
-        }
-
-    still_by : (broken : Bool) → old.journal.broken ≡ broken → (state old.journal.disk).honest → old.first.broken ≡ false → IsCrashSafe state old old
-    still_by false whole honest sound = record {
-      calls = [];
-      doubtful = inl (whole, sym (append-nil old.line.taken));
-      given = [];
-      target = state_reached old;
-      served = none_served (state_reached old);
-      leaves = started (state old.journal.disk) (λ image. Stands image (state_reached old) ⊎ Stands image (state_reached old)) (consistent old.journal.disk honest)
-          (λ image is. inl (kept.whole honest whole image is));
-      running = λ _. sym (kept.running whole);
-    }
-    still_by true broke honest sound = broken_safe old refl honest sound broke
-
-    -- without a call
-    pub still_safe : (state old.journal.disk).honest → old.first.broken ≡ false → IsCrashSafe state old old
-    still_safe honest sound = still_by old.journal.broken refl honest sound
-
     module _ (journal : JournalState D) (lines : List Teller) (calls : List Call) (given : List Answer) (now : IsRounded state old.journal journal calls given) where
       abbrev next : FlusherState D
       next = next_of old journal lines calls given
@@ -134,13 +124,18 @@ module _ {D : Type 0} (state : D → DiskState) (consistent : (disk : D) → (st
       pub grew : GrewInRound state old next
       grew = record { added = zip calls given; history = refl; truthful = on.truthful }
 
-      honest_before : (state journal.disk).honest → (state old.journal.disk).honest
-      honest_before honest = now.later.honest.0 honest
+      -- what a crash leaves at any moment of the round: of a journal that was broken before, which is the same
+      after_broken : journal ≡ old.journal → (state old.journal.disk).honest → old.first.broken ≡ false → old.journal.broken ≡ true → IsCrashSafe state old next
+      after_broken same honest sound broke =
+          let safe = kept.safe honest sound in
+          broken_safe old next safe refl
+          (subst (λ (j : JournalState D). LeavesOnly (state old.journal.disk) (state j.disk) (λ image. Stands image (state_reached old) ⊎ Stands image safe.target)) (sym same) safe.leaves)
+          (ap (λ (j : JournalState D). j.broken) same ∙ broke) (⊎_elim (λ was. absurd (false≢true (sym was.0 ∙ broke))) (λ was. inr was) safe.doubtful)
 
-      -- a journal that was not broken before, in a round of its own
-      whole_safe : (state old.journal.disk).honest → old.journal.broken ≡ false → IsCrashSafe state old next
-      whole_safe honest whole =
-          let safe = now.safe honest whole in
+      -- and of one that was not
+      in_round : (state old.journal.disk).honest → old.journal.broken ≡ false → IsCrashSafe state old next
+      in_round honest whole =
+          let safe = now.any_moment honest whole in
           let same : old.journal.state ≡ state_reached old = kept.running whole in
           record {
             calls = calls;
@@ -152,69 +147,49 @@ module _ {D : Type 0} (state : D → DiskState) (consistent : (disk : D) → (st
             running = safe.running;
           }
 
-      -- a journal that was broken is the same
+      round_safe_by : IsRound state old.journal journal calls given → (state old.journal.disk).honest → old.first.broken ≡ false → IsCrashSafe state old next
+      round_safe_by (inl was) honest sound = after_broken was.2 honest sound was.0
+      round_safe_by (inr (inl went)) honest sound = in_round honest went.0
+      round_safe_by (inr (inr breaks)) honest sound = in_round honest breaks.0
+
+      pub round_safe : (state old.journal.disk).honest → old.first.broken ≡ false → IsCrashSafe state old next
+      round_safe honest sound = round_safe_by now.round honest sound
+
+      -- and behind it, where the journal is broken: by calls of that round or of an earlier one
+      broken_rest : (safe : IsCrashSafe state old next) → (state journal.disk).honest → journal.broken ≡ true → IsDoubtful next next safe.calls → IsCrashSafe state next next
+      broken_rest safe honest broke =
+          let Left : List ℕ → Type 0 = λ image. Stands image (state_reached old) ⊎ Stands image safe.target in
+          broken_safe next next safe (sym (on.stays broke))
+          (started (state journal.disk) Left (consistent journal.disk honest) (at_exit Left safe.leaves (consistent journal.disk honest))) broke
+
+      rest_by : IsRound state old.journal journal calls given → (state journal.disk).honest → old.first.broken ≡ false → journal.broken ≡ true → IsCrashSafe state next next
+      unfolding after_broken in_round broken_safe
+      rest_by (inl was) honest sound broke =
+          let first = now.later.honest.0 honest in
+          let doubt = ⊎_elim {C = (before : List Entry) × (behind : List Call) × (old.line.history ≡ before ++ entries_since old.journal.position (kept.safe first sound).calls behind)}
+          (λ w. absurd (false≢true (sym w.0 ∙ was.0))) (λ w. (w.1, w.2, w.3)) (kept.safe first sound).doubtful in
+          broken_rest (after_broken was.2 first sound was.0) honest broke (inr (
+            broke,
+            doubt.0,
+            doubt.1 ++ calls,
+            refused_again doubt.0 (kept.safe first sound).calls doubt.1 calls doubt.2 was.1 (ap (λ (j : JournalState D). j.position) was.2),
+          ))
+      rest_by (inr (inl went)) honest sound broke = absurd (false≢true (sym went.1.broken ∙ broke))
+      rest_by (inr (inr breaks)) honest sound broke = broken_rest (in_round (now.later.honest.0 honest) breaks.0) honest broke (inr (
+        broke,
+        old.line.history,
+        [],
+        refused_first old.line.history calls breaks.1.unsure breaks.1.position,
+      ))
+
+      rest : (broken : Bool) → journal.broken ≡ broken → (state journal.disk).honest → old.first.broken ≡ false → IsCrashSafe state next next
+      rest true broke honest sound = rest_by now.round honest sound broke
+      rest false whole honest sound = at_rest next (on.running whole) whole (now.durable honest whole)
+
       same_by : IsRound state old.journal journal calls given → old.journal.broken ≡ true → journal ≡ old.journal
       same_by (inl was) broke = was.2
       same_by (inr (inl went)) broke = absurd (false≢true (sym went.0 ∙ broke))
       same_by (inr (inr breaks)) broke = absurd (false≢true (sym breaks.0 ∙ broke))
-
-      same_journal : old.journal.broken ≡ true → journal ≡ old.journal
-      same_journal broke = same_by now.round broke
-
-      safe_by : (broken : Bool) → old.journal.broken ≡ broken → (state old.journal.disk).honest → old.first.broken ≡ false → IsCrashSafe state old next
-      safe_by false whole honest sound = whole_safe honest whole
-      safe_by true broke honest sound = broken_safe next (same_journal broke) honest sound broke
-
-      pub round_safe : (state old.journal.disk).honest → old.first.broken ≡ false → IsCrashSafe state old next
-      round_safe honest sound = safe_by old.journal.broken refl honest sound
-
-      -- this round broke the journal
-      breaks_now : (state journal.disk).honest → old.journal.broken ≡ false → journal.broken ≡ true → given ≡ refusals Unsure journal.position calls → IsBreach state next
-      unfolding whole_safe
-      breaks_now honest whole broke unsure =
-          let safe = whole_safe (honest_before honest) whole in
-          let moved : state_reached old ≡ state_reached next = sym (on.stays broke) in
-          record {
-            before = old.line.history;
-            calls = calls;
-            behind = [];
-            whole = ap (λ g. old.line.history ++ zip calls g) unsure ∙ ap (λ l. old.line.history ++ l) (sym (append-nil (zip calls (refusals Unsure journal.position calls))));
-            given = (now.safe (honest_before honest) whole).given;
-            target = safe.target;
-            served = subst (λ s. AreServed calls (now.safe (honest_before honest) whole).given s safe.target) moved safe.served;
-            images = subst (λ s. (image : List ℕ) → (state journal.disk).images image → Stands image s ⊎ Stands image safe.target) moved
-                (at_exit (λ image. Stands image (state_reached old) ⊎ Stands image safe.target) safe.leaves (consistent journal.disk honest));
-          }
-
-      -- an earlier one did
-      broke_before : (state journal.disk).honest → old.first.broken ≡ false → old.journal.broken ≡ true → journal ≡ old.journal → given ≡ refusals Broken old.journal.position calls → IsBreach state next
-      broke_before honest sound broke same refused =
-          let breach = kept.breach (honest_before honest) sound broke in
-          let moved : state_reached old ≡ state_reached next = sym (on.stays (ap (λ (j : JournalState D). j.broken) same ∙ broke)) in
-          let p : ℕ = old.journal.position in
-          let more : zip breach.behind (refusals Broken p breach.behind) ++ zip calls given ≡ zip (breach.behind ++ calls) (refusals Broken p (breach.behind ++ calls)) =
-          ap (λ g. zip breach.behind (refusals Broken p breach.behind) ++ zip calls g) refused ∙ sym (refusals_append Broken p breach.behind calls) in
-          let unsure : List Entry = zip breach.calls (refusals Unsure p breach.calls) in
-          let longer : entries_since p breach.calls breach.behind ++ zip calls given ≡ entries_since p breach.calls (breach.behind ++ calls) =
-          append_assoc unsure (zip breach.behind (refusals Broken p breach.behind)) (zip calls given) ∙ ap (λ l. unsure ++ l) more in
-          record {
-            before = breach.before;
-            calls = breach.calls;
-            behind = breach.behind ++ calls;
-            whole = ap (λ l. l ++ zip calls given) breach.whole ∙ append_assoc breach.before (entries_since p breach.calls breach.behind) (zip calls given)
-                ∙ ap (λ l. breach.before ++ l) longer ∙ ap (λ (j : JournalState D). breach.before ++ entries_since j.position breach.calls (breach.behind ++ calls)) (sym same);
-            given = breach.given;
-            target = breach.target;
-            served = subst (λ s. AreServed breach.calls breach.given s breach.target) moved breach.served;
-            images = subst (λ (y : JournalState D × State (List ℕ)). (image : List ℕ) → (state y.0.disk).images image → Stands image y.1 ⊎ Stands image breach.target)
-                (λ i. (sym same i, moved i)) breach.images;
-          }
-
-      breach_by : IsRound state old.journal journal calls given → (state journal.disk).honest → old.first.broken ≡ false → journal.broken ≡ true → IsBreach state next
-      breach_by (inl was) honest sound broke = broke_before honest sound was.0 was.2 was.1
-      breach_by (inr (inl went)) honest sound broke = absurd (false≢true (sym went.1.broken ∙ broke))
-      breach_by (inr (inr breaks)) honest sound broke =
-          breaks_now honest breaks.0 broke (breaks.1.unsure ∙ ap (λ p. refusals Unsure p calls) (sym breaks.1.position))
 
       -- all of it goes on
       pub kept_next : IsResponding next.line → IsFlushing state next
@@ -227,47 +202,57 @@ module _ {D : Type 0} (state : D → DiskState) (consistent : (disk : D) → (st
         position_is = on.position_is;
         running = on.running;
         unharmed = on.unharmed;
-        still = λ was. let same = kept.still was in same_journal (ap (λ (j : JournalState D). j.broken) same ∙ was) ∙ same;
+        still = λ was. let same = kept.still was in same_by now.round (ap (λ (j : JournalState D). j.broken) same ∙ was) ∙ same;
         later = later_again kept.later now.later;
-        whole = λ honest whole image is.
-            let stands = now.durable honest whole in
-            subst (λ (y : List ℕ × State (List ℕ)). Stands y.0 y.1) (λ i. (sym (stands.0.only image is) i, on.running whole i)) stands.1;
-        breach = breach_by now.round;
+        safe = λ honest sound. rest journal.broken refl honest sound;
       }
 
--- no call was taken
-pub same_line : (old collected : Responding) (calls : List Call) → collected ≡ record old { taken = old.taken ++ calls } → calls ≡ [] → collected ≡ old
-same_line old collected calls is none =
-    is ∙ ap (λ l. record old { taken = old.taken ++ l }) none ∙ ap (λ l. record old { taken = l }) (append-nil old.taken)
+-- what became of a flusher in a call of `round`
+pub record HasGone {D : Type 0} (state : D → DiskState) (old new : FlusherState D) : Type 0 where
+  pub flushing : IsFlushing state new
+  pub history : IsOneHistory state new
+  pub grew : GrewInRound state old new
+  pub safe : (state old.journal.disk).honest → old.first.broken ≡ false → IsCrashSafe state old new
 
--- what became of the calls once all were answered
-pub line_now : (old collected new : Responding) (calls said : List Call) (given : List Answer) → collected ≡ record old { taken = old.taken ++ calls } → said ≡ calls
-    → new.of ≡ collected.of → new.taken ≡ collected.taken → new.start ≡ collected.start → new.history ≡ collected.history ++ zip said given
-    → new ≡ record { of = old.of; taken = old.taken ++ calls; start = old.start; history = old.history ++ zip calls given; lines = new.lines }
-line_now old collected new calls said given is same from taken start history =
-    let at = from ∙ ap (λ (r : Responding). r.of) is in
-    let all = taken ∙ ap (λ (r : Responding). r.taken) is in
-    let begun = start ∙ ap (λ (r : Responding). r.start) is in
-    let longer = history ∙ ap (λ (r : Responding). r.history ++ zip said given) is ∙ ap (λ l. old.history ++ zip l given) same in
-    λ i. record { of = at i; taken = all i; start = begun i; history = longer i; lines = new.lines }
+module _ {D : Type 0} (state : D → DiskState) (consistent : (disk : D) → (state disk).honest → Consistent (state disk)) {old : FlusherState D} {collected : Responding} {calls : List Call}
+    (kept : IsFlushing state old) (taken : collected ≡ record old.line { taken = old.line.taken ++ calls }) where
+  -- without a call
+  pub stayed : calls ≡ [] → HasGone state old (record old { line = collected })
+  stayed none =
+      let same : collected ≡ old.line = taken ∙ ap (λ l. record old.line { taken = old.line.taken ++ l }) none ∙ ap (λ l. record old.line { taken = l }) (append-nil old.line.taken) in
+      subst (λ (l : Responding). HasGone state old (record old { line = l })) (sym same)
+      (record { flushing = kept; history = one_history state consistent old kept; grew = record { added = []; history = sym (append-nil old.line.history); truthful = tt }; safe = kept.safe })
 
--- the answers may be told
-pub legal_now : (old collected : Responding) (calls said : List Call) (given : List Answer) → collected ≡ record old { taken = old.taken ++ calls } → said ≡ calls
-    → LegalBy (λ reply. reply) (harm_after 0 old.history) (state_after old.start old.history) (zip calls given)
-    → LegalBy without_bytes (harm_after 0 collected.history) (state_after collected.start collected.history) (zip said given)
-legal_now old collected calls said given is same legal =
-    subst (λ (y : Responding × List Call). LegalBy without_bytes (harm_after 0 y.0.history) (state_after y.0.start y.0.history) (zip y.1 given))
-    (λ i. (sym is i, sym same i))
-    (legal_but_for_bytes (harm_after 0 old.history) (state_after old.start old.history) (zip calls given) legal)
+  module _ {said : List Call} {given : List Answer} {journal : JournalState D} (same : said ≡ calls) (now : IsRounded state old.journal journal calls given) where
+    -- the answers may be told
+    pub may_tell : LegalBy without_bytes (harm_after 0 collected.history) (state_after collected.start collected.history) (zip said given)
+    may_tell =
+        subst (λ (y : Responding × List Call). LegalBy without_bytes (harm_after 0 y.0.history) (state_after y.0.start y.0.history) (zip y.1 given)) (λ i. (sym taken i, sym same i))
+        (legal_but_for_bytes (harm_after 0 old.line.history) (state_after old.line.start old.line.history) (zip calls given) (on state consistent old kept journal old.line.lines calls given now).legal)
+
+    -- once all were told
+    pub went_on : {line : Responding} → line ≡ record collected { history = collected.history ++ zip said given; lines = line.lines } → IsResponding line
+        → HasGone state old (record { first = old.first; journal = journal; line = line })
+    went_on {line} told responding =
+        let next : FlusherState D = next_of old journal line.lines calls given in
+        let is : line ≡ next.line = told ∙ ap (λ (y : Responding × List Call). record y.0 { history = y.0.history ++ zip y.1 given; lines = line.lines }) (λ i. (taken i, same i)) in
+        let flushing = kept_next state consistent old kept journal line.lines calls given now (subst IsResponding is responding) in
+        subst (λ (l : Responding). HasGone state old (record { first = old.first; journal = journal; line = l })) (sym is) (record {
+          flushing = flushing;
+          history = one_history state consistent next flushing;
+          grew = grew state consistent old kept journal line.lines calls given now;
+          safe = round_safe state consistent old kept journal line.lines calls given now;
+        })
 
 -- nothing was taken yet
-pub at_first : {D : Type 0} (state : D → DiskState) (journal : JournalState D) (of : LineId) (line : Responding) (lines : List Teller)
+pub at_first : {D : Type 0} (state : D → DiskState) (consistent : (disk : D) → (state disk).honest → Consistent (state disk)) (journal : JournalState D) (of : LineId) (line : Responding) (lines : List Teller)
     → line ≡ record { of = of; taken = []; start = answered_state journal; history = []; lines = lines } → IsResponding line
     → (journal.broken ≡ false → journal.position ≡ journal.state.seq)
     → ((state journal.disk).honest → journal.broken ≡ false → Settled (state journal.disk) × Stands (state journal.disk).seen journal.state)
     → IsFlushing state (record { first = journal; journal = journal; line = line })
-at_first {D} state journal of line lines is responding counted durable =
+at_first {D} state consistent journal of line lines is responding counted durable =
     let same : journal.broken ≡ false → answered_state journal ≡ journal.state = λ whole. ap (λ n. record journal.state { seq = n }) (counted whole) in
+    let at : Responding = record { of = of; taken = []; start = answered_state journal; history = []; lines = lines } in
     subst (λ (l : Responding). IsFlushing state (record { first = journal; journal = journal; line = l })) (sym is)
     (record {
       responding = subst IsResponding is responding;
@@ -280,8 +265,5 @@ at_first {D} state journal of line lines is responding counted durable =
       unharmed = λ _. refl;
       still = λ _. refl;
       later = record { size = refl; honest = (λ h. h, λ h. h); calls = omega arith; failures = omega arith; syncs = omega arith; failed_reads = omega arith };
-      whole = λ honest whole image image_is.
-          let stands = durable honest whole in
-          subst (λ (y : List ℕ × State (List ℕ)). Stands y.0 y.1) (λ i. (sym (stands.0.only image image_is) i, sym (same whole) i)) stands.1;
-      breach = λ honest sound broke. absurd (false≢true (sym sound ∙ broke));
+      safe = λ honest whole. at_rest state consistent (record { first = journal; journal = journal; line = at }) (sym (same whole)) whole (durable honest whole);
     })

@@ -3,6 +3,7 @@ use Rattle.std.proofs.Common.{ℕ, ◌≡◌, ◌≤◌, inl, inr, ◌++◌, Lis
 use Rattle.std.proofs.lemmas.Bool.{false≢true}
 use Rattle.std.specs.List.{AllByRecursion, zip}
 use Rattle.std.proofs.Common.{length}
+use Rattle.std.proofs.lemmas.List.{length-map}
 use Rattle.rly_core.specs.declared.refusal.Refusal.{Refusal}
 use Rattle.rly_core.specs.declared.refusal.Refusal.TheVariants.{Broken, Unsure}
 use Rattle.rly_disk.specs.DiskModel.{DiskState, HasFailed}
@@ -13,9 +14,9 @@ use Rattle.rly_machine.specs.History.{Entry, LegalBy, harm, harm_after, is_failu
 use Rattle.rly_machine.specs.State.{State}
 use Rattle.rly_machine.proofs.Histories.{harm_after-append, state_after-append}
 use Rattle.rly_journal.specs.Journal.{Goes, IsRound, JournalState}
-use Rattle.rly_journal.specs.Rounds.{refusals}
+use Rattle.rly_journal.specs.Rounds.{refusal_of, refusals}
 use Rattle.rly_flush.specs.Flushing.{IsTruthful}
-use Rattle.rly_flush.proofs.Refusing.{broken_truthful, count_refusals, most_after, refused_legal, refused_stays, served_truthful, served_unharmed, unsure_truthful}
+use Rattle.rly_flush.proofs.Refusing.{broken_truthful, most_after, refused_legal, refused_stays, served_truthful, served_unharmed, unsure_truthful}
 
 -- what the answers of a round are to the history
 pub record GoesOn {D : Type 0} (state : D → DiskState) (old new : JournalState D) (start : State (List ℕ)) (history : List Entry) (calls : List Call) (given : List Answer) : Type 0 where
@@ -37,7 +38,7 @@ module _ {D : Type 0} (state : D → DiskState) (old new : JournalState D) (star
       let same : state_after start (history ++ zip calls (refusals refusal p calls)) ≡ state_after start history =
       state_after-append start history (zip calls (refusals refusal p calls)) ∙ refused_stays refusal p (state_after start history) calls fails in
       record {
-        count = count_refusals refusal p calls;
+        count = length-map calls (refusal_of refusal p);
         legal = refused_legal refusal p (harm_after 0 history) (state_after start history) calls fails low at;
         position_is = stands ∙ at ∙ ap (λ (x : State (List ℕ)). x.seq) (sym same);
         running = λ whole. absurd (false≢true (sym whole ∙ broken));

@@ -1,5 +1,5 @@
 -- Answers that refuse all calls, and those of a served round, behind a history.
-use Rattle.std.proofs.Common.{ℕ, suc, ◌≡◌, ◌≤◌, ◌++◌, ◌∷◌, [], List, Bool, true, false, true≢false, cond, length, refl, sym, ap, subst, ◌∙◌, arith}
+use Rattle.std.proofs.Common.{ℕ, ◌≡◌, ◌≤◌, ◌++◌, ◌∷◌, [], List, Bool, true, false, true≢false, cond, length, refl, sym, ap, subst, ◌∙◌, arith}
 use Rattle.std.specs.List.{AllByRecursion, zip}
 use Rattle.std.proofs.lemmas.List.{map-append}
 use Rattle.std.proofs.lemmas.Slice.Zip.{firsts-zip}
@@ -24,10 +24,6 @@ calls_in_append xs ys = map-append (λ (e : Entry). e.0) xs ys
 
 pub calls_in_zip : (calls : List Call) (given : List Answer) → length given ≡ length calls → calls_in (zip calls given) ≡ calls
 calls_in_zip calls given count = firsts-zip calls given count
-
-pub count_refusals : (refusal : Refusal) (p : ℕ) (calls : List Call) → length (refusals refusal p calls) ≡ length calls
-count_refusals refusal p [] = refl
-count_refusals refusal p (call ∷ calls) = ap suc (count_refusals refusal p calls)
 
 -- what holds of each entry may hold of it for a weaker reason
 pub all_weaker : (P Q : Entry → Type 0) → ((x : Entry) → P x → Q x) → (xs : List Entry) → AllByRecursion P xs → AllByRecursion Q xs
@@ -68,20 +64,31 @@ refused_legal refusal p harmed s (call ∷ calls) fails low at = (
       (refused_legal refusal p (harm (Refused refusal)) s calls fails (omega arith) at),
 )
 
--- the refusals of a round are true
+-- what holds of each refusal of a round holds of them all
+pub all_refused : (P : Entry → Type 0) (refusal : Refusal) (p : ℕ) → ((call : Call) → P (call, refusal_of refusal p call)) → (calls : List Call)
+    → AllByRecursion P (zip calls (refusals refusal p calls))
+all_refused P refusal p each [] = tt
+all_refused P refusal p each (call ∷ calls) = (each call, all_refused P refusal p each calls)
+
 pub unsure_truthful : (failed broken : Type 0) (p : ℕ) (calls : List Call) → failed → AllByRecursion (IsTruthful failed broken) (zip calls (refusals Unsure p calls))
-unsure_truthful failed broken p [] rose = tt
-unsure_truthful failed broken p (call ∷ calls) rose = (
-  record { unsure = λ _. rose; broken_before = λ e. absurd (let h : Refused Unsure ≡ Refused Broken = e in cc); readable = λ e. let h : Refused Unsure ≡ Refused DeviceRead = e in cc },
-  unsure_truthful failed broken p calls rose,
-)
+unsure_truthful failed broken p calls rose = all_refused (IsTruthful failed broken) Unsure p (λ call. record {
+  unsure = λ _. rose;
+  broken_before = λ e. absurd (let h : Refused Unsure ≡ Refused Broken = e in cc);
+  readable = λ e. let h : Refused Unsure ≡ Refused DeviceRead = e in cc;
+}) calls
 
 pub broken_truthful : (failed broken : Type 0) (p : ℕ) (calls : List Call) → broken → AllByRecursion (IsTruthful failed broken) (zip calls (refusals Broken p calls))
-broken_truthful failed broken p [] was = tt
-broken_truthful failed broken p (call ∷ calls) was = (
-  record { unsure = λ e. absurd (let h : Refused Broken ≡ Refused Unsure = e in cc); broken_before = λ _. was; readable = λ e. let h : Refused Broken ≡ Refused DeviceRead = e in cc },
-  broken_truthful failed broken p calls was,
-)
+broken_truthful failed broken p calls was = all_refused (IsTruthful failed broken) Broken p (λ call. record {
+  unsure = λ e. absurd (let h : Refused Broken ≡ Refused Unsure = e in cc);
+  broken_before = λ _. was;
+  readable = λ e. let h : Refused Broken ≡ Refused DeviceRead = e in cc;
+}) calls
+
+-- a failure is true for a weaker reason
+pub still_truthful : (failed broken failed' broken' : Type 0) → (failed → failed') → (broken → broken') → (xs : List Entry)
+    → AllByRecursion (IsTruthful failed broken) xs → AllByRecursion (IsTruthful failed' broken') xs
+still_truthful failed broken failed' broken' fails breaks xs all = all_weaker (IsTruthful failed broken) (IsTruthful failed' broken')
+    (λ x t. record { unsure = λ e. fails (t.unsure e); broken_before = λ e. breaks (t.broken_before e); readable = t.readable }) xs all
 
 -- where want of memory is the only failure, no device failed
 memory_truthful : (failed broken : Type 0) (x : Entry) → OnlyMemory x → IsTruthful failed broken x
@@ -113,19 +120,19 @@ pub most_after : (harmed : ℕ) (xs : List Entry) → harmed ≤ harm (Refused B
 most_after harmed [] low = low
 most_after harmed (x ∷ xs) low = most_after (harm x.1.reply) xs (most x.1.reply)
 
--- no position is above that of the state that a history leads to
-pub up_to : (harmed : ℕ) (s : State (List ℕ)) (history : List Entry) → LegalBy without_bytes harmed s history
-    → AllByRecursion (λ entry. entry.1.position ≤ (state_after s history).seq) history
-up_to harmed s [] legal = tt
-up_to harmed s (x ∷ xs) legal = (
-  (let rest = (folds (harm x.1.reply) (next_state s x) xs legal.1).2 in omega (arith, legal.0.position, rest)),
-  up_to (harm x.1.reply) (next_state s x) xs legal.1,
-)
-
-pub up_to_more : (most least : ℕ) (history : List Entry) → least ≤ most → AllByRecursion (λ entry. entry.1.position ≤ least) history
-    → AllByRecursion (λ entry. entry.1.position ≤ most) history
-up_to_more most least history low all = all_weaker (λ e. e.1.position ≤ least) (λ e. e.1.position ≤ most) (λ e below. omega (arith, below, low)) history all
-
 -- a history leads to no lower position
 pub grows : (harmed : ℕ) (s : State (List ℕ)) (history : List Entry) → LegalBy without_bytes harmed s history → s.seq ≤ (state_after s history).seq
 grows harmed s history legal = let rest = (folds harmed s history legal).2 in omega (arith, rest)
+
+-- no position in it is above that of the state that it leads to
+pub up_to : (most harmed : ℕ) (s : State (List ℕ)) (history : List Entry) → LegalBy without_bytes harmed s history → (state_after s history).seq ≤ most
+    → AllByRecursion (λ entry. entry.1.position ≤ most) history
+up_to most harmed s [] legal low = tt
+up_to most harmed s (x ∷ xs) legal low =
+    let rest = grows (harm x.1.reply) (next_state s x) xs legal.1 in
+    (omega (arith, legal.0.position, rest), up_to most (harm x.1.reply) (next_state s x) xs legal.1 low)
+
+-- what holds of each entry holds of those in front
+pub all_front : (P : Entry → Type 0) (xs ys : List Entry) → AllByRecursion P (xs ++ ys) → AllByRecursion P xs
+all_front P [] ys all = tt
+all_front P (x ∷ xs) ys all = (all.0, all_front P xs ys all.1)

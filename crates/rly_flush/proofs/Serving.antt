@@ -1,24 +1,17 @@
 -- Round follows round: what holds of each holds of them all.
-use Rattle.std.proofs.Common.{ℕ, ◌≡◌, ◌≤◌, ◌⊎◌, inl, inr, ⊎_elim, ◌++◌, ◌∷◌, [], List, Bool, true, false, refl, sym, ap, subst, ◌∙◌, arith, append_assoc, append-nil}
+use Rattle.std.proofs.Common.{ℕ, ◌≡◌, ◌≤◌, ◌⊎◌, inl, inr, ⊎_elim, ◌++◌, [], List, Bool, true, false, refl, sym, ap, subst, ◌∙◌, arith, append_assoc, append-nil}
 use Rattle.std.proofs.lemmas.Bool.{false≢true}
 use Rattle.std.specs.Prelude.{MatchBool}
-use Rattle.std.specs.List.{AllByRecursion, zip}
+use Rattle.std.specs.List.{AllByRecursion}
 use Rattle.rly_disk.specs.DiskModel.{Consistent, DiskState, Later, HasFailed}
 use Rattle.rly_disk.proofs.Composition.{joined, later_again, rose_earlier, rose_later, started, weaker}
 use Rattle.rly_machine.specs.declared.call.Answer.{Answer}
 use Rattle.rly_machine.specs.declared.call.Call.{Call}
-use Rattle.rly_machine.specs.History.{Entry}
-use Rattle.rly_machine.specs.State.{State}
-use Rattle.rly_machine.proofs.Histories.{legal_but_for_bytes}
 use Rattle.rly_journal.specs.Journal.{IsRound, JournalState}
 use Rattle.rly_journal.specs.Standing.{Stands}
 use Rattle.rly_flush.specs.Flushing.{FlusherState, GrewInRound, HoldsAnswered, IsContinued, IsCrashSafe, IsOneHistory, IsOneRound, IsTruthful, state_reached}
-use Rattle.rly_flush.proofs.Refusing.{all_append, all_weaker, grows, up_to, up_to_more}
-
--- what holds of each entry holds of those in front
-all_front : (P : Entry → Type 0) (xs ys : List Entry) → AllByRecursion P (xs ++ ys) → AllByRecursion P xs
-all_front P [] ys all = tt
-all_front P (x ∷ xs) ys all = (all.0, all_front P xs ys all.1)
+use Rattle.rly_flush.proofs.Crashing.{holds_answered}
+use Rattle.rly_flush.proofs.Refusing.{all_append, all_front, still_truthful}
 
 module _ {D : Type 0} (state : D → DiskState) (consistent : (disk : D) → (state disk).honest → Consistent (state disk)) where
   -- no round was made
@@ -46,20 +39,6 @@ module _ {D : Type 0} (state : D → DiskState) (consistent : (disk : D) → (st
     since : b.journal.broken ≡ true → Broken
     since broke = ⊎_elim (λ was. inl was) (λ rose. inr (rose_later (state a.journal.disk) rose later)) (so_far.broke broke)
 
-    earlier : (x : Entry) → IsTruthful (HasFailed (state a.journal.disk) (state b.journal.disk)) ((a.journal.broken ≡ true) ⊎ HasFailed (state a.journal.disk) (state b.journal.disk)) x → IsTruthful Failed Broken x
-    earlier x truthful = record {
-      unsure = λ e. rose_later (state a.journal.disk) (truthful.unsure e) later;
-      broken_before = λ e. ⊎_elim (λ was. inl was) (λ rose. inr (rose_later (state a.journal.disk) rose later)) (truthful.broken_before e);
-      readable = truthful.readable;
-    }
-
-    now : (x : Entry) → IsTruthful (HasFailed (state b.journal.disk) (state e.journal.disk)) (b.journal.broken ≡ true) x → IsTruthful Failed Broken x
-    now x truthful = record {
-      unsure = λ is. rose_earlier (state e.journal.disk) so_far.later (truthful.unsure is);
-      broken_before = λ is. since (truthful.broken_before is);
-      readable = truthful.readable;
-    }
-
     broke_in : (calls : List Call) (given : List Answer) → IsRound state b.journal e.journal calls given → e.journal.broken ≡ true → Broken
     broke_in calls given (inl was) broke = since was.0
     broke_in calls given (inr (inl went)) broke = absurd (false≢true (sym went.1.broken ∙ broke))
@@ -70,21 +49,14 @@ module _ {D : Type 0} (state : D → DiskState) (consistent : (disk : D) → (st
     broke_by false same broke = since (sym (ap (λ (f : FlusherState D). f.journal.broken) same) ∙ broke)
 
     -- what was answered at first was answered before this round
-    held : (s : State (List ℕ)) (image : List ℕ) → (state_reached b).seq ≤ s.seq → Stands image s → HoldsAnswered a.line.history image
-    held s image low stands = record {
-      s = s;
-      stands = stands;
-      answered = up_to_more s.seq (state_reached b).seq a.line.history low
-          (all_front (λ x. x.1.position ≤ (state_reached b).seq) a.line.history so_far.grew.added
-          (subst (AllByRecursion (λ x. x.1.position ≤ (state_reached b).seq)) so_far.grew.history
-          (up_to 0 b.line.start b.line.history so_far.history.legal_but_for_bytes)));
-    }
-
-    held_both : (round : IsCrashSafe state b e) (image : List ℕ) → Stands image (state_reached b) ⊎ Stands image round.target → HoldsAnswered a.line.history image
-    held_both round image stands =
-        let more = grows 0 (state_reached b) (zip round.calls round.given) (legal_but_for_bytes 0 (state_reached b) (zip round.calls round.given) round.served.legal) in
-        ⊎_elim (λ s. held (state_reached b) image (omega arith) s)
-        (λ s. held round.target image (omega (arith, more, ap (λ (x : State (List ℕ)). x.seq) round.served.state)) s) stands
+    held : (round : IsCrashSafe state b e) (image : List ℕ) → Stands image (state_reached b) ⊎ Stands image round.target → HoldsAnswered a.line.history image
+    held round image stands =
+        let all = holds_answered state consistent b e round so_far.history.legal_but_for_bytes image stands in
+        record {
+          s = all.s;
+          stands = all.stands;
+          answered = all_front (λ x. x.1.position ≤ all.s.seq) a.line.history so_far.grew.added (subst (AllByRecursion (λ x. x.1.position ≤ all.s.seq)) so_far.grew.history all.answered);
+        }
 
     pub continued_next : IsContinued state a e
     continued_next = record {
@@ -95,13 +67,14 @@ module _ {D : Type 0} (state : D → DiskState) (consistent : (disk : D) → (st
         added = so_far.grew.added ++ grew.added;
         history = grew.history ∙ ap (λ h. h ++ grew.added) so_far.grew.history ∙ append_assoc a.line.history so_far.grew.added grew.added;
         truthful = all_append (IsTruthful Failed Broken) so_far.grew.added grew.added
-            (all_weaker _ (IsTruthful Failed Broken) earlier so_far.grew.added so_far.grew.truthful)
-            (all_weaker _ (IsTruthful Failed Broken) now grew.added grew.truthful);
+            (still_truthful _ _ Failed Broken (λ rose. rose_later (state a.journal.disk) rose later)
+            (⊎_elim (λ was. inl was) (λ rose. inr (rose_later (state a.journal.disk) rose later))) so_far.grew.added so_far.grew.truthful)
+            (still_truthful _ _ Failed Broken (rose_earlier (state e.journal.disk) so_far.later) since grew.added grew.truthful);
       };
       broke = broke_by made took;
       later = later_again so_far.later later;
       any_moment = λ honest sound.
           let round = safe (so_far.later.honest.1 honest) (ap (λ (j : JournalState D). j.broken) so_far.first ∙ sound) in
-          weaker _ (HoldsAnswered a.line.history) (λ image. ⊎_elim (λ held. held) (λ stands. held_both round image stands))
+          weaker _ (HoldsAnswered a.line.history) (λ image. ⊎_elim (λ held. held) (held round image))
           (joined (HoldsAnswered a.line.history) (λ image. Stands image (state_reached b) ⊎ Stands image round.target) (so_far.any_moment honest sound) round.leaves);
     }

@@ -8,7 +8,7 @@ use Rattle.rly_machine.specs.declared.call.Answer.{Answer}
 use Rattle.rly_machine.specs.declared.call.Call.{Call}
 use Rattle.rly_machine.specs.declared.reply.Reply.TheVariants.{Refused}
 use Rattle.rly_machine.specs.Fold.{AllAccepted, fold}
-use Rattle.rly_machine.specs.History.{Entry, Legal, LegalButForBytes, accepted_of, harm_after, position, state_after}
+use Rattle.rly_machine.specs.History.{Entry, Legal, LegalButForBytes, accepted_of, state_after}
 use Rattle.rly_machine.specs.State.{State}
 use Rattle.rly_journal.specs.Journal.{IsRound, JournalState}
 use Rattle.rly_journal.specs.Rounds.{AreServed, refusals}

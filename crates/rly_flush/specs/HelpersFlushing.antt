@@ -1,16 +1,15 @@
 -- Nothing is claimed here: what a flusher keeps, of which only private functions and invariants speak.
-use Rattle.std.specs.Prelude.{ℕ, ◌≡◌, ◌≤◌, ◌⊎◌, List, [], ◌++◌, map, true, false, vec_capacity}
+use Rattle.std.specs.Prelude.{◌≡◌, ◌≤◌, List, [], map, true, false, vec_capacity}
 use Rattle.std.specs.Global.{Vec}
 use Rattle.std.specs.declared.snapshot.Snapshot.{Snapshot}
-use Rattle.rly_disk.specs.DiskModel.{DiskState, Later}
+use Rattle.rly_disk.specs.DiskModel.{DiskState, Later, Settled}
 use Rattle.rly_machine.specs.declared.call.Answer.{Answer}
 use Rattle.rly_machine.specs.declared.call.Call.{Call}
-use Rattle.rly_machine.specs.History.{Entry, Legal, harm_after, position}
-use Rattle.rly_machine.specs.State.{State}
-use Rattle.rly_journal.specs.Rounds.{AreServed}
+use Rattle.rly_machine.specs.History.{Legal, harm_after, position}
+use Rattle.rly_journal.specs.Journal.{IsRound, IsSafe, JournalState}
 use Rattle.rly_journal.specs.Standing.{Stands}
 use Rattle.rly_line.specs.Responding.{IsResponding, calls_in}
-use Rattle.rly_flush.specs.Flushing.{FlusherState, answered_state, entries_since, state_reached}
+use Rattle.rly_flush.specs.Flushing.{FlusherState, IsCrashSafe, answered_state, state_reached}
 
 -- the calls that were kept for the history
 abbrev pub said_of : Vec (Snapshot Call) → List Call
@@ -25,18 +24,12 @@ pub record AreReady (calls : Vec Call) (said : Vec (Snapshot Call)) (answers : V
   pub said_room : 64 ≤ vec_capacity said
   pub answers_room : 64 ≤ vec_capacity answers
 
--- the round that broke the journal, and what a crash leaves since: the state that the history led to, or that with the
--- commands of that round
-pub record IsBreach {D : Type 0} (state : D → DiskState) (f : FlusherState D) : Type 0 where
-  pub before : List Entry
-  pub calls : List Call
-  pub behind : List Call
-  pub whole : f.line.history ≡ before ++ entries_since f.journal.position calls behind
-  pub given : List Answer
-  pub target : State (List ℕ)
-  pub served : AreServed calls given (state_reached f) target
-  pub images : (image : List ℕ) → (state f.journal.disk).images image
-      → Stands image (state_reached f) ⊎ Stands image target
+-- what is known of a round of the journal
+pub record IsRounded {D : Type 0} (state : D → DiskState) (old new : JournalState D) (calls : List Call) (given : List Answer) : Type 0 where
+  pub round : IsRound state old new calls given
+  pub any_moment : (state old.disk).honest → old.broken ≡ false → IsSafe state old new calls
+  pub durable : (state new.disk).honest → new.broken ≡ false → Settled (state new.disk) × Stands (state new.disk).seen new.state
+  pub later : Later (state old.disk) (state new.disk)
 
 -- what holds of a flusher at each moment
 pub record IsFlushing {D : Type 0} (state : D → DiskState) (f : FlusherState D) : Type 0 where
@@ -53,6 +46,4 @@ pub record IsFlushing {D : Type 0} (state : D → DiskState) (f : FlusherState D
   pub still : f.first.broken ≡ true → f.journal ≡ f.first
   pub later : Later (state f.first.disk) (state f.journal.disk)
   -- what a crash leaves now, on an honest disk
-  pub whole : (state f.journal.disk).honest → f.journal.broken ≡ false
-      → (image : List ℕ) → (state f.journal.disk).images image → Stands image (state_reached f)
-  pub breach : (state f.journal.disk).honest → f.first.broken ≡ false → f.journal.broken ≡ true → IsBreach state f
+  pub safe : (state f.journal.disk).honest → f.first.broken ≡ false → IsCrashSafe state f f

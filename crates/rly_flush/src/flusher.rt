@@ -1,13 +1,12 @@
 ghost use Rattle.std.specs.Prelude.{◌≡◌, ◌≤◌, ℕ, [], false, length, map, vec_capacity, IfErr, IfOk, MatchBool};
 ghost use Rattle.std.specs.List.{range_with_len};
 ghost use Rattle.rly_core.specs.Bounds.{IsIn};
-ghost use Rattle.rly_disk.specs.DiskModel.{Later, Settled};
-ghost use Rattle.rly_journal.specs.Journal.{IsRound, IsSafe};
-ghost use Rattle.rly_journal.specs.Standing.{Stands};
+ghost use Rattle.rly_disk.specs.DiskModel.{Later};
 ghost use Rattle.rly_line.specs.EndViews.{new_teller};
 ghost use Rattle.rly_line.specs.Responding.{calls_in};
 ghost use Rattle.rly_line.specs.Submission.{IsBeginning};
 ghost use Rattle.rly_flush.specs.Flushing.{GrewInRound, IsCrashSafe, IsOneHistory, IsOneRound, IsServed, new_flusher};
+ghost use Rattle.rly_flush.specs.HelpersFlushing.{IsRounded};
 
 use crate::owned_journal::OwnedJournal;
 use crate::round_calls::{answer_all, collect, reserve};
@@ -178,10 +177,7 @@ fn commit<D: Disk>(
     requires empty { answers.old.items ≡ [] }
     requires room { 64 ≤ vec_capacity answers.old }
     ensures emptied { calls.new.items ≡ [] }
-    ensures round { IsRound D.state journal.old journal.new calls.old.items answers.new.items }
-    ensures any_moment { (D.state journal.old.disk).honest → journal.old.broken ≡ false → IsSafe D.state journal.old journal.new calls.old.items }
-    ensures durable { (D.state journal.new.disk).honest → journal.new.broken ≡ false → Settled (D.state journal.new.disk) × Stands (D.state journal.new.disk).seen journal.new.state }
-    ensures later { Later (D.state journal.old.disk) (D.state journal.new.disk) }
+    ensures round { IsRounded D.state journal.old journal.new calls.old.items answers.new.items }
     ensures calls_capacity { vec_capacity calls.new ≡ vec_capacity calls.old }
     ensures answers_capacity { vec_capacity answers.old ≤ vec_capacity answers.new }
 {

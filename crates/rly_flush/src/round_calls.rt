@@ -87,10 +87,7 @@ pub(crate) fn answer_all<T: Standing, R: Wait>(
     requires left { AreLeft line.old (said_of said.old) }
     requires count { length answers.old.items ≡ length said.old.items }
     requires legal { LegalBy without_bytes (harm_after 0 line.old.history) (state_after line.old.start line.old.history) (zip (said_of said.old) answers.old.items) }
-    ensures of { line.new.of ≡ line.old.of }
-    ensures taken { line.new.taken ≡ line.old.taken }
-    ensures start { line.new.start ≡ line.old.start }
-    ensures history { line.new.history ≡ line.old.history ++ zip (said_of said.old) answers.old.items }
+    ensures line { line.new ≡ record line.old { history = line.old.history ++ zip (said_of said.old) answers.old.items; lines = line.new.lines } }
     ensures emptied { (said.new.items ≡ []) × (answers.new.items ≡ []) }
     ensures said_capacity { vec_capacity said.new ≡ vec_capacity said.old }
     ensures answers_capacity { vec_capacity answers.new ≡ vec_capacity answers.old }

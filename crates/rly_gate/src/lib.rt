@@ -1,11 +1,11 @@
-//! Groups on a disk: how a row of bytes becomes durable whole or not at all.
+//! Groups on a disk: how several bytes become durable together, whole or not at all.
 //!
-//! A gate is one byte; it is open where it is `a5`. A group is an open gate, the length of a body,
-//! the body, and a closed gate (`docs/FORMATS.md`, "Groups"). `append_group` writes one so that a
-//! crash at any moment leaves its gate closed or the whole group behind it (`specs/Group.antt`), and
-//! `read_group` reads one (`specs/Reading.antt`). `settle`, `is_open`, `fill` and `read_bytes` are their
-//! steps, which heads and headers are written and read by too. It stands on any disk that keeps to the
-//! disk model; the segment and the journal call it.
+//! A gate is one byte, open if it is `a5`. A group is an open gate, the length of a body, the
+//! body, and a closed gate (`docs/FORMATS.md`, "Groups"). `append_group` writes one so that a
+//! crash at any moment leaves its gate closed, or the whole group with a closed gate after it
+//! (`specs/Group.antt`). `read_group` reads one (`specs/Reading.antt`). `settle`, `is_open`,
+//! `fill` and `read_bytes` are their steps; heads and headers are written and read by them too.
+//! It works on any disk that keeps to the disk model. Callers: `rly_segment` and `rly_journal`.
 #![tactic(auto)]
 
 mod append;

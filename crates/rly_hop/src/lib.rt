@@ -1,23 +1,13 @@
-//! Custody between two neighbouring relays: the messages, each one UDP datagram, and the two ends as pure machines that
-//! call nothing, since they are given events and name actions.
+//! Custody between two neighbouring stations: the messages, each one UDP datagram, and the two
+//! ends as pure machines. The machines call nothing: they are given events and name actions.
 //!
-//! `read_message` and `write_message` meet the one spelling of each message (`specs/Spelling.antt`, `specs/Reading.antt`),
-//! `Receiving::step` and `Sending::step` the two tables of `docs/PROTOCOL.md` (`specs/Receiving.antt`,
-//! `specs/Sending.antt`). Nothing here takes memory, waits or fails for another cause than the bytes.
-//! Callers: `rly_threads`, whose workers act as the cores say.
+//! `read_message` and `write_message` meet the one spelling of each message
+//! (`specs/Spelling.antt`, `specs/Reading.antt`). `Receiving::step` and `Sending::step` are the
+//! two tables of `docs/PROTOCOL.md` (`specs/Receiving.antt`, `specs/Sending.antt`). Nothing here
+//! takes memory or waits, and only the bytes make a call fail. Caller: `rly_threads`, whose
+//! workers do what the machines name.
 #![tactic(auto)]
 
-/// As `assert!`, by one call: the prover then sees one way on where `assert!` has two. `assert!` stands where a later call needs
-/// what was asserted, and where the text names a row.
-#[cfg(test)]
-macro_rules! expect {
-    ($rt:expr; $cond:expr $(,)?) => {
-        crate::expect::expect(&$rt, $cond, stringify!($cond))
-    };
-}
-
-#[cfg(test)]
-mod expect;
 mod kind;
 mod laws;
 mod message;
@@ -37,6 +27,3 @@ pub use crate::reading::read_message;
 pub use crate::receiving::{InAction, InEvent, Receiving, TakeAnswer};
 pub use crate::sending::{OutAction, OutEvent, Sending};
 pub use crate::writing::write_message;
-
-#[cfg(test)]
-mod tests;

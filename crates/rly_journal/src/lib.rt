@@ -1,9 +1,11 @@
 //! The journal: a spool on a device, whose state is there again after a crash.
 //!
-//! `specs/Standing.antt` says when the bytes of a device stand for a state, and `specs/Faults.antt` why they
-//! stand for none. `Journal::open` gives that state; `Journal::round` answers 1 to 64 calls on the plain machine
-//! and makes what they changed durable before it answers, so that a crash at any moment leaves the round whole or
-//! none of it (`specs/Journal.antt`). It stands on any disk that keeps to the disk model, and is one thread's.
+//! `specs/Standing.antt` says when the bytes of a device stand for a state, and
+//! `specs/Faults.antt` why they stand for none. `Journal::open` gives that state.
+//! `Journal::round` answers 1 to 64 calls on the plain machine, and makes what they changed
+//! durable before it answers. So a crash at any moment leaves the round whole or none of it
+//! (`specs/Journal.antt`). It works on any disk that keeps to the disk model, and belongs to one
+//! thread. Callers: `rly_flush`, `rly_audit`, `rly_text` and `rly_daemon`.
 #![tactic(auto)]
 
 mod answering;

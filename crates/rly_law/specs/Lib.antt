@@ -1,1 +1,2 @@
 pub mod ControlLaw
+pub mod HelpersTable

@@ -3,4 +3,3 @@ pub mod Submitting
 pub mod Replying
 pub mod Making
 pub mod Telling
-pub mod Answering

@@ -1,7 +1,7 @@
 -- Nothing is claimed here: the two lines as their channels keep them, and the ends of a seat, which only private
 -- functions speak of. The rule of a line of answers is that it was told histories, each of which goes on from the one
 -- before, and that what the seat knows is the last one that it took.
-use Rattle.std.specs.Prelude.{ℕ, ◌≡◌, ◌+◌, ◌⊎◌, List, [], ◌∷◌, ◌++◌, Bool, true, false, Option, Some, None, length}
+use Rattle.std.specs.Prelude.{ℕ, ◌≡◌, ◌⊎◌, List, [], ◌∷◌, Bool, true, false, Option, Some, None, length}
 use mathlib.Core.Option.{some}
 use lib.ListN.{get_elem?}
 use Rattle.crossbeam_channel.specs.Claims.{Pass}

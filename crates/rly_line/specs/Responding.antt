@@ -1,7 +1,7 @@
 -- The thread that answers: what it told each seat is a beginning of one legal history, of the calls that it took.
 use Rattle.std.specs.Prelude.{ℕ, ◌≡◌, ◌<◌, ◌⊎◌, List, [], ◌++◌, All, false, Some, None, length, map}
 use Rattle.rly_machine.specs.declared.call.Call.{Call}
-use Rattle.rly_machine.specs.History.{Entry, LegalButForBytes, harm_after, state_after}
+use Rattle.rly_machine.specs.History.{Entry, LegalButForBytes}
 use Rattle.rly_machine.specs.State.{State}
 use Rattle.rly_line.specs.EndViews.{AreInPlace, EndView, teller_at}
 use Rattle.rly_line.specs.Replies.{Teller, entries_of}
@@ -54,9 +54,3 @@ pub record IsResponding (r : Responding) : Type 0 where
   pub numbered : (seat : ℕ) → AreNumbered 0 (calls_of seat r.taken)
   pub in_place : AreInPlace r.lines
   pub told : AreTold r.start r.history r.lines
-
--- all calls were answered, in a history that led to this state and told of no failed device
-pub record IsInStep (s : State (List ℕ)) (r : Responding) : Type 0 where
-  pub answered : AreLeft r []
-  pub state : s ≡ state_after r.start r.history
-  pub unharmed : harm_after 0 r.history ≡ 0

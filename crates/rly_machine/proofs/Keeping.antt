@@ -1,7 +1,7 @@
 -- What a machine's fields stand for after a step.
-use Rattle.std.proofs.Common.{ℕ, ◌*◌, true, lit<, ◌≡◌, ◌+◌, ◌-◌, ◌<◌, ◌≤◌, min, List, length, get_or, set, take, drop, map, refl, arith, sym, ◌∙◌, ap, subst, None, Vec, sum, sum_by, replicate}
+use Rattle.std.proofs.Common.{ℕ, ◌*◌, true, lit<, ◌≡◌, ◌+◌, ◌-◌, ◌<◌, ◌≤◌, List, length, get_or, set, take, drop, map, refl, arith, sym, ◌∙◌, ap, subst, None, Vec, sum, sum_by, replicate, Ok, Err, Result}
+use Rattle.std.specs.Result.{OnErr, OnOk}
 use Rattle.std.specs.Vec.{with_item}
-use Rattle.std.specs.VecDeque.{deque_capacity, deque_len}
 use Rattle.std.proofs.lemmas.List.{get_or-set_same, length-map, length-set, map-id, map-set, set-get_or, get_or-map, length-replicate}
 use Rattle.std.proofs.lemmas.List.Elements.{All-get_or, All-nil, All-replicate}
 use Rattle.std.proofs.lemmas.List.Sums.{sum-map, sum_by-take-drop}
@@ -22,7 +22,7 @@ use Rattle.rly_machine.specs.Release.{covered_count, release_refusal, release_st
 use Rattle.rly_machine.specs.Take.{take_refusal, take_step, with_taken}
 use Rattle.rly_machine.specs.Sound.{IsLive, IsSound, IsSoundHop}
 use Rattle.rly_machine.specs.HelpersMachine.{IsHopAt, KeepsCounts}
-use Rattle.rly_machine.specs.Kept.{hop_state, spare_of, state_of}
+use Rattle.rly_machine.specs.Kept.{hop_state, state_of}
 use Rattle.rly_machine.proofs.Refusals.{among, may_pick, may_take, may_release}
 use Rattle.rly_machine.proofs.Picking.{bytes_picked, fair_outcome, items_picked, sound_pick}
 use Rattle.rly_machine.proofs.Soundness.{sound_take, sound_release, items_taken, bytes_taken, items_released, bytes_released}
@@ -44,16 +44,26 @@ pub same_state : {P A B : Type 0} (params : Params) (hops : Vec (Hop P) A) (last
 same_state {P} params hops lasts seq i old new read same =
     ap (λ hs. let r : State P = record { params = params; hops = hs; lasts = lasts.items; seq = seq } in r) (same_hops hops.items i old new read same)
 
--- and a hop with room has room
-pub room_made : {P A : Type 0} (hops : Vec (Hop P) A) (i : ℕ) (new : Hop P) → i < length hops.items
-    → deque_len new.queue < deque_capacity new.queue → deque_len new.flight < deque_capacity new.flight
-    → 0 < get_or (spare_of (with_item hops i new)) i 0
-room_made {P} hops i new below queue_room flight_room =
-    let free : Hop P → ℕ = λ h. min (deque_capacity h.queue - deque_len h.queue) (deque_capacity h.flight - deque_len h.flight) in
-    let place : i < length (set hops.items i new) = omega (arith, length-set hops.items i new) in
-    let is_free : get_or (map free (set hops.items i new)) i 0 ≡ free new =
-    get_or-map free (set hops.items i new) i new 0 place ∙ ap free (get_or-set_same hops.items i new new below) in
-    omega (arith, is_free, queue_room, flight_room)
+-- what a success gives, or a failure, gives another fact
+pub on_ok : {T E : Type 0} (r : Result T E) (A B : Type 0) → (A → B) → OnOk r A → OnOk r B
+on_ok (Ok x) A B f a = f a
+on_ok (Err e) A B f a = a
+
+pub on_err : {T E : Type 0} (r : Result T E) (A B : Type 0) → (A → B) → OnErr r A → OnErr r B
+on_err (Ok x) A B f a = a
+on_err (Err e) A B f a = f a
+
+-- what is told of each hop is told of the one that was written back
+pub told_of_written : {P : Type 0} (f : Hop P → ℕ) (hops : List (Hop P)) (i : ℕ) (new : Hop P) → i < length hops
+    → get_or (map f (set hops i new)) i 0 ≡ f new
+told_of_written {P} f hops i new below =
+    let place : i < length (set hops i new) = omega (arith, length-set hops i new) in
+    get_or-map f (set hops i new) i new 0 place ∙ ap f (get_or-set_same hops i new new below)
+
+-- and of the one that is read
+pub told_of_read : {P : Type 0} (f : Hop P → ℕ) (hops : List (Hop P)) (i : ℕ) (old : Hop P) → i < length hops → old ≡ get_or hops i old
+    → get_or (map f hops) i 0 ≡ f old
+told_of_read {P} f hops i old below read = get_or-map f hops i old 0 below ∙ ap f (sym read)
 
 -- a hop read from the fields is the state's
 pub read_hop : {P : Type 0} (hops : List (Hop P)) (i : ℕ) (old : Hop P) → i < length hops → old ≡ get_or hops i old → hop_state old ≡ get_or (map hop_state hops) i new_hop

@@ -3,7 +3,7 @@ use Rattle.std.specs.Prelude.{ℕ, List, length}
 use Rattle.rly_machine.specs.declared.command.Ask.{Ask}
 use Rattle.rly_machine.specs.declared.command.Ask.TheVariants as ask
 use Rattle.rly_machine.specs.declared.reply.Reply.{Reply}
-use Rattle.rly_machine.specs.State.{State}
+use Rattle.rly_machine.specs.State.{State, Spool}
 use Rattle.rly_machine.specs.Step.{NeedsRoom, step}
 use Rattle.rly_machine.specs.Query.{HasBytes, query_reply}
 
@@ -12,7 +12,7 @@ abbrev pub ask_step : State (List ℕ) → Ask → State (List ℕ) × Reply
 ask_step s (ask.Command command) = step length s command
 ask_step s (ask.Query query) = (s, query_reply s query)
 
--- an ask for which memory may be wanted: a Take or a Pick, or a Fetch of a payload with bytes
-abbrev pub NeedsMemory : State (List ℕ) → Ask → Type 0
-NeedsMemory s (ask.Command command) = NeedsRoom command
-NeedsMemory s (ask.Query query) = HasBytes (query_reply s query)
+-- an ask for which memory is wanted: a command that needs room, or a Fetch of a payload with bytes
+abbrev pub NeedsMemory : Spool (List ℕ) → Ask → Type 0
+NeedsMemory spool (ask.Command command) = NeedsRoom length spool command
+NeedsMemory spool (ask.Query query) = HasBytes (query_reply spool.state query)

@@ -1,5 +1,5 @@
 -- How a machine keeps its state.
-use Rattle.std.specs.Prelude.{ℕ, ◌-◌, min, List, map, Vec}
+use Rattle.std.specs.Prelude.{ℕ, ◌-◌, List, map, Vec}
 use Rattle.std.specs.VecDeque.{deque_capacity, deque_len}
 use Rattle.rly_core.specs.declared.params.Params.{Params}
 use Rattle.rly_machine.specs.declared.hop.Hop.{Hop}
@@ -22,8 +22,10 @@ abbrev pub state_of : {P A B : Type 0} → Params → Vec (Hop P) A → Vec ℕ 
 state_of params hops lasts seq =
     record { params = params; hops = map hop_state hops.items; lasts = lasts.items; seq = seq }
 
--- how many more items each queue, and each flight, holds without memory
-abbrev pub spare_of : {P A : Type 0} → Vec (Hop P) A → List ℕ
-spare_of hops = map
-    (λ h. min (deque_capacity h.queue - deque_len h.queue) (deque_capacity h.flight - deque_len h.flight))
-    hops.items
+-- how many more items each queue holds without memory
+abbrev pub queue_spare_of : {P A : Type 0} → Vec (Hop P) A → List ℕ
+queue_spare_of hops = map (λ h. h.queue.spare) hops.items
+
+-- how many more items each flight holds without memory
+abbrev pub flight_spare_of : {P A : Type 0} → Vec (Hop P) A → List ℕ
+flight_spare_of hops = map (λ h. deque_capacity h.flight - deque_len h.flight) hops.items

@@ -8,6 +8,7 @@ pub mod Query
 pub mod Ask
 pub mod Fold
 pub mod Sound
+pub mod HelpersQueue
 pub mod Kept
 pub mod HelpersMachine
 pub mod Custody

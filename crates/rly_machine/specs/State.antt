@@ -8,6 +8,11 @@ use Rattle.rly_codel.specs.Start.{new_codel}
 use Rattle.rly_codel.specs.declared.state.CodelState.{CodelState}
 use Rattle.rly_machine.specs.declared.hop.Item.{Item}
 
+-- what contracts see of a queue: the items that wait, the front first, and how many more it holds without memory
+pub record QueueState (P : Type 0) : Type 0 where
+  pub items : List (Item P)
+  pub spare : ℕ
+
 -- one next hop: what waits, what is in flight, CoDel's state, the last link moment, and the counts
 pub record HopState (P : Type 0) : Type 0 where
   pub queue : List (Item P)
@@ -29,7 +34,8 @@ pub record State (P : Type 0) : Type 0 where
 -- without memory
 pub record Spool (P : Type 0) : Type 0 where
   pub state : State P
-  pub spare : List ℕ
+  pub queue_spare : List ℕ
+  pub flight_spare : List ℕ
 
 -- a hop that nothing has come to
 abbrev pub new_hop : {P : Type 0} → HopState P

@@ -1,12 +1,13 @@
-ghost use Rattle.std.specs.Prelude.{◌≡◌, ◌+◌, ◌<◌, ◌≤◌, ◌^◌, [], ◌++◌, IfOk, OnOk, drop, length, map, take, vec_capacity, vec_len};
+ghost use Rattle.std.specs.Prelude.{◌≡◌, ◌+◌, ◌<◌, ◌≤◌, ◌^◌, [], ◌++◌, OnErr, OnOk, drop, length, map, take, vec_capacity, vec_len};
 ghost use Rattle.std.specs.VecDeque.{deque_capacity, deque_len};
 ghost use Rattle.rly_machine.specs.State.{bytes_of};
 
 use crate::content::Content;
+use crate::lane::QueueLane;
 use crate::queue::Queue;
 use crate::reply::{HopStatus, Ids, Reply};
-use rly_codel::{CodelState, dequeue};
-use rly_core::Params;
+use crate::rules::Rules;
+use rly_codel::{CodelState, dequeue_with};
 use std::alloc::{AllocError, Global};
 use std::collections::VecDeque;
 
@@ -23,9 +24,9 @@ pub struct Item<C> {
 
 /// What a spool keeps for one next hop.
 #[derive(Debug, Drop)]
-pub struct Hop<C> {
+pub struct Hop<C: Content> {
     /// The datagrams that wait, in order of taking.
-    pub queue: VecDeque<Item<C>>,
+    pub queue: Queue<C>,
     /// The datagrams in flight, in order; the first has the number `released + 1`.
     pub flight: VecDeque<Item<C>>,
     /// CoDel's state.
@@ -40,7 +41,7 @@ pub struct Hop<C> {
     pub released: u64,
 }
 
-impl<C> Hop<C> {
+impl<C: Content> Hop<C> {
     ghost use Rattle.rly_machine.specs.Kept.{hop_state};
     ghost use Rattle.rly_machine.specs.Pick.{is_idle};
     ghost use Rattle.rly_machine.specs.State.{new_hop, next_number};
@@ -52,7 +53,7 @@ impl<C> Hop<C> {
         ensures { hop_state result ≡ new_hop }
     {
         Hop {
-            queue: VecDeque::new(alloc),
+            queue: Queue::new(alloc),
             flight: VecDeque::new(alloc),
             codel: CodelState::NEW,
             moment: 0,
@@ -77,17 +78,22 @@ impl<C> Hop<C> {
         }
     }
 
-    /// Makes room for one more datagram in the queue and one more in flight. Where memory is
-    /// refused, the hop is as it was. Answers how many wait.
-    pub(crate) fn reserve(&mut self) -> Result<usize, AllocError>
+    /// Makes room for one more datagram in the queue. Where memory is refused, the hop is as it was.
+    pub(crate) fn reserve_queue(&mut self) -> Result<(), AllocError>
         ensures hop { hop_state self.new ≡ hop_state self.old }
-        ensures queue { OnOk result (deque_len self.new.queue < deque_capacity self.new.queue) }
-        ensures flight { OnOk result (deque_len self.new.flight < deque_capacity self.new.flight) }
-        ensures waiting { IfOk result (λ count. count ≡ length self.new.queue.items) }
+        ensures room { OnOk result (0 < self.new.queue.spare) }
+        ensures memory { OnErr result (self.old.queue.spare ≡ 0) }
     {
-        self.queue.reserve(1)?;
-        self.flight.reserve(1)?;
-        Ok(self.queue.len())
+        self.queue.reserve_one()
+    }
+
+    /// Makes room for one more datagram in flight. Where memory is refused, the hop is as it was.
+    pub(crate) fn reserve_flight(&mut self) -> Result<(), AllocError>
+        ensures hop { hop_state self.new ≡ hop_state self.old }
+        ensures room { OnOk result (deque_len self.new.flight < deque_capacity self.new.flight) }
+        ensures memory { OnErr result (deque_capacity self.old.flight ≤ deque_len self.old.flight) }
+    {
+        self.flight.reserve(1)
     }
 
     /// The custody number that the next datagram in flight gets.
@@ -107,7 +113,7 @@ impl<C> Hop<C> {
 
     /// Puts a datagram at the back of the queue, not before the last moment.
     pub(crate) fn take(&mut self, id: u64, stamp: u64, payload: C)
-        requires room { deque_len self.old.queue < deque_capacity self.old.queue }
+        requires room { 0 < self.old.queue.spare }
         requires count { self.old.taken + 1 < 2 ^ 64 }
         ensures { hop_state self.new ≡ with_taken (hop_state self.old) id stamp payload }
     {
@@ -140,7 +146,7 @@ impl<C: Content> Hop<C> {
         requires { bytes_of C.length_of (live_line (hop_state self.now)) < 2 ^ 64 }
         ensures { result ≡ bytes_of C.length_of (live_line (hop_state self.now)) }
     {
-        payload_bytes(&self.flight) + payload_bytes(&self.queue)
+        payload_bytes(&self.flight) + self.queue.bytes()
     }
 
     /// Lets go of the first so many in flight, and answers how many payload bytes they had.
@@ -163,28 +169,44 @@ impl<C: Content> Hop<C> {
 
     /// Picks at a moment, not before the last one: CoDel drops what is due, and the datagram behind
     /// goes into flight. Answers the reply, and how many datagrams and payload bytes were dropped.
-    pub(crate) fn pick(&mut self, now: u64, params: &Params, ids: Vec<u64>) -> (Reply, Dropped)
-        requires params { IsWithinLimits params.now }
+    pub(crate) fn pick(&mut self, now: u64, rules: &Rules, ids: Vec<u64>) -> (Reply, Dropped)
+        requires params { IsWithinLimits rules.now }
         requires moment { now < 2 ^ 52 }
-        requires sound { IsSoundHop C.length_of params.now max_seq (hop_state self.old) }
+        requires sound { IsSoundHop C.length_of rules.now max_seq (hop_state self.old) }
         requires bytes { bytes_of C.length_of self.old.queue.items < 2 ^ 64 }
         requires flight { deque_len self.old.flight < deque_capacity self.old.flight }
         requires no_ids { ids.items ≡ [] }
-        requires room { length self.old.queue.items ≤ vec_capacity ids }
-        ensures hop { hop_state self.new ≡ with_picked (hop_state self.old) now (outcome_of C.length_of params.now (hop_state self.old) now) }
-        ensures reply { result.0 ≡ pick_reply (hop_state self.old) (outcome_of C.length_of params.now (hop_state self.old) now).dropped }
-        ensures items { result.1.items ≡ (outcome_of C.length_of params.now (hop_state self.old) now).dropped }
-        ensures bytes { result.1.bytes ≡ bytes_of C.length_of (take (outcome_of C.length_of params.now (hop_state self.old) now).dropped self.old.queue.items) }
+        requires room { (outcome_of C.length_of rules.now (hop_state self.old) now).dropped ≤ vec_capacity ids }
+        ensures hop { hop_state self.new ≡ with_picked (hop_state self.old) now (outcome_of C.length_of rules.now (hop_state self.old) now) }
+        ensures reply { result.0 ≡ pick_reply (hop_state self.old) (outcome_of C.length_of rules.now (hop_state self.old) now).dropped }
+        ensures items { result.1.items ≡ (outcome_of C.length_of rules.now (hop_state self.old) now).dropped }
+        ensures bytes { result.1.bytes ≡ bytes_of C.length_of (take (outcome_of C.length_of rules.now (hop_state self.old) now).dropped self.old.queue.items) }
+    {
+        let number = self.next_number();
+        let (codel, count) = self.decide(now, rules);
+        self.codel = codel;
+        self.moment = now.max(self.moment);
+        let mut ids = ids;
+        let dropped = self.drop_front(count, &mut ids);
+        (self.send(number, ids), dropped)
+    }
+
+    /// What CoDel decides at a moment, not before the last one: the state that it would leave, and how many datagrams it would
+    /// drop. Nothing changes.
+    pub(crate) fn decide(&self, now: u64, rules: &Rules) -> (CodelState, usize)
+        requires params { IsWithinLimits rules.now }
+        requires moment { now < 2 ^ 52 }
+        requires sound { IsSoundHop C.length_of rules.now max_seq (hop_state self.now) }
+        requires bytes { bytes_of C.length_of self.now.queue.items < 2 ^ 64 }
+        ensures state { result.0 ≡ (outcome_of C.length_of rules.now (hop_state self.now) now).state }
+        ensures dropped { result.1 ≡ (outcome_of C.length_of rules.now (hop_state self.now) now).dropped }
+        ensures within { result.1 ≤ length self.now.queue.items }
     {
         let now = now.max(self.moment);
-        let number = self.next_number();
         let mut codel = self.codel;
-        let verdict = dequeue(&mut codel, &Queue::new(&self.queue), now, params);
-        self.codel = codel;
-        self.moment = now;
-        let mut ids = ids;
-        let dropped = self.drop_front(verdict.dropped, &mut ids);
-        (self.send(number, ids), dropped)
+        let lane = QueueLane::new(&self.queue);
+        let verdict = dequeue_with(&mut codel, &lane, now, &rules.params(), rules.steps());
+        (codel, verdict.dropped)
     }
 
     /// Drops the first so many of the queue, and lists their ids.

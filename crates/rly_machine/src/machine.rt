@@ -5,7 +5,7 @@ ghost use Rattle.rly_machine.specs.HelpersMachine.{IsHopAt};
 ghost use Rattle.rly_machine.specs.Kept.{hop_state};
 ghost use Rattle.rly_machine.specs.Sound.{IsSound};
 ghost use Rattle.rly_machine.specs.State.{has_hop, has_peer, hop_at, last_at, live_bytes, live_items, new_state};
-ghost use Rattle.rly_machine.specs.Step.{HasRoom, NeedsRoom, step};
+ghost use Rattle.rly_machine.specs.Step.{HasRoom, NeedsRoom, drops_of, step};
 ghost use Rattle.rly_machine.specs.Query.{item_of, show_reply, window_reply};
 ghost use Rattle.rly_machine.specs.Take.{take_refusal, take_step};
 ghost use Rattle.rly_machine.specs.Pick.{pick_refusal, pick_step};
@@ -17,6 +17,7 @@ use crate::hop::{Hop, Item};
 use crate::live::Live;
 use crate::reply::Reply;
 use crate::room::Room;
+use crate::rules::Rules;
 use rly_core::{HopId, Params, PeerId, Refusal, limits};
 use std::alloc::{AllocError, Global};
 use std::marker::Model;
@@ -25,7 +26,7 @@ use std::marker::Model;
 /// each queue holds without memory.
 #[derive(Drop)]
 pub struct Machine<C: Content> {
-    params: Params,
+    rules: Rules,
     hops: Vec<Hop<C>>,
     lasts: Vec<u64>,
     seq: u64,
@@ -35,14 +36,14 @@ pub struct Machine<C: Content> {
 
 impl<C: Content> Model for Machine<C> {
     ghost use Rattle.rly_machine.specs.HelpersMachine.{KeepsCounts};
-    ghost use Rattle.rly_machine.specs.Kept.{spare_of, state_of};
+    ghost use Rattle.rly_machine.specs.Kept.{flight_spare_of, queue_spare_of, state_of};
     ghost use Rattle.rly_machine.specs.State.{Spool};
 
     ghost Value = { Spool C };
 
-    ghost view = { λ m. record { state = state_of m.params m.hops m.lasts m.seq; spare = spare_of m.hops } };
+    ghost view = { λ m. record { state = state_of m.rules m.hops m.lasts m.seq; queue_spare = queue_spare_of m.hops; flight_spare = flight_spare_of m.hops } };
 
-    ghost invariant = { λ m. KeepsCounts C.length_of (state_of m.params m.hops m.lasts m.seq) m.live_items m.live_bytes };
+    ghost invariant = { λ m. KeepsCounts C.length_of (state_of m.rules m.hops m.lasts m.seq) m.live_items m.live_bytes };
 }
 
 impl<C: Content> Machine<C> {
@@ -59,7 +60,7 @@ impl<C: Content> Machine<C> {
         }
         let lasts = vec![in alloc; 0u64; params.peers as usize]?;
         Ok(Machine {
-            params,
+            rules: Rules::new(params),
             hops,
             lasts,
             seq: 0,
@@ -81,7 +82,7 @@ impl<C: Content> Machine<C> {
     {
         let live = Live::of(&hops);
         Ok(Machine {
-            params,
+            rules: Rules::new(params),
             hops,
             lasts,
             seq,
@@ -94,14 +95,14 @@ impl<C: Content> Machine<C> {
     pub fn law_sound(&self)
         ensures { IsSound C.length_of self.now.state }
     {
-        let _ = &self.params;
+        let _ = &self.rules;
     }
 
     /// The spool's parameters.
     pub fn params(&self) -> Params
         ensures { result ≡ self.now.state.params }
     {
-        self.params
+        self.rules.params()
     }
 
     /// The count of accepted commands.
@@ -154,23 +155,26 @@ impl<C: Content> Machine<C> {
         requires waits { index < length (hop_at self.now.state hop).queue }
         ensures { slice_get (hop_at self.now.state hop).queue index ≡ Some result.now }
     {
-        &self.hops[hop.0 as usize - 1].queue[index]
+        self.hops[hop.0 as usize - 1].queue.item(index)
     }
 
     /// Makes the memory that a command may need. Where it is refused, the state is as it was.
     pub fn reserve_for(&mut self, alloc: Global, command: &Command<C>) -> Result<Room, AllocError>
         ensures state { self.new.state ≡ self.old.state }
-        ensures room { IfOk result (λ room. HasRoom self.new room command.now) }
-        ensures memory { OnErr result (NeedsRoom command.now) }
+        ensures room { IfOk result (λ room. HasRoom C.length_of self.new room command.now) }
+        ensures memory { OnErr result (NeedsRoom C.length_of self.old command.now) }
     {
         match command {
             Command::Take { hop, .. } => {
-                self.reserve_at(*hop)?;
+                self.reserve_take(*hop)?;
                 Ok(Room::none(alloc))
             }
-            Command::Pick { hop, .. } => {
-                let waiting = self.reserve_at(*hop)?;
-                Room::new(alloc, waiting)
+            Command::Pick { hop, now } => {
+                if self.pick_refusal(*hop, *now).is_some() {
+                    return Ok(Room::none(alloc));
+                }
+                let drops = self.reserve_pick(*hop, *now)?;
+                Room::new(alloc, drops)
             }
             Command::Release { .. } => Ok(Room::none(alloc)),
         }
@@ -178,7 +182,7 @@ impl<C: Content> Machine<C> {
 
     /// Makes one step with a command. It takes no memory.
     pub fn apply(&mut self, command: Command<C>, room: Room) -> Reply
-        requires room { HasRoom self.old room command }
+        requires room { HasRoom C.length_of self.old room command }
         ensures state { self.new.state ≡ (step C.length_of self.old.state command).0 }
         ensures reply { result ≡ (step C.length_of self.old.state command).1 }
     {
@@ -262,21 +266,35 @@ impl<C: Content> Machine<C> {
         (index < self.lasts.len()).then_some(index)
     }
 
-    /// Makes room at a hop, if it is there, and answers how many datagrams wait for it.
-    fn reserve_at(&mut self, hop: HopId) -> Result<usize, AllocError>
+    /// Makes room for a Take at a hop, if it is there.
+    fn reserve_take(&mut self, hop: HopId) -> Result<(), AllocError>
         ensures state { self.new.state ≡ self.old.state }
-        ensures spare { OnOk result (IsTrue (has_hop self.new.state hop) → 0 < slice_index self.new.spare (hop.0 - 1)) }
-        ensures waiting { IfOk result (λ count. IsTrue (has_hop self.new.state hop) → count ≡ length (hop_at self.new.state hop).queue) }
+        ensures room { OnOk result (IsTrue (has_hop self.new.state hop) → 0 < slice_index self.new.queue_spare (hop.0 - 1)) }
+        ensures memory { OnErr result (IsTrue (has_hop self.old.state hop) × (slice_index self.old.queue_spare (hop.0 - 1) ≡ 0)) }
     {
         let Some(index) = self.hop_index(hop) else {
-            return Ok(0);
+            return Ok(());
         };
-        self.hops[index].reserve()
+        self.hops[index].reserve_queue()
+    }
+
+    /// Makes room in flight for a Pick that no check refuses, and answers how many datagrams it will drop.
+    fn reserve_pick(&mut self, hop: HopId, now: u64) -> Result<usize, AllocError>
+        requires { pick_refusal self.old.state hop now ≡ None }
+        ensures state { self.new.state ≡ self.old.state }
+        ensures room { OnOk result (0 < slice_index self.new.flight_spare (hop.0 - 1)) }
+        ensures drops { IfOk result (λ count. count ≡ drops_of C.length_of self.old.state hop now) }
+        ensures memory { OnErr result (slice_index self.old.flight_spare (hop.0 - 1) ≡ 0) }
+    {
+        let hop = &mut self.hops[hop.0 as usize - 1];
+        let (_, drops) = hop.decide(now, &self.rules);
+        hop.reserve_flight()?;
+        Ok(drops)
     }
 
     /// Takes a datagram.
     fn take(&mut self, peer: PeerId, number: u64, hop: HopId, stamp: u64, payload: C) -> Reply
-        requires { IsTrue (has_hop self.old.state hop) → 0 < slice_index self.old.spare (hop.0 - 1) }
+        requires { IsTrue (has_hop self.old.state hop) → 0 < slice_index self.old.queue_spare (hop.0 - 1) }
         ensures state { self.new.state ≡ (take_step C.length_of self.old.state peer number hop stamp payload).0 }
         ensures reply { result ≡ (take_step C.length_of self.old.state peer number hop stamp payload).1 }
     {
@@ -317,7 +335,8 @@ impl<C: Content> Machine<C> {
         if number > last + 1 {
             return Some(Reply::Refused(Refusal::Gap(last + 1)));
         }
-        if self.live_items >= self.params.items || self.live_bytes + length > self.params.bytes {
+        let params = self.rules.params();
+        if self.live_items >= params.items || self.live_bytes + length > params.bytes {
             return Some(Reply::Refused(Refusal::Full));
         }
         if self.seq >= limits::MAX_SEQ {
@@ -335,7 +354,7 @@ impl<C: Content> Machine<C> {
         stamp: u64,
         payload: C,
     ) -> Reply
-        requires room { 0 < slice_index self.old.spare (hop.0 - 1) }
+        requires room { 0 < slice_index self.old.queue_spare (hop.0 - 1) }
         requires accepted { take_refusal C.length_of self.old.state peer number hop stamp (C.length_of payload) ≡ None }
         ensures state { self.new.state ≡ (take_step C.length_of self.old.state peer number hop stamp payload).0 }
         ensures reply { result ≡ Reply.Taken (self.old.state.seq + 1) }
@@ -396,7 +415,7 @@ impl<C: Content> Machine<C> {
 
     /// Picks from a queue.
     fn pick(&mut self, hop: HopId, now: u64, room: Room) -> Reply
-        requires { IsTrue (has_hop self.old.state hop) → (0 < slice_index self.old.spare (hop.0 - 1)) × (length (hop_at self.old.state hop).queue ≤ room) }
+        requires { pick_refusal self.old.state hop now ≡ None → (0 < slice_index self.old.flight_spare (hop.0 - 1)) × (drops_of C.length_of self.old.state hop now ≤ room) }
         ensures state { self.new.state ≡ (pick_step C.length_of self.old.state hop now).0 }
         ensures reply { result ≡ (pick_step C.length_of self.old.state hop now).1 }
     {
@@ -416,7 +435,7 @@ impl<C: Content> Machine<C> {
         if now >= limits::MOMENT_LIMIT {
             return Some(Reply::Refused(Refusal::BadMoment));
         }
-        if hop.flight.len() as u64 >= self.params.window {
+        if hop.flight.len() as u64 >= self.rules.params().window {
             return Some(Reply::Refused(Refusal::WindowFull));
         }
         if hop.is_idle() {
@@ -431,12 +450,12 @@ impl<C: Content> Machine<C> {
     /// Picks what no check refuses.
     fn accept_pick(&mut self, hop: HopId, now: u64, room: Room) -> Reply
         requires accepted { pick_refusal self.old.state hop now ≡ None }
-        requires room { (0 < slice_index self.old.spare (hop.0 - 1)) × (length (hop_at self.old.state hop).queue ≤ room) }
+        requires room { (0 < slice_index self.old.flight_spare (hop.0 - 1)) × (drops_of C.length_of self.old.state hop now ≤ room) }
         ensures state { self.new.state ≡ (pick_step C.length_of self.old.state hop now).0 }
         ensures reply { result ≡ (pick_step C.length_of self.old.state hop now).1 }
     {
-        let params = self.params;
-        let (reply, dropped) = self.hops[hop.0 as usize - 1].pick(now, &params, room.into_ids());
+        let hop = &mut self.hops[hop.0 as usize - 1];
+        let (reply, dropped) = hop.pick(now, &self.rules, room.into_ids());
         self.seq += 1;
         self.live_items -= dropped.items;
         self.live_bytes -= dropped.bytes;

@@ -29,7 +29,7 @@ impl Machine<Payload> {
         ensures state { OnOk result (self.new.state ≡ (ask_step self.old.state ask).0) }
         ensures reply { IfOk result (λ reply. reply ≡ (ask_step self.old.state ask).1) }
         ensures err { OnErr result (self.new.state ≡ self.old.state) }
-        ensures memory { OnErr result (NeedsMemory self.old.state ask) }
+        ensures memory { OnErr result (NeedsMemory self.old ask) }
     {
         match ask {
             Ask::Command(command) => {

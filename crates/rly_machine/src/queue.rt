@@ -1,56 +1,138 @@
-ghost use Rattle.std.specs.Prelude.{◌≡◌, ◌+◌, ◌<◌, ◌^◌, List};
-ghost use Rattle.rly_codel.specs.Waiting.{Waiting, waiting_bytes};
-ghost use Rattle.rly_machine.specs.Pick.{waiting_of};
+ghost use Rattle.std.specs.Prelude.{◌≡◌, ◌+◌, ◌%◌, ◌^◌, ◌<◌, ◌==◌, [], ◌∷◌, ◌++◌, ◌↔◌, IfOk, IfSome, IsSome, OnErr, OnOk, drop, length, option_to_list, slice_index_or};
+ghost use Rattle.rly_machine.specs.State.{bytes_of};
 
 use crate::content::Content;
 use crate::hop::Item;
-use rly_codel::Lane;
+use std::alloc::{AllocError, Global};
 use std::collections::VecDeque;
 use std::marker::Model;
 
-/// A hop's queue as CoDel sees it.
-#[derive(Drop)]
-pub(crate) struct Queue<'a, C: Content> {
-    items: &'a VecDeque<Item<C>>,
+/// The datagrams that wait for a hop, in order of taking. Contracts see them, and how many more it holds without memory. How
+/// many payload bytes wait behind one of them is told without a look at those.
+#[derive(Debug, Drop)]
+pub struct Queue<C: Content> {
+    queued: VecDeque<Queued<C>>,
+    /// The payload bytes ever put into it, modulo 2^64.
+    total: u64,
 }
 
-impl<'a, C: Content> Model for Queue<'a, C> {
-    ghost Value = { List Waiting };
-
-    ghost view = { λ queue. waiting_of C.length_of queue.items.now.items };
-
-    ghost invariant = { λ queue. waiting_bytes (waiting_of C.length_of queue.items.now.items) < 2 ^ 64 };
+/// A datagram that waits.
+#[derive(Debug, Drop)]
+struct Queued<C> {
+    item: Item<C>,
+    /// The payload bytes put into the queue up to and with this item, modulo 2^64.
+    total: u64,
 }
 
-impl<'a, C: Content> Queue<'a, C> {
-    pub(crate) fn new(items: &'a VecDeque<Item<C>>) -> Queue<'a, C>
-        requires { waiting_bytes (waiting_of C.length_of items.now.items) < 2 ^ 64 }
-        ensures { result ≡ waiting_of C.length_of items.now.items }
+impl<C: Content> Model for Queue<C> {
+    ghost use Rattle.std.specs.Prelude.{◌-◌};
+    ghost use Rattle.std.specs.VecDeque.{deque_capacity, deque_len};
+    ghost use Rattle.rly_machine.specs.State.{QueueState};
+    ghost use Rattle.rly_machine.specs.HelpersQueue.{AddUp, items_of};
+
+    ghost Value = { QueueState C };
+
+    ghost view = { λ queue. record { items = items_of queue.queued.items; spare = deque_capacity queue.queued - deque_len queue.queued } };
+
+    ghost invariant = { λ queue. AddUp C.length_of queue.total queue.queued.items };
+}
+
+impl<C: Content> Queue<C> {
+    /// An empty one. It takes no memory.
+    pub fn new(alloc: Global) -> Queue<C>
+        ensures { result.items ≡ [] }
     {
-        Queue { items }
-    }
-}
-
-impl<'a, C: Content> Lane for Queue<'a, C> {
-    ghost waiting = { λ queue. queue };
-
-    fn count(&self) -> usize {
-        self.items.len()
-    }
-
-    fn stamp(&self, index: usize) -> u64 {
-        self.items[index].stamp
-    }
-
-    fn has_at_most_behind(&self, index: usize, bytes: u64) -> bool {
-        let count = self.items.len();
-        let mut found = 0;
-        for behind in index + 1..count {
-            found += self.items[behind].payload.len() as u64;
-            if found > bytes {
-                return false;
-            }
+        Queue {
+            queued: VecDeque::new(alloc),
+            total: 0,
         }
-        true
+    }
+
+    /// The queue of items that were kept elsewhere, the front first.
+    pub fn of(alloc: Global, items: Vec<Item<C>>) -> Result<Queue<C>, AllocError>
+        ensures { IfOk result (λ queue. queue.items ≡ items.items) }
+    {
+        let mut queue = Queue {
+            queued: VecDeque::with_capacity(alloc, items.len())?,
+            total: 0,
+        };
+        let mut rest = VecDeque::from_vec(items);
+        while let Some(item) = rest.pop_front() {
+            queue.push_back_reserved(item);
+        }
+        Ok(queue)
+    }
+
+    /// How many wait.
+    pub fn len(&self) -> usize
+        ensures count { result ≡ length self.now.items }
+        ensures fits { result < 2 ^ 63 }
+    {
+        self.queued.len()
+    }
+
+    /// Whether none waits.
+    pub fn is_empty(&self) -> bool
+        ensures { result ≡ (length self.now.items == 0) }
+    {
+        self.queued.is_empty()
+    }
+
+    /// A datagram, counted from 0 at the front.
+    pub fn item(&self, index: usize) -> &Item<C>
+        requires { index < length self.now.items }
+        ensures { result.now ≡ slice_index_or self.now.items index result.now }
+    {
+        &self.queued[index].item
+    }
+
+    /// How many payload bytes wait behind a datagram, its own not among them, modulo 2^64.
+    pub(crate) fn bytes_behind(&self, index: usize) -> u64
+        requires { index < length self.now.items }
+        ensures { result ≡ bytes_of C.length_of (drop (index + 1) self.now.items) % 2 ^ 64 }
+    {
+        self.total.wrapping_sub(self.queued[index].total)
+    }
+
+    /// How many payload bytes wait.
+    pub(crate) fn bytes(&self) -> u64
+        requires { bytes_of C.length_of self.now.items < 2 ^ 64 }
+        ensures { result ≡ bytes_of C.length_of self.now.items }
+    {
+        if self.is_empty() {
+            return 0;
+        }
+        self.item(0).payload.len() as u64 + self.bytes_behind(0)
+    }
+
+    /// Makes room for one more. Where memory is refused, the queue is as it was.
+    pub(crate) fn reserve_one(&mut self) -> Result<(), AllocError>
+        ensures items { self.new.items ≡ self.old.items }
+        ensures room { OnOk result (0 < self.new.spare) }
+        ensures memory { OnErr result (self.old.spare ≡ 0) }
+    {
+        self.queued.reserve(1)
+    }
+
+    /// Puts a datagram at the back.
+    pub(crate) fn push_back_reserved(&mut self, item: Item<C>)
+        requires { 0 < self.old.spare }
+        ensures items { self.new.items ≡ self.old.items ++ item ∷ [] }
+        ensures spare { self.new.spare + 1 ≡ self.old.spare }
+    {
+        self.total = self.total.wrapping_add(item.payload.len() as u64);
+        let total = self.total;
+        self.queued.push_back_reserved(Queued { item, total });
+    }
+
+    /// Takes the front one out.
+    pub(crate) fn pop_front(&mut self) -> Option<Item<C>>
+        ensures items { self.old.items ≡ option_to_list result ++ self.new.items }
+        ensures variant { IsSome result ↔ (0 < length self.old.items) }
+        ensures lookup { IfSome result (λ item. item ≡ slice_index_or self.old.items 0 item) }
+        ensures rest { self.new.items ≡ drop 1 self.old.items }
+    {
+        let queued = self.queued.pop_front()?;
+        Some(queued.item)
     }
 }

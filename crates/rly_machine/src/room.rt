@@ -1,4 +1,4 @@
-ghost use Rattle.std.specs.Prelude.{◌≡◌, ◌≤◌, ℕ, [], IfOk, vec_capacity};
+ghost use Rattle.std.specs.Prelude.{◌≡◌, ◌≤◌, ℕ, [], ◌<◌, IfOk, OnErr, vec_capacity};
 
 use std::alloc::{AllocError, Global};
 use std::marker::Model;
@@ -21,7 +21,8 @@ impl Model for Room {
 impl Room {
     /// Room for so many ids.
     pub(crate) fn new(alloc: Global, count: usize) -> Result<Room, AllocError>
-        ensures { IfOk result (λ room. count ≤ room) }
+        ensures room { IfOk result (λ room. count ≤ room) }
+        ensures memory { OnErr result (0 < count) }
     {
         Ok(Room {
             ids: Vec::with_capacity(alloc, count)?,

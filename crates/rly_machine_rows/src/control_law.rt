@@ -1,5 +1,5 @@
 //! Steps of CoDel's control law.
-use rly_law::{LONGEST_INTERVAL, step};
+use rly_law::{Control, LONGEST_INTERVAL, Plain, StepTable, step};
 
 /// An interval, a count, and the greatest d with d * d * count <= interval * interval, computed apart from this code.
 const STEPS: [(u64, u64, u64); 12] = [
@@ -22,5 +22,21 @@ fn steps_of_intervals(rt: HostRuntime) {
     for (interval, count, want) in &STEPS {
         assert!(rt; *count > 0 && *interval <= LONGEST_INTERVAL);
         assert!(rt; step(*interval, *count) == *want, "{interval} at {count}");
+    }
+}
+
+/// The last step that a table has, and the first one behind it, are among them.
+#[test]
+fn steps_by_a_table(rt: HostRuntime) {
+    for (interval, count, want) in &STEPS {
+        assert!(rt; *count > 0 && *interval <= LONGEST_INTERVAL);
+        assert!(rt;
+            StepTable::new(*interval).step(*count) == *want,
+            "{interval} at {count}"
+        );
+        assert!(rt;
+            Plain::new(*interval).step(*count) == *want,
+            "{interval} at {count}"
+        );
     }
 }

@@ -1,6 +1,7 @@
 //! Worked rows of CoDel's dequeue.
-use rly_codel::{CodelState, Lane, Verdict, dequeue};
+use rly_codel::{CodelState, Lane, Verdict, dequeue, dequeue_with};
 use rly_core::Params;
+use rly_law::StepTable;
 use std::process::Abort;
 
 /// Items that are all alike, as those of the worked rows are: 1,000 bytes each, stamped 0.
@@ -22,12 +23,12 @@ impl Lane for EqualItems {
         0
     }
 
-    fn has_at_most_behind(&self, index: usize, bytes: u64) -> bool {
-        (self.count as u64 - 1 - index as u64) * 1_000 <= bytes
+    fn bytes_behind(&self, index: usize) -> u64 {
+        (self.count as u64 - 1 - index as u64) * 1_000
     }
 }
 
-/// One dequeue from `count` such items.
+/// One dequeue from `count` such items, by a table of steps too.
 fn dequeue_from(
     rt: &impl Abort,
     state: &mut CodelState,
@@ -41,7 +42,12 @@ fn dequeue_from(
     assert!(rt; state.drop_next < 1 << 53);
     assert!(rt; state.lastcount <= state.count);
     assert!(rt; state.count < 1 << 62);
-    dequeue(state, &EqualItems { count }, now, params)
+    let mut by_table = *state;
+    let steps = StepTable::new(params.interval);
+    let same = dequeue_with(&mut by_table, &EqualItems { count }, now, params, &steps);
+    let verdict = dequeue(state, &EqualItems { count }, now, params);
+    expect!(rt; by_table == *state && same == verdict);
+    verdict
 }
 
 /// One dequeue, with what it answers and the state that it leaves, where these are compared.

@@ -1,8 +1,9 @@
-//! Tests of the limits, of CoDel, and of the plain machine with its records and checkpoints: worked rows, byte by byte.
+//! Tests of the limits, of CoDel, and of the plain machine with its records and checkpoints:
+//! worked rows, byte by byte.
 //!
-//! A contract says what one call does for all inputs. These tests compare calls with what a person wrote down
-//! (docs/DEFINITIONS.md, docs/FORMATS.md). They stand over the built libraries, so that these are proved once. No crate may
-//! call it: it has no code but tests.
+//! A contract says what one call does for all inputs. These tests compare calls with what a
+//! person wrote down (docs/DEFINITIONS.md, docs/FORMATS.md). They use the built libraries, so
+//! that these are proved once. The crate has no code but tests, so no crate may call it.
 #![tactic(auto)]
 
 /// As `assert!`, by one call: the prover then sees one way on where `assert!` has two. `assert!` stands where a later call needs

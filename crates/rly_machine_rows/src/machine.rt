@@ -4,7 +4,7 @@ ghost use Rattle.rly_machine.specs.State.{hop_at};
 
 use crate::commands::{run, take};
 use rly_core::{HopId, Params, PeerId, Refusal};
-use rly_machine::{CodelState, Command, Hop, HopStatus, Item, Machine, Payload, Reply};
+use rly_machine::{CodelState, Command, Hop, HopStatus, Item, Machine, Payload, Queue, Reply};
 use std::alloc::{AllocError, Global};
 use std::collections::VecDeque;
 use std::process::Abort;
@@ -145,27 +145,22 @@ const SMALL: Params = Params {
     ..Params::DEFAULT
 };
 
-/// A queue of one item.
-fn alone(
-    alloc: Global,
-    id: u64,
-    stamp: u64,
-    bytes: &[u8],
-) -> Result<VecDeque<Item<Payload>>, AllocError>
-    ensures { IfOk result (λ queue. queue.items ≡ (record { id = id; stamp = stamp; payload = bytes.now }) ∷ []) }
+/// A list of one item.
+fn alone(alloc: Global, id: u64, stamp: u64, bytes: &[u8]) -> Result<Vec<Item<Payload>>, AllocError>
+    ensures { IfOk result (λ items. items.items ≡ (record { id = id; stamp = stamp; payload = bytes.now }) ∷ []) }
 {
     let payload = Payload::new(bytes.to_vec(alloc)?);
-    let mut queue = VecDeque::new(alloc);
-    queue.push_back(Item { id, stamp, payload })?;
-    Ok(queue)
+    let mut items = Vec::new(alloc);
+    items.push(Item { id, stamp, payload })?;
+    Ok(items)
 }
 
 /// One item was released, the next one is in flight, and a third one waits.
 fn restored(alloc: Global) -> Result<Machine<Payload>, AllocError>
     ensures { IfOk result (λ machine. length (hop_at machine.state (record { 0 = 1 })).queue ≡ 1) }
 {
-    let flight = alone(alloc, 4, 10, b"BB")?;
-    let queue = alone(alloc, 5, 20, b"C")?;
+    let flight = VecDeque::from_vec(alone(alloc, 4, 10, b"BB")?);
+    let queue = Queue::of(alloc, alone(alloc, 5, 20, b"C")?)?;
     let hop = Hop {
         queue,
         flight,
@@ -181,7 +176,7 @@ fn restored(alloc: Global) -> Result<Machine<Payload>, AllocError>
 /// A spool that nothing has come to, restored.
 fn restored_empty(alloc: Global) -> Result<Machine<Payload>, AllocError> {
     let hop = Hop {
-        queue: VecDeque::new(alloc),
+        queue: Queue::new(alloc),
         flight: VecDeque::new(alloc),
         codel: CodelState::NEW,
         moment: 0,

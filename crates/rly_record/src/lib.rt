@@ -1,10 +1,11 @@
-//! Commands as bytes: the record of each accepted command, and the body of 1 to 64 records that a group of the journal
-//! holds.
+//! Commands as bytes: the record of each accepted command, and the body of 1 to 64 records that a
+//! group of the journal holds.
 //!
-//! Writing and reading meet one spelling (`specs/Spelling.antt`; `docs/FORMATS.md`, "Bodies and records"): what is written
-//! is the spelling, what is read is what the bytes spell, and only bytes that spell nothing are malformed. Reading takes
-//! memory only for what it answers; writing takes none where the caller's buffer has the room.
-//! Callers: `rly_journal`; `rly_checkpoint` shares its fault and the readers of its fields (`specs/HelpersReading.antt`).
+//! Writing and reading meet one spelling (`specs/Spelling.antt`; `docs/FORMATS.md`, "Bodies and
+//! records"). What is written is the spelling, what is read is what the bytes spell, and only
+//! bytes that spell nothing are malformed. Reading takes memory only for what it answers. Writing
+//! takes none if the caller's buffer has the room. Callers: `rly_journal`; `rly_checkpoint`
+//! shares its fault and the readers of its fields (`specs/HelpersReading.antt`).
 #![tactic(auto)]
 
 mod decode_fault;

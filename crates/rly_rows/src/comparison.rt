@@ -40,16 +40,23 @@ pub(crate) fn expect_replies(
     steps: &[Step],
     answers: &[Answer],
 ) -> Result<(), AllocError> {
-    assert!(rt; answers.len() == steps.len());
+    expect!(rt; answers.len() == steps.len());
     for (step, answer) in steps.iter().zip(answers) {
-        let reply = reply_of(alloc, machine, *step)?;
-        assert!(rt;
-            is_same(&answer.reply, &reply),
-            "{step:?}: {answer:?}, not {reply:?}"
-        );
-        assert!(rt; answer.position == machine.seq(), "{step:?}");
+        let is_answered = is_answered(alloc, machine, *step, answer)?;
+        expect!(rt; is_answered, machine.seq());
     }
     Ok(())
+}
+
+/// Makes a step on the plain machine, and says whether an answer has its reply and its position.
+pub(crate) fn is_answered(
+    alloc: Global,
+    machine: &mut Machine<Payload>,
+    step: Step,
+    answer: &Answer,
+) -> Result<bool, AllocError> {
+    let reply = reply_of(alloc, machine, step)?;
+    Ok(is_same(&answer.reply, &reply) && answer.position == machine.seq())
 }
 
 /// Whether two replies are the same.
@@ -154,22 +161,29 @@ pub(crate) fn expect_numbers<D: Disk>(
     let answers = ask_all(rt, alloc, journal, &steps)?;
     expect_replies(rt, alloc, machine, &steps, &answers)?;
     for number in 0..=next {
-        match (journal.fetch(alloc, HOP, number), machine.item(HOP, number)) {
-            (Ok(bytes), Ok(item)) => expect!(rt; bytes.as_slice() == item.payload.as_slice()),
-            (Err(refusal), Err(other)) => expect!(rt; refusal == other),
-            _ => panic!(rt; "number {number}"),
-        }
+        expect!(rt; is_fetched(alloc, journal, machine, number), number);
     }
     Ok(())
+}
+
+/// Whether a journal gives the payload in flight that a machine has under a number, or refuses it for the same reason.
+pub(crate) fn is_fetched<D: Disk>(
+    alloc: Global,
+    journal: &mut Journal<D>,
+    machine: &Machine<Payload>,
+    number: u64,
+) -> bool {
+    match (journal.fetch(alloc, HOP, number), machine.item(HOP, number)) {
+        (Ok(bytes), Ok(item)) => bytes.as_slice() == item.payload.as_slice(),
+        (Err(refusal), Err(other)) => refusal == other,
+        _ => false,
+    }
 }
 
 /// Expects one refusal of all, at one position.
 pub(crate) fn expect_refused(rt: &impl Abort, answers: &[Answer], refusal: Refusal, position: u64) {
     for answer in answers {
-        assert!(rt;
-            is_same(&answer.reply, &Reply::Refused(refusal)),
-            "{answer:?}"
-        );
+        expect!(rt; is_same(&answer.reply, &Reply::Refused(refusal)));
         expect!(rt; answer.position == position);
     }
 }

@@ -76,7 +76,7 @@ pub(crate) const FIRST_TAKE: Step = Step::Take {
 pub(crate) fn opened<D: Disk>(rt: &impl Abort, alloc: Global, disk: D) -> Journal<D> {
     match Journal::open(alloc, disk) {
         Ok(journal) => journal,
-        Err((fault, _disk)) => panic!(rt; "{fault:?}"),
+        Err(_) => panic!(rt; "the device doesn't open"),
     }
 }
 

@@ -128,10 +128,8 @@ pub(crate) fn standing<D: Disk>(
     if position == machine.seq() {
         return Ok((answered, machine));
     }
-    assert!(rt;
-        failed && answered < script.steps.len(),
-        "an answer was lost"
-    );
+    // else an answer was lost
+    expect!(rt; failed && answered < script.steps.len());
     let next = answered.saturating_add(1);
     Ok((next, standing_at(rt, alloc, script, next, position)?))
 }
@@ -145,6 +143,7 @@ fn standing_at(
     position: u64,
 ) -> Result<Machine<Payload>, AllocError> {
     let machine = machine_after(alloc, script, rounds)?;
-    assert!(rt; position == machine.seq(), "a part of a round stands");
+    // else a part of a round stands
+    expect!(rt; position == machine.seq());
     Ok(machine)
 }

@@ -1,16 +1,21 @@
-//! Tests that cross crates: stored devices byte by byte, worked rounds, and the journal stopped at each call of its device.
+//! Tests that cross crates: stored devices byte by byte, worked rounds, and the journal stopped
+//! at each call of its device.
 //!
-//! A contract says what one call does. These tests say of several crates together what a person wrote down: the bytes of a
-//! device, the answer of each changed device, and, after a stop and a crash of each kind, the state of the plain machine
-//! (docs/FORMATS.md, docs/DEFINITIONS.md). No crate may call it: it has no code but tests, on devices in memory.
+//! A contract says what one call does. These tests say of several crates together what a person
+//! wrote down (docs/FORMATS.md, docs/DEFINITIONS.md): the bytes of a device; the answer to each
+//! changed device; and the state of the plain machine after a stop and a crash of each kind.
+//! Devices are in memory. The crate has no code but tests, so no crate may call it.
 #![tactic(auto)]
 
 /// As `assert!`, by one call: the prover then sees one way on where `assert!` has two. `assert!` stands where a later call needs
-/// what was asserted, and where the text names a row.
+/// what was asserted. A number behind the condition names a row.
 #[cfg(test)]
 macro_rules! expect {
     ($rt:expr; $cond:expr $(,)?) => {
         crate::expect::expect(&$rt, $cond, stringify!($cond))
+    };
+    ($rt:expr; $cond:expr, $row:expr $(,)?) => {
+        crate::expect::expect_row(&$rt, $cond, stringify!($cond), $row)
     };
 }
 

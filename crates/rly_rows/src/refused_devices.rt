@@ -9,7 +9,7 @@ use std::process::Abort;
 use std::test::Fail;
 
 /// A device that a row begins with.
-#[derive(Clone, Copy, Debug, PartialEq, Eq)]
+#[derive(Clone, Copy, PartialEq, Eq)]
 enum Base {
     /// Device E as it was formatted.
     Formatted,
@@ -143,17 +143,17 @@ fn expect_row(
     want: Option<OpenFault>,
 ) -> Result<(), AllocError> {
     let mut bytes = Vec::from_slice(alloc, device)?;
-    for (place, byte) in changes {
-        set(rt, &mut bytes, *place, *byte);
-    }
+    set_all(rt, &mut bytes, changes);
     bytes.truncate(size);
     expect_opening(rt, alloc, &bytes, want)
 }
 
-/// Sets one byte.
-fn set(rt: &impl Abort, bytes: &mut [u8], place: usize, byte: u8) {
-    assert!(rt; place < bytes.len());
-    bytes[place] = byte;
+/// Sets bytes.
+fn set_all(rt: &impl Abort, bytes: &mut [u8], changes: &[(usize, u8)]) {
+    for (place, byte) in changes {
+        assert!(rt; *place < bytes.len());
+        bytes[*place] = *byte;
+    }
 }
 
 #[test]

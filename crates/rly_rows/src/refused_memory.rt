@@ -2,7 +2,7 @@
 //! each succeeds; `rt try --test --fail-alloc N` refuses the Nth growth of each test. A growth of the test's own is then asked
 //! for again, and one of the disk in memory is a failure of the device.
 use crate::comparison::{expect_broken, expect_refused, is_same, machine_after, reply_of};
-use crate::device::{DEVICE_E, SIZE, bytes_of};
+use crate::device::{DEVICE_E, SIZE, bytes_of, opened};
 use crate::script::{HOP, Script, Step, calls_of, take};
 use rly_checkpoint::{DecodeFault, read_checkpoint, write_checkpoint};
 use rly_core::Refusal;
@@ -35,6 +35,14 @@ fn zeroed(alloc: Global) -> Result<MemDisk, AllocError> {
     Ok(MemDisk::new(alloc, vec![in alloc; 0u8; SIZE]?))
 }
 
+/// The same, in scarce memory.
+fn expect_zeroed(alloc: Global) -> Result<MemDisk, AllocError> {
+    match zeroed(alloc) {
+        Ok(disk) => Ok(disk),
+        Err(_) => zeroed(alloc),
+    }
+}
+
 /// All that a disk reads.
 fn read(rt: &impl Abort, alloc: Global, disk: &mut MemDisk) -> Result<Vec<u8>, AllocError> {
     match bytes_of(rt, alloc, disk) {
@@ -43,26 +51,34 @@ fn read(rt: &impl Abort, alloc: Global, disk: &mut MemDisk) -> Result<Vec<u8>, A
     }
 }
 
-/// Formats a disk of zeroes. Where memory is refused, no call of the disk was made, and the next try succeeds.
+/// Formats a disk of zeroes. Where that was refused, the next try succeeds.
 fn expect_format(rt: &impl Abort, alloc: Global) -> Result<MemDisk, AllocError> {
-    let mut disk = match zeroed(alloc) {
-        Ok(disk) => disk,
-        Err(_) => zeroed(alloc)?,
-    };
-    match format(alloc, &mut disk, &DEVICE_E) {
-        Ok(()) => return Ok(disk),
-        Err(FormatFault::OutOfMemory) => {
-            expect!(rt; disk.calls() == 0);
-            let bytes = read(rt, alloc, &mut disk)?;
-            expect!(rt; bytes.iter().all(|byte| *byte == 0));
-        }
+    let mut disk = expect_zeroed(alloc)?;
+    if !is_formatted(rt, alloc, &mut disk)? {
+        expect!(rt; format(alloc, &mut disk, &DEVICE_E) == Ok(()));
+    }
+    Ok(disk)
+}
+
+/// Whether a disk of zeroes could be formatted. Where memory was refused, no call of it was made.
+fn is_formatted(rt: &impl Abort, alloc: Global, disk: &mut MemDisk) -> Result<bool, AllocError> {
+    match format(alloc, disk, &DEVICE_E) {
+        Ok(()) => return Ok(true),
+        Err(FormatFault::OutOfMemory) => expect_untouched(rt, alloc, disk)?,
         Err(fault) => {
             expect!(rt; fault == FormatFault::Device);
             expect!(rt; disk.failures() > 0);
         }
     }
-    expect!(rt; format(alloc, &mut disk, &DEVICE_E) == Ok(()));
-    Ok(disk)
+    Ok(false)
+}
+
+/// A disk of zeroes that no call was made of.
+fn expect_untouched(rt: &impl Abort, alloc: Global, disk: &mut MemDisk) -> Result<(), AllocError> {
+    expect!(rt; disk.calls() == 0);
+    let bytes = read(rt, alloc, disk)?;
+    expect!(rt; bytes.iter().all(|byte| *byte == 0));
+    Ok(())
 }
 
 /// Opens a device. Where memory is refused, the disk that is handed back reads as before, and the next try succeeds.
@@ -74,21 +90,27 @@ fn expect_opening(
     let mut disk = disk;
     let bytes = read(rt, alloc, &mut disk)?;
     let failures = disk.failures();
-    let mut disk = match Journal::open(alloc, disk) {
-        Ok(journal) => return Ok(journal),
-        Err((OpenFault::OutOfMemory, disk)) => disk,
-        Err((fault, disk)) => {
-            expect!(rt; fault == OpenFault::Device);
-            expect!(rt; disk.failures() > failures);
-            disk
-        }
-    };
-    let same = read(rt, alloc, &mut disk)?;
-    expect!(rt; same.as_slice() == bytes.as_slice());
     match Journal::open(alloc, disk) {
         Ok(journal) => Ok(journal),
-        Err((fault, _)) => panic!(rt; "{fault:?}"),
+        Err((fault, disk)) => {
+            let failed = disk.failures() > failures;
+            expect!(rt; fault == OpenFault::OutOfMemory || fault == OpenFault::Device && failed);
+            open_again(rt, alloc, disk, &bytes)
+        }
     }
+}
+
+/// Opens a device that reads as it did before it was refused.
+fn open_again(
+    rt: &impl Abort,
+    alloc: Global,
+    disk: MemDisk,
+    bytes: &[u8],
+) -> Result<Journal<MemDisk>, AllocError> {
+    let mut disk = disk;
+    let same = read(rt, alloc, &mut disk)?;
+    expect!(rt; same.as_slice() == bytes);
+    Ok(opened(rt, alloc, disk))
 }
 
 /// Asks a round. Where memory is refused for the answers, nothing changed, and the next try succeeds.
@@ -98,19 +120,36 @@ fn expect_round(
     journal: &mut Journal<MemDisk>,
     steps: &[Step],
 ) -> Result<Vec<Answer>, AllocError> {
-    let mut calls = match calls_of(alloc, steps) {
-        Ok(calls) => calls,
-        Err(_) => calls_of(alloc, steps)?,
-    };
+    let mut calls = expect_calls(alloc, steps)?;
     let mut answers = Vec::new(alloc);
-    let position = journal.position();
-    if round(rt, alloc, journal, &mut calls, &mut answers).is_err() {
-        assert!(rt; calls.len() == steps.len() && answers.is_empty());
-        expect!(rt; journal.position() == position);
-        round(rt, alloc, journal, &mut calls, &mut answers)?;
-    }
-    assert!(rt; calls.is_empty() && answers.len() == steps.len());
+    ask_round(rt, alloc, journal, &mut calls, &mut answers)?;
+    expect!(rt; calls.is_empty() && answers.len() == steps.len());
     Ok(answers)
+}
+
+/// A call for each step.
+fn expect_calls(alloc: Global, steps: &[Step]) -> Result<Vec<Call>, AllocError> {
+    match calls_of(alloc, steps) {
+        Ok(calls) => Ok(calls),
+        Err(_) => calls_of(alloc, steps),
+    }
+}
+
+/// Asks for a round, and once more where memory is refused for its answers.
+fn ask_round(
+    rt: &impl Abort,
+    alloc: Global,
+    journal: &mut Journal<MemDisk>,
+    calls: &mut Vec<Call>,
+    answers: &mut Vec<Answer>,
+) -> Result<(), AllocError> {
+    let (position, count) = (journal.position(), calls.len());
+    if round(rt, alloc, journal, calls, answers).is_ok() {
+        return Ok(());
+    }
+    expect!(rt; calls.len() == count && answers.is_empty());
+    expect!(rt; journal.position() == position);
+    round(rt, alloc, journal, calls, answers)
 }
 
 /// Asks for a round.
@@ -151,15 +190,23 @@ fn expect_answers(
         if is_same(&answer.reply, &Reply::Refused(Refusal::OutOfMemory)) {
             refused = refused.saturating_add(1);
         } else {
-            let reply = expected(alloc, machine, *step)?;
-            assert!(rt;
-                is_same(&answer.reply, &reply),
-                "{step:?}: {answer:?}, not {reply:?}"
-            );
+            let is_expected = is_expected(alloc, machine, *step, &answer.reply)?;
+            expect!(rt; is_expected, machine.seq());
         }
         expect!(rt; answer.position == machine.seq());
     }
     Ok(refused)
+}
+
+/// Whether a reply is the plain machine's to a step, which it makes.
+fn is_expected(
+    alloc: Global,
+    machine: &mut Machine<Payload>,
+    step: Step,
+    reply: &Reply,
+) -> Result<bool, AllocError> {
+    let own = expected(alloc, machine, step)?;
+    Ok(is_same(reply, &own))
 }
 
 /// Asks a round, and says how many of its calls were refused memory: one at most, or all where a segment is due. Where the disk
@@ -177,7 +224,7 @@ fn expect_served(
         return expect_reopening(rt, alloc, journal, machine, steps, &answers);
     }
     let refused = expect_answers(rt, alloc, machine, steps, &answers)?;
-    assert!(rt; refused <= 1 || refused == steps.len());
+    expect!(rt; refused <= 1 || refused == steps.len());
     Ok(journal)
 }
 
@@ -222,14 +269,23 @@ fn expect_same(
     for _ in 0..2 {
         expect!(rt; journal.position() == machine.seq());
         journal = expect_served(rt, alloc, journal, machine, &questions)?;
-        match (journal.fetch(alloc, HOP, 2), machine.item(HOP, 2)) {
-            (Ok(bytes), Ok(item)) => expect!(rt; bytes.as_slice() == item.payload.as_slice()),
-            (Err(Refusal::OutOfMemory), Ok(_)) => {}
-            (Err(refusal), Err(other)) => expect!(rt; refusal == other),
-            _ => panic!(rt; "one of them has it"),
-        }
+        expect!(rt; is_in_flight_for_both(alloc, &mut journal, machine));
     }
     Ok(journal)
+}
+
+/// Whether a journal gives the payload that a machine has in flight as number 2, or memory was refused for it.
+fn is_in_flight_for_both(
+    alloc: Global,
+    journal: &mut Journal<MemDisk>,
+    machine: &Machine<Payload>,
+) -> bool {
+    match (journal.fetch(alloc, HOP, 2), machine.item(HOP, 2)) {
+        (Ok(bytes), Ok(item)) => bytes.as_slice() == item.payload.as_slice(),
+        (Err(Refusal::OutOfMemory), Ok(_)) => true,
+        (Err(refusal), Err(other)) => refusal == other,
+        _ => false,
+    }
 }
 
 #[test]

@@ -13,7 +13,7 @@ pub(crate) const HOP: HopId = HopId(1);
 pub(crate) const PEER: PeerId = PeerId(1);
 
 /// What is asked at hop 1, of peer 1.
-#[derive(Clone, Copy, Debug, PartialEq, Eq)]
+#[derive(Clone, Copy)]
 pub(crate) enum Step {
     /// Takes a payload of so many bytes, all the same.
     Take {
@@ -74,7 +74,7 @@ pub(crate) fn take(number: u8, stamp: u64, length: usize) -> Step {
 const SEAT: SeatId = SeatId(3);
 
 /// Steps that are asked in rounds of so many each, fewer in the last.
-#[derive(Clone, Copy, Debug)]
+#[derive(Clone, Copy)]
 pub(crate) struct Script<'a> {
     pub(crate) steps: &'a [Step],
     pub(crate) calls: usize,
@@ -114,7 +114,8 @@ pub(crate) fn ask_all<D: Disk>(
     let mut answers = Vec::new(alloc);
     assert!(rt; 1 <= calls.len() && calls.len() <= 64);
     journal.round(alloc, &mut calls, &mut answers)?;
-    assert!(rt; calls.is_empty() && answers.len() == steps.len());
+    assert!(rt; answers.len() == steps.len());
+    expect!(rt; calls.is_empty());
     for (index, answer) in answers.iter().enumerate() {
         expect!(rt; answer.seat == SEAT && answer.number == index as u64);
     }

@@ -40,7 +40,7 @@ fn stop_at(
         answered,
         failed,
     } = ended;
-    assert!(rt; !failed || disk.calls() == at, "calls after the failed one");
+    expect!(rt; !failed || disk.calls() == at);
     let crashed = disk.into_inner().crash(kind);
     let stand = expect_standing(rt, alloc, script, crashed, (answered, failed))?;
     Ok(failed.then_some(stand.saturating_sub(answered)))
@@ -77,23 +77,37 @@ fn stop_at_each_call(rt: &impl Abort, alloc: Global, script: Script) -> Result<u
     let mut left = [false; 2];
     for at in 1..MOST_CALLS {
         let mut failed = false;
-        for torn in TORN_WRITES {
-            for kind in KINDS {
-                let disk = failing(alloc, &image, at, torn, After::Stops)?;
-                let more = stop_at(rt, alloc, script, disk, at, kind)?;
-                failed = more.is_some();
-                left[usize::from(more == Some(1))] = true;
-            }
+        for torn in &TORN_WRITES {
+            failed = stop_in_each_way(rt, alloc, script, &image, at, *torn, &mut left)?;
         }
         if !failed {
-            assert!(rt;
-                left == [true; 2],
-                "a round that was stopped stands now and then"
-            );
+            // a round that was stopped stands now and then
+            expect!(rt; left == [true; 2]);
             return Ok(at - 1);
         }
     }
     panic!(rt; "no run without a failure")
+}
+
+/// Stops the script at a call with one torn write, and crashes in each way. Tells `left` whether a round stood that was not
+/// answered, and answers whether the device failed.
+fn stop_in_each_way(
+    rt: &impl Abort,
+    alloc: Global,
+    script: Script,
+    image: &[u8],
+    at: u64,
+    torn: u64,
+    left: &mut [bool; 2],
+) -> Result<bool, AllocError> {
+    let mut failed = false;
+    for kind in &KINDS {
+        let disk = failing(alloc, image, at, torn, After::Stops)?;
+        let more = stop_at(rt, alloc, script, disk, at, *kind)?;
+        failed = more.is_some();
+        left[usize::from(more == Some(1))] = true;
+    }
+    Ok(failed)
 }
 
 /// Fails the device at one call, opens it again, and goes on from the state that was found to the end of the script.
@@ -109,7 +123,7 @@ fn go_on(
         return Ok(false);
     }
     let Ended { disk, answered, .. } = ended;
-    assert!(rt; disk.calls() == at, "calls after the failed one");
+    expect!(rt; disk.calls() == at);
     let mut journal = opened(rt, alloc, disk);
     let from = expect_found(rt, alloc, script, &mut journal, answered)?;
     finish(rt, alloc, script, journal.into_disk(), from)?;
@@ -180,10 +194,22 @@ fn expect_syncs(
     let mut ended = run(rt, alloc, disk, script, 0)?;
     expect!(rt; (ended.failed, ended.disk.syncs()) == (false, syncs));
     let calls = ended.disk.calls();
-    let bytes = bytes_of(rt, alloc, &mut ended.disk)?;
-    expect!(rt; bytes.get(SECOND_GATE) == Some(&0xa5));
-    expect!(rt; (bytes.get(72), bytes.get(SECOND_GATE + 8)) == (generations.first(), generations.last()));
+    expect_generations(rt, alloc, &mut ended.disk, generations)?;
     Ok(calls)
+}
+
+/// Expects both segments open, in these generations.
+fn expect_generations(
+    rt: &impl Abort,
+    alloc: Global,
+    disk: &mut FaultDisk<MemDisk>,
+    generations: [u8; 2],
+) -> Result<(), AllocError> {
+    let bytes = bytes_of(rt, alloc, disk)?;
+    expect!(rt; bytes.get(SECOND_GATE) == Some(&0xa5));
+    expect!(rt; bytes.get(72) == generations.first());
+    expect!(rt; bytes.get(SECOND_GATE + 8) == generations.last());
+    Ok(())
 }
 
 /// Commands one by one: three datagrams are taken, CoDel begins to drop, and two segments are opened, the first where the

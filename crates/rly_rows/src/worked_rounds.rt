@@ -5,7 +5,7 @@ use crate::faults::{KINDS, standing};
 use crate::script::{PEER, Script, Step, ask_all};
 use crate::stored_devices::{FIRST_GROUP, stand_at};
 use rly_core::Refusal;
-use rly_disk::{After, Disk, FaultDisk, MemDisk};
+use rly_disk::{After, Disk, FaultDisk, MemDisk, Torn};
 use rly_journal::Journal;
 use rly_machine::Reply;
 use std::alloc::{AllocError, Global};
@@ -57,14 +57,25 @@ fn expect_unsure(
     alloc: Global,
     steps: &[Step],
 ) -> Result<FaultDisk<MemDisk>, AllocError> {
+    let opening = calls_of_opening(rt, alloc)?;
     let mut journal = failing_at_the_second_sync(rt, alloc)?;
-    let answers = ask_all(rt, alloc, &mut journal, steps)?;
-    expect_refused(rt, &answers, Refusal::Unsure, 0);
-    expect_broken(rt, alloc, &mut journal, steps, 0)?;
+    ask_unsure(rt, alloc, &mut journal, steps)?;
     let disk = journal.into_disk();
     expect!(rt; (disk.failures(), disk.syncs()) == (1, 3));
-    expect!(rt; disk.calls() == calls_of_opening(rt, alloc)?.saturating_add(4));
+    expect!(rt; disk.calls() == opening.saturating_add(4));
     Ok(disk)
+}
+
+/// Asks them.
+fn ask_unsure(
+    rt: &impl Abort,
+    alloc: Global,
+    journal: &mut Journal<FaultDisk<MemDisk>>,
+    steps: &[Step],
+) -> Result<(), AllocError> {
+    let answers = ask_all(rt, alloc, journal, steps)?;
+    expect_refused(rt, &answers, Refusal::Unsure, 0);
+    expect_broken(rt, alloc, journal, steps, 0)
 }
 
 /// Expects of a journal the state before a round or after it.
@@ -79,23 +90,17 @@ fn expect_whole<D: Disk>(
     expect_state(rt, alloc, journal, &mut machine)
 }
 
-#[test]
-fn two_copies_in_one_round(rt: HostRuntime) -> Result<(), Fail> {
-    let alloc = rt.alloc();
-    let disk = FaultDisk::new(device_e(&rt, alloc)?, 0, 0, After::GoesOn);
-    let disk = opened(&rt, alloc, disk).into_disk();
+/// Device E behind two openings and a round of two copies, which makes two syncs.
+fn two_copies(rt: &impl Abort, alloc: Global) -> Result<MemDisk, AllocError> {
+    let disk = FaultDisk::new(device_e(rt, alloc)?, 0, 0, After::GoesOn);
+    let disk = opened(rt, alloc, disk).into_disk();
     let syncs = disk.syncs();
-    let mut journal = opened(&rt, alloc, disk);
-    expect_copies(&rt, alloc, &mut journal)?;
+    let mut journal = opened(rt, alloc, disk);
+    expect_copies(rt, alloc, &mut journal)?;
     let disk = journal.into_disk();
     // each opening makes one sync
     expect!(rt; disk.syncs() == syncs.saturating_add(1 + 2));
-    let mut disk = disk.into_inner();
-    let bytes = bytes_of(&rt, alloc, &mut disk)?;
-    expect!(rt; stand_at(&bytes, 164, &FIRST_GROUP));
-    let journal = opened(&rt, alloc, disk);
-    expect!(rt; journal.last(PEER) == Ok(1) && journal.position() == 1);
-    Ok(())
+    Ok(disk.into_inner())
 }
 
 /// Takes the first datagram twice in one round: it is taken once.
@@ -112,34 +117,75 @@ fn expect_copies(
     Ok(())
 }
 
+/// The first group stands on a device.
+fn expect_first_group(
+    rt: &impl Abort,
+    alloc: Global,
+    disk: &mut MemDisk,
+) -> Result<(), AllocError> {
+    let bytes = bytes_of(rt, alloc, disk)?;
+    expect!(rt; stand_at(&bytes, 164, &FIRST_GROUP));
+    Ok(())
+}
+
 #[test]
-fn two_copies_and_a_failed_sync(rt: HostRuntime) -> Result<(), Fail> {
-    let alloc = rt.alloc();
-    let disk = expect_unsure(&rt, alloc, &TWICE)?;
-    let mut journal = opened(&rt, alloc, disk);
-    expect!(rt; matches!(journal.last(PEER), Ok(0 | 1)));
-    expect_whole(&rt, alloc, &mut journal, &TWICE)?;
-    for kind in KINDS {
-        let disk = expect_unsure(&rt, alloc, &TWICE)?;
-        let mut journal = opened(&rt, alloc, disk.into_inner().crash(kind));
-        assert!(rt; matches!(journal.last(PEER), Ok(0 | 1)), "{kind:?}");
-        expect_whole(&rt, alloc, &mut journal, &TWICE)?;
+fn two_copies_in_one_round(rt: HostRuntime) -> Result<(), Fail> {
+    let mut disk = two_copies(&rt, rt.alloc())?;
+    expect_first_group(&rt, rt.alloc(), &mut disk)?;
+    let journal = opened(&rt, rt.alloc(), disk);
+    expect!(rt; journal.last(PEER) == Ok(1) && journal.position() == 1);
+    Ok(())
+}
+
+/// Opens what is left of a round in which the device failed: none of its takes stands, or all up to `last` do.
+fn expect_none_or_all<D: Disk + Drop>(
+    rt: &impl Abort,
+    alloc: Global,
+    disk: D,
+    steps: &[Step],
+    last: u64,
+) -> Result<(), AllocError> {
+    let mut journal = opened(rt, alloc, disk);
+    let found = journal.last(PEER);
+    expect!(rt; found == Ok(0) || found == Ok(last));
+    expect_whole(rt, alloc, &mut journal, steps)
+}
+
+/// The same behind a crash.
+fn expect_crashed(
+    rt: &impl Abort,
+    alloc: Global,
+    kind: Torn,
+    steps: &[Step],
+    last: u64,
+) -> Result<(), AllocError> {
+    let disk = expect_unsure(rt, alloc, steps)?;
+    expect_none_or_all(rt, alloc, disk.into_inner().crash(kind), steps, last)
+}
+
+/// A round whose second sync fails, with no crash, and with each.
+fn expect_failed_sync(
+    rt: &impl Abort,
+    alloc: Global,
+    steps: &[Step],
+    last: u64,
+) -> Result<(), AllocError> {
+    let disk = expect_unsure(rt, alloc, steps)?;
+    expect_none_or_all(rt, alloc, disk, steps, last)?;
+    for kind in &KINDS {
+        expect_crashed(rt, alloc, *kind, steps, last)?;
     }
     Ok(())
 }
 
 #[test]
+fn two_copies_and_a_failed_sync(rt: HostRuntime) -> Result<(), Fail> {
+    expect_failed_sync(&rt, rt.alloc(), &TWICE, 1)?;
+    Ok(())
+}
+
+#[test]
 fn three_takes_and_a_failed_sync(rt: HostRuntime) -> Result<(), Fail> {
-    let alloc = rt.alloc();
-    let disk = expect_unsure(&rt, alloc, &THREE)?;
-    let mut journal = opened(&rt, alloc, disk);
-    expect!(rt; matches!(journal.last(PEER), Ok(0 | 3)));
-    expect_whole(&rt, alloc, &mut journal, &THREE)?;
-    for kind in KINDS {
-        let disk = expect_unsure(&rt, alloc, &THREE)?;
-        let mut journal = opened(&rt, alloc, disk.into_inner().crash(kind));
-        assert!(rt; matches!(journal.last(PEER), Ok(0 | 3)), "{kind:?}");
-        expect_whole(&rt, alloc, &mut journal, &THREE)?;
-    }
+    expect_failed_sync(&rt, rt.alloc(), &THREE, 3)?;
     Ok(())
 }

@@ -1,11 +1,12 @@
 //! Segments: what a device is, and which of its segments holds the newest state.
 //!
-//! A device has a header and two segments. A segment begins with a head, which holds a whole state
-//! behind a gate (`docs/FORMATS.md`, "The device" and "Heads"). `read_header`, `newest` and `read_head`
-//! make the checks that stand in front of the first group, in that order (`specs/Answers.antt`).
-//! `format` makes a new device (`specs/Formatted.antt`), and `open_segment` writes a head, so that a
-//! crash leaves it whole or none that is newer (`specs/Heads.antt`). They stand on any disk that keeps
-//! to the disk model. The journal opens devices and segments with them; the program formats.
+//! A device has a header and two segments. A segment begins with its head, the checkpoint header:
+//! a whole state after a gate (`docs/FORMATS.md`, "The device" and "Heads"). `read_header`,
+//! `newest` and `read_head` make the checks before the first group, in that order
+//! (`specs/Answers.antt`). `format` makes a new device (`specs/Formatted.antt`). `open_segment`
+//! writes a head, so that a crash leaves it whole, or none that is newer (`specs/Heads.antt`).
+//! They work on any disk that keeps to the disk model. The journal opens devices and segments
+//! with them; the program formats.
 #![tactic(auto)]
 
 mod formatting;

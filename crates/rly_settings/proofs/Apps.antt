@@ -23,6 +23,17 @@ with_below old sub new app below added before is plain =
 pub with_ruled : (old new : Command) (a : Arg) (app : App) (rule : Rule) → app_of new ≡ with_rule (app_of old) (rule_of a) → app_of old ≡ app → rule_of a ≡ rule → app_of new ≡ with_rule app rule
 with_ruled old new a app rule added before is = added ∙ ap₂ with_rule before is
 
+-- an argument more, added to a command that is known
+pub then_ruled : (old new : Command) (app : App) (rule : Rule) → app_of new ≡ with_rule (app_of old) rule → app_of old ≡ app → app_of new ≡ with_rule app rule
+then_ruled old new app rule added before = added ∙ ap (λ (a : App). with_rule a rule) before
+
+-- the same of four in a row
+pub four_ruled : (c0 c1 c2 c3 c4 : Command) (r1 r2 r3 r4 : Rule)
+    → app_of c1 ≡ with_rule (app_of c0) r1 → app_of c2 ≡ with_rule (app_of c1) r2 → app_of c3 ≡ with_rule (app_of c2) r3 → app_of c4 ≡ with_rule (app_of c3) r4
+    → app_of c4 ≡ with_rule (with_rule (with_rule (with_rule (app_of c0) r1) r2) r3) r4
+four_ruled c0 c1 c2 c3 c4 r1 r2 r3 r4 h1 h2 h3 h4 =
+    then_ruled c3 c4 _ r4 h4 (then_ruled c2 c3 _ r3 h3 (then_ruled c1 c2 _ r2 h2 h1))
+
 pub sim_plain : sim_app.top.is_plain ≡ true
 unfolding sim_app
 sim_plain = refl

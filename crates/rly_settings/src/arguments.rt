@@ -17,6 +17,32 @@ pub(crate) fn with_arg<'a>(command: Command<'a>, arg: Arg<'a>) -> Result<Command
     command.arg(arg)
 }
 
+/// A command with one option more that takes a number, and has a default.
+pub(crate) fn with_option<'a>(
+    alloc: Global,
+    command: Command<'a>,
+    name: &'a str,
+    default: &'a str,
+    help: &'a str,
+) -> Result<Command<'a>, AllocError>
+    ensures { IfOk result (λ new. app_of new ≡ with_rule (app_of command.entry) (option_rule name.now default.now)) }
+{
+    with_arg(command, option(alloc, name, default, help))
+}
+
+/// A command with one path more that it works on.
+pub(crate) fn with_path<'a>(
+    alloc: Global,
+    command: Command<'a>,
+    name: &'a str,
+    value_name: &'a str,
+    help: &'a str,
+) -> Result<Command<'a>, AllocError>
+    ensures { IfOk result (λ new. app_of new ≡ with_rule (app_of command.entry) (path_rule name.now)) }
+{
+    with_arg(command, path(alloc, name, value_name, help))
+}
+
 /// A command with the options for the parameters of a spool.
 pub(crate) fn with_params<'a>(
     alloc: Global,
@@ -24,65 +50,68 @@ pub(crate) fn with_params<'a>(
 ) -> Result<Command<'a>, AllocError>
     ensures { IfOk result (λ new. app_of new ≡ with_param_rules (app_of command.entry)) }
 {
-    let hops = option(alloc, "hops", "4", "Next hops, 1 to 64");
-    let peers = option(alloc, "peers", "4", "Upstream neighbours, 1 to 64");
-    let window = option(
+    let with_hops = with_option(alloc, command, "hops", "4", "Next hops, 1 to 64")?;
+    let with_peers = with_option(
         alloc,
+        with_hops,
+        "peers",
+        "4",
+        "Upstream neighbours, 1 to 64",
+    )?;
+    let with_window = with_option(
+        alloc,
+        with_peers,
         "window",
         "8",
         "Datagrams in flight for a hop, 1 to 64",
-    );
-    let items = option(
+    )?;
+    let with_items = with_option(
         alloc,
+        with_window,
         "items",
         "1024",
         "Live datagrams, waiting and in flight, 1 to 16384",
-    );
-    let with_hops = with_arg(command, hops)?;
-    let with_peers = with_arg(with_hops, peers)?;
-    let with_window = with_arg(with_peers, window)?;
-    let with_items = with_arg(with_window, items)?;
-    let with_all = with_more_params(alloc, with_items)?;
-    Ok(with_all)
+    )?;
+    with_more_params(alloc, with_items)
 }
 
 /// A command with the options for CoDel and for the payload bytes of a spool.
 fn with_more_params<'a>(alloc: Global, command: Command<'a>) -> Result<Command<'a>, AllocError>
     ensures { IfOk result (λ new. app_of new ≡ with_more_rules (app_of command.entry)) }
 {
-    let bytes = option(
+    let with_bytes = with_option(
         alloc,
+        command,
         "bytes",
         "1048576",
         "Live payload bytes, 1 to 16777216",
-    );
-    let maxpacket = option(
+    )?;
+    let with_maxpacket = with_option(
         alloc,
+        with_bytes,
         "maxpacket",
         "1500",
         "CoDel drops nothing while at most this many payload bytes wait behind a datagram, 0 to 65535",
-    );
-    let target = option(
+    )?;
+    let with_target = with_option(
         alloc,
+        with_maxpacket,
         "target",
         "5000",
         "CoDel's acceptable waiting time in microseconds, 1 to the interval",
-    );
-    let interval = option(
+    )?;
+    let with_interval = with_option(
         alloc,
+        with_target,
         "interval",
         "100000",
         "CoDel's interval in microseconds, 1 to 3600000000",
-    );
-    let with_bytes = with_arg(command, bytes)?;
-    let with_maxpacket = with_arg(with_bytes, maxpacket)?;
-    let with_target = with_arg(with_maxpacket, target)?;
-    let with_interval = with_arg(with_target, interval)?;
+    )?;
     Ok(with_interval)
 }
 
 /// A path that a command works on.
-pub(crate) fn path<'a>(alloc: Global, name: &'a str, value_name: &'a str, help: &'a str) -> Arg<'a>
+fn path<'a>(alloc: Global, name: &'a str, value_name: &'a str, help: &'a str) -> Arg<'a>
     ensures rule { rule_of result ≡ path_rule name.now }
     ensures own { result.global ≡ false }
 {
@@ -108,7 +137,7 @@ pub(crate) fn batch<'a>(alloc: Global) -> Arg<'a>
 }
 
 /// An option that takes a number, and has a default.
-pub(crate) fn option<'a>(alloc: Global, name: &'a str, default: &'a str, help: &'a str) -> Arg<'a>
+fn option<'a>(alloc: Global, name: &'a str, default: &'a str, help: &'a str) -> Arg<'a>
     ensures rule { rule_of result ≡ option_rule name.now default.now }
     ensures own { result.global ≡ false }
 {

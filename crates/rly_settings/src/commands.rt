@@ -2,7 +2,7 @@ ghost use Rattle.std.specs.Prelude.{◌≡◌, IfOk, true};
 ghost use Rattle.clap.specs.Words.{app_of, new_app, with_subcommand};
 ghost use Rattle.rly_settings.specs.CommandLine.{audit_app, format_app, play_app, rly_app, rly_top, serve_app, sim_app};
 
-use crate::arguments::{batch, number, option, path, with_arg, with_params};
+use crate::arguments::{batch, number, with_arg, with_option, with_params, with_path};
 use clap::Command;
 use std::alloc::{AllocError, Global};
 
@@ -34,6 +34,9 @@ const SERVED: &str =
 A datagram is acknowledged once the device holds it. SIGINT or SIGTERM may end the program at any
 moment: nothing that was acknowledged is lost, and it goes on where it is started again. Where a
 write or a sync of the device fails, it answers no neighbour until it is started again.";
+
+/// The help of a file that `play`, `audit` or `serve` works on.
+const MADE: &str = "The file of a device that `format` made";
 
 /// The whole command line: its commands, options and help texts.
 pub(crate) fn program<'a>(alloc: Global) -> Result<Command<'a>, AllocError>
@@ -85,21 +88,21 @@ fn format<'a>(alloc: Global) -> Result<Command<'a>, AllocError>
         "Makes a file, or extends one, and makes a new device in it; what it held is lost",
         FORMATTED,
     );
-    let device = path(
+    let with_file = with_path(
         alloc,
+        bare,
         "file",
         "FILE",
         "The file of the device; it is made where there is none, and never shortened",
-    );
-    let with_file = with_arg(bare, device)?;
+    )?;
     let with_options = with_params(alloc, with_file)?;
-    let segments = option(
+    let with_segments = with_option(
         alloc,
+        with_options,
         "segments",
         "2",
         "Segments of the device; 2 is the only number",
-    );
-    let with_segments = with_arg(with_options, segments)?;
+    )?;
     let length = number(
         alloc,
         "length",
@@ -118,15 +121,8 @@ fn play<'a>(alloc: Global) -> Result<Command<'a>, AllocError>
         "Runs commands from standard input on the device in a file, each answered once it is durable",
         LINES,
     );
-    let device = path(
-        alloc,
-        "file",
-        "FILE",
-        "The file of a device that `format` made",
-    );
-    let with_file = with_arg(bare, device)?;
-    let lines = batch(alloc);
-    let with_lines = with_arg(with_file, lines)?;
+    let with_file = with_path(alloc, bare, "file", "FILE", MADE)?;
+    let with_lines = with_arg(with_file, batch(alloc))?;
     Ok(with_lines)
 }
 
@@ -139,13 +135,7 @@ fn audit<'a>(alloc: Global) -> Result<Command<'a>, AllocError>
         "Reports what the device in a file holds, and writes nothing to it",
         AUDITED,
     );
-    let device = path(
-        alloc,
-        "file",
-        "FILE",
-        "The file of a device that `format` made",
-    );
-    let with_file = with_arg(bare, device)?;
+    let with_file = with_path(alloc, bare, "file", "FILE", MADE)?;
     Ok(with_file)
 }
 
@@ -158,27 +148,21 @@ fn serve<'a>(alloc: Global) -> Result<Command<'a>, AllocError>
         "Relays datagrams between the neighbours of a plan, on the device in a file",
         SERVED,
     );
-    let device = path(
+    let with_file = with_path(alloc, bare, "file", "FILE", MADE)?;
+    let with_plan = with_path(
         alloc,
-        "file",
-        "FILE",
-        "The file of a device that `format` made",
-    );
-    let with_file = with_arg(bare, device)?;
-    let neighbours = path(
-        alloc,
+        with_file,
         "plan",
         "PLAN",
         "The contact plan, a TOML file: the peers and hops, their addresses, contacts and routes",
-    );
-    let with_plan = with_arg(with_file, neighbours)?;
-    let turns = option(
+    )?;
+    let with_turns = with_option(
         alloc,
+        with_plan,
         "turns",
         "0",
         "Turns of each peer and each hop, in each of which it waits about 10 milliseconds for a packet; 0 is without end",
-    );
-    let with_turns = with_arg(with_plan, turns)?;
+    )?;
     Ok(with_turns)
 }
 

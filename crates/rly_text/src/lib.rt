@@ -1,9 +1,10 @@
-//! The language of lines of the program `rly`: what a line asks, the line of its reply, and the commands
-//! `sim` and `play`, which answer the lines of any reader. It has no handles.
+//! The language of lines of the program `rly`: what a line asks, the line of its reply, and the
+//! commands `sim` and `play`, which answer the lines of any reader. It has no handles.
 //!
-//! `specs/Grammar.antt` says what a line asks, `specs/Replies.antt` the line of a reply, `specs/Text.antt`
-//! the text for a whole input, and `specs/Playing.antt` that of a play with what becomes of its journal.
-//! `sim` and `play` write these texts. `rly_daemon` calls them, and hands them on; tests call them too.
+//! `specs/Grammar.antt` says what a line asks, `specs/Replies.antt` gives the line of a reply,
+//! and `specs/Text.antt` the text for a whole input. `specs/Playing.antt` has the text of a play,
+//! with what becomes of its journal. `sim` and `play` write these texts. Callers: `rly_daemon`
+//! and tests.
 #![tactic(auto)]
 
 mod bytes;

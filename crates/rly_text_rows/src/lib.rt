@@ -1,8 +1,10 @@
-//! Tests of `sim` and `play`: the worked rows of the language of lines, plays on devices in memory, and streams that fail.
+//! Tests of `sim` and `play`: the worked rows of the language of lines, plays on devices in
+//! memory, and streams that fail.
 //!
-//! Rows were given with the language (docs/COMMANDS.md). What the contracts of `rly_text` leave open is tried here: that
-//! calls succeed, when text is written and flushed, and how many syncs a play makes. No crate may call this one: it has no
-//! code but tests. They stand in a crate of their own, since with them its functions would be proved a second time.
+//! The rows were given with the language (docs/COMMANDS.md). Other tests try what the contracts
+//! of `rly_text` leave open: that calls succeed, when text is written and flushed, and how many
+//! syncs a play makes. The crate has no code but tests, so no crate may call it. With these tests
+//! the functions of `rly_text` would be proved a second time, so they stand here.
 #![tactic(auto)]
 
 /// As `assert!`, by one call: the prover then sees one way on where `assert!` has two. `assert!` stands where a later call needs

@@ -1,26 +1,16 @@
-//! The workers: a receiving one for each upstream neighbour and a sending one for each next hop. In each turn
-//! a worker asks its link once, gives its core what it heard, makes the call that the core names and sends what
-//! it says.
+//! The workers: a receiving one for each upstream neighbour and a sending one for each next hop.
+//! In each turn a worker asks its link once, gives its core what it heard, makes the call that
+//! the core names, and sends what it says.
 //!
-//! `receiver_run` and `sender_run` stand on any `Link`, `Desk` and `Turn`. Where these tell what they gave and
-//! were given, what a worker asked and sent is what `specs/Intake.antt` and `specs/Outlet.antt` make of it, and
-//! nothing else. `run_relay` starts the flusher and the workers, and says the same of each (`specs/Relay.antt`);
-//! that they run side by side is shown by tests alone. The program calls it.
+//! `receiver_run` and `sender_run` take any `Link`, `Desk` and `Turn`. If these tell what they
+//! gave and were given, a worker asks and sends what `specs/Intake.antt` and `specs/Outlet.antt`
+//! make of it, and nothing else. `run_relay` starts the flusher and the workers, and says the
+//! same of each (`specs/Relay.antt`). Only tests show that they run side by side. Caller:
+//! `rly_daemon`.
 #![tactic(auto)]
-
-/// As `assert!`, by one call: the prover then sees one way on where `assert!` has two. `assert!` stands where a later call needs
-/// what was asserted, and where the text names a row.
-#[cfg(test)]
-macro_rules! expect {
-    ($rt:expr; $cond:expr $(,)?) => {
-        crate::expect::expect(&$rt, $cond, stringify!($cond))
-    };
-}
 
 mod desk;
 mod ends;
-#[cfg(test)]
-mod expect;
 mod link;
 mod mem_desk;
 mod mem_link;
@@ -28,8 +18,6 @@ mod mem_turn;
 mod receiver;
 mod relay;
 mod sender;
-#[cfg(test)]
-mod tests;
 mod turn;
 
 pub use crate::desk::Desk;

@@ -11,3 +11,7 @@ returns-in-Err-clause-refused g c honest =
 pub returns-in-Err-clause-only : goal.returns-in-Err-clause-only
 returns-in-Err-clause-only g c =
     only_again (record { crash = c.sync.ensures.crash; settled = c.sync.ensures.stays_settled; later = c.sync.ensures.later }) c.recover.ensures.only
+
+pub returns-in-Ok-new-clause-only : goal.returns-in-Ok-new-clause-only
+returns-in-Ok-new-clause-only g c =
+    only_again (record { crash = c.sync.ensures.crash; settled = c.sync.ensures.stays_settled; later = c.sync.ensures.later }) c.recover.ensures.only

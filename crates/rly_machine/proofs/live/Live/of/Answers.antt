@@ -35,3 +35,10 @@ loop-hop-preserved g c =
       counted = omega (arith, counted, c.loop-hop.invariant.counted, c.live_items-items.ensures);
       weighed = omega (arith, weighed, c.loop-hop.invariant.weighed, c.live_bytes-bytes.ensures);
     }
+
+pub live_items-items-requires : goal.live_items-items-requires
+live_items-items-requires g c =
+    let count : HopState g.row.C.Denot → ℕ = λ h. length (live_line h) in
+    let place : c.loop-hop.hop-index < length c.args.hops.now = omega arith in
+    let all = counted_le count c.args.hops.now c.loop-hop.hop-index c.hop-item.result place c.hop-item.is in
+    omega (arith, all, c.requires.items)

@@ -1,0 +1,22 @@
+//! Tests of the command line and of the report on a device.
+//!
+//! What words ask for, and which ask for nothing (docs/COMMANDS.md); reports on devices in memory that were filled by rounds,
+//! refusals, and writers that fail. They stand over the built libraries, so that these are proved once. No crate may call it:
+//! it has no code but tests.
+#![tactic(auto)]
+
+/// As `assert!`, by one call: the prover then sees one way on where `assert!` has two. `assert!` stands where a later call needs
+/// what was asserted, and where the text names a row.
+#[cfg(test)]
+macro_rules! expect {
+    ($rt:expr; $cond:expr $(,)?) => {
+        crate::expect::expect(&$rt, $cond, stringify!($cond))
+    };
+}
+
+#[cfg(test)]
+mod audits;
+#[cfg(test)]
+mod expect;
+#[cfg(test)]
+mod settings;

@@ -1,0 +1,155 @@
+//! What words ask for, and which words ask for nothing.
+use rly_core::Params;
+use rly_settings::{Settings, SettingsFault, settings};
+
+/// The settings of words, where they are any.
+fn settings_of<'a>(rt: &impl AllocGlobal, words: &'a [&'a str]) -> Option<Settings<'a>> {
+    settings(rt.alloc(), words).ok()
+}
+
+/// Whether words are a bad command line.
+fn are_bad(rt: &impl AllocGlobal, words: &[&str]) -> bool {
+    matches!(
+        &settings(rt.alloc(), words),
+        Err(SettingsFault::CommandLine(_))
+    )
+}
+
+/// Whether words ask for help or the version.
+fn are_asked(rt: &impl AllocGlobal, words: &[&str]) -> bool {
+    matches!(&settings(rt.alloc(), words), Err(SettingsFault::Asked(_)))
+}
+
+#[test]
+fn what_is_left_out_is_the_default(rt: HostRuntime) {
+    let params = Params::DEFAULT;
+    let sim = settings_of(&rt, ["rly", "sim"].as_slice());
+    expect!(rt; sim == Some(Settings::Sim { params }));
+    let format = settings_of(&rt, ["rly", "format", "spool"].as_slice());
+    let file = "spool";
+    expect!(rt; format == Some(Settings::Format {
+            file,
+            params,
+            segments: 2,
+            length: None
+        }));
+    let play = settings_of(&rt, ["rly", "play", "spool"].as_slice());
+    expect!(rt; play == Some(Settings::Play { file, batch: 1 }));
+    let audit = settings_of(&rt, ["rly", "audit", "spool"].as_slice());
+    expect!(rt; audit == Some(Settings::Audit { file }));
+    let serve = settings_of(&rt, ["rly", "serve", "spool", "plan.toml"].as_slice());
+    let plan = "plan.toml";
+    expect!(rt; serve == Some(Settings::Serve {
+            file,
+            plan,
+            turns: 0
+        }));
+}
+
+#[test]
+fn what_is_given_is_read(rt: HostRuntime) {
+    let words = [
+        "rly",
+        "format",
+        "--length=4096",
+        "spool",
+        "--segments",
+        "3",
+        "--window",
+        "64",
+        "--bytes=18446744073709551615",
+    ];
+    let params = Params {
+        window: 64,
+        bytes: u64::MAX,
+        ..Params::DEFAULT
+    };
+    let format = settings_of(&rt, words.as_slice());
+    let file = "spool";
+    expect!(rt; format == Some(Settings::Format {
+            file,
+            params,
+            segments: 3,
+            length: Some(4096)
+        }));
+    let play = settings_of(&rt, ["rly", "play", "--batch", "64", "spool"].as_slice());
+    expect!(rt; play == Some(Settings::Play { file, batch: 64 }));
+    let words = ["rly", "serve", "--turns", "20", "spool", "plan.toml"];
+    let serve = settings_of(&rt, words.as_slice());
+    let plan = "plan.toml";
+    expect!(rt; serve == Some(Settings::Serve {
+            file,
+            plan,
+            turns: 20
+        }));
+}
+
+#[test]
+fn bad_words_are_refused(rt: HostRuntime) {
+    assert!(rt; are_bad(&rt, ["rly"].as_slice()), "no command");
+    assert!(rt; are_bad(&rt, ["rly", "audit"].as_slice()), "no file");
+    assert!(rt;
+        are_bad(&rt, ["rly", "audit", "spool", "twice"].as_slice()),
+        "a word too many"
+    );
+    assert!(rt;
+        are_bad(&rt, ["rly", "audit", "spool", "--batch=1"].as_slice()),
+        "an unknown option"
+    );
+    for batch in [
+        "--batch=0",
+        "--batch=65",
+        "--batch=-1",
+        "--batch=x",
+        "--batch=",
+    ] {
+        assert!(rt;
+            are_bad(&rt, ["rly", "play", "spool", batch].as_slice()),
+            "{batch}"
+        );
+    }
+    let twice = ["rly", "play", "spool", "--batch=1", "--batch=1"];
+    assert!(rt; are_bad(&rt, twice.as_slice()), "a repeated option");
+}
+
+#[test]
+fn bad_words_behind_serve_are_refused(rt: HostRuntime) {
+    assert!(rt; are_bad(&rt, ["rly", "serve"].as_slice()), "no file");
+    assert!(rt;
+        are_bad(&rt, ["rly", "serve", "spool"].as_slice()),
+        "no plan"
+    );
+    let more = ["rly", "serve", "spool", "plan.toml", "more"];
+    assert!(rt; are_bad(&rt, more.as_slice()), "a word too many");
+    for turns in [
+        "--turns=x",
+        "--turns=-1",
+        "--turns=",
+        "--turns=18446744073709551616",
+        "--batch=1",
+    ] {
+        let words = ["rly", "serve", "spool", "plan.toml", turns];
+        assert!(rt; are_bad(&rt, words.as_slice()), "{turns}");
+    }
+    let twice = [
+        "rly",
+        "serve",
+        "--turns=1",
+        "spool",
+        "plan.toml",
+        "--turns=1",
+    ];
+    assert!(rt; are_bad(&rt, twice.as_slice()), "a repeated option");
+}
+
+#[test]
+fn help_and_the_version_are_questions(rt: HostRuntime) {
+    expect!(rt; are_asked(&rt, ["rly", "--version"].as_slice()));
+    expect!(rt; are_asked(&rt, ["rly", "--help"].as_slice()));
+    for command in ["sim", "format", "play", "audit", "serve"] {
+        assert!(rt;
+            are_asked(&rt, ["rly", command, "--help"].as_slice()),
+            "{command}"
+        );
+    }
+}

@@ -1,0 +1,31 @@
+//! Tests of the plan, of the messages between two relays and of the two protocol cores: worked rows.
+//!
+//! A contract says what one call does for all inputs. These tests compare calls with what a person wrote down: the plan and its
+//! faults (docs/FORMATS.md), the bytes of messages, and each row of the two tables (docs/PROTOCOL.md). They stand over the built
+//! libraries, so that these are proved once. No crate may call it: it has no code but tests.
+#![tactic(auto)]
+
+/// As `assert!`, by one call: the prover then sees one way on where `assert!` has two. `assert!` stands where a later call needs
+/// what was asserted. A number behind the condition names a row.
+#[cfg(test)]
+macro_rules! expect {
+    ($rt:expr; $cond:expr $(,)?) => {
+        crate::expect::expect(&$rt, $cond, stringify!($cond))
+    };
+    ($rt:expr; $cond:expr, $row:expr $(,)?) => {
+        crate::expect::expect_row(&$rt, $cond, stringify!($cond), $row)
+    };
+}
+
+#[cfg(test)]
+mod expect;
+#[cfg(test)]
+mod messages;
+#[cfg(test)]
+mod plan_faults;
+#[cfg(test)]
+mod plans;
+#[cfg(test)]
+mod receiving;
+#[cfg(test)]
+mod sending;

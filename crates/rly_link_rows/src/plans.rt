@@ -1,0 +1,138 @@
+//! What plans say of neighbours, routes and links.
+use rly_core::{HopId, PeerId};
+use rly_plan::Plan;
+use std::process::Abort;
+use std::test::Fail;
+
+/// The plan of `docs/FORMATS.md`, "The plan".
+pub(crate) const WHOLE: &str = "station = 7
+[[peer]]
+id = 1
+station = 3
+listen = \"127.0.0.1:4001\"
+remote = \"127.0.0.1:4002\"
+[[hop]]
+id = 1
+station = 9
+listen = \"127.0.0.1:4003\"
+remote = \"127.0.0.1:4004\"
+contacts = [[100, 200], [300, 350]]
+[[route]]
+destination = 12
+hop = 1
+";
+
+/// The ids of no neighbour of the whole plan.
+const ABSENT: [u16; 3] = [0, 2, 65_535];
+
+/// What the whole plan says of its stations and their links.
+fn neighbours(rt: &impl Abort, plan: &Plan) -> Result<(), Fail> {
+    let peer = plan.peer(PeerId(1)).ok_or("peer 1")?;
+    expect!(rt; peer.station == 3);
+    expect!(rt; peer.addresses.listen() == "127.0.0.1:4001");
+    expect!(rt; peer.addresses.remote() == "127.0.0.1:4002");
+    let hop = plan.hop(HopId(1)).ok_or("hop 1")?;
+    expect!(rt; hop.station == 9);
+    expect!(rt; hop.addresses.listen() == "127.0.0.1:4003");
+    expect!(rt; hop.addresses.remote() == "127.0.0.1:4004");
+    Ok(())
+}
+
+fn counts(rt: &impl Abort, plan: &Plan) {
+    expect!(rt; plan.station() == 7);
+    expect!(rt; plan.peer_count() == 1);
+    expect!(rt; plan.hop_count() == 1);
+    for absent in &ABSENT {
+        expect!(rt; plan.peer(PeerId(*absent)).is_none());
+        expect!(rt; plan.hop(HopId(*absent)).is_none());
+    }
+}
+
+#[test]
+fn the_whole_plan_reads(rt: HostRuntime) -> Result<(), Fail> {
+    let plan = Plan::from_toml(rt.alloc(), WHOLE)?;
+    counts(&rt, &plan);
+    neighbours(&rt, &plan)
+}
+
+fn routes(rt: &impl Abort, plan: &Plan) {
+    expect!(rt; plan.hop_for(12) == Some(HopId(1)));
+    for unknown in &[0, 1, 11, 13, 65_535] {
+        expect!(rt; plan.hop_for(*unknown) == None);
+    }
+}
+
+#[test]
+fn a_destination_has_the_hop_of_its_route(rt: HostRuntime) -> Result<(), Fail> {
+    routes(&rt, &Plan::from_toml(rt.alloc(), WHOLE)?);
+    Ok(())
+}
+
+/// A moment, and the link clock then.
+const CLOCK: [(u64, u64); 5] = [(0, 0), (150, 50), (250, 100), (325, 125), (1000, 150)];
+
+/// A moment, and whether the link is open then.
+const OPENED: [(u64, bool); 6] = [
+    (100, true),
+    (199, true),
+    (200, false),
+    (299, false),
+    (300, true),
+    (350, false),
+];
+
+fn clock(rt: &impl Abort, plan: &Plan) {
+    for (moment, open) in &CLOCK {
+        expect!(rt; plan.link(HopId(1), *moment) == *open, *moment);
+    }
+    for absent in &ABSENT {
+        expect!(rt; plan.link(HopId(*absent), 1000) == 0);
+    }
+}
+
+fn opened(rt: &impl Abort, plan: &Plan) {
+    for (moment, open) in &OPENED {
+        expect!(rt; plan.is_open(HopId(1), *moment) == *open, *moment);
+    }
+    for absent in &ABSENT {
+        expect!(rt; !plan.is_open(HopId(*absent), 150));
+    }
+}
+
+#[test]
+fn the_link_clock_counts_open_time(rt: HostRuntime) -> Result<(), Fail> {
+    let plan = Plan::from_toml(rt.alloc(), WHOLE)?;
+    clock(&rt, &plan);
+    opened(&rt, &plan);
+    Ok(())
+}
+
+/// The definition of the link clock, counted moment by moment.
+fn counted(contacts: &[(u64, u64)], moment: u64) -> usize {
+    (0..moment)
+        .filter(|u| contacts
+            .iter()
+            .any(|contact| contact.0 <= *u && *u < contact.1))
+        .count()
+}
+
+/// A plan whose hop has the contacts of `MANY`.
+const MANY_CONTACTS: &str = "station = 7
+peer = [{ id = 1, station = 3, listen = '', remote = '' }]
+hop = [{ id = 1, station = 9, listen = '', remote = '', contacts = [[0, 1], [3, 7], [7, 8], [11, 30], [31, 32]] }]
+";
+
+const MANY: [(u64, u64); 5] = [(0, 1), (3, 7), (7, 8), (11, 30), (31, 32)];
+
+fn clock_is_the_count(rt: &impl Abort, plan: &Plan) {
+    for moment in 0..40 {
+        expect!(rt; plan.link(HopId(1), moment) == counted(&MANY, moment) as u64, moment);
+    }
+    expect!(rt; plan.link(HopId(1), u64::MAX) == 26);
+}
+
+#[test]
+fn the_link_clock_is_the_count(rt: HostRuntime) -> Result<(), Fail> {
+    clock_is_the_count(&rt, &Plan::from_toml(rt.alloc(), MANY_CONTACTS)?);
+    Ok(())
+}

@@ -1,0 +1,12 @@
+use Rattle.std.proofs.Common.{◌≡◌, ◌≤◌, ◌++◌, length}
+use Rattle.rly_machine.proofs.queue.Queue.of.Given as goal
+
+-- what is still to come has room behind what is in the queue
+abbrev pub invariant-loop-item : goal.invariant-loop-item
+invariant-loop-item g l = record {
+  all : l.queue.items ++ l.rest.items ≡ l.fn.items.items;
+  room : length l.rest.items ≤ l.queue.spare;
+}
+
+abbrev pub decreases-loop-item : goal.decreases-loop-item
+decreases-loop-item g l = length l.rest.items

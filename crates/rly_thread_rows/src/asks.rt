@@ -1,0 +1,48 @@
+//! What callers ask at their seats.
+
+use rly_core::{HopId, PeerId};
+use rly_line::Seat;
+use rly_machine::{Ask, Command, Payload, Query, Reply};
+use std::alloc::Global;
+use std::process::Abort;
+use std::sync::Wait;
+
+/// A question.
+pub(super) fn window() -> Ask {
+    Ask::Query(Query::Window { hop: HopId(1) })
+}
+
+/// The reply to the take of a datagram `A` from a peer to hop 1, asked at a seat.
+pub(super) fn take_at<R: Abort + Wait>(
+    rt: &R,
+    alloc: Global,
+    seat: &mut Seat,
+    peer: u16,
+    number: u64,
+) -> Reply {
+    let payload = Payload::new(b"A".to_vec(alloc).expect(rt, "memory"));
+    let take = Command::Take {
+        peer: PeerId(peer),
+        number,
+        hop: HopId(1),
+        stamp: 0,
+        payload,
+    };
+    let answer = seat.call(rt, Ask::Command(take)).expect(rt, "an answer");
+    answer.reply
+}
+
+/// The reply to the take of number 1 from peer 1 at the first of two seats, which is let go then, and the second seat.
+pub(super) fn take_first<R: Abort + Wait>(
+    rt: &R,
+    alloc: Global,
+    mut first: Seat,
+    second: Seat,
+) -> (Reply, Seat) {
+    (take_at(rt, alloc, &mut first, 1, 1), second)
+}
+
+/// The reply to the same take at the second seat, which is let go then.
+pub(super) fn take_again<R: Abort + Wait>(rt: &R, alloc: Global, mut second: Seat) -> Reply {
+    take_at(rt, alloc, &mut second, 1, 1)
+}

@@ -1,0 +1,195 @@
+//! Seats and their line, which a plain machine answers.
+
+ghost use Rattle.std.specs.Prelude.{◌≡◌, ◌≤◌, ◌⊎◌};
+ghost use Rattle.rly_machine.specs.Ask.{ask_step};
+ghost use Rattle.rly_machine.specs.History.{IsAnswered, harm, next_state, without_bytes};
+ghost use Rattle.rly_thread_rows.specs.InStep.{IsInStep};
+
+use crate::asks::{take_again, take_first, window};
+use rly_core::{HopId, Params, Refusal};
+use rly_line::{CallError, LineEnd, Responder, Seat, make};
+use rly_machine::{Answer, Ask, Call, Machine, Payload, Query, Reply};
+use std::alloc::Global;
+use std::process::Abort;
+use std::snapshot::Snapshot;
+use std::sync::Wait;
+use std::thread;
+
+/// How many asks each of four seats makes.
+const ASKS: u64 = 50;
+
+/// The machine's reply, unless memory is refused.
+fn reply_to(alloc: Global, machine: &mut Machine<Payload>, ask: Ask) -> Reply
+    ensures { ((result ≡ Reply.Refused Refusal.OutOfMemory) × (machine.new.state ≡ machine.old.state))
+        ⊎ ((result ≡ (ask_step machine.old.state ask).1) × (machine.new.state ≡ (ask_step machine.old.state ask).0)) }
+{
+    match machine.evaluate(alloc, ask) {
+        Ok(reply) => reply,
+        Err(_) => Reply::Refused(Refusal::OutOfMemory),
+    }
+}
+
+fn evaluate(alloc: Global, machine: &mut Machine<Payload>, call: Call) -> Answer
+    ensures answered { IsAnswered without_bytes 0 machine.old.state (call, result) }
+    ensures state { machine.new.state ≡ next_state machine.old.state (call, result) }
+    ensures harmless { harm result.reply ≡ 0 }
+{
+    let Call { seat, number, ask } = call;
+    let reply = reply_to(alloc, machine, ask);
+    let position = machine.seq();
+    Answer {
+        seat,
+        number,
+        reply,
+        position,
+    }
+}
+
+/// A plain machine, at the end of seats' lines.
+#[derive(Drop)]
+struct Answering {
+    alloc: Global,
+    machine: Machine<Payload>,
+    calls: Responder<Machine<Payload>>,
+}
+
+impl Answering {
+    /// So many seats at a line of that capacity, and an empty machine that answers them.
+    fn new<R: Abort>(rt: &R, alloc: Global, capacity: u16, count: u16) -> (Vec<Seat>, Answering)
+        requires capacity { (1 ≤ capacity) × (capacity ≤ 256) }
+        requires count { (1 ≤ count) × (count ≤ 256) }
+        ensures { IsInStep result.1.machine.state result.1.calls }
+    {
+        let machine = Machine::new(alloc, Params::DEFAULT).expect(rt, "memory");
+        let Ok((seats, line)) = make(alloc, capacity, count) else {
+            panic!(rt; "memory");
+        };
+        let calls = Responder::new(line, &machine);
+        let answering = Answering {
+            alloc,
+            machine,
+            calls,
+        };
+        (seats, answering)
+    }
+
+    /// Waits for one call and answers it. False: all seats are gone.
+    fn answer<R: Wait>(&mut self, rt: &R) -> bool
+        requires { IsInStep self.old.machine.state self.old.calls }
+        ensures { IsInStep self.new.machine.state self.new.calls }
+    {
+        let Some(call) = self.calls.wait(rt) else {
+            return false;
+        };
+        let said = Snapshot::of(&call);
+        let answer = evaluate(self.alloc, &mut self.machine, call);
+        self.calls.answer(rt, &said, answer);
+        true
+    }
+
+    /// Answers so many calls at most, until all seats are gone.
+    fn answer_all<R: Wait>(&mut self, rt: &R, most: u64)
+        requires { IsInStep self.old.machine.state self.old.calls }
+    {
+        for _call in 0..most {
+            if !self.answer(rt) {
+                return;
+            }
+        }
+    }
+}
+
+/// Two seats, each in a thread of its own. The second asks after the first was answered.
+#[test]
+fn line_row_2(rt: HostRuntime) {
+    let alloc = rt.alloc();
+    let (mut seats, mut answering) = Answering::new(&rt, alloc, 4, 2);
+    let second = seats.pop().expect(&rt, "two seats");
+    let first = seats.pop().expect(&rt, "two seats");
+    expect!(rt; (first.id().0, second.id().0) == (0, 1));
+    let asking = thread::spawn(&rt, move || take_first(&rt, alloc, first, second))
+        .ok()
+        .expect(&rt, "a thread");
+    expect!(rt; answering.answer(&rt));
+    let (reply, second) = asking.join(&rt);
+    expect!(rt; matches!(&reply, Reply::Taken(1)));
+    let asking = thread::spawn(&rt, move || take_again(&rt, alloc, second))
+        .ok()
+        .expect(&rt, "a thread");
+    expect!(rt; answering.answer(&rt));
+    expect!(rt; matches!(&asking.join(&rt), Reply::Already(1)));
+    expect!(rt; !answering.answer(&rt));
+}
+
+/// So many asks at a seat, one after the other, which are all answered.
+fn ask_at<R: Abort + Wait>(rt: &R, mut seat: Seat) {
+    for _ask in 0..ASKS {
+        let _answer = seat.call(rt, window()).expect(rt, "an answer");
+    }
+}
+
+/// Four seats in threads of their own share a line that holds one call: each waits for its place in it.
+#[test]
+fn a_full_line_is_waited_for(rt: HostRuntime) {
+    let (seats, mut answering) = Answering::new(&rt, rt.alloc(), 1, 4);
+    let mut asking = Vec::new(rt.alloc());
+    for seat in seats {
+        let asked = thread::spawn(&rt, move || ask_at(&rt, seat))
+            .ok()
+            .expect(&rt, "a thread");
+        asking.push(asked).expect(&rt, "memory");
+    }
+    answering.answer_all(&rt, 4 * ASKS + 1);
+    for asked in asking {
+        asked.join(&rt);
+    }
+}
+
+/// The last of so many seats, and the other end of their line, which holds one call.
+fn last_of<R: Abort>(rt: &R, alloc: Global, count: u16) -> (Seat, LineEnd)
+    requires { (1 ≤ count) × (count ≤ 256) }
+{
+    let (mut seats, line) = make(alloc, 1, count).expect(rt, "memory");
+    (seats.pop().expect(rt, "a seat"), line)
+}
+
+/// Both ends of the line come back as they were from the law that they meet.
+#[test]
+fn both_ends_agree(rt: HostRuntime) {
+    let (mut seats, mut line) = make(rt.alloc(), 1, 2).expect(&rt, "memory");
+    let seat = seats.pop().expect(&rt, "a seat");
+    let seat = line.law_beginning(seat);
+    expect!(rt; seat.id().0 == 1);
+    expect!(rt; line.more(&rt).is_none());
+}
+
+/// Where the other end is gone, a call is handed back.
+#[test]
+fn nobody_answers(rt: HostRuntime) {
+    let (mut seat, line) = last_of(&rt, rt.alloc(), 1);
+    drop(line);
+    let Err(CallError::Closed(Ask::Query(query))) = seat.call(&rt, window()) else {
+        panic!(rt; "the call is not handed back");
+    };
+    expect!(rt; query == Query::Window { hop: HopId(1) });
+}
+
+/// Whether a first call at a seat is lost, and the second handed back.
+fn is_lost<R: Wait>(rt: &R, mut seat: Seat) -> bool {
+    let is_lost = matches!(&seat.call(rt, window()), Err(CallError::Lost));
+    is_lost && matches!(&seat.call(rt, window()), Err(CallError::Closed(_)))
+}
+
+/// A call that is taken and never answered is lost, and the seat is shut from then on.
+#[test]
+fn an_answer_is_lost(rt: HostRuntime) {
+    let (seat, mut line) = last_of(&rt, rt.alloc(), 1);
+    let asking = thread::spawn(&rt, move || is_lost(&rt, seat))
+        .ok()
+        .expect(&rt, "a thread");
+    let call = line.wait(&rt).expect(&rt, "a call");
+    expect!(rt; (call.seat.0, call.number) == (0, 1));
+    expect!(rt; line.more(&rt).is_none());
+    drop(line);
+    expect!(rt; asking.join(&rt));
+}

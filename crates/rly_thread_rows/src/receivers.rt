@@ -1,0 +1,117 @@
+//! A receiving worker.
+
+use crate::workers::{MemEnds, expect_sent, expect_sent_again, link_with, plan, spool_with};
+use rly_core::{Params, PeerId};
+use rly_machine::{Machine, Payload};
+use rly_threads::{Ends, MemDesk, MemLink, MemTurn, receiver_run};
+use std::alloc::Global;
+use std::process::Abort;
+use std::sync::Wait;
+
+/// Data from station 3 to station 7, number 1, payload `000c41`.
+const DATA: &[u8] =
+    b"\x52\x4c\x01\x01\x00\x03\x00\x07\x00\x00\x00\x00\x00\x00\x00\x01\x00\x03\x00\x0c\x41";
+
+/// Its custody.
+const CUSTODY: &[u8] = b"\x52\x4c\x01\x02\x00\x07\x00\x03\x00\x00\x00\x00\x00\x00\x00\x01";
+
+/// The receiver of peer 1 runs over a machine and these packets, for so many turns.
+fn receive<R: Abort + Wait>(
+    rt: &R,
+    alloc: Global,
+    machine: Machine<Payload>,
+    link: MemLink,
+    turns: u64,
+) -> MemEnds {
+    let mut ends = Ends {
+        link,
+        desk: MemDesk::new(alloc, machine),
+        turn: MemTurn::new(150, 1, turns),
+    };
+    receiver_run(rt, alloc, &plan(rt, alloc), PeerId(1), &mut ends);
+    ends
+}
+
+/// An empty spool.
+fn empty<R: Abort>(rt: &R, alloc: Global) -> Machine<Payload> {
+    Machine::new(alloc, Params::DEFAULT).expect(rt, "memory")
+}
+
+/// The receiver of an empty spool hears one packet.
+fn hear_one<R: Abort + Wait>(rt: &R, alloc: Global, packet: &[u8]) -> MemEnds {
+    let link = link_with(rt, alloc, 1, &[0], packet, 0);
+    receive(rt, alloc, empty(rt, alloc), link, 2)
+}
+
+/// A datagram is taken, and its custody sent. The link is asked once a turn.
+#[test]
+fn custody_is_sent(rt: HostRuntime) {
+    let ends = hear_one(&rt, rt.alloc(), DATA);
+    expect_sent(&rt, &ends, 1, CUSTODY);
+    expect!(rt; ends.link.calls() == 3);
+    expect!(rt; ends.desk.calls() == 1);
+    expect!(rt; ends.desk.machine().item_count() == 1);
+}
+
+/// A full spool is told of.
+#[test]
+fn full_is_told(rt: HostRuntime) {
+    let alloc = rt.alloc();
+    let link = link_with(&rt, alloc, 1, &[0], DATA, 0);
+    let ends = receive(&rt, alloc, spool_with(&rt, alloc, 1, 2), link, 2);
+    expect_sent(&rt, &ends, 1, FULL);
+}
+
+/// The refusals of that data: the spool is full, there is no route.
+const FULL: &[u8] = b"\x52\x4c\x01\x03\x00\x07\x00\x03\x00\x00\x00\x00\x00\x00\x00\x01\x06";
+
+const NO_ROUTE: &[u8] = b"\x52\x4c\x01\x03\x00\x07\x00\x03\x00\x00\x00\x00\x00\x00\x00\x01\x02";
+
+/// Data for a destination with no route, and data that has no destination.
+const UNROUTED: [&[u8]; 2] = [
+    b"\x52\x4c\x01\x01\x00\x03\x00\x07\x00\x00\x00\x00\x00\x00\x00\x01\x00\x03\x00\x0d\x41",
+    b"\x52\x4c\x01\x01\x00\x03\x00\x07\x00\x00\x00\x00\x00\x00\x00\x01\x00\x01\x0c",
+];
+
+/// A datagram for a destination with no route is refused, and so is one that has no destination.
+#[test]
+fn no_route_is_told(rt: HostRuntime) {
+    for packet in &UNROUTED {
+        let ends = hear_one(&rt, rt.alloc(), *packet);
+        expect_sent(&rt, &ends, 1, NO_ROUTE);
+        expect!(rt; ends.desk.machine().item_count() == 0);
+    }
+}
+
+/// Another station's data, and a packet that is too short for a message.
+const UNHEARD: [&[u8]; 2] = [
+    b"\x52\x4c\x01\x01\x00\x04\x00\x07\x00\x00\x00\x00\x00\x00\x00\x01\x00\x03\x00\x0c\x41",
+    b"\x52\x4c\x01\x01\x00\x03\x00\x07\x00\x00\x00\x00\x00\x00\x00\x01\x00\x03\x00\x0c",
+];
+
+/// Of another station's packet, and of one that is no message, nothing comes.
+#[test]
+fn others_are_not_heard(rt: HostRuntime) {
+    for packet in &UNHEARD {
+        let ends = hear_one(&rt, rt.alloc(), *packet);
+        expect_sent(&rt, &ends, 0, CUSTODY);
+        expect!(rt; ends.desk.calls() == 0);
+    }
+}
+
+/// In which of its receives the neighbour's datagram comes.
+const PLACES: [usize; 16] = [0, 4, 8, 12, 16, 20, 24, 28, 32, 36, 40, 44, 48, 52, 56, 60];
+
+/// The neighbour sends a datagram again in every fourth turn. Whichever call of the link fails, it is taken once and
+/// its custody sent.
+#[test]
+fn link_fails_once(rt: HostRuntime) {
+    let alloc = rt.alloc();
+    for fails_at in 1..80 {
+        let link = link_with(&rt, alloc, 64, &PLACES, DATA, fails_at);
+        let ends = receive(&rt, alloc, empty(&rt, alloc), link, 64);
+        expect_sent_again(&rt, &ends, 15, CUSTODY);
+        expect!(rt; matches!(ends.desk.machine().lasts().first(), Some(1)));
+        expect!(rt; ends.desk.machine().item_count() == 1);
+    }
+}
