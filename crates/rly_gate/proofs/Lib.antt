@@ -1,5 +1,4 @@
-pub mod Appending
-pub mod Durable
 pub mod Frames
-pub mod Holding
+pub mod Appending
 pub mod Rereading
+pub mod Holding

@@ -1,4 +1,3 @@
-pub mod Calls
 pub mod Group
 pub mod HelpersReading
 pub mod Reading

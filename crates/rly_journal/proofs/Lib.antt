@@ -9,4 +9,3 @@ pub mod Appending
 pub mod Rounding
 pub mod Recovering
 pub mod Refusing
-pub mod Following

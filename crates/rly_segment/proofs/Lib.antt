@@ -10,4 +10,4 @@ pub mod HeaderFields
 pub mod Replacing
 pub mod Segments
 pub mod Standing
-pub mod Looking
+pub mod Unsynced

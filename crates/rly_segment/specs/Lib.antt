@@ -1,5 +1,4 @@
 pub mod Answers
-pub mod Calls
 pub mod Device
 pub mod Formatted
 pub mod Heads
