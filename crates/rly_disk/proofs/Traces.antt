@@ -312,6 +312,10 @@ module _ {D : Type 0} (state : D → DiskState) where
     untouched = λ none. refl;
   })
 
+  -- where the counts stand at their last value
+  pub not_counted : {a : D} (call : DeviceEvent) (calls : List DeviceEvent) → IsSpent (state a) → Makes state (call ∷ calls) false a a
+  not_counted {a} call calls spent = not_made call calls spent refl
+
   done_once : {a b : D} (call : DeviceEvent) → Leads (call ∷ []) (state a) (state b) → Makes state (call ∷ []) true a b
   done_once call leads = record { events = call ∷ []; leads = leads; made = refl; untouched = λ none. absurd (not_empty none) }
 
@@ -372,9 +376,3 @@ module _ (calls events : List DeviceEvent) (sound : count_of is_failed_call call
     where
       single : (event : DeviceEvent) → count_of is_failed_call (event ∷ []) ≤ 1
       single event = elim (is_failed_call event) as (λ b. (if b then 1 else 0) + 0 ≤ 1) [ true ↦ omega arith | false ↦ omega arith ]
-
--- after a sync that was made last there is one image
-pub synced_last : (calls : List DeviceEvent) (seen : List ℕ) (I : List ℕ → Type 0) (c : List ℕ)
-    → images_at_end (calls ++ Sync ∷ []) seen I c → c ≡ seen_at_end (calls ++ Sync ∷ []) seen
-synced_last [] seen I c image = image
-synced_last (event ∷ calls) seen I c image = synced_last calls (seen_after event seen) (images_after event seen I) c image

@@ -1,5 +1,5 @@
 -- What a row of calls did to a disk, as one list of events, and what follows from such a list.
-use Rattle.std.specs.Prelude.{◌≡◌, ◌⊎◌, ◌↔◌, ◌≤◌, ◌+◌, ◌-◌, ◌^◌, ℕ, Bool, true, false, nat_le, if◌then◌else◌}
+use Rattle.std.specs.Prelude.{◌≡◌, ◌⊎◌, ◌↔◌, ◌≤◌, ◌+◌, ◌-◌, ◌^◌, ℕ, zero, suc, Bool, true, false, nat_le, if◌then◌else◌}
 use Rattle.std.specs.Prelude.{List, [], ◌∷◌, ◌++◌, length, take}
 use Rattle.rly_disk.specs.DiskModel.{DiskState, IsTorn, overwritten}
 
@@ -148,17 +148,44 @@ abbrev pub IsMade : Bool → Bool → List DeviceEvent → List DeviceEvent → 
 IsMade true spent calls events = events ≡ calls
 IsMade false spent calls events = IsCut spent calls events
 
+-- the calls for each number below another, in order
+abbrev pub each_below : (ℕ → List DeviceEvent) → ℕ → List DeviceEvent
+each_below calls zero = []
+each_below calls (suc n) = each_below calls n ++ calls n
+
+-- the calls are reads and syncs
+abbrev pub are_quiet : List DeviceEvent → Bool
+are_quiet [] = true
+are_quiet (Read place count ∷ calls) = are_quiet calls
+are_quiet (FailedRead place count ∷ calls) = false
+are_quiet (Write place bytes ∷ calls) = false
+are_quiet (FailedWrite place bytes left ∷ calls) = false
+are_quiet (Sync ∷ calls) = are_quiet calls
+are_quiet (FailedSync ∷ calls) = false
+
+-- the calls are reads
+abbrev pub are_reads : List DeviceEvent → Bool
+are_reads [] = true
+are_reads (Read place count ∷ calls) = are_reads calls
+are_reads (FailedRead place count ∷ calls) = false
+are_reads (Write place bytes ∷ calls) = false
+are_reads (FailedWrite place bytes left ∷ calls) = false
+are_reads (Sync ∷ calls) = false
+are_reads (FailedSync ∷ calls) = false
+
+-- the range of each write is one of these, each a place and a length
+abbrev pub AllWrites : (ℕ → ℕ → Type 0) → List DeviceEvent → Type 0
+AllWrites IsRange [] = Unit {0}
+AllWrites IsRange (Read place count ∷ calls) = AllWrites IsRange calls
+AllWrites IsRange (FailedRead place count ∷ calls) = AllWrites IsRange calls
+AllWrites IsRange (Write place bytes ∷ calls) = IsRange place (length bytes) × AllWrites IsRange calls
+AllWrites IsRange (FailedWrite place bytes left ∷ calls) = IsRange place (length bytes) × AllWrites IsRange calls
+AllWrites IsRange (Sync ∷ calls) = AllWrites IsRange calls
+AllWrites IsRange (FailedSync ∷ calls) = AllWrites IsRange calls
+
 -- each write lies in a range of n bytes
 abbrev pub WritesWithin : ℕ → ℕ → List DeviceEvent → Type 0
-WritesWithin place n [] = Unit {0}
-WritesWithin place n (Read at count ∷ calls) = WritesWithin place n calls
-WritesWithin place n (FailedRead at count ∷ calls) = WritesWithin place n calls
-WritesWithin place n (Write at bytes ∷ calls) =
-    (place ≤ at) × (at + length bytes ≤ place + n) × WritesWithin place n calls
-WritesWithin place n (FailedWrite at bytes left ∷ calls) =
-    (place ≤ at) × (at + length bytes ≤ place + n) × WritesWithin place n calls
-WritesWithin place n (Sync ∷ calls) = WritesWithin place n calls
-WritesWithin place n (FailedSync ∷ calls) = WritesWithin place n calls
+WritesWithin place n calls = AllWrites (λ at count. (place ≤ at) × (at + count ≤ place + n)) calls
 
 -- a row of calls of a disk was made, whole or up to the first that failed, and nothing else; where none was made the disk
 -- is the same
@@ -168,3 +195,9 @@ pub record Makes {D : Type 0} (state : D → DiskState) (calls : List DeviceEven
   pub leads : Leads events (state old) (state new)
   pub made : IsMade whole (is_spent (state new)) calls events
   pub untouched : events ≡ [] → new ≡ old
+
+-- reads were made, all of them or those up to the first that failed, and no other call
+pub record OnlyReads {D : Type 0} (state : D → DiskState) (whole : Bool) (old new : D) : Type 0 where
+  pub calls : List DeviceEvent
+  pub reads : are_reads calls ≡ true
+  pub makes : Makes state calls whole old new

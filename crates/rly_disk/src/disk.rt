@@ -1,6 +1,7 @@
 // The interface of a disk, with all that a contract may say of one.
-ghost use Rattle.std.specs.Prelude.{◌≡◌, ◌≤◌, ◌<◌, ◌+◌, List, ℕ, length, OnOk, OnErr, IsErr, is_ok, slice_range, if◌then◌else◌};
-ghost use Rattle.rly_disk.specs.DiskModel.{DiskState, SameOutside, overwritten, IsWritten, NothingNew, SettlesNothing, Settled, Consistent, IsSpent, HasFailed, Counted, Later};
+ghost use Rattle.std.specs.Prelude.{◌≡◌, ◌≤◌, ◌+◌, ◌∷◌, [], length, OnOk, is_ok, slice_range};
+ghost use Rattle.rly_disk.specs.DiskModel.{DiskState, Consistent};
+ghost use Rattle.rly_disk.specs.Trace.{Makes, Read, Sync, Write};
 
 /// A call of a disk failed. What it left is said at the call.
 #[derive(Clone, Copy, Debug, PartialEq, Eq, Drop)]
@@ -23,42 +24,17 @@ pub trait Disk {
         requires { place + length buffer.old ≤ (state self.old).size }
         ensures bytes { (state self.old).honest
             → OnOk result (buffer.new ≡ slice_range (state self.old).seen place (place + length buffer.old)) }
-        ensures crash { (state self.old).honest → NothingNew (state self.old) (state self.new) }
-        ensures unsettled { (state self.old).honest → SettlesNothing (state self.old) (state self.new) }
-        ensures stays_settled { Settled (state self.old) → Settled (state self.new) }
-        ensures rise { OnErr result (HasFailed (state self.old) (state self.new)) }
-        ensures no_failure { OnOk result ((state self.new).failures ≡ (state self.old).failures) }
-        ensures counted { ¬ IsSpent (state self.old)
-            → Counted (if is_ok result then 0 else 1) 0 (if is_ok result then 0 else 1) (state self.old) (state self.new) }
-        ensures spent { IsSpent (state self.old) → IsErr result × (self.new ≡ self.old) }
-        ensures later { Later (state self.old) (state self.new) };
+        ensures trace { Makes state (Read place (length buffer.old) ∷ []) (is_ok result) self.old self.new };
 
     /// Writes the bytes from `place` on. Until a sync succeeds a crash may leave any bytes in their place, after an `Err` too;
     /// after an `Err` a read may give any bytes there as well. All other bytes stay.
     fn write_at(&mut self, place: u64, bytes: &[u8]) -> Result<(), DiskFault>
         requires { place + length bytes.now ≤ (state self.old).size }
-        ensures written { (state self.old).honest
-            → OnOk result ((state self.new).seen ≡ overwritten place bytes.now (state self.old).seen) }
-        ensures crash { (state self.old).honest → IsWritten place (length bytes.now) (state self.old) (state self.new) }
-        ensures rise { OnErr result (HasFailed (state self.old) (state self.new)) }
-        ensures no_failure { OnOk result ((state self.new).failures ≡ (state self.old).failures) }
-        ensures counted { ¬ IsSpent (state self.old)
-            → Counted (if is_ok result then 0 else 1) 0 0 (state self.old) (state self.new) }
-        ensures spent { IsSpent (state self.old) → IsErr result × (self.new ≡ self.old) }
-        ensures later { Later (state self.old) (state self.new) };
+        ensures trace { Makes state (Write place bytes.now ∷ []) (is_ok result) self.old self.new };
 
     /// Makes all writes durable: after an `Ok` a crash leaves what a read gives. An `Err` settles nothing.
     fn sync(&mut self) -> Result<(), DiskFault>
-        ensures settled { (state self.old).honest → OnOk result (Settled (state self.new)) }
-        ensures crash { (state self.old).honest → NothingNew (state self.old) (state self.new) }
-        ensures unsettled { (state self.old).honest → OnErr result (SettlesNothing (state self.old) (state self.new)) }
-        ensures stays_settled { Settled (state self.old) → Settled (state self.new) }
-        ensures rise { OnErr result (HasFailed (state self.old) (state self.new)) }
-        ensures no_failure { OnOk result ((state self.new).failures ≡ (state self.old).failures) }
-        ensures counted { ¬ IsSpent (state self.old)
-            → Counted (if is_ok result then 0 else 1) 1 0 (state self.old) (state self.new) }
-        ensures spent { IsSpent (state self.old) → IsErr result × (self.new ≡ self.old) }
-        ensures later { Later (state self.old) (state self.new) };
+        ensures trace { Makes state (Sync ∷ []) (is_ok result) self.old self.new };
 
     /// How many calls of `read_at`, `write_at` and `sync` failed. This count and the next three are for tests: they have 64
     /// bits, and where the calls stand at their last value each call fails and changes nothing.

@@ -1,6 +1,7 @@
 // A disk that fails at a chosen call.
-ghost use Rattle.std.specs.Prelude.{◌≡◌, ◌⊎◌, ◌≤◌, ◌<◌, ◌+◌, ◌-◌, ◌^◌, List, ℕ, Bool, true, false, length, take, IsTrue, IsErr, OnOk, OnErr, is_ok, slice_range, if◌then◌else◌};
-ghost use Rattle.rly_disk.specs.DiskModel.{DiskState, overwritten, IsWritten, NothingNew, SettlesNothing, Settled, Consistent, IsSpent, HasFailed, Counted, Later};
+ghost use Rattle.std.specs.Prelude.{◌≡◌, ◌≤◌, ◌<◌, ◌+◌, ◌-◌, ◌^◌, ◌∷◌, [], Bool, true, false, length, take, IsTrue, IsErr, OnOk, is_ok, slice_range};
+ghost use Rattle.rly_disk.specs.DiskModel.{DiskState, IsSpent};
+ghost use Rattle.rly_disk.specs.Trace.{Makes, Read, Sync, Write};
 
 use crate::{Counts, Disk, DiskFault};
 
@@ -88,22 +89,11 @@ impl<D: Disk> Disk for FaultDisk<D> {
         requires { place + length buffer.old ≤ (fault_state D.state self.old).size }
         ensures bytes { (fault_state D.state self.old).honest
             → OnOk result (buffer.new ≡ slice_range (fault_state D.state self.old).seen place (place + length buffer.old)) }
-        ensures crash { (fault_state D.state self.old).honest → NothingNew (fault_state D.state self.old) (fault_state D.state self.new) }
-        ensures unsettled { (fault_state D.state self.old).honest → SettlesNothing (fault_state D.state self.old) (fault_state D.state self.new) }
-        ensures stays_settled { Settled (fault_state D.state self.old) → Settled (fault_state D.state self.new) }
-        ensures rise { OnErr result (HasFailed (fault_state D.state self.old) (fault_state D.state self.new)) }
-        ensures no_failure { OnOk result ((fault_state D.state self.new).failures ≡ (fault_state D.state self.old).failures) }
-        ensures counted { ¬ IsSpent (fault_state D.state self.old)
-            → Counted (if is_ok result then 0 else 1) 0 (if is_ok result then 0 else 1) (fault_state D.state self.old) (fault_state D.state self.new) }
-        ensures spent { IsSpent (fault_state D.state self.old) → IsErr result × (self.new ≡ self.old) }
-        ensures later { Later (fault_state D.state self.old) (fault_state D.state self.new) }
-        // The call that was chosen fails, and no other but where the disk in it fails.
+        ensures trace { Makes (fault_state D.state) (Read place (length buffer.old) ∷ []) (is_ok result) self.old self.new }
+        // The call that was chosen fails; another is made of the disk in it, once, and does what that does.
         ensures chosen { IsTrue (fails_next self.old) → IsErr result }
         ensures passed { fails_next self.old ≡ false → ¬ IsSpent (fault_state D.state self.old)
-            → OnErr result (HasFailed (D.state (inner_of self.old)) (D.state (inner_of self.new))) }
-        // It makes that call of the disk in it, once.
-        ensures once { fails_next self.old ≡ false → ¬ IsSpent (fault_state D.state self.old) → ¬ IsSpent (D.state (inner_of self.old))
-            → Counted (if is_ok result then 0 else 1) 0 (if is_ok result then 0 else 1) (D.state (inner_of self.old)) (D.state (inner_of self.new)) }
+            → Makes D.state (Read place (length buffer.old) ∷ []) (is_ok result) (inner_of self.old) (inner_of self.new) }
         ensures plan { fault_plan self.new ≡ fault_plan self.old }
         ensures nothing_done { IsTrue (fails_next self.old) → inner_of self.new ≡ inner_of self.old }
     {
@@ -121,29 +111,15 @@ impl<D: Disk> Disk for FaultDisk<D> {
 
     fn write_at(&mut self, place: u64, bytes: &[u8]) -> Result<(), DiskFault>
         requires { place + length bytes.now ≤ (fault_state D.state self.old).size }
-        ensures written { (fault_state D.state self.old).honest
-            → OnOk result ((fault_state D.state self.new).seen ≡ overwritten place bytes.now (fault_state D.state self.old).seen) }
-        ensures crash { (fault_state D.state self.old).honest → IsWritten place (length bytes.now) (fault_state D.state self.old) (fault_state D.state self.new) }
-        ensures rise { OnErr result (HasFailed (fault_state D.state self.old) (fault_state D.state self.new)) }
-        ensures no_failure { OnOk result ((fault_state D.state self.new).failures ≡ (fault_state D.state self.old).failures) }
-        ensures counted { ¬ IsSpent (fault_state D.state self.old)
-            → Counted (if is_ok result then 0 else 1) 0 0 (fault_state D.state self.old) (fault_state D.state self.new) }
-        ensures spent { IsSpent (fault_state D.state self.old) → IsErr result × (self.new ≡ self.old) }
-        ensures later { Later (fault_state D.state self.old) (fault_state D.state self.new) }
-        // The call that was chosen fails, and no other but where the disk in it fails.
+        ensures trace { Makes (fault_state D.state) (Write place bytes.now ∷ []) (is_ok result) self.old self.new }
+        // The call that was chosen fails; another is made of the disk in it, once, and does what that does.
         ensures chosen { IsTrue (fails_next self.old) → IsErr result }
         ensures passed { fails_next self.old ≡ false → ¬ IsSpent (fault_state D.state self.old)
-            → OnErr result (HasFailed (D.state (inner_of self.old)) (D.state (inner_of self.new))) }
-        // It makes one write of the disk in it, a chosen one too, and nothing else.
-        ensures once { ¬ IsSpent (fault_state D.state self.old) → ¬ IsSpent (D.state (inner_of self.old))
-            → (D.state (inner_of self.new)).calls ≡ (D.state (inner_of self.old)).calls + 1 }
-        ensures no_sync { ¬ IsSpent (fault_state D.state self.old) → ¬ IsSpent (D.state (inner_of self.old))
-            → (D.state (inner_of self.new)).syncs ≡ (D.state (inner_of self.old)).syncs }
+            → Makes D.state (Write place bytes.now ∷ []) (is_ok result) (inner_of self.old) (inner_of self.new) }
         ensures plan { fault_plan self.new ≡ fault_plan self.old }
-        // The first bytes of a write that was chosen are put, unless the disk in it fails.
-        ensures put { (fault_state D.state self.old).honest → IsTrue (fails_next self.old) → ¬ IsSpent (fault_state D.state self.old)
-            → ((fault_state D.state self.new).seen ≡ overwritten place (take (torn_of self.old) bytes.now) (fault_state D.state self.old).seen)
-            ⊎ HasFailed (D.state (inner_of self.old)) (D.state (inner_of self.new)) }
+        // Of a write that was chosen the first bytes are put, by one write, which may fail too.
+        ensures put { IsTrue (fails_next self.old) → ¬ IsSpent (fault_state D.state self.old)
+            → (done : Bool) × Makes D.state (Write place (take (torn_of self.old) bytes.now) ∷ []) done (inner_of self.old) (inner_of self.new) }
     {
         if self.counts.is_spent() {
             return Err(DiskFault);
@@ -161,23 +137,11 @@ impl<D: Disk> Disk for FaultDisk<D> {
     }
 
     fn sync(&mut self) -> Result<(), DiskFault>
-        ensures settled { (fault_state D.state self.old).honest → OnOk result (Settled (fault_state D.state self.new)) }
-        ensures crash { (fault_state D.state self.old).honest → NothingNew (fault_state D.state self.old) (fault_state D.state self.new) }
-        ensures unsettled { (fault_state D.state self.old).honest → OnErr result (SettlesNothing (fault_state D.state self.old) (fault_state D.state self.new)) }
-        ensures stays_settled { Settled (fault_state D.state self.old) → Settled (fault_state D.state self.new) }
-        ensures rise { OnErr result (HasFailed (fault_state D.state self.old) (fault_state D.state self.new)) }
-        ensures no_failure { OnOk result ((fault_state D.state self.new).failures ≡ (fault_state D.state self.old).failures) }
-        ensures counted { ¬ IsSpent (fault_state D.state self.old)
-            → Counted (if is_ok result then 0 else 1) 1 0 (fault_state D.state self.old) (fault_state D.state self.new) }
-        ensures spent { IsSpent (fault_state D.state self.old) → IsErr result × (self.new ≡ self.old) }
-        ensures later { Later (fault_state D.state self.old) (fault_state D.state self.new) }
-        // The call that was chosen fails, and no other but where the disk in it fails.
+        ensures trace { Makes (fault_state D.state) (Sync ∷ []) (is_ok result) self.old self.new }
+        // The call that was chosen fails; another is made of the disk in it, once, and does what that does.
         ensures chosen { IsTrue (fails_next self.old) → IsErr result }
         ensures passed { fails_next self.old ≡ false → ¬ IsSpent (fault_state D.state self.old)
-            → OnErr result (HasFailed (D.state (inner_of self.old)) (D.state (inner_of self.new))) }
-        // It makes that call of the disk in it, once.
-        ensures once { fails_next self.old ≡ false → ¬ IsSpent (fault_state D.state self.old) → ¬ IsSpent (D.state (inner_of self.old))
-            → Counted (if is_ok result then 0 else 1) 1 0 (D.state (inner_of self.old)) (D.state (inner_of self.new)) }
+            → Makes D.state (Sync ∷ []) (is_ok result) (inner_of self.old) (inner_of self.new) }
         ensures plan { fault_plan self.new ≡ fault_plan self.old }
         ensures nothing_done { IsTrue (fails_next self.old) → inner_of self.new ≡ inner_of self.old }
     {

@@ -1,7 +1,8 @@
 // A disk in memory.
-ghost use Rattle.std.specs.Prelude.{◌≡◌, ◌≤◌, ◌<◌, ◌+◌, ◌^◌, ◌↔◌, List, ℕ, length, IsTrue, IsOk, IsErr, OnOk, OnErr, is_ok, slice_range, if◌then◌else◌};
+ghost use Rattle.std.specs.Prelude.{◌≡◌, ◌≤◌, ◌<◌, ◌+◌, ◌^◌, ◌↔◌, ◌∷◌, [], List, ℕ, length, IsTrue, IsOk, OnOk, OnErr, is_ok, slice_range};
 ghost use Rattle.std.specs.List.{list_all};
-ghost use Rattle.rly_disk.specs.DiskModel.{DiskState, overwritten, IsTorn, IsWritten, NothingNew, SettlesNothing, Settled, Consistent, IsSpent, HasFailed, Counted, Later};
+ghost use Rattle.rly_disk.specs.DiskModel.{DiskState, IsTorn, NothingNew, SettlesNothing, Settled, IsSpent};
+ghost use Rattle.rly_disk.specs.Trace.{Makes, Read, Sync, Write};
 ghost use Rattle.rly_disk.specs.Record.{synced_events};
 ghost use Rattle.rly_disk.specs.HelpersRecord.{is_event_within};
 
@@ -124,15 +125,7 @@ impl Disk for MemDisk {
         requires { place + length buffer.old ≤ (mem_state self.old).size }
         ensures bytes { (mem_state self.old).honest
             → OnOk result (buffer.new ≡ slice_range (mem_state self.old).seen place (place + length buffer.old)) }
-        ensures crash { (mem_state self.old).honest → NothingNew (mem_state self.old) (mem_state self.new) }
-        ensures unsettled { (mem_state self.old).honest → SettlesNothing (mem_state self.old) (mem_state self.new) }
-        ensures stays_settled { Settled (mem_state self.old) → Settled (mem_state self.new) }
-        ensures rise { OnErr result (HasFailed (mem_state self.old) (mem_state self.new)) }
-        ensures no_failure { OnOk result ((mem_state self.new).failures ≡ (mem_state self.old).failures) }
-        ensures counted { ¬ IsSpent (mem_state self.old)
-            → Counted (if is_ok result then 0 else 1) 0 (if is_ok result then 0 else 1) (mem_state self.old) (mem_state self.new) }
-        ensures spent { IsSpent (mem_state self.old) → IsErr result × (self.new ≡ self.old) }
-        ensures later { Later (mem_state self.old) (mem_state self.new) }
+        ensures trace { Makes mem_state (Read place (length buffer.old) ∷ []) (is_ok result) self.old self.new }
         // It needs no memory.
         ensures succeeds { ¬ IsSpent (mem_state self.old) → IsOk result }
         ensures as_synced { synced_bytes self.new ≡ synced_bytes self.old }
@@ -148,15 +141,7 @@ impl Disk for MemDisk {
 
     fn write_at(&mut self, place: u64, bytes: &[u8]) -> Result<(), DiskFault>
         requires { place + length bytes.now ≤ (mem_state self.old).size }
-        ensures written { (mem_state self.old).honest
-            → OnOk result ((mem_state self.new).seen ≡ overwritten place bytes.now (mem_state self.old).seen) }
-        ensures crash { (mem_state self.old).honest → IsWritten place (length bytes.now) (mem_state self.old) (mem_state self.new) }
-        ensures rise { OnErr result (HasFailed (mem_state self.old) (mem_state self.new)) }
-        ensures no_failure { OnOk result ((mem_state self.new).failures ≡ (mem_state self.old).failures) }
-        ensures counted { ¬ IsSpent (mem_state self.old)
-            → Counted (if is_ok result then 0 else 1) 0 0 (mem_state self.old) (mem_state self.new) }
-        ensures spent { IsSpent (mem_state self.old) → IsErr result × (self.new ≡ self.old) }
-        ensures later { Later (mem_state self.old) (mem_state self.new) }
+        ensures trace { Makes mem_state (Write place bytes.now ∷ []) (is_ok result) self.old self.new }
         // Its images are all that the model lets a write leave, no fewer.
         ensures exact { OnOk result ((c : List ℕ)
             → IsTorn place (length bytes.now) (mem_state self.old).images c → (mem_state self.new).images c) }
@@ -187,16 +172,7 @@ impl Disk for MemDisk {
     }
 
     fn sync(&mut self) -> Result<(), DiskFault>
-        ensures settled { (mem_state self.old).honest → OnOk result (Settled (mem_state self.new)) }
-        ensures crash { (mem_state self.old).honest → NothingNew (mem_state self.old) (mem_state self.new) }
-        ensures unsettled { (mem_state self.old).honest → OnErr result (SettlesNothing (mem_state self.old) (mem_state self.new)) }
-        ensures stays_settled { Settled (mem_state self.old) → Settled (mem_state self.new) }
-        ensures rise { OnErr result (HasFailed (mem_state self.old) (mem_state self.new)) }
-        ensures no_failure { OnOk result ((mem_state self.new).failures ≡ (mem_state self.old).failures) }
-        ensures counted { ¬ IsSpent (mem_state self.old)
-            → Counted (if is_ok result then 0 else 1) 1 0 (mem_state self.old) (mem_state self.new) }
-        ensures spent { IsSpent (mem_state self.old) → IsErr result × (self.new ≡ self.old) }
-        ensures later { Later (mem_state self.old) (mem_state self.new) }
+        ensures trace { Makes mem_state (Sync ∷ []) (is_ok result) self.old self.new }
         ensures as_synced { OnOk result (synced_bytes self.new ≡ (mem_state self.new).seen) }
         ensures not_synced { OnErr result (synced_bytes self.new ≡ synced_bytes self.old) }
     {

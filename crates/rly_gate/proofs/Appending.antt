@@ -1,11 +1,16 @@
 -- What a crash leaves of an append.
-use Rattle.std.proofs.Common.{ℕ, ◌≡◌, ◌+◌, ◌<◌, ◌≤◌, List, [], ◌∷◌, length, get_or, take, drop, arith, sym, ◌∙◌, ap, subst, inl, inr, ⊎_elim}
+use Rattle.std.proofs.Common.{ℕ, Bool, true, ◌≡◌, ◌+◌, ◌<◌, ◌≤◌, List, [], ◌∷◌, length, get_or, take, drop, arith, sym, ◌∙◌, ap, inl, inr, ⊎_elim}
 use Rattle.std.proofs.lemmas.Bool.{cases_eq}
 use Rattle.std.proofs.lemmas.List.{drop_more}
-use Rattle.rly_disk.specs.DiskModel.{DiskState, LeavesOnly, SameOutside, Settled, overwritten}
-use Rattle.rly_disk.proofs.Composition.{at_exit, joined, weaker}
+use Rattle.rly_disk.specs.DiskModel.{Consistent, DiskState, LeavesOnly, SameOutside, Settled, overwritten}
+use Rattle.rly_disk.specs.Trace.{Makes, images_within}
+use Rattle.rly_disk.proofs.Making.{makes_leaves, makes_seen, makes_settled, synced_behind}
+use Rattle.rly_disk.proofs.Overwritten.{overwritten_outside}
 use Rattle.rly_disk.proofs.Ranges.{part, part-overwritten, same_outside_again, wider}
-use Rattle.rly_gate.proofs.Frames.{gate_and_frame}
+use Rattle.rly_disk.proofs.Traces.{seen_joined}
+use Rattle.rly_gate.proofs.Frames.{gate_and_frame, length-frame}
+use Rattle.rly_gate.proofs.Durable.{AreWrites, settling_last, settling_seen, settling_synced, settling_then, settling_writes, writes_joined}
+use Rattle.rly_gate.specs.Calls.{appending, settling}
 use Rattle.rly_gate.specs.Group.{IsAppended, IsClosed, IsOpen, StandsAt, frame_of, group_of, open_gate}
 
 -- an image from while the frame was written: the gate is still closed
@@ -38,30 +43,36 @@ at_the_gate at body old mid image within first stands second = record {
   ];
 }
 
--- a crash at any moment of both settles
-pub appended : {a b e : DiskState} (at : ℕ) (body : List ℕ) → IsClosed a.seen at → at + 1 ≤ length a.seen
-    → LeavesOnly a b (SameOutside (at + 1) (length (frame_of body)) a.seen) → Settled b → b.seen ≡ overwritten (at + 1) (frame_of body) a.seen
-    → LeavesOnly b e (SameOutside at 1 b.seen) → LeavesOnly a e (IsAppended at body a.seen)
-appended {a} {b} {e} at body closed within first settled written second =
-    let same = at_exit (SameOutside (at + 1) (length (frame_of body)) a.seen) first settled.consistent b.seen settled.consistent.seen_is_image in
-    let below : at < length b.seen = omega (arith, same.same_length) in
-    let stands : StandsAt b.seen (at + 1) (frame_of body) = ap (λ l. take (length (frame_of body)) (drop (at + 1) l)) written ∙ part-overwritten (at + 1) (frame_of body) a.seen within in
-    weaker _ (IsAppended at body a.seen)
-    (λ c either. ⊎_elim (behind_the_gate at body a.seen c closed) (at_the_gate at body a.seen b.seen c below same stands) either)
-    (joined (SameOutside (at + 1) (length (frame_of body)) a.seen) (SameOutside at 1 b.seen) first second)
+-- a crash at any moment of the calls
+pub appending_image : (at : ℕ) (body old c : List ℕ) → IsClosed old at → at + 6 + length body ≤ length old → images_within (appending at body) old (λ d. d ≡ old) c → IsAppended at body old c
+appending_image at body old c closed fits image =
+    let count = length-frame body in
+    let mid : List ℕ = overwritten (at + 1) (frame_of body) old in
+    let same = overwritten_outside (at + 1) (frame_of body) old (omega (arith, fits, count)) in
+    let stands : StandsAt mid (at + 1) (frame_of body) = part-overwritten (at + 1) (frame_of body) old (omega (arith, fits)) in
+    let below : at + 1 ≤ length mid = omega (arith, same.same_length, fits) in
+    ⊎_elim (behind_the_gate at body old c closed)
+    (λ second. at_the_gate at body old mid c (omega (arith, below)) same stands (settling_last at (open_gate ∷ []) mid c below second))
+    (settling_then (at + 1) (frame_of body) (settling at (open_gate ∷ [])) old c image)
 
--- the same for a frame that was filled
-pub appended_frame : {a b e : DiskState} (at : ℕ) (body frame : List ℕ) → frame ≡ frame_of body → Settled a → at + 1 ≤ a.size → IsClosed a.seen at
-    → LeavesOnly a b (SameOutside (at + 1) (length frame) a.seen) → Settled b → b.seen ≡ overwritten (at + 1) frame a.seen
-    → LeavesOnly b e (SameOutside at 1 b.seen) → LeavesOnly a e (IsAppended at body a.seen)
-appended_frame {a} {b} {e} at body frame same before room closed first settled written second =
-    let within : at + 1 ≤ length a.seen = omega (arith, before.consistent.seen_size, room) in
-    appended at body closed within
-    (subst (λ f. LeavesOnly a b (SameOutside (at + 1) (length f) a.seen)) same first) settled
-    (written ∙ ap (λ f. overwritten (at + 1) f a.seen) same) second
+module _ {D : Type 0} (state : D → DiskState) {a b : D} (at : ℕ) (body : List ℕ) where
+  pub appending_leaves : {whole : Bool} → Makes state (appending at body) whole a b → Settled (state a) → IsClosed (state a).seen at → at + 6 + length body ≤ (state a).size
+      → LeavesOnly (state a) (state b) (IsAppended at body (state a).seen)
+  appending_leaves made settled closed fits =
+      makes_leaves state (IsAppended at body (state a).seen) made settled
+      (λ c. appending_image at body (state a).seen c closed (omega (arith, fits, settled.consistent.seen_size)))
 
--- what is read at the end
-pub written_group : (at : ℕ) (body frame old mid new : List ℕ) → frame ≡ frame_of body → at + 1 ≤ length old
-    → mid ≡ overwritten (at + 1) frame old → new ≡ overwritten at (open_gate ∷ []) mid → new ≡ overwritten at (group_of body) old
-written_group at body frame old mid new same within first second =
-    second ∙ ap (overwritten at (open_gate ∷ [])) first ∙ gate_and_frame at open_gate frame old within ∙ ap (λ f. overwritten at (open_gate ∷ f) old) same
+  pub appending_settled : Makes state (appending at body) true a b → (state a).honest → ((state b).honest → Consistent (state b)) → Settled (state b)
+  appending_settled made honest facts =
+      makes_settled state made (synced_behind (settling (at + 1) (frame_of body)) (settling at (open_gate ∷ [])) (settling_synced at (open_gate ∷ []))) honest facts
+
+  pub appending_seen : Makes state (appending at body) true a b → (state a).honest → at + 1 ≤ length (state a).seen → (state b).seen ≡ overwritten at (group_of body) (state a).seen
+  appending_seen made honest within =
+      makes_seen state made honest
+      ∙ seen_joined (settling (at + 1) (frame_of body)) (settling at (open_gate ∷ [])) (state a).seen
+      ∙ ap (overwritten at (open_gate ∷ [])) (settling_seen (at + 1) (frame_of body) (state a).seen)
+      ∙ gate_and_frame at open_gate (frame_of body) (state a).seen within
+
+pub appending_writes : (at : ℕ) (body : List ℕ) → AreWrites (appending at body) 4 2
+appending_writes at body =
+    writes_joined (settling (at + 1) (frame_of body)) (settling at (open_gate ∷ [])) 2 2 1 1 (settling_writes (at + 1) (frame_of body)) (settling_writes at (open_gate ∷ []))

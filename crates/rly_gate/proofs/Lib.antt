@@ -1,4 +1,5 @@
-pub mod Frames
 pub mod Appending
-pub mod Rereading
+pub mod Durable
+pub mod Frames
 pub mod Holding
+pub mod Rereading

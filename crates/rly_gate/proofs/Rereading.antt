@@ -1,22 +1,64 @@
--- Reads, one after the other.
-use Rattle.std.proofs.Common.{arith, ◌∙◌}
-use Rattle.rly_disk.specs.DiskModel.{DiskState, NothingNew}
-use Rattle.rly_disk.proofs.Composition.{later_again}
+-- Reads of a group, and what follows from reads alone.
+use Rattle.std.proofs.Common.{◌≡◌, ◌≤◌, ◌+◌, ◌++◌, ◌∷◌, [], ◌∙◌, ℕ, Bool, true, false, List, length, nat_le, arith, le-leb, refl, subst}
+use Rattle.std.specs.Prelude.{Option, Some, None, Result, Ok, Err, Vec, if◌then◌else◌}
+use Rattle.rly_disk.specs.DiskModel.{Consistent, DiskState, NothingNew}
+use Rattle.rly_disk.specs.Trace.{DeviceEvent, Makes, OnlyReads, Read, are_reads}
+use Rattle.rly_disk.proofs.Making.{reads_later, reads_new, reads_of, reads_settled}
+use Rattle.rly_disk.proofs.Traces.{makes_front, makes_joined}
+use Rattle.rly_gate.specs.Calls.{group_reads, is_told, length_reads}
 use Rattle.rly_gate.specs.Reading.{OnlyRead}
+use Rattle.rly_gate.specs.declared.read.GroupFault.{GroupFault}
+use Rattle.rly_gate.specs.declared.read.GroupFault.TheVariants.{OutOfMemory, Damaged, Device}
 
-pub nothing_again : {a b e : DiskState} → NothingNew a b → NothingNew b e → NothingNew a e
-nothing_again {a} {b} {e} first second = record {
-  honest = second.honest;
-  seen = second.seen ∙ first.seen;
-  images = λ c image. first.images c (second.images c image);
-  later = omega (arith, first.later, second.later);
-  since = λ t c le left. first.since t c le (second.since t c (omega (arith, le, first.later)) left);
-  keeps = λ t c le left. second.keeps t c (omega (arith, le, first.later)) (first.keeps t c le left);
+-- a disk that was only read
+pub only_read : {D : Type 0} (state : D → DiskState) {a b : D} {whole : Bool} → ((disk : D) → (state disk).honest → Consistent (state disk)) → OnlyReads state whole a b → OnlyRead (state a) (state b)
+only_read state {a} {b} facts only = record {
+  crash = λ honest. reads_new state only honest (facts a honest);
+  settled = λ settled. reads_settled state only settled (facts b);
+  later = reads_later state only;
 }
 
-pub only_again : {a b e : DiskState} → OnlyRead a b → OnlyRead b e → OnlyRead a e
-only_again {a} {b} {e} first second = record {
-  crash = λ honest. let one = first.crash honest in nothing_again one (second.crash one.honest);
-  settled = λ settled. second.settled (first.settled settled);
-  later = later_again first.later second.later;
-}
+are_length_reads : (fits : Bool) (at : ℕ) → are_reads (if fits then Read (at + 1) 4 ∷ [] else []) ≡ true
+are_length_reads true at = refl
+are_length_reads false at = refl
+
+pub length_new : {D : Type 0} (state : D → DiskState) {a b : D} {whole : Bool} (at end : ℕ) → Makes state (length_reads at end) whole a b → (state a).honest → Consistent (state a) → NothingNew (state a) (state b)
+length_new state at end made honest facts = reads_new state (reads_of state (length_reads at end) (are_length_reads (nat_le (at + 6) end) at) made) honest facts
+
+are_group_reads : {A : Type 0} (at end n : ℕ) (result : Result (Option (Vec ℕ A)) GroupFault) → are_reads (group_reads at end n result) ≡ true
+are_group_reads at end n (Ok None) = refl
+are_group_reads at end n (Ok (Some body)) = refl
+are_group_reads at end n (Err Damaged) = are_length_reads (nat_le (at + 6) end) at
+are_group_reads at end n (Err OutOfMemory) = refl
+are_group_reads at end n (Err Device) = refl
+
+module _ {D : Type 0} (state : D → DiskState) {a b : D} where
+  -- what was made is reads
+  pub group_only : {A : Type 0} (at end : ℕ) (result : Result (Option (Vec ℕ A)) GroupFault) → (n : ℕ) × Makes state (group_reads at end n result) (is_told result) a b → OnlyReads state (is_told result) a b
+  group_only at end result made = reads_of state (group_reads at end made.0 result) (are_group_reads at end made.0 result) made.1
+
+  -- the gate is open, and the length behind it was not read, or leaves no place for the group
+  pub group_cut : (A : Type 0) {e : D} (at end : ℕ) (fault : GroupFault) → (fault ≡ OutOfMemory → ⊥) → Makes state (Read at 1 ∷ []) true a b
+      → Makes state (length_reads at end) (is_told {A = Option (Vec ℕ A)} (Err fault)) b e
+      → (n : ℕ) × Makes state (group_reads {A = A} at end n (Err fault)) (is_told {A = Option (Vec ℕ A)} (Err fault)) a e
+  group_cut A at end Damaged told first second = (0, makes_joined state (Read at 1 ∷ []) (length_reads at end) true first second)
+  group_cut A at end OutOfMemory told first second = absurd (told refl)
+  group_cut A {e} at end Device told first second = (0, cut (nat_le (at + 6) end) second)
+    where
+      cut : (fits : Bool) → Makes state (if fits then Read (at + 1) 4 ∷ [] else []) false b e → Makes state (Read at 1 ∷ Read (at + 1) 4 ∷ Read (at + 5) 0 ∷ []) false a e
+      cut true second = makes_front state (Read at 1 ∷ Read (at + 1) 4 ∷ []) (Read (at + 5) 0 ∷ []) (makes_joined state (Read at 1 ∷ []) (Read (at + 1) 4 ∷ []) false first second)
+      cut false second = makes_front state (Read at 1 ∷ []) (Read (at + 1) 4 ∷ Read (at + 5) 0 ∷ []) (makes_joined state (Read at 1 ∷ []) [] false first second)
+
+  -- the gate is open, and the length behind it leaves a place
+  pub group_length_read : {e : D} (at end : ℕ) → at + 6 ≤ end → Makes state (Read at 1 ∷ []) true a b → Makes state (length_reads at end) true b e
+      → Makes state (Read at 1 ∷ Read (at + 1) 4 ∷ []) true a e
+  group_length_read {e} at end fits first second =
+      makes_joined state (Read at 1 ∷ []) (Read (at + 1) 4 ∷ []) true first
+      (subst (λ t. Makes state (if t then Read (at + 1) 4 ∷ [] else []) true b e) (le-leb (at + 6) end fits) second)
+
+  -- and so the body was read, or not
+  pub group_body_read : {e : D} {whole : Bool} (at n : ℕ) → Makes state (Read at 1 ∷ Read (at + 1) 4 ∷ []) true a b → Makes state (Read (at + 1 + 4) n ∷ []) whole b e
+      → Makes state (Read at 1 ∷ Read (at + 1) 4 ∷ Read (at + 5) n ∷ []) whole a e
+  group_body_read {e} {whole} at n first second =
+      makes_joined state (Read at 1 ∷ Read (at + 1) 4 ∷ []) (Read (at + 5) n ∷ []) whole first
+      (subst (λ p. Makes state (Read p n ∷ []) whole b e) (let e : at + 1 + 4 ≡ at + 5 = omega arith in e) second)

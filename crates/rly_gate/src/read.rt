@@ -1,8 +1,9 @@
-ghost use Rattle.std.specs.Prelude.{◌≡◌, ◌≢◌, ◌+◌, ◌<◌, ◌≤◌, ◌↔◌, Err, IfOk, IfSome, IsTrue, OnErr, OnOk, drop, length, take, vec_len};
+ghost use Rattle.std.specs.Prelude.{◌≡◌, ◌≢◌, ◌+◌, ◌<◌, ◌≤◌, ◌↔◌, ◌∷◌, [], ℕ, Err, IfOk, IfSome, IsTrue, OnOk, drop, is_ok, length, take, vec_len};
 ghost use Rattle.byteorder.specs.Endian.{big_bytes};
-ghost use Rattle.rly_disk.specs.DiskModel.{HasFailed};
+ghost use Rattle.rly_disk.specs.Trace.{Makes, Read};
+ghost use Rattle.rly_gate.specs.Calls.{are_told, bytes_reads, group_reads, is_told, length_reads};
 ghost use Rattle.rly_gate.specs.Group.{IsOpen};
-ghost use Rattle.rly_gate.specs.Reading.{HoldsSome, IsReadGroup, OnlyRead, SyncsNothing};
+ghost use Rattle.rly_gate.specs.Reading.{HoldsSome, IsReadGroup};
 ghost use Rattle.rly_gate.specs.HelpersReading.{IsReadLength};
 
 use crate::gate::{FRAME_OVERHEAD, LENGTH_BYTES, OPEN_GATE};
@@ -43,10 +44,7 @@ pub fn read_group<D: Disk>(
     ensures read { (D.state disk.old).honest → IsReadGroup (D.state disk.old).seen at end result }
     ensures within { IfOk result (λ found. IfSome found (λ body. at + 6 + vec_len body ≤ end)) }
     ensures memory { (D.state disk.old).honest → result ≡ Err GroupFault.OutOfMemory → HoldsSome (D.state disk.old).seen at end }
-    ensures only { OnlyRead (D.state disk.old) (D.state disk.new) }
-    ensures unsynced { SyncsNothing (D.state disk.old) (D.state disk.new) }
-    ensures rise { result ≡ Err GroupFault.Device → HasFailed (D.state disk.old) (D.state disk.new) }
-    ensures no_failure { result ≢ Err GroupFault.Device → (D.state disk.new).failures ≡ (D.state disk.old).failures }
+    ensures trace { (n : ℕ) × Makes D.state (group_reads at end n result) (is_told result) disk.old disk.new }
 {
     let Ok(opened) = is_open(disk, at) else {
         return Err(GroupFault::Device);
@@ -69,10 +67,7 @@ fn read_length<D: Disk>(disk: &mut D, at: u64, end: u64) -> Result<usize, GroupF
     requires end { end ≤ (D.state disk.old).size }
     ensures read { (D.state disk.old).honest → IsReadLength (D.state disk.old).seen at end result }
     ensures memory { result ≢ Err GroupFault.OutOfMemory }
-    ensures only { OnlyRead (D.state disk.old) (D.state disk.new) }
-    ensures unsynced { SyncsNothing (D.state disk.old) (D.state disk.new) }
-    ensures rise { result ≡ Err GroupFault.Device → HasFailed (D.state disk.old) (D.state disk.new) }
-    ensures no_failure { result ≢ Err GroupFault.Device → (D.state disk.new).failures ≡ (D.state disk.old).failures }
+    ensures trace { Makes D.state (length_reads at end) (is_told result) disk.old disk.new }
     ensures within { IfOk result (λ n. at + 6 + n ≤ end) }
 {
     let room = end - at - 1;
@@ -101,11 +96,7 @@ fn length_in(field: &[u8; LENGTH_BYTES]) -> u32
 pub fn is_open<D: Disk>(disk: &mut D, at: u64) -> Result<bool, DiskFault>
     requires { at + 1 ≤ (D.state disk.old).size }
     ensures read { (D.state disk.old).honest → IfOk result (λ opened. IsTrue opened ↔ IsOpen (D.state disk.old).seen at) }
-    ensures only { OnlyRead (D.state disk.old) (D.state disk.new) }
-    ensures unsynced { SyncsNothing (D.state disk.old) (D.state disk.new) }
-    ensures rise { OnErr result (HasFailed (D.state disk.old) (D.state disk.new)) }
-    ensures no_failure { OnOk result ((D.state disk.new).failures ≡ (D.state disk.old).failures) }
-    ensures calls { (D.state disk.new).calls ≤ (D.state disk.old).calls + 1 }
+    ensures trace { Makes D.state (Read at 1 ∷ []) (is_ok result) disk.old disk.new }
 {
     let mut gate = [0u8; 1];
     disk.read_at(at, &mut gate)?;
@@ -123,10 +114,7 @@ pub fn read_bytes<D: Disk>(
     ensures read { (D.state disk.old).honest
         → IfOk result (λ bytes. bytes.items ≡ take count (drop place (D.state disk.old).seen)) }
     ensures length { IfOk result (λ bytes. length bytes.items ≡ count) }
-    ensures only { OnlyRead (D.state disk.old) (D.state disk.new) }
-    ensures unsynced { SyncsNothing (D.state disk.old) (D.state disk.new) }
-    ensures rise { result ≡ Err ReadFault.Device → HasFailed (D.state disk.old) (D.state disk.new) }
-    ensures no_failure { result ≢ Err ReadFault.Device → (D.state disk.new).failures ≡ (D.state disk.old).failures }
+    ensures trace { Makes D.state (bytes_reads place count result) (are_told result) disk.old disk.new }
 {
     let Ok(mut bytes) = vec![in alloc; 0u8; count] else {
         return Err(ReadFault::OutOfMemory);
@@ -142,10 +130,7 @@ pub fn fill<D: Disk>(disk: &mut D, place: u64, buffer: &mut [u8]) -> Result<(), 
     requires { place + length buffer.old ≤ (D.state disk.old).size }
     ensures read { (D.state disk.old).honest
         → OnOk result (buffer.new ≡ take (length buffer.old) (drop place (D.state disk.old).seen)) }
-    ensures only { OnlyRead (D.state disk.old) (D.state disk.new) }
-    ensures unsynced { SyncsNothing (D.state disk.old) (D.state disk.new) }
-    ensures rise { OnErr result (HasFailed (D.state disk.old) (D.state disk.new)) }
-    ensures no_failure { OnOk result ((D.state disk.new).failures ≡ (D.state disk.old).failures) }
+    ensures trace { Makes D.state (Read place (length buffer.old) ∷ []) (is_ok result) disk.old disk.new }
 {
     disk.read_at(place, buffer)
 }

@@ -1,5 +1,6 @@
-ghost use Rattle.std.specs.Prelude.{◌≡◌, ◌==◌, ◌+◌, ◌≤◌, length, OnErr, OnOk, if◌then◌else◌};
-ghost use Rattle.rly_disk.specs.DiskModel.{Later, LeavesOnly, HasFailed, SameOutside, Settled, overwritten};
+ghost use Rattle.std.specs.Prelude.{◌+◌, ◌≤◌, length, is_ok};
+ghost use Rattle.rly_disk.specs.Trace.{Makes};
+ghost use Rattle.rly_gate.specs.Calls.{settling};
 
 use rly_disk::{Disk, DiskFault};
 
@@ -7,25 +8,11 @@ use rly_disk::{Disk, DiskFault};
 /// of the call leaves all other bytes as they were; after an `Ok` nothing is pending.
 pub fn settle<D: Disk>(disk: &mut D, at: u64, bytes: &[u8]) -> Result<(), DiskFault>
     requires { at + length bytes.now ≤ (D.state disk.old).size }
-    ensures any_moment { Settled (D.state disk.old)
-        → LeavesOnly (D.state disk.old) (D.state disk.new) (SameOutside at (length bytes.now) (D.state disk.old).seen) }
-    ensures ok { Settled (D.state disk.old) → OnOk result (Settled (D.state disk.new)) }
-
-    // Whatever was pending before is made durable too.
-    ensures durable { (D.state disk.old).honest → OnOk result (Settled (D.state disk.new)) }
-    ensures written { Settled (D.state disk.old)
-        → OnOk result ((D.state disk.new).seen ≡ overwritten at bytes.now (D.state disk.old).seen) }
-    ensures rise { OnErr result (HasFailed (D.state disk.old) (D.state disk.new)) }
-    ensures no_failure { OnOk result ((D.state disk.new).failures ≡ (D.state disk.old).failures) }
-    ensures syncs { (D.state disk.new).syncs ≤ (D.state disk.old).syncs + 1 }
-    ensures synced { OnOk result ((D.state disk.new).syncs ≡ (D.state disk.old).syncs + 1) }
-    ensures calls { (D.state disk.new).calls ≤ (D.state disk.old).calls + 2 }
-    ensures made { OnOk result ((D.state disk.new).calls ≡ (D.state disk.old).calls + (if length bytes.now == 0 then 1 else 2)) }
-    ensures later { Later (D.state disk.old) (D.state disk.new) }
-    ensures no_failed_read { (D.state disk.new).failed_reads ≡ (D.state disk.old).failed_reads }
+    ensures { Makes D.state (settling at bytes.now) (is_ok result) disk.old disk.new }
 {
-    if !bytes.is_empty() {
-        disk.write_at(at, bytes)?;
+    if bytes.is_empty() {
+        return disk.sync();
     }
+    disk.write_at(at, bytes)?;
     disk.sync()
 }

@@ -9,3 +9,4 @@ pub mod Appending
 pub mod Rounding
 pub mod Recovering
 pub mod Refusing
+pub mod Following

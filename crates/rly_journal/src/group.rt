@@ -5,9 +5,9 @@ ghost use Rattle.rly_gate.specs.Group.{IsAppended, IsClosed, body_in, group_of};
 ghost use Rattle.rly_record.specs.Spelling.{HasRecord, IsShort, record_of};
 ghost use Rattle.rly_journal.specs.HelpersGroups.{empty_group, group_body};
 
+use crate::device::append_group;
 use byteorder::{BigEndian, ByteOrder};
 use rly_disk::{Disk, DiskFault};
-use rly_gate::append_group;
 use rly_machine::{Command, Payload};
 use rly_record::write_command;
 use std::alloc::{AllocError, Global};

@@ -16,6 +16,7 @@ ghost use Rattle.rly_journal.specs.Rounds.{refusals};
 ghost use Rattle.rly_journal.specs.Standing.{Stands};
 
 use crate::answering::{answer_calls, make_unsure, refuse_all};
+use crate::device::sync;
 use crate::group::Group;
 use crate::open_fault::OpenFault;
 use crate::recovery::{Recovered, recover};
@@ -328,7 +329,7 @@ fn begin<D: Disk>(alloc: Global, disk: &mut D) -> Result<Begun, OpenFault>
     ensures no_failure { result ≢ Err OpenFault.Device → (D.state disk.new).failures ≡ (D.state disk.old).failures }
     ensures one_sync { SyncsOnce (D.state disk.old) (D.state disk.new) }
 {
-    let Ok(()) = disk.sync() else {
+    let Ok(()) = sync(disk) else {
         return Err(OpenFault::Device);
     };
     match recover(alloc, disk) {

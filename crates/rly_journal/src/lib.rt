@@ -9,6 +9,7 @@
 #![tactic(auto)]
 
 mod answering;
+mod device;
 mod group;
 mod journal;
 mod laws;

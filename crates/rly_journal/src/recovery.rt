@@ -6,15 +6,14 @@ ghost use Rattle.rly_journal.specs.Faults.{IsRefused};
 ghost use Rattle.rly_journal.specs.Log.{IsLogged};
 ghost use Rattle.rly_journal.specs.HelpersJournal.{IsReplayed, IsShaped};
 
+use crate::device::{newest, read_group, read_head, read_header};
 use crate::open_fault::OpenFault;
 use crate::tail::Tail;
 use rly_disk::Disk;
-use rly_gate::{GroupFault, read_group};
+use rly_gate::GroupFault;
 use rly_machine::{Command, Machine, Payload};
 use rly_record::{DecodeFault, read_body};
-use rly_segment::{
-    HeadFault, HeaderFault, NewestFault, newest, read_head, read_header, segment_end, segment_place,
-};
+use rly_segment::{HeadFault, HeaderFault, NewestFault, segment_end, segment_place};
 use std::alloc::Global;
 
 /// The bytes of a group in front of its body: the gate and the body's length.

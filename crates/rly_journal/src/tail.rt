@@ -9,13 +9,14 @@ ghost use Rattle.rly_journal.specs.Log.{IsDurable, IsFull, IsSameHead, offset};
 ghost use Rattle.rly_journal.specs.HelpersJournal.{IsShaped};
 ghost use Rattle.rly_journal.specs.Standing.{Commands, Stands};
 
+use crate::device::open_segment;
 use crate::group::Group;
 use rly_core::Geometry;
 use rly_core::limits::MAX_SEGMENTS;
 use rly_disk::{Disk, DiskFault};
 use rly_machine::{Machine, Payload};
 use rly_reclaim::is_due;
-use rly_segment::{OpeningFault, Target, open_segment, segment_place};
+use rly_segment::{OpeningFault, Target, segment_place};
 use std::alloc::Global;
 
 /// Where the journal ends on its device.

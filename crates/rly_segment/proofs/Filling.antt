@@ -1,28 +1,25 @@
 -- What a new device holds before the header's gate is opened.
-use Rattle.std.proofs.Common.{◌≡◌, ◌≤◌, ◌<◌, ◌+◌, ◌-◌, ◌∙◌, ℕ, List, [], ◌∷◌, length, get_or, take, drop, arith, ap, sym, subst, inl, inr, ⊎_elim}
+use Rattle.std.proofs.Common.{◌≡◌, ◌≤◌, ◌<◌, ◌+◌, ◌++◌, ◌∙◌, ℕ, zero, suc, List, [], ◌∷◌, length, get_or, take, drop, arith, ap, sym, subst, refl, inl, inr, ⊎_elim}
 use Rattle.std.proofs.lemmas.Bool.{cases_lt}
 use Rattle.rly_core.specs.declared.params.Geometry.{Geometry}
-use Rattle.rly_disk.specs.DiskModel.{DiskState, LeavesOnly, SameOutside, Settled, overwritten}
-use Rattle.rly_disk.proofs.Composition.{at_exit}
+use Rattle.rly_disk.specs.DiskModel.{SameOutside, overwritten}
+use Rattle.rly_disk.specs.Trace.{AllWrites, DeviceEvent, seen_at_end}
+use Rattle.rly_disk.proofs.Making.{AreSynced, synced_behind}
 use Rattle.rly_disk.proofs.Overwritten.{overwritten_in, overwritten_outside}
 use Rattle.rly_disk.proofs.Ranges.{part, part-overwritten}
+use Rattle.rly_disk.proofs.TraceRanges.{all_joined, each_all}
+use Rattle.rly_disk.proofs.Traces.{seen_joined}
 use Rattle.rly_gate.proofs.Appending.{gate_opened}
+use Rattle.rly_gate.proofs.Durable.{settling_all, settling_seen, settling_synced}
+use Rattle.rly_gate.specs.Calls.{settling}
 use Rattle.rly_gate.specs.Group.{IsClosed, StandsAt, open_gate}
 use Rattle.rly_segment.specs.Device.{IsGeometry, header_of}
 use Rattle.rly_segment.specs.Heads.{NoneIsOpen, segment_place}
 use Rattle.rly_segment.specs.HelpersWriting.{IsUnopened}
-use Rattle.rly_segment.proofs.Gates.{in_a_row, keeps_closed, stays_closed}
+use Rattle.rly_segment.specs.Calls.{closing_gates, filling}
+use Rattle.rly_segment.proofs.Gates.{stays_closed, zero_closes}
+use Rattle.rly_segment.proofs.HeaderFields.{length-header}
 use Rattle.rly_segment.proofs.Segments.{segment_behind, segment_within}
-
--- the header's gate is closed at the end of a row of calls that leave it closed
-pub closed_then : {a b : DiskState} → LeavesOnly a b (λ image. IsClosed image 0) → Settled b → IsClosed b.seen 0
-closed_then {b = b} row settled = at_exit (λ image. IsClosed image 0) row settled.consistent b.seen settled.consistent.seen_is_image
-
--- one settle more, behind it
-pub row_next : {a b e : DiskState} (at n : ℕ) → 0 < at → Settled b → LeavesOnly a b (λ image. IsClosed image 0)
-    → LeavesOnly b e (SameOutside at n b.seen) → LeavesOnly a e (λ image. IsClosed image 0)
-row_next at n behind settled row next =
-    in_a_row (λ image. IsClosed image 0) row (keeps_closed 0 at n (inl behind) (closed_then row settled) next)
 
 -- one gate more is closed
 pub closed_next : (g : Geometry) (segment size : ℕ) (old new : List ℕ) → IsGeometry g size → segment < g.segments → 1 ≤ g.length → length old ≡ size
@@ -33,18 +30,10 @@ closed_next g segment size old new geometry there long count written so_far t be
     stays_closed (segment_place g t) (segment_place g segment) 1 old (overwritten (segment_place g segment) (0 ∷ []) old) (inl (omega (arith, segment_behind g t segment before)))
     (overwritten_outside (segment_place g segment) (0 ∷ []) old (omega (arith, segment_within g segment size geometry there)))
     (so_far t before) (sym (ap (λ l. get_or l (segment_place g t) 0) written) ∙ opened))
-    (λ (last : segment ≤ t). let is : t ≡ segment = omega arith in λ opened. open_is_not_0
-    (sym (ap (λ l. get_or l (segment_place g segment) 0) written ∙ at_place (segment_place g segment) old (omega (arith, segment_within g segment size geometry there)))
-    ∙ ap (λ k. get_or new (segment_place g k) 0) (sym is) ∙ opened))
+    (λ (last : segment ≤ t). let is : t ≡ segment = omega arith in λ opened.
+    zero_closes (segment_place g segment) old (omega (arith, segment_within g segment size geometry there))
+    (sym (ap (λ l. get_or l (segment_place g segment) 0) written) ∙ ap (λ k. get_or new (segment_place g k) 0) (sym is) ∙ opened))
     (cases_lt t segment)
-  where
-    open_is_not_0 : 0 ≡ open_gate → ⊥
-    open_is_not_0 same = omega (arith, same)
-
-    at_place : (place : ℕ) (bytes : List ℕ) → place + 1 ≤ length bytes → get_or (overwritten place (0 ∷ []) bytes) place 0 ≡ 0
-    at_place place bytes within =
-        overwritten_in place (0 ∷ []) bytes within place (omega arith) (omega arith)
-        ∙ ap (λ k. get_or (0 ∷ []) k 0) (let e : place - place ≡ 0 = omega arith in e)
 
 -- all but the header's gate
 pub filled : (g : Geometry) (size : ℕ) (head fields first second third last : List ℕ) → IsGeometry g size → 1 + length head ≤ g.length → length first ≡ size
@@ -94,3 +83,69 @@ filled g size head fields first second third last geometry room count is_header 
     head_third : StandsAt third 65 head
     head_third = part 1 50 second_third 65 (length head) (inr (omega arith))
         ∙ ap (λ l. take (length head) (drop 65 l)) is_second ∙ part-overwritten 65 head first (omega (arith, long, room, count))
+
+-- ---- the calls that fill it
+
+module _ (g : Geometry) (size : ℕ) (geometry : IsGeometry g size) where
+  -- the gates of the first so many segments are closed
+  pub gates_closed : (old : List ℕ) → length old ≡ size → (n : ℕ) → n ≤ g.segments
+      → ((t : ℕ) → t < n → IsClosed (seen_at_end (closing_gates g n) old) (segment_place g t)) × (length (seen_at_end (closing_gates g n) old) ≡ size)
+  gates_closed old count zero le = (λ t below. absurd (omega (arith, below)), count)
+  gates_closed old count (suc n) le =
+      let place : ℕ = segment_place g n in
+      let there : n < g.segments = omega (arith, le) in
+      let before = gates_closed old count n (omega (arith, le)) in
+      let first : List ℕ = seen_at_end (closing_gates g n) old in
+      let written = seen_joined (closing_gates g n) (settling place (0 ∷ [])) old in
+      let room = segment_within g n size geometry there in
+      let long : 1 ≤ g.length = omega (arith, geometry.fits) in (
+        λ t below. closed_next g n size first (seen_at_end (closing_gates g (suc n)) old) geometry there long before.1 written before.0 t (omega (arith, below)),
+        ap length written ∙ (overwritten_outside place (0 ∷ []) first (omega (arith, before.1, room, long))).same_length ∙ before.1,
+      )
+
+  module _ (head old : List ℕ) (room : 1 + length head ≤ g.length) (count : length old ≡ size) where
+    filling_seen : seen_at_end (filling g head) old ≡ overwritten 64 (open_gate ∷ []) (overwritten 1 (header_of g) (overwritten 65 head (seen_at_end (closing_gates g g.segments) old)))
+    filling_seen =
+        let first : List ℕ = seen_at_end (closing_gates g g.segments) old in
+        let last : List DeviceEvent = settling 64 (open_gate ∷ []) in
+        seen_joined (closing_gates g g.segments) (settling 65 head ++ (settling 1 (header_of g) ++ last)) old
+        ∙ seen_joined (settling 65 head) (settling 1 (header_of g) ++ last) first
+        ∙ ap (seen_at_end (settling 1 (header_of g) ++ last)) (settling_seen 65 head first)
+        ∙ seen_joined (settling 1 (header_of g)) last (overwritten 65 head first)
+        ∙ ap (seen_at_end last) (settling_seen 1 (header_of g) (overwritten 65 head first))
+
+    pub unopened : IsUnopened g head (seen_at_end (filling g head) old)
+    unopened =
+        let first : List ℕ = seen_at_end (closing_gates g g.segments) old in
+        let closed = gates_closed old count g.segments (omega arith) in
+        filled g size head (header_of g) first (overwritten 65 head first) (overwritten 1 (header_of g) (overwritten 65 head first)) (seen_at_end (filling g head) old)
+        geometry room closed.1 refl (length-header g) closed.0 refl refl filling_seen
+
+    pub filling_size : length (seen_at_end (filling g head) old) ≡ size
+    filling_size =
+        let first : List ℕ = seen_at_end (closing_gates g g.segments) old in
+        let second : List ℕ = overwritten 65 head first in
+        let third : List ℕ = overwritten 1 (header_of g) second in
+        let long : 64 + g.length ≤ size = omega (arith, segment_within g 0 size geometry (omega (arith, geometry.segments))) in
+        let closed = gates_closed old count g.segments (omega arith) in
+        let one = (overwritten_outside 65 head first (omega (arith, long, room, closed.1))).same_length in
+        let two = (overwritten_outside 1 (header_of g) second (omega (arith, long, one, closed.1, length-header g))).same_length in
+        let three = (overwritten_outside 64 (open_gate ∷ []) third (omega (arith, long, room, one, two, closed.1))).same_length in
+        ap length filling_seen ∙ three ∙ two ∙ one ∙ closed.1
+
+-- where it writes
+pub filling_all : (IsRange : ℕ → ℕ → Type 0) (g : Geometry) (head : List ℕ) → ((t : ℕ) → t < g.segments → IsRange (segment_place g t) 1)
+    → IsRange 65 (length head) → IsRange 1 50 → IsRange 64 1 → AllWrites IsRange (filling g head)
+filling_all IsRange g head gates first fields gate =
+    let header = subst (IsRange 1) (sym (length-header g)) fields in
+    all_joined IsRange (closing_gates g g.segments) (settling 65 head ++ (settling 1 (header_of g) ++ settling 64 (open_gate ∷ [])))
+    (each_all IsRange (λ t. settling (segment_place g t) (0 ∷ [])) g.segments (λ t below. (gates t below, tt)))
+    (all_joined IsRange (settling 65 head) (settling 1 (header_of g) ++ settling 64 (open_gate ∷ [])) (settling_all IsRange 65 head first)
+    (all_joined IsRange (settling 1 (header_of g)) (settling 64 (open_gate ∷ [])) (settling_all IsRange 1 (header_of g) header) (gate, tt)))
+
+-- it leaves nothing pending
+pub filling_synced : (g : Geometry) (head : List ℕ) → AreSynced (filling g head)
+filling_synced g head =
+    synced_behind (closing_gates g g.segments) (settling 65 head ++ (settling 1 (header_of g) ++ settling 64 (open_gate ∷ [])))
+    (synced_behind (settling 65 head) (settling 1 (header_of g) ++ settling 64 (open_gate ∷ []))
+    (synced_behind (settling 1 (header_of g)) (settling 64 (open_gate ∷ [])) (settling_synced 64 (open_gate ∷ []))))

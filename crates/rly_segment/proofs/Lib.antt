@@ -10,4 +10,4 @@ pub mod HeaderFields
 pub mod Replacing
 pub mod Segments
 pub mod Standing
-pub mod Unsynced
+pub mod Looking

@@ -1,17 +1,30 @@
 -- What a crash leaves while bytes behind a gate are written.
-use Rattle.std.proofs.Common.{◌≡◌, ◌⊎◌, ◌↔◌, ◌≤◌, ◌<◌, ◌+◌, ◌++◌, Bool, IsTrue, ◌∙◌, ℕ, List, [], ◌∷◌, length, get_or, take, drop, arith, ap, sym, subst, inl, inr, ⊎_elim}
-use Rattle.std.proofs.lemmas.Bool.{cases_eq}
-use Rattle.rly_disk.specs.DiskModel.{DiskState, LeavesOnly, SameOutside, Settled, overwritten}
-use Rattle.rly_disk.proofs.Composition.{at_exit, joined, weaker}
+use Rattle.std.proofs.Common.{◌≡◌, ◌⊎◌, ◌↔◌, ◌≤◌, ◌<◌, ◌+◌, ◌++◌, Bool, true, false, IsTrue, ◌∙◌, ℕ, List, [], ◌∷◌, length, get_or, take, drop, arith, ap, refl, sym, subst, inl, inr, ⊎_elim}
+use Rattle.std.specs.Prelude.{Result, Ok, Err, OnOk}
+use Rattle.std.proofs.lemmas.Bool.{cases_eq, cases_lt, false≢true}
+use Rattle.std.proofs.lemmas.List.{ext_get_or}
+use Rattle.rly_disk.specs.DiskModel.{Consistent, DiskState, HasFailed, LeavesOnly, SameOutside, Settled, overwritten}
+use Rattle.rly_disk.specs.Trace.{DeviceEvent, Makes, count_of, images_within, is_sync_call, seen_at_end}
+use Rattle.rly_disk.proofs.Making.{AreSynced, is_read_call, makes_failed, makes_leaves, makes_seen, makes_settled, synced_behind}
+use Rattle.rly_disk.proofs.Overwritten.{overwritten_outside}
 use Rattle.rly_disk.proofs.Ranges.{behind, front, part-overwritten, same_outside_again, wider}
+use Rattle.rly_disk.proofs.Traces.{seen_joined}
 use Rattle.rly_gate.proofs.Appending.{gate_opened}
+use Rattle.rly_gate.proofs.Durable.{AreWrites, settling_last, settling_seen, settling_synced, settling_then, settling_writes, writes_joined}
 use Rattle.rly_gate.proofs.Frames.{gate_and_frame}
+use Rattle.rly_gate.specs.Calls.{settling}
 use Rattle.rly_gate.specs.Group.{IsClosed, IsOpen, StandsAt, open_gate}
 use Rattle.rly_core.specs.declared.params.Geometry.{Geometry}
 use Rattle.rly_machine.specs.State.{State}
-use Rattle.rly_segment.specs.Heads.{IsOpening, generation_in, head_of, segment_place}
+use Rattle.rly_segment.specs.Calls.{closing, opening_calls, opens, replacing}
+use Rattle.rly_segment.specs.declared.opening.OpeningFault.{OpeningFault}
+use Rattle.rly_segment.specs.declared.opening.OpeningFault.TheVariants.{OutOfMemory, Device}
+use Rattle.rly_segment.specs.Device.{IsGeometry}
+use Rattle.rly_segment.specs.Heads.{IsHead, IsOpening, generation_in, head_of, opened_head, segment_place}
 use Rattle.rly_segment.specs.HelpersWriting.{IsClosing, IsReplacing}
-use Rattle.rly_segment.proofs.Gates.{stays_closed}
+use Rattle.rly_segment.proofs.Gates.{stays_closed, zero_closes}
+use Rattle.rly_segment.proofs.HeadWriting.{head_room}
+use Rattle.rly_segment.proofs.Segments.{segment_within}
 
 module _ (place : ℕ) (bytes old : List ℕ) where
   -- while the gate is closed
@@ -42,28 +55,75 @@ module _ (place : ℕ) (bytes old : List ℕ) where
     ];
   }
 
-module _ {a b e : DiskState} (place : ℕ) (bytes : List ℕ) (settled : Settled b) (same : SameOutside place 1 a.seen b.seen) (closed : IsClosed b.seen place)
-    (first : LeavesOnly a b (IsClosing place a.seen)) (second : LeavesOnly b e (SameOutside (place + 1) (length bytes) b.seen)) where
-  -- a crash within the first two settles
-  pub replacing_half : LeavesOnly a e (IsReplacing place bytes a.seen)
-  replacing_half =
-      weaker (λ c. IsClosing place a.seen c ⊎ SameOutside (place + 1) (length bytes) b.seen c) (IsReplacing place bytes a.seen)
-      (λ c either. ⊎_elim (at_first place bytes a.seen c) (at_second place bytes a.seen b.seen c same closed) either)
-      (joined (IsClosing place a.seen) (SameOutside (place + 1) (length bytes) b.seen) first second)
+-- ---- the closing of a gate
 
-  -- a crash within all three
-  pub replacing : {f : DiskState} → Settled e → e.seen ≡ overwritten (place + 1) bytes b.seen → place + 1 + length bytes ≤ b.size
-      → LeavesOnly e f (SameOutside place 1 e.seen) → LeavesOnly a f (IsReplacing place bytes a.seen)
-  replacing {f} settled_then written room third =
-      let behind = at_exit (SameOutside (place + 1) (length bytes) b.seen) second settled_then.consistent e.seen settled_then.consistent.seen_is_image in
-      let long = settled.consistent.seen_size in
-      let within : place < length e.seen = omega (arith, behind.same_length, long) in
-      let below : place + 1 ≤ length b.seen = omega (arith, long) in
-      let stands : StandsAt e.seen (place + 1) bytes = ap (λ l. take (length bytes) (drop (place + 1) l)) written ∙ part-overwritten (place + 1) bytes b.seen below in
-      let outside = (at_second place bytes a.seen b.seen e.seen same closed behind).outside in
-      weaker (λ c. IsReplacing place bytes a.seen c ⊎ SameOutside place 1 e.seen c) (IsReplacing place bytes a.seen)
-      (λ c either. ⊎_elim (λ so_far. so_far) (at_third place bytes a.seen e.seen c within outside stands) either)
-      (joined (IsReplacing place bytes a.seen) (SameOutside place 1 e.seen) replacing_half third)
+kept : (place : ℕ) (old c : List ℕ) → c ≡ old → IsClosing place old c
+kept place old c is = record { outside = subst (SameOutside place 1 old) (sym is) (record { same_length = refl; each = λ i out. refl }); gate = λ opened. is }
+
+pub closing_same : (place : ℕ) (closed : Bool) (old : List ℕ) → place + 1 ≤ length old → SameOutside place 1 old (seen_at_end (closing place closed) old)
+closing_same place true old within = record { same_length = refl; each = λ i out. refl }
+closing_same place false old within = overwritten_outside place (0 ∷ []) old within
+
+pub closing_closed : (place : ℕ) (closed : Bool) (old : List ℕ) → place + 1 ≤ length old → (IsTrue closed ↔ IsClosed old place) → IsClosed (seen_at_end (closing place closed) old) place
+closing_closed place true old within told = told.0 refl
+closing_closed place false old within told = zero_closes place old within
+
+-- where it is open in a list and in another that is the same beside it, they are one
+opened_again : (place : ℕ) (old image : List ℕ) → IsOpen old place → SameOutside place 1 old image → IsOpen image place → image ≡ old
+opened_again place old image was same opened =
+    ext_get_or 0 image old same.same_length
+    (λ i h. ⊎_elim
+    (λ (low : i < place). same.each i (inl low))
+    (λ (high : place ≤ i). ⊎_elim
+    (λ (is : i < place + 1). let at : i ≡ place = omega (arith, high, is) in ap (λ k. get_or image k 0) at ∙ opened ∙ sym was ∙ ap (λ k. get_or old k 0) (sym at))
+    (λ (past : place + 1 ≤ i). same.each i (inr past))
+    (cases_lt i (place + 1)))
+    (cases_lt i place))
+
+was_open : (place : ℕ) (old : List ℕ) → (IsTrue false ↔ IsClosed old place) → IsOpen old place
+was_open place old told = elim (cases_eq (get_or old place 0) open_gate) [
+  | inl opened ↦ opened
+  | inr closed ↦ absurd (false≢true (told.1 closed))
+]
+
+-- a crash while a gate is closed, or in what is made after it
+pub closing_then : (place : ℕ) (closed : Bool) (rest : List DeviceEvent) (old c : List ℕ) → (IsTrue closed ↔ IsClosed old place)
+    → images_within (closing place closed ++ rest) old (λ d. d ≡ old) c
+    → IsClosing place old c ⊎ images_within rest (seen_at_end (closing place closed) old) (λ d. d ≡ seen_at_end (closing place closed) old) c
+closing_then place true rest old c told image = ⊎_elim (λ now. inl (kept place old c now)) (λ later. inr later) image
+closing_then place false rest old c told image = ⊎_elim
+    (λ now. inl (kept place old c now))
+    (λ later. ⊎_elim
+    (λ torn.
+    let same : SameOutside place 1 old c = subst (λ d. SameOutside place 1 d c) torn.1 torn.2 in
+    inl (record { outside = same; gate = opened_again place old c (was_open place old told) same }))
+    (λ then. inr then)
+    later)
+    image
+
+-- ---- bytes behind a gate
+
+pub replacing_image : (place : ℕ) (closed : Bool) (behind old c : List ℕ) → place + 1 + length behind ≤ length old → (IsTrue closed ↔ IsClosed old place)
+    → images_within (replacing place closed behind) old (λ d. d ≡ old) c → IsReplacing place behind old c
+replacing_image place closed behind old c fits told image =
+    let mid : List ℕ = seen_at_end (closing place closed) old in
+    let then : List ℕ = overwritten (place + 1) behind mid in
+    let same = closing_same place closed old (omega (arith, fits)) in
+    let shut = closing_closed place closed old (omega (arith, fits)) told in
+    let after = overwritten_outside (place + 1) behind mid (omega (arith, fits, same.same_length)) in
+    let below : place + 1 ≤ length then = omega (arith, fits, same.same_length, after.same_length) in
+    let stands : StandsAt then (place + 1) behind = part-overwritten (place + 1) behind mid (omega (arith, fits, same.same_length)) in
+    let outside = (at_second place behind old mid then same shut after).outside in
+    ⊎_elim (at_first place behind old c)
+    (λ second. ⊎_elim (at_second place behind old mid c same shut)
+    (λ third. at_third place behind old then c (omega (arith, below)) outside stands (settling_last place (open_gate ∷ []) then c below third))
+    (settling_then (place + 1) behind (settling place (open_gate ∷ [])) mid c second))
+    (closing_then place closed (settling (place + 1) behind ++ settling place (open_gate ∷ [])) old c told image)
+
+pub replacing_synced : (place : ℕ) (closed : Bool) (behind : List ℕ) → AreSynced (replacing place closed behind)
+replacing_synced place closed behind =
+    synced_behind (closing place closed) (settling (place + 1) behind ++ settling place (open_gate ∷ []))
+    (synced_behind (settling (place + 1) behind) (settling place (open_gate ∷ [])) (settling_synced place (open_gate ∷ [])))
 
 -- what is read at the end
 pub replaced : (place : ℕ) (bytes old mid then new : List ℕ) → place + 1 ≤ length old → SameOutside place 1 old mid
@@ -86,11 +146,80 @@ opening g segment generation s bytes old image is room replacing = record {
       replacing.whole;
 }
 
-pub opening_leaves : {a b : DiskState} (g : Geometry) (segment generation : ℕ) (s : State (List ℕ)) (bytes : List ℕ) (place : ℕ) (closed : Bool)
-    → place ≡ segment_place g segment → bytes ≡ head_of generation s ++ 0 ∷ [] → 1 + length bytes ≤ g.length
-    → (Settled a → (IsTrue closed ↔ IsClosed a.seen place) → LeavesOnly a b (IsReplacing place bytes a.seen))
-    → Settled a → (IsTrue closed ↔ IsClosed a.seen (segment_place g segment)) → LeavesOnly a b (IsOpening g segment generation s a.seen)
-opening_leaves {a} {b} g segment generation s bytes place closed is_place is room leaves settled is_closed =
-    weaker (IsReplacing (segment_place g segment) bytes a.seen) (IsOpening g segment generation s a.seen) (λ c. opening g segment generation s bytes a.seen c is room)
-    (subst (λ (p : ℕ). LeavesOnly a b (IsReplacing p bytes a.seen)) is_place
-    (leaves settled (subst (λ (p : ℕ). IsTrue closed ↔ IsClosed a.seen p) (sym is_place) is_closed)))
+module _ {D : Type 0} (state : D → DiskState) {a b : D} (g : Geometry) (segment generation : ℕ) (s : State (List ℕ)) (closed : Bool) where
+  pub opening_leaves : {whole : Bool} → IsGeometry g (state a).size → segment < g.segments → IsHead g segment generation s → (IsTrue closed ↔ IsClosed (state a).seen (segment_place g segment))
+      → Settled (state a) → Makes state (replacing (segment_place g segment) closed (head_of generation s ++ 0 ∷ [])) whole a b
+      → LeavesOnly (state a) (state b) (IsOpening g segment generation s (state a).seen)
+  opening_leaves geometry there head told settled made =
+      let room = head_room g segment generation s (head_of generation s ++ 0 ∷ []) head refl in
+      let fits : segment_place g segment + 1 + length (head_of generation s ++ 0 ∷ []) ≤ length (state a).seen = omega (arith, segment_within g segment (state a).size geometry there, room, settled.consistent.seen_size) in
+      makes_leaves state (IsOpening g segment generation s (state a).seen) made settled
+      (λ c image. opening g segment generation s (head_of generation s ++ 0 ∷ []) (state a).seen c refl room
+      (replacing_image (segment_place g segment) closed (head_of generation s ++ 0 ∷ []) (state a).seen c fits told image))
+
+  pub opening_settled : Makes state (replacing (segment_place g segment) closed (head_of generation s ++ 0 ∷ [])) true a b → (state a).honest → ((state b).honest → Consistent (state b)) → Settled (state b)
+  opening_settled made honest facts = makes_settled state made (replacing_synced (segment_place g segment) closed (head_of generation s ++ 0 ∷ [])) honest facts
+
+  pub opening_seen : Makes state (replacing (segment_place g segment) closed (head_of generation s ++ 0 ∷ [])) true a b → (state a).honest → segment_place g segment + 1 ≤ length (state a).seen
+      → (state b).seen ≡ overwritten (segment_place g segment) (opened_head generation s) (state a).seen
+  opening_seen made honest within =
+      let place : ℕ = segment_place g segment in
+      let behind : List ℕ = head_of generation s ++ 0 ∷ [] in
+      let old : List ℕ = (state a).seen in
+      let mid : List ℕ = seen_at_end (closing (segment_place g segment) closed) (state a).seen in
+      replaced place behind old mid (overwritten (place + 1) behind mid) (state b).seen within (closing_same place closed old within) refl
+      (makes_seen state made honest
+      ∙ seen_joined (closing place closed) (settling (place + 1) behind ++ settling place (open_gate ∷ [])) old
+      ∙ seen_joined (settling (place + 1) behind) (settling place (open_gate ∷ [])) mid
+      ∙ ap (overwritten place (open_gate ∷ [])) (settling_seen (place + 1) behind mid))
+
+-- ---- where it may be that the memory was refused
+
+closing_writes : (place : ℕ) (closed : Bool) → AreWrites (closing place closed) 2 1
+closing_writes place true = record { most_calls = omega arith; all_syncs = omega arith; sound = omega arith; no_read = omega arith }
+closing_writes place false = record { most_calls = omega arith; all_syncs = omega arith; sound = omega arith; no_read = omega arith }
+
+pub replacing_writes : (place : ℕ) (closed : Bool) (behind : List ℕ) → AreWrites (replacing place closed behind) 6 3
+replacing_writes place closed behind =
+    writes_joined (closing place closed) (settling (place + 1) behind ++ settling place (open_gate ∷ [])) 2 4 1 2 (closing_writes place closed)
+    (writes_joined (settling (place + 1) behind) (settling place (open_gate ∷ [])) 2 2 1 1 (settling_writes (place + 1) behind) (settling_writes place (open_gate ∷ [])))
+
+module _ {A D : Type 0} (state : D → DiskState) {a b : D} (calls : List DeviceEvent) where
+  pub opening_made : (result : Result A OpeningFault) → Makes state (opening_calls result calls) (opens result) a b → OnOk result (Makes state calls true a b)
+  opening_made (Ok gate) made = made
+  opening_made (Err fault) made = tt
+
+  pub opening_none : (result : Result A OpeningFault) → result ≡ Err OutOfMemory → Makes state (opening_calls result calls) (opens result) a b → b ≡ a
+  opening_none result is made =
+      let none : Makes state [] true a b = subst (λ (r : Result A OpeningFault). Makes state (opening_calls r calls) (opens r) a b) is made in none.untouched none.made
+
+  pub opening_failed : (result : Result A OpeningFault) → result ≡ Err Device → Makes state (opening_calls result calls) (opens result) a b → HasFailed (state a) (state b)
+  opening_failed result is made =
+      let cut : Makes state calls false a b = subst (λ (r : Result A OpeningFault). Makes state (opening_calls r calls) (opens r) a b) is made in makes_failed state cut
+
+-- the calls are those of the opening, or none
+opening_or_none : {A : Type 0} (P : List DeviceEvent → Type 0) (result : Result A OpeningFault) (calls : List DeviceEvent) → P calls → P [] → P (opening_calls result calls)
+opening_or_none P (Ok gate) calls all none = all
+opening_or_none P (Err OutOfMemory) calls all none = none
+opening_or_none P (Err Device) calls all none = all
+
+pub opening_most : {A : Type 0} (result : Result A OpeningFault) (place : ℕ) (closed : Bool) (behind : List ℕ)
+    → (length (opening_calls result (replacing place closed behind)) ≤ 6) × (count_of is_sync_call (opening_calls result (replacing place closed behind)) ≤ 3)
+    × (count_of is_read_call (opening_calls result (replacing place closed behind)) ≡ 0)
+opening_most result place closed behind =
+    let writes = replacing_writes place closed behind in
+    opening_or_none (λ calls. (length calls ≤ 6) × (count_of is_sync_call calls ≤ 3) × (count_of is_read_call calls ≡ 0)) result (replacing place closed behind)
+    (writes.most_calls, omega (arith, writes.all_syncs), writes.no_read) (omega arith, omega arith, refl)
+
+-- and a crash at any moment
+pub opening_any : {A D : Type 0} (state : D → DiskState) {a b : D} (g : Geometry) (segment generation : ℕ) (s : State (List ℕ)) (closed : Bool) (result : Result A OpeningFault)
+    → IsGeometry g (state a).size → segment < g.segments → IsHead g segment generation s → (IsTrue closed ↔ IsClosed (state a).seen (segment_place g segment))
+    → Settled (state a) → Makes state (opening_calls result (replacing (segment_place g segment) closed (head_of generation s ++ 0 ∷ []))) (opens result) a b
+    → LeavesOnly (state a) (state b) (IsOpening g segment generation s (state a).seen)
+opening_any state g segment generation s closed (Ok gate) geometry there head told settled made = opening_leaves state g segment generation s closed geometry there head told settled made
+opening_any state g segment generation s closed (Err Device) geometry there head told settled made = opening_leaves state g segment generation s closed geometry there head told settled made
+opening_any state {a} g segment generation s closed (Err OutOfMemory) geometry there head told settled made =
+    makes_leaves state (IsOpening g segment generation s (state a).seen) made settled (λ c is. record {
+      outside = subst (SameOutside (segment_place g segment) g.length (state a).seen) (sym is) (record { same_length = refl; each = λ i out. refl });
+      whole = inl (λ opened. (subst (λ (l : List ℕ). IsOpen l (segment_place g segment)) is opened, ap (λ (l : List ℕ). generation_in l g segment) is));
+    })

@@ -1,4 +1,5 @@
 pub mod Answers
+pub mod Calls
 pub mod Device
 pub mod Formatted
 pub mod Heads

@@ -1,12 +1,14 @@
-ghost use Rattle.std.specs.Prelude.{◌^◌, ◌≡◌, ◌+◌, ◌<◌, ◌≤◌, ◌↔◌, ◌∷◌, ◌++◌, [], ℕ, Err, IfOk, IsTrue, OnErr, OnOk, length};
-ghost use Rattle.rly_disk.specs.DiskModel.{Later, LeavesOnly, HasFailed, Settled};
+ghost use Rattle.std.specs.Prelude.{◌^◌, ◌≡◌, ◌+◌, ◌<◌, ◌≤◌, ◌↔◌, ◌∷◌, ◌++◌, [], Bool, Err, IfOk, IsTrue, OnOk, is_ok, length};
+ghost use Rattle.rly_disk.specs.DiskModel.{LeavesOnly, Settled};
+ghost use Rattle.rly_disk.specs.Trace.{Makes};
 ghost use Rattle.rly_gate.specs.Group.{IsClosed};
 ghost use Rattle.rly_core.specs.Limits.{IsWithinLimits};
 ghost use Rattle.rly_machine.specs.State.{new_state};
+ghost use Rattle.rly_segment.specs.Calls.{closing_gates, filling, format_calls, formats, formatting, new_head};
 ghost use Rattle.rly_segment.specs.Device.{IsGeometry, header_of};
 ghost use Rattle.rly_segment.specs.Formatted.{IsFormatted, IsFormatting, IsSameBeside};
-ghost use Rattle.rly_segment.specs.Heads.{NoneIsOpen, head_of, segment_place};
-ghost use Rattle.rly_segment.specs.HelpersWriting.{IsUnopened, limits_of, shape_of};
+ghost use Rattle.rly_segment.specs.Heads.{head_of};
+ghost use Rattle.rly_segment.specs.HelpersWriting.{limits_of, shape_of};
 
 use crate::head_bytes::head_bytes;
 use crate::header::{DEVICE_MARK, is_geometry};
@@ -48,14 +50,8 @@ pub fn format<D: Disk>(alloc: Global, disk: &mut D, geometry: &Geometry) -> Resu
     ensures beside { Settled (D.state disk.old) → LeavesOnly (D.state disk.old) (D.state disk.new) (IsSameBeside geometry.now (D.state disk.old).seen) }
     ensures ok { Settled (D.state disk.old) → OnOk result (Settled (D.state disk.new)) }
     ensures formatted { Settled (D.state disk.old) → OnOk result (IsFormatted geometry.now (D.state disk.new).seen) }
-    ensures untouched { result ≡ Err FormatFault.BadGeometry → disk.new ≡ disk.old }
-    ensures memory { result ≡ Err FormatFault.OutOfMemory → disk.new ≡ disk.old }
-    ensures rise { result ≡ Err FormatFault.Device → HasFailed (D.state disk.old) (D.state disk.new) }
-    ensures no_failure { OnOk result ((D.state disk.new).failures ≡ (D.state disk.old).failures) }
-    ensures syncs { (D.state disk.new).syncs ≤ (D.state disk.old).syncs + 7 }
-    ensures synced { OnOk result ((D.state disk.new).syncs ≡ (D.state disk.old).syncs + 7) }
-    ensures calls { (D.state disk.new).calls ≤ (D.state disk.old).calls + 15 }
-    ensures later { Later (D.state disk.old) (D.state disk.new) }
+    ensures trace { (closed : Bool) × ((D.state disk.old).honest → (IsTrue closed ↔ IsClosed (D.state disk.old).seen 0))
+        × Makes D.state (format_calls result (formatting geometry.now closed (new_head geometry.now))) (formats result) disk.old disk.new }
 {
     if !is_geometry(geometry, disk.size()) {
         return Err(FormatFault::BadGeometry);
@@ -82,17 +78,8 @@ fn new_head(alloc: Global, geometry: &Geometry) -> Result<Vec<u8>, AllocError>
 fn write_device<D: Disk>(disk: &mut D, geometry: &Geometry, head: &[u8]) -> Result<(), DiskFault>
     requires geometry { IsGeometry geometry.now (D.state disk.old).size }
     requires head { head.now ≡ head_of 1 (new_state geometry.now.params) ++ 0 ∷ [] }
-    ensures any_moment { Settled (D.state disk.old)
-        → LeavesOnly (D.state disk.old) (D.state disk.new) (IsFormatting geometry.now (D.state disk.old).seen) }
-    ensures beside { Settled (D.state disk.old) → LeavesOnly (D.state disk.old) (D.state disk.new) (IsSameBeside geometry.now (D.state disk.old).seen) }
-    ensures ok { Settled (D.state disk.old) → OnOk result (Settled (D.state disk.new)) }
-    ensures formatted { Settled (D.state disk.old) → OnOk result (IsFormatted geometry.now (D.state disk.new).seen) }
-    ensures rise { OnErr result (HasFailed (D.state disk.old) (D.state disk.new)) }
-    ensures no_failure { OnOk result ((D.state disk.new).failures ≡ (D.state disk.old).failures) }
-    ensures syncs { (D.state disk.new).syncs ≤ (D.state disk.old).syncs + 7 }
-    ensures synced { OnOk result ((D.state disk.new).syncs ≡ (D.state disk.old).syncs + 7) }
-    ensures calls { (D.state disk.new).calls ≤ (D.state disk.old).calls + 15 }
-    ensures later { Later (D.state disk.old) (D.state disk.new) }
+    ensures { (closed : Bool) × ((D.state disk.old).honest → (IsTrue closed ↔ IsClosed (D.state disk.old).seen 0))
+        × Makes D.state (formatting geometry.now closed head.now) (is_ok result) disk.old disk.new }
 {
     let opened = is_open(disk, 0)?;
     close_gate(disk, 0, !opened)?;
@@ -104,17 +91,7 @@ fn write_device<D: Disk>(disk: &mut D, geometry: &Geometry, head: &[u8]) -> Resu
 fn write_contents<D: Disk>(disk: &mut D, geometry: &Geometry, head: &[u8]) -> Result<(), DiskFault>
     requires geometry { IsGeometry geometry.now (D.state disk.old).size }
     requires room { 1 + length head.now ≤ geometry.now.length }
-    ensures any_moment { Settled (D.state disk.old) → IsClosed (D.state disk.old).seen 0
-        → LeavesOnly (D.state disk.old) (D.state disk.new) (λ image. IsClosed image 0) }
-    ensures beside { Settled (D.state disk.old) → LeavesOnly (D.state disk.old) (D.state disk.new) (IsSameBeside geometry.now (D.state disk.old).seen) }
-    ensures ok { Settled (D.state disk.old) → OnOk result (Settled (D.state disk.new)) }
-    ensures filled { Settled (D.state disk.old) → OnOk result (IsUnopened geometry.now head.now (D.state disk.new).seen) }
-    ensures rise { OnErr result (HasFailed (D.state disk.old) (D.state disk.new)) }
-    ensures no_failure { OnOk result ((D.state disk.new).failures ≡ (D.state disk.old).failures) }
-    ensures syncs { (D.state disk.new).syncs ≤ (D.state disk.old).syncs + 5 }
-    ensures synced { OnOk result ((D.state disk.new).syncs ≡ (D.state disk.old).syncs + 5) }
-    ensures calls { (D.state disk.new).calls ≤ (D.state disk.old).calls + 10 }
-    ensures later { Later (D.state disk.old) (D.state disk.new) }
+    ensures { Makes D.state (filling geometry.now head.now) (is_ok result) disk.old disk.new }
 {
     close_gates(disk, geometry)?;
     settle(disk, FIRST_SEGMENT + 1, head)?;
@@ -126,17 +103,7 @@ fn write_contents<D: Disk>(disk: &mut D, geometry: &Geometry, head: &[u8]) -> Re
 /// write of a gate does no harm.
 fn close_gates<D: Disk>(disk: &mut D, geometry: &Geometry) -> Result<(), DiskFault>
     requires { IsGeometry geometry.now (D.state disk.old).size }
-    ensures any_moment { Settled (D.state disk.old) → IsClosed (D.state disk.old).seen 0
-        → LeavesOnly (D.state disk.old) (D.state disk.new) (λ image. IsClosed image 0) }
-    ensures beside { Settled (D.state disk.old) → LeavesOnly (D.state disk.old) (D.state disk.new) (IsSameBeside geometry.now (D.state disk.old).seen) }
-    ensures ok { Settled (D.state disk.old) → OnOk result (Settled (D.state disk.new)) }
-    ensures closed { Settled (D.state disk.old) → OnOk result (NoneIsOpen (D.state disk.new).seen geometry.now) }
-    ensures rise { OnErr result (HasFailed (D.state disk.old) (D.state disk.new)) }
-    ensures no_failure { OnOk result ((D.state disk.new).failures ≡ (D.state disk.old).failures) }
-    ensures syncs { (D.state disk.new).syncs ≤ (D.state disk.old).syncs + 2 }
-    ensures synced { OnOk result ((D.state disk.new).syncs ≡ (D.state disk.old).syncs + 2) }
-    ensures calls { (D.state disk.new).calls ≤ (D.state disk.old).calls + 4 }
-    ensures later { Later (D.state disk.old) (D.state disk.new) }
+    ensures { Makes D.state (closing_gates geometry.now geometry.now.segments) (is_ok result) disk.old disk.new }
 {
     for segment in 0..geometry.segments {
         settle(disk, segment_place(geometry, segment), &[CLOSED_GATE])?;

@@ -1,8 +1,8 @@
-ghost use Rattle.std.specs.Prelude.{◌≡◌, ◌≢◌, ◌+◌, ◌<◌, ◌≤◌, Err, IfOk, IfSome, List, OnErr, OnOk, ℕ};
+ghost use Rattle.std.specs.Prelude.{◌+◌, ◌<◌, ◌≤◌, ◌∷◌, [], IfOk, IfSome, List, is_ok, ℕ};
 ghost use Rattle.rly_core.specs.declared.params.Geometry.{Geometry};
-ghost use Rattle.rly_disk.specs.DiskModel.{HasFailed};
-ghost use Rattle.rly_gate.specs.Reading.{OnlyRead, SyncsNothing};
+ghost use Rattle.rly_disk.specs.Trace.{Makes, Read};
 ghost use Rattle.rly_segment.specs.Answers.{IsReadNewest};
+ghost use Rattle.rly_segment.specs.Calls.{generation_reads, reads_newest};
 ghost use Rattle.rly_segment.specs.HelpersNewest.{IsFound, IsReadGate};
 ghost use Rattle.rly_segment.specs.Device.{IsGeometry};
 ghost use Rattle.rly_segment.specs.Heads.{segment_place};
@@ -48,10 +48,7 @@ pub fn newest<D: Disk>(disk: &mut D, geometry: &Geometry) -> Result<NewestHead, 
     requires { IsGeometry geometry.now (D.state disk.old).size }
     ensures within { IfOk result (λ newest. newest.segment < geometry.now.segments) }
     ensures read { (D.state disk.old).honest → IsReadNewest (D.state disk.old).seen geometry.now result }
-    ensures only { OnlyRead (D.state disk.old) (D.state disk.new) }
-    ensures unsynced { SyncsNothing (D.state disk.old) (D.state disk.new) }
-    ensures rise { result ≡ Err NewestFault.Device → HasFailed (D.state disk.old) (D.state disk.new) }
-    ensures no_failure { result ≢ Err NewestFault.Device → (D.state disk.new).failures ≡ (D.state disk.old).failures }
+    ensures trace { Makes D.state (generation_reads geometry.now geometry.now.segments) (reads_newest result) disk.old disk.new }
 {
     let mut closed = [false; MAX_SEGMENTS as usize];
     let mut found = None;
@@ -80,10 +77,7 @@ fn read_gate<D: Disk>(disk: &mut D, place: u64) -> Result<Option<u64>, DiskFault
     requires { place + GENERATION_END ≤ (D.state disk.old).size }
     ensures read { (D.state disk.old).honest
         → IfOk result (λ gate. IsReadGate (D.state disk.old).seen place gate) }
-    ensures only { OnlyRead (D.state disk.old) (D.state disk.new) }
-    ensures unsynced { SyncsNothing (D.state disk.old) (D.state disk.new) }
-    ensures rise { OnErr result (HasFailed (D.state disk.old) (D.state disk.new)) }
-    ensures no_failure { OnOk result ((D.state disk.new).failures ≡ (D.state disk.old).failures) }
+    ensures trace { Makes D.state (Read place 9 ∷ []) (is_ok result) disk.old disk.new }
 {
     let mut start = [0u8; GENERATION_END];
     fill(disk, place, &mut start)?;

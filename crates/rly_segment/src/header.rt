@@ -1,8 +1,8 @@
-ghost use Rattle.std.specs.Prelude.{◌≡◌, ◌≢◌, ◌↔◌, Err, IfOk, IsTrue, length};
-ghost use Rattle.rly_disk.specs.DiskModel.{HasFailed};
+ghost use Rattle.std.specs.Prelude.{◌≡◌, ◌↔◌, IfOk, IsTrue, length};
+ghost use Rattle.rly_disk.specs.Trace.{Makes};
 ghost use Rattle.rly_gate.specs.Group.{IsOpen, StandsAt};
-ghost use Rattle.rly_gate.specs.Reading.{OnlyRead, SyncsNothing};
 ghost use Rattle.rly_segment.specs.Answers.{IsReadHeader};
+ghost use Rattle.rly_segment.specs.Calls.{header_reads, reads_header};
 ghost use Rattle.rly_segment.specs.Device.{IsGeometry, device_mark, geometry_in};
 
 use crate::layout::{FIRST_SEGMENT, number_in};
@@ -33,10 +33,7 @@ pub enum HeaderFault {
 pub fn read_header<D: Disk>(disk: &mut D) -> Result<Geometry, HeaderFault>
     ensures geometry { IfOk result (λ geometry. IsGeometry geometry (D.state disk.old).size) }
     ensures read { (D.state disk.old).honest → IsReadHeader (D.state disk.old).seen result }
-    ensures only { OnlyRead (D.state disk.old) (D.state disk.new) }
-    ensures unsynced { SyncsNothing (D.state disk.old) (D.state disk.new) }
-    ensures rise { result ≡ Err HeaderFault.Device → HasFailed (D.state disk.old) (D.state disk.new) }
-    ensures no_failure { result ≢ Err HeaderFault.Device → (D.state disk.new).failures ≡ (D.state disk.old).failures }
+    ensures trace { Makes D.state (header_reads (D.state disk.old).size) (reads_header result) disk.old disk.new }
 {
     let size = disk.size();
     if size < FIRST_SEGMENT {

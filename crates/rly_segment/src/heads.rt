@@ -1,12 +1,12 @@
-ghost use Rattle.std.specs.Prelude.{◌≡◌, ◌≢◌, ◌+◌, ◌<◌, ◌≤◌, ◌^◌, ◌++◌, ◌↔◌, Err, IfOk, IsTrue, OnErr, OnOk};
+ghost use Rattle.std.specs.Prelude.{◌≡◌, ◌+◌, ◌<◌, ◌≤◌, ◌^◌, ◌++◌, ◌∷◌, [], ◌↔◌, IfOk, IsTrue, Option, is_ok, ℕ};
 ghost use Rattle.byteorder.specs.Endian.{big_bytes};
 ghost use Rattle.rly_core.specs.Bounds.{IsIn};
-ghost use Rattle.rly_disk.specs.DiskModel.{HasFailed};
+ghost use Rattle.rly_disk.specs.Trace.{Makes, Read};
 ghost use Rattle.rly_gate.specs.Group.{StandsAt};
-ghost use Rattle.rly_gate.specs.Reading.{OnlyRead, SyncsNothing};
 ghost use Rattle.rly_segment.specs.Answers.{IsReadHead};
+ghost use Rattle.rly_segment.specs.Calls.{head_reads, reads_head};
 ghost use Rattle.rly_segment.specs.Device.{IsGeometry};
-ghost use Rattle.rly_segment.specs.Heads.{IsHead, first_gate};
+ghost use Rattle.rly_segment.specs.Heads.{IsHead, first_gate, segment_place};
 
 use crate::layout::{number_of_4, number_of_8, segment_place};
 use rly_checkpoint::{DecodeFault, read_checkpoint};
@@ -65,10 +65,7 @@ pub fn read_head<D: Disk>(
     ensures head { IfOk result (λ head. IsHead geometry.now segment head.generation head.machine.state) }
     ensures gate { IfOk result (λ head. head.gate ≡ first_gate geometry.now segment head.machine.state) }
     ensures read { (D.state disk.old).honest → IsReadHead (D.state disk.old).seen geometry.now segment result }
-    ensures only { OnlyRead (D.state disk.old) (D.state disk.new) }
-    ensures unsynced { SyncsNothing (D.state disk.old) (D.state disk.new) }
-    ensures rise { result ≡ Err HeadFault.Device → HasFailed (D.state disk.old) (D.state disk.new) }
-    ensures no_failure { result ≢ Err HeadFault.Device → (D.state disk.new).failures ≡ (D.state disk.old).failures }
+    ensures trace { (body : Option ℕ) × Makes D.state (head_reads (segment_place geometry.now segment) body) (reads_head result) disk.old disk.new }
 {
     let place = segment_place(geometry, segment);
     let Ok(start) = read_start(disk, place) else {
@@ -106,10 +103,7 @@ fn read_start<D: Disk>(disk: &mut D, place: u64) -> Result<Start, DiskFault>
     ensures read { (D.state disk.old).honest
         → IfOk result (λ start. StandsAt (D.state disk.old).seen (place + 1) (big_bytes 8 start.generation ++ big_bytes 4 start.length)) }
     ensures fits { IfOk result (λ start. (start.generation < 2 ^ 64) × (start.length < 2 ^ 32)) }
-    ensures only { OnlyRead (D.state disk.old) (D.state disk.new) }
-    ensures unsynced { SyncsNothing (D.state disk.old) (D.state disk.new) }
-    ensures rise { OnErr result (HasFailed (D.state disk.old) (D.state disk.new)) }
-    ensures no_failure { OnOk result ((D.state disk.new).failures ≡ (D.state disk.old).failures) }
+    ensures trace { Makes D.state (Read (place + 1) 12 ∷ []) (is_ok result) disk.old disk.new }
 {
     let mut start = [0u8; START_BYTES];
     fill(disk, place + 1, &mut start)?;

@@ -4,9 +4,9 @@
 //! a whole state after a gate (`docs/FORMATS.md`, "The device" and "Heads"). `read_header`,
 //! `newest` and `read_head` make the checks before the first group, in that order
 //! (`specs/Answers.antt`). `format` makes a new device (`specs/Formatted.antt`). `open_segment`
-//! writes a head, so that a crash leaves it whole, or none that is newer (`specs/Heads.antt`).
-//! They work on any disk that keeps to the disk model. The journal opens devices and segments
-//! with them; the program formats.
+//! writes a head, so that a crash leaves it whole, or none that is newer (`law_opening`). Each says
+//! which calls it makes of the disk (`specs/Calls.antt`). They work on any disk that keeps to the
+//! disk model. The journal opens devices and segments with them; the program formats.
 #![tactic(auto)]
 
 mod formatting;
@@ -14,6 +14,7 @@ mod generations;
 mod head_bytes;
 mod header;
 mod heads;
+mod laws;
 mod layout;
 mod opening;
 
@@ -21,5 +22,6 @@ pub use crate::formatting::{FormatFault, format};
 pub use crate::generations::{NewestFault, NewestHead, newest};
 pub use crate::header::{HeaderFault, read_header};
 pub use crate::heads::{Head, HeadFault, read_head};
+pub use crate::laws::law_opening;
 pub use crate::layout::{segment_end, segment_place};
 pub use crate::opening::{OpeningFault, Target, open_segment};

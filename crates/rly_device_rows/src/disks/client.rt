@@ -1,6 +1,7 @@
 //! A client of the trait.
-ghost use Rattle.std.specs.Prelude.{◌≡◌, ◌≤◌, ◌+◌, length, OnOk, OnErr};
-ghost use Rattle.rly_disk.specs.DiskModel.{overwritten, Settled, LeavesOnly, HasFailed};
+ghost use Rattle.std.specs.Prelude.{◌≤◌, ◌+◌, ◌∷◌, [], Bool, List, is_ok, length, ℕ};
+ghost use Rattle.rly_disk.specs.DiskModel.{LeavesOnly, Settled};
+ghost use Rattle.rly_disk.specs.Trace.{Makes, Sync, Write};
 ghost use Rattle.rly_device_rows.specs.TwoRanges.{SameOutsideBoth};
 
 use rly_disk::{Disk, DiskFault};
@@ -13,17 +14,20 @@ pub fn write_both<D: Disk>(
     other: u64,
     second: &[u8],
 ) -> Result<(), DiskFault>
-    requires settled { Settled (D.state disk.old) }
     requires first_fits { place + length first.now ≤ (D.state disk.old).size }
     requires second_fits { other + length second.now ≤ (D.state disk.old).size }
-    ensures any_moment { LeavesOnly (D.state disk.old) (D.state disk.new)
-        (SameOutsideBoth place (length first.now) other (length second.now) (D.state disk.old).seen) }
-    ensures ok { OnOk result (Settled (D.state disk.new)) }
-    ensures written { OnOk result ((D.state disk.new).seen ≡ overwritten other second.now (overwritten place first.now (D.state disk.old).seen)) }
-    ensures rise { OnErr result (HasFailed (D.state disk.old) (D.state disk.new)) }
-    ensures no_failure { OnOk result ((D.state disk.new).failures ≡ (D.state disk.old).failures) }
+    ensures { Makes D.state (Write place first.now ∷ Write other second.now ∷ Sync ∷ []) (is_ok result) disk.old disk.new }
 {
     disk.write_at(place, first)?;
     disk.write_at(other, second)?;
     disk.sync()
 }
+
+/// A crash at any moment of both leaves the old bytes outside both ranges.
+pub fn law_both<D: Disk>(old: &D, new: &D)
+    ensures { (place other : ℕ) (first second : List ℕ) (whole : Bool) → Settled (D.state old.now)
+        → place + length first ≤ (D.state old.now).size → other + length second ≤ (D.state old.now).size
+        → Makes D.state (Write place first ∷ Write other second ∷ Sync ∷ []) whole old.now new.now
+        → LeavesOnly (D.state old.now) (D.state new.now)
+        (SameOutsideBoth place (length first) other (length second) (D.state old.now).seen) }
+{}

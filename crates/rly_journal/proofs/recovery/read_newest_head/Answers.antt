@@ -1,6 +1,5 @@
 use Rattle.std.proofs.Common.{Ok}
-use Rattle.rly_gate.proofs.Rereading.{only_again}
-use Rattle.rly_segment.proofs.Unsynced.{unsynced_again}
+use Rattle.rly_journal.proofs.Following.{only_again, unsynced_again}
 use Rattle.rly_segment.specs.Answers.{HoldsNoHead, IsReadHead, IsReadNewest}
 use Rattle.rly_segment.specs.Heads.{IsAmbiguous}
 use Rattle.rly_journal.proofs.Recovering.{head_replayed, read_again, refused_head, refused_newest}

@@ -1,7 +1,6 @@
 use Rattle.std.proofs.Common.{◌∙◌, subst, sym}
 use Rattle.std.proofs.lemmas.Result.{err_from_is_err_and}
-use Rattle.rly_gate.proofs.Rereading.{only_again}
-use Rattle.rly_segment.proofs.Unsynced.{unsynced_again}
+use Rattle.rly_journal.proofs.Following.{only_again, unsynced_again}
 use Rattle.rly_journal.specs.HelpersJournal.{IsReplayed, IsShaped}
 use Rattle.rly_journal.proofs.recovery.recover.Goals as goal
 

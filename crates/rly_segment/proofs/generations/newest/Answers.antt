@@ -1,31 +1,52 @@
-use Rattle.std.proofs.Common.{◌<◌, arith, length, ◌∙◌, subst, inr}
+use Rattle.std.proofs.Common.{◌≡◌, ◌<◌, ◌+◌, ◌∷◌, [], ℕ, false, true, rules, arith, length, ◌∙◌, subst, inr}
 use Rattle.std.proofs.lemmas.List.{length-set}
-use Rattle.rly_gate.proofs.Rereading.{only_again}
+use Rattle.rly_disk.specs.DiskModel.{DiskState}
+use Rattle.rly_disk.specs.Trace.{Makes, Read}
+use Rattle.rly_disk.proofs.Making.{each_cut, each_next, reads_new}
+use Rattle.rly_core.specs.declared.params.Geometry.{Geometry}
+use Rattle.rly_segment.specs.Calls.{generation_reads}
+use Rattle.rly_segment.proofs.Looking.{generations_only}
 use Rattle.rly_segment.specs.HelpersNewest.{IsFound}
 use Rattle.rly_segment.specs.Heads.{segment_place}
-use Rattle.rly_segment.proofs.Unsynced.{unsynced_again}
 use Rattle.rly_segment.proofs.Greater.{closed_more, gate_same, last_of_tie, newest_of}
 use Rattle.rly_segment.proofs.generations.newest.Goals as goal
 
+all_read : {D : Type 0} (state : D → DiskState) {a b : D} (g : Geometry) (n : ℕ) → n ≡ g.segments → Makes state (generation_reads g n) true a b → Makes state (generation_reads g g.segments) true a b
+all_read state {a} {b} g n is made = subst (λ k. Makes state (generation_reads g k) true a b) is made
+
 pub loop-segment-preserved : goal.loop-segment-preserved
 loop-segment-preserved g c =
+    let only = generations_only g.D.Disk.state c.args.geometry.now c.loop-segment.segment c.loop-segment.invariant.made in
     let read = λ (honest : (g.D.Disk.state c.args.disk.now).honest).
-    let before = c.loop-segment.invariant.only.crash honest in
+    let before = reads_new g.D.Disk.state only honest (g.met.D.Disk.consistent c.args.disk.now honest) in
     gate_same (g.D.Disk.state c.args.disk.now).seen (g.D.Disk.state c.loop-segment.disk).seen (segment_place c.args.geometry.now c.loop-segment.segment)
     c.segment_place.result c.in-Ok.gate before.seen c.segment_place.ensures (c.in-Ok.ensures.read before.honest) in
     let within : c.loop-segment.segment < length c.loop-segment.closed = omega (arith, c.loop-segment.invariant.flags, c.requires.segments, c.loop-segment-test.true) in
+    let made = rw c.segment_place.ensures at c.in-Ok.ensures.trace in
     record {
-      only = only_again c.loop-segment.invariant.only c.in-Ok.ensures.only;
-      unsynced = unsynced_again c.loop-segment.invariant.only c.loop-segment.invariant.unsynced c.in-Ok.ensures.unsynced;
-      failures = c.in-Ok.ensures.no_failure ∙ c.loop-segment.invariant.failures;
+      made = each_next g.D.Disk.state (λ t. Read (segment_place c.args.geometry.now t) 9 ∷ []) c.loop-segment.segment c.loop-segment.invariant.made made;
       found = λ honest. c.greater-found.ensures.found (g.D.Disk.state c.args.disk.now).seen c.args.geometry.now (c.loop-segment.invariant.found honest) (read honest);
       flags = length-set c.loop-segment.closed c.loop-segment.segment c.is_none.result ∙ c.loop-segment.invariant.flags;
       closed = λ honest. closed_more (g.D.Disk.state c.args.disk.now).seen c.args.geometry.now c.loop-segment.segment c.loop-segment.closed c.in-Ok.gate c.is_none.result within c.is_none.ensures (c.loop-segment.invariant.closed honest) (read honest);
       within = c.greater-found.ensures.within c.loop-segment.invariant.within;
     }
 
-pub returns-in_default-clause-unsynced : goal.returns-in_default-clause-unsynced
-returns-in_default-clause-unsynced g c = unsynced_again c.loop-segment.invariant.only c.loop-segment.invariant.unsynced c.in_default.ensures.unsynced
+pub returns-in_default-clause-trace : goal.returns-in_default-clause-trace
+returns-in_default-clause-trace g c =
+    let failed : Makes g.D.Disk.state (Read c.segment_place.result 9 ∷ []) false c.loop-segment.disk c.read_gate.new.disk = search rules in
+    let made = rw c.segment_place.ensures at failed in
+    each_cut g.D.Disk.state (λ t. Read (segment_place c.args.geometry.now t) 9 ∷ []) (c.loop-segment.segment + 1) c.args.geometry.now.segments
+    (omega (arith, c.loop-segment-test.true, c.loop-segment.auto.segment-end))
+    (each_next g.D.Disk.state (λ t. Read (segment_place c.args.geometry.now t) 9 ∷ []) c.loop-segment.segment c.loop-segment.invariant.made made)
+
+pub returns-in_default-found-clause-trace : goal.returns-in_default-found-clause-trace
+returns-in_default-found-clause-trace g c = all_read g.D.Disk.state c.args.geometry.now c.loop-segment.segment (omega (arith, c.loop-segment-test.false, c.loop-segment.auto.segment-end)) c.loop-segment.invariant.made
+
+pub returns-then-greatest-clause-trace : goal.returns-then-greatest-clause-trace
+returns-then-greatest-clause-trace g c = all_read g.D.Disk.state c.args.geometry.now c.loop-segment.segment (omega (arith, c.loop-segment-test.false, c.loop-segment.auto.segment-end)) c.loop-segment.invariant.made
+
+pub returns-clause-trace : goal.returns-clause-trace
+returns-clause-trace g c = all_read g.D.Disk.state c.args.geometry.now c.loop-segment.segment (omega (arith, c.loop-segment-test.false, c.loop-segment.auto.segment-end)) c.loop-segment.invariant.made
 
 pub returns-then-greatest-clause-read : goal.returns-then-greatest-clause-read
 returns-then-greatest-clause-read g c honest =

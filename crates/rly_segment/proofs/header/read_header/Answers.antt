@@ -2,6 +2,7 @@ use Rattle.std.proofs.Common.{◌≡◌, arith, length, rules, sym, true, ◌∙
 use Rattle.rly_core.specs.declared.params.Geometry.{Geometry}
 use Rattle.rly_segment.specs.Device.{IsGeometry}
 use Rattle.rly_segment.proofs.Fields.{device_from_front, geometry_in_front}
+use Rattle.rly_segment.proofs.Looking.{header_read, header_unread}
 use Rattle.rly_segment.proofs.header.read_header.Goals as goal
 
 pub returns-then-is_geometry-clause-read : goal.returns-then-is_geometry-clause-read
@@ -26,3 +27,18 @@ returns-else-is_geometry-clause-read g c honest =
           let fits : c.is_geometry.result ≡ true = c.is_geometry.ensures.1 as_read in
           absurd cc,
     )
+
+pub returns-then-size-lt-FIRST_SEGMENT-clause-trace : goal.returns-then-size-lt-FIRST_SEGMENT-clause-trace
+returns-then-size-lt-FIRST_SEGMENT-clause-trace g c = header_unread g.D.Disk.state c.args.disk.now (g.D.Disk.state c.args.disk.now).size (omega (arith, c.size-size.ensures, c.if-size-lt-FIRST_SEGMENT.true))
+
+pub returns-in_default-clause-trace : goal.returns-in_default-clause-trace
+returns-in_default-clause-trace g c = header_read g.D.Disk.state (g.D.Disk.state c.args.disk.now).size (omega (arith, c.size-size.ensures, c.if-size-lt-FIRST_SEGMENT.false)) (search rules)
+
+pub returns-then-not-is_device-clause-trace : goal.returns-then-not-is_device-clause-trace
+returns-then-not-is_device-clause-trace g c = header_read g.D.Disk.state (g.D.Disk.state c.args.disk.now).size (omega (arith, c.size-size.ensures, c.if-size-lt-FIRST_SEGMENT.false)) c.in-Ok.ensures.trace
+
+pub returns-then-is_geometry-clause-trace : goal.returns-then-is_geometry-clause-trace
+returns-then-is_geometry-clause-trace g c = header_read g.D.Disk.state (g.D.Disk.state c.args.disk.now).size (omega (arith, c.size-size.ensures, c.if-size-lt-FIRST_SEGMENT.false)) c.in-Ok.ensures.trace
+
+pub returns-else-is_geometry-clause-trace : goal.returns-else-is_geometry-clause-trace
+returns-else-is_geometry-clause-trace g c = header_read g.D.Disk.state (g.D.Disk.state c.args.disk.now).size (omega (arith, c.size-size.ensures, c.if-size-lt-FIRST_SEGMENT.false)) c.in-Ok.ensures.trace

@@ -1,5 +1,9 @@
-use Rattle.std.proofs.Common.{rules, ◌≡◌, arith, ap, length, true, ◌∙◌}
-use Rattle.rly_gate.proofs.Rereading.{only_again}
+use Rattle.std.proofs.Common.{rules, ◌≡◌, ◌+◌, ◌∷◌, [], arith, ap, length, refl, true, ◌∙◌}
+use Rattle.rly_disk.specs.Trace.{Read}
+use Rattle.rly_disk.proofs.Making.{quiet_new}
+use Rattle.rly_disk.proofs.Traces.{makes_joined}
+use Rattle.rly_segment.specs.Heads.{segment_place}
+use Rattle.rly_segment.proofs.Looking.{head_read, start_read}
 use Rattle.rly_segment.proofs.HeadBytes.{holds_head, no_checkpoint, other_generation, too_long}
 use Rattle.rly_segment.proofs.heads.read_head.Goals as goal
 
@@ -10,7 +14,7 @@ returns-then-geometry-end-clause-read g c honest =
 
 pub returns-in-Err-Malformed-clause-read : goal.returns-in-Err-Malformed-clause-read
 returns-in-Err-Malformed-clause-read g c honest =
-    let first = c.in-Ok.ensures.only.crash honest in
+    let first = quiet_new g.D.Disk.state c.in-Ok.ensures.trace refl honest (g.met.D.Disk.consistent c.args.disk.now honest) in
     no_checkpoint (g.D.Disk.state c.args.disk.now).seen c.args.geometry.now c.args.segment c.segment_place-place.result c.in-Ok.start.generation c.in-Ok.start.length
     c.requires.geometry.length c.segment_place-place.ensures c.in-Ok.ensures.fits (c.in-Ok.ensures.read honest)
     c.deref.result.now (g.D.Disk.state c.read_start.new.disk).seen first.seen (c.deref.ensures.value ∙ c.in-Ok-read_bytes.ensures.read first.honest)
@@ -18,19 +22,16 @@ returns-in-Err-Malformed-clause-read g c honest =
 
 pub returns-then-not-is_generation-clause-read : goal.returns-then-not-is_generation-clause-read
 returns-then-not-is_generation-clause-read g c honest =
-    let first = c.in-Ok.ensures.only.crash honest in
+    let first = quiet_new g.D.Disk.state c.in-Ok.ensures.trace refl honest (g.met.D.Disk.consistent c.args.disk.now honest) in
     other_generation (g.D.Disk.state c.args.disk.now).seen c.args.geometry.now c.args.segment c.segment_place-place.result c.in-Ok.start.generation c.in-Ok.start.length
     c.requires.geometry.length c.segment_place-place.ensures c.in-Ok.ensures.fits (c.in-Ok.ensures.read honest)
     c.deref.result.now (g.D.Disk.state c.read_start.new.disk).seen first.seen (c.deref.ensures.value ∙ c.in-Ok-read_bytes.ensures.read first.honest)
     c.in-Ok-read_checkpoint.machine.state c.in-Ok-read_checkpoint.ensures.only
     (λ within. let has : c.is_generation.result ≡ true = c.is_generation.ensures.1 (within.0, omega (arith, within.1, c.seq.ensures)) in absurd cc)
 
-pub returns-then-not-is_generation-clause-only : goal.returns-then-not-is_generation-clause-only
-returns-then-not-is_generation-clause-only g c = only_again c.in-Ok.ensures.only c.in-Ok-read_bytes.ensures.only
-
 pub returns-clause-read : goal.returns-clause-read
 returns-clause-read g c honest =
-    let first = c.in-Ok.ensures.only.crash honest in
+    let first = quiet_new g.D.Disk.state c.in-Ok.ensures.trace refl honest (g.met.D.Disk.consistent c.args.disk.now honest) in
     let within = c.is_generation.ensures.0 (search rules) in
     holds_head (g.D.Disk.state c.args.disk.now).seen c.args.geometry.now c.args.segment c.segment_place-place.result c.in-Ok.start.generation c.in-Ok.start.length
     c.requires.geometry.length c.segment_place-place.ensures c.in-Ok.ensures.fits (c.in-Ok.ensures.read honest)
@@ -38,5 +39,30 @@ returns-clause-read g c honest =
     c.in-Ok-read_checkpoint.machine.state (ap length c.deref.ensures.value ∙ c.in-Ok-read_bytes.ensures.length) c.in-Ok-read_checkpoint.ensures.found c.in-Ok-read_checkpoint.ensures.params
     c.law_sound.ensures (within.0, omega (arith, within.1, c.seq.ensures)) (omega (arith, c.if-geometry-end.false, c.from-end.ensures))
 
-pub returns-clause-only : goal.returns-clause-only
-returns-clause-only g c = only_again c.in-Ok.ensures.only c.in-Ok-read_bytes.ensures.only
+pub returns-in_default-clause-trace : goal.returns-in_default-clause-trace
+returns-in_default-clause-trace g c = start_read g.D.Disk.state c.segment_place-place.result (segment_place c.args.geometry.now c.args.segment) c.segment_place-place.ensures (search rules)
+
+pub returns-then-geometry-end-clause-trace : goal.returns-then-geometry-end-clause-trace
+returns-then-geometry-end-clause-trace g c = start_read g.D.Disk.state c.segment_place-place.result (segment_place c.args.geometry.now c.args.segment) c.segment_place-place.ensures c.in-Ok.ensures.trace
+
+pub returns-in-Err-OutOfMemory-clause-trace : goal.returns-in-Err-OutOfMemory-clause-trace
+returns-in-Err-OutOfMemory-clause-trace g c =
+    let none = rw c.in-Err-OutOfMemory.field-0-is at c.in-Err-OutOfMemory.ensures.trace in
+    start_read g.D.Disk.state c.segment_place-place.result (segment_place c.args.geometry.now c.args.segment) c.segment_place-place.ensures (makes_joined g.D.Disk.state (Read (c.segment_place-place.result + 1) 12 ∷ []) [] true c.in-Ok.ensures.trace none)
+
+pub returns-in-Err-Device-clause-trace : goal.returns-in-Err-Device-clause-trace
+returns-in-Err-Device-clause-trace g c =
+    let failed = rw c.in-Err-Device.field-0-is at c.in-Err-Device.ensures.trace in
+    head_read g.D.Disk.state c.segment_place-place.result (segment_place c.args.geometry.now c.args.segment) c.in-Ok.start.length c.segment_place-place.ensures c.in-Ok.ensures.trace failed
+
+pub returns-in-Err-Malformed-clause-trace : goal.returns-in-Err-Malformed-clause-trace
+returns-in-Err-Malformed-clause-trace g c = head_read g.D.Disk.state c.segment_place-place.result (segment_place c.args.geometry.now c.args.segment) c.in-Ok.start.length c.segment_place-place.ensures c.in-Ok.ensures.trace c.in-Ok-read_bytes.ensures.trace
+
+pub returns-in-Err-OutOfMemory-read_checkpoint-clause-trace : goal.returns-in-Err-OutOfMemory-read_checkpoint-clause-trace
+returns-in-Err-OutOfMemory-read_checkpoint-clause-trace g c = head_read g.D.Disk.state c.segment_place-place.result (segment_place c.args.geometry.now c.args.segment) c.in-Ok.start.length c.segment_place-place.ensures c.in-Ok.ensures.trace c.in-Ok-read_bytes.ensures.trace
+
+pub returns-then-not-is_generation-clause-trace : goal.returns-then-not-is_generation-clause-trace
+returns-then-not-is_generation-clause-trace g c = head_read g.D.Disk.state c.segment_place-place.result (segment_place c.args.geometry.now c.args.segment) c.in-Ok.start.length c.segment_place-place.ensures c.in-Ok.ensures.trace c.in-Ok-read_bytes.ensures.trace
+
+pub returns-clause-trace : goal.returns-clause-trace
+returns-clause-trace g c = head_read g.D.Disk.state c.segment_place-place.result (segment_place c.args.geometry.now c.args.segment) c.in-Ok.start.length c.segment_place-place.ensures c.in-Ok.ensures.trace c.in-Ok-read_bytes.ensures.trace

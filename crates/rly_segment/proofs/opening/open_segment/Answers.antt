@@ -1,6 +1,8 @@
-use Rattle.std.proofs.Common.{◌∙◌, arith, ap, length}
-use Rattle.rly_segment.proofs.HeadWriting.{head_room, length-head}
-use Rattle.rly_segment.proofs.Replacing.{opening_leaves}
+use Rattle.std.proofs.Common.{◌∙◌, arith, ap, false, length, rules}
+use Rattle.rly_disk.specs.Trace.{Makes}
+use Rattle.rly_disk.proofs.Traces.{makes_nothing}
+use Rattle.rly_segment.specs.Calls.{replacing}
+use Rattle.rly_segment.proofs.HeadWriting.{length-head}
 use Rattle.rly_segment.proofs.Segments.{segment_within}
 use Rattle.rly_segment.proofs.opening.open_segment.Goals as goal
 
@@ -21,16 +23,16 @@ returns-in-Ok-replace-clause-gate g c =
     let is = c.deref.ensures.value ∙ c.in-Ok.ensures in
     omega (arith, ap length is, length-head c.args.generation c.args.machine.now.state, c.segment_place-place.ensures, c.len.ensures, c.deref.ensures.len)
 
-pub returns-in-Ok-replace-clause-any_moment : goal.returns-in-Ok-replace-clause-any_moment
-returns-in-Ok-replace-clause-any_moment g c =
-    let is = c.deref.ensures.value ∙ c.in-Ok.ensures in
-    opening_leaves c.args.geometry.now c.args.target.segment c.args.generation c.args.machine.now.state c.deref.result.now c.segment_place-place.result c.args.target.closed
-    c.segment_place-place.ensures is
-    (head_room c.args.geometry.now c.args.target.segment c.args.generation c.args.machine.now.state c.deref.result.now c.requires.head is) c.replace.ensures.any_moment
+pub returns-in_default-clause-trace : goal.returns-in_default-clause-trace
+returns-in_default-clause-trace g c = makes_nothing g.D.Disk.state c.args.disk.now
 
-pub returns-clause-any_moment : goal.returns-clause-any_moment
-returns-clause-any_moment g c =
+pub returns-in-Ok-replace-clause-trace : goal.returns-in-Ok-replace-clause-trace
+returns-in-Ok-replace-clause-trace g c =
     let is = c.deref.ensures.value ∙ c.in-Ok.ensures in
-    opening_leaves c.args.geometry.now c.args.target.segment c.args.generation c.args.machine.now.state c.deref.result.now c.segment_place-place.result c.args.target.closed
-    c.segment_place-place.ensures is
-    (head_room c.args.geometry.now c.args.target.segment c.args.generation c.args.machine.now.state c.deref.result.now c.requires.head is) c.replace.ensures.any_moment
+    rw (c.segment_place-place.ensures, is) at c.in-Ok-replace.ensures
+
+pub returns-clause-trace : goal.returns-clause-trace
+returns-clause-trace g c =
+    let is = c.deref.ensures.value ∙ c.in-Ok.ensures in
+    let failed : Makes g.D.Disk.state (replacing c.segment_place-place.result c.args.target.closed c.deref.result.now) false c.args.disk.now c.replace.new.disk = search rules in
+    rw (c.segment_place-place.ensures, is) at failed

@@ -1,20 +1,25 @@
-use Rattle.std.proofs.Common.{arith}
-use Rattle.std.proofs.lemmas.Result.{on_ok_weaker}
-use Rattle.rly_segment.proofs.Replacing.{replaced, replacing}
+use Rattle.std.proofs.Common.{[], ◌∷◌, ◌+◌, ◌++◌, false}
+use Rattle.std.specs.Prelude.{is_ok}
+use Rattle.rly_disk.proofs.Making.{cut_short}
+use Rattle.rly_disk.proofs.Traces.{makes_front, makes_joined}
+use Rattle.rly_gate.specs.Calls.{settling}
+use Rattle.rly_gate.specs.Group.{open_gate}
+use Rattle.rly_segment.specs.Calls.{closing}
 use Rattle.rly_segment.proofs.opening.replace.Goals as goal
 
-pub returns-clause-any_moment : goal.returns-clause-any_moment
-returns-clause-any_moment g c settled is_closed =
-    let mid = c.in_ok-close_gate.ensures.ok settled in
-    let then = c.in_ok-settle.ensures.ok mid in
-    replacing c.args.place c.args.behind.now mid (c.in_ok-close_gate.ensures.others settled) (c.in_ok-close_gate.ensures.closed settled is_closed)
-    (c.in_ok-close_gate.ensures.any_moment settled is_closed) (c.in_ok-settle.ensures.any_moment mid) then (c.in_ok-settle.ensures.written mid)
-    (omega (arith, c.requires.room, c.close_gate.ensures.later.size)) (c.settle-2.ensures.any_moment then)
+pub returns-in_err-close_gate : goal.returns-in_err-close_gate
+returns-in_err-close_gate g c =
+    cut_short g.D.Disk.state c.from_residual.result c.from_residual.ensures.0
+    (makes_front g.D.Disk.state (closing c.args.place c.args.closed) (settling (c.args.place + 1) c.args.behind.now ++ settling c.args.place (open_gate ∷ [])) c.in_err-close_gate.ensures)
 
-pub returns-clause-written : goal.returns-clause-written
-returns-clause-written g c settled =
-    let mid = c.in_ok-close_gate.ensures.ok settled in
-    let then = c.in_ok-settle.ensures.ok mid in
-    on_ok_weaker c.settle-2.result
-    (replaced c.args.place c.args.behind.now _ _ _ _ (omega (arith, c.requires.room, settled.consistent.seen_size)) (c.in_ok-close_gate.ensures.others settled) (c.in_ok-settle.ensures.written mid))
-    (c.settle-2.ensures.written then)
+pub returns-in_err-settle : goal.returns-in_err-settle
+returns-in_err-settle g c =
+    cut_short g.D.Disk.state c.from_residual-in_err-settle.result c.from_residual-in_err-settle.ensures.0
+    (makes_joined g.D.Disk.state (closing c.args.place c.args.closed) (settling (c.args.place + 1) c.args.behind.now ++ settling c.args.place (open_gate ∷ [])) false c.in_ok-close_gate.ensures
+    (makes_front g.D.Disk.state (settling (c.args.place + 1) c.args.behind.now) (settling c.args.place (open_gate ∷ [])) c.in_err-settle.ensures))
+
+pub returns : goal.returns
+returns g c =
+    makes_joined g.D.Disk.state (closing c.args.place c.args.closed) (settling (c.args.place + 1) c.args.behind.now ++ settling c.args.place (open_gate ∷ [])) (is_ok c.settle-2.result)
+    c.in_ok-close_gate.ensures
+    (makes_joined g.D.Disk.state (settling (c.args.place + 1) c.args.behind.now) (settling c.args.place (open_gate ∷ [])) (is_ok c.settle-2.result) c.in_ok-settle.ensures c.settle-2.ensures)

@@ -1,21 +1,22 @@
-use Rattle.std.proofs.Common.{ℕ}
-use Rattle.rly_disk.specs.DiskModel.{DiskState, LeavesOnly, IsWritten, Settled}
-use Rattle.rly_device_rows.specs.TwoRanges.{SameOutsideBoth}
-use Rattle.rly_disk.proofs.Composition.{started_settled, after_write, after_nothing_new, torn_settled}
-use Rattle.rly_device_rows.proofs.TwoRanges.{unchanged, of_first, torn_twice}
+use Rattle.std.proofs.Common.{◌∷◌, [], false}
+use Rattle.std.specs.Prelude.{is_ok}
+use Rattle.rly_disk.specs.Trace.{Sync, Write}
+use Rattle.rly_disk.proofs.Making.{cut_short}
+use Rattle.rly_disk.proofs.Traces.{makes_front, makes_joined}
 use Rattle.rly_device_rows.proofs.disks.client.write_both.Goals as goal
 
-module _ (place n other m : ℕ) {a b : DiskState} (settled : Settled a) (first : IsWritten place n a b) where
-  after_first : LeavesOnly a b (SameOutsideBoth place n other m a.seen)
-  after_first =
-      after_write a (SameOutsideBoth place n other m a.seen) (started_settled a (SameOutsideBoth place n other m a.seen) settled (unchanged place n other m a.seen)) first
-      (λ c torn. of_first place n other m (torn_settled place n settled c torn))
+pub returns-in_err-write_at : goal.returns-in_err-write_at
+returns-in_err-write_at g c =
+    cut_short g.D.Disk.state c.from_residual.result c.from_residual.ensures.0
+    (makes_front g.D.Disk.state (Write c.args.place c.args.first.now ∷ []) (Write c.args.other c.args.second.now ∷ Sync ∷ []) c.in_err-write_at.ensures.trace)
 
-  after_both : {e : DiskState} → IsWritten other m b e → LeavesOnly a e (SameOutsideBoth place n other m a.seen)
-  after_both second = after_write a (SameOutsideBoth place n other m a.seen) after_first second (torn_twice place n other m settled first)
+pub returns-in_err-write_at-2 : goal.returns-in_err-write_at-2
+returns-in_err-write_at-2 g c =
+    cut_short g.D.Disk.state c.from_residual-in_err-write_at-2.result c.from_residual-in_err-write_at-2.ensures.0
+    (makes_joined g.D.Disk.state (Write c.args.place c.args.first.now ∷ []) (Write c.args.other c.args.second.now ∷ Sync ∷ []) false c.in_ok-write_at.ensures.trace
+    (makes_front g.D.Disk.state (Write c.args.other c.args.second.now ∷ []) (Sync ∷ []) c.in_err-write_at-2.ensures.trace))
 
-pub returns-clause-any_moment : goal.returns-clause-any_moment
-returns-clause-any_moment g c =
-    let first = c.write_at.ensures.crash c.requires.settled.honest in
-    let second = c.write_at-2.ensures.crash first.honest in
-    after_nothing_new _ _ (after_both _ _ _ _ c.requires.settled first second) (c.sync.ensures.crash second.honest)
+pub returns : goal.returns
+returns g c =
+    makes_joined g.D.Disk.state (Write c.args.place c.args.first.now ∷ []) (Write c.args.other c.args.second.now ∷ Sync ∷ []) (is_ok c.sync.result) c.in_ok-write_at.ensures.trace
+    (makes_joined g.D.Disk.state (Write c.args.other c.args.second.now ∷ []) (Sync ∷ []) (is_ok c.sync.result) c.in_ok-write_at-2.ensures.trace c.sync.ensures.trace)

@@ -1,4 +1,8 @@
-use Rattle.std.proofs.Common.{arith}
+use Rattle.std.proofs.Common.{[], arith, rules}
+use Rattle.std.specs.Prelude.{Err, Ok}
+use Rattle.rly_disk.specs.MemDisk.{mem_state}
+use Rattle.rly_disk.specs.Trace.{Sync}
+use Rattle.rly_disk.proofs.Traces.{not_counted, sync_makes}
 use Rattle.rly_disk.proofs.MemSteps.{sync_within, sync_synced, sync_settled, sync_leaves}
 use Rattle.rly_disk.proofs.mem.MemDiskDisk.sync.Goals as goal
 
@@ -11,8 +15,13 @@ invariant_of-self c = record {
       omega (arith, same, len, c.len-self.ensures);
 }
 
-pub returns-in-Ok-clause-settled : goal.returns-in-Ok-clause-settled
-returns-in-Ok-clause-settled c honest = sync_settled _ _ _ c.in-Ok.ensures.ok c.count_sync.new.self
+pub returns-then-is_spent-clause-trace : goal.returns-then-is_spent-clause-trace
+returns-then-is_spent-clause-trace c = not_counted mem_state Sync [] (c.is_spent.ensures.0 c.if-is_spent.true)
 
-pub returns-in-Ok-clause-crash : goal.returns-in-Ok-clause-crash
-returns-in-Ok-clause-crash c honest = sync_leaves _ _ _ c.in-Ok.ensures.ok c.args.self.now.counts c.count_sync.new.self
+pub returns-in-Ok-clause-trace : goal.returns-in-Ok-clause-trace
+returns-in-Ok-clause-trace c =
+    sync_makes mem_state {E = Unit {0}} (Ok tt) (search rules) (search rules) (search rules) (λ honest. sync_leaves _ _ _ c.in-Ok.ensures.ok c.args.self.now.counts c.count_sync.new.self)
+    (λ honest. sync_settled _ _ _ c.in-Ok.ensures.ok c.count_sync.new.self) (search rules)
+
+pub returns-in-Err-clause-trace : goal.returns-in-Err-clause-trace
+returns-in-Err-clause-trace c = sync_makes mem_state {E = Unit {0}} (Err tt) (search rules) (search rules) (search rules) (search rules) (search rules) (search rules)

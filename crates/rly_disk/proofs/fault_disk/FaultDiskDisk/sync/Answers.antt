@@ -1,0 +1,20 @@
+use Rattle.std.proofs.Common.{[], rules}
+use Rattle.std.specs.Prelude.{Err}
+use Rattle.rly_disk.specs.FaultDisk.{fault_state}
+use Rattle.rly_disk.specs.Trace.{Sync}
+use Rattle.rly_disk.proofs.Faulty.{fault_sync}
+use Rattle.rly_disk.proofs.Making.{makes_later}
+use Rattle.rly_disk.proofs.Traces.{not_counted, sync_makes}
+use Rattle.rly_disk.proofs.fault_disk.FaultDiskDisk.sync.Goals as goal
+
+pub returns-then-is_spent-clause-trace : goal.returns-then-is_spent-clause-trace
+returns-then-is_spent-clause-trace g c = not_counted (fault_state g.D.Disk.state) Sync [] (c.is_spent.ensures.0 c.if-is_spent.true)
+
+pub returns-then-fails_next-clause-trace : goal.returns-then-fails_next-clause-trace
+returns-then-fails_next-clause-trace g c =
+    sync_makes (fault_state g.D.Disk.state) {E = Unit {0}} (Err tt) (search rules) (search rules) (search rules) (search rules) (search rules) (search rules)
+
+pub returns-clause-trace : goal.returns-clause-trace
+returns-clause-trace g c =
+    let later = makes_later g.D.Disk.state c.sync-outcome.ensures.trace in
+    fault_sync g.D.Disk.state g.met.D.Disk.consistent c.sync-outcome.result c.sync-outcome.ensures.trace (search rules) (search rules) (search rules)

@@ -1,0 +1,50 @@
+-- Headers, generations and heads are read, and nothing else.
+use Rattle.std.proofs.Common.{◌≡◌, ◌≤◌, ◌<◌, ◌+◌, ◌∷◌, [], ℕ, Bool, true, false, nat_le, arith, le-leb, refl, subst, sym}
+use Rattle.std.specs.Prelude.{Option, Some, None, if◌then◌else◌}
+use Rattle.std.proofs.lemmas.Bool.Decides.{nat_tests}
+use Rattle.rly_core.specs.declared.params.Geometry.{Geometry}
+use Rattle.rly_disk.specs.DiskModel.{DiskState}
+use Rattle.rly_disk.specs.Trace.{DeviceEvent, Makes, OnlyReads, Read, are_reads}
+use Rattle.rly_disk.proofs.Making.{each_reads, reads_of}
+use Rattle.rly_disk.proofs.Traces.{makes_joined, makes_nothing}
+use Rattle.rly_segment.specs.Calls.{generation_reads, head_reads, header_reads}
+use Rattle.rly_segment.specs.Heads.{segment_place}
+
+are_header_reads : (long : Bool) → are_reads (if long then Read 0 51 ∷ [] else []) ≡ true
+are_header_reads true = refl
+are_header_reads false = refl
+
+are_head_reads : (place : ℕ) (body : Option ℕ) → are_reads (head_reads place body) ≡ true
+are_head_reads place None = refl
+are_head_reads place (Some n) = refl
+
+module _ {D : Type 0} (state : D → DiskState) {a b : D} {whole : Bool} where
+  pub header_only : (size : ℕ) → Makes state (header_reads size) whole a b → OnlyReads state whole a b
+  header_only size made = reads_of state (header_reads size) (are_header_reads (nat_le 64 size)) made
+
+  pub generations_only : (g : Geometry) (n : ℕ) → Makes state (generation_reads g n) whole a b → OnlyReads state whole a b
+  generations_only g n made = reads_of state (generation_reads g n) (each_reads (λ t. Read (segment_place g t) 9 ∷ []) (λ t. refl) n) made
+
+  pub head_only : (place : ℕ) → (body : Option ℕ) × Makes state (head_reads place body) whole a b → OnlyReads state whole a b
+  head_only place made = reads_of state (head_reads place made.0) (are_head_reads place made.0) made.1
+
+  -- a header of a device that is long enough
+  pub header_read : (size : ℕ) → 64 ≤ size → Makes state (Read 0 51 ∷ []) whole a b → Makes state (header_reads size) whole a b
+  header_read size long made = subst (λ t. Makes state (if t then Read 0 51 ∷ [] else []) whole a b) (sym (le-leb 64 size long)) made
+
+  -- a head with its body
+  pub head_read : {e : D} (p place n : ℕ) → p ≡ place → Makes state (Read (p + 1) 12 ∷ []) true e a → Makes state (Read (p + 13) n ∷ []) whole a b
+      → (body : Option ℕ) × Makes state (head_reads place body) whole e b
+  head_read {e} p place n is first second = (
+    Some n,
+    subst (λ k. Makes state (Read (k + 1) 12 ∷ Read (k + 13) n ∷ []) whole e b) is (makes_joined state (Read (p + 1) 12 ∷ []) (Read (p + 13) n ∷ []) whole first second),
+  )
+
+  pub start_read : (p place : ℕ) → p ≡ place → Makes state (Read (p + 1) 12 ∷ []) whole a b → (body : Option ℕ) × Makes state (head_reads place body) whole a b
+  start_read p place is made = (None, subst (λ k. Makes state (Read (k + 1) 12 ∷ []) whole a b) is made)
+
+-- and of one that isn't
+pub header_unread : {D : Type 0} (state : D → DiskState) (a : D) (size : ℕ) → size < 64 → Makes state (header_reads size) true a a
+header_unread state a size short =
+    let no : nat_le 64 size ≡ false = grind (arith, nat_tests) in
+    subst (λ t. Makes state (if t then Read 0 51 ∷ [] else []) true a a) (sym no) (makes_nothing state a)
