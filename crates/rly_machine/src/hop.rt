@@ -1,8 +1,9 @@
-ghost use Rattle.std.specs.Prelude.{◌≡◌, ◌+◌, ◌<◌, ◌≤◌, ◌^◌, [], ◌++◌, OnErr, OnOk, drop, length, map, take, vec_capacity, vec_len};
+ghost use Rattle.std.specs.Prelude.{◌≡◌, ◌+◌, ◌<◌, ◌≤◌, ◌^◌, [], ◌++◌, OnErr, OnOk, drop, length, map, max, take, vec_capacity, vec_len};
 ghost use Rattle.std.specs.VecDeque.{deque_capacity, deque_len};
 ghost use Rattle.rly_machine.specs.State.{bytes_of};
 
 use crate::content::Content;
+use crate::growth::reserve_one;
 use crate::lane::QueueLane;
 use crate::queue::Queue;
 use crate::reply::{HopStatus, Ids, Reply};
@@ -82,6 +83,7 @@ impl<C: Content> Hop<C> {
     pub(crate) fn reserve_queue(&mut self) -> Result<(), AllocError>
         ensures hop { hop_state self.new ≡ hop_state self.old }
         ensures room { OnOk result (0 < self.new.queue.spare) }
+        ensures bounded { self.new.queue.spare ≤ max self.old.queue.spare (max 4 (length self.old.queue.items)) }
         ensures memory { OnErr result (self.old.queue.spare ≡ 0) }
     {
         self.queue.reserve_one()
@@ -91,9 +93,10 @@ impl<C: Content> Hop<C> {
     pub(crate) fn reserve_flight(&mut self) -> Result<(), AllocError>
         ensures hop { hop_state self.new ≡ hop_state self.old }
         ensures room { OnOk result (deque_len self.new.flight < deque_capacity self.new.flight) }
+        ensures bounded { deque_capacity self.new.flight ≤ max (deque_capacity self.old.flight) (deque_len self.old.flight + max 4 (deque_len self.old.flight)) }
         ensures memory { OnErr result (deque_capacity self.old.flight ≤ deque_len self.old.flight) }
     {
-        self.flight.reserve(1)
+        reserve_one(&mut self.flight)
     }
 
     /// The custody number that the next datagram in flight gets.

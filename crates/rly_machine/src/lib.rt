@@ -9,6 +9,7 @@
 mod call;
 mod command;
 mod content;
+mod growth;
 mod history_law;
 mod hop;
 mod lane;

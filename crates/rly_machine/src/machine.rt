@@ -5,7 +5,7 @@ ghost use Rattle.rly_machine.specs.HelpersMachine.{IsHopAt};
 ghost use Rattle.rly_machine.specs.Kept.{hop_state};
 ghost use Rattle.rly_machine.specs.Sound.{IsSound};
 ghost use Rattle.rly_machine.specs.State.{has_hop, has_peer, hop_at, last_at, live_bytes, live_items, new_state};
-ghost use Rattle.rly_machine.specs.Step.{HasRoom, NeedsRoom, drops_of, step};
+ghost use Rattle.rly_machine.specs.Step.{HasRoom, NeedsRoom, drops_of, listed_count, step};
 ghost use Rattle.rly_machine.specs.Query.{item_of, show_reply, window_reply};
 ghost use Rattle.rly_machine.specs.Take.{take_refusal, take_step};
 ghost use Rattle.rly_machine.specs.Pick.{pick_refusal, pick_step};
@@ -162,10 +162,21 @@ impl<C: Content> Machine<C> {
     pub fn reserve_for(&mut self, alloc: Global, command: &Command<C>) -> Result<Room, AllocError>
         ensures state { self.new.state ≡ self.old.state }
         ensures room { IfOk result (λ room. HasRoom C.length_of self.new room command.now) }
+        ensures bounded { IfOk result (λ room. room ≤ listed_count C.length_of self.old.state command.now) }
         ensures memory { OnErr result (NeedsRoom C.length_of self.old command.now) }
     {
         match command {
-            Command::Take { hop, .. } => {
+            Command::Take {
+                peer,
+                number,
+                hop,
+                stamp,
+                payload,
+            } => {
+                let refusal = self.take_refusal(*peer, *number, *hop, *stamp, payload.len());
+                if refusal.is_some() {
+                    return Ok(Room::none(alloc));
+                }
                 self.reserve_take(*hop)?;
                 Ok(Room::none(alloc))
             }
@@ -266,16 +277,14 @@ impl<C: Content> Machine<C> {
         (index < self.lasts.len()).then_some(index)
     }
 
-    /// Makes room for a Take at a hop, if it is there.
+    /// Makes room for a Take at a hop.
     fn reserve_take(&mut self, hop: HopId) -> Result<(), AllocError>
+        requires { IsTrue (has_hop self.old.state hop) }
         ensures state { self.new.state ≡ self.old.state }
-        ensures room { OnOk result (IsTrue (has_hop self.new.state hop) → 0 < slice_index self.new.queue_spare (hop.0 - 1)) }
-        ensures memory { OnErr result (IsTrue (has_hop self.old.state hop) × (slice_index self.old.queue_spare (hop.0 - 1) ≡ 0)) }
+        ensures room { OnOk result (0 < slice_index self.new.queue_spare (hop.0 - 1)) }
+        ensures memory { OnErr result (slice_index self.old.queue_spare (hop.0 - 1) ≡ 0) }
     {
-        let Some(index) = self.hop_index(hop) else {
-            return Ok(());
-        };
-        self.hops[index].reserve_queue()
+        self.hops[hop.0 as usize - 1].reserve_queue()
     }
 
     /// Makes room in flight for a Pick that no check refuses, and answers how many datagrams it will drop.
@@ -294,7 +303,7 @@ impl<C: Content> Machine<C> {
 
     /// Takes a datagram.
     fn take(&mut self, peer: PeerId, number: u64, hop: HopId, stamp: u64, payload: C) -> Reply
-        requires { IsTrue (has_hop self.old.state hop) → 0 < slice_index self.old.queue_spare (hop.0 - 1) }
+        requires { take_refusal C.length_of self.old.state peer number hop stamp (C.length_of payload) ≡ None → 0 < slice_index self.old.queue_spare (hop.0 - 1) }
         ensures state { self.new.state ≡ (take_step C.length_of self.old.state peer number hop stamp payload).0 }
         ensures reply { result ≡ (take_step C.length_of self.old.state peer number hop stamp payload).1 }
     {

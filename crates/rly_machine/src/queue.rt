@@ -1,7 +1,8 @@
-ghost use Rattle.std.specs.Prelude.{◌≡◌, ◌+◌, ◌%◌, ◌^◌, ◌<◌, ◌==◌, [], ◌∷◌, ◌++◌, ◌↔◌, IfOk, IfSome, IsSome, OnErr, OnOk, drop, length, option_to_list, slice_index_or};
+ghost use Rattle.std.specs.Prelude.{◌≡◌, ◌+◌, ◌%◌, ◌^◌, ◌<◌, ◌≤◌, ◌==◌, [], ◌∷◌, ◌++◌, ◌↔◌, IfOk, IfSome, IsSome, OnErr, OnOk, drop, length, max, option_to_list, slice_index_or};
 ghost use Rattle.rly_machine.specs.State.{bytes_of};
 
 use crate::content::Content;
+use crate::growth::reserve_one;
 use crate::hop::Item;
 use std::alloc::{AllocError, Global};
 use std::collections::VecDeque;
@@ -48,9 +49,11 @@ impl<C: Content> Queue<C> {
         }
     }
 
-    /// The queue of items that were kept elsewhere, the front first.
+    /// The queue of items that were kept elsewhere, the front first. It takes memory for them and for no more; none takes none.
     pub fn of(alloc: Global, items: Vec<Item<C>>) -> Result<Queue<C>, AllocError>
-        ensures { IfOk result (λ queue. queue.items ≡ items.items) }
+        ensures items { IfOk result (λ queue. queue.items ≡ items.items) }
+        ensures exact { IfOk result (λ queue. queue.spare ≡ 0) }
+        ensures memory { OnErr result (0 < length items.items) }
     {
         let mut queue = Queue {
             queued: VecDeque::with_capacity(alloc, items.len())?,
@@ -109,9 +112,10 @@ impl<C: Content> Queue<C> {
     pub(crate) fn reserve_one(&mut self) -> Result<(), AllocError>
         ensures items { self.new.items ≡ self.old.items }
         ensures room { OnOk result (0 < self.new.spare) }
+        ensures bounded { self.new.spare ≤ max self.old.spare (max 4 (length self.old.items)) }
         ensures memory { OnErr result (self.old.spare ≡ 0) }
     {
-        self.queued.reserve(1)
+        reserve_one(&mut self.queued)
     }
 
     /// Puts a datagram at the back.

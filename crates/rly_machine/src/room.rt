@@ -1,4 +1,4 @@
-ghost use Rattle.std.specs.Prelude.{◌≡◌, ◌≤◌, ℕ, [], ◌<◌, IfOk, OnErr, vec_capacity};
+ghost use Rattle.std.specs.Prelude.{◌≡◌, ℕ, [], ◌<◌, IfOk, OnErr, vec_capacity};
 
 use std::alloc::{AllocError, Global};
 use std::marker::Model;
@@ -19,9 +19,9 @@ impl Model for Room {
 }
 
 impl Room {
-    /// Room for so many ids.
+    /// Room for so many ids, and for no more.
     pub(crate) fn new(alloc: Global, count: usize) -> Result<Room, AllocError>
-        ensures room { IfOk result (λ room. count ≤ room) }
+        ensures room { IfOk result (λ room. room ≡ count) }
         ensures memory { OnErr result (0 < count) }
     {
         Ok(Room {

@@ -1,4 +1,4 @@
-use Rattle.std.proofs.Common.{ℕ, ◌-◌, ◌<◌, ap, sym, subst, ◌∙◌, length, get_or, map}
+use Rattle.std.proofs.Common.{ℕ, ◌-◌, ◌<◌, ap, sym, subst, ◌∙◌, get_or}
 use Rattle.rly_machine.specs.HelpersMachine.{KeepsCounts}
 use Rattle.rly_machine.specs.State.{Spool, State}
 use Rattle.rly_machine.specs.declared.hop.Hop.{Hop}
@@ -7,32 +7,28 @@ use Rattle.rly_machine.proofs.machine.Machine.reserve_take.Goals as goal
 
 pub invariant_of-self : goal.invariant_of-self
 invariant_of-self g c =
-    let same = same_state c.self.inside.rules c.self.inside.hops c.self.inside.lasts c.self.inside.seq c.in-Some.index c.index_mut.result.now c.reserve_queue.new.self c.index_mut.ensures.value c.reserve_queue.ensures.hop in
+    let same = same_state c.self.inside.rules c.self.inside.hops c.self.inside.lasts c.self.inside.seq (c.args.hop.0 - 1) c.index_mut.result.now c.reserve_queue.new.self c.index_mut.ensures.value c.reserve_queue.ensures.hop in
     subst (λ (s : State g.row.C.Denot). KeepsCounts g.C.Content.length_of s c.self.inside.live_items c.self.inside.live_bytes) (sym same) c.self.invariant
 
 pub returns-clause-state : goal.returns-clause-state
 returns-clause-state g c =
-    same_state c.self.inside.rules c.self.inside.hops c.self.inside.lasts c.self.inside.seq c.in-Some.index c.index_mut.result.now c.reserve_queue.new.self c.index_mut.ensures.value c.reserve_queue.ensures.hop
+    same_state c.self.inside.rules c.self.inside.hops c.self.inside.lasts c.self.inside.seq (c.args.hop.0 - 1) c.index_mut.result.now c.reserve_queue.new.self c.index_mut.ensures.value c.reserve_queue.ensures.hop
     ∙ ap (λ (v : Spool g.row.C.Denot). v.state) c.self.view_is
 
 pub returns-clause-room : goal.returns-clause-room
 returns-clause-room g c =
     let same = ap (λ (v : Spool g.row.C.Denot). v.state) c.self.view_is in
-    let below = place_of c.self.inside.rules c.self.inside.hops c.self.inside.lasts c.self.inside.seq c.args.self.now.state c.args.hop same c.in-Some.ensures.0 in
-    let index : c.in-Some.index < length c.self.inside.hops.items = rw c.in-Some.ensures.1 below in
+    let below = place_of c.self.inside.rules c.self.inside.hops c.self.inside.lasts c.self.inside.seq c.args.self.now.state c.args.hop same c.requires in
     let spare : Hop g.row.C.Denot → ℕ = λ h. h.queue.spare in
     on_ok c.reserve_queue.result _ _
-    (λ room there. rw (← c.in-Some.ensures.1)
-    (subst (λ n. 0 < n) (sym (told_of_written spare c.self.inside.hops.items c.in-Some.index c.reserve_queue.new.self index)) room))
+    (λ room. subst (λ n. 0 < n) (sym (told_of_written spare c.self.inside.hops.items (c.args.hop.0 - 1) c.reserve_queue.new.self below)) room)
     c.reserve_queue.ensures.room
 
 pub returns-clause-memory : goal.returns-clause-memory
 returns-clause-memory g c =
     let same = ap (λ (v : Spool g.row.C.Denot). v.state) c.self.view_is in
-    let below = place_of c.self.inside.rules c.self.inside.hops c.self.inside.lasts c.self.inside.seq c.args.self.now.state c.args.hop same c.in-Some.ensures.0 in
-    let index : c.in-Some.index < length c.self.inside.hops.items = rw c.in-Some.ensures.1 below in
+    let below = place_of c.self.inside.rules c.self.inside.hops c.self.inside.lasts c.self.inside.seq c.args.self.now.state c.args.hop same c.requires in
     let spare : Hop g.row.C.Denot → ℕ = λ h. h.queue.spare in
     let seen = ap (λ (v : Spool g.row.C.Denot). get_or v.queue_spare (c.args.hop.0 - 1) 0) c.self.view_is in
-    let read = told_of_read spare c.self.inside.hops.items c.in-Some.index c.index_mut.result.now index c.index_mut.ensures.value in
-    let at = ap (λ i. get_or (map spare c.self.inside.hops.items) i 0) c.in-Some.ensures.1 in
-    on_err c.reserve_queue.result _ _ (λ none. (c.in-Some.ensures.0, sym seen ∙ sym at ∙ read ∙ none)) c.reserve_queue.ensures.memory
+    let read = told_of_read spare c.self.inside.hops.items (c.args.hop.0 - 1) c.index_mut.result.now below c.index_mut.ensures.value in
+    on_err c.reserve_queue.result _ _ (λ none. sym seen ∙ read ∙ none) c.reserve_queue.ensures.memory

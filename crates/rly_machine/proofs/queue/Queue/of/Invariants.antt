@@ -1,11 +1,11 @@
-use Rattle.std.proofs.Common.{◌≡◌, ◌≤◌, ◌++◌, length}
+use Rattle.std.proofs.Common.{◌≡◌, ◌++◌, length}
 use Rattle.rly_machine.proofs.queue.Queue.of.Given as goal
 
 -- what is still to come has room behind what is in the queue
 abbrev pub invariant-loop-item : goal.invariant-loop-item
 invariant-loop-item g l = record {
   all : l.queue.items ++ l.rest.items ≡ l.fn.items.items;
-  room : length l.rest.items ≤ l.queue.spare;
+  room : l.queue.spare ≡ length l.rest.items;
 }
 
 abbrev pub decreases-loop-item : goal.decreases-loop-item
