@@ -1,6 +1,7 @@
 -- The numbers of a sound state fit their fields, and no two sound states have one checkpoint.
-use Rattle.std.proofs.Common.{◌≡◌, ℕ, ◌+◌, ◌<◌, ◌≤◌, ◌^◌, List, ◌++◌, length, get_or, refl, sym, ap, subst, ◌∙◌, length-append, arith}
+use Rattle.std.proofs.Common.{◌≡◌, ℕ, ◌+◌, ◌<◌, ◌≤◌, ◌^◌, List, [], ◌∷◌, ◌++◌, length, get_or, refl, sym, ap, subst, ◌∙◌, length-append, arith}
 use Rattle.std.specs.Prelude.{All}
+use Rattle.std.specs.List.{AllByRecursion}
 use Rattle.std.proofs.lemmas.List.{get_or_append_left, get_or-append-add}
 use Rattle.std.proofs.lemmas.List.Elements.{All-weaker, recursion_from_All}
 use Rattle.std.proofs.lemmas.List.Sums.{get_or-le-sum_by}
@@ -66,3 +67,11 @@ state_fits s sound = record {
 pub one_state : (a b : State (List ℕ)) → IsSound length a → IsSound length b → a.params ≡ b.params → checkpoint_of a ≡ checkpoint_of b → a ≡ b
 one_state a b sound_a sound_b params same =
     some_is a b (sym (whole_again a.params a (state_fits a sound_a)) ∙ ap (λ (p : Params). whole_state p (checkpoint_of a)) params ∙ ap (whole_state b.params) same ∙ whole_again b.params b (state_fits b sound_b))
+
+-- what is in flight and what waits, as one line
+recursion_append : {A : Type 0} (P : A → Type 0) (xs ys : List A) → AllByRecursion P xs → AllByRecursion P ys → AllByRecursion P (xs ++ ys)
+recursion_append P [] ys first second = second
+recursion_append P (x ∷ xs) ys first second = (first.0, recursion_append P xs ys first.1 second)
+
+pub live_fit : (h : HopState (List ℕ)) → HopFits h → AllByRecursion EntryFits (live_line h)
+live_fit h fits = recursion_append EntryFits h.flight h.queue fits.lines.flight fits.lines.queue

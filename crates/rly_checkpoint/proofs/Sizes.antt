@@ -1,7 +1,6 @@
 -- How long a checkpoint is.
 use Rattle.std.proofs.Common.{◌≡◌, ℕ, ◌+◌, ◌*◌, List, [], ◌∷◌, ◌++◌, length, refl, ap, ◌∙◌, length-append, arith, sum_by}
 use Rattle.std.specs.List.{flat_map}
-use Rattle.std.proofs.lemmas.Grind.{flat_map-append}
 use Rattle.std.proofs.lemmas.List.Concat.{flat_map-cons}
 use Rattle.std.proofs.lemmas.List.Sums.{sum_by-cons}
 use Rattle.byteorder.specs.Endian.{big_bytes}
@@ -50,6 +49,3 @@ checkpoint_length s sound = omega (arith, length-parts s, length-numbers s.lasts
 pub length-codel_of : (codel : CodelState) → length (codel_of codel) ≡ 33
 unfolding codel_of
 length-codel_of codel = refl
-
-pub length-lines : (h : HopState (List ℕ)) → length (hop_bytes h) ≡ 71 + length (flat_map entry_of h.flight) + length (flat_map entry_of h.queue)
-length-lines h = omega (arith, length-hop_bytes h, ap (λ (t : List ℕ). length t) (flat_map-append entry_of h.flight h.queue), length-append (flat_map entry_of h.flight) (flat_map entry_of h.queue))

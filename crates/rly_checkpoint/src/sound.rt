@@ -139,7 +139,7 @@ fn is_row(hop: &Hop<Payload>, seq: u64) -> bool
 }
 
 /// A live datagram of a hop, counted from the first in flight.
-fn live_at(hop: &Hop<Payload>, index: usize) -> &Item<Payload>
+pub(crate) fn live_at(hop: &Hop<Payload>, index: usize) -> &Item<Payload>
     requires { index < length (live_line (hop_state hop.now)) }
     ensures { result.now ≡ slice_index_or (live_line (hop_state hop.now)) index result.now }
 {

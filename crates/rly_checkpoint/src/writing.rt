@@ -3,13 +3,14 @@ ghost use Rattle.std.specs.List.{AllByRecursion, flat_map};
 ghost use Rattle.std.specs.Vec.{vec_capacity};
 ghost use Rattle.byteorder.specs.Endian.{big_bytes};
 ghost use Rattle.rly_machine.specs.Kept.{hop_state};
+ghost use Rattle.rly_machine.specs.State.{live_line};
 ghost use Rattle.rly_checkpoint.specs.Checkpoint.{checkpoint_of, codel_of, entry_of, hop_bytes};
 ghost use Rattle.rly_checkpoint.specs.HelpersFitting.{EntryFits, HopFits};
 
+use crate::sound::live_at;
 use byteorder::{BigEndian, ByteOrder};
-use rly_machine::{CodelState, Hop, Item, Machine, Payload, Queue};
+use rly_machine::{CodelState, Hop, Item, Machine, Payload};
 use std::alloc::AllocError;
-use std::collections::VecDeque;
 
 /// The length in bytes of a number: the count of accepted commands, a peer's last number or a hop's last moment.
 const NUMBER_LENGTH: usize = 8;
@@ -121,8 +122,7 @@ fn append_hop(hop: &Hop<Payload>, out: &mut Vec<u8>)
     append_number(hop.moment, out);
     append(&codel_bytes(&hop.codel), out);
     append(&counts_bytes(hop), out);
-    append_flight(&hop.flight, out);
-    append_queue(&hop.queue, out);
+    append_live(hop, out);
 }
 
 /// CoDel's state.
@@ -153,31 +153,17 @@ fn counts_bytes(hop: &Hop<Payload>) -> [u8; COUNTS_LENGTH]
     bytes
 }
 
-/// Adds the entries of those in flight, for which there is room.
-fn append_flight(items: &VecDeque<Item<Payload>>, out: &mut Vec<u8>)
-    requires fit { AllByRecursion EntryFits items.now.items }
-    requires room { vec_len out.old + length (flat_map entry_of items.now.items) ≤ vec_capacity out.old }
-    ensures items { out.new.items ≡ out.old.items ++ flat_map entry_of items.now.items }
-    ensures len { vec_len out.new ≡ vec_len out.old + length (flat_map entry_of items.now.items) }
+/// Adds the entries of what is in flight and what waits, for which there is room.
+fn append_live(hop: &Hop<Payload>, out: &mut Vec<u8>)
+    requires fit { AllByRecursion EntryFits (live_line (hop_state hop.now)) }
+    requires room { vec_len out.old + length (flat_map entry_of (live_line (hop_state hop.now))) ≤ vec_capacity out.old }
+    ensures items { out.new.items ≡ out.old.items ++ flat_map entry_of (live_line (hop_state hop.now)) }
+    ensures len { vec_len out.new ≡ vec_len out.old + length (flat_map entry_of (live_line (hop_state hop.now))) }
     ensures capacity { vec_capacity out.old ≤ vec_capacity out.new }
 {
-    let count = items.len();
+    let count = hop.flight.len() + hop.queue.len();
     for index in 0..count {
-        append_entry(&items[index], out);
-    }
-}
-
-/// Adds the entries of those that wait, for which there is room.
-fn append_queue(items: &Queue<Payload>, out: &mut Vec<u8>)
-    requires fit { AllByRecursion EntryFits items.now.items }
-    requires room { vec_len out.old + length (flat_map entry_of items.now.items) ≤ vec_capacity out.old }
-    ensures items { out.new.items ≡ out.old.items ++ flat_map entry_of items.now.items }
-    ensures len { vec_len out.new ≡ vec_len out.old + length (flat_map entry_of items.now.items) }
-    ensures capacity { vec_capacity out.old ≤ vec_capacity out.new }
-{
-    let count = items.len();
-    for index in 0..count {
-        append_entry(items.item(index), out);
+        append_entry(live_at(hop, index), out);
     }
 }
 
