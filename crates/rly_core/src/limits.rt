@@ -53,6 +53,15 @@ pub const MAX_CAPACITY: u64 = 256;
 /// The most contacts of one hop.
 pub const MAX_CONTACTS: u64 = 4_096;
 
+/// The least `resend` of a hop, in milliseconds.
+pub const MIN_RESEND: u64 = 10;
+
+/// The greatest `resend` of a hop, in milliseconds: one hour.
+pub const MAX_RESEND: u64 = 3_600_000;
+
+/// The `resend` of a hop whose plan doesn't say it, in milliseconds.
+pub const DEFAULT_RESEND: u64 = 160;
+
 /// The longest command line, in bytes without its newline.
 pub const MAX_LINE: u64 = 4_096;
 
@@ -76,5 +85,8 @@ pub fn law_limits()
     ensures seats { MAX_SEATS ≡ 256 }
     ensures capacity { MAX_CAPACITY ≡ 256 }
     ensures contacts { MAX_CONTACTS ≡ 4096 }
+    ensures least_resend { MIN_RESEND ≡ 10 }
+    ensures resend { MAX_RESEND ≡ 3600000 }
+    ensures default_resend { DEFAULT_RESEND ≡ 160 }
     ensures line { MAX_LINE ≡ 4096 }
 {}

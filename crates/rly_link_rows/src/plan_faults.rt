@@ -151,6 +151,43 @@ fn a_number_out_of_its_range_is_53(rt: HostRuntime) -> Result<(), Fail> {
     )
 }
 
+#[test]
+fn resend_is_a_whole_number_in_its_range(rt: HostRuntime) -> Result<(), Fail> {
+    check_changes(
+        &rt,
+        rt.alloc(),
+        &[
+            ("resend = 160\n", "", 0),
+            ("resend = 160", "resend = 10", 0),
+            ("resend = 160", "resend = 3600000", 0),
+            ("resend = 160", "resend = 9", 53),
+            ("resend = 160", "resend = 3600001", 53),
+            ("resend = 160", "resend = 0", 53),
+            ("resend = 160", "resend = -160", 53),
+            ("resend = 160", "resend = 4294967306", 53),
+            ("resend = 160", "resend = '160'", 50),
+            ("resend = 160", "resend = 160.0", 50),
+            ("resend = 160", "resend = [160]", 50),
+            ("resend = 160", "resend = { ms = 160 }", 54),
+            ("resend = 160", "resend = 160\nresend = 160", 50),
+            ("destination", "resend = 160\ndestination", 54),
+            ("station = 3", "station = 3\nresend = 160", 54),
+            ("station = 7", "station = 7\nresend = 160", 54),
+            ("resend = 160\ncontacts", "resend = 9\nroutes", 54),
+            (
+                "resend = 160\ncontacts = [[100, 200], [300, 350]]",
+                "resend = 9",
+                50,
+            ),
+            (
+                "160\ncontacts = [[100, 200], [300, 350]]",
+                "9\ncontacts = [[2, 3], [1, 2]]",
+                53,
+            ),
+        ],
+    )
+}
+
 /// The answer for the whole plan with one more neighbour of this station behind it.
 fn answer_to_neighbour(alloc: Global, tail: &str, station: u64) -> Result<u8, AllocError> {
     let text = format!(in alloc; "{WHOLE}{tail}station = {station}\n")?;
@@ -211,9 +248,10 @@ fn answer_to_counts(alloc: Global, peers: u64, hops: u64, each: u64) -> Result<u
     Ok(answer(alloc, text.as_str()))
 }
 
-/// So many peers, hops, and contacts of each hop, and the answer.
-const COUNTS: [(u64, u64, u64, u8); 5] = [
+/// So many peers, hops, and contacts of each hop, and the answer. The text of the second has more than a million bytes.
+const COUNTS: [(u64, u64, u64, u8); 6] = [
     (64, 64, 1, 0),
+    (64, 64, 1_000, 0),
     (1, 1, 4_096, 0),
     (65, 1, 1, 53),
     (1, 65, 1, 53),

@@ -16,11 +16,44 @@ id = 1
 station = 9
 listen = \"127.0.0.1:4003\"
 remote = \"127.0.0.1:4004\"
+resend = 160
 contacts = [[100, 200], [300, 350]]
 [[route]]
 destination = 12
 hop = 1
 ";
+
+/// Three hops, of which the second doesn't say its `resend`.
+const RESENDS: &str = "station = 7
+peer = [{ id = 1, station = 3, listen = '', remote = '' }]
+hop = [
+  { id = 1, station = 9, listen = '', remote = '', resend = 10, contacts = [] },
+  { id = 2, station = 10, listen = '', remote = '', contacts = [] },
+  { id = 3, station = 11, listen = '', remote = '', contacts = [], resend = 3_600_000 },
+]
+";
+
+/// A hop, and its `resend`.
+const RESEND_OF: [(u16, u32); 6] = [
+    (0, 160),
+    (1, 10),
+    (2, 160),
+    (3, 3_600_000),
+    (4, 160),
+    (65_535, 160),
+];
+
+fn resends(rt: &impl Abort, plan: &Plan) {
+    for (hop, resend) in &RESEND_OF {
+        expect!(rt; plan.resend(HopId(*hop)) == *resend, *hop as u64);
+    }
+}
+
+#[test]
+fn each_hop_has_its_resend(rt: HostRuntime) -> Result<(), Fail> {
+    resends(&rt, &Plan::from_toml(rt.alloc(), RESENDS)?);
+    Ok(())
+}
 
 /// The ids of no neighbour of the whole plan.
 const ABSENT: [u16; 3] = [0, 2, 65_535];

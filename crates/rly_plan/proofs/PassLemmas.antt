@@ -7,7 +7,7 @@ use Rattle.rly_core.specs.declared.limits.TheConstants.{MAX_CONTACTS, MAX_HOPS, 
 use Rattle.rly_plan.specs.declared.draft.ContactDraft.{ContactDraft}
 use Rattle.rly_plan.specs.HelpersContacts.{last_end}
 use Rattle.rly_plan.specs.Draft.{HopText, PlanText}
-use Rattle.rly_plan.specs.Passes.{all_numbered, hop_in_range, is_in_range, is_station, neighbour_in_range, route_in_range, rows_in_range, is_between, number, contact_in_range, all_adjacent, are_apart, repeats, contact_from}
+use Rattle.rly_plan.specs.Passes.{all_numbered, hop_in_range, is_in_range, is_station, neighbour_in_range, resend_in_range, route_in_range, rows_in_range, is_between, number, contact_in_range, all_adjacent, are_apart, repeats, contact_from}
 
 -- two more neighbours
 pub adjacent_more : {A : Type 0} (test : A → A → Bool) (xs : List A) (i : ℕ) (d e : A) → 0 < i → i < length xs
@@ -139,7 +139,8 @@ numbered_contacts : (n : ℕ) (hs : List HopText) → all_numbered hop_in_range 
 numbered_contacts n [] ranged = refl
 numbered_contacts n (h ∷ hs) ranged =
     let (here, more) = and_parts (hop_in_range n h) (all_numbered hop_in_range (n + 1) hs) ranged in
-    let counted = and_parts (neighbour_in_range n h.neighbour) (nat_le (length h.contacts) MAX_CONTACTS && list_all contact_in_range h.contacts) here in
+    let timed = and_parts (neighbour_in_range n h.neighbour) (resend_in_range h.resend && (nat_le (length h.contacts) MAX_CONTACTS && list_all contact_in_range h.contacts)) here in
+    let counted = and_parts (resend_in_range h.resend) (nat_le (length h.contacts) MAX_CONTACTS && list_all contact_in_range h.contacts) timed.1 in
     let contacts = and_parts (nat_le (length h.contacts) MAX_CONTACTS) (list_all contact_in_range h.contacts) counted.1 in
     rw (contacts.1) (numbered_contacts (n + 1) hs more)
 

@@ -5,7 +5,7 @@ use Rattle.std.proofs.lemmas.Bool.{and_parts, or_parts, eqb-false, false≢true,
 use Rattle.toml.specs.Data.{Members}
 use Rattle.toml.specs.Parse.{parse_document}
 use Rattle.rly_core.specs.Bounds.{IsIn}
-use Rattle.rly_core.specs.declared.limits.TheConstants.{MAX_CONTACTS, MAX_HOPS, MAX_PEERS, MOMENT_LIMIT}
+use Rattle.rly_core.specs.declared.limits.TheConstants.{MAX_CONTACTS, MAX_HOPS, MAX_PEERS, MAX_RESEND, MIN_RESEND, MOMENT_LIMIT}
 use Rattle.rly_core.specs.declared.refusal.Refusal.TheVariants.{Unsorted, Overlap, Range, Unknown}
 use Rattle.rly_plan.specs.declared.contacts.Contact.{Contact}
 use Rattle.rly_plan.specs.declared.draft.ContactDraft.{ContactDraft}
@@ -14,7 +14,7 @@ use Rattle.rly_plan.specs.declared.draft.RouteDraft.{RouteDraft}
 use Rattle.rly_plan.specs.ContactPlan.{ContactPlan}
 use Rattle.rly_plan.specs.Draft.{HopText, PlanText, draft_of}
 use Rattle.rly_plan.specs.Keys.{keys_are_known}
-use Rattle.rly_plan.specs.Passes.{all_adjacent, all_numbered, are_apart, contact_from, contact_in_range, hop_from, hop_in_range, is_between, is_in_range, is_sorted, is_station, leads_to_hops, neighbour_from, neighbour_in_range, number, number_16, overlaps, plan_from, plan_of_text, plan_of_document, plan_of_draft, repeats, route_from, route_in_range, rows_in_range}
+use Rattle.rly_plan.specs.Passes.{all_adjacent, all_numbered, are_apart, contact_from, contact_in_range, hop_from, hop_in_range, is_between, is_in_range, is_sorted, is_station, leads_to_hops, neighbour_from, neighbour_in_range, number, number_16, number_32, overlaps, plan_from, plan_of_text, plan_of_document, plan_of_draft, repeats, resend_in_range, route_from, route_in_range, rows_in_range}
 use Rattle.rly_plan.specs.Sound.{IsStationNumber, AreInOrder, IsSoundPlan}
 use Rattle.rly_plan.proofs.PassLemmas.{between_bounds, contact_bounds}
 
@@ -83,14 +83,21 @@ distinct_map key f seen same (x ∷ xs) h (suc i) (suc j) d order within =
 
 -- ---- numbers
 
-within_16 : (low high : ℕ) (z : ℤ) → high ≤ 65535 → is_between low high z ≡ true → number_16 z ≡ number z
-within_16 low high (pos n) fits h =
+-- a number that so many bits hold
+held : (limit low high : ℕ) (z : ℤ) → high ≤ limit → is_between low high z ≡ true → cond (is_between 0 limit z) (number z) 0 ≡ number z
+held limit low high (pos n) fits h =
     let most = leb-true n high (and_parts (nat_le low n) (nat_le n high) h).1 in
-    rw (le-leb 0 n (omega arith), le-leb n 65535 (omega (arith, most)))
-within_16 low high (negsuc n) fits h = absurd (false≢true h)
+    rw (le-leb 0 n (omega arith), le-leb n limit (omega (arith, most)))
+held limit low high (negsuc n) fits h = absurd (false≢true h)
 
 sixteen : (low high : ℕ) (z : ℤ) → high ≤ 65535 → is_between low high z ≡ true → IsIn low high (number_16 z)
-sixteen low high z fits h = rw (within_16 low high z fits h) (between_bounds low high z h)
+sixteen low high z fits h = rw (held 65535 low high z fits h) (between_bounds low high z h)
+
+resend_sound : (n : ℕ) (h : HopText) → hop_in_range n h ≡ true → IsIn MIN_RESEND MAX_RESEND (number_32 h.resend)
+resend_sound n h ranged =
+    let rest = and_parts (neighbour_in_range n h.neighbour) (resend_in_range h.resend && (nat_le (length h.contacts) MAX_CONTACTS && list_all contact_in_range h.contacts)) ranged in
+    let within = and_parts (resend_in_range h.resend) (nat_le (length h.contacts) MAX_CONTACTS && list_all contact_in_range h.contacts) rest.1 in
+    rw (held 4294967295 MIN_RESEND MAX_RESEND h.resend (omega arith) within.0) (between_bounds MIN_RESEND MAX_RESEND h.resend within.0)
 
 neighbour_sound : (n : ℕ) (p : NeighbourDraft) → neighbour_in_range n p ≡ true → IsStationNumber (number_16 p.station)
 neighbour_sound n p h = sixteen 1 65535 p.station (omega arith) (and_parts (is_between n n p.id) (is_station p.station) h).1
@@ -130,7 +137,8 @@ pairs_apart (x ∷ ds) ranged apart (suc i) (suc j) d order within =
 
 hop_sound : (n : ℕ) (h : HopText) → hop_in_range n h ≡ true → all_adjacent are_apart h.contacts ≡ true → IsStationNumber (number_16 h.neighbour.station) × AreInOrder (map contact_from h.contacts)
 hop_sound n h ranged apart =
-    let (neighbour, rest) = and_parts (neighbour_in_range n h.neighbour) (nat_le (length h.contacts) MAX_CONTACTS && list_all contact_in_range h.contacts) ranged in
+    let (neighbour, timed) = and_parts (neighbour_in_range n h.neighbour) (resend_in_range h.resend && (nat_le (length h.contacts) MAX_CONTACTS && list_all contact_in_range h.contacts)) ranged in
+    let (within, rest) = and_parts (resend_in_range h.resend) (nat_le (length h.contacts) MAX_CONTACTS && list_all contact_in_range h.contacts) timed in
     let (counted, lasting) = and_parts (nat_le (length h.contacts) MAX_CONTACTS) (list_all contact_in_range h.contacts) rest in (
       neighbour_sound n h.neighbour neighbour,
       record {
@@ -173,6 +181,7 @@ draft_sound d ranged apart leads =
       hop_count = hops.0;
       peers = numbered_map neighbour_in_range neighbour_from (λ p. IsStationNumber p.station) neighbour_sound 1 d.peers peers.1;
       hops = hops_sound 1 d.hops hops.1 (not-false (list_all (λ h. all_adjacent are_apart h.contacts) d.hops) contacts);
+      resends = numbered_map hop_in_range hop_from (λ h. IsIn MIN_RESEND MAX_RESEND h.resend) resend_sound 1 d.hops hops.1;
       routes = rw hop_count (routes_sound (length d.hops) d.routes (omega (arith, hops.0, hop_count)) in_routes leads);
       one_peer_a_station = distinct_map (λ p. number_16 p.station) neighbour_from (λ p. p.station) (λ p. refl) d.peers peers_once;
       one_hop_a_station = distinct_map (λ h. number_16 h.neighbour.station) hop_from (λ h. h.neighbour.station) (λ h. refl) d.hops hops_once;

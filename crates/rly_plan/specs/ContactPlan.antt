@@ -2,6 +2,7 @@
 use Rattle.std.specs.Prelude.{ℕ, zero, suc, ◌==◌, Bool, List, [], Option, None, option_map, unwrap_or, find, slice_get}
 use Rattle.rly_core.specs.declared.ids.HopId.{HopId}
 use Rattle.rly_core.specs.declared.ids.PeerId.{PeerId}
+use Rattle.rly_core.specs.declared.limits.TheConstants.{DEFAULT_RESEND}
 use Rattle.rly_plan.specs.declared.contacts.Contact.{Contact}
 use Rattle.rly_plan.specs.declared.neighbour.Neighbour.{Neighbour}
 use Rattle.rly_plan.specs.declared.plan.Hop.{Hop}
@@ -25,6 +26,11 @@ peer_at plan peer = at_number plan.peers peer.0
 
 abbrev pub next_hop_at : ContactPlan → HopId → Option Neighbour
 next_hop_at plan hop = option_map (λ h. h.neighbour) (at_number plan.hops hop.0)
+
+-- how long nothing has to move before what is in flight to a hop is sent again, in milliseconds: the default for a hop
+-- that isn't there
+abbrev pub resend : ContactPlan → HopId → ℕ
+resend plan hop = unwrap_or (option_map (λ h. h.resend) (at_number plan.hops hop.0)) DEFAULT_RESEND
 
 -- the contacts of a hop: none for a hop that isn't there
 abbrev pub contacts_of : ContactPlan → HopId → List Contact

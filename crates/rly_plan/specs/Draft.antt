@@ -1,6 +1,7 @@
 -- What a document says where each key is there and each value has its type: a plan whose numbers are yet to be judged.
-use Rattle.std.specs.Prelude.{ℕ, ℤ, List, [], ◌∷◌, codes, Option, Some, None, option_and_then}
+use Rattle.std.specs.Prelude.{ℕ, ℤ, pos, List, [], ◌∷◌, codes, Option, Some, None, option_and_then}
 use Rattle.toml.specs.Data.{Data, as_integer, as_str, as_array, as_table, Items, no_items, item, Members, get_member}
+use Rattle.rly_core.specs.declared.limits.TheConstants.{DEFAULT_RESEND}
 use Rattle.rly_plan.specs.declared.draft.ContactDraft.{ContactDraft}
 use Rattle.rly_plan.specs.declared.draft.NeighbourDraft.{NeighbourDraft}
 use Rattle.rly_plan.specs.declared.draft.RouteDraft.{RouteDraft}
@@ -8,6 +9,7 @@ use Rattle.rly_plan.specs.declared.draft.RouteDraft.{RouteDraft}
 -- a [[hop]] table
 pub record HopText : Type 0 where
   pub neighbour : NeighbourDraft
+  pub resend : ℤ
   pub contacts : List ContactDraft
 
 -- a whole plan
@@ -62,11 +64,17 @@ neighbour_of ms = do
 abbrev pub peer_draft_of : Data → Option NeighbourDraft
 peer_draft_of value = as_table value >>= neighbour_of
 
+-- `resend` may be left out
+abbrev pub resend_at : Option Data → Option ℤ
+resend_at None = Some (pos DEFAULT_RESEND)
+resend_at (Some value) = as_integer value
+
 abbrev pub hop_in : Members → Option HopText
 hop_in ms = do
   neighbour ← neighbour_of ms
+  resend ← resend_at (get_member (codes "resend") ms)
   contacts ← items_at contact_draft_of (get_member (codes "contacts") ms)
-  Some (record { neighbour = neighbour; contacts = contacts })
+  Some (record { neighbour = neighbour; resend = resend; contacts = contacts })
 
 abbrev pub hop_draft_of : Data → Option HopText
 hop_draft_of value = as_table value >>= hop_in

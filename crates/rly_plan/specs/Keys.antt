@@ -9,7 +9,7 @@ use Rattle.rly_plan.specs.declared.keys.Row.TheVariants.{Peer, Hop, Route}
 -- the keys of a table of each array
 abbrev pub keys_of : Row → List (List ℕ)
 keys_of Peer = codes "id" ∷ codes "station" ∷ codes "listen" ∷ codes "remote" ∷ []
-keys_of Hop = codes "id" ∷ codes "station" ∷ codes "listen" ∷ codes "remote" ∷ codes "contacts" ∷ []
+keys_of Hop = codes "id" ∷ codes "station" ∷ codes "listen" ∷ codes "remote" ∷ codes "resend" ∷ codes "contacts" ∷ []
 keys_of Route = codes "destination" ∷ codes "hop" ∷ []
 
 abbrev pub has_key : Row → List ℕ → Bool

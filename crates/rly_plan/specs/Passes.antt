@@ -4,7 +4,8 @@ use Rattle.std.specs.Prelude.{Bool, true, false, not, ◌&&◌, ◌||◌, if◌t
 use Rattle.std.specs.List.{list_all, list_any}
 use Rattle.toml.specs.Data.{Members}
 use Rattle.toml.specs.Parse.{parse_document}
-use Rattle.rly_core.specs.declared.limits.TheConstants.{MAX_CONTACTS, MAX_HOPS, MAX_PEERS, MOMENT_LIMIT}
+use Rattle.rly_core.specs.declared.limits.TheConstants.{MAX_CONTACTS, MAX_HOPS, MAX_PEERS, MAX_RESEND, MIN_RESEND}
+use Rattle.rly_core.specs.declared.limits.TheConstants.{MOMENT_LIMIT}
 use Rattle.rly_core.specs.declared.refusal.Refusal.{Refusal}
 use Rattle.rly_core.specs.declared.refusal.Refusal.TheVariants.{Syntax, Unsorted, Overlap, Range, Unknown}
 use Rattle.rly_plan.specs.declared.contacts.Contact.{Contact}
@@ -34,6 +35,10 @@ number (negsuc n) = 0
 abbrev pub number_16 : ℤ → ℕ
 number_16 z = if is_between 0 65535 z then number z else 0
 
+-- the whole number, where it has 32 bits
+abbrev pub number_32 : ℤ → ℕ
+number_32 z = if is_between 0 4294967295 z then number z else 0
+
 -- ---- 53: a number out of its range
 
 -- a station or a destination
@@ -47,10 +52,15 @@ neighbour_in_range id n = is_between id id n.id && is_station n.station
 abbrev pub contact_in_range : ContactDraft → Bool
 contact_in_range c = is_between 0 (MOMENT_LIMIT - 1) c.begin && is_between (number c.begin + 1) (MOMENT_LIMIT - 1) c.end
 
+-- how long nothing has to move before what is in flight is sent again, in milliseconds
+abbrev pub resend_in_range : ℤ → Bool
+resend_in_range z = is_between MIN_RESEND MAX_RESEND z
+
 abbrev pub hop_in_range : ℕ → HopText → Bool
 hop_in_range id h =
     neighbour_in_range id h.neighbour
-    && (nat_le (length h.contacts) MAX_CONTACTS && list_all contact_in_range h.contacts)
+    && (resend_in_range h.resend
+    && (nat_le (length h.contacts) MAX_CONTACTS && list_all contact_in_range h.contacts))
 
 abbrev pub route_in_range : RouteDraft → Bool
 route_in_range r = is_station r.destination && is_between 1 MAX_HOPS r.hop
@@ -115,7 +125,11 @@ abbrev pub contact_from : ContactDraft → Contact
 contact_from c = record { begin = number c.begin; end = number c.end }
 
 abbrev pub hop_from : HopText → Hop
-hop_from h = record { neighbour = neighbour_from h.neighbour; contacts = map contact_from h.contacts }
+hop_from h = record {
+  neighbour = neighbour_from h.neighbour;
+  resend = number_32 h.resend;
+  contacts = map contact_from h.contacts;
+}
 
 abbrev pub route_from : RouteDraft → Route
 route_from r = record { destination = number_16 r.destination; hop = record { 0 = number_16 r.hop } }

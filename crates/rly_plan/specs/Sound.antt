@@ -2,7 +2,8 @@
 use Rattle.std.specs.Prelude.{◌≢◌, ℕ, ◌<◌, ◌≤◌, List, length}
 use Rattle.std.specs.List.{All, AllPairs}
 use Rattle.rly_core.specs.Bounds.{IsIn}
-use Rattle.rly_core.specs.declared.limits.TheConstants.{MAX_CONTACTS, MAX_HOPS, MAX_PEERS, MOMENT_LIMIT}
+use Rattle.rly_core.specs.declared.limits.TheConstants.{MAX_CONTACTS, MAX_HOPS, MAX_PEERS, MAX_RESEND, MIN_RESEND}
+use Rattle.rly_core.specs.declared.limits.TheConstants.{MOMENT_LIMIT}
 use Rattle.rly_plan.specs.declared.contacts.Contact.{Contact}
 use Rattle.rly_plan.specs.ContactPlan.{ContactPlan}
 
@@ -22,6 +23,7 @@ pub record IsSoundPlan (plan : ContactPlan) : Type 0 where
   pub hop_count : IsIn 1 MAX_HOPS (length plan.hops)
   pub peers : All (λ p. IsStationNumber p.station) plan.peers
   pub hops : All (λ h. IsStationNumber h.neighbour.station × AreInOrder h.contacts) plan.hops
+  pub resends : All (λ h. IsIn MIN_RESEND MAX_RESEND h.resend) plan.hops
   pub routes : All (λ r. IsStationNumber r.destination × IsIn 1 (length plan.hops) r.hop.0) plan.routes
   pub one_peer_a_station : AllPairs (λ p q. p.station ≢ q.station) plan.peers
   pub one_hop_a_station : AllPairs (λ h k. h.neighbour.station ≢ k.neighbour.station) plan.hops

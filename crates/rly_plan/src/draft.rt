@@ -1,11 +1,12 @@
-ghost use Rattle.std.specs.Prelude.{◌≡◌, codes, IfOk, option_copied, option_map};
+ghost use Rattle.std.specs.Prelude.{◌≡◌, ◌≢◌, None, codes, IfOk, OnErr, option_copied, option_map};
 ghost use Rattle.toml.specs.View.{array_view, table_view, view};
 ghost use Rattle.toml.specs.Data.{get_member};
-ghost use Rattle.rly_plan.specs.Draft.{draft_of, each_item, integer_at, items_at, neighbour_of, routes_at, text_at};
+ghost use Rattle.rly_plan.specs.Draft.{draft_of, each_item, integer_at, items_at, neighbour_of, resend_at, routes_at, text_at};
 
 use crate::contacts::Contact;
 use crate::neighbour::Addresses;
 use crate::passes::number;
+use rly_core::limits::DEFAULT_RESEND;
 use std::alloc::{AllocError, Global};
 use std::marker::Model;
 use toml::value::Array;
@@ -45,6 +46,7 @@ impl ContactDraft {
 #[derive(Debug, Drop)]
 pub(crate) struct HopDraft {
     pub neighbour: NeighbourDraft,
+    pub resend: i64,
     pub contacts: Vec<ContactDraft>,
 }
 
@@ -53,7 +55,7 @@ impl Model for HopDraft {
 
     ghost Value = { HopText };
 
-    ghost view = { λ h. record { neighbour = h.neighbour; contacts = h.contacts.items } };
+    ghost view = { λ h. record { neighbour = h.neighbour; resend = h.resend; contacts = h.contacts.items } };
 }
 
 /// A `[[route]]` table.
@@ -138,11 +140,15 @@ impl Item for HopDraft {
         let Some(neighbour) = read_neighbour(alloc, table)? else {
             return Ok(None);
         };
+        let Some(resend) = read_resend(table) else {
+            return Ok(None);
+        };
         let Some(contacts) = read_items::<ContactDraft>(alloc, value_at(table, "contacts"))? else {
             return Ok(None);
         };
         Ok(Some(HopDraft {
             neighbour,
+            resend,
             contacts,
         }))
     }
@@ -170,7 +176,8 @@ impl Item for RouteDraft {
 impl PlanDraft {
     /// What the document writes: `None` where a key is missing or a value has another type.
     pub(crate) fn read(alloc: Global, document: &Table) -> Result<Option<PlanDraft>, AllocError>
-        ensures { IfOk result (λ found. found ≡ draft_of (table_view document.now)) }
+        ensures draft { IfOk result (λ found. found ≡ draft_of (table_view document.now)) }
+        ensures memory { OnErr result (integer_at (codes "station") (table_view document.now) ≢ None) }
     {
         let Some(station) = integer(document, "station") else {
             return Ok(None);
@@ -217,6 +224,16 @@ fn text<'a>(table: &'a Table, key: &str) -> Option<&'a str>
     match value_at(table, key) {
         Some(value) => value.as_str(),
         None => None,
+    }
+}
+
+/// The `resend` of a hop, which may be left out.
+fn read_resend(table: &Table) -> Option<i64>
+    ensures { result ≡ resend_at (get_member (codes "resend") (table_view table.now)) }
+{
+    match value_at(table, "resend") {
+        Some(value) => value.as_integer(),
+        None => Some(DEFAULT_RESEND as i64),
     }
 }
 

@@ -25,7 +25,7 @@ impl Row {
     {
         match self {
             Row::Peer => is_neighbour_key(key),
-            Row::Hop => is_neighbour_key(key) || key == "contacts",
+            Row::Hop => is_neighbour_key(key) || key == "resend" || key == "contacts",
             Row::Route => key == "destination" || key == "hop",
         }
     }

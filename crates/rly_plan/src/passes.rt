@@ -2,10 +2,10 @@
 
 ghost use Rattle.std.specs.Prelude.{◌≡◌, ◌<◌, ◌^◌, ℕ, false, IfOk, map, slice_index_or, vec_len};
 ghost use Rattle.std.specs.List.{list_all};
-ghost use Rattle.rly_plan.specs.Passes.{all_adjacent, are_apart, begin_in_order, contact_in_range, hop_in_range, is_between, is_in_range, is_sorted, is_station, leads_to_hops, neighbour_in_range, number, number_16, overlaps, repeats, route_in_range, rows_in_range};
+ghost use Rattle.rly_plan.specs.Passes.{all_adjacent, are_apart, begin_in_order, contact_in_range, hop_in_range, is_between, is_in_range, is_sorted, is_station, leads_to_hops, neighbour_in_range, number, number_16, number_32, overlaps, repeats, resend_in_range, route_in_range, rows_in_range};
 
 use crate::draft::{ContactDraft, HopDraft, NeighbourDraft, PlanDraft, RouteDraft};
-use rly_core::limits::{MAX_CONTACTS, MAX_HOPS, MAX_PEERS, MOMENT_LIMIT};
+use rly_core::limits::{MAX_CONTACTS, MAX_HOPS, MAX_PEERS, MAX_RESEND, MIN_RESEND, MOMENT_LIMIT};
 use std::alloc::{AllocError, Global};
 
 impl PlanDraft {
@@ -123,8 +123,15 @@ fn hop_in_range(id: u64, hop: &HopDraft) -> bool
     ensures { result ≡ hop_in_range id hop.now }
 {
     neighbour_in_range(id, &hop.neighbour)
+        && resend_in_range(hop.resend)
         && hop.contacts.len() as u64 <= MAX_CONTACTS
         && contacts_in_range(&hop.contacts)
+}
+
+fn resend_in_range(resend: i64) -> bool
+    ensures { result ≡ resend_in_range resend }
+{
+    is_between(resend, MIN_RESEND, MAX_RESEND)
 }
 
 fn contacts_in_range(contacts: &[ContactDraft]) -> bool
@@ -228,4 +235,11 @@ pub(crate) fn number_16(value: i64) -> u16
     ensures { result ≡ number_16 value }
 {
     u16::try_from(value).unwrap_or(0)
+}
+
+/// The whole number, or 0 in place of one that 32 bits don't hold.
+pub(crate) fn number_32(value: i64) -> u32
+    ensures { result ≡ number_32 value }
+{
+    u32::try_from(value).unwrap_or(0)
 }

@@ -7,16 +7,19 @@ use crate::contacts::Contacts;
 use crate::draft::{ContactDraft, HopDraft, NeighbourDraft, PlanDraft, RouteDraft};
 use crate::keys::keys_are_known;
 use crate::neighbour::Neighbour;
-use crate::passes::number_16;
+use crate::passes::{number_16, number_32};
+use rly_core::limits::DEFAULT_RESEND;
 use rly_core::{HopId, PeerId, Refusal};
 use std::alloc::{AllocError, Global};
 use std::marker::Model;
 
-/// A next hop: the neighbour, and when the link with it is open.
+/// A next hop: the neighbour, how long what is in flight to it waits, and when its link is open.
 #[derive(Debug, Drop)]
 pub(crate) struct Hop {
     /// The neighbour that the hop leads to.
     pub neighbour: Neighbour,
+    /// How long nothing has to move before what is in flight is sent again, in milliseconds.
+    pub resend: u32,
     /// When the link is open.
     pub contacts: Contacts,
 }
@@ -50,15 +53,18 @@ impl Model for Plan {
 
 impl Plan {
     ghost use Rattle.std.specs.Prelude.{◌≡◌, ◌≢◌, length, IfErr, IfOk, Ok, Err, option_copied};
-    ghost use Rattle.rly_plan.specs.ContactPlan.{next_hop_at, hop_for, is_open, link, peer_at};
+    ghost use Rattle.rly_plan.specs.ContactPlan.{next_hop_at, hop_for, is_open, link, peer_at, resend};
     ghost use Rattle.rly_plan.specs.Passes.{plan_of_text};
+    ghost use Rattle.toml.specs.Errors.{IsBlank};
 
     /// The plan that a text writes (`docs/FORMATS.md`, "The plan"), or the first fault of its
-    /// passes: 50 to 54. 14 is answered only where memory was refused.
+    /// passes: 50 to 54. 14 is answered only where memory was refused, and never to a text that has only
+    /// white space and comments.
     #[tactic(auto, unfolding(crate::specs::Passes::plan_of_text))]
     pub fn from_toml(alloc: Global, text: &str) -> Result<Plan, Refusal>
         ensures plan { IfOk result (λ plan. plan_of_text text.now ≡ Ok plan) }
         ensures fault { IfErr result (λ fault. fault ≢ Refusal.OutOfMemory → plan_of_text text.now ≡ Err fault) }
+        ensures memory { IfErr result (λ fault. fault ≡ Refusal.OutOfMemory → ¬ IsBlank text.now) }
     {
         let document = match toml::table_from_str(alloc, text) {
             Ok(document) => document,
@@ -111,6 +117,17 @@ impl Plan {
         match at_number(&self.hops, hop.0) {
             Some(hop) => Some(&hop.neighbour),
             None => None,
+        }
+    }
+
+    /// How long nothing has to move before what is in flight to a hop is sent again, in milliseconds:
+    /// 10 to 3,600,000, and the default for a hop that isn't there.
+    pub fn resend(&self, hop: HopId) -> u32
+        ensures { result ≡ resend self.now hop }
+    {
+        match at_number(&self.hops, hop.0) {
+            Some(hop) => hop.resend,
+            None => DEFAULT_RESEND as u32,
         }
     }
 
@@ -247,17 +264,26 @@ fn settled_hops(alloc: Global, drafts: Vec<HopDraft>) -> Result<Vec<Hop>, AllocE
 {
     let mut hops = Vec::new(alloc);
     for draft in drafts {
-        let HopDraft {
-            neighbour,
-            contacts,
-        } = draft;
-        let hop = Hop {
-            neighbour: settled_neighbour(neighbour),
-            contacts: settled_contacts(alloc, &contacts)?,
-        };
-        hops.push(hop)?;
+        hops.push(settled_hop(alloc, draft)?)?;
     }
     Ok(hops)
+}
+
+fn settled_hop(alloc: Global, draft: HopDraft) -> Result<Hop, AllocError>
+    requires ranged { list_all contact_in_range draft.contacts ≡ true }
+    requires apart { all_adjacent are_apart draft.contacts ≡ true }
+    ensures { IfOk result (λ hop. hop ≡ hop_from draft) }
+{
+    let HopDraft {
+        neighbour,
+        resend,
+        contacts,
+    } = draft;
+    Ok(Hop {
+        neighbour: settled_neighbour(neighbour),
+        resend: number_32(resend),
+        contacts: settled_contacts(alloc, &contacts)?,
+    })
 }
 
 fn settled_contacts(alloc: Global, drafts: &[ContactDraft]) -> Result<Contacts, AllocError>
