@@ -24,7 +24,7 @@ use Rattle.rly_threads.specs.Ends.{TellsMore}
 use Rattle.rly_threads.specs.Memory.{handed_of}
 use Rattle.rly_threads.specs.Relay.{HasEnded, HasWorked}
 use Rattle.rly_threads.specs.Runs.{Ran, EndsView}
-use Rattle.rly_threads.specs.Turns.{Done, Given, Handed}
+use Rattle.rly_threads.specs.Turns.{Done, Handed}
 
 -- a worker was handed its end
 record Ended (old new : EndsView) : Type 0 where
@@ -34,8 +34,8 @@ record Ended (old new : EndsView) : Type 0 where
   pub off : last.on ≡ false
   pub handed : TellsMore old.handed new.handed (before ++ (worker, Start, last) ∷ [])
 
-ran_ended : {C : Type 0} (old new : EndsView) (w : Worker) (turns : List Given) (d : Done C) → Ran old new w turns d → Ended old new
-ran_ended old new w turns d ran = record { worker = w; before = d.handed; last = ran.last; off = ran.off; handed = ran.handed }
+ran_ended : {C : Type 0} (old new : EndsView) (w : Worker) (d : Done C) → Ran old new w d → Ended old new
+ran_ended old new w d ran = record { worker = w; before = d.handed; last = ran.last; off = ran.off; handed = ran.handed }
 
 if_there : {N : Type 0} (o : Option N) (f : N → Endpoints) (a : Endpoints) (Q : Type 0) → Some a ≡ option_map f o → IfSome o (λ _. Q) → Q
 if_there None f a Q e q = absurd (none-some _ (sym e))
@@ -43,9 +43,9 @@ if_there (Some n) f a Q e q = q
 
 worked_ended : (plan : ContactPlan) (window : ℕ) (w : Worker) (a : Endpoints) (old new : EndsView) → Some a ≡ addresses_of plan w → HasWorked plan window w old new → Ended old new
 worked_ended plan window (worker.Receiver peer) a old new there worked =
-    if_there (peer_at plan peer) (λ n. n.addresses) a (Ended old new) there (IfSome_then (peer_at plan peer) worked (λ n did. ran_ended old new (worker.Receiver peer) did.0 _ did.1))
+    if_there (peer_at plan peer) (λ n. n.addresses) a (Ended old new) there (IfSome_then (peer_at plan peer) worked (λ n did. ran_ended old new (worker.Receiver peer) _ did.1))
 worked_ended plan window (worker.Sender hop) a old new there worked =
-    if_there (next_hop_at plan hop) (λ n. n.addresses) a (Ended old new) there (IfSome_then (next_hop_at plan hop) worked (λ n did. ran_ended old new (worker.Sender hop) did.0 _ did.1))
+    if_there (next_hop_at plan hop) (λ n. n.addresses) a (Ended old new) there (IfSome_then (next_hop_at plan hop) worked (λ n did. ran_ended old new (worker.Sender hop) _ did.1))
 
 -- what it was handed last, by a clock that tells
 last_on : (left : Option ℕ) (log : Log (Worker × Point) Go) (before : List Handed) (h : Handed) → (left ≡ None → IsTrue (all_on (handed_of log)))

@@ -2,13 +2,14 @@
 use Rattle.std.proofs.Common.{◌≡◌, ◌-◌, ℕ, zero, suc, List, [], ◌∷◌, ap, arith, min, refl}
 use Rattle.std.specs.Prelude.{Option, Some, None}
 use Rattle.rly_threads.specs.declared.turn.Point.{Point}
-use Rattle.rly_threads.specs.declared.turn.Point.TheVariants.{Answered, Call, Start}
+use Rattle.rly_threads.specs.declared.turn.Point.TheVariants.{Answered, Call, Heard, Start}
 use Rattle.rly_daemon.specs.WallClock.{start_count, turns_had, turns_of}
 
 -- where they are without end
 each_start : (points : List Point) → turns_had None points ≡ start_count points
 each_start [] = refl
 each_start (Start ∷ points) = omega (arith, each_start points)
+each_start (Heard ∷ points) = omega (arith, each_start points)
 each_start (Call ∷ points) = omega (arith, each_start points)
 each_start (Answered ∷ points) = omega (arith, each_start points)
 
@@ -23,6 +24,7 @@ so_many (suc left) (Start ∷ points) =
     let one_less : suc left - 1 ≡ left = omega arith in
     let rest = ap (λ n. turns_had (Some n) points) one_less in
     omega (arith, rest, so_many left points)
+so_many left (Heard ∷ points) = omega (arith, so_many left points)
 so_many left (Call ∷ points) = omega (arith, so_many left points)
 so_many left (Answered ∷ points) = omega (arith, so_many left points)
 

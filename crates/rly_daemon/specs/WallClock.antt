@@ -7,7 +7,7 @@ use Rattle.std.specs.declared.time.Duration.{Duration}
 use Rattle.http_server.specs.declared.log.Log.{Log}
 use Rattle.rly_threads.specs.declared.turn.Go.{Go}
 use Rattle.rly_threads.specs.declared.turn.Point.{Point}
-use Rattle.rly_threads.specs.declared.turn.Point.TheVariants.{Answered, Call, Start}
+use Rattle.rly_threads.specs.declared.turn.Point.TheVariants.{Answered, Call, Heard, Start}
 use Rattle.rly_threads.specs.declared.turn.Worker.{Worker}
 use Rattle.rly_threads.specs.Memory.{handed_of}
 use Rattle.rly_threads.specs.Turns.{Handed}
@@ -22,13 +22,22 @@ abbrev pub goes_on : Point → Option ℕ → Bool
 goes_on Start None = true
 goes_on Start (Some zero) = false
 goes_on Start (Some (suc n)) = true
+goes_on Heard left = true
 goes_on Call left = true
 goes_on Answered left = true
 
--- how many are left behind that point
+-- the clocks are read after the worker waited for a packet, and after it waited for an answer
+abbrev pub is_read_at : Point → Bool
+is_read_at Start = false
+is_read_at Heard = true
+is_read_at Call = false
+is_read_at Answered = true
+
+-- how many are left after that point
 abbrev pub left_at : Point → Option ℕ → Option ℕ
 left_at Start None = None
 left_at Start (Some n) = Some (n - 1)
+left_at Heard left = left
 left_at Call left = left
 left_at Answered left = left
 
@@ -36,6 +45,7 @@ left_at Answered left = left
 abbrev pub start_count : List Point → ℕ
 start_count [] = 0
 start_count (Start ∷ points) = suc (start_count points)
+start_count (Heard ∷ points) = start_count points
 start_count (Call ∷ points) = start_count points
 start_count (Answered ∷ points) = start_count points
 
@@ -43,6 +53,7 @@ start_count (Answered ∷ points) = start_count points
 abbrev pub turn_at : Point → Bool → ℕ
 turn_at Start true = 1
 turn_at Start false = 0
+turn_at Heard on = 0
 turn_at Call on = 0
 turn_at Answered on = 0
 
@@ -66,7 +77,7 @@ abbrev pub endless_tells : Option ℕ → Log (Worker × Point) Go → Option (L
 endless_tells None log = Some (handed_of log)
 endless_tells (Some left) log = None
 
--- a moment in microseconds: 0 for none, and never above the last that has 64 bits
+-- a time in microseconds: 0 for none, and never above the last that has 64 bits
 abbrev pub moment_of : Option Duration → ℕ
 moment_of None = 0
 moment_of (Some time) = min (as_nanos time / 1000) (2 ^ 64 - 1)

@@ -1,4 +1,4 @@
-ghost use Rattle.std.specs.Prelude.{◌≡◌, ◌≤◌, ◌-◌, ◌^◌, ◌↔◌, IfOk, IsTrue};
+ghost use Rattle.std.specs.Prelude.{◌≡◌, ◌≤◌, ◌-◌, ◌^◌, ◌↔◌, IfOk, IfSome, IsErr, IsTrue, length};
 ghost use Rattle.rly_threads.specs.Ends.{FailuresRose};
 
 use rly_plan::Addresses;
@@ -9,7 +9,7 @@ use std::snapshot::Snapshot;
 use std::time::{Clock, Duration};
 use std::{io, thread};
 
-/// How long a receive waits for a packet, in milliseconds.
+/// How long a receive that waits does so, in milliseconds.
 const WAIT: u64 = 10;
 
 /// A link over UDP. It receives from any address, and sends to one.
@@ -22,6 +22,8 @@ pub struct UdpLink<C: Clock + Drop> {
     socket: UdpSocket,
     remote: SocketAddr,
     clock: C,
+    /// Whether a receive of the socket waits, as the system was told last.
+    waits: bool,
     failures: u64,
     addresses: Snapshot<Addresses>,
 }
@@ -38,6 +40,7 @@ impl<C: Clock + Drop> UdpLink<C> {
                 socket,
                 remote,
                 clock,
+                waits: true,
                 failures: 0,
                 addresses: Snapshot::of(addresses),
             }),
@@ -50,6 +53,34 @@ impl<C: Clock + Drop> UdpLink<C> {
         ensures { IsTrue result ↔ (2 ^ 64 - 1 ≤ self.now.failures) }
     {
         self.failures == u64::MAX
+    }
+
+    /// Has the socket's receives wait or not, where that changes.
+    fn set_waits(&mut self, waits: bool) -> io::Result<()>
+        ensures { self.new ≡ record self.old { waits = self.new.waits } }
+    {
+        if waits != self.waits {
+            self.socket.set_nonblocking(!waits)?;
+            self.waits = waits;
+        }
+        Ok(())
+    }
+
+    /// Receives once: a packet, or nothing where none is there. Where the count of failures is at its last value it fails.
+    fn receive(&mut self, waits: bool, buffer: &mut [u8]) -> io::Result<Option<usize>>
+        ensures bound { IfOk result (λ found. IfSome found (λ count. count ≤ length buffer.new)) }
+        ensures same { self.new ≡ record self.old { waits = self.new.waits } }
+        ensures spent { self.old.failures ≡ 2 ^ 64 - 1 → IsErr result }
+    {
+        if self.is_spent() {
+            return Err(io::Error::from(ErrorKind::Other));
+        }
+        self.set_waits(waits)?;
+        match self.socket.recv(buffer) {
+            Ok(count) => Ok(Some(count)),
+            Err(error) if is_silence(error.kind()) => Ok(None),
+            Err(error) => Err(error),
+        }
     }
 
     /// Counts a call that failed.
@@ -77,16 +108,26 @@ impl<C: Clock + Drop> Link for UdpLink<C> {
         ensures no_failure { OnOk result (self.new.failures ≡ self.old.failures) }
         ensures spent { self.old.failures ≡ 2 ^ 64 - 1 → IsErr result }
     {
-        if !self.is_spent() {
-            match self.socket.recv(buffer) {
-                Ok(count) => return Ok(Some(count)),
-                Err(error) if is_silence(error.kind()) => return Ok(None),
-                Err(_) => {}
+        match self.receive(true, buffer) {
+            Ok(found) => Ok(found),
+            Err(_) => {
+                // A receive that fails at once is not to keep the processor busy.
+                thread::sleep(&self.clock, Duration::from_millis(WAIT));
+                Err(self.fail())
             }
         }
-        // A receive that fails at once is not to keep the processor busy.
-        thread::sleep(&self.clock, Duration::from_millis(WAIT));
-        Err(self.fail())
+    }
+
+    fn try_recv(&mut self, buffer: &mut [u8]) -> Result<Option<usize>, LinkFault>
+        ensures bound { IfOk result (λ found. IfSome found (λ count. count ≤ length buffer.new)) }
+        ensures rise { OnErr result (FailuresRose self.old.failures self.new.failures) }
+        ensures no_failure { OnOk result (self.new.failures ≡ self.old.failures) }
+        ensures spent { self.old.failures ≡ 2 ^ 64 - 1 → IsErr result }
+    {
+        match self.receive(false, buffer) {
+            Ok(found) => Ok(found),
+            Err(_) => Err(self.fail()),
+        }
     }
 
     fn send(&mut self, packet: &[u8]) -> Result<(), LinkFault>
@@ -118,8 +159,8 @@ fn opened<N: Net>(net: &N, listen: &str, remote: &str) -> io::Result<(UdpSocket,
     }
 }
 
-/// Whether a receive ended without a packet, and without a fault: nothing came in its waiting time, or
-/// a signal cut it short.
+/// Whether a receive ended without a packet, and without a fault: nothing was there or came in its waiting
+/// time, or a signal cut it short.
 fn is_silence(kind: ErrorKind) -> bool {
     matches!(
         kind,

@@ -1,5 +1,5 @@
-ghost use Rattle.std.specs.Prelude.{◌≡◌, ◌≢◌, IsTrue, List, None, Option, ℕ};
-ghost use Rattle.rly_daemon.specs.WallClock.{all_on, goes_on, left_at, moment_of, start_count, turns_had, turns_left, turns_of};
+ghost use Rattle.std.specs.Prelude.{◌≡◌, ◌≤◌, false, IsTrue, List, None, Option, ℕ};
+ghost use Rattle.rly_daemon.specs.WallClock.{all_on, goes_on, is_read_at, left_at, moment_of, start_count, turns_had, turns_left, turns_of};
 ghost use Rattle.rly_threads.specs.declared.turn.Point.{Point as APoint};
 ghost use Rattle.rly_threads.specs.Memory.{handed_of};
 
@@ -8,11 +8,13 @@ use rly_threads::{Go, Point, Turn, Worker};
 use std::sync::Wait;
 use std::time::{Clock, Duration};
 
-/// A turn that hands its worker the wall clock, and ends it after a number of turns.
+/// A turn that hands its worker the wall clock, and microseconds of a clock that never falls. It ends the worker after a
+/// number of turns.
 #[derive(Drop)]
 pub struct WallClock<C: Clock + Drop> {
     clock: C,
     now: u64,
+    since: u64,
     left: Option<u64>,
     // What it handed out, which takes no memory.
     handed: Log<(Worker, Point), Go>,
@@ -29,6 +31,7 @@ impl<C: Clock + Drop> WallClock<C> {
         WallClock {
             clock,
             now: 0,
+            since: 0,
             left,
             handed: Log::new(),
         }
@@ -40,42 +43,60 @@ impl<C: Clock + Drop> WallClock<C> {
         ensures { (left : Option ℕ) (points : List APoint) → turns_had left points ≡ turns_of left (start_count points) }
     {}
 
-    /// What it hands out at a point. The clock is read at the start of a turn.
+    /// What it hands out at a point. The clocks are read where the worker has waited: for a packet, or for an answer.
     fn go(&mut self, point: Point) -> Go
         ensures on { result.on ≡ goes_on point self.old.left }
         ensures now { result.now ≡ self.new.now }
-        ensures held { point ≢ Point.Start → self.new.now ≡ self.old.now }
+        ensures since { (result.since ≡ self.new.since) × (self.old.since ≤ self.new.since) }
+        ensures held { is_read_at point ≡ false → (self.new.now ≡ self.old.now) × (self.new.since ≡ self.old.since) }
         ensures left { self.new.left ≡ left_at point self.old.left }
         ensures handed { self.new.handed ≡ self.old.handed }
     {
-        if point != Point::Start {
-            return Go {
-                now: self.now,
-                on: true,
-            };
+        let mut on = true;
+        match point {
+            Point::Start => {
+                on = self.left != Some(0);
+                self.left = match self.left {
+                    Some(left) => Some(left.saturating_sub(1)),
+                    None => None,
+                };
+            }
+            Point::Heard | Point::Answered => self.read(),
+            Point::Call => {}
         }
+        Go {
+            now: self.now,
+            since: self.since,
+            on,
+        }
+    }
+
+    /// Reads both clocks. A monotonic one that falls stays where it was.
+    fn read(&mut self)
+        ensures same { self.new ≡ record self.old { now = self.new.now; since = self.new.since } }
+        ensures since { self.old.since ≤ self.new.since }
+    {
         self.now = moment_of(self.clock.since_1970().ok());
-        let on = self.left != Some(0);
-        self.left = match self.left {
-            Some(left) => Some(left.saturating_sub(1)),
-            None => None,
-        };
-        Go { now: self.now, on }
+        let passed = moment_of(self.clock.monotonic().ok());
+        self.since = self.since.max(passed);
     }
 }
 
 impl<C: Clock + Drop> Turn for WallClock<C> {
-    ghost use Rattle.std.specs.Prelude.{◌≡◌, ◌≢◌, ◌∷◌, []};
-    ghost use Rattle.rly_daemon.specs.WallClock.{endless_tells, goes_on, left_at};
+    ghost use Rattle.std.specs.Prelude.{◌≡◌, ◌≤◌, ◌∷◌, [], false};
+    ghost use Rattle.rly_daemon.specs.WallClock.{endless_tells, goes_on, is_read_at, left_at};
     ghost use Rattle.rly_threads.specs.Ends.{TellsMore};
 
     ghost told = { λ clock. endless_tells clock.left clock.handed };
 
+    ghost latest = { λ clock. clock.since };
+
     fn between<R: Wait>(&mut self, rt: &R, worker: Worker, point: Point) -> Go
         ensures on { result.on ≡ goes_on point self.old.left }
         ensures now { result.now ≡ self.new.now }
-        // Within a turn it hands out the moment of its start.
-        ensures held { point ≢ Point.Start → self.new.now ≡ self.old.now }
+        ensures since { (self.old.since ≤ result.since) × (self.new.since ≡ result.since) }
+        // Within a turn it hands out the moment at which the packet was waited for, up to the answer of the call.
+        ensures held { is_read_at point ≡ false → (self.new.now ≡ self.old.now) × (self.new.since ≡ self.old.since) }
         ensures left { self.new.left ≡ left_at point self.old.left }
         ensures tells { TellsMore (endless_tells self.old.left self.old.handed) (endless_tells self.new.left self.new.handed) ((worker, point, result) ∷ []) }
     {
@@ -86,12 +107,12 @@ impl<C: Clock + Drop> Turn for WallClock<C> {
     }
 }
 
-/// A moment in microseconds since the Unix epoch: 0 where the clock can't be read or stands before
-/// it, and never above the last that has 64 bits.
-fn moment_of(since_1970: Option<Duration>) -> u64
-    ensures { result ≡ moment_of since_1970 }
+/// A clock's time in microseconds: 0 where the clock can't be read or is before its start, and never above the last that
+/// has 64 bits.
+fn moment_of(time: Option<Duration>) -> u64
+    ensures { result ≡ moment_of time }
 {
-    match since_1970 {
+    match time {
         Some(time) => u64::try_from(time.as_micros()).unwrap_or(u64::MAX),
         None => 0,
     }

@@ -66,6 +66,33 @@ fn expect_counted(rt: &(impl Abort + Host), link: &mut UdpLink<HostRuntime>, pac
     expect!(rt; link.failures() == 3);
 }
 
+/// Checks that a link gives a packet to a receive that doesn't wait, if one is there, and waits again then.
+fn expect_tried(rt: &(impl Abort + Host), link: &mut UdpLink<HostRuntime>) -> Result<(), Fail> {
+    let mut buffer = [0; MAX_PACKET];
+    let other = UdpSocket::bind(rt, "127.0.0.1:0")?;
+    other.send_to(b"abc", "127.0.0.1:4025")?;
+    expect!(rt; link.try_recv(&mut buffer) == Ok(Some(3)));
+    expect!(rt; &buffer[..3] == b"abc".as_slice());
+    let before = rt.monotonic()?;
+    for _receive in 0..200 {
+        expect!(rt; link.try_recv(&mut buffer) == Ok(None));
+    }
+    let tried = rt.monotonic()?;
+    expect!(rt; tried.saturating_sub(before) < Duration::from_millis(1_000));
+    expect!(rt; link.recv(&mut buffer) == Ok(None));
+    expect!(rt; rt.monotonic()?.saturating_sub(tried) >= Duration::from_millis(5));
+    Ok(())
+}
+
+/// A receive that doesn't wait answers at once: 200 that waited would take two seconds.
+#[test]
+fn a_link_is_tried(rt: HostRuntime) -> Result<(), Fail> {
+    let mut link = link_of(rt, "127.0.0.1:4025", "127.0.0.1:4026")?;
+    expect_tried(&rt, &mut link)?;
+    expect!(rt; link.failures() == 0);
+    Ok(())
+}
+
 /// Each send of a packet that UDP can't carry fails, and is counted.
 #[test]
 fn failures_of_a_link_are_counted(rt: HostRuntime) -> Result<(), Fail> {
@@ -75,18 +102,33 @@ fn failures_of_a_link_are_counted(rt: HostRuntime) -> Result<(), Fail> {
     Ok(())
 }
 
-/// The moments are the system's, in microseconds, and the turns end.
+/// The moments at a point are the system's, in microseconds. At the next point they are the same, if it reads no clock.
+fn expect_moments(
+    rt: &HostRuntime,
+    turn: &mut WallClock<HostRuntime>,
+    point: Point,
+    next: Point,
+) -> Result<(), Fail> {
+    let worker = Worker::Receiver(PeerId(1));
+    let before = (rt.since_1970()?.as_micros(), rt.monotonic()?.as_micros());
+    let go = turn.between(rt, worker, point);
+    let after = (rt.since_1970()?.as_micros(), rt.monotonic()?.as_micros());
+    expect!(rt; before.0 <= u128::from(go.now) && u128::from(go.now) <= after.0);
+    expect!(rt; before.1 <= u128::from(go.since) && u128::from(go.since) <= after.1);
+    let held = turn.between(rt, worker, next);
+    expect!(rt; (held.now, held.since) == (go.now, go.since));
+    Ok(())
+}
+
+/// The moments are those after a packet or an answer was waited for, and the turns end.
 #[test]
 fn a_wall_clock_ends_its_worker(rt: HostRuntime) -> Result<(), Fail> {
     let worker = Worker::Receiver(PeerId(1));
     let mut turn = WallClock::new(rt, 3);
     for on in [true, true, true, false, false] {
-        let before = rt.since_1970()?.as_micros();
-        let go = turn.between(&rt, worker, Point::Start);
-        let behind = rt.since_1970()?.as_micros();
-        expect!(rt; go.on == on);
-        expect!(rt; before <= u128::from(go.now) && u128::from(go.now) <= behind);
-        expect!(rt; turn.between(&rt, worker, Point::Call).now == go.now);
+        expect!(rt; turn.between(&rt, worker, Point::Start).on == on);
+        expect_moments(&rt, &mut turn, Point::Heard, Point::Call)?;
+        expect_moments(&rt, &mut turn, Point::Answered, Point::Call)?;
     }
     let mut endless = WallClock::new(rt, 0);
     for _turn in 0..100 {

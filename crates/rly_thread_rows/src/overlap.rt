@@ -81,11 +81,14 @@ impl<'a, C: Clock + Drop> Held<'a, C> {
 impl<'a, C: Clock + Drop> Turn for Held<'a, C> {
     ghost told = { λ _. None };
 
+    ghost latest = { λ _. 0 };
+
     fn between<R: Wait>(&mut self, rt: &R, worker: Worker, point: Point) -> Go {
         let _ = rt;
         let _ = worker;
         match point {
             Point::Start => self.turns = self.turns.saturating_add(1),
+            Point::Heard => {}
             Point::Call => {
                 self.calls = self.calls.saturating_add(1);
                 if self.is_held && self.calls == 1 {
@@ -100,6 +103,7 @@ impl<'a, C: Clock + Drop> Turn for Held<'a, C> {
         }
         Go {
             now: 150,
+            since: 0,
             on: self.turns <= 8,
         }
     }

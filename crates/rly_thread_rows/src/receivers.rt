@@ -43,12 +43,13 @@ fn hear_one<R: Abort + Wait>(rt: &R, alloc: Global, packet: &[u8]) -> MemEnds {
     receive(rt, alloc, empty(rt, alloc), link, 2)
 }
 
-/// A datagram is taken, and its custody sent. The link is asked once a turn.
+/// A datagram is taken, and its custody sent. The link is asked once a turn, by a receive that waits.
 #[test]
 fn custody_is_sent(rt: HostRuntime) {
     let ends = hear_one(&rt, rt.alloc(), DATA);
     expect_sent(&rt, &ends, 1, CUSTODY);
     expect!(rt; ends.link.calls() == 3);
+    expect!(rt; ends.link.waits() == 2);
     expect!(rt; ends.desk.calls() == 1);
     expect!(rt; ends.desk.machine().item_count() == 1);
 }

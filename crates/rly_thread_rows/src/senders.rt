@@ -1,10 +1,11 @@
 //! A sending worker.
 
 use crate::workers::{
-    MemEnds, expect_counts, expect_sent, expect_sent_again, link_with, plan, spool_with,
+    MemEnds, expect_counts, expect_sent, expect_sent_again, link_with, plan, spool_with, take,
 };
 use rly_core::HopId;
-use rly_threads::{Ends, MemDesk, MemTurn, sender_run};
+use rly_machine::{Machine, Payload};
+use rly_threads::{Ends, MemDesk, MemLink, MemTurn, sender_run};
 use std::alloc::Global;
 use std::process::Abort;
 use std::sync::Wait;
@@ -16,67 +17,183 @@ const DATA: &[u8] =
 /// Its custody.
 const CUSTODY: &[u8] = b"\x52\x4c\x01\x02\x00\x09\x00\x07\x00\x00\x00\x00\x00\x00\x00\x01";
 
-/// The sender of hop 1 runs over a spool with one datagram, with a window of one, from a moment on and for so many turns. Its
-/// link gives the custody in these of 64 receives.
-fn send<R: Abort + Wait>(
+/// The sender of hop 1 runs over a spool, a link and turns. Its hop's `resend` is 40 ms, and so many datagrams may be in
+/// flight.
+fn send_from<R: Abort + Wait>(
     rt: &R,
     alloc: Global,
-    places: &[usize],
-    fails_at: u64,
-    start: u64,
-    turns: u64,
+    machine: Machine<Payload>,
+    window: u64,
+    link: MemLink,
+    turn: MemTurn,
 ) -> MemEnds {
     let mut ends = Ends {
-        link: link_with(rt, alloc, 64, places, CUSTODY, fails_at),
-        desk: MemDesk::new(alloc, spool_with(rt, alloc, 8, 1)),
-        turn: MemTurn::new(start, 1, turns),
+        link,
+        desk: MemDesk::new(alloc, machine),
+        turn,
     };
-    sender_run(rt, &plan(rt, alloc), HopId(1), 1, &mut ends);
+    sender_run(rt, &plan(rt, alloc), HopId(1), window, &mut ends);
     ends
 }
 
-/// After so many turns, how many datagrams were sent, and how many wait, are in flight and were released.
-const TURNS: [(u64, usize, u64, u64, u64); 4] = [
-    (1, 0, 1, 0, 0),
-    (2, 0, 0, 1, 0),
-    (3, 1, 0, 1, 0),
-    (4, 1, 0, 0, 1),
+/// The same over a spool with one datagram, with a window of one.
+fn send<R: Abort + Wait>(rt: &R, alloc: Global, link: MemLink, turn: MemTurn) -> MemEnds {
+    send_from(rt, alloc, spool_with(rt, alloc, 8, 1), 1, link, turn)
+}
+
+/// A link that gives the custody in these of 64 receives.
+fn custody_at<R: Abort>(rt: &R, alloc: Global, places: &[usize], fails_at: u64) -> MemLink {
+    link_with(rt, alloc, 64, places, CUSTODY, fails_at)
+}
+
+/// A link that gives nothing.
+fn silence<R: Abort>(rt: &R, alloc: Global) -> MemLink {
+    custody_at(rt, alloc, &[], 0)
+}
+
+/// After so many turns, how many datagrams were sent, how many wait, are in flight and were released, and how many
+/// receives waited.
+const TURNS: [(u64, usize, u64, u64, u64, u64); 7] = [
+    (1, 0, 1, 0, 0, 1),
+    (2, 0, 0, 1, 0, 1),
+    (3, 1, 0, 1, 0, 1),
+    (4, 1, 0, 0, 1, 1),
+    (5, 1, 0, 0, 1, 1),
+    (6, 1, 0, 0, 1, 2),
+    (7, 1, 0, 0, 1, 3),
 ];
 
-/// Within a contact a sender asks for the window, picks, fetches and sends, and releases what is kept.
+/// Within a contact a sender asks for the window, picks, fetches and sends, and releases what is kept. It waits where the
+/// turn before moved nothing: at first, and after the spool had nothing more to pick.
 #[test]
 fn a_datagram_goes_out(rt: HostRuntime) {
-    for (turns, sent, queued, flight, released) in &TURNS {
-        let ends = send(&rt, rt.alloc(), &[3], 0, 150, *turns);
+    let alloc = rt.alloc();
+    for (turns, sent, queued, flight, released, waits) in &TURNS {
+        let link = custody_at(&rt, alloc, &[3], 0);
+        let ends = send(&rt, alloc, link, MemTurn::new(150, 1, *turns));
         expect!(rt; ends.desk.calls() == *turns);
         expect_counts(&rt, &ends, *queued, *flight, *released);
+        expect_sent(&rt, &ends, *sent, DATA);
+        expect!(rt; ends.link.waits() == *waits);
+    }
+}
+
+/// Outside of a contact it asks for the window, and does nothing more but wait.
+#[test]
+fn nothing_goes_out_between_contacts(rt: HostRuntime) {
+    let link = silence(&rt, rt.alloc());
+    let ends = send(&rt, rt.alloc(), link, MemTurn::new(200, 1, 64));
+    expect!(rt; ends.desk.calls() == 1);
+    expect_sent(&rt, &ends, 0, DATA);
+    expect_counts(&rt, &ends, 1, 0, 0);
+    expect!(rt; ends.link.waits() == 63);
+}
+
+/// Microseconds from turn to turn and of each call; after so many turns, how often the datagram was sent. The third turn
+/// sends it. A turn that moves nothing has a timeout from 40 ms after that on, and the next turn sends it again.
+const TIMEOUTS: [(u64, u64, u64, usize); 12] = [
+    (10_000, 0, 7, 1),
+    (10_000, 0, 8, 2),
+    (10_000, 0, 12, 2),
+    (10_000, 0, 13, 3),
+    (9_999, 0, 8, 1),
+    (9_999, 0, 9, 2),
+    (100, 0, 403, 1),
+    (100, 0, 404, 2),
+    (10_000, 100_000, 7, 1),
+    (10_000, 100_000, 8, 2),
+    (50_000, 0, 4, 1),
+    (50_000, 0, 5, 2),
+];
+
+/// What is in flight is sent again once nothing moved for 40 ms, however many turns that takes. The time of a call doesn't
+/// count.
+#[test]
+fn data_is_sent_again(rt: HostRuntime) {
+    let alloc = rt.alloc();
+    for (step, call, turns, sent) in &TIMEOUTS {
+        let turn = MemTurn::new(1_000, *step, *turns).with_calls_of(*call);
+        let ends = send(&rt, alloc, silence(&rt, alloc), turn);
         expect_sent(&rt, &ends, *sent, DATA);
     }
 }
 
-/// Outside of a contact it asks for the window, and does nothing more.
-#[test]
-fn nothing_goes_out_between_contacts(rt: HostRuntime) {
-    let ends = send(&rt, rt.alloc(), &[], 0, 200, 64);
-    expect!(rt; ends.desk.calls() == 1);
-    expect_sent(&rt, &ends, 0, DATA);
-    expect_counts(&rt, &ends, 1, 0, 0);
+/// How many receives of the longest of those runs there are.
+const RECEIVES: usize = 404;
+
+/// A link that gives this packet in each receive.
+fn flood<R: Abort>(rt: &R, alloc: Global, packet: &[u8]) -> MemLink {
+    let mut coming = Vec::new(alloc);
+    for _receive in 0..RECEIVES {
+        let given = Some(packet.to_vec(alloc).expect(rt, "memory"));
+        coming.push(given).expect(rt, "memory");
+    }
+    MemLink::new(alloc, coming, 0)
 }
 
-/// What is in flight is sent again after 16 turns, and after 32.
+/// Packets that are no message for it, and a custody of what isn't in flight.
+const STRAYS: [&[u8]; 3] = [
+    b"x",
+    DATA,
+    b"\x52\x4c\x01\x02\x00\x09\x00\x07\x00\x00\x00\x00\x00\x00\x00\x02",
+];
+
+/// Whatever comes, what is in flight is sent as often as in silence, and the receives wait as often.
 #[test]
-fn data_is_sent_again(rt: HostRuntime) {
-    for (turns, sent) in [(16, 1), (17, 2), (32, 2), (33, 3)] {
-        let ends = send(&rt, rt.alloc(), &[], 0, 100, turns);
-        expect_sent(&rt, &ends, sent, DATA);
+fn strays_draw_nothing(rt: HostRuntime) {
+    let alloc = rt.alloc();
+    for packet in &STRAYS {
+        for (step, call, turns, sent) in &TIMEOUTS {
+            let turn = MemTurn::new(1_000, *step, *turns).with_calls_of(*call);
+            let quiet = MemTurn::new(1_000, *step, *turns).with_calls_of(*call);
+            let ends = send(&rt, alloc, flood(&rt, alloc, *packet), turn);
+            let alone = send(&rt, alloc, silence(&rt, alloc), quiet);
+            expect_sent(&rt, &ends, *sent, DATA);
+            expect!(rt; ends.link.waits() == alone.link.waits());
+        }
+    }
+}
+
+/// After so many turns of 50 ms, how many packets were sent of two datagrams, of which both may be in flight.
+const MOVING: [(u64, usize); 4] = [(4, 1), (5, 2), (6, 2), (7, 3)];
+
+/// While datagrams move there is no timeout, though more than 40 ms go by from turn to turn.
+#[test]
+fn no_timeout_comes_while_datagrams_move(rt: HostRuntime) {
+    let alloc = rt.alloc();
+    for (turns, sent) in &MOVING {
+        let mut machine = spool_with(&rt, alloc, 8, 1);
+        take(&rt, alloc, &mut machine, 1, 2);
+        let turn = MemTurn::new(1_000, 50_000, *turns);
+        let ends = send_from(&rt, alloc, machine, 2, silence(&rt, alloc), turn);
+        expect!(rt; ends.link.delivered().len() == *sent);
+    }
+}
+
+/// After so many turns, how often the datagram was sent.
+const HELD: [(u64, usize); 3] = [(3, 0), (4_000, 0), (4_001, 1)];
+
+/// What was fetched within a contact and answered after its end is held back, and sent after a timeout in a later contact.
+#[test]
+fn data_is_held_back_after_a_contact(rt: HostRuntime) {
+    let alloc = rt.alloc();
+    for (turns, sent) in &HELD {
+        let turn = MemTurn::new(130, 10, *turns).with_calls_of(20);
+        let ends = send(&rt, alloc, silence(&rt, alloc), turn);
+        expect_sent(&rt, &ends, *sent, DATA);
+        expect_counts(&rt, &ends, 0, 1, 0);
+        // All turns waited but the second and the third, which came after turns that moved something.
+        expect!(rt; ends.link.waits() == *turns - 2);
     }
 }
 
 /// Whichever call of the link fails, the datagram is sent, and released once its custody was heard.
 #[test]
 fn link_fails_once(rt: HostRuntime) {
+    let alloc = rt.alloc();
     for fails_at in 1..66 {
-        let ends = send(&rt, rt.alloc(), &[40, 56], fails_at, 100, 64);
+        let link = custody_at(&rt, alloc, &[40, 56], fails_at);
+        let ends = send(&rt, alloc, link, MemTurn::new(1_000, 10_000, 64));
         expect_sent_again(&rt, &ends, 2, DATA);
         expect_counts(&rt, &ends, 0, 0, 1);
     }

@@ -22,7 +22,8 @@ id = 1
 station = 9
 listen = "127.0.0.1:4003"
 remote = "127.0.0.1:4004"
-contacts = [[100, 200], [300, 350]]
+resend = 40
+contacts = [[100, 200], [300, 350], [1_000, 1_000_000_000]]
 [[route]]
 destination = 12
 hop = 1
@@ -45,10 +46,22 @@ pub(super) fn spool_with<R: Abort>(rt: &R, alloc: Global, items: u64, peer: u16)
         ..Params::DEFAULT
     };
     let mut machine = Machine::new(alloc, params).expect(rt, "memory");
+    take(rt, alloc, &mut machine, peer, 1);
+    machine
+}
+
+/// A spool takes a datagram for hop 1, and then has had so many.
+pub(super) fn take<R: Abort>(
+    rt: &R,
+    alloc: Global,
+    machine: &mut Machine<Payload>,
+    peer: u16,
+    number: u64,
+) {
     let bytes = b"\x00\x0c\x41".to_vec(alloc).expect(rt, "memory");
     let command = Command::Take {
         peer: PeerId(peer),
-        number: 1,
+        number,
         hop: HopId(1),
         stamp: 0,
         payload: Payload::new(bytes),
@@ -56,8 +69,7 @@ pub(super) fn spool_with<R: Abort>(rt: &R, alloc: Global, items: u64, peer: u16)
     let Ok(room) = machine.reserve_for(alloc, &command) else {
         panic!(rt; "memory");
     };
-    expect!(rt; matches!(&machine.apply(command, room), Reply::Taken(1)));
-    machine
+    expect!(rt; matches!(&machine.apply(command, room), Reply::Taken(id) if *id == number));
 }
 
 /// A link that gives a packet in those of so many receives that have these numbers, counted from 0, and nothing else. Of its

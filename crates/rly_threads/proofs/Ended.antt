@@ -6,11 +6,12 @@ use Rattle.std.specs.declared.thread.PromisedHandle.{PromisedHandle}
 use Rattle.rly_plan.specs.ContactPlan.{ContactPlan}
 use Rattle.rly_threads.specs.declared.relay.Duty.{Duty}
 use Rattle.rly_threads.specs.declared.relay.Post.{Post}
+use Rattle.rly_threads.specs.Ends.{Hearing}
 use Rattle.rly_threads.specs.Relay.{HasEnded}
 use Rattle.rly_threads.specs.Turns.{Handed}
 use Rattle.rly_threads.proofs.Threads.{through}
 
-pub kept_through : {L T : Type 0} (heard : L → Option (List (Option (List ℕ)))) (sent : L → Option (List (List ℕ))) (handed : T → Option (List Handed)) (plan : ContactPlan) (window : ℕ)
+pub kept_through : {L T : Type 0} (heard : L → Option (List Hearing)) (sent : L → Option (List (List ℕ))) (handed : T → Option (List Handed)) (plan : ContactPlan) (window : ℕ)
     (posts : List (Post L T)) (threads : List (PromisedHandle (Post L T) (Duty L T))) (results : List (Post L T))
     → AllZip (λ post thread. (thread.promise.plan.value ≡ plan) × (thread.promise.window ≡ window) × (thread.promise.post.value ≡ post)) posts threads
     → AllZip (λ thread ended. HasEnded heard sent handed thread.promise.plan.value thread.promise.window thread.promise.post.value ended) threads results

@@ -1,5 +1,5 @@
 -- A receiving worker within a turn.
-use Rattle.std.proofs.Common.{◌≡◌, ◌∙◌, ◌<◌, ℕ, List, [], ◌∷◌, ap, arith, length, refl, subst, sym}
+use Rattle.std.proofs.Common.{◌≡◌, ◌∙◌, ◌<◌, ℕ, List, [], ◌∷◌, ap, arith, length, refl, subst, sym, true}
 use Rattle.std.specs.Prelude.{Option, Some, None}
 use Rattle.rly_core.specs.declared.refusal.Refusal.TheVariants as refusal
 use Rattle.rly_hop.specs.declared.receiving.event.InAction.{InAction}
@@ -9,13 +9,14 @@ use Rattle.rly_hop.specs.declared.receiving.event.TakeAnswer.TheVariants as answ
 use Rattle.rly_hop.specs.Receiver.{Receiver}
 use Rattle.rly_hop.specs.Receiving.{receiving_step}
 use Rattle.rly_machine.specs.declared.command.Ask.{Ask}
+use Rattle.rly_threads.specs.declared.turn.Point.TheVariants.{Heard}
 use Rattle.rly_threads.specs.declared.turn.Worker.TheVariants as worker
-use Rattle.rly_threads.specs.Ends.{TellsMore}
+use Rattle.rly_threads.specs.Ends.{TellsMore, hearing}
 use Rattle.rly_threads.specs.Intake.{Intake, datagram_in, intake_event, intake_done, lacks_memory, intake_on_action, intake_on_answer, intake_on_call, intake_on_hearing, intake_on_take, intake_packets, take_ask}
-use Rattle.rly_threads.specs.HelpersTurns.{Did, Grew}
+use Rattle.rly_threads.specs.HelpersTurns.{Did}
 use Rattle.rly_threads.specs.Runs.{EndsView}
 use Rattle.rly_threads.specs.Turns.{Given, Made, around_call, message_in, nothing_done}
-use Rattle.rly_threads.proofs.Grown.{did_ask, did_nothing, did_turn, no_call, refused_call}
+use Rattle.rly_threads.proofs.Grown.{did_ask, did_hear, did_nothing, no_call, refused_call}
 
 pub asked : (w : Intake) (old mid new : EndsView) (r left : Receiver) (made : Made) (ask : Ask) (event : InEvent (List ℕ)) (action : Option (InAction (List ℕ)))
     → event ≡ intake_event made.outcome → left ≡ (receiving_step r event).0 → action ≡ (receiving_step r event).1
@@ -27,15 +28,16 @@ asked w old mid new r left made ask event action told after named made_call arou
     (after ∙ ap (λ e. (receiving_step r e).0) told) made_call around quiet
     (subst (λ a. TellsMore mid.sent new.sent (intake_packets a)) (named ∙ ap (λ e. (receiving_step r e).1) told) sent) quiet_end
 
+-- a turn, after its start
 pub turned : (w : Intake) (old mid new : EndsView) (r core left : Receiver) (given : Given) (action : Option (InAction (List ℕ)))
-    → TellsMore old.heard mid.heard (given.heard ∷ []) → mid ≡ record old { heard = mid.heard }
-    → core ≡ (intake_on_hearing r (message_in given.heard)).0 → action ≡ (intake_on_hearing r (message_in given.heard)).1
-    → Did mid new left (intake_on_action w given.now given.made core action)
-    → (left ≡ (intake_done w r given).core) × Grew old new (given ∷ []) (intake_done w r given)
-turned w old mid new r core left given action heard quiet hearing named did =
-    let same : intake_on_action w given.now given.made core action ≡ intake_done w r given = λ i. intake_on_action w given.now given.made (hearing i) (named i) in
-    let whole : Did mid new left (intake_done w r given) = subst (Did mid new left) same did in
-    (whole.left, did_turn old mid new left (intake_done w r given) given heard quiet whole)
+    → TellsMore old.heard mid.heard (hearing true given.packet ∷ []) → TellsMore old.handed mid.handed ((worker.Receiver w.peer, Heard, given.heard) ∷ [])
+    → mid ≡ record old { heard = mid.heard; handed = mid.handed }
+    → core ≡ (intake_on_hearing r (message_in given.packet)).0 → action ≡ (intake_on_hearing r (message_in given.packet)).1
+    → Did mid new left (intake_on_action w given.heard.now given.made core action) → Did old new left (intake_done w r given)
+turned w old mid new r core left given action heard at quiet hearing_is named did =
+    let rest : Did mid new left (intake_on_action w given.heard.now given.made (intake_on_hearing r (message_in given.packet)).0 (intake_on_hearing r (message_in given.packet)).1) =
+    subst (Did mid new left) (λ i. intake_on_action w given.heard.now given.made (hearing_is i) (named i)) did in
+    did_hear old mid new left _ (worker.Receiver w.peer) true given heard at quiet rest
 
 -- the core named no Take
 pub nothing_taken : (w : Intake) (told : EndsView) (now : ℕ) (r : Receiver) (action : Option (InAction (List ℕ))) → None ≡ datagram_in action

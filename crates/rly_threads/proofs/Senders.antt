@@ -1,5 +1,5 @@
 -- A sending worker within a turn.
-use Rattle.std.proofs.Common.{◌≡◌, ◌∙◌, ℕ, Bool, List, [], ◌∷◌, ap, subst}
+use Rattle.std.proofs.Common.{◌≡◌, ◌∙◌, ◌||◌, ℕ, Bool, List, [], ◌∷◌, ap, false, not, subst}
 use Rattle.std.specs.Prelude.{Option, Some, None}
 use Rattle.rly_hop.specs.declared.sending.event.OutAction.{OutAction}
 use Rattle.rly_hop.specs.declared.sending.event.OutEvent.{OutEvent}
@@ -8,44 +8,66 @@ use Rattle.rly_hop.specs.Sender.{Sender}
 use Rattle.rly_hop.specs.Sending.{sending_step}
 use Rattle.rly_machine.specs.declared.command.Ask.{Ask}
 use Rattle.rly_plan.specs.ContactPlan.{is_open}
+use Rattle.rly_threads.specs.declared.turn.Point.TheVariants.{Heard}
 use Rattle.rly_threads.specs.declared.turn.Worker.TheVariants as worker
-use Rattle.rly_threads.specs.Ends.{TellsMore}
-use Rattle.rly_threads.specs.Outlet.{Outlet, named_ask, outlet_event, outlet_on_action, outlet_on_answer, outlet_on_call, outlet_on_hearing, outlet_done, outlet_packets, with_tick}
-use Rattle.rly_threads.specs.HelpersTurns.{Did, Grew}
+use Rattle.rly_threads.specs.Ends.{TellsMore, hearing}
+use Rattle.rly_threads.specs.Outlet.{Outlet, Pacing, is_progress, named_ask, outlet_done, outlet_event, outlet_on_action, outlet_on_answer, outlet_on_call, outlet_on_hearing, outlet_packets, paced, pacing, timed, with_timeout}
+use Rattle.rly_threads.specs.HelpersTurns.{Did}
 use Rattle.rly_threads.specs.Runs.{EndsView}
-use Rattle.rly_threads.specs.Turns.{Done, Given, Made, around_call, message_in}
-use Rattle.rly_threads.proofs.Grown.{did_ask, did_nothing, did_turn, no_call}
+use Rattle.rly_threads.specs.Turns.{Done, Given, Made, around_call, has_some, message_in}
+use Rattle.rly_threads.proofs.Grown.{did_ask, did_hear, did_nothing, no_call}
 
--- a call was made, and what was named on its answer was sent
-pub asked : (w : Outlet) (old mid new : EndsView) (s left : Sender) (made : Made) (named : OutAction (List ℕ)) (ask : Ask) (event : OutEvent (List ℕ)) (action : Option (OutAction (List ℕ)))
-    → event ≡ outlet_event named made.outcome → left ≡ (sending_step s event).0 → action ≡ (sending_step s event).1
+-- a call was made, and what was named on its answer was sent or held back
+pub asked : (w : Outlet) (old mid new : EndsView) (s : Sender) (left : Pacing) (made : Made) (mark : ℕ) (named : OutAction (List ℕ)) (ask : Ask)
+    (event : OutEvent (List ℕ)) (core : Sender) (action : Option (OutAction (List ℕ))) (in_contact progress went : Bool)
+    → event ≡ outlet_event named made.outcome → progress ≡ is_progress event → core ≡ (sending_step s event).0 → action ≡ (sending_step s event).1
+    → in_contact ≡ is_open w.plan w.hop made.after.now → went ≡ has_some (outlet_packets in_contact action)
+    → left ≡ paced core (progress || went) mark made.after.since
     → TellsMore old.asked mid.asked ((ask, made.outcome) ∷ []) → TellsMore old.handed mid.handed (around_call (worker.Sender w.hop) made)
-    → mid ≡ record old { asked = mid.asked; handed = mid.handed } → TellsMore mid.sent new.sent (outlet_packets action) → new ≡ record mid { sent = new.sent }
-    → Did old new left (outlet_on_answer w made ask (sending_step s (outlet_event named made.outcome)))
-asked w old mid new s left made named ask event action told after next made_call around quiet packets quiet_end =
-    did_ask old mid new left (sending_step s (outlet_event named made.outcome)).0 ask made.outcome (outlet_packets (sending_step s (outlet_event named made.outcome)).1) (around_call (worker.Sender w.hop) made)
-    (after ∙ ap (λ e. (sending_step s e).0) told) made_call around quiet
-    (subst (λ a. TellsMore mid.sent new.sent (outlet_packets a)) (next ∙ ap (λ e. (sending_step s e).1) told) packets) quiet_end
+    → mid ≡ record old { asked = mid.asked; handed = mid.handed } → TellsMore mid.sent new.sent (outlet_packets in_contact action) → new ≡ record mid { sent = new.sent }
+    → Did old new left (outlet_on_answer w made mark ask (outlet_event named made.outcome) (sending_step s (outlet_event named made.outcome)))
+asked w old mid new s left made mark named ask event core action in_contact progress went told progressed after next opening gone pace made_call around quiet packets quiet_end =
+    let answer = outlet_event named made.outcome in
+    let step = sending_step s answer in
+    let out = outlet_packets (is_open w.plan w.hop made.after.now) step.1 in
+    let action_is : action ≡ step.1 = next ∙ ap (λ e. (sending_step s e).1) told in
+    let out_is : outlet_packets in_contact action ≡ out = λ i. outlet_packets (opening i) (action_is i) in
+    let core_is : core ≡ step.0 = after ∙ ap (λ e. (sending_step s e).0) told in
+    let progress_is : progress ≡ is_progress answer = progressed ∙ ap is_progress told in
+    let went_is : went ≡ has_some out = gone ∙ ap has_some out_is in
+    let left_is : left ≡ paced step.0 (is_progress answer || has_some out) mark made.after.since = pace ∙ (λ i. paced (core_is i) (progress_is i || went_is i) mark made.after.since) in
+    did_ask old mid new left _ ask made.outcome out (around_call (worker.Sender w.hop) made) left_is made_call around quiet (subst (TellsMore mid.sent new.sent) out_is packets) quiet_end
 
 -- the core named no call
-pub nothing_asked : (w : Outlet) (told : EndsView) (now : ℕ) (s : Sender) (named : OutAction (List ℕ)) → None ≡ named_ask w now named
-    → Did told told s (outlet_on_action w now no_call s (Some named))
-nothing_asked w told now s named none = subst (λ ask. Did told told s (outlet_on_call w no_call s named ask)) none (did_nothing told s)
+pub nothing_asked : (w : Outlet) (told : EndsView) (now mark : ℕ) (s : Sender) (named : OutAction (List ℕ)) → None ≡ named_ask w now named
+    → Did told told (pacing s false mark) (outlet_on_action w now no_call mark s (Some named))
+nothing_asked w told now mark s named none =
+    subst (λ ask. Did told told (pacing s false mark) (outlet_on_call w no_call mark s named ask)) none (did_nothing told (pacing s false mark))
 
--- a turn, behind its start
-pub turned : (w : Outlet) (old mid new : EndsView) (s heard core left : Sender) (given : Given) (open_now : Bool) (action : Option (OutAction (List ℕ)))
-    → TellsMore old.heard mid.heard (given.heard ∷ []) → mid ≡ record old { heard = mid.heard }
-    → heard ≡ outlet_on_hearing s (message_in given.heard) → open_now ≡ is_open w.plan w.hop given.now
-    → core ≡ (sending_step heard (Turn open_now)).0 → action ≡ (sending_step heard (Turn open_now)).1
-    → Did mid new left (outlet_on_action w given.now given.made core action)
-    → (left ≡ (outlet_done w s given).core) × Grew old new (given ∷ []) (outlet_done w s given)
-turned w old mid new s heard core left given open_now action packet quiet hearing opening after named did =
-    let core_is = after ∙ (λ i. (sending_step (hearing i) (Turn (opening i))).0) in
-    let action_is = named ∙ (λ i. (sending_step (hearing i) (Turn (opening i))).1) in
-    let same : outlet_on_action w given.now given.made core action ≡ outlet_done w s given = λ i. outlet_on_action w given.now given.made (core_is i) (action_is i) in
-    let whole : Did mid new left (outlet_done w s given) = subst (Did mid new left) same did in
-    (whole.left, did_turn old mid new left (outlet_done w s given) given packet quiet whole)
+-- the end of a turn
+timed_out : (w : Outlet) (old new : EndsView) (since : ℕ) (acted left : Pacing) (d : Done Pacing) → left ≡ timed w since acted
+    → Did old new acted d → Did old new left (with_timeout w since d)
+timed_out w old new since acted left d ended did = record {
+  left = ended ∙ ap (timed w since) did.left;
+  heard = did.heard;
+  sent = did.sent;
+  asked = did.asked;
+  handed = did.handed;
+}
 
--- the turn is counted
-pub counted : (old new : EndsView) (turns : List Given) (count : ℕ) (d : Done Sender) → Grew old new turns d → Grew old new turns (with_tick count d)
-counted old new turns count d grew = record { heard = grew.heard; sent = grew.sent; asked = grew.asked; handed = grew.handed }
+-- a turn, after its start
+pub turned : (w : Outlet) (old mid new : EndsView) (p : Pacing) (heard core : Sender) (acted left : Pacing) (given : Given) (in_contact : Bool) (action : Option (OutAction (List ℕ)))
+    → TellsMore old.heard mid.heard (hearing (not p.moved) given.packet ∷ []) → TellsMore old.handed mid.handed ((worker.Sender w.hop, Heard, given.heard) ∷ [])
+    → mid ≡ record old { heard = mid.heard; handed = mid.handed }
+    → heard ≡ outlet_on_hearing p.core (message_in given.packet) → in_contact ≡ is_open w.plan w.hop given.heard.now
+    → core ≡ (sending_step heard (Turn in_contact)).0 → action ≡ (sending_step heard (Turn in_contact)).1
+    → Did mid new acted (outlet_on_action w given.heard.now given.made p.mark core action) → left ≡ timed w given.heard.since acted
+    → Did old new left (outlet_done w p given)
+turned w old mid new p heard core acted left given in_contact action packet at quiet hearing_is opening after named did ended =
+    let step = sending_step (outlet_on_hearing p.core (message_in given.packet)) (Turn (is_open w.plan w.hop given.heard.now)) in
+    let step_is : sending_step heard (Turn in_contact) ≡ step = λ i. sending_step (hearing_is i) (Turn (opening i)) in
+    let core_is : core ≡ step.0 = after ∙ ap (λ r. r.0) step_is in
+    let action_is : action ≡ step.1 = named ∙ ap (λ r. r.1) step_is in
+    let rest : Did mid new acted (outlet_on_action w given.heard.now given.made p.mark step.0 step.1) =
+    subst (Did mid new acted) (λ i. outlet_on_action w given.heard.now given.made p.mark (core_is i) (action_is i)) did in
+    did_hear old mid new left _ (worker.Sender w.hop) (not p.moved) given packet at quiet (timed_out w mid new given.heard.since acted left _ ended rest)

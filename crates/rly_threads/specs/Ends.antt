@@ -1,5 +1,5 @@
 -- What a worker's link, desk and turn tell of what they gave and were given.
-use Rattle.std.specs.Prelude.{◌≡◌, ◌⊎◌, ℕ, ◌<◌, ◌-◌, ◌^◌, List, ◌++◌, take, Option, Some, None, Result, Ok, Err, ⊤}
+use Rattle.std.specs.Prelude.{◌≡◌, ◌⊎◌, ℕ, ◌<◌, ◌-◌, ◌^◌, Bool, List, ◌++◌, take, Option, Some, None, Result, Ok, Err, ⊤}
 use Rattle.rly_threads.specs.declared.link.LinkFault.{LinkFault}
 
 -- what was told grew by these; who tells nothing may tell anything later
@@ -10,6 +10,14 @@ TellsMore (Some told) new more = new ≡ Some (told ++ more)
 -- a count of failures rose, or stands at its last value
 abbrev pub FailuresRose : ℕ → ℕ → Type 0
 FailuresRose old new = (old < new) ⊎ (old ≡ 2 ^ 64 - 1)
+
+-- whether a receive of a link waited, and the packet that it gave, if it gave one
+pub record Hearing : Type 0 where
+  pub waited : Bool
+  pub packet : Option (List ℕ)
+
+abbrev pub hearing : Bool → Option (List ℕ) → Hearing
+hearing waited packet = record { waited = waited; packet = packet }
 
 -- the packet that a receive put at the front of a buffer, if it did
 abbrev pub packet_in : Option ℕ → List ℕ → Option (List ℕ)

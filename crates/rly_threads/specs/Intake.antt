@@ -23,7 +23,7 @@ use Rattle.rly_machine.specs.declared.reply.Reply.TheVariants as reply
 use Rattle.rly_plan.specs.ContactPlan.{ContactPlan, hop_for, link}
 use Rattle.rly_threads.specs.declared.turn.Worker.TheVariants as worker
 use Rattle.rly_threads.specs.Turns.{CallOutcome, Done, Given, Made, around_call, message_in, nothing_done}
-use Rattle.rly_threads.specs.Turns.{packets_of, with_start}
+use Rattle.rly_threads.specs.Turns.{packets_of, with_hearing, with_start}
 
 -- the peer that is received from, and the plan by which its datagrams are routed
 pub record Intake : Type 0 where
@@ -79,6 +79,7 @@ intake_on_hearing r (Some m) = receiving_step r (Heard m)
 abbrev pub intake_on_answer : Intake → Made → Ask → ReceivingResult → Done Receiver
 intake_on_answer w made ask left = record {
   core = left.0;
+  heard = [];
   asked = (ask, made.outcome) ∷ [];
   sent = intake_packets left.1;
   handed = around_call (worker.Receiver w.peer) made;
@@ -109,10 +110,12 @@ intake_on_take w now made r None = nothing_done r
 abbrev pub intake_on_action : Intake → ℕ → Made → Receiver → Option (InAction (List ℕ)) → Done Receiver
 intake_on_action w now made r action = intake_on_take w now made r (datagram_in action)
 
--- one turn, behind its start
+-- one turn, after its start: the receive waits, and a datagram that is taken has the turn's moment
 abbrev pub intake_done : Intake → Receiver → Given → Done Receiver
 intake_done w r given =
-    let heard = intake_on_hearing r (message_in given.heard) in intake_on_action w given.now given.made heard.0 heard.1
+    let heard = intake_on_hearing r (message_in given.packet) in
+    with_hearing (worker.Receiver w.peer) true given
+    (intake_on_action w given.heard.now given.made heard.0 heard.1)
 
 -- one turn
 abbrev pub intake_turn : Intake → Receiver → Given → Done Receiver

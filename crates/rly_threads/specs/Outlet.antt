@@ -1,5 +1,6 @@
 -- A sending worker, turn by turn (docs/PROTOCOL.md, "The sending core").
-use Rattle.std.specs.Prelude.{ℕ, ◌+◌, List, [], ◌∷◌, ◌==◌, if◌then◌else◌, Option, Some, None, Ok, Err}
+use Rattle.std.specs.Prelude.{ℕ, ◌-◌, ◌/◌, nat_le, List, [], ◌∷◌, Bool, true, false, not, ◌&&◌, ◌||◌, if◌then◌else◌}
+use Rattle.std.specs.Prelude.{Option, Some, None, Ok, Err}
 use Rattle.rly_core.specs.declared.ids.HopId.{HopId}
 use Rattle.rly_core.specs.declared.refusal.Refusal.TheVariants as refusal
 use Rattle.rly_hop.specs.declared.message.Message.{Message}
@@ -16,12 +17,12 @@ use Rattle.rly_machine.specs.declared.command.Command.TheVariants as command
 use Rattle.rly_machine.specs.declared.command.Query.TheVariants as query
 use Rattle.rly_machine.specs.declared.reply.Reply.{Reply}
 use Rattle.rly_machine.specs.declared.reply.Reply.TheVariants as reply
-use Rattle.rly_plan.specs.ContactPlan.{ContactPlan, is_open, link}
+use Rattle.rly_plan.specs.ContactPlan.{ContactPlan, is_open, link, resend}
 use Rattle.rly_threads.specs.declared.turn.Worker.TheVariants as worker
-use Rattle.rly_threads.specs.Turns.{CallOutcome, Done, Given, Made, around_call, message_in, nothing_done}
-use Rattle.rly_threads.specs.Turns.{packets_of, with_start}
+use Rattle.rly_threads.specs.Turns.{CallOutcome, Done, Given, Made, around_call, has_some, message_in, nothing_done}
+use Rattle.rly_threads.specs.Turns.{packets_of, with_hearing, with_start}
 
--- the hop that is sent to, and the plan that says when its link is open
+-- the hop that is sent to, and the plan that says when its link is open and when to send again
 pub record Outlet : Type 0 where
   pub plan : ContactPlan
   pub hop : HopId
@@ -29,13 +30,15 @@ pub record Outlet : Type 0 where
 abbrev pub outlet : ContactPlan → HopId → Outlet
 outlet plan hop = record { plan = plan; hop = hop }
 
--- the core, and how many turns it took since it was last told to send again
-pub record Ticking : Type 0 where
+-- The core, whether the last turn moved something, and the microseconds at the last turn that did or at the last timeout,
+-- whichever was later: 0 before both.
+pub record Pacing : Type 0 where
   pub core : Sender
-  pub turns : ℕ
+  pub moved : Bool
+  pub mark : ℕ
 
-abbrev pub ticking : Sender → ℕ → Ticking
-ticking core turns = record { core = core; turns = turns }
+abbrev pub pacing : Sender → Bool → ℕ → Pacing
+pacing core moved mark = record { core = core; moved = moved; mark = mark }
 
 -- what hearing a message leaves, or nothing
 abbrev pub outlet_on_hearing : Sender → Option (Message (List ℕ)) → Sender
@@ -75,48 +78,74 @@ outlet_event named (Ok a) = event_in named a.reply
 outlet_event named (Err (error.Closed back)) = event.Refused refusal.Closed
 outlet_event named (Err error.Lost) = event.Refused refusal.Lost
 
--- what is sent by an action
-abbrev pub outlet_packets : Option (OutAction (List ℕ)) → List (List ℕ)
-outlet_packets (Some (action.Send m)) = packets_of m
-outlet_packets (Some action.AskWindow) = []
-outlet_packets (Some (action.Release number)) = []
-outlet_packets (Some (action.Fetch number)) = []
-outlet_packets (Some action.Pick) = []
-outlet_packets None = []
+-- whether an answer by itself moves something: a window, or a datagram that was picked or released
+abbrev pub is_progress : OutEvent (List ℕ) → Bool
+is_progress (event.WindowIs first next) = true
+is_progress (event.Picked number) = true
+is_progress event.Released = true
+is_progress (event.Fetched number payload) = false
+is_progress event.Nothing = false
+is_progress event.Unchanged = false
+is_progress (event.Refused refusal) = false
+is_progress event.Other = false
+is_progress event.Timeout = false
+is_progress (event.Heard m) = false
+is_progress (event.Turn in_contact) = false
 
--- the answer is given to the core, and what it names then is sent
-abbrev pub outlet_on_answer : Outlet → Made → Ask → SendingResult → Done Sender
-outlet_on_answer w made ask left = record {
-  core = left.0;
-  asked = (ask, made.outcome) ∷ [];
-  sent = outlet_packets left.1;
-  handed = around_call (worker.Sender w.hop) made;
-}
+-- what is sent by an action while a contact is open; while none is open it is held back
+abbrev pub outlet_packets : Bool → Option (OutAction (List ℕ)) → List (List ℕ)
+outlet_packets true (Some (action.Send m)) = packets_of m
+outlet_packets false (Some (action.Send m)) = []
+outlet_packets in_contact (Some action.AskWindow) = []
+outlet_packets in_contact (Some (action.Release number)) = []
+outlet_packets in_contact (Some (action.Fetch number)) = []
+outlet_packets in_contact (Some action.Pick) = []
+outlet_packets in_contact None = []
+
+-- a call moved something or not, at these microseconds
+abbrev pub paced : Sender → Bool → ℕ → ℕ → Pacing
+paced s moved mark since = pacing s moved (if moved then since else mark)
+
+-- the answer is given to the core, and what it names then is sent, if a contact is open by then
+abbrev pub outlet_on_answer : Outlet → Made → ℕ → Ask → OutEvent (List ℕ) → SendingResult → Done Pacing
+outlet_on_answer w made mark ask told left =
+    let packets = outlet_packets (is_open w.plan w.hop made.after.now) left.1 in record {
+      core = paced left.0 (is_progress told || has_some packets) mark made.after.since;
+      heard = [];
+      asked = (ask, made.outcome) ∷ [];
+      sent = packets;
+      handed = around_call (worker.Sender w.hop) made;
+    }
 
 -- the call is made
-abbrev pub outlet_on_call : Outlet → Made → Sender → OutAction (List ℕ) → Option Ask → Done Sender
-outlet_on_call w made s named None = nothing_done s
-outlet_on_call w made s named (Some ask) =
-    outlet_on_answer w made ask (sending_step s (outlet_event named made.outcome))
+abbrev pub outlet_on_call : Outlet → Made → ℕ → Sender → OutAction (List ℕ) → Option Ask → Done Pacing
+outlet_on_call w made mark s named None = nothing_done (pacing s false mark)
+outlet_on_call w made mark s named (Some ask) =
+    let told = outlet_event named made.outcome in outlet_on_answer w made mark ask told (sending_step s told)
 
-abbrev pub outlet_on_action : Outlet → ℕ → Made → Sender → Option (OutAction (List ℕ)) → Done Sender
-outlet_on_action w now made s None = nothing_done s
-outlet_on_action w now made s (Some named) = outlet_on_call w made s named (named_ask w now named)
+abbrev pub outlet_on_action : Outlet → ℕ → Made → ℕ → Sender → Option (OutAction (List ℕ)) → Done Pacing
+outlet_on_action w now made mark s None = nothing_done (pacing s false mark)
+outlet_on_action w now made mark s (Some named) = outlet_on_call w made mark s named (named_ask w now named)
 
--- one turn, behind its start
-abbrev pub outlet_done : Outlet → Sender → Given → Done Sender
-outlet_done w s given =
-    let heard = outlet_on_hearing s (message_in given.heard) in
-    let left = sending_step heard (event.Turn (is_open w.plan w.hop given.now)) in
-    outlet_on_action w given.now given.made left.0 left.1
+-- The end of a turn: if it moved nothing, and at least the hop's `resend`, in milliseconds, has passed since the mark, the
+-- core is told to send again.
+abbrev pub timed : Outlet → ℕ → Pacing → Pacing
+timed w since p =
+    if not p.moved && nat_le (resend w.plan w.hop) ((since - p.mark) / 1000)
+    then pacing (sending_step p.core event.Timeout).0 false since else p
 
--- the core after a turn: after every 16th it is told to send again
-abbrev pub tick : ℕ → Sender → Ticking
-tick turns s = if turns + 1 == 16 then ticking (sending_step s event.Timeout).0 0 else ticking s (turns + 1)
+abbrev pub with_timeout : Outlet → ℕ → Done Pacing → Done Pacing
+with_timeout w since d = record d { core = timed w since d.core }
 
-abbrev pub with_tick : ℕ → Done Sender → Done Ticking
-with_tick turns d = record { core = tick turns d.core; asked = d.asked; sent = d.sent; handed = d.handed }
+-- one turn, after its start: the receive waits unless the turn before moved something
+abbrev pub outlet_done : Outlet → Pacing → Given → Done Pacing
+outlet_done w p given =
+    let heard = outlet_on_hearing p.core (message_in given.packet) in
+    let left = sending_step heard (event.Turn (is_open w.plan w.hop given.heard.now)) in
+    with_hearing (worker.Sender w.hop) (not p.moved) given
+    (with_timeout w given.heard.since
+    (outlet_on_action w given.heard.now given.made p.mark left.0 left.1))
 
 -- one turn
-abbrev pub outlet_turn : Outlet → Ticking → Given → Done Ticking
-outlet_turn w t given = with_start (worker.Sender w.hop) given (with_tick t.turns (outlet_done w t.core given))
+abbrev pub outlet_turn : Outlet → Pacing → Given → Done Pacing
+outlet_turn w p given = with_start (worker.Sender w.hop) given (outlet_done w p given)

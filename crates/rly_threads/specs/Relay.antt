@@ -1,5 +1,5 @@
 -- A relay: its lines, and what its workers did.
-use Rattle.std.specs.Prelude.{◌≡◌, ℕ, List, [], map, Option, None, IfSome}
+use Rattle.std.specs.Prelude.{◌≡◌, ℕ, false, List, [], map, Option, None, IfSome}
 use Rattle.std.specs.List.{range_with_len}
 use Rattle.rly_core.specs.declared.ids.HopId.{HopId}
 use Rattle.rly_core.specs.declared.ids.PeerId.{PeerId}
@@ -11,8 +11,9 @@ use Rattle.rly_plan.specs.ContactPlan.{ContactPlan, next_hop_at, peer_at}
 use Rattle.rly_threads.specs.declared.relay.Post.{Post}
 use Rattle.rly_threads.specs.declared.turn.Worker.{Worker}
 use Rattle.rly_threads.specs.declared.turn.Worker.TheVariants as worker
+use Rattle.rly_threads.specs.Ends.{Hearing}
 use Rattle.rly_threads.specs.Intake.{intake, intake_turn}
-use Rattle.rly_threads.specs.Outlet.{outlet, outlet_turn, ticking}
+use Rattle.rly_threads.specs.Outlet.{outlet, outlet_turn, pacing}
 use Rattle.rly_threads.specs.Runs.{Ran, EndsView}
 use Rattle.rly_threads.specs.Turns.{Given, Handed, done_in}
 
@@ -20,12 +21,12 @@ use Rattle.rly_threads.specs.Turns.{Given, Handed, done_in}
 abbrev pub new_end : LineId → ℕ → EndView
 new_end line seats = record { of = line; capacity = seats; taken = []; lines = map new_teller (range_with_len 0 seats) }
 
--- a receiver of a peer of the plan, from its start to its end: it asked and sent what its core names for what it was
--- given, in order, and nothing else
+-- a receiver of a peer of the plan, from its start to its end: it waited, asked and sent as its core and its rules of
+-- waiting name for what it was given, in order, and did nothing else
 abbrev pub HasReceived : ContactPlan → PeerId → EndsView → EndsView → Type 0
 HasReceived plan peer old new =
     IfSome (peer_at plan peer) (λ neighbour. (turns : List Given)
-    × Ran old new (worker.Receiver peer) turns
+    × Ran old new (worker.Receiver peer)
     (done_in (intake_turn (intake plan peer))
     (receiver (record { 0 = plan.station }) (record { 0 = neighbour.station })) turns))
 
@@ -33,21 +34,21 @@ HasReceived plan peer old new =
 abbrev pub HasSent : ContactPlan → ℕ → HopId → EndsView → EndsView → Type 0
 HasSent plan window hop old new =
     IfSome (next_hop_at plan hop) (λ neighbour. (turns : List Given)
-    × Ran old new (worker.Sender hop) turns
+    × Ran old new (worker.Sender hop)
     (done_in (outlet_turn (outlet plan hop))
-    (ticking (sender (record { 0 = plan.station }) (record { 0 = neighbour.station }) window) 0) turns))
+    (pacing (sender (record { 0 = plan.station }) (record { 0 = neighbour.station }) window) false 0) turns))
 
 abbrev pub HasWorked : ContactPlan → ℕ → Worker → EndsView → EndsView → Type 0
 HasWorked plan window (worker.Receiver peer) old new = HasReceived plan peer old new
 HasWorked plan window (worker.Sender hop) old new = HasSent plan window hop old new
 
 -- what the link and the turns at a post tell; a seat tells nothing
-abbrev pub told_at : Option (List (Option (List ℕ))) → Option (List (List ℕ)) → Option (List Handed) → EndsView
+abbrev pub told_at : Option (List Hearing) → Option (List (List ℕ)) → Option (List Handed) → EndsView
 told_at heard sent handed = record { heard = heard; sent = sent; asked = None; handed = handed }
 
 -- a post of a worker that ended, beside what it was
 abbrev pub HasEnded : {L T : Type 0}
-    → (L → Option (List (Option (List ℕ)))) → (L → Option (List (List ℕ))) → (T → Option (List Handed))
+    → (L → Option (List Hearing)) → (L → Option (List (List ℕ))) → (T → Option (List Handed))
     → ContactPlan → ℕ → Post L T → Post L T → Type 0
 HasEnded heard sent handed plan window post ended =
     (ended.worker ≡ post.worker)

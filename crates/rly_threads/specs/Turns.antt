@@ -1,5 +1,5 @@
 -- A worker over its turns: what it was given, and what it did.
-use Rattle.std.specs.Prelude.{ℕ, List, [], ◌∷◌, ◌++◌, Bool, true, Option, Some, None, Result}
+use Rattle.std.specs.Prelude.{ℕ, List, [], ◌∷◌, ◌++◌, Bool, true, false, Option, Some, None, Result}
 use Rattle.std.specs.Result.{result_ok}
 use Rattle.rly_core.specs.declared.refusal.Refusal.{Refusal}
 use Rattle.rly_hop.specs.declared.message.Message.{Message}
@@ -12,6 +12,7 @@ use Rattle.rly_threads.specs.declared.turn.Go.{Go}
 use Rattle.rly_threads.specs.declared.turn.Point.{Point}
 use Rattle.rly_threads.specs.declared.turn.Point.TheVariants as point
 use Rattle.rly_threads.specs.declared.turn.Worker.{Worker}
+use Rattle.rly_threads.specs.Ends.{Hearing, hearing}
 
 -- what became of a call
 abbrev pub CallOutcome : Type 0
@@ -21,36 +22,40 @@ CallOutcome = Result Answer CallError
 abbrev pub Handed : Type 0
 Handed = Worker × Point × Go
 
--- What became of the call that a worker made in a turn, if it made one, and what it was handed before it and behind it.
+-- What became of the call that a worker made in a turn, if it made one, and what it was handed before it and after it.
 -- Where memory was refused for the bytes of a payload the call was not made.
 pub record Made : Type 0 where
   pub refused : Bool
   pub outcome : CallOutcome
   pub before : Go
-  pub behind : Go
+  pub after : Go
 
--- what a worker was given in a turn: its moment, the packet that its link gave, if it gave one, and what became of its
--- call
+-- what a worker was given in a turn: what it was handed at its start, the packet that its link gave, if it gave one, what
+-- it was handed after that, which is the turn's moment, and what became of its call
 pub record Given : Type 0 where
-  pub now : ℕ
-  pub heard : Option (List ℕ)
+  pub start : Go
+  pub packet : Option (List ℕ)
+  pub heard : Go
   pub made : Made
 
--- what a worker did: the state that it is left in, what it asked, what it sent, and where it was handed what
+-- what a worker did: the state that it is left in, by which receives it heard what, what it asked, what it sent, and
+-- where it was handed what
 pub record Done (C : Type 0) : Type 0 where
   pub core : C
+  pub heard : List Hearing
   pub asked : List (Ask × CallOutcome)
   pub sent : List (List ℕ)
   pub handed : List Handed
 
 -- it did nothing
 abbrev pub nothing_done : {C : Type 0} → C → Done C
-nothing_done c = record { core = c; asked = []; sent = []; handed = [] }
+nothing_done c = record { core = c; heard = []; asked = []; sent = []; handed = [] }
 
 -- it did this, and then that
 abbrev pub done_both : {C : Type 0} → Done C → Done C → Done C
 done_both d e = record {
   core = e.core;
+  heard = d.heard ++ e.heard;
   asked = d.asked ++ e.asked;
   sent = d.sent ++ e.sent;
   handed = d.handed ++ e.handed;
@@ -75,15 +80,32 @@ packet_unless (Some fault) packet = []
 abbrev pub packets_of : Message (List ℕ) → List (List ℕ)
 packets_of m = packet_unless (unwritable m) (spelling m)
 
--- what a worker does in a turn, behind what it was handed at its start
+-- whether there is one at least
+abbrev pub has_some : {A : Type 0} → List A → Bool
+has_some [] = false
+has_some (first ∷ others) = true
+
+-- a worker asks its link for a packet, by a receive that waits or by one that doesn't, is handed the turn's moment, and
+-- does this
+abbrev pub with_hearing : {C : Type 0} → Worker → Bool → Given → Done C → Done C
+with_hearing worker waits given d = record {
+  core = d.core;
+  heard = hearing waits given.packet ∷ d.heard;
+  asked = d.asked;
+  sent = d.sent;
+  handed = (worker, point.Heard, given.heard) ∷ d.handed;
+}
+
+-- a worker is handed the start of a turn, at which it goes on, and does this
 abbrev pub with_start : {C : Type 0} → Worker → Given → Done C → Done C
 with_start worker given d = record {
   core = d.core;
+  heard = d.heard;
   asked = d.asked;
   sent = d.sent;
-  handed = (worker, point.Start, record { now = given.now; on = true }) ∷ d.handed;
+  handed = (worker, point.Start, record given.start { on = true }) ∷ d.handed;
 }
 
--- what a worker is handed before a call and behind it
+-- what a worker is handed before a call and after it
 abbrev pub around_call : Worker → Made → List Handed
-around_call worker made = (worker, point.Call, made.before) ∷ (worker, point.Answered, made.behind) ∷ []
+around_call worker made = (worker, point.Call, made.before) ∷ (worker, point.Answered, made.after) ∷ []

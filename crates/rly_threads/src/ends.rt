@@ -3,8 +3,8 @@ ghost use Rattle.std.specs.Option.{option_map};
 ghost use Rattle.rly_hop.specs.Payloads.{message_bytes};
 ghost use Rattle.rly_threads.specs.declared.turn.Go.{Go as AGo};
 ghost use Rattle.rly_threads.specs.declared.turn.Point.{Point as APoint};
-ghost use Rattle.rly_threads.specs.Ends.{TellsMore, packet_in};
-ghost use Rattle.rly_threads.specs.Turns.{message_in, packets_of};
+ghost use Rattle.rly_threads.specs.Ends.{TellsMore, hearing, packet_in};
+ghost use Rattle.rly_threads.specs.Turns.{has_some, message_in, packets_of};
 
 use crate::desk::Desk;
 use crate::link::Link;
@@ -46,48 +46,72 @@ impl<L: Link, K: Desk, T: Turn> Ends<L, K, T> {
         self.turn.between(rt, worker, point)
     }
 
-    /// Asks the link once for a packet, and answers how many bytes it put at the front of the buffer, if it did. A link
-    /// that fails gave nothing.
-    pub(crate) fn hear(&mut self, buffer: &mut [u8]) -> Option<usize>
+    /// Asks the link once for a packet, by a receive that waits or by one that doesn't. It answers how many bytes the
+    /// link put at the front of the buffer, if it did, and the turn's moment, which is read after that.
+    pub(crate) fn hear<R: Wait>(
+        &mut self,
+        rt: &R,
+        worker: Worker,
+        waits: bool,
+        buffer: &mut [u8],
+    ) -> (Option<usize>, Go)
+        ensures bound { IfSome result.0 (λ count. count ≤ length buffer.new) }
+        ensures heard { TellsMore self.old.heard self.new.heard (hearing waits (packet_in result.0 buffer.new) ∷ []) }
+        ensures told { TellsMore self.old.handed self.new.handed ((worker, APoint.Heard, result.1) ∷ []) }
+        ensures same { self.new ≡ record self.old { heard = self.new.heard; handed = self.new.handed } }
+    {
+        let found = self.receive(waits, buffer);
+        let go = self.between(rt, worker, Point::Heard);
+        (found, go)
+    }
+
+    /// Asks the link once for a packet. A link that fails gave nothing.
+    fn receive(&mut self, waits: bool, buffer: &mut [u8]) -> Option<usize>
         ensures bound { IfSome result (λ count. count ≤ length buffer.new) }
-        ensures told { TellsMore self.old.heard self.new.heard (packet_in result buffer.new ∷ []) }
+        ensures heard { TellsMore self.old.heard self.new.heard (hearing waits (packet_in result buffer.new) ∷ []) }
         ensures same { self.new ≡ record self.old { heard = self.new.heard } }
     {
-        match self.link.recv(buffer) {
+        let outcome = match waits {
+            true => self.link.recv(buffer),
+            false => self.link.try_recv(buffer),
+        };
+        match outcome {
             Ok(found) => found,
             Err(_) => None,
         }
     }
 
-    /// Sends a message that has a spelling. Where the link fails nothing is left to do: what is sent may be lost on
-    /// its way as well.
-    pub(crate) fn send(&mut self, message: Message<&[u8]>)
+    /// Sends a message that has a spelling, and answers whether it has one. Where the link fails nothing is left to do:
+    /// what is sent may be lost on its way as well.
+    pub(crate) fn send(&mut self, message: Message<&[u8]>) -> bool
         ensures told { TellsMore self.old.sent self.new.sent (packets_of (message_bytes message.entry)) }
         ensures same { self.new ≡ record self.old { sent = self.new.sent } }
+        ensures whether { result ≡ has_some (packets_of (message_bytes message.entry)) }
     {
         let mut packet = [0; MAX_MESSAGE];
         let Ok(length) = write_message(message, &mut packet) else {
-            return;
+            return false;
         };
         let _sent = self.link.send(&packet[..length]);
+        true
     }
 
-    /// Makes a worker's call.
+    /// Makes a worker's call. It answers what became of it, and what the worker was handed after it.
     pub(crate) fn call<R: Wait>(
         &mut self,
         rt: &R,
         worker: Worker,
         ask: Ask,
-    ) -> Result<Answer, CallError>
-        ensures asked { TellsMore self.old.asked self.new.asked ((ask, result) ∷ []) }
-        ensures told { (before : AGo) × (behind : AGo)
-            × TellsMore self.old.handed self.new.handed ((worker, APoint.Call, before) ∷ (worker, APoint.Answered, behind) ∷ []) }
+    ) -> (Result<Answer, CallError>, Go)
+        ensures asked { TellsMore self.old.asked self.new.asked ((ask, result.0) ∷ []) }
+        ensures told { (before : AGo)
+            × TellsMore self.old.handed self.new.handed ((worker, APoint.Call, before) ∷ (worker, APoint.Answered, result.1) ∷ []) }
         ensures same { self.new ≡ record self.old { asked = self.new.asked; handed = self.new.handed } }
     {
         self.between(rt, worker, Point::Call);
         let outcome = self.desk.call(rt, ask);
-        self.between(rt, worker, Point::Answered);
-        outcome
+        let go = self.between(rt, worker, Point::Answered);
+        (outcome, go)
     }
 }
 

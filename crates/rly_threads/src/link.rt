@@ -1,6 +1,6 @@
 // The interface of a link to one neighbour.
-ghost use Rattle.std.specs.Prelude.{◌≡◌, ◌≤◌, ◌∷◌, [], IfOk, IfSome, List, OnErr, OnOk, Option, length, ℕ};
-ghost use Rattle.rly_threads.specs.Ends.{FailuresRose, TellsMore, packet_of};
+ghost use Rattle.std.specs.Prelude.{◌≡◌, ◌≤◌, ◌∷◌, [], false, true, IfOk, IfSome, List, OnErr, OnOk, Option, length, ℕ};
+ghost use Rattle.rly_threads.specs.Ends.{FailuresRose, Hearing, TellsMore, hearing, packet_of};
 
 /// A call of a link failed.
 #[derive(Clone, Copy, Debug, PartialEq, Eq, Drop)]
@@ -8,8 +8,8 @@ pub struct LinkFault;
 
 /// A link to one neighbour, which carries packets, each whole or not at all, in any order.
 pub trait Link {
-    /// What each receive gave, if the link tells: a packet, or nothing.
-    ghost heard: { Self → Option (List (Option (List ℕ))) };
+    /// What each receive gave, and whether it waited, if the link tells.
+    ghost heard: { Self → Option (List Hearing) };
 
     /// The packets that were given to be sent, if the link tells.
     ghost sent: { Self → Option (List (List ℕ)) };
@@ -21,7 +21,15 @@ pub trait Link {
     /// doesn't fit into the buffer is lost.
     fn recv(&mut self, buffer: &mut [u8]) -> Result<Option<usize>, LinkFault>
         ensures bound { IfOk result (λ found. IfSome found (λ count. count ≤ length buffer.new)) }
-        ensures heard { TellsMore (heard self.old) (heard self.new) (packet_of result buffer.new ∷ []) }
+        ensures heard { TellsMore (heard self.old) (heard self.new) (hearing true (packet_of result buffer.new) ∷ []) }
+        ensures sent { sent self.new ≡ sent self.old }
+        ensures rise { OnErr result (FailuresRose (failed self.old) (failed self.new)) }
+        ensures no_failure { OnOk result (failed self.new ≡ failed self.old) };
+
+    /// Answers as `recv` does, and doesn't wait: it gives a packet only where one is there.
+    fn try_recv(&mut self, buffer: &mut [u8]) -> Result<Option<usize>, LinkFault>
+        ensures bound { IfOk result (λ found. IfSome found (λ count. count ≤ length buffer.new)) }
+        ensures heard { TellsMore (heard self.old) (heard self.new) (hearing false (packet_of result buffer.new) ∷ []) }
         ensures sent { sent self.new ≡ sent self.old }
         ensures rise { OnErr result (FailuresRose (failed self.old) (failed self.new)) }
         ensures no_failure { OnOk result (failed self.new ≡ failed self.old) };

@@ -1,7 +1,7 @@
 //! A link in memory. In proofs it tells all that it gave and was given.
 
-ghost use Rattle.std.specs.Prelude.{◌≡◌, ◌≤◌, [], IfOk, IfSome, OnErr, OnOk, length};
-ghost use Rattle.rly_threads.specs.Ends.{FailuresRose};
+ghost use Rattle.std.specs.Prelude.{◌≡◌, ◌≤◌, ◌++◌, ◌∷◌, [], IfOk, IfSome, OnErr, OnOk, length};
+ghost use Rattle.rly_threads.specs.Ends.{FailuresRose, hearing, packet_in};
 ghost use Rattle.rly_threads.specs.Memory.{log_bytes, heard_of, sent_of};
 
 use crate::link::{Link, LinkFault};
@@ -19,14 +19,15 @@ pub struct MemLink {
     next: usize,
     delivered: Vec<Vec<u8>>,
     calls: u64,
+    waits: u64,
     fails_at: u64,
     failures: u64,
-    heard: Log<Option<Bytes>, ()>,
+    heard: Log<bool, Option<Bytes>>,
     sent: Log<Bytes, ()>,
 }
 
 impl MemLink {
-    /// A link whose receives give these, and nothing behind their end. Of its receives and sends, counted together from
+    /// A link whose receives give these, and nothing after their end. Of its receives and sends, counted together from
     /// 1, the call of number `fails_at` fails: none where it is 0.
     pub fn new(alloc: Global, coming: Vec<Option<Vec<u8>>>, fails_at: u64) -> MemLink
         ensures heard { heard_of result.heard ≡ [] }
@@ -39,6 +40,7 @@ impl MemLink {
             next: 0,
             delivered: Vec::new(alloc),
             calls: 0,
+            waits: 0,
             fails_at,
             failures: 0,
             heard: Log::new(),
@@ -58,6 +60,13 @@ impl MemLink {
         ensures { result ≡ self.now.calls }
     {
         self.calls
+    }
+
+    /// How many of them were receives that wait.
+    pub fn waits(&self) -> u64
+        ensures { result ≡ self.now.waits }
+    {
+        self.waits
     }
 
     /// Counts a call, and answers whether it fails.
@@ -95,6 +104,19 @@ impl MemLink {
             Some(None) | None => Ok(None),
         }
     }
+
+    /// Tells what a receive gave, and whether it waited.
+    fn tell(&mut self, waited: bool, found: Option<usize>, buffer: &[u8])
+        requires { IfSome found (λ count. count ≤ length buffer.now) }
+        ensures heard { heard_of self.new.heard ≡ heard_of self.old.heard ++ hearing waited (packet_in found buffer.now) ∷ [] }
+        ensures same { self.new ≡ record self.old { heard = self.new.heard } }
+    {
+        let packet = match found {
+            Some(count) => Some(bytes_in(&buffer[..count])),
+            None => None,
+        };
+        self.heard = self.heard.and(&waited, &packet);
+    }
 }
 
 impl Link for MemLink {
@@ -108,12 +130,15 @@ impl Link for MemLink {
     ghost failed = { λ l. l.failures };
 
     fn recv(&mut self, buffer: &mut [u8]) -> Result<Option<usize>, LinkFault> {
+        self.waits = self.waits.saturating_add(1);
         let outcome = self.give_next(buffer);
-        let given = match outcome {
-            Ok(Some(count)) => Some(bytes_in(&buffer[..count])),
-            Ok(None) | Err(_) => None,
-        };
-        self.heard = self.heard.and(&given, &());
+        self.tell(true, outcome.ok().flatten(), buffer);
+        outcome
+    }
+
+    fn try_recv(&mut self, buffer: &mut [u8]) -> Result<Option<usize>, LinkFault> {
+        let outcome = self.give_next(buffer);
+        self.tell(false, outcome.ok().flatten(), buffer);
         outcome
     }
 

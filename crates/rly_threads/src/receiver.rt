@@ -5,7 +5,7 @@ ghost use Rattle.rly_hop.specs.Receiving.{receiving_step};
 ghost use Rattle.rly_threads.specs.Ends.{TellsMore};
 ghost use Rattle.rly_threads.specs.Intake.{answer_in, datagram_in, intake_event, hop_of_payload, intake, intake_done, intake_on_action, intake_on_answer, intake_on_hearing, intake_packets, take_ask};
 ghost use Rattle.rly_threads.specs.Relay.{HasReceived};
-ghost use Rattle.rly_threads.specs.HelpersTurns.{Did, Grew};
+ghost use Rattle.rly_threads.specs.HelpersTurns.{Did};
 ghost use Rattle.rly_threads.specs.Turns.{Given, Made};
 
 use crate::desk::Desk;
@@ -44,7 +44,7 @@ pub fn receiver_run<R: Wait, L: Link, K: Desk, T: Turn>(
         if !go.on {
             return;
         }
-        intake.turn(rt, alloc, go.now, ends);
+        intake.turn(rt, alloc, ends);
     }
 }
 
@@ -57,24 +57,22 @@ struct Intake<'a> {
 }
 
 impl<'a> Intake<'a> {
-    /// One turn, behind its start.
+    /// One turn, after its start. The receive waits: it returns at once where a packet is there.
     fn turn<R: Wait, L: Link, K: Desk, T: Turn>(
         &mut self,
         rt: &R,
         alloc: Global,
-        now: u64,
         ends: &mut Ends<L, K, T>,
     )
         ensures plan { self.new.plan ≡ self.old.plan }
         ensures peer { self.new.peer ≡ self.old.peer }
-        ensures done { (given : Given) × (given.now ≡ now)
-            × (self.new.core ≡ (intake_done (intake self.old.plan.now self.old.peer) self.old.core given).core)
-            × Grew ends.old ends.new (given ∷ []) (intake_done (intake self.old.plan.now self.old.peer) self.old.core given) }
+        ensures done { (given : Given)
+            × Did ends.old ends.new self.new.core (intake_done (intake self.old.plan.now self.old.peer) self.old.core given) }
     {
         let mut buffer = [0; MAX_PACKET];
-        let found = ends.hear(&mut buffer);
+        let (found, go) = ends.hear(rt, Worker::Receiver(self.peer), true, &mut buffer);
         let action = self.hear(message_in(&buffer, found));
-        self.act(rt, alloc, now, action, ends);
+        self.act(rt, alloc, go.now, action, ends);
     }
 
     /// Gives the core a message that was heard.
@@ -128,7 +126,7 @@ impl<'a> Intake<'a> {
         ensures done { (made : Made) × (made.refused ≡ false) × Did ends.old ends.new self.new.core
             (intake_on_answer (intake self.old.plan.now self.old.peer) made ask (receiving_step self.old.core (intake_event made.outcome))) }
     {
-        let outcome = ends.call(rt, Worker::Receiver(self.peer), ask);
+        let (outcome, _go) = ends.call(rt, Worker::Receiver(self.peer), ask);
         let action = self.core.step(intake_event(&outcome));
         send_named(action, ends);
     }
@@ -165,7 +163,9 @@ fn send_named<L: Link, K: Desk, T: Turn>(action: Option<InAction<&[u8]>>, ends: 
     ensures same { ends.new ≡ record ends.old { sent = ends.new.sent } }
 {
     match action {
-        Some(InAction::Send(message)) => ends.send(message),
+        Some(InAction::Send(message)) => {
+            ends.send(message);
+        }
         Some(InAction::Take { .. }) | None => {}
     }
 }

@@ -1,12 +1,12 @@
-ghost use Rattle.std.specs.Prelude.{◌≡◌, ◌<◌, ◌∷◌, []};
+ghost use Rattle.std.specs.Prelude.{◌≡◌, ◌||◌};
 ghost use Rattle.std.specs.Option.{option_map};
 ghost use Rattle.rly_hop.specs.Payloads.{message_bytes, out_action_bytes, out_event_bytes};
 ghost use Rattle.rly_hop.specs.Sending.{sending_step};
 ghost use Rattle.rly_threads.specs.Ends.{TellsMore};
-ghost use Rattle.rly_threads.specs.Outlet.{named_ask, event_in, outlet_event, outlet_on_action, outlet_on_answer, outlet_on_hearing, outlet, outlet_done, outlet_packets, tick, ticking};
+ghost use Rattle.rly_threads.specs.Outlet.{event_in, is_progress, named_ask, outlet, outlet_done, outlet_event, outlet_on_action, outlet_on_answer, outlet_on_hearing, outlet_packets, paced, pacing, timed};
 ghost use Rattle.rly_threads.specs.Relay.{HasSent};
-ghost use Rattle.rly_threads.specs.HelpersTurns.{Did, Grew};
-ghost use Rattle.rly_threads.specs.Turns.{Given, Made};
+ghost use Rattle.rly_threads.specs.HelpersTurns.{Did};
+ghost use Rattle.rly_threads.specs.Turns.{Given, Made, has_some};
 
 use crate::desk::Desk;
 use crate::ends::{Ends, MAX_PACKET, message_in};
@@ -20,9 +20,6 @@ use rly_plan::Plan;
 use std::marker::Model;
 use std::sync::Wait;
 
-/// After so many turns the core is told to send again what is in flight.
-const TURNS_PER_TIMEOUT: u64 = 16;
-
 /// Hands over what waits for a hop of the plan, turn by turn, until its turns are ended. `window` is how many datagrams
 /// may be in flight. For a hop that isn't in the plan it ends at once.
 pub fn sender_run<R: Wait, L: Link, K: Desk, T: Turn>(
@@ -32,7 +29,8 @@ pub fn sender_run<R: Wait, L: Link, K: Desk, T: Turn>(
     window: u64,
     ends: &mut Ends<L, K, T>,
 )
-    // What it asked and sent is what its core names for what it was given, in order, and nothing else.
+    // By which receives it heard, what it asked and what it sent is what its core and its rules of waiting name for what it
+    // was given, in order, and nothing else.
     ensures turns { HasSent plan.now window hop ends.old ends.new }
 {
     let Some(neighbour) = plan.hop(hop) else {
@@ -47,15 +45,15 @@ pub fn sender_run<R: Wait, L: Link, K: Desk, T: Turn>(
         plan,
         hop,
         core,
-        turns: 0,
+        moved: false,
+        mark: 0,
     };
     for _turn in rt.forever() {
         let go = ends.between(rt, Worker::Sender(hop), Point::Start);
         if !go.on {
             return;
         }
-        outlet.turn(rt, go.now, ends);
-        outlet.tick();
+        outlet.turn(rt, ends);
     }
 }
 
@@ -65,37 +63,32 @@ struct Outlet<'a> {
     plan: &'a Plan,
     hop: HopId,
     core: Sending,
-    turns: u64,
+    /// Whether the last turn moved something.
+    moved: bool,
+    /// The microseconds at the last turn that moved something, or at the last timeout.
+    mark: u64,
 }
 
 impl<'a> Outlet<'a> {
-    /// One turn, behind its start.
-    fn turn<R: Wait, L: Link, K: Desk, T: Turn>(
-        &mut self,
-        rt: &R,
-        now: u64,
-        ends: &mut Ends<L, K, T>,
-    )
+    /// One turn, after its start. Where the turn before moved something, the receive doesn't wait.
+    fn turn<R: Wait, L: Link, K: Desk, T: Turn>(&mut self, rt: &R, ends: &mut Ends<L, K, T>)
         ensures plan { self.new.plan ≡ self.old.plan }
         ensures hop { self.new.hop ≡ self.old.hop }
-        ensures turns { self.new.turns ≡ self.old.turns }
-        ensures done { (given : Given) × (given.now ≡ now)
-            × (self.new.core ≡ (outlet_done (outlet self.old.plan.now self.old.hop) self.old.core given).core)
-            × Grew ends.old ends.new (given ∷ []) (outlet_done (outlet self.old.plan.now self.old.hop) self.old.core given) }
+        ensures done { (given : Given) × Did ends.old ends.new (pacing self.new.core self.new.moved self.new.mark)
+            (outlet_done (outlet self.old.plan.now self.old.hop) (pacing self.old.core self.old.moved self.old.mark) given) }
     {
         let mut buffer = [0; MAX_PACKET];
-        let found = ends.hear(&mut buffer);
+        let (found, go) = ends.hear(rt, Worker::Sender(self.hop), !self.moved, &mut buffer);
         self.hear(message_in(&buffer, found));
-        let is_open = self.plan.is_open(self.hop, now);
+        let is_open = self.plan.is_open(self.hop, go.now);
         let action = self.core.step(OutEvent::Turn { is_open });
-        self.act(rt, now, action, ends);
+        self.act(rt, go.now, action, ends);
+        self.time(go.since);
     }
 
     /// Gives the core a message that was heard.
     fn hear(&mut self, message: Option<Message<&[u8]>>)
-        ensures plan { self.new.plan ≡ self.old.plan }
-        ensures hop { self.new.hop ≡ self.old.hop }
-        ensures turns { self.new.turns ≡ self.old.turns }
+        ensures same { self.new ≡ record self.old { core = self.new.core } }
         ensures core { self.new.core ≡ outlet_on_hearing self.old.core (option_map message_bytes message.entry) }
     {
         if let Some(message) = message {
@@ -113,10 +106,10 @@ impl<'a> Outlet<'a> {
     )
         ensures plan { self.new.plan ≡ self.old.plan }
         ensures hop { self.new.hop ≡ self.old.hop }
-        ensures turns { self.new.turns ≡ self.old.turns }
-        ensures done { (made : Made) × Did ends.old ends.new self.new.core
-            (outlet_on_action (outlet self.old.plan.now self.old.hop) now made self.old.core (option_map out_action_bytes action.entry)) }
+        ensures done { (made : Made) × Did ends.old ends.new (pacing self.new.core self.new.moved self.new.mark)
+            (outlet_on_action (outlet self.old.plan.now self.old.hop) now made self.old.mark self.old.core (option_map out_action_bytes action.entry)) }
     {
+        self.moved = false;
         let Some(action) = action else {
             return;
         };
@@ -126,7 +119,7 @@ impl<'a> Outlet<'a> {
         self.ask(rt, action, ask, ends);
     }
 
-    /// Makes a call, gives the core the answer, and sends what it names.
+    /// Makes a call, gives the core the answer, and sends what it names, if a contact is open by then.
     fn ask<R: Wait, L: Link, K: Desk, T: Turn>(
         &mut self,
         rt: &R,
@@ -136,28 +129,45 @@ impl<'a> Outlet<'a> {
     )
         ensures plan { self.new.plan ≡ self.old.plan }
         ensures hop { self.new.hop ≡ self.old.hop }
-        ensures turns { self.new.turns ≡ self.old.turns }
-        ensures done { (made : Made) × Did ends.old ends.new self.new.core
-            (outlet_on_answer (outlet self.old.plan.now self.old.hop) made ask (sending_step self.old.core (outlet_event (out_action_bytes action.entry) made.outcome))) }
+        ensures done { (made : Made) × Did ends.old ends.new (pacing self.new.core self.new.moved self.new.mark)
+            (outlet_on_answer (outlet self.old.plan.now self.old.hop) made self.old.mark ask (outlet_event (out_action_bytes action.entry) made.outcome)
+            (sending_step self.old.core (outlet_event (out_action_bytes action.entry) made.outcome))) }
     {
-        let outcome = ends.call(rt, Worker::Sender(self.hop), ask);
-        let named = self.core.step(outlet_event(action, &outcome));
-        send_named(named, ends);
+        let (outcome, go) = ends.call(rt, Worker::Sender(self.hop), ask);
+        let event = outlet_event(action, &outcome);
+        let progress = is_progress(&event);
+        let named = self.core.step(event);
+        let is_open = self.plan.is_open(self.hop, go.now);
+        let sent = send_named(is_open, named, ends);
+        self.pace(progress, sent, go.since);
     }
 
-    /// Counts a turn, and tells the core after every 16th to send again what is in flight.
-    fn tick(&mut self)
-        requires { self.old.turns < 16 }
+    /// A call was answered at these microseconds. It moved something if its answer did, or if a packet was sent.
+    fn pace(&mut self, progress: bool, sent: bool, since: u64)
         ensures plan { self.new.plan ≡ self.old.plan }
         ensures hop { self.new.hop ≡ self.old.hop }
-        ensures core { ticking self.new.core self.new.turns ≡ tick self.old.turns self.old.core }
-        ensures turns { self.new.turns < 16 }
+        ensures pacing { pacing self.new.core self.new.moved self.new.mark ≡ paced self.old.core (progress || sent) self.old.mark since }
     {
-        self.turns += 1;
-        if self.turns == TURNS_PER_TIMEOUT {
-            self.turns = 0;
-            let _nothing = self.core.step(OutEvent::Timeout);
+        self.moved = progress || sent;
+        if self.moved {
+            self.mark = since;
         }
+    }
+
+    /// The end of a turn. Where nothing moved for as long as the hop's `resend`, the core is told to send again what is in
+    /// flight.
+    fn time(&mut self, since: u64)
+        ensures plan { self.new.plan ≡ self.old.plan }
+        ensures hop { self.new.hop ≡ self.old.hop }
+        ensures pacing { pacing self.new.core self.new.moved self.new.mark
+            ≡ timed (outlet self.old.plan.now self.old.hop) since (pacing self.old.core self.old.moved self.old.mark) }
+    {
+        let passed = since.saturating_sub(self.mark) / 1_000;
+        if self.moved || passed < u64::from(self.plan.resend(self.hop)) {
+            return;
+        }
+        self.mark = since;
+        let _nothing = self.core.step(OutEvent::Timeout);
     }
 
     /// The call that an action of the core's turn names.
@@ -178,15 +188,30 @@ impl<'a> Outlet<'a> {
     }
 }
 
-/// Sends the message that an action names, if it names one.
-fn send_named<L: Link, K: Desk, T: Turn>(action: Option<OutAction<&[u8]>>, ends: &mut Ends<L, K, T>)
-    ensures told { TellsMore ends.old.sent ends.new.sent (outlet_packets (option_map out_action_bytes action.entry)) }
+/// Sends the message that an action names, if it names one and a contact is open. Whether a packet went out.
+fn send_named<L: Link, K: Desk, T: Turn>(
+    is_open: bool,
+    action: Option<OutAction<&[u8]>>,
+    ends: &mut Ends<L, K, T>,
+) -> bool
+    ensures told { TellsMore ends.old.sent ends.new.sent (outlet_packets is_open (option_map out_action_bytes action.entry)) }
     ensures same { ends.new ≡ record ends.old { sent = ends.new.sent } }
+    ensures whether { result ≡ has_some (outlet_packets is_open (option_map out_action_bytes action.entry)) }
 {
     match action {
-        Some(OutAction::Send(message)) => ends.send(message),
-        Some(_) | None => {}
+        Some(OutAction::Send(message)) if is_open => ends.send(message),
+        Some(_) | None => false,
     }
+}
+
+/// Whether an answer by itself moves something.
+fn is_progress(event: &OutEvent<&[u8]>) -> bool
+    ensures { result ≡ is_progress (out_event_bytes event.now) }
+{
+    matches!(
+        event,
+        OutEvent::WindowIs { .. } | OutEvent::Picked(_) | OutEvent::Released
+    )
 }
 
 /// What the core is told of a call that it named.

@@ -1,5 +1,5 @@
 // The interface of what hands a worker its moments.
-ghost use Rattle.std.specs.Prelude.{◌∷◌, [], List, Option};
+ghost use Rattle.std.specs.Prelude.{◌≡◌, ◌≤◌, ◌∷◌, [], List, Option, ℕ};
 ghost use Rattle.rly_threads.specs.declared.turn.Go.{Go as AGo};
 ghost use Rattle.rly_threads.specs.declared.turn.Point.{Point as APoint};
 ghost use Rattle.rly_threads.specs.declared.turn.Worker.{Worker as AWorker};
@@ -22,17 +22,22 @@ pub enum Worker {
 pub enum Point {
     /// Before a turn.
     Start,
+    /// After its link was asked for a packet.
+    Heard,
     /// Before a call.
     Call,
-    /// Behind a call, once it was answered or found the line closed.
+    /// After a call, once it was answered or found the line closed.
     Answered,
 }
 
 /// What a worker is handed.
 #[derive(Clone, Copy, Debug, PartialEq, Eq)]
 pub struct Go {
-    /// The moment, in microseconds since the Unix epoch.
+    /// The moment, in microseconds since the Unix epoch. Contacts, stamps and picks go by it. It falls where the
+    /// clock is set back.
     pub now: u64,
+    /// Microseconds since some moment, which never fall. Waiting times go by them.
+    pub since: u64,
     /// Whether it goes on, at the start of a turn.
     pub on: bool,
 }
@@ -42,8 +47,13 @@ pub trait Turn {
     /// What was handed to whom and where, if it tells.
     ghost told: { Self → Option (List (AWorker × APoint × AGo)) };
 
-    /// A worker has come to this point. The moment that it is handed at `Start` is its turn's; where `on` is false
-    /// there, the worker ends.
+    /// The microseconds that it handed out last.
+    ghost latest: { Self → ℕ };
+
+    /// A worker has come to this point. Where `on` is false at `Start`, the worker ends. The moment that it is handed
+    /// at `Heard` is its turn's; the one at `Answered` is that of its call's answer.
     fn between<R: Wait>(&mut self, rt: &R, worker: Worker, point: Point) -> Go
-        ensures { TellsMore (told self.old) (told self.new) ((worker, point, result) ∷ []) };
+        ensures told { TellsMore (told self.old) (told self.new) ((worker, point, result) ∷ []) }
+        // Whether it tells or not, the microseconds never fall.
+        ensures since { (latest self.old ≤ result.since) × (latest self.new ≡ result.since) };
 }

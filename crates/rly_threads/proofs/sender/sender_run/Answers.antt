@@ -1,34 +1,32 @@
-use Rattle.std.proofs.Common.{◌≡◌, ◌∙◌, ◌∷◌, [], arith, refl, subst, sym, true}
+use Rattle.std.proofs.Common.{◌≡◌, ◌∙◌, ◌∷◌, [], false, refl, subst}
 use Rattle.rly_threads.specs.declared.turn.Go.{Go}
 use Rattle.rly_threads.specs.declared.turn.Point.TheVariants.{Start}
 use Rattle.rly_threads.specs.declared.turn.Worker.TheVariants.{Sender}
 use Rattle.rly_threads.specs.Ends.{TellsMore}
-use Rattle.rly_threads.specs.Outlet.{Outlet, outlet, outlet_done, outlet_turn, tick, with_tick, ticking}
-use Rattle.rly_threads.specs.HelpersTurns.{Grew}
-use Rattle.rly_threads.proofs.Grown.{begun, gone_on, is_on}
-use Rattle.rly_threads.proofs.Senders.{counted}
+use Rattle.rly_threads.specs.Outlet.{Outlet, outlet, outlet_done, outlet_turn, pacing}
+use Rattle.rly_threads.specs.HelpersTurns.{Did}
+use Rattle.rly_threads.specs.Turns.{Given}
+use Rattle.rly_threads.proofs.Grown.{begun, did_start, gone_on, goes_on}
 use Rattle.rly_threads.proofs.sender.sender_run.Goals as goal
 
 pub loop-turn-init : goal.loop-turn-init
-loop-turn-init g c = (refl, refl, omega arith, begun (outlet_turn (outlet c.args.plan.now c.args.hop)) (ticking c.new-core.result 0) c.args.ends.now)
+loop-turn-init g c = (refl, refl, begun (outlet_turn (outlet c.args.plan.now c.args.hop)) (pacing c.new-core.result false 0) c.args.ends.now)
 
 pub loop-turn-preserved : goal.loop-turn-preserved
 loop-turn-preserved g c =
     let before = c.loop-turn.invariant in
     let done = c.turn.ensures.done in
-    let now = c.loop-turn.outlet in
-    let same : outlet now.plan.now now.hop ≡ outlet c.args.plan.now c.args.hop = λ i. outlet (before.0 i).now (before.1 i) in
-    let grew = subst (λ (w : Outlet). Grew c.between-go.new.self c.turn.new.ends (done.0 ∷ []) (outlet_done w now.core done.0)) same done.3 in
-    let left = subst (λ (w : Outlet). c.turn.new.self.core ≡ (outlet_done w now.core done.0).core) same done.2 in
-    let go : c.between-go.result ≡ record { now = done.0.now; on = true } = λ i. record { now = sym done.1 i; on = is_on c.between-go.result.on c.if-not-go.false i } in
-    let start = subst (λ (x : Go). TellsMore c.loop-turn.ends.handed c.between-go.new.self.handed ((Sender c.args.hop, Start, x) ∷ [])) go c.between-go.ensures.told in
-    let d = outlet_done (outlet c.args.plan.now c.args.hop) now.core done.0 in (
-      c.tick.ensures.plan ∙ c.turn.ensures.plan ∙ before.0,
-      c.tick.ensures.hop ∙ c.turn.ensures.hop ∙ before.1,
-      c.tick.ensures.turns,
-      gone_on (outlet_turn (outlet c.args.plan.now c.args.hop)) (ticking c.new-core.result 0) (ticking now.core now.turns) (ticking c.tick.new.self.core c.tick.new.self.turns)
-          c.args.ends.now c.loop-turn.ends c.between-go.new.self c.turn.new.ends
-          (Sender c.args.hop) done.0 (with_tick now.turns d)
-          before.3 refl (c.tick.ensures.core ∙ (λ i. tick (c.turn.ensures.turns i) (left i))) start c.between-go.ensures.same
-          (counted c.between-go.new.self c.turn.new.ends (done.0 ∷ []) now.turns d grew),
+    let was = c.loop-turn.outlet in
+    let now = c.turn.new.self in
+    let p = pacing was.core was.moved was.mark in
+    let next = pacing now.core now.moved now.mark in
+    let same : outlet was.plan.now was.hop ≡ outlet c.args.plan.now c.args.hop = λ i. outlet (before.0 i).now (before.1 i) in
+    let given : Given = record done.0 { start = c.between-go.result } in
+    let did : Did c.between-go.new.self c.turn.new.ends next (outlet_done (outlet c.args.plan.now c.args.hop) p given) =
+    subst (λ (w : Outlet). Did c.between-go.new.self c.turn.new.ends next (outlet_done w p done.0)) same done.1 in
+    let start = subst (λ (x : Go). TellsMore c.loop-turn.ends.handed c.between-go.new.self.handed ((Sender c.args.hop, Start, x) ∷ [])) (goes_on c.between-go.result c.if-not-go.false) c.between-go.ensures.told in (
+      c.turn.ensures.plan ∙ before.0,
+      c.turn.ensures.hop ∙ before.1,
+      gone_on (outlet_turn (outlet c.args.plan.now c.args.hop)) (pacing c.new-core.result false 0) p next c.args.ends.now c.loop-turn.ends c.turn.new.ends given before.2
+          (did_start c.loop-turn.ends c.between-go.new.self c.turn.new.ends next _ (Sender c.args.hop) given start c.between-go.ensures.same did),
     )

@@ -1,24 +1,37 @@
-use Rattle.std.proofs.Common.{◌≡◌, ◌∙◌, ap, refl, subst}
+use Rattle.std.proofs.Common.{◌≡◌, ◌∙◌, ap, subst}
 use Rattle.std.specs.Option.{option_map}
 use Rattle.rly_hop.specs.Payloads.{out_action_bytes}
 use Rattle.rly_plan.specs.ContactPlan.{is_open}
 use Rattle.rly_threads.specs.Ends.{packet_in}
-use Rattle.rly_threads.specs.Outlet.{Outlet, outlet_on_action, outlet_on_hearing, outlet}
+use Rattle.rly_threads.specs.Outlet.{Outlet, outlet, outlet_on_action, outlet_on_hearing, pacing, timed}
+use Rattle.rly_threads.specs.declared.sender.Outlet.{Outlet as Worker}
 use Rattle.rly_threads.specs.HelpersTurns.{Did}
 use Rattle.rly_threads.specs.Turns.{Given}
+use Rattle.rly_threads.proofs.Grown.{nowhere}
 use Rattle.rly_threads.proofs.Senders.{turned}
 use Rattle.rly_threads.proofs.sender.Outlet.turn.Goals as goal
 
 pub returns-clause-done : goal.returns-clause-done
 returns-clause-done g c =
     let acted = c.act.ensures.done in
-    let same : outlet c.hear.new.self.plan.now c.hear.new.self.hop ≡ outlet c.args.self.now.plan.now c.args.self.now.hop = λ i. outlet (c.hear.ensures.plan i).now (c.hear.ensures.hop i) in
-    let did = subst (λ (w : Outlet). Did c.hear-found.new.self c.act.new.ends c.act.new.self.core (outlet_on_action w c.args.now acted.0 c.step-action.new.self (option_map out_action_bytes c.step-action.result))) same acted.1 in
-    let given : Given = record { now = c.args.now; heard = packet_in c.hear-found.result c.hear-found.new.buffer; made = acted.0 } in
-    let done = turned (outlet c.args.self.now.plan.now c.args.self.now.hop) c.args.ends.now c.hear-found.new.self c.act.new.ends
-    c.args.self.now.core c.hear.new.self.core c.step-action.new.self c.act.new.self.core given c.is_open-is_open.result (option_map out_action_bytes c.step-action.result)
-    c.hear-found.ensures.told c.hear-found.ensures.same
-    (c.hear.ensures.core ∙ ap (outlet_on_hearing c.args.self.now.core) c.message_in.ensures)
-    (c.is_open-is_open.ensures ∙ ap (λ (w : Outlet). is_open w.plan w.hop c.args.now) same)
-    c.step-action.ensures.state c.step-action.ensures.action did in
-    (given, refl, done.0, done.1)
+    let was = c.args.self.now in
+    let heard = c.hear.new.self in
+    let now = c.act.new.self in
+    let w = outlet was.plan.now was.hop in
+    let same : outlet heard.plan.now heard.hop ≡ w = ap (λ (o : Worker). outlet o.plan.now o.hop) c.hear.ensures.same in
+    let acted_by : outlet now.plan.now now.hop ≡ w = (λ i. outlet (c.act.ensures.plan i).now (c.act.ensures.hop i)) ∙ same in
+    let kept : heard.mark ≡ was.mark = ap (λ (o : Worker). o.mark) c.hear.ensures.same in
+    let did : Did c.hear-found.new.self c.act.new.ends (pacing now.core now.moved now.mark)
+    (outlet_on_action w c.hear-found.result.1.now acted.0 was.mark c.step-action.new.self (option_map out_action_bytes c.step-action.result)) =
+    subst (Did c.hear-found.new.self c.act.new.ends (pacing now.core now.moved now.mark))
+    (λ i. outlet_on_action (same i) c.hear-found.result.1.now acted.0 (kept i) c.step-action.new.self (option_map out_action_bytes c.step-action.result)) acted.1 in
+    let ended = c.time.ensures.pacing ∙ ap (λ (o : Outlet). timed o c.hear-found.result.1.since (pacing now.core now.moved now.mark)) acted_by in
+    let given : Given = record { start = nowhere; packet = packet_in c.hear-found.result.0 c.hear-found.new.buffer; heard = c.hear-found.result.1; made = acted.0 } in (
+      given,
+      turned w c.args.ends.now c.hear-found.new.self c.act.new.ends
+          (pacing was.core was.moved was.mark) heard.core c.step-action.new.self (pacing now.core now.moved now.mark) (pacing c.time.new.self.core c.time.new.self.moved c.time.new.self.mark)
+          given c.is_open-is_open.result (option_map out_action_bytes c.step-action.result)
+          c.hear-found.ensures.heard c.hear-found.ensures.told c.hear-found.ensures.same
+          (c.hear.ensures.core ∙ ap (outlet_on_hearing was.core) c.message_in.ensures) (c.is_open-is_open.ensures ∙ ap (λ (o : Outlet). is_open o.plan o.hop c.hear-found.result.1.now) same)
+          c.step-action.ensures.state c.step-action.ensures.action did ended,
+    )
