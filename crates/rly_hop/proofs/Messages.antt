@@ -224,3 +224,15 @@ pub spelled-faultless : (bytes : List ℕ) (m : Message (List ℕ)) → IsMessag
 unfolding reading
 spelled-faultless bytes m fits same =
     (unless-ok (first_fault bytes) (message_at (kind_of bytes) bytes) m (ap reading same ∙ reading-spelling m fits)).0
+
+-- ---- lengths
+
+pub length-spelling_data : (from to : StationId) (number : ℕ) (payload : List ℕ) → length (spelling (Data from to number payload)) ≡ 18 + length payload
+unfolding spelling
+length-spelling_data from to number payload = omega arith
+
+pub spelling-within : (m : Message (List ℕ)) → IsMessage m → length (spelling m) ≤ 1218
+unfolding spelling
+spelling-within (Data from to number payload) fits = omega (arith, length-spelling_data from to number payload, fits.3)
+spelling-within (Custody from to last) fits = omega arith
+spelling-within (Refused from to number told) fits = omega arith

@@ -5,7 +5,9 @@ mod messages;
 mod receiving;
 mod sending;
 
-pub use crate::laws::messages::{law_no_fault_is_a_spelling, law_one_spelling};
+pub use crate::laws::messages::{
+    law_longest_message, law_no_fault_is_a_spelling, law_one_spelling,
+};
 pub use crate::laws::receiving::{
     law_custody_follows_an_answer, law_nothing_is_named_while_an_answer_is_due,
     law_refused_follows_an_answer, law_take_follows_data,

@@ -18,9 +18,9 @@ mod writing;
 
 pub use crate::laws::{
     law_cursor_is_in_order, law_custody_follows_an_answer, law_data_is_what_was_fetched,
-    law_fetch_was_given, law_no_fault_is_a_spelling, law_nothing_is_named_while_an_answer_is_due,
-    law_one_spelling, law_refused_follows_an_answer, law_release_was_acknowledged,
-    law_take_follows_data,
+    law_fetch_was_given, law_longest_message, law_no_fault_is_a_spelling,
+    law_nothing_is_named_while_an_answer_is_due, law_one_spelling, law_refused_follows_an_answer,
+    law_release_was_acknowledged, law_take_follows_data,
 };
 pub use crate::message::{MAX_MESSAGE, Message, StationId};
 pub use crate::reading::read_message;

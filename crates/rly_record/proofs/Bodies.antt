@@ -1,6 +1,6 @@
 -- A body that is read is the body that was written, and what was written is read again; and the loops over a body's
 -- records.
-use Rattle.std.proofs.Common.{◌≡◌, ℕ, zero, suc, ◌+◌, ◌-◌, ◌<◌, ◌≤◌, Bool, true, false, cond, ◌||◌, eqb, ltb, List, [], ◌∷◌, ◌++◌, length, get_or, drop, Option, Some, None, Result, Ok, Err, refl, sym, ap, subst, ◌∙◌, append_assoc, arith, drop-cons, inl, inr}
+use Rattle.std.proofs.Common.{◌≡◌, ℕ, zero, suc, ◌+◌, ◌-◌, ◌*◌, ◌<◌, ◌≤◌, Bool, true, false, cond, ◌||◌, eqb, ltb, List, [], ◌∷◌, ◌++◌, length, get_or, drop, Option, Some, None, Result, Ok, Err, refl, sym, ap, subst, ◌∙◌, append_assoc, arith, drop-cons, inl, inr}
 use Rattle.std.specs.Prelude.{All, IfOk, IsSome, MatchResult, sum_by}
 use Rattle.std.specs.Global.{Vec}
 use Rattle.std.specs.List.{AllByRecursion, flat_map}
@@ -220,3 +220,27 @@ pub length-body_of : (commands : List (Command (List ℕ))) → length (body_of 
 length-body_of commands =
     let cut : length (body_of commands) ≡ 2 + length (flat_map record_of commands) = length-append (big_bytes 2 (length commands)) (flat_map record_of commands) in
     cut ∙ ap (λ (n : ℕ). 2 + n) (sum-lengths commands)
+
+pub record_length-has : (command : Command (List ℕ)) → HasRecord command → record_length length command ≤ 1223
+record_length-has (Take peer number hop stamp payload) has = omega (arith, has.4)
+record_length-has (Pick hop now) has = omega arith
+record_length-has (Release hop number) has = omega arith
+
+sum-lengths-within : (commands : List (Command (List ℕ))) → AllByRecursion HasRecord commands → sum_by (record_length length) commands ≤ 1223 * length commands
+sum-lengths-within [] has = omega arith
+sum-lengths-within (command ∷ commands) has =
+    let whole : sum_by (record_length length) (command ∷ commands) ≡ record_length length command + sum_by (record_length length) commands = sum_by-cons (record_length length) command commands in
+    omega (arith, whole, record_length-has command has.0, sum-lengths-within commands has.1)
+
+pub body_length-within : (commands : List (Command (List ℕ))) → HaveBody commands → body_length length commands ≤ 78274
+body_length-within commands has = omega (arith, sum-lengths-within commands has.1, has.0.1)
+
+sum-lengths-all : (commands : List (Command (List ℕ))) → AllByRecursion (λ command. record_length length command ≡ 1223) commands → sum_by (record_length length) commands ≡ 1223 * length commands
+sum-lengths-all [] each = refl
+sum-lengths-all (command ∷ commands) each =
+    let whole : sum_by (record_length length) (command ∷ commands) ≡ record_length length command + sum_by (record_length length) commands = sum_by-cons (record_length length) command commands in
+    omega (arith, whole, each.0, sum-lengths-all commands each.1)
+
+pub body_length-all : (commands : List (Command (List ℕ))) → length commands ≡ 64 → All (λ command. record_length length command ≡ 1223) commands → body_length length commands ≡ 78274
+body_length-all commands count each =
+    omega (arith, sum-lengths-all commands (recursion_from_All (λ command. record_length length command ≡ 1223) commands each), count)

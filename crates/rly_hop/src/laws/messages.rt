@@ -1,7 +1,11 @@
-ghost use Rattle.std.specs.Prelude.{◌≡◌, ◌<◌, ◌↔◌, ℕ, List, None, slice_index};
+ghost use Rattle.std.specs.Prelude.{◌≡◌, ◌<◌, ◌≤◌, ◌↔◌, ℕ, List, None, length, slice_index};
 ghost use Rattle.rly_hop.specs.declared.message.Message.{Message};
+ghost use Rattle.rly_hop.specs.declared.message.StationId.{StationId};
 ghost use Rattle.rly_hop.specs.Spelling.{IsMessage, spelling};
 ghost use Rattle.rly_hop.specs.Reading.{first_fault};
+
+use crate::message::MAX_MESSAGE;
+use rly_core::limits::MAX_PAYLOAD;
 
 /// No two messages are spelled by the same bytes.
 pub fn law_one_spelling()
@@ -12,4 +16,12 @@ pub fn law_one_spelling()
 pub fn law_no_fault_is_a_spelling(bytes: &[u8])
     ensures spelled { first_fault bytes.now ≡ None → (m : Message (List ℕ)) × IsMessage m × (bytes.now ≡ spelling m) }
     ensures faultless { (m : Message (List ℕ)) → IsMessage m → bytes.now ≡ spelling m → first_fault bytes.now ≡ None }
+{}
+
+/// No message is longer than `MAX_MESSAGE`, and one that hands over the longest payload is as long.
+pub fn law_longest_message()
+    ensures bytes { MAX_MESSAGE ≡ 1218 }
+    ensures within { (m : Message (List ℕ)) → IsMessage m → length (spelling m) ≤ MAX_MESSAGE }
+    ensures reached { (from to : StationId) (number : ℕ) (payload : List ℕ) → length payload ≡ MAX_PAYLOAD
+        → length (spelling (Message.Data from to number payload)) ≡ MAX_MESSAGE }
 {}
