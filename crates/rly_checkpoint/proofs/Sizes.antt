@@ -1,5 +1,5 @@
 -- How long a checkpoint is.
-use Rattle.std.proofs.Common.{◌≡◌, ℕ, ◌+◌, ◌*◌, List, [], ◌∷◌, ◌++◌, length, refl, ap, ◌∙◌, length-append, arith, sum_by}
+use Rattle.std.proofs.Common.{◌≡◌, ℕ, ◌+◌, ◌*◌, ◌≤◌, List, [], ◌∷◌, ◌++◌, length, refl, ap, ◌∙◌, length-append, arith, sum_by}
 use Rattle.std.specs.List.{flat_map}
 use Rattle.std.proofs.lemmas.List.Concat.{flat_map-cons}
 use Rattle.std.proofs.lemmas.List.Sums.{sum_by-cons}
@@ -35,6 +35,10 @@ hops_length (h ∷ hops) =
     let items : sum_by (λ x. length (live_line x)) (h ∷ hops) ≡ length (live_line h) + sum_by (λ x. length (live_line x)) hops = sum_by-cons (λ (x : HopState (List ℕ)). length (live_line x)) h hops in
     let bytes : sum_by (λ x. bytes_of length (live_line x)) (h ∷ hops) ≡ bytes_of length (live_line h) + sum_by (λ x. bytes_of length (live_line x)) hops = sum_by-cons (λ (x : HopState (List ℕ)). bytes_of length (live_line x)) h hops in
     omega (arith, length-cons hop_bytes h hops, length-hop_bytes h, entries_length (live_line h), hops_length hops, items, bytes)
+
+-- a hop has 71 bytes at least
+pub length-hops : (hops : List (HopState (List ℕ))) → 71 * length hops ≤ length (flat_map hop_bytes hops)
+length-hops hops = omega (arith, hops_length hops)
 
 -- the bytes of a whole state, one part behind the other
 pub length-parts : (s : State (List ℕ)) → length (checkpoint_of s) ≡ 8 + length (flat_map (big_bytes 8) s.lasts) + length (flat_map hop_bytes s.hops)

@@ -1,8 +1,9 @@
 -- The bytes of a whole state (docs/FORMATS.md, "Heads"): what a segment's head holds behind its generation and length.
 -- It is a function of the state, and under the same parameters no two sound states share one (`law_one_state`).
-use Rattle.std.specs.Prelude.{ℕ, List, [], ◌∷◌, ◌++◌, length, Bool, true, false}
+use Rattle.std.specs.Prelude.{ℕ, ◌+◌, ◌*◌, List, [], ◌∷◌, ◌++◌, length, Bool, true, false}
 use Rattle.std.specs.List.{flat_map}
 use Rattle.byteorder.specs.Endian.{big_bytes}
+use Rattle.rly_core.specs.declared.params.Params.{Params}
 use Rattle.rly_codel.specs.declared.state.CodelState.{CodelState}
 use Rattle.rly_machine.specs.declared.hop.Item.{Item}
 use Rattle.rly_machine.specs.State.{State, HopState, live_line}
@@ -33,3 +34,7 @@ hop_bytes h =
 -- a whole state: the count of accepted commands, each peer's last number, and each hop
 unfoldable pub checkpoint_of : State (List ℕ) → List ℕ
 checkpoint_of s = big_bytes 8 s.seq ++ flat_map (big_bytes 8) s.lasts ++ flat_map hop_bytes s.hops
+
+-- how long the shortest checkpoint under those parameters is, which is that of an empty spool
+abbrev pub least_checkpoint_length : Params → ℕ
+least_checkpoint_length params = 8 + 8 * params.peers + 71 * params.hops

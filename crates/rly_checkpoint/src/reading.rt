@@ -1,10 +1,11 @@
-ghost use Rattle.std.specs.Prelude.{◌≡◌, ◌≤◌, ◌<◌, ◌^◌, ℕ, List, length, map};
+ghost use Rattle.std.specs.Prelude.{◌≡◌, ◌≤◌, ◌<◌, ◌^◌, ℕ, Err, List, length, map};
 ghost use Rattle.rly_core.specs.Limits.{IsWithinLimits};
 ghost use Rattle.rly_record.specs.HelpersReading.{Gives, many_at, field_at};
+ghost use Rattle.rly_checkpoint.specs.Checkpoint.{least_checkpoint_length};
 ghost use Rattle.rly_checkpoint.specs.HelpersReading.{codel_at, counts_at, entry_at, flag_at, hop_bytes_at, inline_at, entries_at, lines_at, whole_state};
 ghost use Rattle.rly_machine.specs.Kept.{hop_state, state_of};
 
-use crate::writing::ENTRY_LENGTH;
+use crate::writing::{ENTRY_LENGTH, HOP_LENGTH, NUMBER_LENGTH};
 use byteorder::{BigEndian, ByteOrder};
 use rly_core::Params;
 use rly_machine::{CodelState, Hop, Item, Payload, Queue};
@@ -240,9 +241,24 @@ fn numbers_of(alloc: Global, count: usize, bytes: &[u8]) -> Result<(Vec<u64>, &[
     Ok((numbers, rest))
 }
 
-/// The parts of a spool with those parameters, and nothing behind them.
-#[tactic(auto, unfolding(crate::specs::HelpersReading::state_at, crate::specs::HelpersReading::whole_state))]
+/// The parts of a spool with those parameters, and nothing behind them. Bytes that are too few for its peers and hops take no
+/// memory.
 pub(crate) fn parts_of(alloc: Global, params: Params, bytes: &[u8]) -> Result<Parts, DecodeFault>
+    requires { IsWithinLimits params }
+    ensures gives { Gives (λ parts. state_of params parts.hops parts.lasts parts.seq) result (whole_state params bytes.now) }
+    ensures memory { result ≡ Err DecodeFault.OutOfMemory → least_checkpoint_length params ≤ length bytes.now }
+{
+    let peers = NUMBER_LENGTH * params.peers as usize;
+    let hops = HOP_LENGTH * params.hops as usize;
+    if bytes.len() < NUMBER_LENGTH + peers + hops {
+        return Err(DecodeFault::Malformed);
+    }
+    whole_parts_of(alloc, params, bytes)
+}
+
+/// The same, of bytes that are enough for the peers and hops.
+#[tactic(auto, unfolding(crate::specs::HelpersReading::state_at, crate::specs::HelpersReading::whole_state))]
+fn whole_parts_of(alloc: Global, params: Params, bytes: &[u8]) -> Result<Parts, DecodeFault>
     requires { IsWithinLimits params }
     ensures { Gives (λ parts. state_of params parts.hops parts.lasts parts.seq) result (whole_state params bytes.now) }
 {

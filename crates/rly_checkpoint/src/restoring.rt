@@ -1,8 +1,8 @@
-ghost use Rattle.std.specs.Prelude.{◌≡◌, ℕ, List, length, IfOk, MatchResult};
+ghost use Rattle.std.specs.Prelude.{◌≡◌, ◌≤◌, ℕ, Err, List, length, IfOk, MatchResult};
 ghost use Rattle.rly_core.specs.Limits.{IsWithinLimits};
 ghost use Rattle.rly_machine.specs.Sound.{IsSound};
 ghost use Rattle.rly_machine.specs.State.{State};
-ghost use Rattle.rly_checkpoint.specs.Checkpoint.{checkpoint_of};
+ghost use Rattle.rly_checkpoint.specs.Checkpoint.{checkpoint_of, least_checkpoint_length};
 
 use crate::reading::{Parts, parts_of};
 use crate::sound::is_sound;
@@ -24,6 +24,9 @@ pub fn read_checkpoint(
     // What is the checkpoint of a sound state is read, unless memory is refused: so Malformed says that there is none.
     ensures only { (s : State (List ℕ)) → IsSound length s → s.params ≡ params → bytes.now ≡ checkpoint_of s
         → MatchResult result (λ machine. machine.state ≡ s) (λ fault. fault ≡ DecodeFault.OutOfMemory) }
+
+    // Memory is wanted only for bytes that are long enough for the peers and hops.
+    ensures memory { result ≡ Err DecodeFault.OutOfMemory → least_checkpoint_length params ≤ length bytes.now }
 {
     let parts = parts_of(alloc, params, bytes)?;
     if !is_sound(&params, &parts) {

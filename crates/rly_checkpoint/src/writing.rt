@@ -13,7 +13,7 @@ use rly_machine::{CodelState, Hop, Item, Machine, Payload};
 use std::alloc::AllocError;
 
 /// The length in bytes of a number: the count of accepted commands, a peer's last number or a hop's last moment.
-const NUMBER_LENGTH: usize = 8;
+pub(crate) const NUMBER_LENGTH: usize = 8;
 
 /// The length in bytes of CoDel's state.
 const CODEL_LENGTH: usize = 33;
@@ -25,7 +25,7 @@ const COUNTS_LENGTH: usize = 30;
 pub(crate) const ENTRY_LENGTH: usize = 19;
 
 /// The length in bytes of a hop, without its entries.
-const HOP_LENGTH: usize = NUMBER_LENGTH + CODEL_LENGTH + COUNTS_LENGTH;
+pub(crate) const HOP_LENGTH: usize = NUMBER_LENGTH + CODEL_LENGTH + COUNTS_LENGTH;
 
 /// How many bytes the checkpoint of a spool has.
 pub fn checkpoint_len(machine: &Machine<Payload>) -> u64
