@@ -126,6 +126,26 @@ fn what_was_written_is_read(rt: HostRuntime) -> Result<(), Fail> {
     Ok(())
 }
 
+/// The last command, which took a datagram at the last moment.
+#[test]
+fn the_last_numbers_are_read(rt: HostRuntime) -> Result<(), Fail> {
+    let mut bytes = TAKEN;
+    // the count of commands and the id are 2^48 - 1
+    for index in 2..8 {
+        bytes[index] = 0xff;
+        bytes[index + 87] = 0xff;
+    }
+    // the hop's moment and the stamp are 2^52 - 1
+    bytes[17] = 0x0f;
+    bytes[96] = 0x0f;
+    for index in 18..24 {
+        bytes[index] = 0xff;
+        bytes[index + 79] = 0xff;
+    }
+    expect_read(&rt, rt.alloc(), &bytes, 281_474_976_710_655)?;
+    Ok(())
+}
+
 /// Changes of single bytes of the worked checkpoint.
 const FOREIGN: [(usize, u8); 17] = [
     // fewer commands than datagrams, and more than there may be

@@ -26,6 +26,8 @@ mod dequeues;
 #[cfg(test)]
 mod expect;
 #[cfg(test)]
+mod extremes;
+#[cfg(test)]
 mod machine;
 #[cfg(test)]
 mod params;

@@ -90,7 +90,7 @@ fn is_no_record(alloc: Global, bytes: &[u8]) -> bool {
     matches!(read_command(alloc, bytes), Err(DecodeFault::Malformed))
 }
 
-/// Writes a record.
+/// Writes a record, for which no more is reserved than twice its length.
 fn expect_record(
     rt: &impl Abort,
     alloc: Global,
@@ -103,6 +103,7 @@ fn expect_record(
     let mut out = Vec::new(alloc);
     write_command(command, &mut out)?;
     expect!(rt; out.as_slice() == want);
+    expect!(rt; out.capacity() / 2 <= want.len());
     Ok(())
 }
 
@@ -284,6 +285,21 @@ fn a_body_has_1_to_64_records(rt: HostRuntime) -> Result<(), Fail> {
     for (count, want) in [(0, None), (1, Some(1)), (64, Some(64)), (65, None)] {
         expect!(rt; picks_read(rt.alloc(), count)? == want);
     }
+    Ok(())
+}
+
+/// The longest body: 64 Takes of the longest payload.
+#[test]
+fn the_longest_body_is_read(rt: HostRuntime) -> Result<(), Fail> {
+    let alloc = rt.alloc();
+    let mut bytes = vec![in alloc; 0, 64]?;
+    for _ in 0..64 {
+        bytes.extend_from_slice(&long_take(alloc, 1_200)?)?;
+    }
+    expect!(rt; bytes.len() == 78_274);
+    let commands = read_body(alloc, &bytes)?;
+    expect!(rt; commands.len() == 64 && commands.capacity() == 64);
+    expect!(rt; commands.iter().all(|command| record_len(command) == 1_223));
     Ok(())
 }
 

@@ -1,0 +1,141 @@
+//! The largest spool: each hop, peer and place that the limits allow is used, and nothing is refused for its size.
+use crate::commands::run;
+use rly_checkpoint::{checkpoint_len, read_checkpoint, write_checkpoint};
+use rly_core::{HopId, Params, PeerId, Refusal, limits};
+use rly_machine::{Command, Machine, Payload, Query, Reply};
+use std::alloc::{AllocError, Global};
+use std::process::Abort;
+use std::test::Fail;
+
+const LARGEST: Params = Params {
+    hops: 64,
+    peers: 64,
+    window: 64,
+    items: 16_384,
+    bytes: 16_777_216,
+    maxpacket: 65_535,
+    target: 3_600_000_000,
+    interval: 3_600_000_000,
+};
+
+/// The bytes of each payload but the first, which is the longest.
+const SHORT: usize = 24;
+
+/// Takes a datagram of the last peer at the last hop.
+fn take_last(
+    alloc: Global,
+    machine: &mut Machine<Payload>,
+    number: u64,
+    size: usize,
+) -> Result<Reply, AllocError> {
+    let command = Command::Take {
+        peer: PeerId(64),
+        number,
+        hop: HopId(64),
+        stamp: number,
+        payload: Payload::new(vec![in alloc; 7u8; size]?),
+    };
+    run(alloc, machine, command)
+}
+
+/// The largest spool, once the last hop has all datagrams that it may.
+fn filled(rt: &impl Abort, alloc: Global) -> Result<Machine<Payload>, AllocError> {
+    let mut machine: Machine<Payload> = Machine::new(alloc, LARGEST)?;
+    for before in 0..limits::MAX_ITEMS {
+        let size = if before == 0 { 1_200 } else { SHORT };
+        let reply = take_last(alloc, &mut machine, before + 1, size)?;
+        expect!(rt; matches!(&reply, Reply::Taken(id) if *id == before + 1));
+    }
+    Ok(machine)
+}
+
+#[test]
+fn a_queue_holds_16384_datagrams(rt: HostRuntime) -> Result<(), Fail> {
+    let alloc = rt.alloc();
+    let mut machine = filled(&rt, alloc)?;
+    expect!(rt; machine.item_count() == 16_384);
+    let reply = take_last(alloc, &mut machine, 16_385, 0)?;
+    expect!(rt; matches!(&reply, Reply::Refused(Refusal::Full)));
+    Ok(())
+}
+
+/// A spool's checkpoint. No more is reserved for it than twice its length.
+fn written(
+    rt: &impl Abort,
+    alloc: Global,
+    machine: &Machine<Payload>,
+) -> Result<Vec<u8>, AllocError> {
+    let mut out = Vec::new(alloc);
+    write_checkpoint(machine, &mut out)?;
+    expect!(rt; out.len() as u64 == checkpoint_len(machine));
+    expect!(rt; out.capacity() / 2 <= out.len());
+    Ok(out)
+}
+
+/// Its 710,752 bytes: 8, 8 for each peer, 71 for each hop, 19 for each datagram, and the payloads.
+#[test]
+fn the_largest_checkpoint_is_written_and_read(rt: HostRuntime) -> Result<(), Fail> {
+    let alloc = rt.alloc();
+    let first = written(&rt, alloc, &filled(&rt, alloc)?)?;
+    expect!(rt; first.len() == 710_752);
+    let machine = read_checkpoint(alloc, LARGEST, &first)?;
+    expect!(rt; machine.seq() == 16_384 && machine.item_count() == 16_384);
+    let second = written(&rt, alloc, &machine)?;
+    expect!(rt; second.as_slice() == first.as_slice());
+    Ok(())
+}
+
+/// A Pick at the last hop, at a moment at which nothing is dropped.
+fn pick_last(alloc: Global, machine: &mut Machine<Payload>) -> Result<Reply, AllocError> {
+    let pick = Command::Pick {
+        hop: HopId(64),
+        now: 16_384,
+    };
+    run(alloc, machine, pick)
+}
+
+/// So many bytes are in flight under a number.
+fn expect_fetched(
+    rt: &impl Abort,
+    alloc: Global,
+    machine: &Machine<Payload>,
+    number: u64,
+    size: usize,
+) -> Result<(), AllocError> {
+    let fetch = Query::Fetch {
+        hop: HopId(64),
+        number,
+    };
+    match &machine.answer(alloc, fetch)? {
+        Reply::Bytes(payload) => expect!(rt; payload.as_slice().len() == size),
+        _ => panic!(rt; "not fetched"),
+    }
+    Ok(())
+}
+
+#[test]
+fn a_window_holds_64_datagrams(rt: HostRuntime) -> Result<(), Fail> {
+    let alloc = rt.alloc();
+    let mut machine = filled(&rt, alloc)?;
+    for before in 0..64 {
+        let reply = pick_last(alloc, &mut machine)?;
+        expect!(rt; matches!(&reply, Reply::Picked { number, .. } if *number == before + 1));
+    }
+    let reply = pick_last(alloc, &mut machine)?;
+    expect!(rt; matches!(&reply, Reply::Refused(Refusal::WindowFull)));
+    expect_fetched(&rt, alloc, &machine, 1, 1_200)?;
+    expect_fetched(&rt, alloc, &machine, 64, SHORT)?;
+    Ok(())
+}
+
+/// No more is reserved for a payload than twice its length, and nothing for one without bytes.
+#[test]
+fn little_is_reserved_for_a_payload(rt: HostRuntime) -> Result<(), Fail> {
+    let alloc = rt.alloc();
+    for size in [0, 16, 1_200] {
+        let bytes = vec![in alloc; 7u8; size]?;
+        let copy = Payload::copy_of(alloc, &bytes)?.into_bytes();
+        expect!(rt; copy.len() == size && copy.capacity() / 2 <= size);
+    }
+    Ok(())
+}
