@@ -1,6 +1,6 @@
 //! The room that a segment wants.
 use rly_core::{Geometry, Params};
-use rly_reclaim::{fits, is_due, least_length};
+use rly_reclaim::{fits, free_segment, is_due, least_length, victim};
 
 /// One hop, one peer, 16 items and 4,096 bytes on two segments.
 const SMALL: Geometry = Geometry {
@@ -41,4 +41,20 @@ fn four_segments_of_the_default_parameters(rt: HostRuntime) {
 fn a_segment_is_due_where_the_largest_group_has_no_room(rt: HostRuntime) {
     expect!(rt; !is_due(&SMALL, 4_628));
     expect!(rt; is_due(&SMALL, 4_629));
+}
+
+#[test]
+fn the_first_empty_segment_is_free_but_for_the_current_one(rt: HostRuntime) {
+    expect!(rt; free_segment(&[7, 0, 3, 0], 0) == Some(1));
+    expect!(rt; free_segment(&[7, 0, 3, 0], 1) == Some(3));
+    expect!(rt; free_segment(&[0, 0], 0) == Some(1));
+    expect!(rt; free_segment(&[7, 0, 3], 1) == None);
+}
+
+#[test]
+fn the_victim_has_the_fewest_live_bytes(rt: HostRuntime) {
+    expect!(rt; victim(&[7, 0, 3, 3], 1) == 2);
+    expect!(rt; victim(&[0, 5, 0], 0) == 2);
+    expect!(rt; victim(&[9, 0], 1) == 0);
+    expect!(rt; victim(&[0, 9], 0) == 1);
 }

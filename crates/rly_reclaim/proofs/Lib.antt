@@ -1,0 +1,3 @@
+pub mod Rooms
+pub mod Scanning
+pub mod Sums
