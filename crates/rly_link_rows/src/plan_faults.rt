@@ -251,7 +251,7 @@ fn answer_to_counts(alloc: Global, peers: u64, hops: u64, each: u64) -> Result<u
 /// So many peers, hops, and contacts of each hop, and the answer. The text of the second has more than a million bytes.
 const COUNTS: [(u64, u64, u64, u8); 6] = [
     (64, 64, 1, 0),
-    (64, 64, 1_000, 0),
+    (64, 64, 1_300, 0),
     (1, 1, 4_096, 0),
     (65, 1, 1, 53),
     (1, 65, 1, 53),
@@ -263,6 +263,41 @@ fn counts_are_met_and_not_passed(rt: HostRuntime) -> Result<(), Fail> {
     for (peers, hops, contacts, number) in &COUNTS {
         let found = answer_to_counts(rt.alloc(), *peers, *hops, *contacts)?;
         expect!(rt; found == *number, *peers);
+    }
+    Ok(())
+}
+
+/// The answer for a plan with a route to each destination from 1 to this one.
+fn answer_to_routes(alloc: Global, most: u64) -> Result<u8, AllocError> {
+    let mut text = changed(alloc, "[[route]]\ndestination = 12\nhop = 1\n", "")?;
+    for destination in 1..=most {
+        let row = format!(in alloc; "[[route]]\ndestination = {destination}\nhop = 1\n")?;
+        text.push_str(row.as_str())?;
+    }
+    Ok(answer(alloc, text.as_str()))
+}
+
+/// The answer for a plan with addresses of so many bytes.
+fn answer_to_addresses(alloc: Global, length: u64) -> Result<u8, AllocError> {
+    let mut name = String::new(alloc);
+    for _ in 0..length {
+        name.push('n')?;
+    }
+    answer_to_change(alloc, "127.0.0.1:4001", name.as_str())
+}
+
+#[test]
+fn many_destinations_may_have_a_route(rt: HostRuntime) -> Result<(), Fail> {
+    let found = answer_to_routes(rt.alloc(), 20_000)?;
+    expect!(rt; found == 0);
+    Ok(())
+}
+
+#[test]
+fn addresses_have_any_length(rt: HostRuntime) -> Result<(), Fail> {
+    for length in &[0, 1, 64, 255, 10_000] {
+        let found = answer_to_addresses(rt.alloc(), *length)?;
+        expect!(rt; found == 0, *length);
     }
     Ok(())
 }
