@@ -22,7 +22,7 @@ pub struct UdpLink<C: Clock + Drop> {
     socket: UdpSocket,
     remote: SocketAddr,
     clock: C,
-    /// Whether a receive of the socket waits, as the system was told last.
+    /// Whether a call of the socket waits, as the system was told last.
     waits: bool,
     failures: u64,
     addresses: Snapshot<Addresses>,
@@ -55,7 +55,7 @@ impl<C: Clock + Drop> UdpLink<C> {
         self.failures == u64::MAX
     }
 
-    /// Has the socket's receives wait or not, where that changes.
+    /// Has the socket's calls wait or not, where that changes.
     fn set_waits(&mut self, waits: bool) -> io::Result<()>
         ensures { self.new ≡ record self.old { waits = self.new.waits } }
     {
@@ -135,7 +135,8 @@ impl<C: Clock + Drop> Link for UdpLink<C> {
         ensures no_failure { OnOk result (self.new.failures ≡ self.old.failures) }
         ensures spent { self.old.failures ≡ 2 ^ 64 - 1 → IsErr result }
     {
-        if self.is_spent() {
+        // A send waits for room in the system's buffer, so that a slow link isn't taken for one that loses packets.
+        if self.is_spent() || self.set_waits(true).is_err() {
             return Err(self.fail());
         }
         match self.socket.send_to(packet, self.remote) {
