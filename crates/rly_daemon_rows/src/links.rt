@@ -7,6 +7,7 @@ use rly_plan::Plan;
 use rly_threads::{Link, MAX_PACKET, Point, Turn, Worker};
 use std::net::UdpSocket;
 use std::process::Abort;
+use std::sync::Wait;
 use std::test::Fail;
 use std::time::{Clock, Duration};
 
@@ -104,7 +105,7 @@ fn failures_of_a_link_are_counted(rt: HostRuntime) -> Result<(), Fail> {
 
 /// The moments at a point are the system's, in microseconds. At the next point they are the same, if it reads no clock.
 fn expect_moments(
-    rt: &HostRuntime,
+    rt: &(impl Abort + Host + Wait),
     turn: &mut WallClock<HostRuntime>,
     point: Point,
     next: Point,
