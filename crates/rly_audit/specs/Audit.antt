@@ -1,13 +1,16 @@
 -- What an audit leaves.
-use Rattle.std.specs.Prelude.{◌≡◌, ℕ, List, true, Option}
+use Rattle.std.specs.Prelude.{◌≡◌, ℕ, List, Bool, true, false, Option}
 use Rattle.std.specs.Io.KnownBytes.{Appends}
 use Rattle.rly_core.specs.declared.refusal.Refusal.{Refusal}
+use Rattle.rly_core.specs.declared.refusal.Refusal.TheVariants.{Device}
 use Rattle.rly_disk.specs.DiskModel.{DiskState}
 use Rattle.rly_journal.specs.declared.open_fault.OpenFault.{OpenFault}
 use Rattle.rly_journal.specs.Faults.{IsRefused, opening_refusal}
 use Rattle.rly_journal.specs.Standing.{Stands}
 use Rattle.rly_machine.specs.State.{State}
 use Rattle.rly_stream.specs.Beginnings.{BreaksOff}
+use Rattle.rly_audit.specs.declared.fault.AuditFault.{AuditFault}
+use Rattle.rly_audit.specs.declared.fault.AuditFault.TheVariants.{Refused}
 use Rattle.rly_audit.specs.Report.{balances, books_of, report_of}
 
 -- a disk was opened in a state: the one that it stands for, if it is honest. In every such state the books balance
@@ -32,3 +35,8 @@ pub record IsRefusal (image : List ℕ) (answered : Refusal) : Type 0 where
   pub fault : OpenFault
   pub first : IsRefused image fault
   pub same : answered ≡ opening_refusal fault
+
+-- no call of the device failed
+abbrev pub audit_tells : AuditFault → Bool
+audit_tells (Refused Device) = false
+audit_tells _ = true

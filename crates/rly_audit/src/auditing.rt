@@ -1,11 +1,12 @@
-ghost use Rattle.std.specs.Prelude.{◌≡◌, ◌≢◌, ◌⊎◌, IfErr, IfOk, MatchResult, OnOk, false, true};
+ghost use Rattle.std.specs.Prelude.{◌≡◌, ◌⊎◌, IfErr, IfOk, MatchResult, OnOk, false, true};
 ghost use Rattle.std.specs.Io.KnownBytes.{Appends, Keeps};
 ghost use Rattle.rly_core.specs.declared.refusal.Refusal.{Refusal as ARefusal};
-ghost use Rattle.rly_disk.specs.DiskModel.{HasFailed, Settled};
+ghost use Rattle.rly_disk.specs.DiskModel.{Settled};
+ghost use Rattle.rly_disk.specs.Trace.{Makes};
 ghost use Rattle.rly_gate.specs.Reading.{OnlyRead};
-ghost use Rattle.rly_journal.specs.Journal.{SyncsOnce};
+ghost use Rattle.rly_journal.specs.Calls.{BreaksOpening, Scan as AScan, opening};
 ghost use Rattle.rly_stream.specs.Beginnings.{BreaksOff};
-ghost use Rattle.rly_audit.specs.Audit.{IsBegun, IsRefusal, IsReported};
+ghost use Rattle.rly_audit.specs.Audit.{IsBegun, IsRefusal, IsReported, audit_tells};
 ghost use Rattle.rly_audit.specs.Report.{balances, books_of, report_of};
 
 use crate::books::Books;
@@ -32,11 +33,9 @@ pub fn audit<D: Disk, W: Write>(
     // At a refusal nothing was written; it is that of the first check of opening that fails, or 14 or 23.
     ensures silent { IfErr result (λ failed. (refusal : ARefusal) → failed.0 ≡ AuditFault.Refused refusal → Keeps (W.contents writer.old) (W.contents writer.new)) }
     ensures refused { (D.state disk).honest → IfErr result (λ failed. (refusal : ARefusal) → failed.0 ≡ AuditFault.Refused refusal → IsRefusal (D.state disk).seen refusal) }
-    ensures rise { IfErr result (λ failed. failed.0 ≡ AuditFault.Refused Refusal.Device → HasFailed (D.state disk) (D.state failed.1)) }
-    ensures no_failure { MatchResult result (λ left. (D.state left).failures ≡ (D.state disk).failures)
-        (λ failed. failed.0 ≢ AuditFault.Refused Refusal.Device → (D.state failed.1).failures ≡ (D.state disk).failures) }
-    // The device was synced once and read, and nothing else.
-    ensures one_sync { MatchResult result (λ left. SyncsOnce (D.state disk) (D.state left)) (λ failed. SyncsOnce (D.state disk) (D.state failed.1)) }
+    // The device was opened, and nothing else was asked of it. 23 is answered where a call of it failed, which was the last.
+    ensures trace { MatchResult result (λ left. (x : AScan) × Makes D.state (opening x) true disk left)
+        (λ failed. BreaksOpening D.state (audit_tells failed.0) disk failed.1) }
     ensures only { MatchResult result (λ left. OnlyRead (D.state disk) (D.state left)) (λ failed. OnlyRead (D.state disk) (D.state failed.1)) }
     ensures settled { (D.state disk).honest → IfOk result (λ left. Settled (D.state left)) }
 {

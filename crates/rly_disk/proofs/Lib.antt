@@ -10,3 +10,4 @@ mod RecordLemmas
 mod Steps
 pub mod TraceRanges
 pub mod Traces
+mod Watching

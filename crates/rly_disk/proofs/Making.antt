@@ -223,7 +223,7 @@ makes_settled state {a} {b} {calls} made synced honest facts =
 -- ---- reads and syncs
 
 -- what the calls of a part are
-quiet_front : (done rest : List DeviceEvent) → are_quiet (done ++ rest) ≡ true → are_quiet done ≡ true
+pub quiet_front : (done rest : List DeviceEvent) → are_quiet (done ++ rest) ≡ true → are_quiet done ≡ true
 quiet_front [] rest quiet = refl
 quiet_front (Read place n ∷ done) rest quiet = quiet_front done rest quiet
 quiet_front (Sync ∷ done) rest quiet = quiet_front done rest quiet
@@ -326,14 +326,14 @@ abbrev head_or : DeviceEvent → List DeviceEvent → DeviceEvent
 head_or event [] = event
 head_or event (first ∷ events) = first
 
-failed_alone : (call : DeviceEvent) (events : List DeviceEvent) → EndsAtFailure (call ∷ []) events → (last : DeviceEvent) × IsFailed call last × (events ≡ last ∷ [])
+pub failed_alone : (call : DeviceEvent) (events : List DeviceEvent) → EndsAtFailure (call ∷ []) events → (last : DeviceEvent) × IsFailed call last × (events ≡ last ∷ [])
 failed_alone call events f = one f.done f.calls_are f.events_are
   where
     one : (done : List DeviceEvent) → call ∷ [] ≡ done ++ f.call ∷ f.rest → events ≡ done ++ f.last ∷ [] → (last : DeviceEvent) × IsFailed call last × (events ≡ last ∷ [])
     one [] calls_are events_are = (f.last, subst (λ e. IsFailed e f.last) (sym (ap (head_or call) calls_are)) f.failed, events_are)
     one (event ∷ done) calls_are events_are = absurd (omega (arith, ap length calls_are, length-append done (f.call ∷ f.rest)))
 
-uncounted_alone : (call : DeviceEvent) (events : List DeviceEvent) → EndsUncounted (call ∷ []) events → events ≡ []
+pub uncounted_alone : (call : DeviceEvent) (events : List DeviceEvent) → EndsUncounted (call ∷ []) events → events ≡ []
 uncounted_alone call [] s = refl
 uncounted_alone call (event ∷ events) s = absurd (omega (arith, ap length s.calls_are, length-append events (s.call ∷ s.rest)))
 

@@ -6,3 +6,4 @@ pub mod HelpersRecord
 pub mod MemDisk
 pub mod Record
 pub mod Trace
+pub mod Watched

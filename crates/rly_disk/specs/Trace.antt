@@ -196,6 +196,14 @@ pub record Makes {D : Type 0} (state : D → DiskState) (calls : List DeviceEven
   pub made : IsMade whole (is_spent (state new)) calls events
   pub untouched : events ≡ [] → new ≡ old
 
+-- the calls in front of a row were made, all of them or those up to the first that failed, and then no other
+pub record MakesFront {D : Type 0} (state : D → DiskState) (calls : List DeviceEvent) (whole : Bool) (old new : D)
+    : Type 0 where
+  pub front : List DeviceEvent
+  pub rest : List DeviceEvent
+  pub calls_are : calls ≡ front ++ rest
+  pub makes : Makes state front whole old new
+
 -- reads were made, all of them or those up to the first that failed, and no other call
 pub record OnlyReads {D : Type 0} (state : D → DiskState) (whole : Bool) (old new : D) : Type 0 where
   pub calls : List DeviceEvent

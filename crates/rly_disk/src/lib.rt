@@ -14,9 +14,11 @@ mod fault_disk;
 mod laws;
 mod mem;
 mod record;
+mod watched;
 
 pub use counts::Counts;
 pub use disk::{Disk, DiskFault};
 pub use fault_disk::{After, FaultDisk};
 pub use laws::{law_counts, law_one_failure, law_range, law_settles, law_untouched};
 pub use mem::{MemDisk, Torn};
+pub use watched::{DiskCall, ToldCall, Watched};

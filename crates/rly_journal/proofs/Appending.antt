@@ -2,14 +2,13 @@
 use Rattle.std.proofs.Common.{◌≡◌, ◌⊎◌, ◌≤◌, ◌<◌, ◌+◌, ◌∙◌, ℕ, Bool, List, length, take, drop, get_or, arith, sym, ap, subst, inl, inr}
 use Rattle.std.proofs.lemmas.Bool.{cases_eq, cases_lt}
 use Rattle.rly_core.specs.declared.params.Geometry.{Geometry}
-use Rattle.rly_disk.specs.DiskModel.{DiskState, LeavesOnly, SameOutside, Settled, overwritten}
-use Rattle.rly_disk.proofs.Composition.{weaker}
+use Rattle.rly_disk.specs.DiskModel.{SameOutside, overwritten}
 use Rattle.rly_disk.proofs.Overwritten.{overwritten_outside}
 use Rattle.rly_disk.proofs.Ranges.{part-overwritten, wider}
 use Rattle.rly_machine.specs.Fold.{AllAccepted, fold}
 use Rattle.rly_machine.specs.State.{State}
 use Rattle.rly_machine.proofs.Folding.{params_fold, seq_fold}
-use Rattle.rly_gate.specs.Group.{IsAppended, IsClosed, StandsAt, frame_of, group_of}
+use Rattle.rly_gate.specs.Group.{IsAppended, StandsAt, frame_of, group_of}
 use Rattle.rly_gate.proofs.Frames.{length-frame}
 use Rattle.rly_record.specs.Spelling.{HaveBody, body_of}
 use Rattle.rly_reclaim.specs.Room.{group_room}
@@ -19,12 +18,11 @@ use Rattle.rly_segment.specs.Heads.{segment_end, segment_place}
 use Rattle.rly_segment.proofs.Segments.{segment_within}
 use Rattle.rly_journal.specs.declared.tail.Tail.{Tail}
 use Rattle.rly_journal.specs.HelpersGroups.{Gathers, GroupState, group_body}
-use Rattle.rly_journal.specs.Log.{IsDurable, IsFull, offset}
+use Rattle.rly_journal.specs.Log.{EndsAt, IsFull, IsLogged, offset}
 use Rattle.rly_journal.specs.HelpersJournal.{IsShaped}
 use Rattle.rly_journal.specs.Standing.{Commands, Standing, Stands, standing_end, first_of, gate_of, state_in}
 use Rattle.rly_journal.proofs.Agreeing.{same_before}
 use Rattle.rly_journal.proofs.Frame.{gate_above}
-use Rattle.rly_journal.proofs.Gathering.{body_gathered}
 use Rattle.rly_journal.proofs.Growing.{appended, gate_behind-more, grown, other_bytes, replayed-more, with_group}
 
 -- the end behind a group
@@ -44,36 +42,6 @@ room_left tail n room above few =
 pub gathered_body : (commands : Commands) (group : GroupState) (s t : State (List ℕ)) → 1 ≤ group.count → group.count ≤ 64 → Gathers commands group s t → HaveBody commands
 gathered_body commands group s t least most gathers = ((omega (arith, gathers.count, least), omega (arith, gathers.count, most)), gathers.have)
 
--- the state of the standing with the group
-grown_state : (x : Standing) (commands : Commands) (group : GroupState) (s t : State (List ℕ)) → s ≡ state_in x → Gathers commands group s t → t ≡ state_in (with_group x commands)
-grown_state x commands group s t state gathers =
-    gathers.state ∙ ap (λ r. fold length r commands) state ∙ sym (replayed-more x.checkpoint x.groups commands)
-
--- a crash at any moment of the append leaves what stands for the state before the group or behind it
-pub append_leaves : {a b : DiskState} (tail : Tail) (group : GroupState) (commands : Commands) (s t : State (List ℕ)) → IsDurable a tail s
-    → Gathers commands group s t → 1 ≤ group.count → group.count ≤ 64 → length (group_body group) ≤ 78274
-    → tail.gate + 6 + length (group_body group) ≤ segment_end tail.geometry tail.segment
-    → (Settled a → IsClosed a.seen tail.gate → LeavesOnly a b (IsAppended tail.gate (group_body group) a.seen))
-    → LeavesOnly a b (λ image. Stands image s ⊎ Stands image t)
-append_leaves {a} {b} tail group commands s t durable gathers least most few room leaves =
-    let logged = durable.logged in
-    let x : Standing = logged.x in
-    let body = gathered_body commands group s t least most gathers in
-    let same : group_body group ≡ body_of commands = body_gathered commands group s t gathers in
-    let gate : tail.gate ≡ gate_of x = logged.ends.gate in
-    let accepted = subst (λ r. AllAccepted length r commands) logged.state gathers.accepted in
-    let count : length (group_body group) ≡ length (body_of commands) = ap length same in
-    let end : segment_end tail.geometry tail.segment ≡ standing_end x = ap (λ g. segment_end g tail.segment) logged.ends.geometry ∙ ap (segment_end x.geometry) logged.ends.segment in
-    let within : gate_of x + 1 + length (frame_of (body_of commands)) ≤ standing_end x = omega (arith, gate, room, count, end, length-frame (body_of commands)) in
-    let closed : IsClosed a.seen tail.gate = subst (IsClosed a.seen) (sym gate) logged.stands.closed in
-    weaker (IsAppended tail.gate (group_body group) a.seen) (λ image. Stands image s ⊎ Stands image t)
-    (λ image left. elim (grown x commands logged.stands body accepted (omega (arith, count, few)) within image
-    (subst (λ p. IsAppended p (body_of commands) a.seen image) gate (subst (λ l. IsAppended tail.gate l a.seen image) same left))) [
-      | inl before ↦ inl (x, before, logged.state)
-      | inr after ↦ inr (with_group x commands, after, grown_state x commands group s t logged.state gathers)
-    ])
-    (leaves durable.settled closed)
-
 -- which gates read closed behind a group
 closed_still : (g : Geometry) (segment gate n : ℕ) (old new : List ℕ) (closed : List Bool) → segment_place g segment < gate → gate + n ≤ segment_end g segment → 1 ≤ g.length
     → AreClosed old g g.segments closed → SameOutside gate n old new → AreClosed new g g.segments closed
@@ -87,58 +55,69 @@ closed_still g segment gate n old new closed above within long before outside u 
     let was = before u small in
     (λ yes opened. was.0 yes (sym byte ∙ opened), λ shut. was.1 (λ opened. shut (byte ∙ opened)))
 
--- the group stands, and the journal ends behind it
-pub append_durable : {a b : DiskState} (tail : Tail) (group : GroupState) (commands : Commands) (s t : State (List ℕ)) → IsDurable a tail s
-    → Gathers commands group s t → 1 ≤ group.count → group.count ≤ 64 → length (group_body group) ≤ 78274
-    → tail.gate + 6 + length (group_body group) ≤ segment_end tail.geometry tail.segment
-    → (Settled a → Settled b) → (Settled a → b.seen ≡ overwritten tail.gate (group_of (group_body group)) a.seen)
-    → IsDurable b (appended_tail tail (group_body group)) t
-append_durable {a} {b} tail group commands s t durable gathers least most few room settles writes =
-    let logged = durable.logged in
-    let x : Standing = logged.x in
-    let g : Geometry = tail.geometry in
-    let bytes : List ℕ = group_of (group_body group) in
-    let body = gathered_body commands group s t least most gathers in
-    let same : group_body group ≡ body_of commands = body_gathered commands group s t gathers in
-    let gate : tail.gate ≡ gate_of x = logged.ends.gate in
-    let accepted = subst (λ r. AllAccepted length r commands) logged.state gathers.accepted in
-    let count : length (group_body group) ≡ length (body_of commands) = ap length same in
-    let end : segment_end tail.geometry tail.segment ≡ standing_end x = ap (λ h. segment_end h tail.segment) logged.ends.geometry ∙ ap (segment_end x.geometry) logged.ends.segment in
-    let within : gate_of x + 1 + length (frame_of (body_of commands)) ≤ standing_end x = omega (arith, gate, room, count, end, length-frame (body_of commands)) in
-    let fits : IsGeometry tail.geometry (length a.seen) = subst (λ h. IsGeometry h (length a.seen)) (sym logged.ends.geometry) logged.stands.scanned.fits in
-    let below : tail.segment < tail.geometry.segments = subst (λ k. k < tail.geometry.segments) (sym logged.ends.segment)
-    (subst (λ h. x.segment < h.segments) (sym logged.ends.geometry) logged.stands.scanned.newest.there) in
-    let inside = segment_within tail.geometry tail.segment (length a.seen) fits below in
-    let long : length (group_of (group_body group)) ≡ 6 + length (group_body group) = omega (arith, length-frame (group_body group)) in
-    let fit : tail.gate + length (group_of (group_body group)) ≤ length a.seen = omega (arith, long, room, inside) in
-    let written = writes durable.settled in
-    let outside : SameOutside tail.gate (length (group_of (group_body group))) a.seen b.seen =
-    subst (SameOutside tail.gate (length (group_of (group_body group))) a.seen) (sym written) (overwritten_outside tail.gate (group_of (group_body group)) a.seen fit) in
-    let stands : StandsAt b.seen tail.gate (group_of (group_body group)) =
-    ap (λ l. take (length (group_of (group_body group))) (drop tail.gate l)) written ∙ part-overwritten tail.gate (group_of (group_body group)) a.seen (omega (arith, fit)) in
-    let outside_x : SameOutside (gate_of x) (length (group_of (body_of commands))) a.seen b.seen =
-    subst (λ p. SameOutside p (length (group_of (body_of commands))) a.seen b.seen) gate (subst (λ l. SameOutside tail.gate (length (group_of l)) a.seen b.seen) same outside) in
-    let stands_x : StandsAt b.seen (gate_of x) (group_of (body_of commands)) =
-    subst (λ p. StandsAt b.seen p (group_of (body_of commands))) gate (subst (λ l. StandsAt b.seen tail.gate (group_of l)) same stands) in
-    let above = gate_above (first_of x) x.groups in
-    let place : segment_place tail.geometry tail.segment ≡ segment_place x.geometry x.segment = ap (λ h. segment_place h tail.segment) logged.ends.geometry ∙ ap (segment_place x.geometry) logged.ends.segment in
-    record {
-      settled = settles durable.settled;
-      logged = record {
+-- the segment ends before the device does
+pub logged_within : (old : List ℕ) (tail : Tail) (s : State (List ℕ)) → IsLogged old tail s → segment_end tail.geometry tail.segment ≤ length old
+logged_within old tail s logged =
+    segment_within tail.geometry tail.segment (length old)
+    (subst (λ h. IsGeometry h (length old)) (sym logged.ends.geometry) logged.stands.scanned.fits)
+    (subst (λ k. k < tail.geometry.segments) (sym logged.ends.segment) (subst (λ h. logged.x.segment < h.segments) (sym logged.ends.geometry) logged.stands.scanned.newest.there))
+
+-- the group of some commands, behind what stands for a state
+module _ (tail : Tail) (commands : Commands) (s : State (List ℕ)) (body : HaveBody commands) (accepted : AllAccepted length s commands)
+    (few : length (body_of commands) ≤ 78274) (room : tail.gate + 6 + length (body_of commands) ≤ segment_end tail.geometry tail.segment) where
+  same_end : (x : Standing) → EndsAt tail x → segment_end tail.geometry tail.segment ≡ standing_end x
+  same_end x ends = ap (λ g. segment_end g tail.segment) ends.geometry ∙ ap (segment_end x.geometry) ends.segment
+
+  grown_state : (x : Standing) → s ≡ state_in x → fold length s commands ≡ state_in (with_group x commands)
+  grown_state x state = ap (λ r. fold length r commands) state ∙ sym (replayed-more x.checkpoint x.groups commands)
+
+  -- a crash while it is appended leaves what stands for the state before it or behind it
+  pub append_image : (old image : List ℕ) → IsLogged old tail s → IsAppended tail.gate (body_of commands) old image → Stands image s ⊎ Stands image (fold length s commands)
+  append_image old image logged left =
+      let x : Standing = logged.x in
+      let gate : tail.gate ≡ gate_of x = logged.ends.gate in
+      let within : gate_of x + 1 + length (frame_of (body_of commands)) ≤ standing_end x = omega (arith, gate, room, same_end x logged.ends, length-frame (body_of commands)) in
+      elim (grown x commands logged.stands body (subst (λ r. AllAccepted length r commands) logged.state accepted) (omega (arith, few)) within image
+      (subst (λ p. IsAppended p (body_of commands) old image) gate left)) [
+        | inl before ↦ inl (x, before, logged.state)
+        | inr after ↦ inr (with_group x commands, after, grown_state x logged.state)
+      ]
+
+  -- the group stands, and the journal ends behind it
+  pub append_logged : (old new : List ℕ) → IsLogged old tail s → new ≡ overwritten tail.gate (group_of (body_of commands)) old
+      → IsLogged new (appended_tail tail (body_of commands)) (fold length s commands)
+  append_logged old new logged written =
+      let x : Standing = logged.x in
+      let bytes : List ℕ = group_of (body_of commands) in
+      let gate : tail.gate ≡ gate_of x = logged.ends.gate in
+      let end = same_end x logged.ends in
+      let within : gate_of x + 1 + length (frame_of (body_of commands)) ≤ standing_end x = omega (arith, gate, room, end, length-frame (body_of commands)) in
+      let fits : IsGeometry tail.geometry (length old) = subst (λ h. IsGeometry h (length old)) (sym logged.ends.geometry) logged.stands.scanned.fits in
+      let inside = logged_within old tail s logged in
+      let long : length (group_of (body_of commands)) ≡ 6 + length (body_of commands) = omega (arith, length-frame (body_of commands)) in
+      let fit : tail.gate + length (group_of (body_of commands)) ≤ length old = omega (arith, long, room, inside) in
+      let outside : SameOutside tail.gate (length (group_of (body_of commands))) old new =
+      subst (SameOutside tail.gate (length (group_of (body_of commands))) old) (sym written) (overwritten_outside tail.gate (group_of (body_of commands)) old fit) in
+      let stands : StandsAt new tail.gate (group_of (body_of commands)) =
+      ap (λ l. take (length (group_of (body_of commands))) (drop tail.gate l)) written ∙ part-overwritten tail.gate (group_of (body_of commands)) old (omega (arith, fit)) in
+      let above = gate_above (first_of x) x.groups in
+      let place : segment_place tail.geometry tail.segment ≡ segment_place x.geometry x.segment = ap (λ h. segment_place h tail.segment) logged.ends.geometry ∙ ap (segment_place x.geometry) logged.ends.segment in
+      record {
         x = with_group x commands;
-        stands = appended x commands logged.stands body accepted (omega (arith, count, few)) within outside_x stands_x;
+        stands = appended x commands logged.stands body (subst (λ r. AllAccepted length r commands) logged.state accepted) (omega (arith, few)) within
+            (subst (λ p. SameOutside p (length (group_of (body_of commands))) old new) gate outside)
+            (subst (λ p. StandsAt new p (group_of (body_of commands))) gate stands);
         ends = record {
           geometry = logged.ends.geometry;
           segment = logged.ends.segment;
           generation = logged.ends.generation;
-          gate = (let e : tail.gate + (5 + length (group_body group)) ≡ gate_of x + 5 + length (body_of commands) = omega (arith, gate, count) in e)
+          gate = (let e : tail.gate + (5 + length (body_of commands)) ≡ gate_of x + 5 + length (body_of commands) = omega (arith, gate) in e)
               ∙ sym (gate_behind-more (first_of x) x.groups commands);
         };
-        state = grown_state x commands group s t logged.state gathers;
-        gates = closed_still tail.geometry tail.segment tail.gate (length (group_of (group_body group))) a.seen b.seen tail.closed
+        state = grown_state x logged.state;
+        gates = closed_still tail.geometry tail.segment tail.gate (length (group_of (body_of commands))) old new tail.closed
             (omega (arith, place, gate, above)) (omega (arith, long, room)) (omega (arith, fits.fits)) logged.gates outside;
-      };
-    }
+      }
 
 -- what holds of the end behind a group
 pub append_shape : (size : ℕ) (tail : Tail) (group : GroupState) (commands : Commands) (s t : State (List ℕ)) → IsShaped size tail s → Gathers commands group s t → 1 ≤ group.count

@@ -1,11 +1,12 @@
 -- The end of the journal as segments are opened and groups are appended.
-use Rattle.std.proofs.Common.{◌≡◌, ◌≢◌, ◌↔◌, ◌≤◌, ◌<◌, ◌+◌, ◌-◌, ◌/◌, ◌∷◌, [], ◌∙◌, ℕ, Bool, true, false, IsTrue, List, length, length-append, take, drop, get_or, set, arith, sym, ap, refl, subst, inl, inr}
+use Rattle.std.proofs.Common.{◌≡◌, ◌≢◌, ◌≤◌, ◌<◌, ◌+◌, ◌-◌, ◌/◌, ◌++◌, ◌∷◌, [], ◌∙◌, ℕ, Bool, true, false, List, length, length-append, take, drop, get_or, set, arith, sym, ap, refl, subst, inl, inr}
 use Rattle.std.proofs.Math.Nat.{div-one}
 use Rattle.std.proofs.lemmas.Bool.{cases_eq}
 use Rattle.std.proofs.lemmas.List.{get_or-set_same, get_or-set_other}
 use Rattle.rly_core.specs.declared.params.Geometry.{Geometry}
-use Rattle.rly_disk.specs.DiskModel.{DiskState, LeavesOnly, SameOutside, Settled, overwritten}
-use Rattle.rly_disk.proofs.Composition.{weaker}
+use Rattle.rly_disk.specs.DiskModel.{SameOutside, overwritten}
+use Rattle.rly_disk.specs.Trace.{images_within, seen_at_end}
+use Rattle.rly_disk.proofs.Making.{AreSynced}
 use Rattle.rly_disk.proofs.Overwritten.{overwritten_outside}
 use Rattle.rly_disk.proofs.Ranges.{part-overwritten, wider}
 use Rattle.rly_machine.specs.Sound.{IsSound}
@@ -13,14 +14,18 @@ use Rattle.rly_machine.specs.State.{State}
 use Rattle.rly_checkpoint.specs.Checkpoint.{checkpoint_of}
 use Rattle.rly_checkpoint.proofs.Sizes.{checkpoint_length}
 use Rattle.rly_gate.specs.Group.{IsClosed, StandsAt, open_gate}
+use Rattle.rly_gate.proofs.Durable.{AreWrites}
 use Rattle.rly_segment.specs.Answers.{AreClosed}
 use Rattle.rly_segment.specs.Device.{IsGeometry}
 use Rattle.rly_segment.specs.Heads.{IsHead, IsOpening, first_gate, opened_head, segment_place}
 use Rattle.rly_segment.specs.Heads.{head_of as head_of_state}
+use Rattle.rly_segment.proofs.Replacing.{opening_end, opening_image, replacing_synced, replacing_writes}
 use Rattle.rly_segment.proofs.Segments.{segment_within}
 use Rattle.rly_segment.proofs.Standing.{stands_front}
 use Rattle.rly_journal.specs.declared.tail.Tail.{Tail}
-use Rattle.rly_journal.specs.Log.{EndsAt, IsDurable, IsFull, IsLogged}
+use Rattle.rly_journal.specs.Calls as calls
+use Rattle.rly_journal.specs.Calls.{renewing}
+use Rattle.rly_journal.specs.Log.{EndsAt, IsFull, IsLogged}
 use Rattle.rly_journal.specs.HelpersJournal.{IsShaped}
 use Rattle.rly_journal.specs.Standing.{Standing, Stands, state_in}
 use Rattle.rly_journal.proofs.Frame.{length-head}
@@ -76,22 +81,20 @@ head_of tail x s t ends state head =
     (subst (λ n. IsHead tail.geometry t (n + 1) (state_in x)) ends.generation
     (subst (λ r. IsHead tail.geometry t (tail.generation + 1) r) state head))
 
--- a crash at any moment of the opening leaves what stands for the state
-pub renewed_leaves : {a b : DiskState} (tail : Tail) (s : State (List ℕ)) (t : ℕ) → IsLogged a.seen tail s → IsSound length s
+-- a crash within the opening leaves what stands for the state
+pub renewed_image : (tail : Tail) (s : State (List ℕ)) (t : ℕ) (old image : List ℕ) → IsLogged old tail s → IsSound length s
     → t < tail.geometry.segments → t ≢ tail.segment → IsHead tail.geometry t (tail.generation + 1) s
-    → LeavesOnly a b (IsOpening tail.geometry t (tail.generation + 1) s a.seen) → LeavesOnly a b (λ image. Stands image s)
-renewed_leaves {a} {b} tail s t logged sound below other head leaves =
+    → IsOpening tail.geometry t (tail.generation + 1) s old image → Stands image s
+renewed_image tail s t old image logged sound below other head left =
     let x : Standing = logged.x in
     let below_x : t < x.geometry.segments = subst (λ g. t < g.segments) logged.ends.geometry below in
     let other_x : t ≢ x.segment = λ e. other (e ∙ sym logged.ends.segment) in
     let sound_x : IsSound length (state_in x) = subst (IsSound length) logged.state sound in
     let head_x = head_of tail x s t logged.ends logged.state head in
-    weaker (IsOpening tail.geometry t (tail.generation + 1) s a.seen) (λ image. Stands image s)
-    (λ image left. elim (renewed x t logged.stands below_x other_x sound_x head_x (omega (arith, head_x.most, sound_x.seq)) image (opening_of tail x s t a.seen image logged.ends logged.state left)) [
+    elim (renewed x t logged.stands below_x other_x sound_x head_x (omega (arith, head_x.most, sound_x.seq)) image (opening_of tail x s t old image logged.ends logged.state left)) [
       | inl before ↦ (x, before, logged.state)
       | inr after ↦ (with_segment x t, after, logged.state)
-    ])
-    leaves
+    ]
 
 -- which gates read closed behind a new head
 closed_again : (g : Geometry) (t : ℕ) (closed : List Bool) (old new : List ℕ) → g.segments ≤ length closed → t < g.segments → 1 ≤ g.length
@@ -171,15 +174,6 @@ other_apart tail same = omega (arith, same)
 pub other_head : {size : ℕ} (tail : Tail) (s : State (List ℕ)) → IsShaped size tail s → IsFull tail → IsSound length s → IsHead tail.geometry (other tail) (tail.generation + 1) s
 other_head {size} tail s shaped full sound = head_for tail.geometry size (other tail) tail.generation s shaped.geometry sound shaped.params (shaped.full full)
 
-pub renew_leaves : {a b : DiskState} (tail : Tail) (s : State (List ℕ)) → IsShaped a.size tail s → IsFull tail → IsSound length s → IsDurable a tail s
-    → (Settled a → (IsTrue (get_or tail.closed (other tail) false) ↔ IsClosed a.seen (segment_place tail.geometry (other tail)))
-    → LeavesOnly a b (IsOpening tail.geometry (other tail) (tail.generation + 1) s a.seen))
-    → LeavesOnly a b (λ image. Stands image s)
-renew_leaves tail s shaped full sound durable leaves =
-    let below = other_there tail s shaped in
-    renewed_leaves tail s (other tail) durable.logged sound below (other_apart tail) (other_head tail s shaped full sound)
-    (leaves durable.settled (durable.logged.gates (other tail) below))
-
 pub renew_shape : {size : ℕ} (tail : Tail) (s : State (List ℕ)) (gate : ℕ) → IsShaped size tail s → IsFull tail → IsSound length s
     → gate ≡ first_gate tail.geometry (other tail) s → IsShaped size (renewed_tail tail (other tail) gate) s
 renew_shape {size} tail s gate shaped full sound is = renewed_shape size tail s (other tail) gate shaped (other_there tail s shaped) (other_head tail s shaped full sound) is
@@ -188,12 +182,30 @@ pub renew_room : {size : ℕ} (tail : Tail) (s : State (List ℕ)) (gate : ℕ) 
     → gate ≡ first_gate tail.geometry (other tail) s → IsFull (renewed_tail tail (other tail) gate) → ⊥
 renew_room tail s gate shaped full sound is = renewed_room tail s (other tail) gate (other_head tail s shaped full sound) is
 
-pub renew_durable : {a b : DiskState} (tail : Tail) (s : State (List ℕ)) (gate : ℕ) → length tail.closed ≡ 256 → IsShaped a.size tail s → IsFull tail → IsSound length s
-    → IsDurable a tail s → gate ≡ first_gate tail.geometry (other tail) s
-    → (Settled a → Settled b) → (Settled a → b.seen ≡ overwritten (segment_place tail.geometry (other tail)) (opened_head (tail.generation + 1) s) a.seen)
-    → IsDurable b (renewed_tail tail (other tail) gate) s
-renew_durable {a} {b} tail s gate count shaped full sound durable is settles writes = record {
-  settled = settles durable.settled;
-  logged = renewed_logged tail s (other tail) gate a.seen b.seen durable.logged sound (other_there tail s shaped) (other_apart tail)
-      (other_head tail s shaped full sound) is count (writes durable.settled);
-}
+-- the calls of the opening
+module _ {size : ℕ} (tail : Tail) (s : State (List ℕ)) (shaped : IsShaped size tail s) (full : IsFull tail) (sound : IsSound length s) where
+  there : other tail < tail.geometry.segments
+  there = other_there tail s shaped
+
+  head_there : IsHead tail.geometry (other tail) (tail.generation + 1) s
+  head_there = other_head tail s shaped full sound
+
+  pub renew_image : (old image : List ℕ) → length old ≡ size → IsLogged old tail s → images_within (renewing tail s) old (λ d. d ≡ old) image → Stands image s
+  renew_image old image count logged left =
+      renewed_image tail s (other tail) old image logged sound there (other_apart tail) head_there
+      (opening_image tail.geometry (other tail) (tail.generation + 1) s (get_or tail.closed (other tail) false) old image
+      (subst (IsGeometry tail.geometry) (sym count) shaped.geometry) there head_there (logged.gates (other tail) there) left)
+
+  pub renew_logged : (old : List ℕ) → length tail.closed ≡ 256 → length old ≡ size → IsLogged old tail s → IsLogged (seen_at_end (renewing tail s) old) (calls.renewed tail s) s
+  renew_logged old wide count logged =
+      renewed_logged tail s (other tail) (first_gate tail.geometry (other tail) s) old (seen_at_end (renewing tail s) old) logged sound there (other_apart tail) head_there refl wide
+      (opening_end tail.geometry (other tail) (tail.generation + 1) s (get_or tail.closed (other tail) false) old
+      (omega (arith, segment_within tail.geometry (other tail) size shaped.geometry there, head_there.room, count)))
+
+pub renewing_synced : (tail : Tail) (s : State (List ℕ)) → AreSynced (renewing tail s)
+renewing_synced tail s =
+    replacing_synced (segment_place tail.geometry (other tail)) (get_or tail.closed (other tail) false) (head_of_state (tail.generation + 1) s ++ 0 ∷ [])
+
+pub renewing_writes : (tail : Tail) (s : State (List ℕ)) → AreWrites (renewing tail s) 6 3
+renewing_writes tail s =
+    replacing_writes (segment_place tail.geometry (other tail)) (get_or tail.closed (other tail) false) (head_of_state (tail.generation + 1) s ++ 0 ∷ [])

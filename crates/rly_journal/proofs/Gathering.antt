@@ -74,6 +74,12 @@ body_most commands group s t gathers few =
     let both : length (group_body group) ≡ 2 + length group.records = length-append (big_bytes 2 group.count) group.records in
     omega (arith, most, size, both, few)
 
+pub spelled_most : (commands : Commands) → AllByRecursion HasRecord commands → length commands ≤ 64 → length (body_of commands) ≤ 2 + 1223 * 64
+spelled_most commands have few =
+    let most = records_most commands have in
+    let both : length (body_of commands) ≡ 2 + length (flat_map record_of commands) = length-append (big_bytes 2 (length commands)) (flat_map record_of commands) in
+    omega (arith, most, both, few)
+
 -- a group of these parts
 abbrev pub group_of : List ℕ → ℕ → List ℕ → GroupState
 group_of records count staged = record { records = records; count = count; staged = staged }

@@ -1,11 +1,13 @@
 -- Calls that are answered one after the other.
-use Rattle.std.proofs.Common.{◌≡◌, ◌⊎◌, ℕ, ◌+◌, ◌-◌, ◌<◌, ◌≤◌, ◌∙◌, List, [], ◌∷◌, ◌++◌, length, map, take, drop, set, get_or, Bool, true, false, cond, Option, Some, None, refl, ap, sym, subst, arith, inl, inr, append_assoc, length-append}
+use Rattle.std.proofs.Common.{◌≡◌, ◌⊎◌, ℕ, ◌+◌, ◌<◌, ◌≤◌, ◌∙◌, List, [], ◌∷◌, ◌++◌, length, map, take, drop, set, get_or, Bool, true, false, cond, Option, Some, None, refl, ap, sym, subst, arith, inl, inr, append_assoc, length-append}
+use Rattle.std.specs.Prelude.{if◌then◌else◌}
 use Rattle.std.specs.List.{AllByRecursion, zip}
 use Rattle.std.proofs.lemmas.Bool.{false≢true}
 use Rattle.std.proofs.lemmas.List.{append-nil, drop_more, get_or_at, length-map, length-take, map_more, set_at}
 use Rattle.rly_core.specs.declared.refusal.Refusal.TheVariants.{Broken, Unsure, OutOfMemory}
 use Rattle.rly_machine.specs.declared.call.Answer.{Answer}
 use Rattle.rly_machine.specs.declared.call.Call.{Call}
+use Rattle.rly_machine.specs.declared.command.Ask.{Ask}
 use Rattle.rly_machine.specs.declared.command.Ask.TheVariants as ask
 use Rattle.rly_machine.specs.declared.command.Command.{Command}
 use Rattle.rly_machine.specs.declared.command.Command.TheVariants.{Take, Pick, Release}
@@ -14,7 +16,7 @@ use Rattle.rly_machine.specs.declared.reply.Reply.{Reply}
 use Rattle.rly_machine.specs.declared.reply.Reply.TheVariants.{Refused}
 use Rattle.rly_machine.specs.Accepted.{is_accepted, unless}
 use Rattle.rly_machine.specs.Ask.{ask_step}
-use Rattle.rly_machine.specs.History.{Entry, IsAnswered, Legal, LegalBy, harm, is_failure, next_state, state_after, harm_after}
+use Rattle.rly_machine.specs.History.{Entry, IsAnswered, Legal, LegalBy, accepted_by, accepted_of, harm, is_failure, next_state, state_after, harm_after}
 use Rattle.rly_machine.specs.Query.{query_reply}
 use Rattle.rly_machine.specs.State.{State}
 use Rattle.rly_machine.specs.Step.{step}
@@ -34,12 +36,19 @@ pub record IsServed (call : Call) (answer : Answer) (old new : GroupState) (s t 
   pub answered : IsAnswered (λ reply. reply) 0 s (call, answer)
   pub only : OnlyMemory (call, answer)
   pub state : t ≡ next_state s (call, answer)
-  pub group : ((command : Command (List ℕ)) × IsTaken command old new s t) ⊎ ((new ≡ old) × (t ≡ s))
+  pub group : ((command : Command (List ℕ)) × (accepted_by call.ask answer.reply ≡ command ∷ []) × IsTaken command old new s t)
+      ⊎ ((accepted_by call.ask answer.reply ≡ []) × (new ≡ old) × (t ≡ s))
+
+-- a reply that isn't accepted names no command
+none_by : (an : Ask) (reply : Reply) → is_accepted reply ≡ false → accepted_by an reply ≡ []
+none_by (ask.Command command) reply leaves = ap (λ b. if b then command ∷ [] else []) leaves
+none_by (ask.Query query) reply leaves = refl
 
 -- by a reply of the machine
 real_served : (call : Call) (answer : Answer) (old new : GroupState) (s t : State (List ℕ)) → answer.seat ≡ call.seat → answer.number ≡ call.number
     → is_failure answer.reply ≡ false → answer.reply ≡ (ask_step s call.ask).1 → t ≡ (ask_step s call.ask).0 → answer.position ≡ t.seq
-    → ((command : Command (List ℕ)) × IsTaken command old new s t) ⊎ ((new ≡ old) × (t ≡ s)) → IsServed call answer old new s t
+    → ((command : Command (List ℕ)) × (accepted_by call.ask answer.reply ≡ command ∷ []) × IsTaken command old new s t)
+    ⊎ ((accepted_by call.ask answer.reply ≡ []) × (new ≡ old) × (t ≡ s)) → IsServed call answer old new s t
 real_served call answer old new s t seat number real reply state position group =
     let next : next_state s (call, answer) ≡ (ask_step s call.ask).0 = ap (λ b. cond b s (ask_step s call.ask).0) real in
     record {
@@ -59,7 +68,7 @@ starved_served call answer old new s t seat number reply state group position =
       answered = record { seat = seat; number = number; reply = λ real. absurd (false≢true (sym real ∙ fails)); position = position ∙ ap (λ m. m.seq) (state ∙ sym next); harm = omega arith };
       only = λ _. reply;
       state = state ∙ sym next;
-      group = inr (group, state);
+      group = inr (none_by call.ask answer.reply (ap is_accepted reply), group, state);
     }
 
 -- a command
@@ -69,9 +78,11 @@ command_served call command answer old new s t asks seat number done position =
     let by_step : ask_step s call.ask ≡ step length s command = ap (ask_step s) asks in
     elim done [
       | inl taken ↦ real_served call answer old new s t seat number (ap is_failure taken.0 ∙ real_step length s command) (taken.0 ∙ sym (ap (λ r. r.1) by_step))
-          (taken.1.state ∙ sym (ap (λ r. r.0) by_step)) position (inl (command, taken.1))
+          (taken.1.state ∙ sym (ap (λ r. r.0) by_step)) position
+          (inl (command, ap (λ a. accepted_by a answer.reply) asks ∙ ap (λ b. if b then command ∷ [] else []) (ap is_accepted taken.0 ∙ taken.1.accepted), taken.1))
       | inr (inl left) ↦ real_served call answer old new s t seat number (ap is_failure left.reply ∙ real_step length s command) (left.reply ∙ sym (ap (λ r. r.1) by_step))
-          (left.state ∙ sym (unaccepted length s command left.leaves) ∙ sym (ap (λ r. r.0) by_step)) position (inr (left.group, left.state))
+          (left.state ∙ sym (unaccepted length s command left.leaves) ∙ sym (ap (λ r. r.0) by_step)) position
+          (inr (none_by call.ask answer.reply (ap is_accepted left.reply ∙ left.leaves), left.group, left.state))
       | inr (inr starved) ↦ starved_served call answer old new s t seat number starved.reply starved.state starved.group position
     ]
 
@@ -80,7 +91,7 @@ pub query_served : (call : Call) (query : Query) (answer : Answer) (group : Grou
     → answer.seat ≡ call.seat → answer.number ≡ call.number → answer.reply ≡ query_reply s query → answer.position ≡ s.seq → IsServed call answer group group s s
 query_served call query answer group s asks seat number reply position =
     let by_step : ask_step s call.ask ≡ (s, query_reply s query) = ap (ask_step s) asks in
-    real_served call answer group group s s seat number (ap is_failure reply ∙ real_query s query) (reply ∙ sym (ap (λ r. r.1) by_step)) (sym (ap (λ r. r.0) by_step)) position (inr (refl, refl))
+    real_served call answer group group s s seat number (ap is_failure reply ∙ real_query s query) (reply ∙ sym (ap (λ r. r.1) by_step)) (sym (ap (λ r. r.0) by_step)) position (inr (ap (λ a. accepted_by a answer.reply) asks, refl, refl))
 
 -- want of memory is no harm to the device
 harmless : (reply : Reply) → (is_failure reply ≡ true → reply ≡ Refused OutOfMemory) → harm reply ≡ 0
@@ -119,16 +130,42 @@ served_push calls given call answer old new s t u served last =
 pub served_none : (s : State (List ℕ)) → AreServed [] [] s s
 served_none s = record { count = refl; legal = tt; only = tt; state = refl }
 
+-- the accepted commands with one call more
+accepted_push : (entries : List Entry) (entry : Entry) → accepted_of (entries ++ entry ∷ []) ≡ accepted_of entries ++ accepted_by entry.0.ask entry.1.reply
+accepted_push [] entry = append-nil (accepted_by entry.0.ask entry.1.reply)
+accepted_push (first ∷ entries) entry =
+    ap (λ l. accepted_by first.0.ask first.1.reply ++ l) (accepted_push entries entry)
+    ∙ sym (append_assoc (accepted_by first.0.ask first.1.reply) (accepted_of entries) (accepted_by entry.0.ask entry.1.reply))
+
+-- how many commands are accepted
+accepted_once : (an : Ask) (reply : Reply) → length (accepted_by an reply) ≤ 1
+accepted_once (ask.Command command) reply = at_most (is_accepted reply)
+  where
+    at_most : (b : Bool) → length (if b then command ∷ [] else []) ≤ 1
+    at_most true = omega arith
+    at_most false = omega arith
+accepted_once (ask.Query query) reply = omega arith
+
+pub few_accepted : (calls : List Call) (given : List Answer) → length (accepted_of (zip calls given)) ≤ length calls
+few_accepted [] given = omega arith
+few_accepted (call ∷ calls) [] = omega arith
+few_accepted (call ∷ calls) (answer ∷ given) =
+    omega (arith, accepted_once call.ask answer.reply, few_accepted calls given, length-append (accepted_by call.ask answer.reply) (accepted_of (zip calls given)))
+
 -- a round that answered the first of its calls
 pub record IsServing (all rest : List Call) (before now : List Answer) (group : GroupState) (s t : State (List ℕ)) : Type 0 where
   pub served : List Call
   pub given : List Answer
-  pub commands : Commands
   pub calls : all ≡ served ++ rest
   pub answers : now ≡ before ++ given
   pub are_served : AreServed served given s t
-  pub gathers : Gathers commands group s t
-  pub few : length commands ≤ length served
+  pub gathers : Gathers (accepted_of (zip served given)) group s t
+
+-- the group holds fewer than 64 before another is answered
+pub serving_room : (all rest more : List Call) (call : Call) (before now : List Answer) (group : GroupState) (s t : State (List ℕ)) → IsServing all rest before now group s t
+    → rest ≡ call ∷ more → length all ≤ 64 → group.count < 64
+serving_room all rest more call before now group s t serving cut few =
+    omega (arith, serving.gathers.count, few_accepted serving.served serving.given, few, ap length serving.calls, length-append serving.served rest, ap length cut)
 
 -- it answers one more
 pub serving_next : (all rest more : List Call) (call : Call) (before now next : List Answer) (answer : Answer) (group new : GroupState) (s t u : State (List ℕ))
@@ -139,27 +176,27 @@ serving_next all rest more call before now next answer group new s t u serving c
     let answers : next ≡ before ++ (serving.given ++ answer ∷ []) = pushed ∙ ap (λ l. l ++ answer ∷ []) serving.answers ∙ append_assoc before serving.given (answer ∷ []) in
     let are : AreServed (serving.served ++ call ∷ []) (serving.given ++ answer ∷ []) s u =
     served_push serving.served serving.given call answer group new s t u serving.are_served last in
-    let size = length-append serving.served (call ∷ []) in
+    let commands : Commands = accepted_of (zip serving.served serving.given) in
+    let named : accepted_of (zip (serving.served ++ call ∷ []) (serving.given ++ answer ∷ [])) ≡ commands ++ accepted_by call.ask answer.reply =
+    ap accepted_of (zip_push serving.served serving.given call answer serving.are_served.count) ∙ accepted_push (zip serving.served serving.given) (call, answer) in
     elim last.group [
       | inl taken ↦ record {
         served = serving.served ++ call ∷ [];
         given = serving.given ++ answer ∷ [];
-        commands = serving.commands ++ taken.0 ∷ [];
         calls = calls;
         answers = answers;
         are_served = are;
-        gathers = gathers_push serving.commands taken.0 group new s t u serving.gathers taken.1;
-        few = omega (arith, serving.few, size, length-append serving.commands (taken.0 ∷ []));
+        gathers = subst (λ cs. Gathers cs new s u) (sym (named ∙ ap (λ l. commands ++ l) taken.1))
+            (gathers_push commands taken.0 group new s t u serving.gathers taken.2);
       }
       | inr same ↦ record {
         served = serving.served ++ call ∷ [];
         given = serving.given ++ answer ∷ [];
-        commands = serving.commands;
         calls = calls;
         answers = answers;
         are_served = are;
-        gathers = gathers_still serving.commands group new s t u serving.gathers same.0 same.1;
-        few = omega (arith, serving.few, size);
+        gathers = subst (λ cs. Gathers cs new s u) (sym (named ∙ ap (λ l. commands ++ l) same.0 ∙ append-nil commands))
+            (gathers_still commands group new s t u serving.gathers same.1 same.2);
       }
     ]
 
@@ -168,13 +205,22 @@ pub serving_none : (all : List Call) (before : List Answer) (group : GroupState)
 serving_none all before group s gathers = record {
   served = [];
   given = [];
-  commands = [];
   calls = refl;
   answers = sym (append-nil before);
   are_served = served_none s;
   gathers = gathers;
-  few = omega arith;
 }
+
+-- all were answered
+pub serving_done : (all rest : List Call) (before now : List Answer) (group : GroupState) (s t : State (List ℕ)) → IsServing all rest before now group s t → rest ≡ []
+    → (given : List Answer) × (now ≡ before ++ given) × AreServed all given s t × Gathers (accepted_of (zip all given)) group s t
+serving_done all rest before now group s t serving none =
+    let same : serving.served ≡ all = sym (append-nil serving.served) ∙ ap (λ l. serving.served ++ l) (sym none) ∙ sym serving.calls in (
+      serving.given,
+      serving.answers,
+      subst (λ calls. AreServed calls serving.given s t) same serving.are_served,
+      subst (λ calls. Gathers (accepted_of (zip calls serving.given)) group s t) same serving.gathers,
+    )
 
 -- of answers it is said that it is unsure whether they stand: they say nothing else than what was asked
 unsure_by : (harmed : ℕ) (s : State (List ℕ)) (position : ℕ) (calls : List Call) (given : List Answer) → length given ≡ length calls

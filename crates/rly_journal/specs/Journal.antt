@@ -1,8 +1,8 @@
 -- What contracts see of a journal, and what a round does to it.
-use Rattle.std.specs.Prelude.{◌≡◌, ◌⊎◌, ◌+◌, ◌≤◌, ℕ, List, Bool, true, false}
+use Rattle.std.specs.Prelude.{◌≡◌, ◌⊎◌, ℕ, List, Bool, true, false}
 use Rattle.std.specs.List.{list_any}
 use Rattle.rly_core.specs.declared.refusal.Refusal.TheVariants.{Broken, Unsure}
-use Rattle.rly_disk.specs.DiskModel.{DiskState, IsSpent, LeavesOnly, HasFailed}
+use Rattle.rly_disk.specs.DiskModel.{DiskState, LeavesOnly, HasFailed}
 use Rattle.rly_machine.specs.declared.call.Answer.{Answer}
 use Rattle.rly_machine.specs.declared.call.Call.{Call}
 use Rattle.rly_machine.specs.declared.command.Ask.{Ask}
@@ -21,11 +21,6 @@ pub record JournalState (D : Type 0) : Type 0 where
   pub state : State (List ℕ)
   pub position : ℕ
   pub broken : Bool
-
--- one sync was made, done or failed; where the counts stand at their last value it isn't counted
-pub record SyncsOnce (old new : DiskState) : Type 0 where
-  pub most : new.syncs ≤ old.syncs + 1
-  pub counted : ¬ IsSpent old → new.syncs ≡ old.syncs + 1
 
 -- whether an ask is a command
 abbrev pub is_command : Ask → Bool

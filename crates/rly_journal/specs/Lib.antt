@@ -1,4 +1,6 @@
+pub mod Calls
 pub mod Faults
+pub mod HelpersCalls
 pub mod HelpersGroups
 pub mod HelpersJournal
 pub mod Journal

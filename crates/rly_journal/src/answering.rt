@@ -1,12 +1,12 @@
-ghost use Rattle.std.specs.Prelude.{◌≡◌, ◌⊎◌, ◌+◌, ◌<◌, ◌≤◌, [], ◌++◌, ℕ, List, drop, length, map, take, true, vec_capacity};
+ghost use Rattle.std.specs.Prelude.{◌≡◌, ◌⊎◌, ◌+◌, ◌<◌, ◌≤◌, [], ◌∷◌, ◌++◌, ℕ, List, drop, length, map, take, true, vec_capacity};
+ghost use Rattle.std.specs.List.{zip};
 ghost use Rattle.rly_machine.specs.declared.command.Command.{Command as ACommand};
 ghost use Rattle.rly_machine.specs.declared.call.Answer.{Answer as AnAnswer};
-ghost use Rattle.rly_machine.specs.History.{IsAnswered, next_state};
+ghost use Rattle.rly_machine.specs.History.{IsAnswered, accepted_by, accepted_of, next_state};
 ghost use Rattle.rly_record.specs.Spelling.{IsShort};
 ghost use Rattle.rly_journal.specs.HelpersGroups.{Gathers, IsTaken, empty_group};
 ghost use Rattle.rly_journal.specs.Rounds.{AreServed, OnlyMemory, refusals};
 ghost use Rattle.rly_journal.specs.HelpersGroups.{IsOutcome, unsure_at};
-ghost use Rattle.rly_journal.specs.Standing.{Commands};
 
 use crate::group::Group;
 use rly_core::Refusal;
@@ -30,9 +30,8 @@ pub(crate) fn answer_calls(
     ensures calls_capacity { vec_capacity calls.new ≡ vec_capacity calls.old }
     ensures answers_capacity { vec_capacity answers.new ≡ vec_capacity answers.old }
     ensures answers { (given : List AnAnswer) × (answers.new.items ≡ answers.old.items ++ given)
-        × AreServed calls.old.items given machine.old.state machine.new.state }
-    ensures group { (commands : Commands) × Gathers commands group.new machine.old.state machine.new.state
-        × (length commands ≤ length calls.old.items) }
+        × AreServed calls.old.items given machine.old.state machine.new.state
+        × Gathers (accepted_of (zip calls.old.items given)) group.new machine.old.state machine.new.state }
 {
     for call in calls.drain(..) {
         let answer = answer_call(alloc, machine, group, call);
@@ -94,8 +93,9 @@ fn answer_call(
     ensures answered { IsAnswered (λ reply. reply) 0 machine.old.state (call, result) }
     ensures only { OnlyMemory (call, result) }
     ensures state { machine.new.state ≡ next_state machine.old.state (call, result) }
-    ensures group { ((command : ACommand (List ℕ)) × IsTaken command group.old group.new machine.old.state machine.new.state)
-        ⊎ ((group.new ≡ group.old) × (machine.new.state ≡ machine.old.state)) }
+    ensures group { ((command : ACommand (List ℕ)) × (accepted_by call.ask result.reply ≡ command ∷ [])
+        × IsTaken command group.old group.new machine.old.state machine.new.state)
+        ⊎ ((accepted_by call.ask result.reply ≡ []) × (group.new ≡ group.old) × (machine.new.state ≡ machine.old.state)) }
 {
     let Call { seat, number, ask } = call;
     let reply = match ask {

@@ -1,13 +1,14 @@
-ghost use Rattle.std.specs.Prelude.{◌≡◌, ◌+◌, ◌*◌, ◌<◌, ◌≤◌, ◌^◌, [], ◌++◌, ◌==◌, IfOk, OnErr, OnOk, drop, length, take, vec_capacity, vec_len};
+ghost use Rattle.std.specs.Prelude.{◌≡◌, ◌+◌, ◌*◌, ◌<◌, ◌≤◌, ◌^◌, [], ◌++◌, ◌==◌, IfOk, drop, is_ok, length, take, vec_capacity, vec_len};
 ghost use Rattle.byteorder.specs.Endian.{big_bytes};
-ghost use Rattle.rly_disk.specs.DiskModel.{Later, LeavesOnly, HasFailed, Settled, overwritten};
-ghost use Rattle.rly_gate.specs.Group.{IsAppended, IsClosed, body_in, group_of};
+ghost use Rattle.rly_disk.specs.Trace.{Makes};
+ghost use Rattle.rly_gate.specs.Calls.{appending};
+ghost use Rattle.rly_gate.specs.Group.{body_in};
 ghost use Rattle.rly_record.specs.Spelling.{HasRecord, IsShort, record_of};
 ghost use Rattle.rly_journal.specs.HelpersGroups.{empty_group, group_body};
 
-use crate::device::append_group;
 use byteorder::{BigEndian, ByteOrder};
 use rly_disk::{Disk, DiskFault};
+use rly_gate::append_group;
 use rly_machine::{Command, Payload};
 use rly_record::write_command;
 use std::alloc::{AllocError, Global};
@@ -112,17 +113,7 @@ impl Group {
         requires nothing_staged { self.old.staged ≡ [] }
         requires place_fits { at + 1 < 2 ^ 64 }
         requires room { at + 6 + length (group_body self.old) ≤ (D.state disk.old).size }
-        ensures any_moment { Settled (D.state disk.old) → IsClosed (D.state disk.old).seen at
-            → LeavesOnly (D.state disk.old) (D.state disk.new) (IsAppended at (group_body self.old) (D.state disk.old).seen) }
-        ensures ok { Settled (D.state disk.old) → OnOk result (Settled (D.state disk.new)) }
-        ensures written { Settled (D.state disk.old)
-            → OnOk result ((D.state disk.new).seen ≡ overwritten at (group_of (group_body self.old)) (D.state disk.old).seen) }
-        ensures rise { OnErr result (HasFailed (D.state disk.old) (D.state disk.new)) }
-        ensures no_failure { OnOk result ((D.state disk.new).failures ≡ (D.state disk.old).failures) }
-        ensures syncs { (D.state disk.new).syncs ≤ (D.state disk.old).syncs + 2 }
-        ensures calls { (D.state disk.new).calls ≤ (D.state disk.old).calls + 4 }
-        ensures later { Later (D.state disk.old) (D.state disk.new) }
-        ensures no_failed_read { (D.state disk.new).failed_reads ≡ (D.state disk.old).failed_reads }
+        ensures trace { Makes D.state (appending at (group_body self.old)) (is_ok result) disk.old disk.new }
         ensures emptied { self.new ≡ empty_group }
     {
         complete(&mut self.frame, self.count);

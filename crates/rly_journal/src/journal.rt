@@ -1,14 +1,17 @@
 ghost use Rattle.std.specs.Prelude.{◌≡◌, ◌≢◌, ◌⊎◌, ◌+◌, ◌≤◌, ◌++◌, [], Err, IfErr, IfOk, IsOk, List, MatchResult, Ok, OnErr, OnOk, length, vec_capacity, true, false, if◌then◌else◌};
 ghost use Rattle.rly_core.specs.Bounds.{IsIn};
-ghost use Rattle.rly_disk.specs.DiskModel.{Later, LeavesOnly, HasFailed, Settled};
+ghost use Rattle.rly_disk.specs.DiskModel.{Later, Settled};
+ghost use Rattle.rly_disk.specs.Trace.{Makes};
 ghost use Rattle.rly_gate.specs.Reading.{OnlyRead};
 ghost use Rattle.rly_machine.specs.declared.call.Answer.{Answer as AnAnswer};
 ghost use Rattle.rly_machine.specs.declared.reply.Reply.{Reply as AReply};
 ghost use Rattle.rly_machine.specs.Sound.{IsSound};
 ghost use Rattle.rly_machine.specs.State.{has_peer, last_at};
 ghost use Rattle.rly_machine.specs.Query.{fetch_reply, item_of, show_reply};
+ghost use Rattle.rly_journal.specs.Calls.{BreaksOpening, MakesOpening, MakesRound, fetching, tells};
 ghost use Rattle.rly_journal.specs.Faults.{IsRefused};
-ghost use Rattle.rly_journal.specs.Journal.{Breaks, Goes, IsDueFor, IsRound, IsSafe, SyncsOnce, holds_command};
+ghost use Rattle.rly_journal.specs.HelpersCalls.{IsReadied};
+ghost use Rattle.rly_journal.specs.Journal.{Breaks, Goes, IsDueFor, IsRound, IsSafe, holds_command};
 ghost use Rattle.rly_journal.specs.HelpersGroups.{empty_group};
 ghost use Rattle.rly_journal.specs.Log.{IsDurable, IsSameHead};
 ghost use Rattle.rly_journal.specs.HelpersJournal.{IsShaped};
@@ -16,7 +19,6 @@ ghost use Rattle.rly_journal.specs.Rounds.{refusals};
 ghost use Rattle.rly_journal.specs.Standing.{Stands};
 
 use crate::answering::{answer_calls, make_unsure, refuse_all};
-use crate::device::sync;
 use crate::group::Group;
 use crate::open_fault::OpenFault;
 use crate::recovery::{Recovered, recover};
@@ -73,11 +75,8 @@ impl<D: Disk> Journal<D> {
         ensures settled { (D.state disk).honest → IfOk result (λ journal. Settled (D.state journal.disk)) }
         // What is refused is durable: it is refused again after a crash.
         ensures stays_refused { (D.state disk).honest → IfErr result (λ failed. failed.0 ≢ OpenFault.Device → Settled (D.state failed.1)) }
-        ensures rise { IfErr result (λ failed. failed.0 ≡ OpenFault.Device → HasFailed (D.state disk) (D.state failed.1)) }
-        // No call that fails is tried again.
-        ensures no_failure { MatchResult result (λ journal. (D.state journal.disk).failures ≡ (D.state disk).failures)
-            (λ failed. failed.0 ≢ OpenFault.Device → (D.state failed.1).failures ≡ (D.state disk).failures) }
-        ensures one_sync { MatchResult result (λ journal. SyncsOnce (D.state disk) (D.state journal.disk)) (λ failed. SyncsOnce (D.state disk) (D.state failed.1)) }
+        // One sync, and then reads. `Device` is answered where one of them failed, and it was the last.
+        ensures trace { MatchResult result (λ journal. MakesOpening D.state journal.tail disk journal.disk) (λ failed. BreaksOpening D.state (tells failed.0) disk failed.1) }
     {
         let mut disk = disk;
         match begin(alloc, &mut disk) {
@@ -111,14 +110,13 @@ impl<D: Disk> Journal<D> {
         ensures emptied { OnOk result (calls.new.items ≡ []) }
         ensures answers { OnOk result ((given : List AnAnswer) × (answers.new.items ≡ answers.old.items ++ given)
             × IsRound D.state self.old self.new calls.old.items given) }
+        // What it asks of the device: a segment is opened or not, and the accepted commands are appended as one group.
+        ensures trace { self.old.broken ≡ false → OnOk result (MakesRound D.state self.old self.new calls.old.items) }
         // A crash at any moment of the round leaves its commands whole or none of them.
         ensures any_moment { (D.state self.old.disk).honest → self.old.broken ≡ false → OnOk result (IsSafe D.state self.old self.new calls.old.items) }
         ensures durable { (D.state self.new.disk).honest → self.new.broken ≡ false → OnOk result (Settled (D.state self.new.disk) × Stands (D.state self.new.disk).seen self.new.state) }
         ensures syncs { (D.state self.new.disk).syncs ≤ (D.state self.old.disk).syncs + 5 }
         ensures few_syncs { (IsDueFor self.old calls.old.items → ⊥) → (D.state self.new.disk).syncs ≤ (D.state self.old.disk).syncs + 2 }
-        ensures quiet { (IsDueFor self.old calls.old.items → ⊥) → self.new.state ≡ self.old.state → self.new.disk ≡ self.old.disk }
-        ensures calls { (D.state self.new.disk).calls ≤ (D.state self.old.disk).calls + 10 }
-        ensures few_calls { (IsDueFor self.old calls.old.items → ⊥) → (D.state self.new.disk).calls ≤ (D.state self.old.disk).calls + 4 }
         // A segment is opened where one is due, also where its commands are then refused, and only there. Where memory is
         // refused for its head, so is each call, and nothing changed.
         ensures opened { IsDueFor self.old calls.old.items → OnOk result (self.new.broken ≡ false
@@ -126,12 +124,12 @@ impl<D: Disk> Journal<D> {
             × (answers.new.items ≡ answers.old.items ++ refusals Refusal.OutOfMemory self.old.position calls.old.items))) }
         ensures stays { (IsDueFor self.old calls.old.items → ⊥) → IsSameHead self.old.tail self.new.tail }
         ensures later { Later (D.state self.old.disk) (D.state self.new.disk) }
-        ensures no_failed_read { (D.state self.new.disk).failed_reads ≡ (D.state self.old.disk).failed_reads }
         // Both lists keep the memory that they have.
         ensures calls_capacity { vec_capacity calls.new ≡ vec_capacity calls.old }
         ensures answers_capacity { vec_capacity answers.old ≤ vec_capacity answers.new }
     {
         answers.reserve(calls.len())?;
+        self.law_sound();
         if self.broken {
             refuse_all(calls, answers, Refusal::Broken, self.position);
             return Ok(());
@@ -150,6 +148,7 @@ impl<D: Disk> Journal<D> {
         ensures refused { IfErr result (λ refusal. ((self.old.broken ≡ true) × (refusal ≡ Refusal.Broken)) ⊎ ((self.old.broken ≡ false)
             × ((fetch_reply (item_of self.old.state hop number) ≡ AReply.Refused refusal) ⊎ (refusal ≡ Refusal.OutOfMemory)))) }
         ensures same { self.new ≡ self.old }
+        ensures trace { Makes D.state fetching true self.old.disk self.new.disk }
     {
         if self.broken {
             return Err(Refusal::Broken);
@@ -257,16 +256,8 @@ impl<D: Disk> Journal<D> {
         requires { self.old.broken ≡ false }
         ensures state { self.new.state ≡ self.old.state }
         ensures position { self.new.position ≡ self.old.position }
-        ensures ready { OnOk result ((self.new.broken ≡ false) × ((D.state self.new.disk).failures ≡ (D.state self.old.disk).failures) × (IsDueFor self.new calls.now → ⊥)) }
-        ensures refused { IfErr result (λ refusal. ((refusal ≡ Refusal.OutOfMemory) × (self.new ≡ self.old))
-            ⊎ ((refusal ≡ Refusal.Unsure) × (self.new.broken ≡ true) × HasFailed (D.state self.old.disk) (D.state self.new.disk))) }
-        ensures any_moment { (D.state self.old.disk).honest → LeavesOnly (D.state self.old.disk) (D.state self.new.disk) (λ image. Stands image self.old.state) }
-        ensures opened { IsDueFor self.old calls.now → OnOk result (self.new.tail.generation ≡ self.old.tail.generation + 1) }
-        ensures syncs { (D.state self.new.disk).syncs ≤ (D.state self.old.disk).syncs + 3 }
-        ensures calls { (D.state self.new.disk).calls ≤ (D.state self.old.disk).calls + 6 }
-        ensures calm { (IsDueFor self.old calls.now → ⊥) → self.new ≡ self.old }
-        ensures later { Later (D.state self.old.disk) (D.state self.new.disk) }
-        ensures no_failed_read { (D.state self.new.disk).failed_reads ≡ (D.state self.old.disk).failed_reads }
+        ensures ready { OnOk result (IsDueFor self.new calls.now → ⊥) }
+        ensures made { IsReadied D.state self.old self.new calls.now result }
     {
         if !holds_command(calls) || !is_full(&self.tail) {
             return Ok(());
@@ -289,15 +280,9 @@ impl<D: Disk> Journal<D> {
         requires ready { IsDueFor self.old calls.old.items → ⊥ }
         ensures emptied { calls.new.items ≡ [] }
         ensures answers { (given : List AnAnswer) × (answers.new.items ≡ answers.old.items ++ given)
-            × ((Goes self.old self.new calls.old.items given × ((D.state self.new.disk).failures ≡ (D.state self.old.disk).failures))
-            ⊎ (Breaks self.old self.new calls.old.items given × HasFailed (D.state self.old.disk) (D.state self.new.disk))) }
-        ensures any_moment { (D.state self.old.disk).honest → IsSafe D.state self.old self.new calls.old.items }
-        ensures syncs { (D.state self.new.disk).syncs ≤ (D.state self.old.disk).syncs + 2 }
+            × (Goes self.old self.new calls.old.items given ⊎ Breaks self.old self.new calls.old.items given) }
+        ensures trace { MakesRound D.state self.old self.new calls.old.items }
         ensures head { IsSameHead self.old.tail self.new.tail }
-        ensures calls { (D.state self.new.disk).calls ≤ (D.state self.old.disk).calls + 4 }
-        ensures quiet { self.new.state ≡ self.old.state → self.new.disk ≡ self.old.disk }
-        ensures later { Later (D.state self.old.disk) (D.state self.new.disk) }
-        ensures no_failed_read { (D.state self.new.disk).failed_reads ≡ (D.state self.old.disk).failed_reads }
         ensures calls_capacity { vec_capacity calls.new ≡ vec_capacity calls.old }
         ensures answers_capacity { vec_capacity answers.new ≡ vec_capacity answers.old }
     {
@@ -323,13 +308,9 @@ fn begin<D: Disk>(alloc: Global, disk: &mut D) -> Result<Begun, OpenFault>
     ensures durable { (D.state disk.old).honest → IfOk result (λ begun. IsDurable (D.state disk.new) begun.found.tail begun.found.machine.state) }
     ensures stands { (D.state disk.old).honest → IfOk result (λ begun. Stands (D.state disk.old).seen begun.found.machine.state) }
     ensures refused { (D.state disk.old).honest → IfErr result (λ fault. IsRefused (D.state disk.old).seen fault) }
-    ensures only { OnlyRead (D.state disk.old) (D.state disk.new) }
-    ensures settled { (D.state disk.old).honest → result ≢ Err OpenFault.Device → Settled (D.state disk.new) }
-    ensures rise { result ≡ Err OpenFault.Device → HasFailed (D.state disk.old) (D.state disk.new) }
-    ensures no_failure { result ≢ Err OpenFault.Device → (D.state disk.new).failures ≡ (D.state disk.old).failures }
-    ensures one_sync { SyncsOnce (D.state disk.old) (D.state disk.new) }
+    ensures trace { MatchResult result (λ begun. MakesOpening D.state begun.found.tail disk.old disk.new) (λ fault. BreaksOpening D.state (tells fault) disk.old disk.new) }
 {
-    let Ok(()) = sync(disk) else {
+    let Ok(()) = disk.sync() else {
         return Err(OpenFault::Device);
     };
     match recover(alloc, disk) {

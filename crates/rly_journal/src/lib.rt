@@ -9,7 +9,6 @@
 #![tactic(auto)]
 
 mod answering;
-mod device;
 mod group;
 mod journal;
 mod laws;

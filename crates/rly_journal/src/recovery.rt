@@ -1,19 +1,19 @@
-ghost use Rattle.std.specs.Prelude.{◌≡◌, ◌≢◌, ◌+◌, ◌<◌, ◌≤◌, ◌^◌, Err, IfErr, IfOk, Ok, OnErr, OnOk, length, true, false};
-ghost use Rattle.rly_disk.specs.DiskModel.{HasFailed};
-ghost use Rattle.rly_gate.specs.Reading.{OnlyRead, SyncsNothing};
+ghost use Rattle.std.specs.Prelude.{◌≡◌, ◌<◌, ◌≤◌, ◌^◌, Err, IfErr, IfOk, MatchResult, Ok, OnErr, OnOk, length, true, false};
 ghost use Rattle.rly_machine.specs.Fold.{AllAccepted, fold};
 ghost use Rattle.rly_journal.specs.Faults.{IsRefused};
+ghost use Rattle.rly_journal.specs.HelpersCalls.{IsCutShort, IsGroupRead, IsHeadCut, IsHeadRead, IsRead};
 ghost use Rattle.rly_journal.specs.Log.{IsLogged};
 ghost use Rattle.rly_journal.specs.HelpersJournal.{IsReplayed, IsShaped};
 
-use crate::device::{newest, read_group, read_head, read_header};
 use crate::open_fault::OpenFault;
 use crate::tail::Tail;
 use rly_disk::Disk;
-use rly_gate::GroupFault;
+use rly_gate::{GroupFault, read_group};
 use rly_machine::{Command, Machine, Payload};
 use rly_record::{DecodeFault, read_body};
-use rly_segment::{HeadFault, HeaderFault, NewestFault, segment_end, segment_place};
+use rly_segment::{
+    HeadFault, HeaderFault, NewestFault, newest, read_head, read_header, segment_end, segment_place,
+};
 use std::alloc::Global;
 
 /// The bytes of a group in front of its body: the gate and the body's length.
@@ -31,10 +31,7 @@ pub(crate) fn recover<D: Disk>(alloc: Global, disk: &mut D) -> Result<Recovered,
     ensures shaped { IfOk result (λ found. IsShaped (D.state disk.old).size found.tail found.machine.state) }
     ensures logged { (D.state disk.old).honest → IfOk result (λ found. IsLogged (D.state disk.old).seen found.tail found.machine.state) }
     ensures refused { (D.state disk.old).honest → IfErr result (λ fault. IsRefused (D.state disk.old).seen fault) }
-    ensures only { OnlyRead (D.state disk.old) (D.state disk.new) }
-    ensures unsynced { SyncsNothing (D.state disk.old) (D.state disk.new) }
-    ensures rise { result ≡ Err OpenFault.Device → HasFailed (D.state disk.old) (D.state disk.new) }
-    ensures no_failure { result ≢ Err OpenFault.Device → (D.state disk.new).failures ≡ (D.state disk.old).failures }
+    ensures trace { MatchResult result (λ found. IsRead D.state found.tail disk.old disk.new) (λ fault. IsCutShort D.state fault disk.old disk.new) }
 {
     let mut found = read_newest_head(alloc, disk)?;
     'groups: while replay_group(alloc, disk, &mut found)? {}
@@ -46,10 +43,7 @@ fn read_newest_head<D: Disk>(alloc: Global, disk: &mut D) -> Result<Recovered, O
     ensures shaped { IfOk result (λ found. IsShaped (D.state disk.old).size found.tail found.machine.state) }
     ensures replayed { (D.state disk.old).honest → IfOk result (λ found. IsReplayed (D.state disk.old).seen found.tail found.machine.state) }
     ensures refused { (D.state disk.old).honest → IfErr result (λ fault. IsRefused (D.state disk.old).seen fault) }
-    ensures only { OnlyRead (D.state disk.old) (D.state disk.new) }
-    ensures unsynced { SyncsNothing (D.state disk.old) (D.state disk.new) }
-    ensures rise { result ≡ Err OpenFault.Device → HasFailed (D.state disk.old) (D.state disk.new) }
-    ensures no_failure { result ≢ Err OpenFault.Device → (D.state disk.new).failures ≡ (D.state disk.old).failures }
+    ensures trace { MatchResult result (λ found. IsHeadRead D.state found.tail disk.old disk.new) (λ fault. IsHeadCut D.state fault disk.old disk.new) }
 {
     let geometry = match read_header(disk) {
         Ok(geometry) => geometry,
@@ -100,10 +94,7 @@ fn replay_group<D: Disk>(
     ensures refused { (D.state disk.old).honest → IsReplayed (D.state disk.old).seen found.old.tail found.old.machine.state
         → IfErr result (λ fault. IsRefused (D.state disk.old).seen fault) }
     ensures progress { result ≡ Ok true → (found.old.tail.gate < found.new.tail.gate) × (found.new.tail.gate < 2 ^ 64) }
-    ensures only { OnlyRead (D.state disk.old) (D.state disk.new) }
-    ensures unsynced { SyncsNothing (D.state disk.old) (D.state disk.new) }
-    ensures rise { result ≡ Err OpenFault.Device → HasFailed (D.state disk.old) (D.state disk.new) }
-    ensures no_failure { result ≢ Err OpenFault.Device → (D.state disk.new).failures ≡ (D.state disk.old).failures }
+    ensures trace { IsGroupRead D.state found.old.tail found.new.tail result disk.old disk.new }
 {
     let at = found.tail.gate;
     let end = segment_end(&found.tail.geometry, found.tail.segment);

@@ -1,22 +1,24 @@
-ghost use Rattle.std.specs.Prelude.{◌≡◌, ◌⊎◌, ◌+◌, ◌-◌, ◌<◌, ◌≤◌, ◌^◌, ◌↔◌, [], Err, IsTrue, List, OnErr, OnOk, ℕ, length};
+ghost use Rattle.std.specs.Prelude.{◌≡◌, ◌<◌, ◌≤◌, ◌^◌, ◌↔◌, [], IsTrue, List, OnErr, OnOk, ℕ, is_ok, length};
 ghost use Rattle.rly_machine.specs.State.{State};
 ghost use Rattle.rly_core.specs.Bounds.{IsIn};
-ghost use Rattle.rly_disk.specs.DiskModel.{Later, LeavesOnly, HasFailed};
+ghost use Rattle.rly_disk.specs.Trace.{Makes};
+ghost use Rattle.rly_gate.specs.Calls.{appending};
+ghost use Rattle.rly_segment.specs.Calls.{opening_calls, opens};
 ghost use Rattle.rly_segment.specs.Device.{IsGeometry};
 ghost use Rattle.rly_segment.specs.Heads.{segment_end, segment_place};
+ghost use Rattle.rly_journal.specs.Calls.{renewed, renewing};
 ghost use Rattle.rly_journal.specs.HelpersGroups.{Gathers, empty_group, group_body};
 ghost use Rattle.rly_journal.specs.Log.{IsDurable, IsFull, IsSameHead, offset};
 ghost use Rattle.rly_journal.specs.HelpersJournal.{IsShaped};
-ghost use Rattle.rly_journal.specs.Standing.{Commands, Stands};
+ghost use Rattle.rly_journal.specs.Standing.{Commands};
 
-use crate::device::open_segment;
 use crate::group::Group;
 use rly_core::Geometry;
 use rly_core::limits::MAX_SEGMENTS;
 use rly_disk::{Disk, DiskFault};
 use rly_machine::{Machine, Payload};
 use rly_reclaim::is_due;
-use rly_segment::{OpeningFault, Target, segment_place};
+use rly_segment::{OpeningFault, Target, open_segment, segment_place};
 use std::alloc::Global;
 
 /// Where the journal ends on its device.
@@ -46,8 +48,7 @@ pub(crate) fn is_full(tail: &Tail) -> bool
     is_due(&tail.geometry, offset)
 }
 
-/// Opens the other segment with a head that holds the machine's state. A crash at any moment of the
-/// call leaves what stood for that state, or the new head.
+/// Opens the other segment with a head that holds the machine's state.
 pub(crate) fn renew<D: Disk>(
     alloc: Global,
     disk: &mut D,
@@ -58,19 +59,11 @@ pub(crate) fn renew<D: Disk>(
     requires full { IsFull tail.old }
     ensures shaped { IsShaped (D.state disk.new).size tail.new machine.now.state }
     ensures room { OnOk result (IsFull tail.new → ⊥) }
-    ensures any_moment { IsDurable (D.state disk.old) tail.old machine.now.state
-        → LeavesOnly (D.state disk.old) (D.state disk.new) (λ image. Stands image machine.now.state) }
     ensures durable { IsDurable (D.state disk.old) tail.old machine.now.state
         → OnOk result (IsDurable (D.state disk.new) tail.new machine.now.state) }
+    ensures ok { OnOk result (tail.new ≡ renewed tail.old machine.now.state) }
     ensures err { OnErr result (tail.new ≡ tail.old) }
-    ensures memory { result ≡ Err OpeningFault.OutOfMemory → disk.new ≡ disk.old }
-    ensures rise { result ≡ Err OpeningFault.Device → HasFailed (D.state disk.old) (D.state disk.new) }
-    ensures no_failure { OnOk result ((D.state disk.new).failures ≡ (D.state disk.old).failures) }
-    ensures opened { OnOk result (tail.new.generation ≡ tail.old.generation + 1) }
-    ensures syncs { (D.state disk.new).syncs ≤ (D.state disk.old).syncs + 3 }
-    ensures calls { (D.state disk.new).calls ≤ (D.state disk.old).calls + 6 }
-    ensures later { Later (D.state disk.old) (D.state disk.new) }
-    ensures no_failed_read { (D.state disk.new).failed_reads ≡ (D.state disk.old).failed_reads }
+    ensures trace { Makes D.state (opening_calls result (renewing tail.old machine.now.state)) (opens result) disk.old disk.new }
 {
     machine.law_sound();
     let segment = 1 - tail.segment;
@@ -87,8 +80,7 @@ pub(crate) fn renew<D: Disk>(
     Ok(())
 }
 
-/// Writes a group of accepted commands behind the last one. A crash at any moment of the call leaves
-/// what stood for the state before them, or the whole group.
+/// Writes a group of accepted commands after the last one.
 pub(crate) fn append<D: Disk>(
     disk: &mut D,
     tail: &mut Tail,
@@ -103,18 +95,11 @@ pub(crate) fn append<D: Disk>(
     requires room { IsFull tail.old → ⊥ }
     ensures shaped { (commands : Commands) (s t : State (List ℕ)) → IsShaped (D.state disk.old).size tail.old s → Gathers commands group.old s t
         → IsShaped (D.state disk.new).size tail.new t }
-    ensures any_moment { (commands : Commands) (s t : State (List ℕ)) → IsDurable (D.state disk.old) tail.old s → Gathers commands group.old s t
-        → LeavesOnly (D.state disk.old) (D.state disk.new) (λ image. Stands image s ⊎ Stands image t) }
     ensures durable { (commands : Commands) (s t : State (List ℕ)) → IsDurable (D.state disk.old) tail.old s → Gathers commands group.old s t
         → OnOk result (IsDurable (D.state disk.new) tail.new t) }
     ensures emptied { group.new ≡ empty_group }
-    ensures rise { OnErr result (HasFailed (D.state disk.old) (D.state disk.new)) }
-    ensures no_failure { OnOk result ((D.state disk.new).failures ≡ (D.state disk.old).failures) }
     ensures head { IsSameHead tail.old tail.new }
-    ensures syncs { (D.state disk.new).syncs ≤ (D.state disk.old).syncs + 2 }
-    ensures calls { (D.state disk.new).calls ≤ (D.state disk.old).calls + 4 }
-    ensures later { Later (D.state disk.old) (D.state disk.new) }
-    ensures no_failed_read { (D.state disk.new).failed_reads ≡ (D.state disk.old).failed_reads }
+    ensures trace { Makes D.state (appending tail.old.gate (group_body group.old)) (is_ok result) disk.old disk.new }
 {
     let length = group.len();
     group.write(disk, tail.gate)?;

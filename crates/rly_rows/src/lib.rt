@@ -36,6 +36,8 @@ mod script;
 #[cfg(test)]
 mod stored_devices;
 #[cfg(test)]
+mod traces;
+#[cfg(test)]
 mod walks;
 #[cfg(test)]
 mod worked_rounds;

@@ -146,34 +146,35 @@ opening g segment generation s bytes old image is room replacing = record {
       replacing.whole;
 }
 
-module _ {D : Type 0} (state : D → DiskState) {a b : D} (g : Geometry) (segment generation : ℕ) (s : State (List ℕ)) (closed : Bool) where
-  pub opening_leaves : {whole : Bool} → IsGeometry g (state a).size → segment < g.segments → IsHead g segment generation s → (IsTrue closed ↔ IsClosed (state a).seen (segment_place g segment))
-      → Settled (state a) → Makes state (replacing (segment_place g segment) closed (head_of generation s ++ 0 ∷ [])) whole a b
-      → LeavesOnly (state a) (state b) (IsOpening g segment generation s (state a).seen)
-  opening_leaves geometry there head told settled made =
+module _ (g : Geometry) (segment generation : ℕ) (s : State (List ℕ)) (closed : Bool) where
+  pub opening_image : (old c : List ℕ) → IsGeometry g (length old) → segment < g.segments → IsHead g segment generation s → (IsTrue closed ↔ IsClosed old (segment_place g segment))
+      → images_within (replacing (segment_place g segment) closed (head_of generation s ++ 0 ∷ [])) old (λ d. d ≡ old) c → IsOpening g segment generation s old c
+  opening_image old c geometry there head told image =
       let room = head_room g segment generation s (head_of generation s ++ 0 ∷ []) head refl in
-      let fits : segment_place g segment + 1 + length (head_of generation s ++ 0 ∷ []) ≤ length (state a).seen = omega (arith, segment_within g segment (state a).size geometry there, room, settled.consistent.seen_size) in
-      makes_leaves state (IsOpening g segment generation s (state a).seen) made settled
-      (λ c image. opening g segment generation s (head_of generation s ++ 0 ∷ []) (state a).seen c refl room
-      (replacing_image (segment_place g segment) closed (head_of generation s ++ 0 ∷ []) (state a).seen c fits told image))
+      let fits : segment_place g segment + 1 + length (head_of generation s ++ 0 ∷ []) ≤ length old = omega (arith, segment_within g segment (length old) geometry there, room) in
+      opening g segment generation s (head_of generation s ++ 0 ∷ []) old c refl room
+      (replacing_image (segment_place g segment) closed (head_of generation s ++ 0 ∷ []) old c fits told image)
 
-  pub opening_settled : Makes state (replacing (segment_place g segment) closed (head_of generation s ++ 0 ∷ [])) true a b → (state a).honest → ((state b).honest → Consistent (state b)) → Settled (state b)
-  opening_settled made honest facts = makes_settled state made (replacing_synced (segment_place g segment) closed (head_of generation s ++ 0 ∷ [])) honest facts
-
-  pub opening_seen : Makes state (replacing (segment_place g segment) closed (head_of generation s ++ 0 ∷ [])) true a b → (state a).honest → segment_place g segment + 1 ≤ length (state a).seen
-      → (state b).seen ≡ overwritten (segment_place g segment) (opened_head generation s) (state a).seen
-  opening_seen made honest within =
+  pub opening_end : (old : List ℕ) → segment_place g segment + 1 ≤ length old
+      → seen_at_end (replacing (segment_place g segment) closed (head_of generation s ++ 0 ∷ [])) old ≡ overwritten (segment_place g segment) (opened_head generation s) old
+  opening_end old within =
       let place : ℕ = segment_place g segment in
       let behind : List ℕ = head_of generation s ++ 0 ∷ [] in
-      let old : List ℕ = (state a).seen in
-      let mid : List ℕ = seen_at_end (closing (segment_place g segment) closed) (state a).seen in
-      replaced place behind old mid (overwritten (place + 1) behind mid) (state b).seen within (closing_same place closed old within) refl
-      (makes_seen state made honest
-      ∙ seen_joined (closing place closed) (settling (place + 1) behind ++ settling place (open_gate ∷ [])) old
+      let mid : List ℕ = seen_at_end (closing place closed) old in
+      replaced place behind old mid (overwritten (place + 1) behind mid) (seen_at_end (replacing place closed behind) old) within (closing_same place closed old within) refl
+      (seen_joined (closing place closed) (settling (place + 1) behind ++ settling place (open_gate ∷ [])) old
       ∙ seen_joined (settling (place + 1) behind) (settling place (open_gate ∷ [])) mid
       ∙ ap (overwritten place (open_gate ∷ [])) (settling_seen (place + 1) behind mid))
 
--- ---- where it may be that the memory was refused
+pub opening_leaves : {D : Type 0} (state : D → DiskState) {a b : D} (g : Geometry) (segment generation : ℕ) (s : State (List ℕ)) (closed : Bool) {whole : Bool}
+    → IsGeometry g (state a).size → segment < g.segments → IsHead g segment generation s → (IsTrue closed ↔ IsClosed (state a).seen (segment_place g segment))
+    → Settled (state a) → Makes state (replacing (segment_place g segment) closed (head_of generation s ++ 0 ∷ [])) whole a b
+    → LeavesOnly (state a) (state b) (IsOpening g segment generation s (state a).seen)
+opening_leaves state {a} g segment generation s closed geometry there head told settled made =
+    makes_leaves state (IsOpening g segment generation s (state a).seen) made settled
+    (λ c. opening_image g segment generation s closed (state a).seen c (subst (IsGeometry g) (sym settled.consistent.seen_size) geometry) there head told)
+
+-- ---- how many they are
 
 closing_writes : (place : ℕ) (closed : Bool) → AreWrites (closing place closed) 2 1
 closing_writes place true = record { most_calls = omega arith; all_syncs = omega arith; sound = omega arith; no_read = omega arith }
@@ -183,43 +184,3 @@ pub replacing_writes : (place : ℕ) (closed : Bool) (behind : List ℕ) → Are
 replacing_writes place closed behind =
     writes_joined (closing place closed) (settling (place + 1) behind ++ settling place (open_gate ∷ [])) 2 4 1 2 (closing_writes place closed)
     (writes_joined (settling (place + 1) behind) (settling place (open_gate ∷ [])) 2 2 1 1 (settling_writes (place + 1) behind) (settling_writes place (open_gate ∷ [])))
-
-module _ {A D : Type 0} (state : D → DiskState) {a b : D} (calls : List DeviceEvent) where
-  pub opening_made : (result : Result A OpeningFault) → Makes state (opening_calls result calls) (opens result) a b → OnOk result (Makes state calls true a b)
-  opening_made (Ok gate) made = made
-  opening_made (Err fault) made = tt
-
-  pub opening_none : (result : Result A OpeningFault) → result ≡ Err OutOfMemory → Makes state (opening_calls result calls) (opens result) a b → b ≡ a
-  opening_none result is made =
-      let none : Makes state [] true a b = subst (λ (r : Result A OpeningFault). Makes state (opening_calls r calls) (opens r) a b) is made in none.untouched none.made
-
-  pub opening_failed : (result : Result A OpeningFault) → result ≡ Err Device → Makes state (opening_calls result calls) (opens result) a b → HasFailed (state a) (state b)
-  opening_failed result is made =
-      let cut : Makes state calls false a b = subst (λ (r : Result A OpeningFault). Makes state (opening_calls r calls) (opens r) a b) is made in makes_failed state cut
-
--- the calls are those of the opening, or none
-opening_or_none : {A : Type 0} (P : List DeviceEvent → Type 0) (result : Result A OpeningFault) (calls : List DeviceEvent) → P calls → P [] → P (opening_calls result calls)
-opening_or_none P (Ok gate) calls all none = all
-opening_or_none P (Err OutOfMemory) calls all none = none
-opening_or_none P (Err Device) calls all none = all
-
-pub opening_most : {A : Type 0} (result : Result A OpeningFault) (place : ℕ) (closed : Bool) (behind : List ℕ)
-    → (length (opening_calls result (replacing place closed behind)) ≤ 6) × (count_of is_sync_call (opening_calls result (replacing place closed behind)) ≤ 3)
-    × (count_of is_read_call (opening_calls result (replacing place closed behind)) ≡ 0)
-opening_most result place closed behind =
-    let writes = replacing_writes place closed behind in
-    opening_or_none (λ calls. (length calls ≤ 6) × (count_of is_sync_call calls ≤ 3) × (count_of is_read_call calls ≡ 0)) result (replacing place closed behind)
-    (writes.most_calls, omega (arith, writes.all_syncs), writes.no_read) (omega arith, omega arith, refl)
-
--- and a crash at any moment
-pub opening_any : {A D : Type 0} (state : D → DiskState) {a b : D} (g : Geometry) (segment generation : ℕ) (s : State (List ℕ)) (closed : Bool) (result : Result A OpeningFault)
-    → IsGeometry g (state a).size → segment < g.segments → IsHead g segment generation s → (IsTrue closed ↔ IsClosed (state a).seen (segment_place g segment))
-    → Settled (state a) → Makes state (opening_calls result (replacing (segment_place g segment) closed (head_of generation s ++ 0 ∷ []))) (opens result) a b
-    → LeavesOnly (state a) (state b) (IsOpening g segment generation s (state a).seen)
-opening_any state g segment generation s closed (Ok gate) geometry there head told settled made = opening_leaves state g segment generation s closed geometry there head told settled made
-opening_any state g segment generation s closed (Err Device) geometry there head told settled made = opening_leaves state g segment generation s closed geometry there head told settled made
-opening_any state {a} g segment generation s closed (Err OutOfMemory) geometry there head told settled made =
-    makes_leaves state (IsOpening g segment generation s (state a).seen) made settled (λ c is. record {
-      outside = subst (SameOutside (segment_place g segment) g.length (state a).seen) (sym is) (record { same_length = refl; each = λ i out. refl });
-      whole = inl (λ opened. (subst (λ (l : List ℕ). IsOpen l (segment_place g segment)) is opened, ap (λ (l : List ℕ). generation_in l g segment) is));
-    })

@@ -1,5 +1,6 @@
-ghost use Rattle.std.specs.Prelude.{◌≡◌, ◌+◌, ◌<◌, ◌≤◌, ◌^◌, ◌++◌, ◌∷◌, [], ◌↔◌, IfOk, IsTrue, Option, is_ok, ℕ};
+ghost use Rattle.std.specs.Prelude.{◌≡◌, ◌+◌, ◌<◌, ◌≤◌, ◌^◌, ◌++◌, ◌∷◌, [], ◌↔◌, IfOk, IsTrue, Option, Some, is_ok, length, ℕ};
 ghost use Rattle.byteorder.specs.Endian.{big_bytes};
+ghost use Rattle.rly_checkpoint.specs.Checkpoint.{checkpoint_of};
 ghost use Rattle.rly_core.specs.Bounds.{IsIn};
 ghost use Rattle.rly_disk.specs.Trace.{Makes, Read};
 ghost use Rattle.rly_gate.specs.Group.{StandsAt};
@@ -65,7 +66,8 @@ pub fn read_head<D: Disk>(
     ensures head { IfOk result (λ head. IsHead geometry.now segment head.generation head.machine.state) }
     ensures gate { IfOk result (λ head. head.gate ≡ first_gate geometry.now segment head.machine.state) }
     ensures read { (D.state disk.old).honest → IsReadHead (D.state disk.old).seen geometry.now segment result }
-    ensures trace { (body : Option ℕ) × Makes D.state (head_reads (segment_place geometry.now segment) body) (reads_head result) disk.old disk.new }
+    ensures trace { (body : Option ℕ) × IfOk result (λ head. body ≡ Some (length (checkpoint_of head.machine.state)))
+        × Makes D.state (head_reads (segment_place geometry.now segment) body) (reads_head result) disk.old disk.new }
 {
     let place = segment_place(geometry, segment);
     let Ok(start) = read_start(disk, place) else {

@@ -36,3 +36,6 @@ returns-clause-only c = (served c).only
 
 pub returns-clause-state : goal.returns-clause-state
 returns-clause-state c = (served c).state
+
+pub returns-clause-group : goal.returns-clause-group
+returns-clause-group c = (served c).group

@@ -3,7 +3,7 @@ use Rattle.std.proofs.lemmas.List.{take_all}
 use Rattle.std_alloc.specs.Vec.Iter.{drain_items}
 use Rattle.rly_journal.specs.HelpersGroups.{Gathers}
 use Rattle.rly_journal.proofs.Gathering.{gathers_none}
-use Rattle.rly_journal.proofs.Serving.{IsServed, IsServing, serving_next, serving_none}
+use Rattle.rly_journal.proofs.Serving.{IsServed, IsServing, serving_done, serving_next, serving_none, serving_room}
 use Rattle.rly_journal.proofs.answering.answer_calls.Goals as goal
 
 pub loop-call-init : goal.loop-call-init
@@ -39,3 +39,13 @@ loop-call-preserved c =
       omega (arith, size, pushed, c.loop-call.invariant.3, c.push_reserved.ensures.capacity),
       c.push_reserved.ensures.capacity ∙ c.loop-call.invariant.4,
     )
+
+pub returns-clause-answers : goal.returns-clause-answers
+returns-clause-answers c =
+    serving_done c.args.calls.now.items (drain_items c.loop-call.call-iterator) c.args.answers.now.items c.loop-call.answers.items c.loop-call.group
+    c.args.machine.now.state c.loop-call.machine.state c.loop-call.invariant.2 c.in-None.ensures.steps.0
+
+pub answer_call-answer-requires-clause-room : goal.answer_call-answer-requires-clause-room
+answer_call-answer-requires-clause-room c =
+    serving_room c.args.calls.now.items (drain_items c.loop-call.call-iterator) (drain_items c.next.new.self) c.in-Some.call c.args.answers.now.items c.loop-call.answers.items
+    c.loop-call.group c.args.machine.now.state c.loop-call.machine.state c.loop-call.invariant.2 c.in-Some.ensures.steps.0 c.requires.count

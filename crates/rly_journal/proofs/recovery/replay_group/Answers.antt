@@ -1,7 +1,13 @@
-use Rattle.std.proofs.Common.{◌≡◌, ◌+◌, arith, false, length, rules, subst, sym, true, ◌∙◌}
+use Rattle.std.proofs.Common.{◌≡◌, ◌+◌, ap, arith, false, length, refl, rules, subst, sym, true, ℕ, ◌∙◌}
+use Rattle.std.proofs.lemmas.Result.{err_from_is_err_and}
+use Rattle.rly_disk.specs.Trace.{MakesFront}
+use Rattle.rly_disk.proofs.Making.{makes_later}
+use Rattle.rly_gate.specs.declared.read.GroupFault.TheVariants.{OutOfMemory, Damaged, Device}
 use Rattle.rly_gate.specs.Reading.{HoldsGroup, HoldsNone}
 use Rattle.rly_machine.specs.Fold.{AllAccepted}
+use Rattle.rly_journal.specs.Calls.{group_scan}
 use Rattle.rly_journal.specs.HelpersJournal.{IsShaped}
+use Rattle.rly_journal.proofs.Following.{front_all, group_broken, past_body, refused_tells}
 use Rattle.rly_journal.proofs.Recovering.{refused_body, refused_commands, replayed_more, shape_more, with_gate}
 use Rattle.rly_journal.proofs.recovery.replay_group.Goals as goal
 
@@ -36,7 +42,7 @@ returns-clause-shaped g c =
     let accepted = c.in_ok-is_redone.ensures.accepted cc in
     let state = c.in_ok-is_redone.ensures.state cc in
     subst (λ size. IsShaped size (with_gate c.args.found.now.tail (c.args.found.now.tail.gate + 5 + c.len.result)) c.redo.new.machine.state)
-    (sym c.read_group.ensures.only.later.size)
+    (sym (makes_later g.D.Disk.state c.read_group.ensures.trace.1).size)
     (shape_more (g.D.Disk.state c.args.disk.now).size (c.args.found.now.tail.gate + 5 + c.len.result) c.args.found.now.tail c.in-Ok.commands.items
     c.args.found.now.machine.state c.redo.new.machine.state c.requires.shaped c.in-Ok.ensures.commands accepted state
     (omega arith) (omega (arith, within, c.segment_end-end.ensures, c.len.ensures)))
@@ -52,3 +58,47 @@ returns-clause-replayed g c honest so_far =
     (subst (λ end. HoldsGroup (g.D.Disk.state c.args.disk.now).seen c.args.found.now.tail.gate end c.in-Ok-Some.body.items) c.segment_end-end.ensures (read honest))
     c.in-Ok.ensures.commands (sym c.deref.ensures.value ∙ c.in-Ok.ensures.found) accepted state
     (omega (arith, c.len.ensures))
+
+pub returns-in-Ok-None-clause-trace : goal.returns-in-Ok-None-clause-trace
+returns-in-Ok-None-clause-trace g c = (refl, (rw c.in-Ok-None.field-0-is at c.in-Ok-None.ensures.trace).1)
+
+pub returns-in-Err-OutOfMemory-clause-trace : goal.returns-in-Err-OutOfMemory-clause-trace
+returns-in-Err-OutOfMemory-clause-trace g c =
+    group_broken g.D.Disk.state c.args.found.now.tail.gate c.segment_end-end.result ℕ OutOfMemory (rw c.in-Err-OutOfMemory.field-0-is at c.in-Err-OutOfMemory.ensures.trace)
+
+pub returns-in-Err-Damaged-clause-trace : goal.returns-in-Err-Damaged-clause-trace
+returns-in-Err-Damaged-clause-trace g c =
+    group_broken g.D.Disk.state c.args.found.now.tail.gate c.segment_end-end.result ℕ Damaged (rw c.in-Err-Damaged.field-0-is at c.in-Err-Damaged.ensures.trace)
+
+pub returns-in-Err-Device-clause-trace : goal.returns-in-Err-Device-clause-trace
+returns-in-Err-Device-clause-trace g c =
+    group_broken g.D.Disk.state c.args.found.now.tail.gate c.segment_end-end.result ℕ Device (rw c.in-Err-Device.field-0-is at c.in-Err-Device.ensures.trace)
+
+-- the body was read, and then refused
+pub returns-in-Err-OutOfMemory-read_body-clause-trace : goal.returns-in-Err-OutOfMemory-read_body-clause-trace
+returns-in-Err-OutOfMemory-read_body-clause-trace g c =
+    (length c.in-Ok-Some.body.items, front_all g.D.Disk.state (rw c.in-Ok-Some.field-0-is at c.in-Ok-Some.ensures.trace).1)
+
+pub returns-in-Err-Malformed-clause-trace : goal.returns-in-Err-Malformed-clause-trace
+returns-in-Err-Malformed-clause-trace g c =
+    (length c.in-Ok-Some.body.items, front_all g.D.Disk.state (rw c.in-Ok-Some.field-0-is at c.in-Ok-Some.ensures.trace).1)
+
+pub returns-in_err-is_redone-clause-trace : goal.returns-in_err-is_redone-clause-trace
+returns-in_err-is_redone-clause-trace g c =
+    let told = err_from_is_err_and c.from_residual.result c.from_residual.ensures.1 in
+    rw (told.1, told.2) (
+      length c.in-Ok-Some.body.items,
+      subst (λ w. MakesFront g.D.Disk.state (group_scan c.args.found.now.tail.gate (length c.in-Ok-Some.body.items)) w c.args.disk.now c.read_group.new.disk)
+          (sym (refused_tells c.in_err-is_redone.field-0.0 c.in_err-is_redone.ensures.fault))
+          (front_all g.D.Disk.state (rw c.in-Ok-Some.field-0-is at c.in-Ok-Some.ensures.trace).1),
+    )
+
+pub returns-then-not-is_redone-clause-trace : goal.returns-then-not-is_redone-clause-trace
+returns-then-not-is_redone-clause-trace g c =
+    (length c.in-Ok-Some.body.items, front_all g.D.Disk.state (rw c.in-Ok-Some.field-0-is at c.in-Ok-Some.ensures.trace).1)
+
+pub returns-clause-trace : goal.returns-clause-trace
+returns-clause-trace g c =
+    let made = (rw c.in-Ok-Some.field-0-is at c.in-Ok-Some.ensures.trace).1 in
+    let size : c.len.result ≡ length c.in-Ok-Some.body.items = omega (arith, c.len.ensures, c.in-Ok-Some.body.ok.0) in
+    (length c.in-Ok-Some.body.items, ap (λ n. past_body c.args.found.now.tail n) size, made)

@@ -1,9 +1,11 @@
-use Rattle.std.proofs.Common.{rules, ◌≡◌, ◌+◌, ◌∷◌, [], arith, ap, length, refl, true, ◌∙◌}
+use Rattle.std.proofs.Common.{rules, ◌≡◌, ◌+◌, ◌∷◌, [], arith, ap, length, refl, sym, true, ◌∙◌}
+use Rattle.std.specs.Prelude.{Some}
+use Rattle.rly_checkpoint.specs.Checkpoint.{checkpoint_of}
 use Rattle.rly_disk.specs.Trace.{Read}
 use Rattle.rly_disk.proofs.Making.{quiet_new}
 use Rattle.rly_disk.proofs.Traces.{makes_joined}
 use Rattle.rly_segment.specs.Heads.{segment_place}
-use Rattle.rly_segment.proofs.Looking.{head_read, start_read}
+use Rattle.rly_segment.proofs.Looking.{head_made, head_read, start_read}
 use Rattle.rly_segment.proofs.HeadBytes.{holds_head, no_checkpoint, other_generation, too_long}
 use Rattle.rly_segment.proofs.heads.read_head.Goals as goal
 
@@ -65,4 +67,10 @@ pub returns-then-not-is_generation-clause-trace : goal.returns-then-not-is_gener
 returns-then-not-is_generation-clause-trace g c = head_read g.D.Disk.state c.segment_place-place.result (segment_place c.args.geometry.now c.args.segment) c.in-Ok.start.length c.segment_place-place.ensures c.in-Ok.ensures.trace c.in-Ok-read_bytes.ensures.trace
 
 pub returns-clause-trace : goal.returns-clause-trace
-returns-clause-trace g c = head_read g.D.Disk.state c.segment_place-place.result (segment_place c.args.geometry.now c.args.segment) c.in-Ok.start.length c.segment_place-place.ensures c.in-Ok.ensures.trace c.in-Ok-read_bytes.ensures.trace
+returns-clause-trace g c =
+    let size : c.in-Ok.start.length ≡ length (checkpoint_of c.in-Ok-read_checkpoint.machine.state) =
+    sym c.in-Ok-read_bytes.ensures.length ∙ ap length (sym c.deref.ensures.value ∙ c.in-Ok-read_checkpoint.ensures.found) in (
+      Some c.in-Ok.start.length,
+      ap Some size,
+      head_made g.D.Disk.state c.segment_place-place.result (segment_place c.args.geometry.now c.args.segment) c.in-Ok.start.length c.segment_place-place.ensures c.in-Ok.ensures.trace c.in-Ok-read_bytes.ensures.trace,
+    )

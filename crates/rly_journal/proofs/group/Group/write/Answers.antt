@@ -1,7 +1,8 @@
 use Rattle.std.proofs.Common.{◌≡◌, ◌≤◌, ◌∙◌, [], List, ℕ, ap, arith, drop, length, subst}
-use Rattle.std.specs.Prelude.{OnOk}
-use Rattle.rly_disk.specs.DiskModel.{LeavesOnly, overwritten}
-use Rattle.rly_gate.specs.Group.{IsAppended, body_in, group_of}
+use Rattle.std.specs.Prelude.{is_ok}
+use Rattle.rly_disk.specs.Trace.{Makes}
+use Rattle.rly_gate.specs.Calls.{appending}
+use Rattle.rly_gate.specs.Group.{body_in}
 use Rattle.rly_gate.proofs.Frames.{length-body, length-frame}
 use Rattle.rly_journal.specs.HelpersGroups.{GroupState, group_body}
 use Rattle.rly_journal.proofs.Gathering.{all_kept, body_is, length-over, records_length}
@@ -35,22 +36,12 @@ invariant_of-self g c =
       omega (arith, c.complete.ensures.capacity, c.self.invariant.5),
     )
 
-pub returns-clause-any_moment : goal.returns-clause-any_moment
-returns-clause-any_moment g c settled closed =
+pub returns-clause-trace : goal.returns-clause-trace
+returns-clause-trace g c =
     let none : drop c.self.inside.kept c.self.inside.frame.items ≡ [] = ap (λ (g : GroupState). g.staged) c.self.view_is ∙ c.requires.nothing_staged in
     let same : body_in c.deref_mut.result.now ≡ group_body c.args.self.now =
     ap body_in c.deref_mut.ensures.value
     ∙ body_is c.self.inside.kept c.self.inside.count c.self.inside.frame.items c.complete.new.frame.items c.self.invariant.1 none c.complete.ensures.body
     ∙ ap group_body c.self.view_is in
-    subst (λ (b : List ℕ). LeavesOnly (g.D.Disk.state c.args.disk.now) (g.D.Disk.state c.append_group-written.new.disk) (IsAppended c.args.at b (g.D.Disk.state c.args.disk.now).seen))
-    same (c.append_group-written.ensures.any_moment settled closed)
-
-pub returns-clause-written : goal.returns-clause-written
-returns-clause-written g c settled =
-    let none : drop c.self.inside.kept c.self.inside.frame.items ≡ [] = ap (λ (g : GroupState). g.staged) c.self.view_is ∙ c.requires.nothing_staged in
-    let same : body_in c.deref_mut.result.now ≡ group_body c.args.self.now =
-    ap body_in c.deref_mut.ensures.value
-    ∙ body_is c.self.inside.kept c.self.inside.count c.self.inside.frame.items c.complete.new.frame.items c.self.invariant.1 none c.complete.ensures.body
-    ∙ ap group_body c.self.view_is in
-    subst (λ (b : List ℕ). OnOk c.append_group-written.result ((g.D.Disk.state c.append_group-written.new.disk).seen ≡ overwritten c.args.at (group_of b) (g.D.Disk.state c.args.disk.now).seen))
-    same (c.append_group-written.ensures.written settled)
+    subst (λ (b : List ℕ). Makes g.D.Disk.state (appending c.args.at b) (is_ok c.append_group-written.result) c.args.disk.now c.append_group-written.new.disk)
+    same c.append_group-written.ensures.trace

@@ -1,15 +1,34 @@
-use Rattle.std.proofs.Common.{◌≡◌, ◌∙◌, ◌++◌, false, true, ap, inl, inr, subst, sym}
+use Rattle.std.proofs.Common.{◌≡◌, ◌∙◌, ◌++◌, false, true, ap, inl, inr, length, refl, rules, subst, sym}
 use Rattle.rly_core.specs.declared.refusal.Refusal.TheVariants.{OutOfMemory}
-use Rattle.rly_journal.specs.Journal.{IsRound, IsSafe, holds_command}
+use Rattle.rly_journal.specs.Calls.{MakesRound}
+use Rattle.rly_journal.specs.HelpersCalls.{IsReady, IsUnready}
+use Rattle.rly_journal.specs.HelpersJournal.{IsShaped}
+use Rattle.rly_journal.specs.Journal.{IsDueFor, IsRound, holds_command}
+use Rattle.rly_journal.specs.Log.{IsDurable, IsSameHead}
 use Rattle.rly_journal.specs.Rounds.{refusals}
-use Rattle.rly_journal.proofs.Rounding.{round_refused, round_served, safe_after, safe_refused}
+use Rattle.rly_journal.proofs.Rounding.{round_few_syncs, round_later, round_made, round_refused, round_safe, round_served, round_syncs, round_unmade}
 use Rattle.rly_journal.proofs.journal.Journal.round.Goals.{in-Ok, in-Err}
 use Rattle.rly_journal.proofs.journal.Journal.round.Goals as goal
+
+pub returns-clause-trace : goal.returns-clause-trace
+returns-clause-trace g c whole =
+    elim c.match-make_ready.branch [
+      | in-Ok w ↦
+          subst (λ j. MakesRound g.D.Disk.state c.args.self.now j c.args.calls.now.items) (sym w.self-is)
+          (round_made g.D.Disk.state c.args.self.now c.make_ready.new.self c.args.calls.now.items c.make_ready.ensures.state w.serve.new.self
+          (subst (IsReady g.D.Disk.state c.args.self.now c.make_ready.new.self) c.deref.ensures.value w.in-Ok.ensures.made.1)
+          (subst (λ l. IsDueFor c.make_ready.new.self l → ⊥) c.deref.ensures.value w.in-Ok.ensures.ready) w.serve.ensures.trace)
+      | in-Err w ↦
+          subst (λ j. MakesRound g.D.Disk.state c.args.self.now j c.args.calls.now.items) (sym w.self-is)
+          (round_unmade g.D.Disk.state c.args.self.now c.make_ready.new.self c.args.calls.now.items w.in-Err.refusal whole c.make_ready.ensures.state
+          (subst (λ l. IsUnready g.D.Disk.state c.args.self.now c.make_ready.new.self l w.in-Err.refusal) c.deref.ensures.value w.in-Err.ensures.made))
+    ]
 
 pub returns-clause-answers : goal.returns-clause-answers
 returns-clause-answers g c =
     let whole : c.args.self.now.broken ≡ false = sym (ap (λ j. j.broken) c.self.view_is) ∙ c.if-self.false in
     let counted = sym (ap (λ j. j.position) c.self.view_is) ∙ c.self.invariant.0.counted c.if-self.false ∙ ap (λ j. j.state.seq) c.self.view_is in
+    let made = returns-clause-trace g c whole in
     elim c.match-make_ready.branch [
       | in-Ok w ↦
           let served = w.serve.ensures.answers in (
@@ -17,24 +36,50 @@ returns-clause-answers g c =
             ap (λ v. v.items) w.answers-is ∙ served.1 ∙ ap (λ l. l ++ served.0) c.reserve.ensures.items,
             subst (λ j. IsRound g.D.Disk.state c.args.self.now j c.args.calls.now.items served.0) (sym w.self-is)
                 (round_served g.D.Disk.state c.args.self.now c.make_ready.new.self w.serve.new.self c.args.calls.now.items served.0 whole c.make_ready.ensures.state
-                c.make_ready.ensures.position w.in-Ok.ensures.ready.1 c.make_ready.ensures.later served.2),
+                c.make_ready.ensures.position (subst (λ j. MakesRound g.D.Disk.state c.args.self.now j c.args.calls.now.items) w.self-is made) served.2),
           )
       | in-Err w ↦ (
         refusals w.in-Err.refusal w.self-in-Err.inside.position c.args.calls.now.items,
         ap (λ v. v.items) w.answers-is ∙ w.refuse_all-in-Err.ensures.answers
             ∙ ap (λ l. l ++ refusals w.in-Err.refusal w.self-in-Err.inside.position c.args.calls.now.items) c.reserve.ensures.items,
         subst (λ j. IsRound g.D.Disk.state c.args.self.now j c.args.calls.now.items (refusals w.in-Err.refusal w.self-in-Err.inside.position c.args.calls.now.items)) (sym w.self-is)
-            (round_refused g.D.Disk.state c.args.self.now c.make_ready.new.self c.args.calls.now.items w.in-Err.refusal w.self-in-Err.inside.position whole
-            (ap (λ j. j.position) w.self-in-Err.view_is ∙ c.make_ready.ensures.position) counted c.make_ready.ensures.position w.in-Err.ensures.refused),
+            (round_refused g.D.Disk.state c.args.self.now c.make_ready.new.self c.args.calls.now.items w.in-Err.refusal whole c.make_ready.ensures.state
+            (subst (λ l. IsUnready g.D.Disk.state c.args.self.now c.make_ready.new.self l w.in-Err.refusal) c.deref.ensures.value w.in-Err.ensures.made) w.self-in-Err.inside.position
+            (ap (λ j. j.position) w.self-in-Err.view_is ∙ c.make_ready.ensures.position) counted c.make_ready.ensures.position),
       )
     ]
+
+pub returns-clause-any_moment : goal.returns-clause-any_moment
+returns-clause-any_moment g c honest whole =
+    let invariant = c.self.invariant.0 in
+    let durable = invariant.durable (ap (λ j. j.broken) c.self.view_is ∙ whole) (subst (λ j. (g.D.Disk.state j.disk).honest) (sym c.self.view_is) honest) in
+    let wide : length c.self.inside.tail.closed ≡ 256 = search rules in
+    round_safe g.D.Disk.state c.args.self.now c.match-make_ready.self c.args.calls.now.items (returns-clause-trace g c whole) c.requires.1
+    (subst (λ j. IsShaped (g.D.Disk.state j.disk).size j.tail j.state) c.self.view_is invariant.shaped) c.law_sound.ensures
+    (subst (λ j. length j.tail.closed ≡ 256) c.self.view_is wide) (subst (λ j. IsDurable (g.D.Disk.state j.disk) j.tail j.state) c.self.view_is durable)
+
+pub returns-clause-syncs : goal.returns-clause-syncs
+returns-clause-syncs g c =
+    round_syncs g.D.Disk.state c.args.self.now c.match-make_ready.self c.args.calls.now.items (returns-clause-trace g c (sym (ap (λ j. j.broken) c.self.view_is) ∙ c.if-self.false))
+
+pub returns-clause-few_syncs : goal.returns-clause-few_syncs
+returns-clause-few_syncs g c none =
+    round_few_syncs g.D.Disk.state c.args.self.now c.match-make_ready.self c.args.calls.now.items (returns-clause-trace g c (sym (ap (λ j. j.broken) c.self.view_is) ∙ c.if-self.false)) none
+
+pub returns-clause-later : goal.returns-clause-later
+returns-clause-later g c =
+    round_later g.D.Disk.state c.args.self.now c.match-make_ready.self c.args.calls.now.items (returns-clause-trace g c (sym (ap (λ j. j.broken) c.self.view_is) ∙ c.if-self.false))
 
 pub returns-clause-opened : goal.returns-clause-opened
 returns-clause-opened g c due whole =
     elim c.match-make_ready.branch [
-      | in-Ok w ↦ inl (ap (λ j. j.tail.generation) w.self-is ∙ w.serve.ensures.head.generation ∙ w.in-Ok.ensures.opened (ap holds_command c.deref.ensures.value ∙ due.0, due.1))
+      | in-Ok w ↦
+          elim w.in-Ok.ensures.made.1 [
+            | inl calm ↦ absurd (calm.0 (ap holds_command c.deref.ensures.value ∙ due.0, due.1))
+            | inr opened ↦ inl (ap (λ j. j.tail.generation) w.self-is ∙ w.serve.ensures.head.generation ∙ ap (λ t. t.generation) opened.1)
+          ]
       | in-Err w ↦
-          elim w.in-Err.ensures.refused [
+          elim w.in-Err.ensures.made [
             | inl starved ↦
                 inr (
                   w.self-is ∙ starved.1,
@@ -47,14 +92,19 @@ returns-clause-opened g c due whole =
           ]
     ]
 
-pub returns-clause-any_moment : goal.returns-clause-any_moment
-returns-clause-any_moment g c honest whole =
+pub returns-clause-stays : goal.returns-clause-stays
+returns-clause-stays g c none =
     elim c.match-make_ready.branch [
       | in-Ok w ↦
-          subst (λ j. IsSafe g.D.Disk.state c.args.self.now j c.args.calls.now.items) (sym w.self-is)
-          (safe_after g.D.Disk.state c.args.self.now c.make_ready.new.self w.serve.new.self c.args.calls.now.items c.make_ready.ensures.state
-          (c.make_ready.ensures.any_moment honest) (w.serve.ensures.any_moment (c.make_ready.ensures.later.honest.1 honest)))
+          subst (λ j. IsSameHead c.args.self.now.tail j.tail) (sym w.self-is)
+          (elim w.in-Ok.ensures.made.1 [
+            | inl calm ↦ subst (λ j. IsSameHead j.tail w.serve.new.self.tail) calm.1 w.serve.ensures.head
+            | inr opened ↦ absurd (none (ap holds_command (sym c.deref.ensures.value) ∙ opened.0.0, opened.0.1))
+          ])
       | in-Err w ↦
-          subst (λ j. IsSafe g.D.Disk.state c.args.self.now j c.args.calls.now.items) (sym w.self-is)
-          (safe_refused g.D.Disk.state c.args.self.now c.make_ready.new.self c.args.calls.now.items c.make_ready.ensures.state (c.make_ready.ensures.any_moment honest))
+          subst (λ j. IsSameHead c.args.self.now.tail j.tail) (sym w.self-is)
+          (elim w.in-Err.ensures.made [
+            | inl starved ↦ subst (λ j. IsSameHead c.args.self.now.tail j.tail) (sym starved.1) (record { segment = refl; generation = refl })
+            | inr failed ↦ absurd (none (ap holds_command (sym c.deref.ensures.value) ∙ failed.2.0, failed.2.1))
+          ])
     ]

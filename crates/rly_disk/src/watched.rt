@@ -1,0 +1,143 @@
+// A disk that tells what was asked of it.
+ghost use Rattle.std.specs.Prelude.{◌≡◌, ◌≤◌, ◌<◌, ◌+◌, ◌++◌, ◌∷◌, [], length, map, OnOk, is_ok, slice_range, vec_capacity};
+ghost use Rattle.rly_disk.specs.Trace.{Makes, Read, Sync, Write};
+
+use crate::{Disk, DiskFault};
+
+/// A call of a disk. Places and counts are in bytes.
+#[derive(Clone, Copy, Debug, PartialEq, Eq, Drop)]
+pub enum DiskCall {
+    Read { place: u64, count: u64 },
+    Write { place: u64, count: u64 },
+    Sync,
+}
+
+/// A call that a disk counted, and whether it failed.
+#[derive(Clone, Copy, Debug, PartialEq, Eq, Drop)]
+pub struct ToldCall {
+    pub call: DiskCall,
+    pub failed: bool,
+}
+
+/// A disk that does what the disk in it does, and keeps a list of the calls that this counted.
+#[derive(Debug, Drop)]
+pub struct Watched<D> {
+    inner: D,
+    told: Vec<ToldCall>,
+}
+
+impl<D: Disk> Watched<D> {
+    ghost use Rattle.rly_disk.specs.Watched.{inside, told_by, most_of};
+
+    /// It tells calls in this list, as far as the memory of that reaches, so that no call fails for want of memory.
+    pub fn new(inner: D, told: Vec<ToldCall>) -> Self
+        ensures inside { inside result ≡ inner }
+        ensures told { told_by result ≡ told.items }
+        ensures most { most_of result ≡ vec_capacity told }
+    {
+        Watched { inner, told }
+    }
+
+    /// The calls, oldest first.
+    pub fn told(&self) -> &[ToldCall]
+        ensures { result.now ≡ told_by self.now }
+    {
+        &self.told
+    }
+
+    /// The disk in it.
+    pub fn into_inner(self) -> D
+        ensures { result ≡ inside self }
+    {
+        let Watched { inner, told: _ } = self;
+        inner
+    }
+
+    // Notes a call, if the disk counted it and there is room.
+    fn note(&mut self, before: u64, call: DiskCall, failed: bool)
+        ensures inside { inside self.new ≡ inside self.old }
+        ensures most { most_of self.new ≡ most_of self.old }
+        ensures told { before < (D.state (inside self.old)).calls → length (told_by self.old) < most_of self.old
+            → told_by self.new ≡ told_by self.old ++ record { call = call; failed = failed } ∷ [] }
+        ensures uncounted { (D.state (inside self.old)).calls ≤ before → self.new ≡ self.old }
+    {
+        if before < self.inner.calls() && self.told.len() < self.told.capacity() {
+            self.told.push_reserved(ToldCall { call, failed });
+        }
+    }
+}
+
+impl<D: Disk> Disk for Watched<D> {
+    ghost use Rattle.rly_disk.specs.Watched.{inside, told_by, most_of, told_of, watched_state, Tells};
+
+    ghost state = { watched_state D.state };
+
+    ghost consistent = { λ disk honest. D.consistent disk.inner honest };
+
+    ghost calls_lead = { λ disk. D.calls_lead disk.inner };
+
+    fn size(&self) -> u64 {
+        self.inner.size()
+    }
+
+    fn read_at(&mut self, place: u64, buffer: &mut [u8]) -> Result<(), DiskFault>
+        requires { place + length buffer.old ≤ (watched_state D.state self.old).size }
+        ensures bytes { (watched_state D.state self.old).honest
+            → OnOk result (buffer.new ≡ slice_range (watched_state D.state self.old).seen place (place + length buffer.old)) }
+        ensures trace { Makes (watched_state D.state) (Read place (length buffer.old) ∷ []) (is_ok result) self.old self.new }
+        ensures tells { Tells D.state self.old self.new }
+        ensures most { most_of self.new ≡ most_of self.old }
+    {
+        let before = self.inner.calls();
+        let outcome = self.inner.read_at(place, buffer);
+        let call = DiskCall::Read {
+            place,
+            count: buffer.len() as u64,
+        };
+        self.note(before, call, outcome.is_err());
+        outcome
+    }
+
+    fn write_at(&mut self, place: u64, bytes: &[u8]) -> Result<(), DiskFault>
+        requires { place + length bytes.now ≤ (watched_state D.state self.old).size }
+        ensures trace { Makes (watched_state D.state) (Write place bytes.now ∷ []) (is_ok result) self.old self.new }
+        ensures tells { Tells D.state self.old self.new }
+        ensures most { most_of self.new ≡ most_of self.old }
+    {
+        let before = self.inner.calls();
+        let outcome = self.inner.write_at(place, bytes);
+        let call = DiskCall::Write {
+            place,
+            count: bytes.len() as u64,
+        };
+        self.note(before, call, outcome.is_err());
+        outcome
+    }
+
+    fn sync(&mut self) -> Result<(), DiskFault>
+        ensures trace { Makes (watched_state D.state) (Sync ∷ []) (is_ok result) self.old self.new }
+        ensures tells { Tells D.state self.old self.new }
+        ensures most { most_of self.new ≡ most_of self.old }
+    {
+        let before = self.inner.calls();
+        let outcome = self.inner.sync();
+        self.note(before, DiskCall::Sync, outcome.is_err());
+        outcome
+    }
+
+    fn failures(&self) -> u64 {
+        self.inner.failures()
+    }
+
+    fn calls(&self) -> u64 {
+        self.inner.calls()
+    }
+
+    fn syncs(&self) -> u64 {
+        self.inner.syncs()
+    }
+
+    fn failed_reads(&self) -> u64 {
+        self.inner.failed_reads()
+    }
+}
