@@ -1,4 +1,4 @@
-ghost use Rattle.std.specs.Prelude.{◌≡◌, List, ℕ};
+ghost use Rattle.std.specs.Prelude.{◌≡◌, is_some, List, ℕ};
 ghost use Rattle.std.specs.Option.{option_map};
 ghost use Rattle.rly_hop.specs.Payloads.{out_action_bytes, out_event_bytes};
 ghost use Rattle.rly_hop.specs.Sending.{after_custody, after_release, is_unsure, sender, sending_step, turn};
@@ -71,6 +71,13 @@ impl Sending {
             OutEvent::Nothing | OutEvent::Other | OutEvent::Heard(_) => {}
         }
         None
+    }
+
+    /// Whether something was acknowledged since the last release.
+    pub fn has_acknowledged(&self) -> bool
+        ensures { result ≡ is_some self.now.acked }
+    {
+        self.acked.is_some()
     }
 
     /// The call that a turn names, if it names one.

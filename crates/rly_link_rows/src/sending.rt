@@ -273,6 +273,20 @@ fn the_greatest_custody_counts(rt: HostRuntime) {
 }
 
 #[test]
+fn what_is_acknowledged_waits_for_its_release(rt: HostRuntime) {
+    let mut core = ready(3, 6);
+    for (event, is_acknowledged) in [
+        (custody(HOP, OWN, 6), false),
+        (custody(HOP, OWN, 4), true),
+        (OutEvent::Timeout, true),
+        (OutEvent::Released, false),
+    ] {
+        names(&rt, &mut core, &[(event, None)]);
+        assert!(rt; core.has_acknowledged() == is_acknowledged);
+    }
+}
+
+#[test]
 fn a_timeout_sends_the_flight_again(rt: HostRuntime) {
     names(
         &rt,

@@ -90,18 +90,18 @@ fn nothing_goes_out_between_contacts(rt: HostRuntime) {
 }
 
 /// Microseconds from turn to turn and of each call; after so many turns, how often the datagram was sent. The third turn
-/// sends it. A turn that moves nothing has a timeout from 40 ms after that on, and the next turn sends it again.
+/// sends it. The first turn from 40 ms after that on that comes after one that moved nothing sends it again.
 const TIMEOUTS: [(u64, u64, u64, usize); 12] = [
-    (10_000, 0, 7, 1),
-    (10_000, 0, 8, 2),
-    (10_000, 0, 12, 2),
-    (10_000, 0, 13, 3),
-    (9_999, 0, 8, 1),
-    (9_999, 0, 9, 2),
-    (100, 0, 403, 1),
-    (100, 0, 404, 2),
-    (10_000, 100_000, 7, 1),
-    (10_000, 100_000, 8, 2),
+    (10_000, 0, 6, 1),
+    (10_000, 0, 7, 2),
+    (10_000, 0, 10, 2),
+    (10_000, 0, 11, 3),
+    (9_999, 0, 7, 1),
+    (9_999, 0, 8, 2),
+    (100, 0, 402, 1),
+    (100, 0, 403, 2),
+    (10_000, 100_000, 6, 1),
+    (10_000, 100_000, 7, 2),
     (50_000, 0, 4, 1),
     (50_000, 0, 5, 2),
 ];
@@ -119,7 +119,7 @@ fn data_is_sent_again(rt: HostRuntime) {
 }
 
 /// How many receives of the longest of those runs there are.
-const RECEIVES: usize = 404;
+const RECEIVES: usize = 403;
 
 /// A link that gives this packet in each receive.
 fn flood<R: Abort>(rt: &R, alloc: Global, packet: &[u8]) -> MemLink {
@@ -170,8 +170,32 @@ fn no_timeout_comes_while_datagrams_move(rt: HostRuntime) {
     }
 }
 
+/// After so many turns of 50 ms, how many packets were sent of the two, where the seventh turn hears the first one's custody.
+const ACKNOWLEDGED: [(u64, usize); 3] = [(7, 2), (8, 2), (9, 3)];
+
+/// A custody that is heard when a timeout is due is released, and what is still in flight isn't sent before the next one.
+#[test]
+fn a_custody_comes_before_a_timeout(rt: HostRuntime) {
+    let alloc = rt.alloc();
+    for (turns, sent) in &ACKNOWLEDGED {
+        let mut machine = spool_with(&rt, alloc, 8, 1);
+        take(&rt, alloc, &mut machine, 1, 2);
+        let turn = MemTurn::new(1_000, 50_000, *turns);
+        let ends = send_from(
+            &rt,
+            alloc,
+            machine,
+            2,
+            custody_at(&rt, alloc, &[6], 0),
+            turn,
+        );
+        expect!(rt; ends.link.delivered().len() == *sent);
+        expect_counts(&rt, &ends, 0, 1, 1);
+    }
+}
+
 /// After so many turns, how often the datagram was sent.
-const HELD: [(u64, usize); 3] = [(3, 0), (4_000, 0), (4_001, 1)];
+const HELD: [(u64, usize); 3] = [(3, 0), (3_999, 0), (4_000, 1)];
 
 /// What was fetched within a contact and answered after its end is held back, and sent after a timeout in a later contact.
 #[test]

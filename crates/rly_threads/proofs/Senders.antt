@@ -11,10 +11,10 @@ use Rattle.rly_plan.specs.ContactPlan.{is_open}
 use Rattle.rly_threads.specs.declared.turn.Point.TheVariants.{Heard}
 use Rattle.rly_threads.specs.declared.turn.Worker.TheVariants as worker
 use Rattle.rly_threads.specs.Ends.{TellsMore, hearing}
-use Rattle.rly_threads.specs.Outlet.{Outlet, Pacing, is_progress, named_ask, outlet_done, outlet_event, outlet_on_action, outlet_on_answer, outlet_on_call, outlet_on_hearing, outlet_packets, paced, pacing, timed, with_timeout}
+use Rattle.rly_threads.specs.Outlet.{Outlet, Pacing, is_progress, named_ask, outlet_done, outlet_event, outlet_on_action, outlet_on_answer, outlet_on_call, outlet_on_hearing, outlet_packets, paced, pacing, timed}
 use Rattle.rly_threads.specs.HelpersTurns.{Did}
 use Rattle.rly_threads.specs.Runs.{EndsView}
-use Rattle.rly_threads.specs.Turns.{Done, Given, Made, around_call, has_some, message_in}
+use Rattle.rly_threads.specs.Turns.{Given, Made, around_call, has_some, message_in}
 use Rattle.rly_threads.proofs.Grown.{did_ask, did_hear, did_nothing, no_call}
 
 -- a call was made, and what was named on its answer was sent or held back
@@ -44,30 +44,20 @@ pub nothing_asked : (w : Outlet) (told : EndsView) (now mark : ℕ) (s : Sender)
 nothing_asked w told now mark s named none =
     subst (λ ask. Did told told (pacing s false mark) (outlet_on_call w no_call mark s named ask)) none (did_nothing told (pacing s false mark))
 
--- the end of a turn
-timed_out : (w : Outlet) (old new : EndsView) (since : ℕ) (acted left : Pacing) (d : Done Pacing) → left ≡ timed w since acted
-    → Did old new acted d → Did old new left (with_timeout w since d)
-timed_out w old new since acted left d ended did = record {
-  left = ended ∙ ap (timed w since) did.left;
-  heard = did.heard;
-  sent = did.sent;
-  asked = did.asked;
-  handed = did.handed;
-}
-
 -- a turn, after its start
-pub turned : (w : Outlet) (old mid new : EndsView) (p : Pacing) (heard core : Sender) (acted left : Pacing) (given : Given) (in_contact : Bool) (action : Option (OutAction (List ℕ)))
+pub turned : (w : Outlet) (old mid new : EndsView) (p : Pacing) (heard core : Sender) (due left : Pacing) (given : Given) (in_contact : Bool) (action : Option (OutAction (List ℕ)))
     → TellsMore old.heard mid.heard (hearing (not p.moved) given.packet ∷ []) → TellsMore old.handed mid.handed ((worker.Sender w.hop, Heard, given.heard) ∷ [])
     → mid ≡ record old { heard = mid.heard; handed = mid.handed }
-    → heard ≡ outlet_on_hearing p.core (message_in given.packet) → in_contact ≡ is_open w.plan w.hop given.heard.now
-    → core ≡ (sending_step heard (Turn in_contact)).0 → action ≡ (sending_step heard (Turn in_contact)).1
-    → Did mid new acted (outlet_on_action w given.heard.now given.made p.mark core action) → left ≡ timed w given.heard.since acted
-    → Did old new left (outlet_done w p given)
-turned w old mid new p heard core acted left given in_contact action packet at quiet hearing_is opening after named did ended =
-    let step = sending_step (outlet_on_hearing p.core (message_in given.packet)) (Turn (is_open w.plan w.hop given.heard.now)) in
-    let step_is : sending_step heard (Turn in_contact) ≡ step = λ i. sending_step (hearing_is i) (Turn (opening i)) in
+    → heard ≡ outlet_on_hearing p.core (message_in given.packet) → due ≡ timed w given.heard.since (pacing heard p.moved p.mark)
+    → in_contact ≡ is_open w.plan w.hop given.heard.now → core ≡ (sending_step due.core (Turn in_contact)).0 → action ≡ (sending_step due.core (Turn in_contact)).1
+    → Did mid new left (outlet_on_action w given.heard.now given.made due.mark core action) → Did old new left (outlet_done w p given)
+turned w old mid new p heard core due left given in_contact action packet at quiet hearing_is timing opening after named did =
+    let then = timed w given.heard.since (pacing (outlet_on_hearing p.core (message_in given.packet)) p.moved p.mark) in
+    let due_is : due ≡ then = timing ∙ ap (λ s. timed w given.heard.since (pacing s p.moved p.mark)) hearing_is in
+    let step = sending_step then.core (Turn (is_open w.plan w.hop given.heard.now)) in
+    let step_is : sending_step due.core (Turn in_contact) ≡ step = λ i. sending_step (due_is i).core (Turn (opening i)) in
     let core_is : core ≡ step.0 = after ∙ ap (λ r. r.0) step_is in
     let action_is : action ≡ step.1 = named ∙ ap (λ r. r.1) step_is in
-    let rest : Did mid new acted (outlet_on_action w given.heard.now given.made p.mark step.0 step.1) =
-    subst (Did mid new acted) (λ i. outlet_on_action w given.heard.now given.made p.mark (core_is i) (action_is i)) did in
-    did_hear old mid new left _ (worker.Sender w.hop) (not p.moved) given packet at quiet (timed_out w mid new given.heard.since acted left _ ended rest)
+    let rest : Did mid new left (outlet_on_action w given.heard.now given.made then.mark step.0 step.1) =
+    subst (Did mid new left) (λ i. outlet_on_action w given.heard.now given.made (due_is i).mark (core_is i) (action_is i)) did in
+    did_hear old mid new left _ (worker.Sender w.hop) (not p.moved) given packet at quiet rest

@@ -1,6 +1,6 @@
 -- A sending worker, turn by turn (docs/PROTOCOL.md, "The sending core").
 use Rattle.std.specs.Prelude.{ℕ, ◌-◌, ◌/◌, nat_le, List, [], ◌∷◌, Bool, true, false, not, ◌&&◌, ◌||◌, if◌then◌else◌}
-use Rattle.std.specs.Prelude.{Option, Some, None, Ok, Err}
+use Rattle.std.specs.Prelude.{Option, Some, None, is_some, Ok, Err}
 use Rattle.rly_core.specs.declared.ids.HopId.{HopId}
 use Rattle.rly_core.specs.declared.refusal.Refusal.TheVariants as refusal
 use Rattle.rly_hop.specs.declared.message.Message.{Message}
@@ -127,24 +127,21 @@ abbrev pub outlet_on_action : Outlet → ℕ → Made → ℕ → Sender → Opt
 outlet_on_action w now made mark s None = nothing_done (pacing s false mark)
 outlet_on_action w now made mark s (Some named) = outlet_on_call w made mark s named (named_ask w now named)
 
--- The end of a turn: if it moved nothing, and at least the hop's `resend`, in milliseconds, has passed since the mark, the
--- core is told to send again.
+-- The core is told to send again, at these microseconds, if the turn before moved nothing, nothing that was acknowledged
+-- waits to be released, and at least the hop's `resend`, in milliseconds, has passed since the mark.
 abbrev pub timed : Outlet → ℕ → Pacing → Pacing
 timed w since p =
-    if not p.moved && nat_le (resend w.plan w.hop) ((since - p.mark) / 1000)
+    if not p.moved && not (is_some p.core.acked) && nat_le (resend w.plan w.hop) ((since - p.mark) / 1000)
     then pacing (sending_step p.core event.Timeout).0 false since else p
 
-abbrev pub with_timeout : Outlet → ℕ → Done Pacing → Done Pacing
-with_timeout w since d = record d { core = timed w since d.core }
-
--- one turn, after its start: the receive waits unless the turn before moved something
+-- one turn, after its start: the receive waits unless the turn before moved something, and a timeout comes after it
 abbrev pub outlet_done : Outlet → Pacing → Given → Done Pacing
 outlet_done w p given =
-    let heard = outlet_on_hearing p.core (message_in given.packet) in
-    let left = sending_step heard (event.Turn (is_open w.plan w.hop given.heard.now)) in
+    let heard = pacing (outlet_on_hearing p.core (message_in given.packet)) p.moved p.mark in
+    let timed = timed w given.heard.since heard in
+    let left = sending_step timed.core (event.Turn (is_open w.plan w.hop given.heard.now)) in
     with_hearing (worker.Sender w.hop) (not p.moved) given
-    (with_timeout w given.heard.since
-    (outlet_on_action w given.heard.now given.made p.mark left.0 left.1))
+    (outlet_on_action w given.heard.now given.made timed.mark left.0 left.1)
 
 -- one turn
 abbrev pub outlet_turn : Outlet → Pacing → Given → Done Pacing

@@ -80,10 +80,10 @@ impl<'a> Outlet<'a> {
         let mut buffer = [0; MAX_PACKET];
         let (found, go) = ends.hear(rt, Worker::Sender(self.hop), !self.moved, &mut buffer);
         self.hear(message_in(&buffer, found));
+        self.time(go.since);
         let is_open = self.plan.is_open(self.hop, go.now);
         let action = self.core.step(OutEvent::Turn { is_open });
         self.act(rt, go.now, action, ends);
-        self.time(go.since);
     }
 
     /// Gives the core a message that was heard.
@@ -94,6 +94,22 @@ impl<'a> Outlet<'a> {
         if let Some(message) = message {
             let _nothing = self.core.step(OutEvent::Heard(message));
         }
+    }
+
+    /// Where nothing moved for as long as the hop's `resend`, the core is told to send again what is in flight.
+    fn time(&mut self, since: u64)
+        ensures plan { self.new.plan ≡ self.old.plan }
+        ensures hop { self.new.hop ≡ self.old.hop }
+        ensures pacing { pacing self.new.core self.new.moved self.new.mark
+            ≡ timed (outlet self.old.plan.now self.old.hop) since (pacing self.old.core self.old.moved self.old.mark) }
+    {
+        let passed = since.saturating_sub(self.mark) / 1_000;
+        let resend = u64::from(self.plan.resend(self.hop));
+        if self.moved || self.core.has_acknowledged() || passed < resend {
+            return;
+        }
+        self.mark = since;
+        let _nothing = self.core.step(OutEvent::Timeout);
     }
 
     /// Makes the call that the core named, gives it the answer, and sends what it names then.
@@ -152,22 +168,6 @@ impl<'a> Outlet<'a> {
         if self.moved {
             self.mark = since;
         }
-    }
-
-    /// The end of a turn. Where nothing moved for as long as the hop's `resend`, the core is told to send again what is in
-    /// flight.
-    fn time(&mut self, since: u64)
-        ensures plan { self.new.plan ≡ self.old.plan }
-        ensures hop { self.new.hop ≡ self.old.hop }
-        ensures pacing { pacing self.new.core self.new.moved self.new.mark
-            ≡ timed (outlet self.old.plan.now self.old.hop) since (pacing self.old.core self.old.moved self.old.mark) }
-    {
-        let passed = since.saturating_sub(self.mark) / 1_000;
-        if self.moved || passed < u64::from(self.plan.resend(self.hop)) {
-            return;
-        }
-        self.mark = since;
-        let _nothing = self.core.step(OutEvent::Timeout);
     }
 
     /// The call that an action of the core's turn names.

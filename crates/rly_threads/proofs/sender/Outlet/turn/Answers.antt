@@ -16,22 +16,25 @@ returns-clause-done g c =
     let acted = c.act.ensures.done in
     let was = c.args.self.now in
     let heard = c.hear.new.self in
+    let due = c.time.new.self in
     let now = c.act.new.self in
+    let go = c.hear-found.result.1 in
     let w = outlet was.plan.now was.hop in
     let same : outlet heard.plan.now heard.hop ≡ w = ap (λ (o : Worker). outlet o.plan.now o.hop) c.hear.ensures.same in
-    let acted_by : outlet now.plan.now now.hop ≡ w = (λ i. outlet (c.act.ensures.plan i).now (c.act.ensures.hop i)) ∙ same in
-    let kept : heard.mark ≡ was.mark = ap (λ (o : Worker). o.mark) c.hear.ensures.same in
+    let timed_by : outlet due.plan.now due.hop ≡ w = (λ i. outlet (c.time.ensures.plan i).now (c.time.ensures.hop i)) ∙ same in
     let did : Did c.hear-found.new.self c.act.new.ends (pacing now.core now.moved now.mark)
-    (outlet_on_action w c.hear-found.result.1.now acted.0 was.mark c.step-action.new.self (option_map out_action_bytes c.step-action.result)) =
-    subst (Did c.hear-found.new.self c.act.new.ends (pacing now.core now.moved now.mark))
-    (λ i. outlet_on_action (same i) c.hear-found.result.1.now acted.0 (kept i) c.step-action.new.self (option_map out_action_bytes c.step-action.result)) acted.1 in
-    let ended = c.time.ensures.pacing ∙ ap (λ (o : Outlet). timed o c.hear-found.result.1.since (pacing now.core now.moved now.mark)) acted_by in
-    let given : Given = record { start = nowhere; packet = packet_in c.hear-found.result.0 c.hear-found.new.buffer; heard = c.hear-found.result.1; made = acted.0 } in (
+    (outlet_on_action w go.now acted.0 due.mark c.step-action.new.self (option_map out_action_bytes c.step-action.result)) =
+    subst (λ (o : Outlet). Did c.hear-found.new.self c.act.new.ends (pacing now.core now.moved now.mark)
+    (outlet_on_action o go.now acted.0 due.mark c.step-action.new.self (option_map out_action_bytes c.step-action.result))) timed_by acted.1 in
+    let timing : pacing due.core due.moved due.mark ≡ timed w go.since (pacing heard.core was.moved was.mark) =
+    c.time.ensures.pacing ∙ (λ i. timed (same i) go.since (pacing heard.core (c.hear.ensures.same i).moved (c.hear.ensures.same i).mark)) in
+    let given : Given = record { start = nowhere; packet = packet_in c.hear-found.result.0 c.hear-found.new.buffer; heard = go; made = acted.0 } in (
       given,
       turned w c.args.ends.now c.hear-found.new.self c.act.new.ends
-          (pacing was.core was.moved was.mark) heard.core c.step-action.new.self (pacing now.core now.moved now.mark) (pacing c.time.new.self.core c.time.new.self.moved c.time.new.self.mark)
+          (pacing was.core was.moved was.mark) heard.core c.step-action.new.self (pacing due.core due.moved due.mark) (pacing now.core now.moved now.mark)
           given c.is_open-is_open.result (option_map out_action_bytes c.step-action.result)
           c.hear-found.ensures.heard c.hear-found.ensures.told c.hear-found.ensures.same
-          (c.hear.ensures.core ∙ ap (outlet_on_hearing was.core) c.message_in.ensures) (c.is_open-is_open.ensures ∙ ap (λ (o : Outlet). is_open o.plan o.hop c.hear-found.result.1.now) same)
-          c.step-action.ensures.state c.step-action.ensures.action did ended,
+          (c.hear.ensures.core ∙ ap (outlet_on_hearing was.core) c.message_in.ensures) timing
+          (c.is_open-is_open.ensures ∙ ap (λ (o : Outlet). is_open o.plan o.hop go.now) timed_by)
+          c.step-action.ensures.state c.step-action.ensures.action did,
     )
