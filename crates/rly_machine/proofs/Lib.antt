@@ -11,3 +11,6 @@ pub mod RealReplies
 pub mod Folding
 pub mod Restoring
 pub mod Histories
+pub mod Alike
+pub mod Relocating
+pub mod Lifting

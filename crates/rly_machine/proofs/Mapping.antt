@@ -24,13 +24,13 @@ use Rattle.rly_machine.specs.Fold.{fold}
 use Rattle.rly_machine.specs.Map.{map_item, map_hop, map_state, map_command}
 
 -- an element of a mapped list, past its end too
-get_mapped : {X Y : Type 0} (f : X → Y) (xs : List X) (i : ℕ) (d : X) → get_or (map f xs) i (f d) ≡ f (get_or xs i d)
+pub get_mapped : {X Y : Type 0} (f : X → Y) (xs : List X) (i : ℕ) (d : X) → get_or (map f xs) i (f d) ≡ f (get_or xs i d)
 get_mapped f [] i d = refl
 get_mapped f (x ∷ xs) zero d = refl
 get_mapped f (x ∷ xs) (suc i) d = get_mapped f xs i d
 
 -- a sum over a mapped list whose terms stay
-sum_mapped : {X Y : Type 0} (g : X → ℕ) (h : Y → ℕ) (f : X → Y) → ((x : X) → h (f x) ≡ g x) → (xs : List X) → sum_by h (map f xs) ≡ sum_by g xs
+pub sum_mapped : {X Y : Type 0} (g : X → ℕ) (h : Y → ℕ) (f : X → Y) → ((x : X) → h (f x) ≡ g x) → (xs : List X) → sum_by h (map f xs) ≡ sum_by g xs
 sum_mapped g h f same [] = refl
 sum_mapped g h f same (x ∷ xs) =
     let e = same x in
@@ -40,7 +40,7 @@ sum_mapped g h f same (x ∷ xs) =
 mapped_hop_at : {P Q : Type 0} (f : P → Q) (s : State P) (hop : HopId) → hop_at (map_state f s) hop ≡ map_hop f (hop_at s hop)
 mapped_hop_at f s hop = get_mapped (map_hop f) s.hops (hop.0 - 1) new_hop
 
-mapped_items : {P Q : Type 0} (f : P → Q) (s : State P) → live_items (map_state f s) ≡ live_items s
+pub mapped_items : {P Q : Type 0} (f : P → Q) (s : State P) → live_items (map_state f s) ≡ live_items s
 mapped_items {P} {Q} f s = sum_mapped (λ (h : HopState P). length (live_line h)) (λ (h : HopState Q). length (live_line h)) (map_hop f)
     (λ h. omega (arith, length-append h.flight h.queue, length-append (map (map_item f) h.flight) (map (map_item f) h.queue), length-map h.flight (map_item f), length-map h.queue (map_item f))) s.hops
 
@@ -50,7 +50,7 @@ mapped_bytes_of {P} {Q} len len' f same h =
     ap (bytes_of len') (sym (map-append (map_item f) h.flight h.queue))
     ∙ sum_mapped (λ (item : Item P). len item.payload) (λ (item : Item Q). len' item.payload) (map_item f) (λ item. same item.payload) (h.flight ++ h.queue)
 
-mapped_bytes : {P Q : Type 0} (len : P → ℕ) (len' : Q → ℕ) (f : P → Q) → ((p : P) → len' (f p) ≡ len p) → (s : State P)
+pub mapped_bytes : {P Q : Type 0} (len : P → ℕ) (len' : Q → ℕ) (f : P → Q) → ((p : P) → len' (f p) ≡ len p) → (s : State P)
     → live_bytes len' (map_state f s) ≡ live_bytes len s
 mapped_bytes {P} {Q} len len' f same s = sum_mapped (λ (h : HopState P). bytes_of len (live_line h)) (λ (h : HopState Q). bytes_of len' (live_line h)) (map_hop f) (mapped_bytes_of len len' f same) s.hops
 

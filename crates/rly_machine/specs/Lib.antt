@@ -3,6 +3,7 @@ pub mod Accepted
 pub mod Take
 pub mod Pick
 pub mod Release
+pub mod Relocate
 pub mod Step
 pub mod Query
 pub mod Ask

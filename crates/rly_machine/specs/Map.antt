@@ -1,9 +1,10 @@
 -- A state, and a command, with every payload replaced by what stands for it.
-use Rattle.std.specs.Prelude.{map}
+use Rattle.std.specs.Prelude.{◌≡◌, ℕ, List, [], ◌∷◌, map, All}
+use Rattle.std.specs.List.{flat_map}
 use Rattle.rly_machine.specs.declared.command.Command.{Command}
 use Rattle.rly_machine.specs.declared.command.Command.TheVariants.{Take, Pick, Release}
 use Rattle.rly_machine.specs.declared.hop.Item.{Item}
-use Rattle.rly_machine.specs.State.{State, HopState}
+use Rattle.rly_machine.specs.State.{State, HopState, live_line}
 
 abbrev pub map_item : {P Q : Type 0} → (P → Q) → Item P → Item Q
 map_item f item = record { id = item.id; stamp = item.stamp; payload = f item.payload }
@@ -26,3 +27,16 @@ abbrev pub map_command : {P Q : Type 0} → (P → Q) → Command P → Command 
 map_command f (Take peer number hop stamp payload) = Take peer number hop stamp (f payload)
 map_command f (Pick hop now) = Pick hop now
 map_command f (Release hop number) = Release hop number
+
+-- the payloads that a state holds, hop by hop, and the one that a command brings
+abbrev pub payloads_of : {P : Type 0} → State P → List P
+payloads_of s = flat_map (λ h. map (λ item. item.payload) (live_line h)) s.hops
+
+abbrev pub payload_of : {P : Type 0} → Command P → List P
+payload_of (Take peer number hop stamp payload) = payload ∷ []
+payload_of (Pick hop now) = []
+payload_of (Release hop number) = []
+
+-- a map keeps the lengths of payloads; of others it may not
+abbrev pub KeepsLengths : {P Q : Type 0} → (P → ℕ) → (Q → ℕ) → (P → Q) → List P → Type 0
+KeepsLengths len len' f payloads = All (λ payload. len' (f payload) ≡ len payload) payloads

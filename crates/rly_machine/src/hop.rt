@@ -1,4 +1,4 @@
-ghost use Rattle.std.specs.Prelude.{◌≡◌, ◌+◌, ◌<◌, ◌≤◌, ◌^◌, [], ◌++◌, OnErr, OnOk, drop, length, map, max, take, vec_capacity, vec_len};
+ghost use Rattle.std.specs.Prelude.{◌≡◌, ◌+◌, ◌<◌, ◌≤◌, ◌^◌, [], ◌++◌, OnErr, OnOk, Some, drop, length, map, max, take, vec_capacity, vec_len};
 ghost use Rattle.std.specs.VecDeque.{deque_capacity, deque_len};
 ghost use Rattle.rly_machine.specs.State.{bytes_of};
 
@@ -133,6 +133,7 @@ impl<C: Content> Hop<C> {
     ghost use Rattle.rly_machine.specs.Pick.{outcome_of, pick_reply, picked_reply, waiting_of, with_dropped, with_picked, with_sent};
     ghost use Rattle.rly_machine.specs.Sound.{IsSoundHop};
     ghost use Rattle.rly_machine.specs.Release.{with_released};
+    ghost use Rattle.rly_machine.specs.Relocate.{carried_at, with_relocated};
     ghost use Rattle.rly_core.specs.Limits.{IsWithinLimits};
     ghost use Rattle.rly_machine.specs.State.{live_line};
 
@@ -150,6 +151,19 @@ impl<C: Content> Hop<C> {
         ensures { result ≡ bytes_of C.length_of (live_line (hop_state self.now)) }
     {
         payload_bytes(&self.flight) + self.queue.bytes()
+    }
+
+    /// Has a live datagram carry other content of the same length. Those in flight are counted first.
+    pub(crate) fn relocate(&mut self, index: usize, content: C)
+        requires { carried_at C.length_of (live_line (hop_state self.old)) index ≡ Some (C.length_of content) }
+        ensures { hop_state self.new ≡ with_relocated (hop_state self.old) index content }
+    {
+        let in_flight = self.flight.len();
+        if index < in_flight {
+            self.flight[index].payload = content;
+        } else {
+            self.queue.relocate(index - in_flight, content);
+        }
     }
 
     /// Lets go of the first so many in flight, and answers how many payload bytes they had.

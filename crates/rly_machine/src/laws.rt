@@ -1,14 +1,16 @@
 //! Laws over the definitions, each the clause of a function that does nothing.
 
-ghost use Rattle.std.specs.Prelude.{◌≡◌, ◌≢◌, ◌+◌, ◌≤◌, ℕ, IsTrue, List, map};
+ghost use Rattle.std.specs.Prelude.{◌≡◌, ◌≢◌, ◌+◌, ◌≤◌, ◌++◌, ℕ, IsTrue, List, Some, map};
+ghost use Rattle.std.specs.List.{flat_map};
 ghost use Rattle.rly_core.specs.Limits.{IsWithinLimits};
 ghost use Rattle.rly_core.specs.declared.params.Params.{Params};
 ghost use Rattle.rly_core.specs.declared.ids.HopId.{HopId};
 ghost use Rattle.rly_machine.specs.Custody.{KeepsCustody, times, account_along};
 ghost use Rattle.rly_machine.specs.Fold.{fold};
-ghost use Rattle.rly_machine.specs.Map.{map_command, map_state};
+ghost use Rattle.rly_machine.specs.Map.{KeepsLengths, map_command, map_state, payload_of, payloads_of};
+ghost use Rattle.rly_machine.specs.Relocate.{carried_at, relocated};
 ghost use Rattle.rly_machine.specs.Sound.{IsSound};
-ghost use Rattle.rly_machine.specs.State.{State, has_hop, hop_at, new_state};
+ghost use Rattle.rly_machine.specs.State.{State, has_hop, hop_at, live_line, new_state};
 ghost use Rattle.rly_machine.specs.Step.{step};
 ghost use Rattle.rly_machine.specs.declared.command.Command.{Command};
 
@@ -22,16 +24,28 @@ pub fn law_balance<C: Content>()
         → IsSound C.length_of (fold C.length_of (new_state params) commands) }
 {}
 
-/// A map of payloads that keeps their lengths goes through every step, which gives the same reply,
-/// and through every row of commands.
+/// A map of payloads that keeps the lengths of those that a state holds and a command brings goes through the step: the reply is
+/// the same, and the map keeps the lengths of those that the state holds then. So it goes through every row of commands. Of
+/// other payloads nothing is asked.
 pub fn law_map<P: Content, Q: Content>()
-    ensures steps { (f : P → Q) → ((payload : P) → Q.length_of (f payload) ≡ P.length_of payload)
-        → (s : State P) (command : Command P)
+    ensures steps { (f : P → Q) (s : State P) (command : Command P)
+        → KeepsLengths P.length_of Q.length_of f (payloads_of s ++ payload_of command)
         → step Q.length_of (map_state f s) (map_command f command)
         ≡ (map_state f (step P.length_of s command).0, (step P.length_of s command).1) }
-    ensures folds { (f : P → Q) → ((payload : P) → Q.length_of (f payload) ≡ P.length_of payload)
-        → (s : State P) (commands : List (Command P))
+    ensures keeps { (f : P → Q) (s : State P) (command : Command P)
+        → KeepsLengths P.length_of Q.length_of f (payloads_of s ++ payload_of command)
+        → KeepsLengths P.length_of Q.length_of f (payloads_of (step P.length_of s command).0) }
+    ensures folds { (f : P → Q) (s : State P) (commands : List (Command P))
+        → KeepsLengths P.length_of Q.length_of f (payloads_of s ++ flat_map payload_of commands)
         → fold Q.length_of (map_state f s) (map (map_command f) commands) ≡ map_state f (fold P.length_of s commands) }
+{}
+
+/// Where other content stands for the same as what a live item carries, its relocation changes nothing of what a state stands
+/// for.
+pub fn law_relocate<P: Content, Q: Content>()
+    ensures { (f : P → Q) (s : State P) (hop : HopId) (index : ℕ) (content : P)
+        → carried_at f (live_line (hop_at s hop)) index ≡ Some (f content)
+        → map_state f (relocated s hop index content) ≡ map_state f s }
 {}
 
 /// Whatever commands come to a new spool, at each hop: each id that was answered Taken waits, or was

@@ -4,12 +4,13 @@ ghost use Rattle.rly_core.specs.Limits.{IsWithinLimits};
 ghost use Rattle.rly_machine.specs.HelpersMachine.{IsHopAt};
 ghost use Rattle.rly_machine.specs.Kept.{hop_state};
 ghost use Rattle.rly_machine.specs.Sound.{IsSound};
-ghost use Rattle.rly_machine.specs.State.{has_hop, has_peer, hop_at, last_at, live_bytes, live_items, new_state};
+ghost use Rattle.rly_machine.specs.State.{has_hop, has_peer, hop_at, last_at, live_bytes, live_items, live_line, new_state};
 ghost use Rattle.rly_machine.specs.Step.{HasRoom, NeedsRoom, drops_of, listed_count, step};
 ghost use Rattle.rly_machine.specs.Query.{item_of, show_reply, window_reply};
 ghost use Rattle.rly_machine.specs.Take.{take_refusal, take_step};
 ghost use Rattle.rly_machine.specs.Pick.{pick_refusal, pick_step};
 ghost use Rattle.rly_machine.specs.Release.{covered_count, release_refusal, release_step};
+ghost use Rattle.rly_machine.specs.Relocate.{carried_at, relocated};
 
 use crate::command::{Ask, Command, Query};
 use crate::content::{Content, Payload};
@@ -156,6 +157,16 @@ impl<C: Content> Machine<C> {
         ensures { slice_get (hop_at self.now.state hop).queue index ≡ Some result.now }
     {
         self.hops[hop.0 as usize - 1].queue.item(index)
+    }
+
+    /// Has a live item of a hop carry other content of the same length, as where its payload moved to another place. Items in
+    /// flight are counted first, from 0, then those that wait. It takes no memory.
+    pub fn relocate(&mut self, hop: HopId, index: usize, content: C)
+        requires there { IsTrue (has_hop self.old.state hop) }
+        requires live { carried_at C.length_of (live_line (hop_at self.old.state hop)) index ≡ Some (C.length_of content) }
+        ensures { self.new.state ≡ relocated self.old.state hop index content }
+    {
+        self.hops[hop.0 as usize - 1].relocate(index, content);
     }
 
     /// Makes the memory that a command may need. Where it is refused, the state is as it was.

@@ -1,4 +1,5 @@
-ghost use Rattle.std.specs.Prelude.{◌≡◌, ◌+◌, ◌%◌, ◌^◌, ◌<◌, ◌≤◌, ◌==◌, [], ◌∷◌, ◌++◌, ◌↔◌, IfOk, IfSome, IsSome, OnErr, OnOk, drop, length, max, option_to_list, slice_index_or};
+ghost use Rattle.std.specs.Prelude.{◌≡◌, ◌+◌, ◌%◌, ◌^◌, ◌<◌, ◌≤◌, ◌==◌, [], ◌∷◌, ◌++◌, ◌↔◌, IfOk, IfSome, IsSome, OnErr, OnOk, Some, drop, length, max, option_to_list, slice_index_or};
+ghost use Rattle.rly_machine.specs.Relocate.{carried_at, with_payload};
 ghost use Rattle.rly_machine.specs.State.{bytes_of};
 
 use crate::content::Content;
@@ -106,6 +107,14 @@ impl<C: Content> Queue<C> {
             return 0;
         }
         self.item(0).payload.len() as u64 + self.bytes_behind(0)
+    }
+
+    /// Has the datagram at an index carry other content of the same length.
+    pub(crate) fn relocate(&mut self, index: usize, content: C)
+        requires { carried_at C.length_of self.old.items index ≡ Some (C.length_of content) }
+        ensures { self.new.items ≡ with_payload self.old.items index content }
+    {
+        self.queued[index].item.payload = content;
     }
 
     /// Makes room for one more. Where memory is refused, the queue is as it was.

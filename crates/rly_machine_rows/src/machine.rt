@@ -1,6 +1,7 @@
 //! The plain machine: a datagram from its take to its release, and spools that are restored.
-ghost use Rattle.std.specs.Prelude.{◌≡◌, [], ◌∷◌, IfOk, length};
-ghost use Rattle.rly_machine.specs.State.{hop_at};
+ghost use Rattle.std.specs.Prelude.{◌≡◌, ◌⊎◌, [], ◌∷◌, IfOk, Some, length};
+ghost use Rattle.rly_machine.specs.Relocate.{carried_at};
+ghost use Rattle.rly_machine.specs.State.{hop_at, live_line};
 
 use crate::commands::{run, take};
 use rly_core::{HopId, Params, PeerId, Refusal};
@@ -157,7 +158,9 @@ fn alone(alloc: Global, id: u64, stamp: u64, bytes: &[u8]) -> Result<Vec<Item<Pa
 
 /// One item was released, the next one is in flight, and a third one waits.
 fn restored(alloc: Global) -> Result<Machine<Payload>, AllocError>
-    ensures { IfOk result (λ machine. length (hop_at machine.state (record { 0 = 1 })).queue ≡ 1) }
+    ensures waits { IfOk result (λ machine. length (hop_at machine.state (record { 0 = 1 })).queue ≡ 1) }
+    ensures first { IfOk result (λ machine. carried_at length (live_line (hop_at machine.state (record { 0 = 1 }))) 0 ≡ Some 2) }
+    ensures second { IfOk result (λ machine. carried_at length (live_line (hop_at machine.state (record { 0 = 1 }))) 1 ≡ Some 1) }
 {
     let flight = VecDeque::from_vec(alone(alloc, 4, 10, b"BB")?);
     let queue = Queue::of(alloc, alone(alloc, 5, 20, b"C")?)?;
@@ -242,6 +245,58 @@ fn a_restored_spool_goes_on(rt: HostRuntime) -> Result<(), Fail> {
     expect_room(&rt, alloc, &mut machine)?;
     expect_restored_pick(&rt, alloc, &mut machine)?;
     Ok(())
+}
+
+/// The spool of one item in flight and one that waits, in which one of them carries other bytes.
+fn relocated(alloc: Global, index: usize, bytes: &[u8]) -> Result<Machine<Payload>, AllocError>
+    requires { ((index ≡ 0) × (length bytes.now ≡ 2)) ⊎ ((index ≡ 1) × (length bytes.now ≡ 1)) }
+{
+    let mut machine = restored(alloc)?;
+    let payload = Payload::copy_of(alloc, bytes)?;
+    machine.law_sound();
+    machine.relocate(HopId(1), index, payload);
+    Ok(machine)
+}
+
+/// The item in flight carries what was put in its place, and nothing else changed.
+#[test]
+fn an_item_in_flight_is_relocated(rt: HostRuntime) -> Result<(), Fail> {
+    let alloc = rt.alloc();
+    let mut machine = relocated(alloc, 0, b"ZZ")?;
+    match machine.item(HopId(1), 2) {
+        Ok(item) => {
+            expect!(rt; item.id == 4 && item.stamp == 10);
+                    }
+        Err(refusal) => panic!(rt; "{refusal}"),
+    }
+    expect_bytes(&rt, &machine, 2, b"ZZ");
+    expect!(rt; machine.item_count() == 2 && machine.byte_count() == 3);
+    expect_room(&rt, alloc, &mut machine)?;
+    expect_restored_pick(&rt, alloc, &mut machine)?;
+    expect_bytes(&rt, &machine, 3, b"C");
+    Ok(())
+}
+
+/// So does one that waits, once it is picked.
+#[test]
+fn an_item_that_waits_is_relocated(rt: HostRuntime) -> Result<(), Fail> {
+    let alloc = rt.alloc();
+    let mut machine = relocated(alloc, 1, b"Z")?;
+    expect_bytes(&rt, &machine, 2, b"BB");
+    expect_room(&rt, alloc, &mut machine)?;
+    expect_restored_pick(&rt, alloc, &mut machine)?;
+    expect_bytes(&rt, &machine, 3, b"Z");
+    Ok(())
+}
+
+/// What is in flight under a number has these bytes.
+fn expect_bytes(rt: &impl Abort, machine: &Machine<Payload>, number: u64, bytes: &[u8]) {
+    match machine.item(HopId(1), number) {
+        Ok(item) => {
+            expect!(rt; item.payload.as_slice() == bytes);
+        }
+        Err(refusal) => panic!(rt; "{refusal}"),
+    }
 }
 
 /// An empty one takes its first datagram.
