@@ -1,0 +1,9 @@
+mod RelayAnswers
+mod RelayBegins
+mod RelayCalls
+mod RelayDevice
+mod RelayEvents
+mod RelayHolds
+mod RelayPhases
+mod RelayRecords
+mod RelayStart

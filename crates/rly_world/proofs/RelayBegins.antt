@@ -1,0 +1,74 @@
+-- A segment that is due may be opened, and where none is due accepted commands find room.
+use Rattle.std.proofs.Common.{ℕ, ◌≡◌, ◌≢◌, ◌≤◌, ◌<◌, ◌+◌, ◌-◌, ◌*◌, ◌∙◌, List, [], ◌∷◌, length, arith, ap, refl, ⊎_elim}
+use Rattle.std.proofs.lemmas.Bool.{cases_lt}
+use Rattle.rly_machine.specs.Fold.{AllAccepted, fold}
+use Rattle.rly_machine.specs.Sound.{IsSound}
+use Rattle.rly_machine.specs.State.{State}
+use Rattle.rly_machine.proofs.Folding.{params_fold, seq_fold}
+use Rattle.rly_checkpoint.proofs.Fitness.{one_state}
+use Rattle.rly_gate.proofs.Frames.{length-frame}
+use Rattle.rly_reclaim.specs.Room.{IsDue, group_room}
+use Rattle.rly_record.specs.Spelling.{body_of}
+use Rattle.rly_segment.specs.Heads.{segment_place}
+use Rattle.rly_journal.specs.Standing.{AreAccepted, Commands, HoldGroups, IsStanding, Standing, first_of, gate_of, next_gate, replayed, standing_end, state_in}
+use Rattle.rly_journal.proofs.Ending.{head_for}
+use Rattle.rly_journal.proofs.Frame.{gate_above}
+use Rattle.rly_journal.proofs.Gathering.{spelled_most}
+use Rattle.rly_journal.proofs.Once.{standing_once}
+use Rattle.rly_world.proofs.RelayPhases.{IsGroup, IsTarget}
+use Rattle.rly_world.proofs.RelayRecords.{accepted_records}
+
+pub one_standing : {image : List ℕ} (x y : Standing) → IsStanding image x → IsStanding image y → x ≡ y
+one_standing {image} x y first second = standing_once one_state x y first second
+
+replayed_params : (s : State (List ℕ)) (groups : List Commands) → (replayed s groups).params ≡ s.params
+replayed_params s [] = refl
+replayed_params s (commands ∷ groups) = replayed_params (fold length s commands) groups ∙ params_fold length s commands
+
+-- each group counts
+replayed_seq : (image : List ℕ) (end at : ℕ) (s : State (List ℕ)) (groups : List Commands) → AreAccepted s groups → HoldGroups image end at groups
+    → s.seq + length groups ≤ (replayed s groups).seq
+replayed_seq image end at s [] accepted holds = omega arith
+replayed_seq image end at s (commands ∷ groups) accepted holds =
+    omega (arith, replayed_seq image end (next_gate at commands) (fold length s commands) groups accepted.1 holds.2, seq_fold length s commands accepted.0, holds.0.0)
+
+-- the offset of the first closed gate
+abbrev pub offset_of : Standing → ℕ
+offset_of x = gate_of x - segment_place x.geometry x.segment
+
+-- a segment that is due has some group
+some_group : {image : List ℕ} (x : Standing) → IsStanding image x → IsDue x.geometry (offset_of x) → 1 ≤ length x.groups
+some_group {image} x stands due = by_groups x.groups refl
+  where
+    by_groups : (groups : List Commands) → x.groups ≡ groups → 1 ≤ length x.groups
+    by_groups [] none = absurd (omega (arith, due, stands.scanned.head.head.room, ap (λ l. gate_of (record x { groups = l })) none))
+    by_groups (commands ∷ groups) some = omega (arith, ap length some)
+
+pub due_target : {image : List ℕ} (x : Standing) (segment : ℕ) → IsStanding image x → IsSound length (state_in x) → IsDue x.geometry (offset_of x)
+    → segment < x.geometry.segments → segment ≢ x.segment → IsTarget x segment
+due_target {image} x segment stands sound due there other =
+    let counted = replayed_seq image (standing_end x) (first_of x) x.checkpoint x.groups stands.scanned.accepted stands.scanned.groups in
+    record {
+      there = there;
+      other = other;
+      sound = sound;
+      head = head_for x.geometry (length image) segment x.generation (state_in x) stands.scanned.fits sound
+          (replayed_params x.checkpoint x.groups ∙ stands.scanned.head.head.params)
+          (omega (arith, counted, some_group x stands due, stands.scanned.head.head.most));
+    }
+
+room_left : (x : Standing) → (IsDue x.geometry (offset_of x) → ⊥) → offset_of x + group_room ≤ x.geometry.length
+room_left x room = ⊎_elim (λ due. absurd (room due)) (λ left. left) (cases_lt x.geometry.length (offset_of x + group_room))
+
+pub roomy_group : {image : List ℕ} (x : Standing) (commands : Commands) → IsStanding image x → IsSound length (state_in x) → (IsDue x.geometry (offset_of x) → ⊥)
+    → 1 ≤ length commands → length commands ≤ 64 → AllAccepted length (state_in x) commands → IsGroup x commands
+roomy_group {image} x commands stands sound roomy some few accepted =
+    let have = accepted_records (state_in x) commands sound accepted in
+    let most : length (body_of commands) ≤ 2 + 1223 * 64 = spelled_most commands have few in
+    let above = gate_above (first_of x) x.groups in
+    record {
+      body = ((some, few), have);
+      accepted = accepted;
+      small = omega (arith, most);
+      room = omega (arith, room_left x roomy, most, above, length-frame (body_of commands));
+    }

@@ -1,0 +1,4 @@
+pub mod RelayLaw
+pub mod RelayPhases
+pub mod RelaySteps
+pub mod RelayWorld
