@@ -2,7 +2,7 @@
 use Rattle.std.proofs.Common.{◌≡◌, ◌-◌, ℕ, zero, suc, List, [], ◌∷◌, ap, arith, min, refl}
 use Rattle.std.specs.Prelude.{Option, Some, None}
 use Rattle.rly_threads.specs.declared.turn.Point.{Point}
-use Rattle.rly_threads.specs.declared.turn.Point.TheVariants.{Answered, Call, Heard, Start}
+use Rattle.rly_threads.specs.declared.turn.Point.TheVariants.{Answered, Call, Heard, Start, Taken}
 use Rattle.rly_daemon.specs.WallClock.{start_count, turns_had, turns_of}
 
 -- where they are without end
@@ -12,6 +12,7 @@ each_start (Start ∷ points) = omega (arith, each_start points)
 each_start (Heard ∷ points) = omega (arith, each_start points)
 each_start (Call ∷ points) = omega (arith, each_start points)
 each_start (Answered ∷ points) = omega (arith, each_start points)
+each_start (Taken hop ∷ points) = omega (arith, each_start points)
 
 -- where so many are left
 so_many : (left : ℕ) (points : List Point) → turns_had (Some left) points ≡ min left (start_count points)
@@ -27,6 +28,7 @@ so_many (suc left) (Start ∷ points) =
 so_many left (Heard ∷ points) = omega (arith, so_many left points)
 so_many left (Call ∷ points) = omega (arith, so_many left points)
 so_many left (Answered ∷ points) = omega (arith, so_many left points)
+so_many left (Taken hop ∷ points) = omega (arith, so_many left points)
 
 pub turns_handed : (left : Option ℕ) (points : List Point) → turns_had left points ≡ turns_of left (start_count points)
 turns_handed None points = each_start points

@@ -7,7 +7,7 @@ use Rattle.std.specs.declared.time.Duration.{Duration}
 use Rattle.http_server.specs.declared.log.Log.{Log}
 use Rattle.rly_threads.specs.declared.turn.Go.{Go}
 use Rattle.rly_threads.specs.declared.turn.Point.{Point}
-use Rattle.rly_threads.specs.declared.turn.Point.TheVariants.{Answered, Call, Heard, Start}
+use Rattle.rly_threads.specs.declared.turn.Point.TheVariants.{Answered, Call, Heard, Start, Taken}
 use Rattle.rly_threads.specs.declared.turn.Worker.{Worker}
 use Rattle.rly_threads.specs.Memory.{handed_of}
 use Rattle.rly_threads.specs.Turns.{Handed}
@@ -25,6 +25,7 @@ goes_on Start (Some (suc n)) = true
 goes_on Heard left = true
 goes_on Call left = true
 goes_on Answered left = true
+goes_on (Taken hop) left = true
 
 -- the clocks are read after the worker waited for a packet, and after it waited for an answer
 abbrev pub is_read_at : Point → Bool
@@ -32,6 +33,7 @@ is_read_at Start = false
 is_read_at Heard = true
 is_read_at Call = false
 is_read_at Answered = true
+is_read_at (Taken hop) = false
 
 -- how many are left after that point
 abbrev pub left_at : Point → Option ℕ → Option ℕ
@@ -40,6 +42,7 @@ left_at Start (Some n) = Some (n - 1)
 left_at Heard left = left
 left_at Call left = left
 left_at Answered left = left
+left_at (Taken hop) left = left
 
 -- how many of these points are starts
 abbrev pub start_count : List Point → ℕ
@@ -48,6 +51,7 @@ start_count (Start ∷ points) = suc (start_count points)
 start_count (Heard ∷ points) = start_count points
 start_count (Call ∷ points) = start_count points
 start_count (Answered ∷ points) = start_count points
+start_count (Taken hop ∷ points) = start_count points
 
 -- one where a worker goes on at a start, and none elsewhere
 abbrev pub turn_at : Point → Bool → ℕ
@@ -56,6 +60,7 @@ turn_at Start false = 0
 turn_at Heard on = 0
 turn_at Call on = 0
 turn_at Answered on = 0
+turn_at (Taken hop) on = 0
 
 -- how many turns a worker has at these points, where so many are left before them
 abbrev pub turns_had : Option ℕ → List Point → ℕ

@@ -6,6 +6,7 @@
 //! are handed on. This is the edge: only the program and tests call it.
 #![tactic(auto)]
 
+mod bells;
 mod command_fault;
 mod file_disk;
 mod geometry;

@@ -10,6 +10,7 @@ ghost use Rattle.rly_line.specs.Submission.{LineId};
 ghost use Rattle.rly_plan.specs.Sound.{IsSoundPlan};
 ghost use Rattle.rly_threads.specs.Relay.{new_end};
 
+use crate::bells::Bells;
 use crate::command_fault::ServeFault;
 use crate::udp_link::UdpLink;
 use crate::wall_clock::WallClock;
@@ -23,7 +24,7 @@ use std::fs;
 use std::fs::{File, Files};
 use std::io::ErrorKind;
 use std::net::Net;
-use std::sync::Wait;
+use std::sync::{Arc, Wait};
 use std::thread::Threads;
 use std::time::Clock;
 
@@ -120,30 +121,46 @@ fn posts_of<'a, H: AllocGlobal + Net + Clock>(
     requires { IsSoundPlan plan.now }
     ensures { IfOk result (λ posts. map duty_at posts.items ≡ duties plan.now turns) }
 {
+    let Ok(bells) = Arc::new(rt.alloc(), Bells::open(rt, rt.alloc(), plan)?) else {
+        return Err(AllocError.into());
+    };
     let mut posts = Vec::new(rt.alloc());
     for worker in workers_of(rt.alloc(), plan)? {
-        let post = post_of(rt, plan, worker, turns)?;
-        posts.push(post).map_err(|_| AllocError)?;
+        let post = post_of(rt, plan, worker, turns, bells.clone()?)?;
+        if posts.push(post).is_err() {
+            return Err(AllocError.into());
+        }
     }
     Ok(posts)
 }
 
-/// A worker of a plan, with its link and its turns. One whose neighbour isn't in the plan has no link.
+/// A worker of a plan, with its link and its turns. A receiver rings the bells, and a sender's link has the bell of its hop.
+/// A worker whose neighbour isn't in the plan has no link.
 fn post_of<'a, H: Net + Clock>(
     rt: &'a H,
     plan: &Plan,
     worker: Worker,
     turns: u64,
+    bells: Arc<Bells, Global>,
 ) -> Result<UdpPost<'a, H>, LinkFault>
     ensures { IfOk result (λ post. duty_at post ≡ duty_of plan.now turns worker) }
 {
     let Some(addresses) = addresses_of(plan, worker) else {
         return Err(LinkFault);
     };
-    Ok(Post {
-        worker,
-        link: UdpLink::open(rt, rt, addresses)?,
-        turn: WallClock::new(rt, turns),
+    let link = UdpLink::open(rt, rt, addresses)?;
+    let turn = WallClock::new(rt, turns);
+    Ok(match worker {
+        Worker::Receiver(_) => Post {
+            worker,
+            link,
+            turn: turn.with_bells(bells),
+        },
+        Worker::Sender(hop) => Post {
+            worker,
+            link: link.with_bell(bells, hop),
+            turn,
+        },
     })
 }
 

@@ -1,18 +1,23 @@
 ghost use Rattle.std.specs.Prelude.{◌≡◌, ◌≤◌, ◌-◌, ◌^◌, ◌↔◌, IfOk, IfSome, IsErr, IsTrue, length};
 ghost use Rattle.rly_threads.specs.Ends.{FailuresRose};
 
+use crate::bells::Bells;
+use rly_core::HopId;
 use rly_plan::Addresses;
 use rly_threads::{Link, LinkFault};
+use std::alloc::Global;
 use std::io::ErrorKind;
 use std::net::{Net, SocketAddr, ToSocketAddrs, UdpSocket};
 use std::snapshot::Snapshot;
+use std::sync::Arc;
 use std::time::{Clock, Duration};
 use std::{io, thread};
 
 /// How long a receive that waits does so, in milliseconds.
 const WAIT: u64 = 10;
 
-/// A link over UDP. It receives from any address, and sends to one.
+/// A link over UDP. It receives from any address, and sends to one. An empty packet ends a wait and isn't heard: it is no
+/// message, and the bell of a hop's link is one.
 ///
 /// A packet longer than the buffer of a receive is cut by the system. No message is as long as a
 /// worker's buffer, so what is cut is none. What a socket gives and what becomes of a packet is
@@ -25,6 +30,8 @@ pub struct UdpLink<C: Clock + Drop> {
     /// Whether a call of the socket waits, as the system was told last.
     waits: bool,
     failures: u64,
+    /// What ends its waits, and of which hop it is the link, if anything ends them.
+    bell: Option<(Arc<Bells, Global>, HopId)>,
     addresses: Snapshot<Addresses>,
 }
 
@@ -42,10 +49,36 @@ impl<C: Clock + Drop> UdpLink<C> {
                 clock,
                 waits: true,
                 failures: 0,
+                bell: None,
                 addresses: Snapshot::of(addresses),
             }),
             Err(_) => Err(LinkFault),
         }
+    }
+
+    /// The same as the link of a hop, whose bell ends its waits.
+    pub(crate) fn with_bell(mut self, bells: Arc<Bells, Global>, hop: HopId) -> UdpLink<C>
+        ensures { result ≡ record self { bell = result.bell } }
+    {
+        self.bell = Some((bells, hop));
+        self
+    }
+
+    /// Receives once, and waits unless its bell was rung since its last wait.
+    fn receive_waiting(&mut self, buffer: &mut [u8]) -> io::Result<Option<usize>>
+        ensures bound { IfOk result (λ found. IfSome found (λ count. count ≤ length buffer.new)) }
+        ensures same { self.new ≡ record self.old { waits = self.new.waits } }
+        ensures spent { self.old.failures ≡ 2 ^ 64 - 1 → IsErr result }
+    {
+        let waits = match &self.bell {
+            Some((bells, hop)) => bells.begin_wait(*hop),
+            None => true,
+        };
+        let outcome = self.receive(waits, buffer);
+        if let Some((bells, hop)) = &self.bell {
+            bells.end_wait(*hop);
+        }
+        outcome
     }
 
     /// Whether the count of failures stands at its last value, where each call fails.
@@ -77,6 +110,7 @@ impl<C: Clock + Drop> UdpLink<C> {
         }
         self.set_waits(waits)?;
         match self.socket.recv(buffer) {
+            Ok(0) => Ok(None),
             Ok(count) => Ok(Some(count)),
             Err(error) if is_silence(error.kind()) => Ok(None),
             Err(error) => Err(error),
@@ -108,7 +142,7 @@ impl<C: Clock + Drop> Link for UdpLink<C> {
         ensures no_failure { OnOk result (self.new.failures ≡ self.old.failures) }
         ensures spent { self.old.failures ≡ 2 ^ 64 - 1 → IsErr result }
     {
-        match self.receive(true, buffer) {
+        match self.receive_waiting(buffer) {
             Ok(found) => Ok(found),
             Err(_) => {
                 // A receive that fails at once is not to keep the processor busy.

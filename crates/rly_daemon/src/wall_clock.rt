@@ -3,19 +3,22 @@ ghost use Rattle.rly_daemon.specs.WallClock.{all_on, goes_on, is_read_at, left_a
 ghost use Rattle.rly_threads.specs.declared.turn.Point.{Point as APoint};
 ghost use Rattle.rly_threads.specs.Memory.{handed_of};
 
+use crate::bells::Bells;
 use http_server::Log;
 use rly_threads::{Go, Point, Turn, Worker};
-use std::sync::Wait;
+use std::alloc::Global;
+use std::sync::{Arc, Wait};
 use std::time::{Clock, Duration};
 
 /// A turn that hands its worker the wall clock, and microseconds of a clock that never falls. It ends the worker after a
-/// number of turns.
+/// number of turns, and rings the bell of each hop that it is told of.
 #[derive(Drop)]
 pub struct WallClock<C: Clock + Drop> {
     clock: C,
     now: u64,
     since: u64,
     left: Option<u64>,
+    bells: Option<Arc<Bells, Global>>,
     // What it handed out, which takes no memory.
     handed: Log<(Worker, Point), Go>,
     // Where its turns are without end it hands out no end.
@@ -33,7 +36,23 @@ impl<C: Clock + Drop> WallClock<C> {
             now: 0,
             since: 0,
             left,
+            bells: None,
             handed: Log::new(),
+        }
+    }
+
+    /// The same with the bells of the hops, for a worker that takes datagrams.
+    pub(crate) fn with_bells(mut self, bells: Arc<Bells, Global>) -> WallClock<C>
+        ensures { result ≡ record self { bells = result.bells } }
+    {
+        self.bells = Some(bells);
+        self
+    }
+
+    /// Rings the bell of the hop that a datagram was taken for.
+    fn ring(&self, point: Point) {
+        if let (Point::Taken(hop), Some(bells)) = (point, &self.bells) {
+            bells.ring(hop);
         }
     }
 
@@ -62,7 +81,7 @@ impl<C: Clock + Drop> WallClock<C> {
                 };
             }
             Point::Heard | Point::Answered => self.read(),
-            Point::Call => {}
+            Point::Call | Point::Taken(_) => {}
         }
         Go {
             now: self.now,
@@ -101,6 +120,7 @@ impl<C: Clock + Drop> Turn for WallClock<C> {
         ensures tells { TellsMore (endless_tells self.old.left self.old.handed) (endless_tells self.new.left self.new.handed) ((worker, point, result) ∷ []) }
     {
         let _ = rt;
+        self.ring(point);
         let go = self.go(point);
         self.handed = self.handed.and(&(worker, point), &go);
         go

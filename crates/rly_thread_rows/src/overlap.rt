@@ -88,7 +88,7 @@ impl<'a, C: Clock + Drop> Turn for Held<'a, C> {
         let _ = worker;
         match point {
             Point::Start => self.turns = self.turns.saturating_add(1),
-            Point::Heard => {}
+            Point::Heard | Point::Taken(_) => {}
             Point::Call => {
                 self.calls = self.calls.saturating_add(1);
                 if self.is_held && self.calls == 1 {

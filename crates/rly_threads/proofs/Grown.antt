@@ -26,11 +26,11 @@ nowhere = record { now = 0; since = 0; on = false }
 
 -- a worker made no call
 abbrev pub no_call : Made
-no_call = record { refused = false; outcome = Err Lost; before = nowhere; after = nowhere }
+no_call = record { refused = false; outcome = Err Lost; before = nowhere; after = nowhere; taken = nowhere }
 
 -- a worker made none, since memory was refused
 abbrev pub refused_call : Made
-refused_call = record { refused = true; outcome = Err Lost; before = nowhere; after = nowhere }
+refused_call = record { refused = true; outcome = Err Lost; before = nowhere; after = nowhere; taken = nowhere }
 
 pub did_nothing : {C : Type 0} (told : EndsView) (c : C) → Did told told c (nothing_done c)
 did_nothing told c = record {

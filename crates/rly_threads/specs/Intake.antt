@@ -1,5 +1,5 @@
 -- A receiving worker, turn by turn (docs/PROTOCOL.md, "The receiving core").
-use Rattle.std.specs.Prelude.{ℕ, List, [], ◌∷◌, nat_lt, if◌then◌else◌, Bool, true, false, length}
+use Rattle.std.specs.Prelude.{ℕ, List, [], ◌∷◌, ◌++◌, nat_lt, if◌then◌else◌, Bool, true, false, length}
 use Rattle.std.specs.Prelude.{Option, Some, None, unwrap_or, Ok, Err}
 use Rattle.byteorder.specs.Endian.{big_number}
 use Rattle.rly_core.specs.declared.ids.HopId.{HopId}
@@ -22,7 +22,7 @@ use Rattle.rly_machine.specs.declared.reply.Reply.{Reply}
 use Rattle.rly_machine.specs.declared.reply.Reply.TheVariants as reply
 use Rattle.rly_plan.specs.ContactPlan.{ContactPlan, hop_for, link}
 use Rattle.rly_threads.specs.declared.turn.Worker.TheVariants as worker
-use Rattle.rly_threads.specs.Turns.{CallOutcome, Done, Given, Made, around_call, message_in, nothing_done}
+use Rattle.rly_threads.specs.Turns.{CallOutcome, Done, Given, Made, around_call, at_taking, message_in, nothing_done}
 use Rattle.rly_threads.specs.Turns.{packets_of, with_hearing, with_start}
 
 -- the peer that is received from, and the plan by which its datagrams are routed
@@ -40,11 +40,8 @@ hop_of_payload plan payload =
     else unwrap_or (hop_for plan (big_number 2 payload)) (record { 0 = 0 })
 
 -- the command that takes a datagram, stamped by the link clock of its hop
-abbrev pub take_ask : Intake → ℕ → ℕ → List ℕ → Ask
-take_ask w now number payload =
-    Command
-    (command.Take w.peer number (hop_of_payload w.plan payload)
-    (link w.plan (hop_of_payload w.plan payload) now) payload)
+abbrev pub take_ask : Intake → ℕ → ℕ → HopId → List ℕ → Ask
+take_ask w now number hop payload = Command (command.Take w.peer number hop (link w.plan hop now) payload)
 
 -- what the core is told of the reply to its Take
 abbrev pub answer_in : Reply → TakeAnswer
@@ -64,6 +61,15 @@ intake_event (Ok a) = Answered (answer_in a.reply)
 intake_event (Err (error.Closed back)) = Answered (answer.Refused refusal.Closed)
 intake_event (Err error.Lost) = Lost
 
+-- whether a datagram was taken
+abbrev pub is_taken : InEvent (List ℕ) → Bool
+is_taken (Answered answer.Taken) = true
+is_taken (Answered (answer.Already last)) = false
+is_taken (Answered (answer.Refused refusal)) = false
+is_taken (Answered answer.Other) = false
+is_taken (Heard m) = false
+is_taken Lost = false
+
 -- what is sent by an action
 abbrev pub intake_packets : Option (InAction (List ℕ)) → List (List ℕ)
 intake_packets (Some (Send m)) = packets_of m
@@ -75,20 +81,22 @@ abbrev pub intake_on_hearing : Receiver → Option (Message (List ℕ)) → Rece
 intake_on_hearing r None = (r, None)
 intake_on_hearing r (Some m) = receiving_step r (Heard m)
 
--- the answer is given to the core, and what it names then is sent
-abbrev pub intake_on_answer : Intake → Made → Ask → ReceivingResult → Done Receiver
-intake_on_answer w made ask left = record {
+-- The answer is given to the core, and what it names then is sent. Where a datagram was taken, and only there, the worker
+-- says so, once, and for which hop.
+abbrev pub intake_on_answer : Intake → Made → HopId → Ask → InEvent (List ℕ) → ReceivingResult → Done Receiver
+intake_on_answer w made hop ask told left = record {
   core = left.0;
   heard = [];
   asked = (ask, made.outcome) ∷ [];
   sent = intake_packets left.1;
-  handed = around_call (worker.Receiver w.peer) made;
+  handed = around_call (worker.Receiver w.peer) made ++ at_taking (worker.Receiver w.peer) hop (is_taken told) made.taken;
 }
 
 -- the call is made, unless memory was refused for its payload: then the core is told so
-abbrev pub intake_on_call : Intake → Made → Receiver → Ask → Bool → Done Receiver
-intake_on_call w made r ask true = nothing_done (receiving_step r (Answered (answer.Refused refusal.OutOfMemory))).0
-intake_on_call w made r ask false = intake_on_answer w made ask (receiving_step r (intake_event made.outcome))
+abbrev pub intake_on_call : Intake → Made → Receiver → HopId → Ask → Bool → Done Receiver
+intake_on_call w made r hop ask true = nothing_done (receiving_step r (Answered (answer.Refused refusal.OutOfMemory))).0
+intake_on_call w made r hop ask false =
+    let told = intake_event made.outcome in intake_on_answer w made hop ask told (receiving_step r told)
 
 -- the number and the payload of the datagram that an action takes
 abbrev pub datagram_in : Option (InAction (List ℕ)) → Option (ℕ × List ℕ)
@@ -104,7 +112,8 @@ lacks_memory made (byte ∷ payload) = made.refused
 -- the core's Take is asked
 abbrev pub intake_on_take : Intake → ℕ → Made → Receiver → Option (ℕ × List ℕ) → Done Receiver
 intake_on_take w now made r (Some taken) =
-    intake_on_call w made r (take_ask w now taken.0 taken.1) (lacks_memory made taken.1)
+    let hop = hop_of_payload w.plan taken.1 in
+    intake_on_call w made r hop (take_ask w now taken.0 hop taken.1) (lacks_memory made taken.1)
 intake_on_take w now made r None = nothing_done r
 
 abbrev pub intake_on_action : Intake → ℕ → Made → Receiver → Option (InAction (List ℕ)) → Done Receiver

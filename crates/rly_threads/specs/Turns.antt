@@ -1,6 +1,7 @@
 -- A worker over its turns: what it was given, and what it did.
 use Rattle.std.specs.Prelude.{ℕ, List, [], ◌∷◌, ◌++◌, Bool, true, false, Option, Some, None, Result}
 use Rattle.std.specs.Result.{result_ok}
+use Rattle.rly_core.specs.declared.ids.HopId.{HopId}
 use Rattle.rly_core.specs.declared.refusal.Refusal.{Refusal}
 use Rattle.rly_hop.specs.declared.message.Message.{Message}
 use Rattle.rly_hop.specs.Reading.{reading}
@@ -22,13 +23,14 @@ CallOutcome = Result Answer CallError
 abbrev pub Handed : Type 0
 Handed = Worker × Point × Go
 
--- What became of the call that a worker made in a turn, if it made one, and what it was handed before it and after it.
--- Where memory was refused for the bytes of a payload the call was not made.
+-- What became of the call that a worker made in a turn, if it made one, what it was handed before it and after it, and what
+-- where it said that a datagram was taken. Where memory was refused for the bytes of a payload the call was not made.
 pub record Made : Type 0 where
   pub refused : Bool
   pub outcome : CallOutcome
   pub before : Go
   pub after : Go
+  pub taken : Go
 
 -- what a worker was given in a turn: what it was handed at its start, the packet that its link gave, if it gave one, what
 -- it was handed after that, which is the turn's moment, and what became of its call
@@ -109,3 +111,8 @@ with_start worker given d = record {
 -- what a worker is handed before a call and after it
 abbrev pub around_call : Worker → Made → List Handed
 around_call worker made = (worker, point.Call, made.before) ∷ (worker, point.Answered, made.after) ∷ []
+
+-- what a worker is handed where it says that a datagram was taken for a hop: nothing if none was
+abbrev pub at_taking : Worker → HopId → Bool → Go → List Handed
+at_taking worker hop true go = (worker, point.Taken hop, go) ∷ []
+at_taking worker hop false go = []

@@ -4,11 +4,12 @@ ghost use Rattle.rly_hop.specs.Payloads.{message_bytes};
 ghost use Rattle.rly_threads.specs.declared.turn.Go.{Go as AGo};
 ghost use Rattle.rly_threads.specs.declared.turn.Point.{Point as APoint};
 ghost use Rattle.rly_threads.specs.Ends.{TellsMore, hearing, packet_in};
-ghost use Rattle.rly_threads.specs.Turns.{has_some, message_in, packets_of};
+ghost use Rattle.rly_threads.specs.Turns.{at_taking, has_some, message_in, packets_of};
 
 use crate::desk::Desk;
 use crate::link::Link;
 use crate::turn::{Go, Point, Turn, Worker};
+use rly_core::HopId;
 use rly_hop::{MAX_MESSAGE, Message, read_message, write_message};
 use rly_line::CallError;
 use rly_machine::{Answer, Ask};
@@ -112,6 +113,16 @@ impl<L: Link, K: Desk, T: Turn> Ends<L, K, T> {
         let outcome = self.desk.call(rt, ask);
         let go = self.between(rt, worker, Point::Answered);
         (outcome, go)
+    }
+
+    /// Says that a datagram was taken for a hop, if one was.
+    pub(crate) fn say_taken<R: Wait>(&mut self, rt: &R, worker: Worker, hop: HopId, is_taken: bool)
+        ensures told { (go : AGo) × TellsMore self.old.handed self.new.handed (at_taking worker hop is_taken go) }
+        ensures same { self.new ≡ record self.old { handed = self.new.handed } }
+    {
+        if is_taken {
+            self.between(rt, worker, Point::Taken(hop));
+        }
     }
 }
 

@@ -60,7 +60,7 @@ impl MemTurn {
         ensures now { self.old.now ≤ self.new.now }
     {
         match point {
-            Point::Start | Point::Call => {}
+            Point::Start | Point::Call | Point::Taken(_) => {}
             Point::Heard => {
                 self.now = self.next;
                 self.next = self.next.saturating_add(self.step);

@@ -3,7 +3,7 @@ ghost use Rattle.std.specs.Option.{option_map};
 ghost use Rattle.rly_hop.specs.Payloads.{in_action_bytes, in_event_bytes, message_bytes};
 ghost use Rattle.rly_hop.specs.Receiving.{receiving_step};
 ghost use Rattle.rly_threads.specs.Ends.{TellsMore};
-ghost use Rattle.rly_threads.specs.Intake.{answer_in, datagram_in, intake_event, hop_of_payload, intake, intake_done, intake_on_action, intake_on_answer, intake_on_hearing, intake_packets, take_ask};
+ghost use Rattle.rly_threads.specs.Intake.{answer_in, datagram_in, intake_event, hop_of_payload, intake, intake_done, intake_on_action, intake_on_answer, intake_on_hearing, intake_packets, is_taken, take_ask};
 ghost use Rattle.rly_threads.specs.Relay.{HasReceived};
 ghost use Rattle.rly_threads.specs.HelpersTurns.{Did};
 ghost use Rattle.rly_threads.specs.Turns.{Given, Made};
@@ -104,8 +104,9 @@ impl<'a> Intake<'a> {
         };
         match Payload::copy_of(alloc, payload) {
             Ok(payload) => {
-                let ask = self.take_ask(now, number, payload);
-                self.ask(rt, ask, ends);
+                let hop = hop_of_payload(self.plan, payload.as_slice());
+                let ask = self.take_ask(now, number, hop, payload);
+                self.ask(rt, hop, ask, ends);
             }
             Err(_) => {
                 let refused = TakeAnswer::Refused(Refusal::OutOfMemory);
@@ -114,28 +115,32 @@ impl<'a> Intake<'a> {
         }
     }
 
-    /// Makes a call, gives the core the answer, and sends what it names.
+    /// Makes the call that takes a datagram for a hop, says so if the datagram was taken, gives the core the answer, and
+    /// sends what it names.
     fn ask<R: Wait, L: Link, K: Desk, T: Turn>(
         &mut self,
         rt: &R,
+        hop: HopId,
         ask: Ask,
         ends: &mut Ends<L, K, T>,
     )
         ensures plan { self.new.plan ≡ self.old.plan }
         ensures peer { self.new.peer ≡ self.old.peer }
         ensures done { (made : Made) × (made.refused ≡ false) × Did ends.old ends.new self.new.core
-            (intake_on_answer (intake self.old.plan.now self.old.peer) made ask (receiving_step self.old.core (intake_event made.outcome))) }
+            (intake_on_answer (intake self.old.plan.now self.old.peer) made hop ask (intake_event made.outcome) (receiving_step self.old.core (intake_event made.outcome))) }
     {
-        let (outcome, _go) = ends.call(rt, Worker::Receiver(self.peer), ask);
-        let action = self.core.step(intake_event(&outcome));
+        let worker = Worker::Receiver(self.peer);
+        let (outcome, _go) = ends.call(rt, worker, ask);
+        let event = intake_event(&outcome);
+        ends.say_taken(rt, worker, hop, is_taken(&event));
+        let action = self.core.step(event);
         send_named(action, ends);
     }
 
-    /// The command that takes a datagram which arrived under a number.
-    fn take_ask(&self, now: u64, number: u64, payload: Payload) -> Ask
-        ensures { result ≡ take_ask (intake self.now.plan.now self.now.peer) now number payload }
+    /// The command that takes a datagram for a hop which arrived under a number.
+    fn take_ask(&self, now: u64, number: u64, hop: HopId, payload: Payload) -> Ask
+        ensures { result ≡ take_ask (intake self.now.plan.now self.now.peer) now number hop payload }
     {
-        let hop = hop_of_payload(self.plan, payload.as_slice());
         Ask::Command(Command::Take {
             peer: self.peer,
             number,
@@ -190,6 +195,13 @@ fn intake_event<'a>(outcome: &Result<Answer, CallError>) -> InEvent<&'a [u8]>
         Err(CallError::Closed(_)) => InEvent::Answered(TakeAnswer::Refused(Refusal::Closed)),
         Err(CallError::Lost) => InEvent::Lost,
     }
+}
+
+/// Whether a datagram was taken.
+fn is_taken(event: &InEvent<&[u8]>) -> bool
+    ensures { result ≡ is_taken (in_event_bytes event.now) }
+{
+    matches!(event, InEvent::Answered(TakeAnswer::Taken))
 }
 
 fn answer_in(reply: &Reply) -> TakeAnswer

@@ -28,6 +28,8 @@ pub enum Point {
     Call,
     /// After a call, once it was answered or found the line closed.
     Answered,
+    /// After a call that took a datagram for this hop, whose sender has something to do now.
+    Taken(HopId),
 }
 
 /// What a worker is handed.
