@@ -1,5 +1,6 @@
 mod RelayAnswers
 mod RelayBegins
+mod RelayBooks
 mod RelayCalls
 mod RelayDevice
 mod RelayEvents

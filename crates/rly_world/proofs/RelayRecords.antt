@@ -20,7 +20,7 @@ use Rattle.rly_record.specs.Spelling.{HasRecord}
 use Rattle.rly_journal.specs.Standing.{Commands}
 
 -- a step that counts was refused by no check
-unrefused : (refusal : Option Reply) (s : State (List ℕ)) (accepted : State (List ℕ) × Reply) → (unless refusal s accepted).0.seq ≡ s.seq + 1 → refusal ≡ None
+pub unrefused : (refusal : Option Reply) (s : State (List ℕ)) (accepted : State (List ℕ) × Reply) → (unless refusal s accepted).0.seq ≡ s.seq + 1 → refusal ≡ None
 unrefused None s accepted counts = refl
 unrefused (Some reply) s accepted counts = absurd (omega (arith, counts))
 

@@ -1,11 +1,43 @@
 -- What is true of a relay after every list of events.
-use Rattle.std.specs.Prelude.{◌≤◌, ℕ, List, length, take}
-use Rattle.rly_journal.specs.Standing.{Stands}
+use Rattle.std.specs.Prelude.{◌≡◌, ◌==◌, ◌+◌, ◌≤◌, ℕ, max, if◌then◌else◌, IsTrue, List, [], ◌∷◌, length, take}
+use Rattle.rly_core.specs.declared.ids.HopId.{HopId}
+use Rattle.rly_core.specs.declared.params.Params.{Params}
+use Rattle.rly_machine.specs.declared.command.Command.TheVariants.{Pick, Release, Take}
+use Rattle.rly_machine.specs.Custody.{KeepsCustody, account_along}
+use Rattle.rly_machine.specs.State.{has_hop, hop_at, new_state}
+use Rattle.rly_journal.specs.Standing.{Commands, Stands}
 use Rattle.rly_world.specs.RelayWorld.{World, state_from}
 
--- an image stands for the state after the first n accepted commands, and no answer that was put has a later position
+-- the numbers up to which the Releases of a hop went, in order
+abbrev pub releases_of : HopId → Commands → List ℕ
+releases_of hop [] = []
+releases_of hop (Release to number ∷ commands) =
+    if to.0 == hop.0 then number ∷ releases_of hop commands else releases_of hop commands
+releases_of hop (Take peer number to stamp payload ∷ commands) = releases_of hop commands
+releases_of hop (Pick to now ∷ commands) = releases_of hop commands
+
+-- the greatest of a number and others
+abbrev pub greatest_of : ℕ → List ℕ → ℕ
+greatest_of n [] = n
+greatest_of n (m ∷ numbers) = greatest_of (max n m) numbers
+
+-- the books of a hop after accepted commands of a new spool: each id that was taken is in the queue, in flight, among
+-- the dropped ids of one Pick, or released; what is released went into flight under a number up to the greatest that a
+-- Release covered; and the counts add up
+pub record KeepsBooks (params : Params) (commands : Commands) (hop : HopId) : Type 0 where
+  pub custody : KeepsCustody (hop_at (state_from params commands) hop)
+      (account_along length hop (new_state params) commands)
+  pub released : (hop_at (state_from params commands) hop).released ≡ greatest_of 0 (releases_of hop commands)
+  pub balance : (hop_at (state_from params commands) hop).taken
+      ≡ length (hop_at (state_from params commands) hop).queue + length (hop_at (state_from params commands) hop).flight
+      + (hop_at (state_from params commands) hop).dropped + (hop_at (state_from params commands) hop).released
+
+-- an image stands for the state after the first n accepted commands, which count n; no answer that was put has a later
+-- position; and the books of each hop are kept
 pub record HoldsTold (w : World) (image : List ℕ) : Type 0 where
   pub n : ℕ
   pub told : w.told ≤ n
   pub most : n ≤ length w.accepted
   pub stands : Stands image (state_from w.params (take n w.accepted))
+  pub count : (state_from w.params (take n w.accepted)).seq ≡ n
+  pub books : (hop : HopId) → IsTrue (has_hop (state_from w.params []) hop) → KeepsBooks w.params (take n w.accepted) hop
