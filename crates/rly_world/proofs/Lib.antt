@@ -4,6 +4,7 @@ mod RelayBooks
 mod RelayCalls
 mod RelayDevice
 mod RelayEvents
+mod RelayGoesOn
 mod RelayHolds
 mod RelayPhases
 mod RelayRecords

@@ -1,5 +1,5 @@
 -- A segment that is due may be opened, and where none is due accepted commands find room.
-use Rattle.std.proofs.Common.{ℕ, ◌≡◌, ◌≢◌, ◌≤◌, ◌<◌, ◌+◌, ◌-◌, ◌*◌, ◌∙◌, List, [], ◌∷◌, length, arith, ap, refl, ⊎_elim}
+use Rattle.std.proofs.Common.{ℕ, ◌≡◌, ◌≢◌, ◌≤◌, ◌<◌, ◌+◌, ◌-◌, ◌*◌, ◌∙◌, List, [], ◌∷◌, length, arith, ap, refl, ⊎_elim, ◌↔◌, sym, subst}
 use Rattle.std.proofs.lemmas.Bool.{cases_lt}
 use Rattle.rly_machine.specs.Fold.{AllAccepted, fold}
 use Rattle.rly_machine.specs.Sound.{IsSound}
@@ -11,6 +11,9 @@ use Rattle.rly_reclaim.specs.Room.{IsDue, group_room}
 use Rattle.rly_record.specs.Spelling.{body_of}
 use Rattle.rly_segment.specs.Heads.{segment_place}
 use Rattle.rly_journal.specs.Standing.{AreAccepted, Commands, HoldGroups, IsStanding, Standing, first_of, gate_of, next_gate, replayed, standing_end, state_in}
+use Rattle.rly_journal.specs.declared.tail.Tail.{Tail}
+use Rattle.rly_journal.specs.Log.{IsFull, IsLogged}
+use Rattle.rly_world.specs.RelayPhases.{IsDueIn}
 use Rattle.rly_journal.proofs.Ending.{head_for}
 use Rattle.rly_journal.proofs.Frame.{gate_above}
 use Rattle.rly_journal.proofs.Gathering.{spelled_most}
@@ -72,3 +75,16 @@ roomy_group {image} x commands stands sound roomy some few accepted =
       small = omega (arith, most);
       room = omega (arith, room_left x roomy, most, above, length-frame (body_of commands));
     }
+
+-- a segment is due by what the device reads exactly where it is due by the end that a journal keeps
+same_due : {image : List ℕ} (tail : Tail) (s : State (List ℕ)) (logged : IsLogged image tail s) → IsDue logged.x.geometry (offset_of logged.x) ≡ IsFull tail
+same_due tail s logged =
+    ap (λ g. IsDue g (gate_of logged.x - segment_place g logged.x.segment)) (sym logged.ends.geometry)
+    ∙ ap (λ n. IsDue tail.geometry (gate_of logged.x - segment_place tail.geometry n)) (sym logged.ends.segment)
+    ∙ ap (λ n. IsDue tail.geometry (n - segment_place tail.geometry tail.segment)) (sym logged.ends.gate)
+
+pub due_in_image : (image : List ℕ) (tail : Tail) (s : State (List ℕ)) → IsLogged image tail s → IsDueIn image ↔ IsFull tail
+due_in_image image tail s logged = (
+  λ due. subst (λ A. A) (same_due tail s logged) (subst (λ y. IsDue y.geometry (offset_of y)) (one_standing due.0 logged.x due.1 logged.stands) due.2),
+  λ full. (logged.x, logged.stands, subst (λ A. A) (sym (same_due tail s logged)) full),
+)

@@ -39,7 +39,7 @@ from_round : (P : World → Type 0) (w : World) (round : Option Round) → w.rou
 from_round P w round is = subst (λ r. P (record w { round = r })) (sym is)
 
 -- a round that stands somewhere
-at_stage : (w : World) (round : Round) (stage : Stage) → w.round ≡ Some round → round.stage ≡ stage → w.round ≡ round_at stage round.batches round.answers
+pub at_stage : (w : World) (round : Round) (stage : Stage) → w.round ≡ Some round → round.stage ≡ stage → w.round ≡ round_at stage round.batches round.answers
 at_stage w round stage is at = is ∙ ap (λ s. Some (record round { stage = s })) at
 
 -- the accepted commands lead to a sound state, which counts them

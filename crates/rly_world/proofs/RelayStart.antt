@@ -33,7 +33,7 @@ new_held g seats bytes is = record {
   placed = refl;
 }
 
-holds : (g : Geometry) (seats : ℕ) (bytes : List ℕ) (events : List Event) (w : World) → IsFormatted g bytes → Run (new_world g.params seats bytes) events w → IsHeld w
+pub holds : (g : Geometry) (seats : ℕ) (bytes : List ℕ) (events : List Event) (w : World) → IsFormatted g bytes → Run (new_world g.params seats bytes) events w → IsHeld w
 holds g seats bytes events w is run = run_held (new_world g.params seats bytes) w events run (new_held g seats bytes is)
 
 -- a prefix of the accepted commands

@@ -12,8 +12,8 @@ use Rattle.rly_machine.specs.History.{accepted_of, is_failure, state_after}
 use Rattle.rly_machine.specs.State.{State}
 use Rattle.rly_journal.specs.Journal.{holds_command}
 use Rattle.rly_journal.specs.Rounds.{AreServed, refusals}
-use Rattle.rly_journal.specs.Standing.{Commands, Stands}
-use Rattle.rly_world.specs.RelayPhases.{IsDueIn, MayOpen, MaySync, MayWrite}
+use Rattle.rly_journal.specs.Standing.{Commands, IsStanding, Standing, Stands}
+use Rattle.rly_world.specs.RelayPhases.{IsDueIn, IsNeeded, MayOpen, MaySync, MayWrite, bytes_of, place_of}
 use Rattle.rly_world.specs.RelayWorld.{Answering, Batch, Body, Device, Gate, Head, IsImageOf, Phase, Ready, Round, Seal}
 use Rattle.rly_world.specs.RelayWorld.{SeatView, Stage, Switch, Taking, World, Writing, asked_of, batches_in, calls_of}
 use Rattle.rly_world.specs.RelayWorld.{logged, new_seat, seen_of, state_from}
@@ -294,3 +294,13 @@ Happens old event new =
 abbrev pub Run : World → List Event → World → Type 0
 Run old [] new = new ≡ old
 Run old (event ∷ events) new = (mid : World) × Happens old event mid × Run mid events new
+
+-- a relay in a phase is never stuck: the phase's own bytes may be written, and then it may be synced; where a gate reads
+-- closed already, it may be synced at once
+pub record GoesOn (w : World) (phase : Phase) : Type 0 where
+  pub x : Standing
+  pub stands : IsStanding w.device.synced x
+  pub write : IsNeeded phase x (seen_of w.device) → MayCall w (Write (place_of phase x) (bytes_of phase x (logged w)))
+  pub then_sync : IsNeeded phase x (seen_of w.device)
+      → MayCall (called w (Write (place_of phase x) (bytes_of phase x (logged w)))) Sync
+  pub sync : (IsNeeded phase x (seen_of w.device) → ⊥) → MayCall w Sync

@@ -7,4 +7,4 @@
 
 mod relay_law;
 
-pub use relay_law::law_relay;
+pub use relay_law::{law_device, law_due, law_relay, law_relay_goes_on};

@@ -1,15 +1,41 @@
-//! What holds of one relay after every list of events, on a function without a body.
+//! What holds of one relay after every list of events, each law on a function without a body.
 
-ghost use Rattle.std.specs.Prelude.{List, ℕ};
+ghost use Rattle.std.specs.Prelude.{◌≡◌, ◌↔◌, List, Some, ℕ};
 ghost use Rattle.rly_core.specs.declared.params.Geometry.{Geometry as AGeometry};
+ghost use Rattle.rly_journal.specs.declared.tail.Tail.{Tail as ATail};
+ghost use Rattle.rly_journal.specs.Log.{IsFull, IsLogged};
+ghost use Rattle.rly_disk.specs.Trace.{DeviceEvent, images_after, seen_after};
+ghost use Rattle.rly_machine.specs.State.{State};
 ghost use Rattle.rly_segment.specs.Formatted.{IsFormatted};
+ghost use Rattle.rly_world.specs.RelayPhases.{IsDueIn};
 ghost use Rattle.rly_world.specs.RelayLaw.{HoldsTold};
-ghost use Rattle.rly_world.specs.RelaySteps.{Event, Run};
-ghost use Rattle.rly_world.specs.RelayWorld.{IsImageOf, World, new_world};
+ghost use Rattle.rly_world.specs.RelaySteps.{Event, GoesOn, Run};
+ghost use Rattle.rly_world.specs.RelayWorld.{Device, IsImageOf, Phase, Round, World, Writing, asked_of, new_world, seen_of};
 
 /// From a formatted device with nothing pending, after every list of events: whatever a crash now may leave stands for the
 /// state after a prefix of the accepted commands, which holds every command that was answered as accepted.
 pub fn law_relay()
     ensures { (g : AGeometry) (seats : ℕ) (bytes : List ℕ) (events : List Event) (w : World) → IsFormatted g bytes
         → Run (new_world g.params seats bytes) events w → (image : List ℕ) → IsImageOf w.device image → HoldsTold w image }
+{}
+
+/// No round is stuck between the calls of its device: after every list of events, what is left of a phase may be written
+/// and synced.
+pub fn law_relay_goes_on()
+    ensures { (g : AGeometry) (seats : ℕ) (bytes : List ℕ) (events : List Event) (w : World) (round : Round) (phase : Phase)
+        → IsFormatted g bytes → Run (new_world g.params seats bytes) events w
+        → w.round ≡ Some round → round.stage ≡ Writing phase → GoesOn w phase }
+{}
+
+/// A segment is due by what the device reads exactly where the journal that ends there says so.
+pub fn law_due()
+    ensures { (image : List ℕ) (tail : ATail) (s : State (List ℕ)) → IsLogged image tail s → IsDueIn image ↔ IsFull tail }
+{}
+
+/// The device of a relay's world goes on as an honest disk does: a call, done or failed, makes of what a read gives and of
+/// what a crash may leave what the disk model says.
+pub fn law_device()
+    ensures seen { (device : Device) (call : DeviceEvent) → seen_of (asked_of device call) ≡ seen_after call (seen_of device) }
+    ensures images { (device : Device) (call : DeviceEvent) (image : List ℕ) → IsImageOf (asked_of device call) image
+        ↔ images_after call (seen_of device) (IsImageOf device) image }
 {}
