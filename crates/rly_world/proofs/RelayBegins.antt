@@ -1,5 +1,6 @@
 -- A segment that is due may be opened, and where none is due accepted commands find room.
-use Rattle.std.proofs.Common.{ℕ, ◌≡◌, ◌≢◌, ◌≤◌, ◌<◌, ◌+◌, ◌-◌, ◌*◌, ◌∙◌, List, [], ◌∷◌, length, arith, ap, refl, ⊎_elim, ◌↔◌, sym, subst}
+use Rattle.std.proofs.Common.{ℕ, ◌≡◌, ◌≢◌, ◌≤◌, ◌<◌, ◌+◌, ◌-◌, ◌*◌, ◌∙◌, List, [], ◌∷◌, length, arith, ap, refl, ⊎_elim}
+use Rattle.std.proofs.Common.{◌↔◌, sym, subst}
 use Rattle.std.proofs.lemmas.Bool.{cases_lt}
 use Rattle.rly_machine.specs.Fold.{AllAccepted, fold}
 use Rattle.rly_machine.specs.Sound.{IsSound}
@@ -10,7 +11,8 @@ use Rattle.rly_gate.proofs.Frames.{length-frame}
 use Rattle.rly_reclaim.specs.Room.{IsDue, group_room}
 use Rattle.rly_record.specs.Spelling.{body_of}
 use Rattle.rly_segment.specs.Heads.{segment_place}
-use Rattle.rly_journal.specs.Standing.{AreAccepted, Commands, HoldGroups, IsStanding, Standing, first_of, gate_of, next_gate, replayed, standing_end, state_in}
+use Rattle.rly_journal.specs.Standing.{AreAccepted, Commands, HoldGroups, IsStanding, Standing, first_of, gate_of}
+use Rattle.rly_journal.specs.Standing.{next_gate, replayed, standing_end, state_in}
 use Rattle.rly_journal.specs.declared.tail.Tail.{Tail}
 use Rattle.rly_journal.specs.Log.{IsFull, IsLogged}
 use Rattle.rly_world.specs.RelayPhases.{IsDueIn}
@@ -29,11 +31,17 @@ replayed_params s [] = refl
 replayed_params s (commands ∷ groups) = replayed_params (fold length s commands) groups ∙ params_fold length s commands
 
 -- each group counts
-replayed_seq : (image : List ℕ) (end at : ℕ) (s : State (List ℕ)) (groups : List Commands) → AreAccepted s groups → HoldGroups image end at groups
+replayed_seq : (image : List ℕ) (end at : ℕ) (s : State (List ℕ)) (groups : List Commands) → AreAccepted s groups
+    → HoldGroups image end at groups
     → s.seq + length groups ≤ (replayed s groups).seq
 replayed_seq image end at s [] accepted holds = omega arith
 replayed_seq image end at s (commands ∷ groups) accepted holds =
-    omega (arith, replayed_seq image end (next_gate at commands) (fold length s commands) groups accepted.1 holds.2, seq_fold length s commands accepted.0, holds.0.0)
+    omega (
+      arith,
+      replayed_seq image end (next_gate at commands) (fold length s commands) groups accepted.1 holds.2,
+      seq_fold length s commands accepted.0,
+      holds.0.0,
+    )
 
 -- the offset of the first closed gate
 abbrev pub offset_of : Standing → ℕ
@@ -44,13 +52,16 @@ some_group : {image : List ℕ} (x : Standing) → IsStanding image x → IsDue 
 some_group {image} x stands due = by_groups x.groups refl
   where
     by_groups : (groups : List Commands) → x.groups ≡ groups → 1 ≤ length x.groups
-    by_groups [] none = absurd (omega (arith, due, stands.scanned.head.head.room, ap (λ l. gate_of (record x { groups = l })) none))
+    by_groups [] none =
+        absurd (omega (arith, due, stands.scanned.head.head.room, ap (λ l. gate_of (record x { groups = l })) none))
     by_groups (commands ∷ groups) some = omega (arith, ap length some)
 
-pub due_target : {image : List ℕ} (x : Standing) (segment : ℕ) → IsStanding image x → IsSound length (state_in x) → IsDue x.geometry (offset_of x)
+pub due_target : {image : List ℕ} (x : Standing) (segment : ℕ) → IsStanding image x → IsSound length (state_in x)
+    → IsDue x.geometry (offset_of x)
     → segment < x.geometry.segments → segment ≢ x.segment → IsTarget x segment
 due_target {image} x segment stands sound due there other =
-    let counted = replayed_seq image (standing_end x) (first_of x) x.checkpoint x.groups stands.scanned.accepted stands.scanned.groups in
+    let counted = replayed_seq image (standing_end x) (first_of x) x.checkpoint x.groups stands.scanned.accepted
+    stands.scanned.groups in
     record {
       there = there;
       other = other;
@@ -61,9 +72,11 @@ due_target {image} x segment stands sound due there other =
     }
 
 room_left : (x : Standing) → (IsDue x.geometry (offset_of x) → ⊥) → offset_of x + group_room ≤ x.geometry.length
-room_left x room = ⊎_elim (λ due. absurd (room due)) (λ left. left) (cases_lt x.geometry.length (offset_of x + group_room))
+room_left x room =
+    ⊎_elim (λ due. absurd (room due)) (λ left. left) (cases_lt x.geometry.length (offset_of x + group_room))
 
-pub roomy_group : {image : List ℕ} (x : Standing) (commands : Commands) → IsStanding image x → IsSound length (state_in x) → (IsDue x.geometry (offset_of x) → ⊥)
+pub roomy_group : {image : List ℕ} (x : Standing) (commands : Commands) → IsStanding image x
+    → IsSound length (state_in x) → (IsDue x.geometry (offset_of x) → ⊥)
     → 1 ≤ length commands → length commands ≤ 64 → AllAccepted length (state_in x) commands → IsGroup x commands
 roomy_group {image} x commands stands sound roomy some few accepted =
     let have = accepted_records (state_in x) commands sound accepted in
@@ -77,14 +90,17 @@ roomy_group {image} x commands stands sound roomy some few accepted =
     }
 
 -- a segment is due by what the device reads exactly where it is due by the end that a journal keeps
-same_due : {image : List ℕ} (tail : Tail) (s : State (List ℕ)) (logged : IsLogged image tail s) → IsDue logged.x.geometry (offset_of logged.x) ≡ IsFull tail
+same_due : {image : List ℕ} (tail : Tail) (s : State (List ℕ)) (logged : IsLogged image tail s)
+    → IsDue logged.x.geometry (offset_of logged.x) ≡ IsFull tail
 same_due tail s logged =
     ap (λ g. IsDue g (gate_of logged.x - segment_place g logged.x.segment)) (sym logged.ends.geometry)
     ∙ ap (λ n. IsDue tail.geometry (gate_of logged.x - segment_place tail.geometry n)) (sym logged.ends.segment)
     ∙ ap (λ n. IsDue tail.geometry (n - segment_place tail.geometry tail.segment)) (sym logged.ends.gate)
 
-pub due_in_image : (image : List ℕ) (tail : Tail) (s : State (List ℕ)) → IsLogged image tail s → IsDueIn image ↔ IsFull tail
+pub due_in_image : (image : List ℕ) (tail : Tail) (s : State (List ℕ)) → IsLogged image tail s
+    → IsDueIn image ↔ IsFull tail
 due_in_image image tail s logged = (
-  λ due. subst (λ A. A) (same_due tail s logged) (subst (λ y. IsDue y.geometry (offset_of y)) (one_standing due.0 logged.x due.1 logged.stands) due.2),
+  λ due. subst (λ A. A) (same_due tail s logged)
+      (subst (λ y. IsDue y.geometry (offset_of y)) (one_standing due.0 logged.x due.1 logged.stands) due.2),
   λ full. (logged.x, logged.stands, subst (λ A. A) (sym (same_due tail s logged)) full),
 )

@@ -1,5 +1,6 @@
 -- The books of a hop: what was released is what accepted Releases covered.
-use Rattle.std.proofs.Common.{ℕ, ◌≡◌, ◌≤◌, ◌<◌, ◌+◌, ◌-◌, ◌∙◌, max, cond, Bool, true, false, List, [], ◌∷◌, Option, Some, None, length, get_or, set, replicate, arith, ap, refl, sym, inl, inr}
+use Rattle.std.proofs.Common.{ℕ, ◌≡◌, ◌≤◌, ◌<◌, ◌+◌, ◌-◌, ◌∙◌, max, cond, Bool, true, false, List, [], ◌∷◌, Option}
+use Rattle.std.proofs.Common.{Some, None, length, get_or, set, replicate, arith, ap, refl, sym, inl, inr}
 use Rattle.std.specs.Prelude.{nat_eq}
 use Rattle.std.proofs.lemmas.Bool.{cases_eq, eq-eqb, ne_eqb}
 use Rattle.std.proofs.lemmas.List.{get_or-replicate, get_or-set_other, get_or-set_same, length-replicate}
@@ -33,7 +34,8 @@ record Released (s : State (List ℕ)) (to hop : HopId) (count : ℕ) (after : S
   own : to.0 ≡ hop.0 → (hop_at after hop).released ≡ count
   other : (to.0 ≡ hop.0 → ⊥) → (hop_at after hop).released ≡ (hop_at s hop).released
 
-released_at : (s : State (List ℕ)) (to hop : HopId) (h : HopState (List ℕ)) (lasts : List ℕ) → 0 < to.0 → to.0 ≤ length s.hops → 0 < hop.0
+released_at : (s : State (List ℕ)) (to hop : HopId) (h : HopState (List ℕ)) (lasts : List ℕ) → 0 < to.0
+    → to.0 ≤ length s.hops → 0 < hop.0
     → Released s to hop h.released (record (accept s to h) { lasts = lasts })
 released_at s to hop h lasts from below hop_from = record {
   own = λ same. ap (λ n. (get_or (set s.hops (to.0 - 1) h) (n - 1) new_hop).released) (sym same)
@@ -43,60 +45,78 @@ released_at s to hop h lasts from below hop_from = record {
 }
 
 -- a command that releases nothing
-released_still : (s : State (List ℕ)) (to hop : HopId) (after : State (List ℕ)) → Released s to hop (hop_at s to).released after → (hop_at after hop).released ≡ (hop_at s hop).released
+released_still : (s : State (List ℕ)) (to hop : HopId) (after : State (List ℕ))
+    → Released s to hop (hop_at s to).released after → (hop_at after hop).released ≡ (hop_at s hop).released
 released_still s to hop after left = elim (cases_eq to.0 hop.0) [
   | inl same ↦ left.own same ∙ ap (λ n. (get_or s.hops (n - 1) new_hop).released) same
   | inr differs ↦ left.other differs
 ]
 
 -- of a step that no check refused
-through : (refusal : Option Reply) (s : State (List ℕ)) (accepted : State (List ℕ) × Reply) (hop : HopId) (count : ℕ) → refusal ≡ None → (hop_at accepted.0 hop).released ≡ count
+through : (refusal : Option Reply) (s : State (List ℕ)) (accepted : State (List ℕ) × Reply) (hop : HopId) (count : ℕ)
+    → refusal ≡ None → (hop_at accepted.0 hop).released ≡ count
     → (hop_at (unless refusal s accepted).0 hop).released ≡ count
 through None s accepted hop count none is = is
 through (Some reply) s accepted hop count none is = let e : Some reply ≡ None = none in absurd cc
 
 -- the greater of two numbers that a Release covered
-covered : (h : HopState (List ℕ)) (number : ℕ) → h.released < number → (with_released h (covered_count h number)).released ≡ max h.released number
+covered : (h : HopState (List ℕ)) (number : ℕ) → h.released < number
+    → (with_released h (covered_count h number)).released ≡ max h.released number
 covered h number some = omega arith
 
-released_own : (s : State (List ℕ)) (to hop : HopId) (number : ℕ) (after : State (List ℕ)) → (hop_at s to).released < number
+released_own : (s : State (List ℕ)) (to hop : HopId) (number : ℕ) (after : State (List ℕ))
+    → (hop_at s to).released < number
     → Released s to hop (with_released (hop_at s to) (covered_count (hop_at s to) number)).released after
-    → (hop_at after hop).released ≡ cond (nat_eq to.0 hop.0) (max (hop_at s hop).released number) (hop_at s hop).released
+    → (hop_at after hop).released ≡ cond (nat_eq to.0 hop.0) (max (hop_at s hop).released number)
+    (hop_at s hop).released
 released_own s to hop number after some left = elim (cases_eq to.0 hop.0) [
   | inl same ↦ left.own same ∙ covered (hop_at s to) number some
       ∙ ap (λ n. max (get_or s.hops (n - 1) new_hop).released number) same
       ∙ sym (ap (λ b. cond b (max (hop_at s hop).released number) (hop_at s hop).released) (eq-eqb to.0 hop.0 same))
-  | inr differs ↦ left.other differs ∙ sym (ap (λ b. cond b (max (hop_at s hop).released number) (hop_at s hop).released) (ne_eqb to.0 hop.0 differs))
+  | inr differs ↦ left.other differs
+      ∙ sym (ap (λ b. cond b (max (hop_at s hop).released number) (hop_at s hop).released) (ne_eqb to.0 hop.0 differs))
 ]
 
-released_take : (s : State (List ℕ)) (peer : PeerId) (number : ℕ) (to : HopId) (stamp : ℕ) (payload : List ℕ) (hop : HopId) → 0 < hop.0
-    → is_accepted (step length s (Take peer number to stamp payload)).1 ≡ true → (hop_at (step length s (Take peer number to stamp payload)).0 hop).released ≡ (hop_at s hop).released
+released_take : (s : State (List ℕ)) (peer : PeerId) (number : ℕ) (to : HopId) (stamp : ℕ) (payload : List ℕ)
+    (hop : HopId) → 0 < hop.0
+    → is_accepted (step length s (Take peer number to stamp payload)).1 ≡ true
+    → (hop_at (step length s (Take peer number to stamp payload)).0 hop).released ≡ (hop_at s hop).released
 released_take s peer number to stamp payload hop from accepts =
-    let none = unrefused (take_refusal length s peer number to stamp (length payload)) s _ (counted length s (Take peer number to stamp payload) accepts) in
+    let none = unrefused (take_refusal length s peer number to stamp (length payload)) s _
+    (counted length s (Take peer number to stamp payload) accepts) in
     let may = may_take length s peer number to stamp (length payload) none in
     through (take_refusal length s peer number to stamp (length payload)) s _ hop (hop_at s hop).released none
-    (released_still s to hop _ (released_at s to hop (with_taken (hop_at s to) (s.seq + 1) stamp payload) (set s.lasts (peer.0 - 1) number) may.hop_from may.hop_to from))
+    (released_still s to hop _
+    (released_at s to hop (with_taken (hop_at s to) (s.seq + 1) stamp payload) (set s.lasts (peer.0 - 1) number)
+    may.hop_from may.hop_to from))
 
 released_pick : (s : State (List ℕ)) (to : HopId) (now : ℕ) (hop : HopId) → 0 < hop.0
-    → is_accepted (step length s (Pick to now)).1 ≡ true → (hop_at (step length s (Pick to now)).0 hop).released ≡ (hop_at s hop).released
+    → is_accepted (step length s (Pick to now)).1 ≡ true
+    → (hop_at (step length s (Pick to now)).0 hop).released ≡ (hop_at s hop).released
 released_pick s to now hop from accepts =
     let none = unrefused (pick_refusal s to now) s _ (counted length s (Pick to now) accepts) in
     let may = may_pick s to now none in
     through (pick_refusal s to now) s _ hop (hop_at s hop).released none
-    (released_still s to hop _ (released_at s to hop (with_picked (hop_at s to) now (outcome_of length s.params (hop_at s to) now)) s.lasts may.hop_from may.hop_to from))
+    (released_still s to hop _
+    (released_at s to hop (with_picked (hop_at s to) now (outcome_of length s.params (hop_at s to) now)) s.lasts
+    may.hop_from may.hop_to from))
 
 released_release : (s : State (List ℕ)) (to : HopId) (number : ℕ) (hop : HopId) → 0 < hop.0
     → is_accepted (step length s (Release to number)).1 ≡ true
-    → (hop_at (step length s (Release to number)).0 hop).released ≡ cond (nat_eq to.0 hop.0) (max (hop_at s hop).released number) (hop_at s hop).released
+    → (hop_at (step length s (Release to number)).0 hop).released ≡ cond (nat_eq to.0 hop.0)
+    (max (hop_at s hop).released number) (hop_at s hop).released
 released_release s to number hop from accepts =
     let none = unrefused (release_refusal s to number) s _ (counted length s (Release to number) accepts) in
     let may = may_release s to number none in
-    through (release_refusal s to number) s _ hop (cond (nat_eq to.0 hop.0) (max (hop_at s hop).released number) (hop_at s hop).released) none
+    through (release_refusal s to number) s _ hop
+    (cond (nat_eq to.0 hop.0) (max (hop_at s hop).released number) (hop_at s hop).released) none
     (released_own s to hop number _ may.some
-    (released_at s to hop (with_released (hop_at s to) (covered_count (hop_at s to) number)) s.lasts may.hop_from may.hop_to from))
+    (released_at s to hop (with_released (hop_at s to) (covered_count (hop_at s to) number)) s.lasts may.hop_from
+    may.hop_to from))
 
 one_more : (b : Bool) (released number : ℕ) (numbers : List ℕ)
-    → greatest_of (cond b (max released number) released) numbers ≡ greatest_of released (cond b (number ∷ numbers) numbers)
+    → greatest_of (cond b (max released number) released) numbers ≡ greatest_of released
+    (cond b (number ∷ numbers) numbers)
 one_more true released number numbers = refl
 one_more false released number numbers = refl
 
@@ -115,18 +135,24 @@ released_all s (Release to number ∷ commands) hop from all =
     ∙ ap (λ r. greatest_of r (releases_of hop commands)) (released_release s to number hop from all.0)
     ∙ one_more (nat_eq to.0 hop.0) (hop_at s hop).released number (releases_of hop commands)
 
-pub books_kept : (params : Params) (commands : Commands) (hop : HopId) → IsWithinLimits params → AllAccepted length (new_state params) commands
+pub books_kept : (params : Params) (commands : Commands) (hop : HopId) → IsWithinLimits params
+    → AllAccepted length (new_state params) commands
     → has_hop (state_from params []) hop ≡ true → KeepsBooks params commands hop
 books_kept params commands hop within all there =
     let found = among (length (replicate params.hops (let h : HopState (List ℕ) = new_hop in h))) hop.0 there in
     let size = length-replicate params.hops (let h : HopState (List ℕ) = new_hop in h) in
-    let start : hop_at (new_state params) hop ≡ new_hop = get_or-replicate params.hops (hop.0 - 1) (let h : HopState (List ℕ) = new_hop in h) new_hop (omega (arith, found.0, found.1, size)) in
+    let start : hop_at (new_state params) hop ≡ new_hop = get_or-replicate params.hops (hop.0 - 1)
+    (let h : HopState (List ℕ) = new_hop in h) new_hop (omega (arith, found.0, found.1, size)) in
     let sound = sound_from_new length params commands within in
     let same = params_fold length (let s : State (List ℕ) = new_state params in s) commands in
-    let place : hop.0 - 1 < length (state_from params commands).hops = omega (arith, found.0, found.1, size, sound.hop_count, ap (λ p. p.hops) same) in
-    let h = All-get_or (IsSoundHop length (state_from params commands).params (state_from params commands).seq) (state_from params commands).hops (hop.0 - 1) new_hop place sound.hops in
+    let place : hop.0 - 1 < length (state_from params commands).hops = omega
+    (arith, found.0, found.1, size, sound.hop_count, ap (λ p. p.hops) same) in
+    let h = All-get_or (IsSoundHop length (state_from params commands).params (state_from params commands).seq)
+    (state_from params commands).hops (hop.0 - 1) new_hop place sound.hops in
     record {
       custody = custody_kept length params commands hop there;
-      released = released_all (new_state params) commands hop found.0 all ∙ ap (λ (g : HopState (List ℕ)). greatest_of g.released (releases_of hop commands)) start;
+      released =
+          released_all (new_state params) commands hop found.0 all
+          ∙ ap (λ (g : HopState (List ℕ)). greatest_of g.released (releases_of hop commands)) start;
       balance = h.balance;
     }

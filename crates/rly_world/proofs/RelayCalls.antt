@@ -1,5 +1,6 @@
 -- A call of the device keeps what holds of a relay.
-use Rattle.std.proofs.Common.{ℕ, ◌≡◌, ◌≤◌, ◌+◌, ◌++◌, ◌∙◌, Bool, true, false, true≢false, List, [], ◌∷◌, Option, Some, None, length, take, drop, arith, ap, refl, sym, subst, inl, inr, length-drop, length-take}
+use Rattle.std.proofs.Common.{ℕ, ◌≡◌, ◌≤◌, ◌+◌, ◌++◌, ◌∙◌, Bool, true, false, true≢false, List, [], ◌∷◌, Option, Some}
+use Rattle.std.proofs.Common.{None, length, take, drop, arith, ap, refl, sym, subst, inl, inr, length-drop, length-take}
 use Rattle.std.proofs.lemmas.List.{take_all, take-append-drop}
 use Rattle.rly_core.specs.declared.refusal.Refusal.TheVariants.{Unsure}
 use Rattle.rly_disk.specs.DiskModel.{IsTorn}
@@ -14,39 +15,55 @@ use Rattle.rly_journal.specs.Rounds.{refusals}
 use Rattle.rly_journal.specs.Standing.{Commands, IsStanding, Standing, Stands, state_in}
 use Rattle.rly_world.specs.RelayPhases.{IsDone, IsNeeded, MaySync, MayWrite, bytes_of, place_of}
 use Rattle.rly_world.specs.RelaySteps.{after_phase, broke, called, counted_after, on_device}
-use Rattle.rly_world.specs.RelayWorld.{Answering, Batch, Body, Device, Gate, Head, IsImageOf, Phase, Ready, Round, Seal, Stage, Switch, Taking, World, Writing, asked_of, calls_of, logged, seen_of, state_from}
+use Rattle.rly_world.specs.RelayWorld.{Answering, Batch, Body, Device, Gate, Head, IsImageOf, Phase, Ready, Round, Seal}
+use Rattle.rly_world.specs.RelayWorld.{Stage, Switch, Taking, World, Writing, asked_of, calls_of, logged, seen_of}
+use Rattle.rly_world.specs.RelayWorld.{state_from}
 use Rattle.rly_world.proofs.RelayAnswers.{AreBelow, refused_below}
 use Rattle.rly_world.proofs.RelayBegins.{one_standing}
 use Rattle.rly_world.proofs.RelayDevice.{asked_image, asked_seen, image_asked}
-use Rattle.rly_world.proofs.RelayHolds.{Core, Holds, IsAt, IsCalm, IsHeld, IsKept, IsPlaced, IsRunning, IsWritten, core_of, whole_state}
-use Rattle.rly_world.proofs.RelayPhases.{Begins, IsPhaseImage, body_next, first_image, gate_next, head_next, phase_stands, phase_torn, phase_within, seal_next, switch_next}
+use Rattle.rly_world.proofs.RelayHolds.{Core, Holds, IsAt, IsCalm, IsHeld, IsKept, IsPlaced, IsRunning, IsWritten}
+use Rattle.rly_world.proofs.RelayHolds.{core_of, whole_state}
+use Rattle.rly_world.proofs.RelayPhases.{Begins, IsPhaseImage, body_next, first_image, gate_next, head_next}
+use Rattle.rly_world.proofs.RelayPhases.{phase_stands, phase_torn, phase_within, seal_next, switch_next}
 
 -- ---- what a crash leaves
 
 pub all_taken : (k : Core) → state_from k.params (take (length k.accepted) k.accepted) ≡ whole_state k
 all_taken k = ap (state_from k.params) (take_all (length k.accepted) k.accepted (omega arith))
 
-pub calm_kept : (k : Core) → IsCalm k → k.told ≤ length k.accepted → (image : List ℕ) → IsImageOf k.device image → IsKept k image
+pub calm_kept : (k : Core) → IsCalm k → k.told ≤ length k.accepted → (image : List ℕ) → IsImageOf k.device image
+    → IsKept k image
 calm_kept k calm told image left = record {
   n = length k.accepted;
   told = told;
   most = omega arith;
-  stands = subst (λ i. Stands i (state_from k.params (take (length k.accepted) k.accepted))) (sym (calm.only image left)) (subst (Stands k.device.synced) (sym (all_taken k)) calm.stands);
+  stands =
+      subst (λ i. Stands i (state_from k.params (take (length k.accepted) k.accepted))) (sym (calm.only image left))
+      (subst (Stands k.device.synced) (sym (all_taken k)) calm.stands);
 }
 
-parts_of : (k : Core) → fold length (state_from k.params (take k.position k.accepted)) (drop k.position k.accepted) ≡ whole_state k
+parts_of : (k : Core)
+    → fold length (state_from k.params (take k.position k.accepted)) (drop k.position k.accepted) ≡ whole_state k
 parts_of k =
     sym (fold_append length (new_state k.params) (take k.position k.accepted) (drop k.position k.accepted))
     ∙ ap (state_from k.params) (take-append-drop k.position k.accepted)
 
 -- the state after the commands of the phase's round
-pub grown_to : {phase : Phase} (k : Core) (w : IsWritten phase k) → fold length (state_in w.x) (drop k.position k.accepted) ≡ whole_state k
+pub grown_to : {phase : Phase} (k : Core) (w : IsWritten phase k)
+    → fold length (state_in w.x) (drop k.position k.accepted) ≡ whole_state k
 grown_to k w = ap (λ s. fold length s (drop k.position k.accepted)) w.state ∙ parts_of k
 
-pub written_kept : (phase : Phase) (k : Core) → IsWritten phase k → (image : List ℕ) → IsImageOf k.device image → IsKept k image
+pub written_kept : (phase : Phase) (k : Core) → IsWritten phase k → (image : List ℕ) → IsImageOf k.device image
+    → IsKept k image
 written_kept phase k w image left =
-    elim (phase_stands phase w.x (drop k.position k.accepted) k.device.synced image w.stands w.begins (w.images image left)) [
-      | inl before ↦ record { n = k.position; told = w.told; most = w.counted; stands = subst (Stands image) w.state before }
+    elim (phase_stands phase w.x (drop k.position k.accepted) k.device.synced image w.stands w.begins
+    (w.images image left)) [
+      | inl before ↦ record {
+        n = k.position;
+        told = w.told;
+        most = w.counted;
+        stands = subst (Stands image) w.state before;
+      }
       | inr after ↦ record {
         n = length k.accepted;
         told = omega (arith, w.told, w.counted);
@@ -60,19 +77,23 @@ written_kept phase k w image left =
 abbrev pub round_at : Stage → List Batch → List Answer → Option Round
 round_at stage batches answers = Some (record { stage = stage; batches = batches; answers = answers })
 
-pub placed_from : (k m : Core) (opened broken breaks : Bool) (round : Round) (next : Option Round) → IsPlaced k opened broken (Some round)
+pub placed_from : (k m : Core) (opened broken breaks : Bool) (round : Round) (next : Option Round)
+    → IsPlaced k opened broken (Some round)
     → (IsRunning k broken (Some round) → IsRunning m breaks next) → IsPlaced m opened breaks next
 placed_from k m true broken breaks round next placed leads = leads placed
 placed_from k m false broken breaks round next placed leads = let e : Some round ≡ None = placed in absurd cc
 
 -- a relay in a phase isn't broken
-pub writing_of : (k : Core) (opened broken : Bool) (phase : Phase) (batches : List Batch) (answers : List Answer) → IsPlaced k opened broken (round_at (Writing phase) batches answers)
+pub writing_of : (k : Core) (opened broken : Bool) (phase : Phase) (batches : List Batch) (answers : List Answer)
+    → IsPlaced k opened broken (round_at (Writing phase) batches answers)
     → (broken ≡ false) × AreBelow (length k.accepted) answers × IsWritten phase k
 writing_of k true true phase batches answers placed = absurd placed
 writing_of k true false phase batches answers placed = (refl, placed.0, placed.1)
-writing_of k false broken phase batches answers placed = let e : round_at (Writing phase) batches answers ≡ None = placed in absurd cc
+writing_of k false broken phase batches answers placed =
+    let e : round_at (Writing phase) batches answers ≡ None = placed in absurd cc
 
-pub running_at : (k : Core) (broken : Bool) (stage : Stage) (batches : List Batch) (answers : List Answer) → broken ≡ false → AreBelow (length k.accepted) answers → IsAt k stage
+pub running_at : (k : Core) (broken : Bool) (stage : Stage) (batches : List Batch) (answers : List Answer)
+    → broken ≡ false → AreBelow (length k.accepted) answers → IsAt k stage
     → IsRunning k broken (round_at stage batches answers)
 running_at k true stage batches answers whole below at = absurd (true≢false whole)
 running_at k false stage batches answers whole below at = (below, at)
@@ -88,7 +109,8 @@ module _ (k : Core) (since : List DeviceEvent) where
 
   module _ (fewer : (c : List ℕ) → IsImageOf later_device c → IsImageOf k.device c) where
     still_calm : IsCalm k → IsCalm later_core
-    still_calm calm = record { only = λ c image. calm.only c (fewer c image); stands = calm.stands; counted = calm.counted }
+    still_calm calm =
+        record { only = λ c image. calm.only c (fewer c image); stands = calm.stands; counted = calm.counted }
 
     still_written : (phase : Phase) → IsWritten phase k → IsWritten phase later_core
     still_written phase w = record {
@@ -107,20 +129,25 @@ module _ (k : Core) (since : List DeviceEvent) where
     still_at Answering at = still_calm at
     still_at (Writing phase) at = still_written phase at
 
-    still_running : (broken : Bool) (round : Option Round) → IsRunning k broken round → IsRunning later_core broken round
+    still_running : (broken : Bool) (round : Option Round) → IsRunning k broken round
+        → IsRunning later_core broken round
     still_running true None running = tt
     still_running true (Some round) running = running
     still_running false None running = still_calm running
     still_running false (Some round) running = (running.0, still_at round.stage running.1)
 
-    still_placed : (opened broken : Bool) (round : Option Round) → IsPlaced k opened broken round → IsPlaced later_core opened broken round
+    still_placed : (opened broken : Bool) (round : Option Round) → IsPlaced k opened broken round
+        → IsPlaced later_core opened broken round
     still_placed true broken round placed = still_running broken round placed
     still_placed false broken round placed = placed
 
-    kept_later : ((image : List ℕ) → IsImageOf k.device image → IsKept k image) → (image : List ℕ) → IsImageOf later_device image → IsKept later_core image
-    kept_later kept image left = let was = kept image (fewer image left) in record { n = was.n; told = was.told; most = was.most; stands = was.stands }
+    kept_later : ((image : List ℕ) → IsImageOf k.device image → IsKept k image) → (image : List ℕ)
+        → IsImageOf later_device image → IsKept later_core image
+    kept_later kept image left = let was = kept image (fewer image left) in
+        record { n = was.n; told = was.told; most = was.most; stands = was.stands }
 
-    pub still_holds : (opened broken : Bool) (round : Option Round) → IsImageOf later_device (seen_of later_device) → Holds k opened broken round → Holds later_core opened broken round
+    pub still_holds : (opened broken : Bool) (round : Option Round) → IsImageOf later_device (seen_of later_device)
+        → Holds k opened broken round → Holds later_core opened broken round
     still_holds opened broken round seen held = record {
       within = held.within;
       accepted = held.accepted;
@@ -132,19 +159,22 @@ module _ (k : Core) (since : List DeviceEvent) where
 
 pub read_held : (w : World) (place count : ℕ) → IsHeld w → IsHeld (on_device w (Read place count))
 read_held w place count held =
-    still_holds (core_of w) (w.device.since ++ Read place count ∷ []) (asked_image w.device (Read place count)) w.is_open w.is_broken w.round
+    still_holds (core_of w) (w.device.since ++ Read place count ∷ []) (asked_image w.device (Read place count))
+    w.is_open w.is_broken w.round
     (image_asked w.device (Read place count) (seen_of (asked_of w.device (Read place count)))
     (subst (IsImageOf w.device) (sym (asked_seen w.device (Read place count))) held.seen)) held
 
 pub failed_read_held : (w : World) (place count : ℕ) → IsHeld w → IsHeld (on_device w (FailedRead place count))
 failed_read_held w place count held =
-    still_holds (core_of w) (w.device.since ++ FailedRead place count ∷ []) (asked_image w.device (FailedRead place count)) w.is_open w.is_broken w.round
+    still_holds (core_of w) (w.device.since ++ FailedRead place count ∷ [])
+    (asked_image w.device (FailedRead place count)) w.is_open w.is_broken w.round
     (image_asked w.device (FailedRead place count) (seen_of (asked_of w.device (FailedRead place count)))
     (subst (IsImageOf w.device) (sym (asked_seen w.device (FailedRead place count))) held.seen)) held
 
 pub failed_sync_held : (w : World) → IsHeld w → IsHeld (on_device w FailedSync)
 failed_sync_held w held =
-    still_holds (core_of w) (w.device.since ++ FailedSync ∷ []) (asked_image w.device FailedSync) w.is_open w.is_broken w.round
+    still_holds (core_of w) (w.device.since ++ FailedSync ∷ []) (asked_image w.device FailedSync) w.is_open w.is_broken
+    w.round
     (image_asked w.device FailedSync (seen_of (asked_of w.device FailedSync))
     (subst (IsImageOf w.device) (sym (asked_seen w.device FailedSync)) held.seen)) held
 
@@ -155,14 +185,19 @@ record IsRange (phase : Phase) (x : Standing) (commands : Commands) (seen : List
   to : place + n ≤ place_of phase x + length (bytes_of phase x commands)
   needed : IsNeeded phase x seen
 
-range_of : {phase : Phase} {device : Device} {commands : Commands} {place n : ℕ} (x : Standing) → IsStanding device.synced x → (may : MayWrite phase device commands place n)
+range_of : {phase : Phase} {device : Device} {commands : Commands} {place n : ℕ} (x : Standing)
+    → IsStanding device.synced x → (may : MayWrite phase device commands place n)
     → IsRange phase x commands (seen_of device) place n
 range_of {phase} {device} {commands} {place} {n} x stands may =
-    subst (λ y. IsRange phase y commands (seen_of device) place n) (one_standing may.x x may.stands stands) (record { from = may.from; to = may.to; needed = may.needed })
+    subst (λ y. IsRange phase y commands (seen_of device) place n) (one_standing may.x x may.stands stands)
+    (record { from = may.from; to = may.to; needed = may.needed })
 
 module _ (w : World) (phase : Phase) (batches : List Batch) (answers : List Answer)
-    (held : Holds (core_of w) w.is_open w.is_broken (round_at (Writing phase) batches answers)) (place n : ℕ) (may : MayWrite phase w.device (logged w) place n)
-    (since : List DeviceEvent) (torn : (c : List ℕ) → IsImageOf (record { synced = w.device.synced; since = since }) c → IsTorn place n (IsImageOf w.device) c) where
+    (held : Holds (core_of w) w.is_open w.is_broken (round_at (Writing phase) batches answers)) (place n : ℕ)
+    (may : MayWrite phase w.device (logged w) place n)
+    (since : List DeviceEvent)
+    (torn : (c : List ℕ) → IsImageOf (record { synced = w.device.synced; since = since }) c
+    → IsTorn place n (IsImageOf w.device) c) where
   pub torn_written : IsWritten phase (core_of w) → IsWritten phase (later_core (core_of w) since)
   torn_written now =
       let range = range_of now.x now.stands may in
@@ -175,11 +210,13 @@ module _ (w : World) (phase : Phase) (batches : List Batch) (answers : List Answ
         begins = now.begins;
         images = λ c image.
             let t = torn c image in
-            phase_torn phase now.x (logged w) w.device.synced (seen_of w.device) t.0 c place n range.from range.to range.needed
+            phase_torn phase now.x (logged w) w.device.synced (seen_of w.device) t.0 c place n range.from range.to
+            range.needed
             (now.images (seen_of w.device) held.seen) (now.images t.0 t.1) t.2;
       }
 
-  pub torn_held : IsImageOf (record { synced = w.device.synced; since = since }) (seen_of (record { synced = w.device.synced; since = since }))
+  pub torn_held : IsImageOf (record { synced = w.device.synced; since = since })
+      (seen_of (record { synced = w.device.synced; since = since }))
       → Holds (later_core (core_of w) since) w.is_open w.is_broken (round_at (Writing phase) batches answers)
   torn_held seen =
       let now = writing_of (core_of w) w.is_open w.is_broken phase batches answers held.placed in
@@ -190,9 +227,12 @@ module _ (w : World) (phase : Phase) (batches : List Batch) (answers : List Answ
         few = held.few;
         seen = seen;
         kept = written_kept phase (later_core (core_of w) since) next;
-        placed = placed_from (core_of w) (later_core (core_of w) since) w.is_open w.is_broken w.is_broken (record { stage = Writing phase; batches = batches; answers = answers })
+        placed =
+            placed_from (core_of w) (later_core (core_of w) since) w.is_open w.is_broken w.is_broken
+            (record { stage = Writing phase; batches = batches; answers = answers })
             (round_at (Writing phase) batches answers) held.placed
-            (λ running. running_at (later_core (core_of w) since) w.is_broken (Writing phase) batches answers now.0 now.1 next);
+            (λ running. running_at (later_core (core_of w) since) w.is_broken (Writing phase) batches answers now.0
+            now.1 next);
       }
 
   -- the range lies on the device
@@ -200,28 +240,46 @@ module _ (w : World) (phase : Phase) (batches : List Batch) (answers : List Answ
   range_within =
       let now = (writing_of (core_of w) w.is_open w.is_broken phase batches answers held.placed).2 in
       let range = range_of now.x now.stands may in
-      omega (arith, range.to, phase_within phase now.x (logged w) w.device.synced now.stands now.begins, (now.images (seen_of w.device) held.seen).outside.same_length)
+      omega (
+        arith,
+        range.to,
+        phase_within phase now.x (logged w) w.device.synced now.stands now.begins,
+        (now.images (seen_of w.device) held.seen).outside.same_length,
+      )
 
 abbrev pub in_phase : World → Phase → List Batch → List Answer → World
 in_phase w phase batches answers = record w { round = round_at (Writing phase) batches answers }
 
-pub write_held : (w : World) (phase : Phase) (batches : List Batch) (answers : List Answer) (place : ℕ) (bytes : List ℕ) → IsHeld (in_phase w phase batches answers)
-    → MayWrite phase w.device (logged w) place (length bytes) → IsHeld (on_device (in_phase w phase batches answers) (Write place bytes))
+pub write_held : (w : World) (phase : Phase) (batches : List Batch) (answers : List Answer) (place : ℕ) (bytes : List ℕ)
+    → IsHeld (in_phase w phase batches answers)
+    → MayWrite phase w.device (logged w) place (length bytes)
+    → IsHeld (on_device (in_phase w phase batches answers) (Write place bytes))
 write_held w phase batches answers place bytes held may =
-    torn_held w phase batches answers held place (length bytes) may (w.device.since ++ Write place bytes ∷ []) (asked_image w.device (Write place bytes))
+    torn_held w phase batches answers held place (length bytes) may (w.device.since ++ Write place bytes ∷ [])
+    (asked_image w.device (Write place bytes))
     (image_asked w.device (Write place bytes) (seen_of (asked_of w.device (Write place bytes)))
-    (subst (IsTorn place (length bytes) (IsImageOf w.device)) (sym (asked_seen w.device (Write place bytes)))
-    (seen_of w.device, held.seen, overwritten_outside place bytes (seen_of w.device) (range_within w phase batches answers held place (length bytes) may (w.device.since ++ Write place bytes ∷ []) (asked_image w.device (Write place bytes))))))
+    (subst (IsTorn place (length bytes) (IsImageOf w.device)) (sym (asked_seen w.device (Write place bytes))) (
+      seen_of w.device,
+      held.seen,
+      overwritten_outside place bytes (seen_of w.device)
+          (range_within w phase batches answers held place (length bytes) may (w.device.since ++ Write place bytes ∷ [])
+          (asked_image w.device (Write place bytes))),
+    )))
 
-pub failed_write_held : (w : World) (phase : Phase) (batches : List Batch) (answers : List Answer) (place : ℕ) (bytes left : List ℕ) → IsHeld (in_phase w phase batches answers)
-    → MayWrite phase w.device (logged w) place (length bytes) → IsHeld (on_device (in_phase w phase batches answers) (FailedWrite place bytes left))
+pub failed_write_held : (w : World) (phase : Phase) (batches : List Batch) (answers : List Answer) (place : ℕ)
+    (bytes left : List ℕ) → IsHeld (in_phase w phase batches answers)
+    → MayWrite phase w.device (logged w) place (length bytes)
+    → IsHeld (on_device (in_phase w phase batches answers) (FailedWrite place bytes left))
 failed_write_held w phase batches answers place bytes left held may =
     let since : List DeviceEvent = w.device.since ++ FailedWrite place bytes left ∷ [] in
-    let within = range_within w phase batches answers held place (length bytes) may since (asked_image w.device (FailedWrite place bytes left)) in
+    let within = range_within w phase batches answers held place (length bytes) may since
+    (asked_image w.device (FailedWrite place bytes left)) in
     let short : length (take (length bytes) left) ≤ length bytes = omega (arith, length-take (length bytes) left) in
-    torn_held w phase batches answers held place (length bytes) may since (asked_image w.device (FailedWrite place bytes left))
+    torn_held w phase batches answers held place (length bytes) may since
+    (asked_image w.device (FailedWrite place bytes left))
     (image_asked w.device (FailedWrite place bytes left) (seen_of (asked_of w.device (FailedWrite place bytes left)))
-    (subst (IsTorn place (length bytes) (IsImageOf w.device)) (sym (asked_seen w.device (FailedWrite place bytes left))) (
+    (subst (IsTorn place (length bytes) (IsImageOf w.device))
+    (sym (asked_seen w.device (FailedWrite place bytes left))) (
       seen_of w.device,
       held.seen,
       wider place (length bytes) place (length (take (length bytes) left)) (omega arith) (omega (arith, short))
@@ -230,15 +288,19 @@ failed_write_held w phase batches answers place bytes left held may =
 
 -- ---- a relay that broke
 
-pub broke_held : (w : World) (phase : Phase) (batches : List Batch) (answers : List Answer) → IsHeld (in_phase w phase batches answers) → IsHeld (broke (in_phase w phase batches answers))
+pub broke_held : (w : World) (phase : Phase) (batches : List Batch) (answers : List Answer)
+    → IsHeld (in_phase w phase batches answers) → IsHeld (broke (in_phase w phase batches answers))
 broke_held w phase batches answers held = record {
   within = held.within;
   accepted = held.accepted;
   few = held.few;
   seen = held.seen;
   kept = held.kept;
-  placed = placed_from (core_of w) (core_of w) w.is_open w.is_broken true (record { stage = Writing phase; batches = batches; answers = answers })
-      (round_at Answering batches (refusals Unsure w.position (calls_of batches))) held.placed (λ running n. refused_below Unsure n w.position (calls_of batches) refl);
+  placed =
+      placed_from (core_of w) (core_of w) w.is_open w.is_broken true
+      (record { stage = Writing phase; batches = batches; answers = answers })
+      (round_at Answering batches (refusals Unsure w.position (calls_of batches))) held.placed
+      (λ running n. refused_below Unsure n w.position (calls_of batches) refl);
 }
 
 -- ---- a sync
@@ -249,7 +311,8 @@ synced_core k position = record k { device = record { synced = seen_of k.device;
 
 module _ (k : Core) (phase : Phase) (w : IsWritten phase k) (seen : IsImageOf k.device (seen_of k.device)) where
   -- the next phase begins
-  next_written : (next : Phase) → IsStanding (seen_of k.device) w.x × Begins next w.x (drop k.position k.accepted) (seen_of k.device) → IsWritten next (synced_core k k.position)
+  next_written : (next : Phase) → IsStanding (seen_of k.device) w.x
+      × Begins next w.x (drop k.position k.accepted) (seen_of k.device) → IsWritten next (synced_core k k.position)
   next_written next begun = record {
     x = w.x;
     stands = begun.0;
@@ -257,58 +320,84 @@ module _ (k : Core) (phase : Phase) (w : IsWritten phase k) (seen : IsImageOf k.
     told = w.told;
     counted = w.counted;
     begins = begun.1;
-    images = λ c is. subst (IsPhaseImage next w.x (drop k.position k.accepted) (seen_of k.device)) (sym is) (first_image next w.x (drop k.position k.accepted) (seen_of k.device));
+    images =
+        λ c is. subst (IsPhaseImage next w.x (drop k.position k.accepted) (seen_of k.device)) (sym is)
+        (first_image next w.x (drop k.position k.accepted) (seen_of k.device));
   }
 
   -- or no phase is left
-  next_calm : (position : ℕ) → position ≡ length k.accepted → Stands (seen_of k.device) (whole_state k) → IsCalm (synced_core k position)
+  next_calm : (position : ℕ) → position ≡ length k.accepted → Stands (seen_of k.device) (whole_state k)
+      → IsCalm (synced_core k position)
   next_calm position counted stands = record { only = λ c is. is; stands = stands; counted = counted }
 
   next_kept : (position : ℕ) → (image : List ℕ) → image ≡ seen_of k.device → IsKept (synced_core k position) image
   next_kept position image is =
       let was = written_kept phase k w (seen_of k.device) seen in
-      record { n = was.n; told = was.told; most = was.most; stands = subst (λ i. Stands i (state_from k.params (take was.n k.accepted))) (sym is) was.stands }
+      record {
+        n = was.n;
+        told = was.told;
+        most = was.most;
+        stands = subst
+            (λ i. Stands i (state_from k.params (take was.n k.accepted))) (sym is) was.stands;
+      }
 
-none_left : (k : Core) → k.position ≤ length k.accepted → drop k.position k.accepted ≡ [] → k.position ≡ length k.accepted
+none_left : (k : Core) → k.position ≤ length k.accepted → drop k.position k.accepted ≡ []
+    → k.position ≡ length k.accepted
 none_left k most none = omega (arith, most, length-drop k.position k.accepted, ap length none)
 
 -- where a phase leads
-next_at : (k : Core) (phase : Phase) (w : IsWritten phase k) → IsImageOf k.device (seen_of k.device) → IsDone phase w.x (drop k.position k.accepted) (seen_of k.device)
-    → (v : World) → v.position ≡ k.position → v.accepted ≡ k.accepted → IsAt (synced_core k (counted_after phase v)) (after_phase phase)
+next_at : (k : Core) (phase : Phase) (w : IsWritten phase k) → IsImageOf k.device (seen_of k.device)
+    → IsDone phase w.x (drop k.position k.accepted) (seen_of k.device)
+    → (v : World) → v.position ≡ k.position → v.accepted ≡ k.accepted
+    → IsAt (synced_core k (counted_after phase v)) (after_phase phase)
 next_at k (Seal segment) w seen done v position accepted =
     subst (λ n. IsWritten (Head segment) (synced_core k n)) (sym position)
-    (next_written k (Seal segment) w seen (Head segment) (seal_next segment w.x (drop k.position k.accepted) k.device.synced (seen_of k.device) w.stands w.begins (w.images (seen_of k.device) seen) done))
+    (next_written k (Seal segment) w seen (Head segment)
+    (seal_next segment w.x (drop k.position k.accepted) k.device.synced (seen_of k.device) w.stands w.begins
+    (w.images (seen_of k.device) seen) done))
 next_at k (Head segment) w seen done v position accepted =
     subst (λ n. IsWritten (Switch segment) (synced_core k n)) (sym position)
-    (next_written k (Head segment) w seen (Switch segment) (head_next segment w.x (drop k.position k.accepted) k.device.synced (seen_of k.device) w.stands w.begins (w.images (seen_of k.device) seen) done))
+    (next_written k (Head segment) w seen (Switch segment)
+    (head_next segment w.x (drop k.position k.accepted) k.device.synced (seen_of k.device) w.stands w.begins
+    (w.images (seen_of k.device) seen) done))
 next_at k (Switch segment) w seen done v position accepted =
     let none : drop k.position k.accepted ≡ [] = w.begins.1 in
     next_calm k (Switch segment) w seen v.position (position ∙ none_left k w.counted none)
     (subst (Stands (seen_of k.device)) (ap (fold length (state_in w.x)) (sym none) ∙ grown_to k w)
-    (switch_next segment w.x (drop k.position k.accepted) k.device.synced (seen_of k.device) w.stands w.begins (w.images (seen_of k.device) seen)))
+    (switch_next segment w.x (drop k.position k.accepted) k.device.synced (seen_of k.device) w.stands w.begins
+    (w.images (seen_of k.device) seen)))
 next_at k Body w seen done v position accepted =
     subst (λ n. IsWritten Gate (synced_core k n)) (sym position)
-    (next_written k Body w seen Gate (body_next w.x (drop k.position k.accepted) k.device.synced (seen_of k.device) w.stands w.begins (w.images (seen_of k.device) seen) done))
+    (next_written k Body w seen Gate
+    (body_next w.x (drop k.position k.accepted) k.device.synced (seen_of k.device) w.stands w.begins
+    (w.images (seen_of k.device) seen) done))
 next_at k Gate w seen done v position accepted =
     next_calm k Gate w seen (length v.accepted) (ap length accepted)
     (subst (Stands (seen_of k.device)) (grown_to k w)
-    (gate_next w.x (drop k.position k.accepted) k.device.synced (seen_of k.device) w.stands w.begins (w.images (seen_of k.device) seen) done))
+    (gate_next w.x (drop k.position k.accepted) k.device.synced (seen_of k.device) w.stands w.begins
+    (w.images (seen_of k.device) seen) done))
 
-pub sync_held : (w : World) (phase : Phase) (batches : List Batch) (answers : List Answer) → IsHeld (in_phase w phase batches answers)
+pub sync_held : (w : World) (phase : Phase) (batches : List Batch) (answers : List Answer)
+    → IsHeld (in_phase w phase batches answers)
     → MaySync phase w.device (logged w) → IsHeld (called (in_phase w phase batches answers) Sync)
 sync_held w phase batches answers held may =
     let k = core_of w in
     let now = writing_of (core_of w) w.is_open w.is_broken phase batches answers held.placed in
     let v : World = on_device (in_phase w phase batches answers) Sync in
     let next : Core = synced_core (core_of w) (counted_after phase v) in
-    let done : IsDone phase now.2.x (logged w) (seen_of w.device) = subst (λ y. IsDone phase y (logged w) (seen_of w.device)) (one_standing may.x now.2.x may.stands now.2.stands) may.done in
+    let done : IsDone phase now.2.x (logged w) (seen_of w.device) = subst
+    (λ y. IsDone phase y (logged w) (seen_of w.device)) (one_standing may.x now.2.x may.stands now.2.stands)
+    may.done in
     record {
       within = held.within;
       accepted = held.accepted;
       few = held.few;
       seen = refl;
       kept = next_kept (core_of w) phase now.2 held.seen (counted_after phase v);
-      placed = placed_from (core_of w) next w.is_open w.is_broken w.is_broken (record { stage = Writing phase; batches = batches; answers = answers })
+      placed =
+          placed_from (core_of w) next w.is_open w.is_broken w.is_broken
+          (record { stage = Writing phase; batches = batches; answers = answers })
           (round_at (after_phase phase) batches answers) held.placed
-          (λ running. running_at next w.is_broken (after_phase phase) batches answers now.0 now.1 (next_at (core_of w) phase now.2 held.seen done v refl refl));
+          (λ running. running_at next w.is_broken (after_phase phase) batches answers now.0 now.1
+          (next_at (core_of w) phase now.2 held.seen done v refl refl));
     }

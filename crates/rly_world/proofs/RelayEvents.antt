@@ -1,5 +1,7 @@
 -- Each event keeps what holds of a relay.
-use Rattle.std.proofs.Common.{ℕ, ◌≡◌, ◌⊎◌, ◌≤◌, ◌<◌, ◌+◌, ◌++◌, ◌∙◌, nat_le, Bool, true, false, true≢false, List, [], ◌∷◌, Option, Some, None, length, take, drop, arith, ap, refl, sym, subst, inl, inr, ⊎_elim, length-append, length-take}
+use Rattle.std.proofs.Common.{ℕ, ◌≡◌, ◌⊎◌, ◌≤◌, ◌<◌, ◌+◌, ◌++◌, ◌∙◌, nat_le, Bool, true, false, true≢false, List, []}
+use Rattle.std.proofs.Common.{◌∷◌, Option, Some, None, length, take, drop, arith, ap, refl, sym, subst, inl, inr}
+use Rattle.std.proofs.Common.{⊎_elim, length-append, length-take}
 use Rattle.std.specs.Prelude.{if◌then◌else◌}
 use Rattle.std.specs.List.{zip}
 use Rattle.std.proofs.lemmas.Bool.{leb-true}
@@ -22,40 +24,54 @@ use Rattle.rly_journal.specs.Standing.{Commands, IsStanding, Standing, Stands, s
 use Rattle.rly_journal.proofs.Once.{stands_for_one}
 use Rattle.rly_journal.proofs.Serving.{few_accepted}
 use Rattle.rly_world.specs.RelayPhases.{IsDueIn, MayOpen}
-use Rattle.rly_world.specs.RelaySteps.{AreEvaluated, Event, HasPlace, IsDueFor, IsEvaluated, MayTake, after, after_evaluation, answer_put, answered_first, broke, called, evaluated, greatest, on_device, rest_of, stopped, taken, with_batch}
+use Rattle.rly_world.specs.RelaySteps.{AreEvaluated, Event, HasPlace, IsDueFor, IsEvaluated, MayTake, after}
+use Rattle.rly_world.specs.RelaySteps.{after_evaluation, answer_put, answered_first, broke, called, evaluated, greatest}
+use Rattle.rly_world.specs.RelaySteps.{on_device, rest_of, stopped, taken, with_batch}
 use Rattle.rly_world.specs.RelaySteps as event
-use Rattle.rly_world.specs.RelayWorld.{Answering, Batch, Body, IsImageOf, Ready, Round, Seal, Stage, Taking, World, Writing, asked_of, batches_in, calls_of, logged, seen_of, state_from}
-use Rattle.rly_world.proofs.RelayAnswers.{AreBelow, asked_none, below_drop, below_take, fewer_calls, greatest_below, refused_below, refused_none, served_below}
+use Rattle.rly_world.specs.RelayWorld.{Answering, Batch, Body, IsImageOf, Ready, Round, Seal, Stage, Taking, World}
+use Rattle.rly_world.specs.RelayWorld.{Writing, asked_of, batches_in, calls_of, logged, seen_of, state_from}
+use Rattle.rly_world.proofs.RelayAnswers.{AreBelow, asked_none, below_drop, below_take, fewer_calls, greatest_below}
+use Rattle.rly_world.proofs.RelayAnswers.{refused_below, refused_none, served_below}
 use Rattle.rly_world.proofs.RelayBegins.{due_target, one_standing, roomy_group}
-use Rattle.rly_world.proofs.RelayCalls.{broke_held, calm_kept, failed_read_held, failed_sync_held, failed_write_held, in_phase, placed_from, read_held, round_at, running_at, sync_held, write_held, written_kept}
-use Rattle.rly_world.proofs.RelayHolds.{Core, Holds, IsAt, IsCalm, IsHeld, IsKept, IsPlaced, IsRunning, IsWritten, core_of, whole_state}
+use Rattle.rly_world.proofs.RelayCalls.{broke_held, calm_kept, failed_read_held, failed_sync_held, failed_write_held}
+use Rattle.rly_world.proofs.RelayCalls.{in_phase, placed_from, read_held, round_at, running_at, sync_held, write_held}
+use Rattle.rly_world.proofs.RelayCalls.{written_kept}
+use Rattle.rly_world.proofs.RelayHolds.{Core, Holds, IsAt, IsCalm, IsHeld, IsKept, IsPlaced, IsRunning, IsWritten}
+use Rattle.rly_world.proofs.RelayHolds.{core_of, whole_state}
 use Rattle.rly_world.proofs.RelayPhases.{Begins, IsPhaseImage, first_image}
 
 -- a world whose round is known
-in_round : (P : World → Type 0) (w : World) (round : Option Round) → w.round ≡ round → P w → P (record w { round = round })
+in_round : (P : World → Type 0) (w : World) (round : Option Round) → w.round ≡ round → P w
+    → P (record w { round = round })
 in_round P w round is = subst (λ r. P (record w { round = r })) is
 
-from_round : (P : World → Type 0) (w : World) (round : Option Round) → w.round ≡ round → P (record w { round = round }) → P w
+from_round : (P : World → Type 0) (w : World) (round : Option Round) → w.round ≡ round → P (record w { round = round })
+    → P w
 from_round P w round is = subst (λ r. P (record w { round = r })) (sym is)
 
 -- a round that stands somewhere
-pub at_stage : (w : World) (round : Round) (stage : Stage) → w.round ≡ Some round → round.stage ≡ stage → w.round ≡ round_at stage round.batches round.answers
+pub at_stage : (w : World) (round : Round) (stage : Stage) → w.round ≡ Some round → round.stage ≡ stage
+    → w.round ≡ round_at stage round.batches round.answers
 at_stage w round stage is at = is ∙ ap (λ s. Some (record round { stage = s })) at
 
 -- the accepted commands lead to a sound state, which counts them
-sound_of : (k : Core) (open_ broken : Bool) (round : Option Round) → Holds k open_ broken round → IsSound length (whole_state k)
+sound_of : (k : Core) (open_ broken : Bool) (round : Option Round) → Holds k open_ broken round
+    → IsSound length (whole_state k)
 sound_of k open_ broken round held = sound_from_new length k.params k.accepted held.within
 
 count_of : (k : Core) → AllAccepted length (new_state k.params) k.accepted → (whole_state k).seq ≡ length k.accepted
 count_of k accepted = omega (arith, seq_fold length (new_state k.params) k.accepted accepted)
 
 -- what was told is no more than what was accepted
-told_most : (k : Core) (open_ broken : Bool) (round : Option Round) → Holds k open_ broken round → k.told ≤ length k.accepted
-told_most k open_ broken round held = let kept = held.kept (seen_of k.device) held.seen in omega (arith, kept.told, kept.most)
+told_most : (k : Core) (open_ broken : Bool) (round : Option Round) → Holds k open_ broken round
+    → k.told ≤ length k.accepted
+told_most k open_ broken round held = let kept = held.kept (seen_of k.device) held.seen in
+    omega (arith, kept.told, kept.most)
 
 -- ---- taking
 
-before_taking : (k : Core) (broken : Bool) (batches : List Batch) (round : Option Round) → ((round ≡ None) ⊎ ((r : Round) × (round ≡ Some r) × (r.stage ≡ Taking)))
+before_taking : (k : Core) (broken : Bool) (batches : List Batch) (round : Option Round)
+    → ((round ≡ None) ⊎ ((r : Round) × (round ≡ Some r) × (r.stage ≡ Taking)))
     → IsRunning k broken round → IsRunning k broken (round_at Taking batches [])
 before_taking k true batches round first running = tt
 before_taking k false batches None first running = (tt, running)
@@ -69,17 +85,22 @@ before_taking k false batches (Some round) first running =
 abbrev TakesMore : Option Round → Type 0
 TakesMore round = (round ≡ None) ⊎ ((r : Round) × (round ≡ Some r) × (r.stage ≡ Taking))
 
-taking_placed : (k : Core) (broken : Bool) (batches : List Batch) (round : Option Round) → TakesMore round → IsPlaced k true broken round → IsPlaced k true broken (round_at Taking batches [])
+taking_placed : (k : Core) (broken : Bool) (batches : List Batch) (round : Option Round) → TakesMore round
+    → IsPlaced k true broken round → IsPlaced k true broken (round_at Taking batches [])
 taking_placed k broken batches round first placed = before_taking k broken batches round first placed
 
-with_batch_held : (w : World) (batch : Batch) → w.is_open ≡ true → TakesMore w.round → IsHeld w → IsHeld (with_batch w batch)
-with_batch_held w batch opened first held = by_room (nat_le (length (calls_of (batches_in w.round ++ batch ∷ []))) 64) refl
+with_batch_held : (w : World) (batch : Batch) → w.is_open ≡ true → TakesMore w.round → IsHeld w
+    → IsHeld (with_batch w batch)
+with_batch_held w batch opened first held =
+    by_room (nat_le (length (calls_of (batches_in w.round ++ batch ∷ []))) 64) refl
   where
     more : List Batch
     more = batches_in w.round ++ batch ∷ []
 
     by_room : (fits : Bool) → nat_le (length (calls_of (batches_in w.round ++ batch ∷ []))) 64 ≡ fits
-        → IsHeld (if fits then record w { round = round_at Taking (batches_in w.round ++ batch ∷ []) [] } else record w { kept = Some batch })
+        → IsHeld
+        (if fits then record w { round = round_at Taking (batches_in w.round ++ batch ∷ []) [] } else record
+        w { kept = Some batch })
     by_room false full = held
     by_room true fits = record {
       within = held.within;
@@ -87,8 +108,11 @@ with_batch_held w batch opened first held = by_room (nat_le (length (calls_of (b
       few = leb-true _ _ fits;
       seen = held.seen;
       kept = held.kept;
-      placed = subst (λ b. IsPlaced (core_of w) b w.is_broken (round_at Taking (batches_in w.round ++ batch ∷ []) [])) (sym opened)
-          (taking_placed (core_of w) w.is_broken (batches_in w.round ++ batch ∷ []) w.round first (subst (λ b. IsPlaced (core_of w) b w.is_broken w.round) opened held.placed));
+      placed =
+          subst (λ b. IsPlaced (core_of w) b w.is_broken (round_at Taking (batches_in w.round ++ batch ∷ []) []))
+          (sym opened)
+          (taking_placed (core_of w) w.is_broken (batches_in w.round ++ batch ∷ []) w.round first
+          (subst (λ b. IsPlaced (core_of w) b w.is_broken w.round) opened held.placed));
     }
 
 may_take : (kept : Option Batch) (line : List Batch) (round : Option Round) → MayTake kept line round → TakesMore round
@@ -98,30 +122,38 @@ may_take None [] round may = absurd may
 may_take None (batch ∷ line) None may = inl refl
 may_take None (batch ∷ line) (Some round) may = inr (round, refl, may)
 
-taken_held : (w : World) (kept : Option Batch) (line : List Batch) → w.is_open ≡ true → TakesMore w.round → IsHeld w → IsHeld (taken w kept line)
+taken_held : (w : World) (kept : Option Batch) (line : List Batch) → w.is_open ≡ true → TakesMore w.round → IsHeld w
+    → IsHeld (taken w kept line)
 taken_held w (Some batch) line opened first held = with_batch_held (record w { kept = None }) batch opened first held
 taken_held w None (batch ∷ line) opened first held = with_batch_held (record w { line = line }) batch opened first held
 taken_held w None [] opened first held = held
 
 -- ---- the first phase
 
-calm_of : (k : Core) (opened broken : Bool) (stage : Stage) (batches : List Batch) (answers : List Answer) → (stage ≡ Taking) ⊎ (stage ≡ Ready) → broken ≡ false
+calm_of : (k : Core) (opened broken : Bool) (stage : Stage) (batches : List Batch) (answers : List Answer)
+    → (stage ≡ Taking) ⊎ (stage ≡ Ready) → broken ≡ false
     → IsPlaced k opened broken (round_at stage batches answers) → AreBelow (length k.accepted) answers × IsCalm k
 calm_of k true true stage batches answers first whole placed = absurd (true≢false whole)
 calm_of k true false stage batches answers first whole placed =
     (placed.0, elim first [ inl taking ↦ subst (IsAt k) taking placed.1 | inr ready ↦ subst (IsAt k) ready placed.1 ])
-calm_of k false broken stage batches answers first whole placed = let e : round_at stage batches answers ≡ None = placed in absurd cc
+calm_of k false broken stage batches answers first whole placed =
+    let e : round_at stage batches answers ≡ None = placed in absurd cc
 
-opens_held : (w : World) (segment : ℕ) (batches : List Batch) (answers : List Answer) → w.is_broken ≡ false → MayOpen w.device.synced segment → IsDueIn w.device.synced
-    → IsHeld (record w { round = round_at Taking batches answers }) → IsHeld (record w { round = round_at (Writing (Seal segment)) batches answers })
+opens_held : (w : World) (segment : ℕ) (batches : List Batch) (answers : List Answer) → w.is_broken ≡ false
+    → MayOpen w.device.synced segment → IsDueIn w.device.synced
+    → IsHeld (record w { round = round_at Taking batches answers })
+    → IsHeld (record w { round = round_at (Writing (Seal segment)) batches answers })
 opens_held w segment batches answers whole may due held =
     let k = core_of w in
     let now = calm_of (core_of w) w.is_open w.is_broken Taking batches answers (inl refl) whole held.placed in
     let calm : IsCalm (core_of w) = now.1 in
     let x : Standing = due.0 in
-    let other = subst (λ y. (segment < y.geometry.segments) × (segment ≡ y.segment → ⊥)) (one_standing may.0 due.0 may.1 due.1) (may.2, may.3) in
-    let state : state_in due.0 ≡ whole_state (core_of w) = stands_for_one one_state w.device.synced (state_in due.0) (whole_state (core_of w)) (due.0, due.1, refl) calm.stands in
-    let sound : IsSound length (state_in due.0) = subst (IsSound length) (sym state) (sound_of (core_of w) w.is_open w.is_broken (round_at Taking batches answers) held) in
+    let other = subst (λ y. (segment < y.geometry.segments) × (segment ≡ y.segment → ⊥))
+    (one_standing may.0 due.0 may.1 due.1) (may.2, may.3) in
+    let state : state_in due.0 ≡ whole_state (core_of w) = stands_for_one one_state w.device.synced (state_in due.0)
+    (whole_state (core_of w)) (due.0, due.1, refl) calm.stands in
+    let sound : IsSound length (state_in due.0) = subst (IsSound length) (sym state)
+    (sound_of (core_of w) w.is_open w.is_broken (round_at Taking batches answers) held) in
     let none : drop w.position w.accepted ≡ [] = drop_all w.position w.accepted (omega (arith, calm.counted)) in
     let all : take w.position w.accepted ≡ w.accepted = take_all w.position w.accepted (omega (arith, calm.counted)) in
     record {
@@ -130,16 +162,24 @@ opens_held w segment batches answers whole may due held =
       few = held.few;
       seen = held.seen;
       kept = held.kept;
-      placed = placed_from (core_of w) (core_of w) w.is_open w.is_broken w.is_broken (record { stage = Taking; batches = batches; answers = answers })
+      placed =
+          placed_from (core_of w) (core_of w) w.is_open w.is_broken w.is_broken
+          (record { stage = Taking; batches = batches; answers = answers })
           (round_at (Writing (Seal segment)) batches answers) held.placed
           (λ running. running_at (core_of w) w.is_broken (Writing (Seal segment)) batches answers whole now.0 (record {
             x = due.0;
             stands = due.1;
             state = state ∙ ap (state_from w.params) (sym all);
-            told = omega (arith, told_most (core_of w) w.is_open w.is_broken (round_at Taking batches answers) held, calm.counted);
+            told = omega (
+              arith,
+              told_most (core_of w) w.is_open w.is_broken (round_at Taking batches answers) held,
+              calm.counted,
+            );
             counted = omega (arith, calm.counted);
             begins = (due_target due.0 segment due.1 sound due.2 other.0 other.1, none);
-            images = λ c image. subst (IsPhaseImage (Seal segment) due.0 (logged w) w.device.synced) (sym (calm.only c image)) (first_image (Seal segment) due.0 (logged w) w.device.synced);
+            images =
+                λ c image. subst (IsPhaseImage (Seal segment) due.0 (logged w) w.device.synced)
+                (sym (calm.only c image)) (first_image (Seal segment) due.0 (logged w) w.device.synced);
           }));
     }
 
@@ -150,36 +190,48 @@ record IsServed (k : Core) (calls : List Call) (given : List Answer) (commands :
   below : AreBelow (length k.accepted + length commands) given
 
 served_of : (k : Core) (calls : List Call) (given : List Answer) → AllAccepted length (new_state k.params) k.accepted
-    → AreServed calls given (whole_state k) (state_after (whole_state k) (zip calls given)) → IsServed k calls given (accepted_of (zip calls given))
+    → AreServed calls given (whole_state k) (state_after (whole_state k) (zip calls given))
+    → IsServed k calls given (accepted_of (zip calls given))
 served_of k calls given all served =
-    let made = folds 0 (whole_state k) (zip calls given) (legal_but_for_bytes 0 (whole_state k) (zip calls given) served.legal) in
-    let count : (state_after (whole_state k) (zip calls given)).seq ≡ length k.accepted + length (accepted_of (zip calls given)) = omega (arith, made.2, count_of k all) in
+    let made = folds 0 (whole_state k) (zip calls given)
+    (legal_but_for_bytes 0 (whole_state k) (zip calls given) served.legal) in
+    let count : (state_after (whole_state k) (zip calls given)).seq ≡ length k.accepted + length
+    (accepted_of (zip calls given)) = omega (arith, made.2, count_of k all) in
     record {
       accepted = made.1;
-      below = subst (λ n. AreBelow n given) count (served_below 0 (whole_state k) calls given served.count served.legal);
+      below = subst (λ n. AreBelow n given) count
+          (served_below 0 (whole_state k) calls given served.count served.legal);
     }
 
 -- nothing was accepted, and the answers tell nothing new
 evaluated_none : (w : World) (stage : Stage) (batches : List Batch) (answers given : List Answer)
     → IsHeld (record w { round = round_at stage batches answers })
-    → (IsRunning (core_of w) w.is_broken (round_at stage batches answers) → IsRunning (core_of w) w.is_broken (round_at Answering batches given))
+    → (IsRunning (core_of w) w.is_broken (round_at stage batches answers)
+    → IsRunning (core_of w) w.is_broken (round_at Answering batches given))
     → IsHeld (evaluated (record w { round = round_at stage batches answers }) given [])
 evaluated_none w stage batches answers given held leads =
-    subst (λ a. Holds (record (core_of w) { accepted = a }) w.is_open w.is_broken (round_at Answering batches given)) (sym (append-nil w.accepted))
+    subst (λ a. Holds (record (core_of w) { accepted = a }) w.is_open w.is_broken (round_at Answering batches given))
+    (sym (append-nil w.accepted))
     (record {
       within = held.within;
       accepted = held.accepted;
       few = held.few;
       seen = held.seen;
       kept = held.kept;
-      placed = placed_from (core_of w) (core_of w) w.is_open w.is_broken w.is_broken (record { stage = stage; batches = batches; answers = answers }) (round_at Answering batches given) held.placed leads;
+      placed =
+          placed_from (core_of w) (core_of w) w.is_open w.is_broken w.is_broken
+          (record { stage = stage; batches = batches; answers = answers }) (round_at Answering batches given)
+          held.placed leads;
     })
 
 -- something was accepted, and is written
-evaluated_some : (w : World) (stage : Stage) (batches : List Batch) (answers given : List Answer) (commands : Commands) → (stage ≡ Taking) ⊎ (stage ≡ Ready) → w.is_broken ≡ false
-    → 1 ≤ length commands → length commands ≤ 64 → (IsDueIn w.device.synced → ⊥) → IsHeld (record w { round = round_at stage batches answers })
+evaluated_some : (w : World) (stage : Stage) (batches : List Batch) (answers given : List Answer) (commands : Commands)
+    → (stage ≡ Taking) ⊎ (stage ≡ Ready) → w.is_broken ≡ false
+    → 1 ≤ length commands → length commands ≤ 64 → (IsDueIn w.device.synced → ⊥)
+    → IsHeld (record w { round = round_at stage batches answers })
     → IsServed (core_of w) (calls_of batches) given commands
-    → Holds (record (core_of w) { accepted = w.accepted ++ commands }) w.is_open w.is_broken (round_at (Writing Body) batches given)
+    → Holds (record (core_of w) { accepted = w.accepted ++ commands }) w.is_open w.is_broken
+    (round_at (Writing Body) batches given)
 evaluated_some w stage batches answers given commands first whole some few roomy held served =
     let now = calm_of (core_of w) w.is_open w.is_broken stage batches answers first whole held.placed in
     let calm : IsCalm (core_of w) = now.1 in
@@ -187,19 +239,26 @@ evaluated_some w stage batches answers given commands first whole some few roomy
     let x : Standing = calm.stands.0 in
     let stands : IsStanding w.device.synced calm.stands.0 = calm.stands.1 in
     let state : state_in calm.stands.0 ≡ whole_state (core_of w) = sym calm.stands.2 in
-    let sound : IsSound length (state_in calm.stands.0) = subst (IsSound length) (sym state) (sound_of (core_of w) w.is_open w.is_broken (round_at stage batches answers) held) in
-    let front : take w.position (w.accepted ++ commands) ≡ w.accepted = take_at w.accepted commands w.position (sym calm.counted) in
-    let back : drop w.position (w.accepted ++ commands) ≡ commands = drop_at w.accepted commands w.position (sym calm.counted) in
+    let sound : IsSound length (state_in calm.stands.0) = subst (IsSound length) (sym state)
+    (sound_of (core_of w) w.is_open w.is_broken (round_at stage batches answers) held) in
+    let front : take w.position (w.accepted ++ commands) ≡ w.accepted = take_at w.accepted commands w.position
+    (sym calm.counted) in
+    let back : drop w.position (w.accepted ++ commands) ≡ commands = drop_at w.accepted commands w.position
+    (sym calm.counted) in
     let size = length-append w.accepted commands in
-    let group = roomy_group calm.stands.0 commands stands sound (λ due. roomy (calm.stands.0, stands, due)) some few (subst (λ s. AllAccepted length s commands) (sym state) served.accepted) in
+    let group = roomy_group calm.stands.0 commands stands sound (λ due. roomy (calm.stands.0, stands, due)) some few
+    (subst (λ s. AllAccepted length s commands) (sym state) served.accepted) in
     let written : IsWritten Body (record (core_of w) { accepted = w.accepted ++ commands }) = record {
       x = calm.stands.0;
       stands = stands;
       state = state ∙ ap (state_from w.params) (sym front);
-      told = omega (arith, told_most (core_of w) w.is_open w.is_broken (round_at stage batches answers) held, calm.counted);
+      told = omega
+          (arith, told_most (core_of w) w.is_open w.is_broken (round_at stage batches answers) held, calm.counted);
       counted = omega (arith, calm.counted, size);
       begins = subst (λ c. Begins Body calm.stands.0 c w.device.synced) (sym back) group;
-      images = λ c image. subst (IsPhaseImage Body calm.stands.0 (drop w.position (w.accepted ++ commands)) w.device.synced) (sym (calm.only c image))
+      images =
+          λ c image. subst (IsPhaseImage Body calm.stands.0 (drop w.position (w.accepted ++ commands)) w.device.synced)
+          (sym (calm.only c image))
           (first_image Body calm.stands.0 (drop w.position (w.accepted ++ commands)) w.device.synced);
     } in
     record {
@@ -208,8 +267,12 @@ evaluated_some w stage batches answers given commands first whole some few roomy
       few = held.few;
       seen = held.seen;
       kept = written_kept Body next written;
-      placed = placed_from (core_of w) next w.is_open w.is_broken w.is_broken (record { stage = stage; batches = batches; answers = answers }) (round_at (Writing Body) batches given) held.placed
-          (λ running. running_at next w.is_broken (Writing Body) batches given whole (subst (λ n. AreBelow n given) (sym size) served.below) written);
+      placed =
+          placed_from (core_of w) next w.is_open w.is_broken w.is_broken
+          (record { stage = stage; batches = batches; answers = answers }) (round_at (Writing Body) batches given)
+          held.placed
+          (λ running. running_at next w.is_broken (Writing Body) batches given whole
+          (subst (λ n. AreBelow n given) (sym size) served.below) written);
     }
 
 -- calls that hold accepted commands hold commands
@@ -217,50 +280,75 @@ by_test : (b : Bool) → (b ≡ false → ⊥) → b ≡ true
 by_test true never = refl
 by_test false never = absurd (never refl)
 
-some_asked : (calls : List Call) (given : List Answer) → 1 ≤ length (accepted_of (zip calls given)) → holds_command calls ≡ true
-some_asked calls given some = by_test (holds_command calls) (λ none. omega (arith, some, ap length (asked_none calls given none)))
+some_asked : (calls : List Call) (given : List Answer) → 1 ≤ length (accepted_of (zip calls given))
+    → holds_command calls ≡ true
+some_asked calls given some =
+    by_test (holds_command calls) (λ none. omega (arith, some, ap length (asked_none calls given none)))
 
 -- then no segment is due
-not_due : (w : World) (calls : List Call) (given : List Answer) → AreEvaluated w calls given → 1 ≤ length (accepted_of (zip calls given)) → IsDueIn w.device.synced → ⊥
+not_due : (w : World) (calls : List Call) (given : List Answer) → AreEvaluated w calls given
+    → 1 ≤ length (accepted_of (zip calls given)) → IsDueIn w.device.synced → ⊥
 not_due w calls given evaluated some due =
     let refused = evaluated.due (some_asked calls given some, due) in
-    omega (arith, some, ap (λ l. length (accepted_of (zip calls l))) refused, ap length (refused_none OutOfMemory w.position calls))
+    omega (
+      arith,
+      some,
+      ap (λ l. length (accepted_of (zip calls l))) refused,
+      ap length
+          (refused_none OutOfMemory w.position calls),
+    )
 
-whole_held : (w : World) (stage : Stage) (batches : List Batch) (answers given : List Answer) → (stage ≡ Taking) ⊎ (stage ≡ Ready) → w.is_broken ≡ false
+whole_held : (w : World) (stage : Stage) (batches : List Batch) (answers given : List Answer) → (stage ≡ Taking)
+    ⊎ (stage ≡ Ready) → w.is_broken ≡ false
     → AreEvaluated w (calls_of batches) given → IsHeld (record w { round = round_at stage batches answers })
-    → IsHeld (evaluated (record w { round = round_at stage batches answers }) given (accepted_of (zip (calls_of batches) given)))
+    → IsHeld
+    (evaluated (record w { round = round_at stage batches answers }) given
+    (accepted_of (zip (calls_of batches) given)))
 whole_held w stage batches answers given first whole evaluation held =
-    by_commands (accepted_of (zip (calls_of batches) given)) refl (served_of (core_of w) (calls_of batches) given held.accepted evaluation.served)
+    by_commands (accepted_of (zip (calls_of batches) given)) refl
+    (served_of (core_of w) (calls_of batches) given held.accepted evaluation.served)
   where
     few_commands : (commands : Commands) → accepted_of (zip (calls_of batches) given) ≡ commands → length commands ≤ 64
     few_commands commands are = omega (arith, few_accepted (calls_of batches) given, held.few, ap length are)
 
-    by_commands : (commands : Commands) → accepted_of (zip (calls_of batches) given) ≡ commands → IsServed (core_of w) (calls_of batches) given commands
+    by_commands : (commands : Commands) → accepted_of (zip (calls_of batches) given) ≡ commands
+        → IsServed (core_of w) (calls_of batches) given commands
         → IsHeld (evaluated (record w { round = round_at stage batches answers }) given commands)
     by_commands [] are served =
         let now = calm_of (core_of w) w.is_open w.is_broken stage batches answers first whole held.placed in
         evaluated_none w stage batches answers given held
         (λ running. running_at (core_of w) w.is_broken Answering batches given whole
-        (subst (λ n. AreBelow n given) (let e : length w.accepted + 0 ≡ length w.accepted = omega arith in e) served.below) now.1)
+        (subst (λ n. AreBelow n given) (let e : length w.accepted + 0 ≡ length w.accepted = omega arith in e)
+        served.below) now.1)
     by_commands (command ∷ commands) are served =
-        evaluated_some w stage batches answers given (command ∷ commands) first whole (omega arith) (few_commands (command ∷ commands) are)
+        evaluated_some w stage batches answers given (command ∷ commands) first whole (omega arith)
+        (few_commands (command ∷ commands) are)
         (not_due w (calls_of batches) given evaluation (omega (arith, ap length are))) held served
 
-broken_held : (w : World) (stage : Stage) (batches : List Batch) (answers given : List Answer) → w.is_broken ≡ true → given ≡ refusals Broken w.position (calls_of batches)
+broken_held : (w : World) (stage : Stage) (batches : List Batch) (answers given : List Answer) → w.is_broken ≡ true
+    → given ≡ refusals Broken w.position (calls_of batches)
     → IsHeld (record w { round = round_at stage batches answers })
-    → IsHeld (evaluated (record w { round = round_at stage batches answers }) given (accepted_of (zip (calls_of batches) given)))
+    → IsHeld
+    (evaluated (record w { round = round_at stage batches answers }) given
+    (accepted_of (zip (calls_of batches) given)))
 broken_held w stage batches answers given broken refused held =
-    let none : accepted_of (zip (calls_of batches) given) ≡ [] = ap (λ l. accepted_of (zip (calls_of batches) l)) refused ∙ refused_none Broken w.position (calls_of batches) in
+    let none : accepted_of (zip (calls_of batches) given) ≡ [] = ap (λ l. accepted_of (zip (calls_of batches) l))
+    refused ∙ refused_none Broken w.position (calls_of batches) in
     subst (λ c. IsHeld (evaluated (record w { round = round_at stage batches answers }) given c)) (sym none)
     (evaluated_none w stage batches answers given held
     (λ running. subst (λ b. IsRunning (core_of w) b (round_at Answering batches given)) (sym broken)
     (λ n. subst (AreBelow n) (sym refused) (refused_below Broken n w.position (calls_of batches) refl))))
 
-evaluates_held : (w : World) (stage : Stage) (batches : List Batch) (answers given : List Answer) → (stage ≡ Taking) ⊎ (stage ≡ Ready) → (broken : Bool) → w.is_broken ≡ broken
+evaluates_held : (w : World) (stage : Stage) (batches : List Batch) (answers given : List Answer) → (stage ≡ Taking)
+    ⊎ (stage ≡ Ready) → (broken : Bool) → w.is_broken ≡ broken
     → IsEvaluated broken w (calls_of batches) given → IsHeld (record w { round = round_at stage batches answers })
-    → IsHeld (evaluated (record w { round = round_at stage batches answers }) given (accepted_of (zip (calls_of batches) given)))
-evaluates_held w stage batches answers given first true broken refused held = broken_held w stage batches answers given broken refused held
-evaluates_held w stage batches answers given first false whole evaluation held = whole_held w stage batches answers given first whole evaluation held
+    → IsHeld
+    (evaluated (record w { round = round_at stage batches answers }) given
+    (accepted_of (zip (calls_of batches) given)))
+evaluates_held w stage batches answers given first true broken refused held =
+    broken_held w stage batches answers given broken refused held
+evaluates_held w stage batches answers given first false whole evaluation held =
+    whole_held w stage batches answers given first whole evaluation held
 
 -- ---- answers
 
@@ -271,30 +359,41 @@ with_told k told = record k { told = told }
 told_calm : (k : Core) (told : ℕ) → IsCalm k → IsCalm (with_told k told)
 told_calm k told calm = record { only = calm.only; stands = calm.stands; counted = calm.counted }
 
-put_running : (k : Core) (told : ℕ) (broken : Bool) (batches rest : List Batch) (answers : List Answer) (count : ℕ) → IsRunning k broken (round_at Answering batches answers)
-    → IsRunning (with_told k told) broken (rest_of (record { stage = Answering; batches = batches; answers = answers }) rest count)
+put_running : (k : Core) (told : ℕ) (broken : Bool) (batches rest : List Batch) (answers : List Answer) (count : ℕ)
+    → IsRunning k broken (round_at Answering batches answers)
+    → IsRunning (with_told k told) broken
+    (rest_of (record { stage = Answering; batches = batches; answers = answers }) rest count)
 put_running k told true batches [] answers count running = tt
 put_running k told true batches (batch ∷ rest) answers count running = λ n. below_drop n count answers (running n)
 put_running k told false batches [] answers count running = told_calm k told running.1
-put_running k told false batches (batch ∷ rest) answers count running = (below_drop (length k.accepted) count answers running.0, told_calm k told running.1)
+put_running k told false batches (batch ∷ rest) answers count running =
+    (below_drop (length k.accepted) count answers running.0, told_calm k told running.1)
 
-put_kept : (k : Core) (opened broken : Bool) (batches : List Batch) (answers : List Answer) (count : ℕ) → Holds k opened broken (round_at Answering batches answers)
+put_kept : (k : Core) (opened broken : Bool) (batches : List Batch) (answers : List Answer) (count : ℕ)
+    → Holds k opened broken (round_at Answering batches answers)
     → (image : List ℕ) → IsImageOf k.device image → IsKept (with_told k (greatest k.told (take count answers))) image
 put_kept k true true batches answers count held image left =
     let was = held.kept image left in
-    let most = greatest_below k.told k.told (take count answers) (omega arith) (below_take k.told count answers (held.placed k.told)) in
+    let most = greatest_below k.told k.told (take count answers) (omega arith)
+    (below_take k.told count answers (held.placed k.told)) in
     record { n = was.n; told = omega (arith, most, was.told); most = was.most; stands = was.stands }
 put_kept k true false batches answers count held image left =
-    let most = greatest_below (length k.accepted) k.told (take count answers) (told_most k true false (round_at Answering batches answers) held) (below_take (length k.accepted) count answers held.placed.0) in
-    let kept = calm_kept (with_told k (greatest k.told (take count answers))) (told_calm k (greatest k.told (take count answers)) held.placed.1) most image left in
+    let most = greatest_below (length k.accepted) k.told (take count answers)
+    (told_most k true false (round_at Answering batches answers) held)
+    (below_take (length k.accepted) count answers held.placed.0) in
+    let kept = calm_kept (with_told k (greatest k.told (take count answers)))
+    (told_calm k (greatest k.told (take count answers)) held.placed.1) most image left in
     kept
-put_kept k false broken batches answers count held image left = let e : round_at Answering batches answers ≡ None = held.placed in absurd cc
+put_kept k false broken batches answers count held image left =
+    let e : round_at Answering batches answers ≡ None = held.placed in absurd cc
 
-few_left : (round : Round) (batch : Batch) (rest : List Batch) (count : ℕ) → length (calls_of (batch ∷ rest)) ≤ 64 → length (calls_of (batches_in (rest_of round rest count))) ≤ 64
+few_left : (round : Round) (batch : Batch) (rest : List Batch) (count : ℕ) → length (calls_of (batch ∷ rest)) ≤ 64
+    → length (calls_of (batches_in (rest_of round rest count))) ≤ 64
 few_left round batch [] count few = omega arith
 few_left round batch (next ∷ rest) count few = omega (arith, few, fewer_calls batch (next ∷ rest))
 
-put_held : (w : World) (batches : List Batch) (answers : List Answer) → IsHeld (record w { round = round_at Answering batches answers })
+put_held : (w : World) (batches : List Batch) (answers : List Answer)
+    → IsHeld (record w { round = round_at Answering batches answers })
     → IsHeld (answer_put (record w { round = round_at Answering batches answers }) (round_at Answering batches answers))
 put_held w [] answers held = held
 put_held w (batch ∷ rest) answers held =
@@ -302,40 +401,61 @@ put_held w (batch ∷ rest) answers held =
     record {
       within = held.within;
       accepted = held.accepted;
-      few = few_left (record { stage = Answering; batches = batch ∷ rest; answers = answers }) batch rest (length batch) held.few;
+      few = few_left (record { stage = Answering; batches = batch ∷ rest; answers = answers }) batch rest (length batch)
+          held.few;
       seen = held.seen;
       kept = put_kept (core_of w) w.is_open w.is_broken (batch ∷ rest) answers (length batch) held;
-      placed = placed_from (core_of w) (with_told (core_of w) told) w.is_open w.is_broken w.is_broken (record { stage = Answering; batches = batch ∷ rest; answers = answers })
-          (rest_of (record { stage = Answering; batches = batch ∷ rest; answers = answers }) rest (length batch)) held.placed
+      placed =
+          placed_from (core_of w) (with_told (core_of w) told) w.is_open w.is_broken w.is_broken
+          (record { stage = Answering; batches = batch ∷ rest; answers = answers })
+          (rest_of (record { stage = Answering; batches = batch ∷ rest; answers = answers }) rest (length batch))
+          held.placed
           (put_running (core_of w) told w.is_broken (batch ∷ rest) rest answers (length batch));
     }
 
 -- ---- crashes and openings
 
 -- a device that holds one image
-stopped_held : (w : World) (image : List ℕ) → IsHeld w → IsKept (core_of w) image → IsHeld (stopped w (record { synced = image; since = [] }))
+stopped_held : (w : World) (image : List ℕ) → IsHeld w → IsKept (core_of w) image
+    → IsHeld (stopped w (record { synced = image; since = [] }))
 stopped_held w image held kept = record {
   within = held.within;
   accepted = held.accepted;
   few = omega arith;
   seen = refl;
-  kept = λ c is. record { n = kept.n; told = kept.told; most = kept.most; stands = subst (λ i. Stands i (state_from w.params (take kept.n w.accepted))) (sym is) kept.stands };
+  kept = λ c is.
+      record {
+        n = kept.n;
+        told = kept.told;
+        most = kept.most;
+        stands = subst
+            (λ i. Stands i (state_from w.params (take kept.n w.accepted))) (sym is) kept.stands;
+      };
   placed = refl;
 }
 
 unsynced_held : (w : World) → IsHeld w → IsHeld (stopped w (asked_of w.device FailedSync))
 unsynced_held w held =
     let still = failed_sync_held w held in
-    record { within = still.within; accepted = still.accepted; few = omega arith; seen = still.seen; kept = still.kept; placed = refl }
+    record {
+      within = still.within;
+      accepted = still.accepted;
+      few = omega arith;
+      seen = still.seen;
+      kept = still.kept;
+      placed = refl;
+    }
 
 opening_held : (w : World) (s : State (List ℕ)) → Stands (seen_of w.device) s → IsHeld w → IsHeld (event.opened w s)
 opening_held w s found held =
     let kept = held.kept (seen_of w.device) held.seen in
-    let same : s ≡ state_from w.params (take kept.n w.accepted) = stands_for_one one_state (seen_of w.device) s (state_from w.params (take kept.n w.accepted)) found kept.stands in
+    let same : s ≡ state_from w.params (take kept.n w.accepted) = stands_for_one one_state (seen_of w.device) s
+    (state_from w.params (take kept.n w.accepted)) found kept.stands in
     let parts = accepted_parts length (new_state w.params) (take kept.n w.accepted) (drop kept.n w.accepted)
     (subst (AllAccepted length (new_state w.params)) (sym (take-append-drop kept.n w.accepted)) held.accepted) in
     let size : length (take kept.n w.accepted) ≡ kept.n = omega (arith, length-take kept.n w.accepted, kept.most) in
-    let count : s.seq ≡ kept.n = omega (arith, ap (λ t. t.seq) same, seq_fold length (new_state w.params) (take kept.n w.accepted) parts.0, size) in
+    let count : s.seq ≡ kept.n = omega
+    (arith, ap (λ t. t.seq) same, seq_fold length (new_state w.params) (take kept.n w.accepted) parts.0, size) in
     let cut : take s.seq w.accepted ≡ take kept.n w.accepted = ap (λ n. take n w.accepted) count in
     let next : Core = core_of (event.opened w s) in
     let calm : IsCalm (core_of (event.opened w s)) = record {
@@ -359,22 +479,29 @@ called_held w (Read place count) may held = read_held w place count held
 called_held w (FailedRead place count) may held = failed_read_held w place count held
 called_held w (Write place bytes) may held =
     let is = at_stage w may.0 (Writing may.2.0) may.1 may.2.1 in
-    from_round (λ v. IsHeld (called v (Write place bytes))) w (round_at (Writing may.2.0) may.0.batches may.0.answers) is
-    (write_held w may.2.0 may.0.batches may.0.answers place bytes (in_round IsHeld w (round_at (Writing may.2.0) may.0.batches may.0.answers) is held) may.2.2)
+    from_round (λ v. IsHeld (called v (Write place bytes))) w (round_at (Writing may.2.0) may.0.batches may.0.answers)
+    is
+    (write_held w may.2.0 may.0.batches may.0.answers place bytes
+    (in_round IsHeld w (round_at (Writing may.2.0) may.0.batches may.0.answers) is held) may.2.2)
 called_held w (FailedWrite place bytes left) may held =
     let is = at_stage w may.0 (Writing may.2.0) may.1 may.2.1 in
-    from_round (λ v. IsHeld (called v (FailedWrite place bytes left))) w (round_at (Writing may.2.0) may.0.batches may.0.answers) is
-    (broke_held (record w { device = asked_of w.device (FailedWrite place bytes left) }) may.2.0 may.0.batches may.0.answers
-    (failed_write_held w may.2.0 may.0.batches may.0.answers place bytes left (in_round IsHeld w (round_at (Writing may.2.0) may.0.batches may.0.answers) is held) may.2.2))
+    from_round (λ v. IsHeld (called v (FailedWrite place bytes left))) w
+    (round_at (Writing may.2.0) may.0.batches may.0.answers) is
+    (broke_held (record w { device = asked_of w.device (FailedWrite place bytes left) }) may.2.0 may.0.batches
+    may.0.answers
+    (failed_write_held w may.2.0 may.0.batches may.0.answers place bytes left
+    (in_round IsHeld w (round_at (Writing may.2.0) may.0.batches may.0.answers) is held) may.2.2))
 called_held w Sync may held =
     let is = at_stage w may.0 (Writing may.2.0) may.1 may.2.1 in
     from_round (λ v. IsHeld (called v Sync)) w (round_at (Writing may.2.0) may.0.batches may.0.answers) is
-    (sync_held w may.2.0 may.0.batches may.0.answers (in_round IsHeld w (round_at (Writing may.2.0) may.0.batches may.0.answers) is held) may.2.2)
+    (sync_held w may.2.0 may.0.batches may.0.answers
+    (in_round IsHeld w (round_at (Writing may.2.0) may.0.batches may.0.answers) is held) may.2.2)
 called_held w FailedSync may held =
     let is = at_stage w may.0 (Writing may.2.0) may.1 may.2.1 in
     from_round (λ v. IsHeld (called v FailedSync)) w (round_at (Writing may.2.0) may.0.batches may.0.answers) is
     (broke_held (record w { device = asked_of w.device FailedSync }) may.2.0 may.0.batches may.0.answers
-    (failed_sync_held (in_phase w may.2.0 may.0.batches may.0.answers) (in_round IsHeld w (round_at (Writing may.2.0) may.0.batches may.0.answers) is held)))
+    (failed_sync_held (in_phase w may.2.0 may.0.batches may.0.answers)
+    (in_round IsHeld w (round_at (Writing may.2.0) may.0.batches may.0.answers) is held)))
 
 after_held : (w : World) (e : Event) → HasPlace w e → IsHeld w → IsHeld (after w e)
 after_held w (event.Put seat asks) may held = held
@@ -382,21 +509,25 @@ after_held w event.Takes may held = taken_held w w.kept w.line may.0 (may_take w
 after_held w (event.Opens segment) may held =
     let is = at_stage w may.2.0 Taking may.2.1 may.2.2.0 in
     from_round (λ v. IsHeld (after v (event.Opens segment))) w (round_at Taking may.2.0.batches may.2.0.answers) is
-    (opens_held w segment may.2.0.batches may.2.0.answers may.0 may.1 may.2.2.1.1 (in_round IsHeld w (round_at Taking may.2.0.batches may.2.0.answers) is held))
+    (opens_held w segment may.2.0.batches may.2.0.answers may.0 may.1 may.2.2.1.1
+    (in_round IsHeld w (round_at Taking may.2.0.batches may.2.0.answers) is held))
 after_held w (event.Evaluates given) may held =
     let round : Round = may.0 in
     from_round (λ v. IsHeld (after v (event.Evaluates given))) w (Some may.0) may.1
-    (evaluates_held w may.0.stage may.0.batches may.0.answers given may.2.0 w.is_broken refl may.2.1 (in_round IsHeld w (Some may.0) may.1 held))
+    (evaluates_held w may.0.stage may.0.batches may.0.answers given may.2.0 w.is_broken refl may.2.1
+    (in_round IsHeld w (Some may.0) may.1 held))
 after_held w (event.Calls call) may held = called_held w call may held
 after_held w event.Answers may held =
     let is = at_stage w may.0 Answering may.1 may.2 in
     from_round (λ v. IsHeld (after v event.Answers)) w (round_at Answering may.0.batches may.0.answers) is
-    (put_held w may.0.batches may.0.answers (in_round IsHeld w (round_at Answering may.0.batches may.0.answers) is held))
+    (put_held w may.0.batches may.0.answers
+    (in_round IsHeld w (round_at Answering may.0.batches may.0.answers) is held))
 after_held w (event.Hears seat) may held = held
 after_held w event.Packet may held = held
 after_held w (event.Crash image) may held = stopped_held w image held (held.kept image may)
 after_held w (event.Opening s) may held = opening_held w s may.1 held
-after_held w (event.FailedOpening true) may held = stopped_held w (seen_of w.device) held (held.kept (seen_of w.device) held.seen)
+after_held w (event.FailedOpening true) may held =
+    stopped_held w (seen_of w.device) held (held.kept (seen_of w.device) held.seen)
 after_held w (event.FailedOpening false) may held = unsynced_held w held
 
 pub happens_held : (old new : World) (e : Event) → event.Happens old e new → IsHeld old → IsHeld new

@@ -13,7 +13,8 @@ use Rattle.rly_journal.specs.Standing.{Commands, Standing, gate_of}
 use Rattle.rly_segment.specs.Formatted.{IsFormatted}
 use Rattle.rly_world.specs.RelayPhases.{IsDone, IsNeeded, bytes_of, place_of}
 use Rattle.rly_world.specs.RelaySteps.{Event, GoesOn, Run}
-use Rattle.rly_world.specs.RelayWorld.{Body, Gate, Head, Phase, Round, Seal, Switch, World, Writing, logged, new_world, seen_of}
+use Rattle.rly_world.specs.RelayWorld.{Body, Gate, Head, Phase, Round, Seal, Switch, World, Writing, logged, new_world}
+use Rattle.rly_world.specs.RelayWorld.{seen_of}
 use Rattle.rly_world.proofs.RelayCalls.{writing_of}
 use Rattle.rly_world.proofs.RelayDevice.{asked_seen}
 use Rattle.rly_world.proofs.RelayEvents.{at_stage}
@@ -22,41 +23,60 @@ use Rattle.rly_world.proofs.RelayPhases.{phase_within}
 use Rattle.rly_world.proofs.RelayStart.{holds}
 
 -- one byte that was written
-gate_written : (place : ℕ) (seen : List ℕ) → place + 1 ≤ length seen → IsOpen (overwritten place (open_gate ∷ []) seen) place
+gate_written : (place : ℕ) (seen : List ℕ) → place + 1 ≤ length seen
+    → IsOpen (overwritten place (open_gate ∷ []) seen) place
 gate_written place seen within =
     overwritten_in place (open_gate ∷ []) seen within place (omega arith) (omega arith)
     ∙ ap (λ i. get_or (open_gate ∷ []) i 0) (let e : place - place ≡ 0 = omega arith in e)
 
 -- a phase is done once its bytes are written
-done_when : (phase : Phase) (x : Standing) (commands : Commands) (seen : List ℕ) → place_of phase x + length (bytes_of phase x commands) ≤ length seen
+done_when : (phase : Phase) (x : Standing) (commands : Commands) (seen : List ℕ)
+    → place_of phase x + length (bytes_of phase x commands) ≤ length seen
     → IsDone phase x commands (overwritten (place_of phase x) (bytes_of phase x commands) seen)
 done_when (Seal segment) x commands seen within = zero_closes (segment_place x.geometry segment) seen within
 done_when (Head segment) x commands seen within =
-    part-overwritten (segment_place x.geometry segment + 1) (bytes_of (Head segment) x commands) seen (omega (arith, within))
+    part-overwritten (segment_place x.geometry segment + 1) (bytes_of (Head segment) x commands) seen
+    (omega (arith, within))
 done_when (Switch segment) x commands seen within = gate_written (segment_place x.geometry segment) seen within
-done_when Body x commands seen within = part-overwritten (gate_of x + 1) (frame_of (body_of commands)) seen (omega (arith, within))
+done_when Body x commands seen within =
+    part-overwritten (gate_of x + 1) (frame_of (body_of commands)) seen (omega (arith, within))
 done_when Gate x commands seen within = gate_written (gate_of x) seen within
 
 -- without the write only where a gate reads closed
-done_already : (phase : Phase) (x : Standing) (commands : Commands) (seen : List ℕ) → (IsNeeded phase x seen → ⊥) → IsDone phase x commands seen
+done_already : (phase : Phase) (x : Standing) (commands : Commands) (seen : List ℕ) → (IsNeeded phase x seen → ⊥)
+    → IsDone phase x commands seen
 done_already (Seal segment) x commands seen closed = closed
 done_already (Head segment) x commands seen skipped = absurd (skipped tt)
 done_already (Switch segment) x commands seen skipped = absurd (skipped tt)
 done_already Body x commands seen skipped = absurd (skipped tt)
 done_already Gate x commands seen skipped = absurd (skipped tt)
 
-goes_on : (w : World) (round : Round) (phase : Phase) → IsHeld w → w.round ≡ Some round → round.stage ≡ Writing phase → GoesOn w phase
+goes_on : (w : World) (round : Round) (phase : Phase) → IsHeld w → w.round ≡ Some round → round.stage ≡ Writing phase
+    → GoesOn w phase
 goes_on w round phase held is at =
-    let placed = subst (IsPlaced (core_of w) w.is_open w.is_broken) (at_stage w round (Writing phase) is at) held.placed in
+    let placed = subst (IsPlaced (core_of w) w.is_open w.is_broken) (at_stage w round (Writing phase) is at)
+    held.placed in
     let now = (writing_of (core_of w) w.is_open w.is_broken phase round.batches round.answers placed).2 in
     let x : Standing = now.x in
     let within : place_of phase now.x + length (bytes_of phase now.x (logged w)) ≤ length (seen_of w.device) =
-    omega (arith, phase_within phase now.x (logged w) w.device.synced now.stands now.begins, (now.images (seen_of w.device) held.seen).outside.same_length) in
+    omega (
+      arith,
+      phase_within phase now.x (logged w) w.device.synced now.stands now.begins,
+      (now.images (seen_of w.device) held.seen).outside.same_length,
+    ) in
     let written = asked_seen w.device (Write (place_of phase now.x) (bytes_of phase now.x (logged w))) in
     record {
       x = now.x;
       stands = now.stands;
-      write = λ needed. (round, is, (phase, at, record { x = now.x; stands = now.stands; from = omega arith; to = omega arith; needed = needed }));
+      write = λ needed. (
+        round,
+        is,
+        (
+          phase,
+          at,
+          record { x = now.x; stands = now.stands; from = omega arith; to = omega arith; needed = needed },
+        ),
+      );
       then_sync = λ needed. (
         round,
         is,
@@ -66,13 +86,29 @@ goes_on w round phase held is at =
           record {
             x = now.x;
             stands = now.stands;
-            done = subst (IsDone phase now.x (logged w)) (sym written) (done_when phase now.x (logged w) (seen_of w.device) within);
+            done = subst (IsDone phase now.x (logged w)) (sym written)
+                (done_when phase now.x (logged w) (seen_of w.device) within);
           },
         ),
       );
-      sync = λ skipped. (round, is, (phase, at, record { x = now.x; stands = now.stands; done = done_already phase now.x (logged w) (seen_of w.device) skipped }));
+      sync = λ skipped. (
+        round,
+        is,
+        (
+          phase,
+          at,
+          record {
+            x = now.x;
+            stands = now.stands;
+            done = done_already phase now.x (logged w) (seen_of w.device) skipped;
+          },
+        ),
+      );
     }
 
-pub relay_goes_on : (g : Geometry) (seats : ℕ) (bytes : List ℕ) (events : List Event) (w : World) (round : Round) (phase : Phase) → IsFormatted g bytes
-    → Run (new_world g.params seats bytes) events w → w.round ≡ Some round → round.stage ≡ Writing phase → GoesOn w phase
-relay_goes_on g seats bytes events w round phase formatted run is at = goes_on w round phase (holds g seats bytes events w formatted run) is at
+pub relay_goes_on : (g : Geometry) (seats : ℕ) (bytes : List ℕ) (events : List Event) (w : World) (round : Round)
+    (phase : Phase) → IsFormatted g bytes
+    → Run (new_world g.params seats bytes) events w → w.round ≡ Some round → round.stage ≡ Writing phase
+    → GoesOn w phase
+relay_goes_on g seats bytes events w round phase formatted run is at =
+    goes_on w round phase (holds g seats bytes events w formatted run) is at

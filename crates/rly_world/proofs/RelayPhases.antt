@@ -1,5 +1,6 @@
 -- What a crash leaves in each phase of a round, and what stands when the phase is over.
-use Rattle.std.proofs.Common.{◌≡◌, ◌≢◌, ◌⊎◌, ◌≤◌, ◌<◌, ◌+◌, ◌^◌, ◌++◌, ◌∷◌, [], ◌∙◌, ℕ, List, length, get_or, arith, sym, refl, subst, inl, inr, length-append}
+use Rattle.std.proofs.Common.{◌≡◌, ◌≢◌, ◌⊎◌, ◌≤◌, ◌<◌, ◌+◌, ◌^◌, ◌++◌, ◌∷◌, [], ◌∙◌, ℕ, List, length, get_or, arith}
+use Rattle.std.proofs.Common.{sym, refl, subst, inl, inr, length-append}
 use Rattle.std.proofs.lemmas.Bool.{cases_eq}
 use Rattle.rly_disk.specs.DiskModel.{SameOutside}
 use Rattle.rly_disk.proofs.Ranges.{same_outside_again, wider}
@@ -11,7 +12,8 @@ use Rattle.rly_gate.proofs.Appending.{behind_the_gate, gate_opened}
 use Rattle.rly_record.specs.Spelling.{HaveBody, body_of}
 use Rattle.rly_segment.specs.Heads.{IsHead, IsOpening, head_of, segment_place}
 use Rattle.rly_segment.proofs.Segments.{segment_within}
-use Rattle.rly_journal.specs.Standing.{Commands, HoldGroups, IsStanding, Standing, Stands, first_of, gate_behind, gate_of, next_gate, standing_end, state_in}
+use Rattle.rly_journal.specs.Standing.{Commands, HoldGroups, IsStanding, Standing, Stands, first_of, gate_behind}
+use Rattle.rly_journal.specs.Standing.{gate_of, next_gate, standing_end, state_in}
 use Rattle.rly_journal.proofs.Agreeing.{number_still, same_behind}
 use Rattle.rly_journal.proofs.Frame.{length-head}
 use Rattle.rly_journal.proofs.Growing.{grown, renewed, replayed-more, with_group, with_segment}
@@ -36,15 +38,18 @@ pub record IsGroup (x : Standing) (commands : Commands) : Type 0 where
 -- what a phase begins with
 abbrev pub Begins : Phase → Standing → Commands → List ℕ → Type 0
 Begins (Seal segment) x commands old = IsTarget x segment × (commands ≡ [])
-Begins (Head segment) x commands old = IsTarget x segment × (commands ≡ []) × IsClosed old (segment_place x.geometry segment)
-Begins (Switch segment) x commands old = IsTarget x segment × (commands ≡ []) × IsClosed old (segment_place x.geometry segment)
+Begins (Head segment) x commands old =
+    IsTarget x segment × (commands ≡ []) × IsClosed old (segment_place x.geometry segment)
+Begins (Switch segment) x commands old =
+    IsTarget x segment × (commands ≡ []) × IsClosed old (segment_place x.geometry segment)
     × StandsAt old (segment_place x.geometry segment + 1) (head_of (x.generation + 1) (state_in x) ++ 0 ∷ [])
 Begins Body x commands old = IsGroup x commands
 Begins Gate x commands old = IsGroup x commands × StandsAt old (gate_of x + 1) (frame_of (body_of commands))
 
 -- a gate that is to be closed opens in no crash
 abbrev pub StaysShut : Phase → Standing → List ℕ → List ℕ → Type 0
-StaysShut (Seal segment) x old image = IsOpen image (segment_place x.geometry segment) → IsOpen old (segment_place x.geometry segment)
+StaysShut (Seal segment) x old image =
+    IsOpen image (segment_place x.geometry segment) → IsOpen old (segment_place x.geometry segment)
 StaysShut (Head segment) x old image = Unit {0}
 StaysShut (Switch segment) x old image = Unit {0}
 StaysShut Body x old image = Unit {0}
@@ -66,103 +71,157 @@ shut_itself Body x old = tt
 shut_itself Gate x old = tt
 
 -- the bytes that it began with are one
-pub first_image : (phase : Phase) (x : Standing) (commands : Commands) (old : List ℕ) → IsPhaseImage phase x commands old old
-first_image phase x commands old = record { outside = same_list (place_of phase x) (length (bytes_of phase x commands)) old; shut = shut_itself phase x old }
+pub first_image : (phase : Phase) (x : Standing) (commands : Commands) (old : List ℕ)
+    → IsPhaseImage phase x commands old old
+first_image phase x commands old =
+    record {
+      outside = same_list (place_of phase x) (length (bytes_of phase x commands)) old;
+      shut = shut_itself phase x
+          old;
+    }
 
 -- ---- the opening of a segment
 
-length-behind : (x : Standing) → length (head_of (x.generation + 1) (state_in x) ++ 0 ∷ []) ≡ 13 + length (checkpoint_of (state_in x))
-length-behind x = omega (arith, length-append (head_of (x.generation + 1) (state_in x)) (0 ∷ []), length-head (x.generation + 1) (state_in x))
+length-behind : (x : Standing)
+    → length (head_of (x.generation + 1) (state_in x) ++ 0 ∷ []) ≡ 13 + length (checkpoint_of (state_in x))
+length-behind x =
+    omega (
+      arith,
+      length-append (head_of (x.generation + 1) (state_in x)) (0 ∷ []),
+      length-head (x.generation + 1)
+          (state_in x),
+    )
 
 module _ {old image : List ℕ} (x : Standing) (segment : ℕ) (target : IsTarget x segment) where
-  opening_within : (from n : ℕ) → segment_place x.geometry segment ≤ from → from + n ≤ segment_place x.geometry segment + 14 + length (checkpoint_of (state_in x)) → SameOutside from n old image
+  opening_within : (from n : ℕ) → segment_place x.geometry segment ≤ from
+      → from + n ≤ segment_place x.geometry segment + 14 + length (checkpoint_of (state_in x))
+      → SameOutside from n old image
       → SameOutside (segment_place x.geometry segment) x.geometry.length old image
   opening_within from n begins ends same =
-      wider (segment_place x.geometry segment) x.geometry.length from n begins (omega (arith, ends, target.head.room)) same
+      wider (segment_place x.geometry segment) x.geometry.length from n begins (omega (arith, ends, target.head.room))
+      same
 
-  opening_shut : SameOutside (segment_place x.geometry segment) x.geometry.length old image → IsClosed image (segment_place x.geometry segment)
+  opening_shut : SameOutside (segment_place x.geometry segment) x.geometry.length old image
+      → IsClosed image (segment_place x.geometry segment)
       → IsOpening x.geometry segment (x.generation + 1) (state_in x) old image
   opening_shut outside closed = record { outside = outside; whole = inl (λ opened. absurd (closed opened)) }
 
-  seal_opening : IsPhaseImage (Seal segment) x [] old image → IsOpening x.geometry segment (x.generation + 1) (state_in x) old image
+  seal_opening : IsPhaseImage (Seal segment) x [] old image
+      → IsOpening x.geometry segment (x.generation + 1) (state_in x) old image
   seal_opening left =
       let place : ℕ = segment_place x.geometry segment in
       record {
         outside = opening_within place 1 (omega arith) (omega arith) left.outside;
         whole = inl (λ opened. (
           left.shut opened,
-          number_still (place + 1) (place + 9) (place + 1) 8 (omega arith) (omega arith) (same_behind place 1 (place + 1) (place + 9) (omega arith) left.outside),
+          number_still (place + 1) (place + 9) (place + 1) 8 (omega arith) (omega arith)
+              (same_behind place 1 (place + 1) (place + 9) (omega arith) left.outside),
         ));
       }
 
-  head_shut : IsClosed old (segment_place x.geometry segment) → IsPhaseImage (Head segment) x [] old image → IsClosed image (segment_place x.geometry segment)
-  head_shut closed left opened = closed (sym (left.outside.each (segment_place x.geometry segment) (inl (omega arith))) ∙ opened)
+  head_shut : IsClosed old (segment_place x.geometry segment) → IsPhaseImage (Head segment) x [] old image
+      → IsClosed image (segment_place x.geometry segment)
+  head_shut closed left opened =
+      closed (sym (left.outside.each (segment_place x.geometry segment) (inl (omega arith))) ∙ opened)
 
-  head_opening : IsClosed old (segment_place x.geometry segment) → IsPhaseImage (Head segment) x [] old image → IsOpening x.geometry segment (x.generation + 1) (state_in x) old image
+  head_opening : IsClosed old (segment_place x.geometry segment) → IsPhaseImage (Head segment) x [] old image
+      → IsOpening x.geometry segment (x.generation + 1) (state_in x) old image
   head_opening closed left =
-      opening_shut (opening_within (segment_place x.geometry segment + 1) (length (head_of (x.generation + 1) (state_in x) ++ 0 ∷ [])) (omega arith) (omega (arith, length-behind x)) left.outside)
+      opening_shut
+      (opening_within (segment_place x.geometry segment + 1)
+      (length (head_of (x.generation + 1) (state_in x) ++ 0 ∷ [])) (omega arith) (omega (arith, length-behind x))
+      left.outside)
       (head_shut closed left)
 
-  switch_opening : segment_place x.geometry segment < length old → StandsAt old (segment_place x.geometry segment + 1) (head_of (x.generation + 1) (state_in x) ++ 0 ∷ [])
-      → IsPhaseImage (Switch segment) x [] old image → IsOpening x.geometry segment (x.generation + 1) (state_in x) old image
+  switch_opening : segment_place x.geometry segment < length old
+      → StandsAt old (segment_place x.geometry segment + 1) (head_of (x.generation + 1) (state_in x) ++ 0 ∷ [])
+      → IsPhaseImage (Switch segment) x [] old image
+      → IsOpening x.geometry segment (x.generation + 1) (state_in x) old image
   switch_opening within stands left =
       let place : ℕ = segment_place x.geometry segment in
       let outside = opening_within place 1 (omega arith) (omega arith) left.outside in
       elim (cases_eq (get_or image place 0) open_gate) [
-        | inl opened ↦ record { outside = outside; whole = inr (gate_opened place (head_of (x.generation + 1) (state_in x) ++ 0 ∷ []) old image within stands left.outside opened) }
+        | inl opened ↦ record {
+          outside = outside;
+          whole = inr
+              (gate_opened place (head_of (x.generation + 1) (state_in x) ++ 0 ∷ []) old image within stands
+              left.outside opened);
+        }
         | inr closed ↦ opening_shut outside closed
       ]
 
   -- either standing is of the same state
-  opening_stands : IsStanding old x → IsOpening x.geometry segment (x.generation + 1) (state_in x) old image → Stands image (state_in x)
+  opening_stands : IsStanding old x → IsOpening x.geometry segment (x.generation + 1) (state_in x) old image
+      → Stands image (state_in x)
   opening_stands stands left =
-      elim (renewed x segment stands target.there target.other target.sound target.head (omega (arith, target.head.most, target.sound.seq)) image left) [
+      elim (renewed x segment stands target.there target.other target.sound target.head
+      (omega (arith, target.head.most, target.sound.seq)) image left) [
         | inl before ↦ (x, before, refl)
         | inr after ↦ (with_segment x segment, after, refl)
       ]
 
   -- and it is the same while the gate is closed
-  opening_same : IsStanding old x → IsOpening x.geometry segment (x.generation + 1) (state_in x) old image → IsClosed image (segment_place x.geometry segment) → IsStanding image x
+  opening_same : IsStanding old x → IsOpening x.geometry segment (x.generation + 1) (state_in x) old image
+      → IsClosed image (segment_place x.geometry segment) → IsStanding image x
   opening_same stands left closed =
-      elim (renewed x segment stands target.there target.other target.sound target.head (omega (arith, target.head.most, target.sound.seq)) image left) [
+      elim (renewed x segment stands target.there target.other target.sound target.head
+      (omega (arith, target.head.most, target.sound.seq)) image left) [
         | inl before ↦ before
         | inr after ↦ absurd (closed after.scanned.newest.gate)
       ]
 
-segment_there : {old : List ℕ} (x : Standing) (segment : ℕ) → IsStanding old x → IsTarget x segment → segment_place x.geometry segment < length old
-segment_there {old} x segment stands target = omega (arith, segment_within x.geometry segment (length old) stands.scanned.fits target.there, target.head.room)
+segment_there : {old : List ℕ} (x : Standing) (segment : ℕ) → IsStanding old x → IsTarget x segment
+    → segment_place x.geometry segment < length old
+segment_there {old} x segment stands target =
+    omega (arith, segment_within x.geometry segment (length old) stands.scanned.fits target.there, target.head.room)
 
 -- ---- a group
 
-room_there : {old : List ℕ} (x : Standing) (commands : Commands) → IsGroup x commands → IsStanding old x → gate_of x < length old
+room_there : {old : List ℕ} (x : Standing) (commands : Commands) → IsGroup x commands → IsStanding old x
+    → gate_of x < length old
 room_there {old} x commands group stands =
-    omega (arith, group.room, segment_within x.geometry x.segment (length old) stands.scanned.fits stands.scanned.newest.there)
+    omega (
+      arith,
+      group.room,
+      segment_within x.geometry x.segment (length old) stands.scanned.fits
+          stands.scanned.newest.there,
+    )
 
-grown_state : (x : Standing) (commands : Commands) → fold length (state_in x) commands ≡ state_in (with_group x commands)
+grown_state : (x : Standing) (commands : Commands)
+    → fold length (state_in x) commands ≡ state_in (with_group x commands)
 grown_state x commands = sym (replayed-more x.checkpoint x.groups commands)
 
 -- the gate of the last group is open
-last_open : (image : List ℕ) (end at : ℕ) (groups : List Commands) (commands : Commands) → HoldGroups image end at (groups ++ commands ∷ []) → IsOpen image (gate_behind at groups)
+last_open : (image : List ℕ) (end at : ℕ) (groups : List Commands) (commands : Commands)
+    → HoldGroups image end at (groups ++ commands ∷ []) → IsOpen image (gate_behind at groups)
 last_open image end at [] commands holds = gate_there image at end (body_of commands) holds.1
-last_open image end at (first ∷ groups) commands holds = last_open image end (next_gate at first) groups commands holds.2
+last_open image end at (first ∷ groups) commands holds =
+    last_open image end (next_gate at first) groups commands holds.2
 
-module _ {old image : List ℕ} (x : Standing) (commands : Commands) (group : IsGroup x commands) (stands : IsStanding old x) where
+module _ {old image : List ℕ} (x : Standing) (commands : Commands) (group : IsGroup x commands)
+    (stands : IsStanding old x) where
   body_appended : IsPhaseImage Body x commands old image → IsAppended (gate_of x) (body_of commands) old image
   body_appended left = behind_the_gate (gate_of x) (body_of commands) old image stands.closed left.outside
 
-  gate_appended : StandsAt old (gate_of x + 1) (frame_of (body_of commands)) → IsPhaseImage Gate x commands old image → IsAppended (gate_of x) (body_of commands) old image
+  gate_appended : StandsAt old (gate_of x + 1) (frame_of (body_of commands)) → IsPhaseImage Gate x commands old image
+      → IsAppended (gate_of x) (body_of commands) old image
   gate_appended frame left = record {
-    outside = wider (gate_of x) (length (group_of (body_of commands))) (gate_of x) 1 (omega arith) (omega arith) left.outside;
+    outside =
+        wider (gate_of x) (length (group_of (body_of commands))) (gate_of x) 1 (omega arith) (omega arith) left.outside;
     whole = elim (cases_eq (get_or image (gate_of x) 0) open_gate) [
-      | inl opened ↦ inr (gate_opened (gate_of x) (frame_of (body_of commands)) old image (room_there x commands group stands) frame left.outside opened)
+      | inl opened ↦ inr
+          (gate_opened (gate_of x) (frame_of (body_of commands)) old image (room_there x commands group stands) frame
+          left.outside opened)
       | inr closed ↦ inl closed
     ];
   }
 
-  appended_standing : IsAppended (gate_of x) (body_of commands) old image → IsStanding image x ⊎ IsStanding image (with_group x commands)
+  appended_standing : IsAppended (gate_of x) (body_of commands) old image → IsStanding image x
+      ⊎ IsStanding image (with_group x commands)
   appended_standing left = grown x commands stands group.body group.accepted group.small group.room image left
 
-  appended_stands : IsAppended (gate_of x) (body_of commands) old image → Stands image (state_in x) ⊎ Stands image (fold length (state_in x) commands)
+  appended_stands : IsAppended (gate_of x) (body_of commands) old image → Stands image (state_in x)
+      ⊎ Stands image (fold length (state_in x) commands)
   appended_stands left =
       elim (appended_standing left) [
         | inl before ↦ inl (x, before, refl)
@@ -173,10 +232,12 @@ module _ {old image : List ℕ} (x : Standing) (commands : Commands) (group : Is
   appended_same left closed =
       elim (appended_standing left) [
         | inl before ↦ before
-        | inr after ↦ absurd (closed (last_open image (standing_end x) (first_of x) x.groups commands after.scanned.groups))
+        | inr after ↦ absurd
+            (closed (last_open image (standing_end x) (first_of x) x.groups commands after.scanned.groups))
       ]
 
-  appended_whole : IsAppended (gate_of x) (body_of commands) old image → IsOpen image (gate_of x) → Stands image (fold length (state_in x) commands)
+  appended_whole : IsAppended (gate_of x) (body_of commands) old image → IsOpen image (gate_of x)
+      → Stands image (fold length (state_in x) commands)
   appended_whole left opened =
       elim (appended_standing left) [
         | inl before ↦ absurd (before.closed opened)
@@ -186,52 +247,74 @@ module _ {old image : List ℕ} (x : Standing) (commands : Commands) (group : Is
 -- ---- all phases
 
 -- a crash leaves what stands for the state, or for the one after the commands
-pub phase_stands : (phase : Phase) (x : Standing) (commands : Commands) (old image : List ℕ) → IsStanding old x → Begins phase x commands old
-    → IsPhaseImage phase x commands old image → Stands image (state_in x) ⊎ Stands image (fold length (state_in x) commands)
+pub phase_stands : (phase : Phase) (x : Standing) (commands : Commands) (old image : List ℕ) → IsStanding old x
+    → Begins phase x commands old
+    → IsPhaseImage phase x commands old image → Stands image (state_in x)
+    ⊎ Stands image (fold length (state_in x) commands)
 phase_stands (Seal segment) x commands old image stands begins left =
-    inl (opening_stands x segment begins.0 stands (seal_opening x segment begins.0 (subst (λ c. IsPhaseImage (Seal segment) x c old image) begins.1 left)))
+    inl (opening_stands x segment begins.0 stands
+    (seal_opening x segment begins.0 (subst (λ c. IsPhaseImage (Seal segment) x c old image) begins.1 left)))
 phase_stands (Head segment) x commands old image stands begins left =
-    inl (opening_stands x segment begins.0 stands (head_opening x segment begins.0 begins.2 (subst (λ c. IsPhaseImage (Head segment) x c old image) begins.1 left)))
+    inl (opening_stands x segment begins.0 stands
+    (head_opening x segment begins.0 begins.2
+    (subst (λ c. IsPhaseImage (Head segment) x c old image) begins.1 left)))
 phase_stands (Switch segment) x commands old image stands begins left =
-    inl (opening_stands x segment begins.0 stands (switch_opening x segment begins.0 (segment_there x segment stands begins.0) begins.3
+    inl (opening_stands x segment begins.0 stands
+    (switch_opening x segment begins.0 (segment_there x segment stands begins.0) begins.3
     (subst (λ c. IsPhaseImage (Switch segment) x c old image) begins.1 left)))
-phase_stands Body x commands old image stands begins left = appended_stands x commands begins stands (body_appended x commands begins stands left)
-phase_stands Gate x commands old image stands begins left = appended_stands x commands begins.0 stands (gate_appended x commands begins.0 stands begins.1 left)
+phase_stands Body x commands old image stands begins left =
+    appended_stands x commands begins stands (body_appended x commands begins stands left)
+phase_stands Gate x commands old image stands begins left =
+    appended_stands x commands begins.0 stands (gate_appended x commands begins.0 stands begins.1 left)
 
 -- when it is over, what is read is what the next phase begins with, or stands for the state that was to be made
-pub seal_next : (segment : ℕ) (x : Standing) (commands : Commands) (old seen : List ℕ) → IsStanding old x → Begins (Seal segment) x commands old
-    → IsPhaseImage (Seal segment) x commands old seen → IsDone (Seal segment) x commands seen → IsStanding seen x × Begins (Head segment) x commands seen
+pub seal_next : (segment : ℕ) (x : Standing) (commands : Commands) (old seen : List ℕ) → IsStanding old x
+    → Begins (Seal segment) x commands old
+    → IsPhaseImage (Seal segment) x commands old seen → IsDone (Seal segment) x commands seen → IsStanding seen x
+    × Begins (Head segment) x commands seen
 seal_next segment x commands old seen stands begins left done =
-    let opening = seal_opening x segment begins.0 (subst (λ c. IsPhaseImage (Seal segment) x c old seen) begins.1 left) in
+    let opening = seal_opening x segment begins.0
+    (subst (λ c. IsPhaseImage (Seal segment) x c old seen) begins.1 left) in
     (opening_same x segment begins.0 stands opening done, (begins.0, begins.1, done))
 
-pub head_next : (segment : ℕ) (x : Standing) (commands : Commands) (old seen : List ℕ) → IsStanding old x → Begins (Head segment) x commands old
-    → IsPhaseImage (Head segment) x commands old seen → IsDone (Head segment) x commands seen → IsStanding seen x × Begins (Switch segment) x commands seen
+pub head_next : (segment : ℕ) (x : Standing) (commands : Commands) (old seen : List ℕ) → IsStanding old x
+    → Begins (Head segment) x commands old
+    → IsPhaseImage (Head segment) x commands old seen → IsDone (Head segment) x commands seen → IsStanding seen x
+    × Begins (Switch segment) x commands seen
 head_next segment x commands old seen stands begins left done =
     let image = subst (λ c. IsPhaseImage (Head segment) x c old seen) begins.1 left in
-    let shut = head_shut x segment begins.0 begins.2 image in
-    (opening_same x segment begins.0 stands (head_opening x segment begins.0 begins.2 image) shut, (begins.0, begins.1, shut, done))
+    let shut = head_shut x segment begins.0 begins.2 image in (
+      opening_same x segment begins.0 stands (head_opening x segment begins.0 begins.2 image) shut,
+      (begins.0, begins.1, shut, done),
+    )
 
-pub switch_next : (segment : ℕ) (x : Standing) (commands : Commands) (old seen : List ℕ) → IsStanding old x → Begins (Switch segment) x commands old
+pub switch_next : (segment : ℕ) (x : Standing) (commands : Commands) (old seen : List ℕ) → IsStanding old x
+    → Begins (Switch segment) x commands old
     → IsPhaseImage (Switch segment) x commands old seen → Stands seen (state_in x)
 switch_next segment x commands old seen stands begins left =
-    opening_stands x segment begins.0 stands (switch_opening x segment begins.0 (segment_there x segment stands begins.0) begins.3
+    opening_stands x segment begins.0 stands
+    (switch_opening x segment begins.0 (segment_there x segment stands begins.0) begins.3
     (subst (λ c. IsPhaseImage (Switch segment) x c old seen) begins.1 left))
 
 pub body_next : (x : Standing) (commands : Commands) (old seen : List ℕ) → IsStanding old x → Begins Body x commands old
-    → IsPhaseImage Body x commands old seen → IsDone Body x commands seen → IsStanding seen x × Begins Gate x commands seen
+    → IsPhaseImage Body x commands old seen → IsDone Body x commands seen → IsStanding seen x
+    × Begins Gate x commands seen
 body_next x commands old seen stands begins left done =
-    let shut : IsClosed seen (gate_of x) = λ opened. stands.closed (sym (left.outside.each (gate_of x) (inl (omega arith))) ∙ opened) in
+    let shut : IsClosed seen (gate_of x) = λ opened. stands.closed
+    (sym (left.outside.each (gate_of x) (inl (omega arith))) ∙ opened) in
     (appended_same x commands begins stands (body_appended x commands begins stands left) shut, (begins, done))
 
 pub gate_next : (x : Standing) (commands : Commands) (old seen : List ℕ) → IsStanding old x → Begins Gate x commands old
-    → IsPhaseImage Gate x commands old seen → IsDone Gate x commands seen → Stands seen (fold length (state_in x) commands)
+    → IsPhaseImage Gate x commands old seen → IsDone Gate x commands seen
+    → Stands seen (fold length (state_in x) commands)
 gate_next x commands old seen stands begins left done =
     appended_whole x commands begins.0 stands (gate_appended x commands begins.0 stands begins.1 left) done
 
 -- a write in the range leaves a phase's image, and so do the bytes read behind it
-pub phase_torn : (phase : Phase) (x : Standing) (commands : Commands) (old seen d image : List ℕ) (place n : ℕ) → place_of phase x ≤ place
-    → place + n ≤ place_of phase x + length (bytes_of phase x commands) → IsNeeded phase x seen → IsPhaseImage phase x commands old seen
+pub phase_torn : (phase : Phase) (x : Standing) (commands : Commands) (old seen d image : List ℕ) (place n : ℕ)
+    → place_of phase x ≤ place
+    → place + n ≤ place_of phase x + length (bytes_of phase x commands) → IsNeeded phase x seen
+    → IsPhaseImage phase x commands old seen
     → IsPhaseImage phase x commands old d → SameOutside place n d image → IsPhaseImage phase x commands old image
 phase_torn phase x commands old seen d image place n from to needed read before torn = record {
   outside = same_outside_again (place_of phase x) (length (bytes_of phase x commands)) before.outside
@@ -239,7 +322,8 @@ phase_torn phase x commands old seen d image place n from to needed read before 
   shut = shut_torn phase needed read;
 }
   where
-    shut_torn : (phase : Phase) → IsNeeded phase x seen → IsPhaseImage phase x commands old seen → StaysShut phase x old image
+    shut_torn : (phase : Phase) → IsNeeded phase x seen → IsPhaseImage phase x commands old seen
+        → StaysShut phase x old image
     shut_torn (Seal segment) needed read = λ opened. read.shut needed
     shut_torn (Head segment) needed read = tt
     shut_torn (Switch segment) needed read = tt
@@ -247,12 +331,24 @@ phase_torn phase x commands old seen d image place n from to needed read before 
     shut_torn Gate needed read = tt
 
 -- the range of a phase lies on the device
-pub phase_within : (phase : Phase) (x : Standing) (commands : Commands) (old : List ℕ) → IsStanding old x → Begins phase x commands old
+pub phase_within : (phase : Phase) (x : Standing) (commands : Commands) (old : List ℕ) → IsStanding old x
+    → Begins phase x commands old
     → place_of phase x + length (bytes_of phase x commands) ≤ length old
 phase_within (Seal segment) x commands old stands begins = omega (arith, segment_there x segment stands begins.0)
 phase_within (Head segment) x commands old stands begins =
-    omega (arith, length-behind x, begins.0.head.room, segment_within x.geometry segment (length old) stands.scanned.fits begins.0.there)
+    omega (
+      arith,
+      length-behind x,
+      begins.0.head.room,
+      segment_within x.geometry segment (length old)
+          stands.scanned.fits begins.0.there,
+    )
 phase_within (Switch segment) x commands old stands begins = omega (arith, segment_there x segment stands begins.0)
 phase_within Body x commands old stands begins =
-    omega (arith, begins.room, segment_within x.geometry x.segment (length old) stands.scanned.fits stands.scanned.newest.there)
+    omega (
+      arith,
+      begins.room,
+      segment_within x.geometry x.segment (length old) stands.scanned.fits
+          stands.scanned.newest.there,
+    )
 phase_within Gate x commands old stands begins = omega (arith, room_there x commands begins.0 stands)

@@ -20,13 +20,17 @@ use Rattle.rly_record.specs.Spelling.{HasRecord}
 use Rattle.rly_journal.specs.Standing.{Commands}
 
 -- a step that counts was refused by no check
-pub unrefused : (refusal : Option Reply) (s : State (List ℕ)) (accepted : State (List ℕ) × Reply) → (unless refusal s accepted).0.seq ≡ s.seq + 1 → refusal ≡ None
+pub unrefused : (refusal : Option Reply) (s : State (List ℕ)) (accepted : State (List ℕ) × Reply)
+    → (unless refusal s accepted).0.seq ≡ s.seq + 1 → refusal ≡ None
 unrefused None s accepted counts = refl
 unrefused (Some reply) s accepted counts = absurd (omega (arith, counts))
 
-pub accepted_record : (s : State (List ℕ)) (command : Command (List ℕ)) → IsSound length s → is_accepted (step length s command).1 ≡ true → HasRecord command
+pub accepted_record : (s : State (List ℕ)) (command : Command (List ℕ)) → IsSound length s
+    → is_accepted (step length s command).1 ≡ true → HasRecord command
 accepted_record s (Take peer number hop stamp payload) sound accepts =
-    let may = may_take length s peer number hop stamp (length payload) (unrefused (take_refusal length s peer number hop stamp (length payload)) s _ (counted length s (Take peer number hop stamp payload) accepts)) in
+    let may = may_take length s peer number hop stamp (length payload)
+    (unrefused (take_refusal length s peer number hop stamp (length payload)) s _
+    (counted length s (Take peer number hop stamp payload) accepts)) in
     let place : peer.0 - 1 < length s.lasts = omega (arith, may.peer_from, may.peer_to) in
     let last : last_at s peer ≤ s.seq = All-get_or (λ last. last ≤ s.seq) s.lasts (peer.0 - 1) 0 place sound.lasts in (
       omega (arith, may.peer_to, sound.peer_count, sound.params.peers),
@@ -39,12 +43,20 @@ accepted_record s (Pick hop now) sound accepts =
     let may = may_pick s hop now (unrefused (pick_refusal s hop now) s _ (counted length s (Pick hop now) accepts)) in
     (omega (arith, may.hop_to, sound.hop_count, sound.params.hops), omega (arith, may.moment))
 accepted_record s (Release hop number) sound accepts =
-    let may = may_release s hop number (unrefused (release_refusal s hop number) s _ (counted length s (Release hop number) accepts)) in
+    let may = may_release s hop number
+    (unrefused (release_refusal s hop number) s _ (counted length s (Release hop number) accepts)) in
     let place : hop.0 - 1 < length s.hops = omega (arith, may.hop_from, may.hop_to) in
-    let h = All-get_or (IsSoundHop length s.params s.seq) s.hops (hop.0 - 1) new_hop place sound.hops in
-    (omega (arith, may.hop_to, sound.hop_count, sound.params.hops), omega (arith, may.given, h.balance, h.taken, sound.seq))
+    let h = All-get_or (IsSoundHop length s.params s.seq) s.hops (hop.0 - 1) new_hop place sound.hops in (
+      omega (arith, may.hop_to, sound.hop_count, sound.params.hops),
+      omega
+          (arith, may.given, h.balance, h.taken, sound.seq),
+    )
 
-pub accepted_records : (s : State (List ℕ)) (commands : Commands) → IsSound length s → AllAccepted length s commands → AllByRecursion HasRecord commands
+pub accepted_records : (s : State (List ℕ)) (commands : Commands) → IsSound length s → AllAccepted length s commands
+    → AllByRecursion HasRecord commands
 accepted_records s [] sound all = tt
-accepted_records s (command ∷ commands) sound all =
-    (accepted_record s command sound all.0, accepted_records (step length s command).0 commands (sound_step length s command sound) all.1)
+accepted_records s (command ∷ commands) sound all = (
+  accepted_record s command sound all.0,
+  accepted_records (step length s command).0 commands
+      (sound_step length s command sound) all.1,
+)

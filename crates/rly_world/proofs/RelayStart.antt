@@ -29,11 +29,19 @@ new_held g seats bytes is = record {
   accepted = tt;
   few = omega arith;
   seen = refl;
-  kept = λ image same. record { n = 0; told = omega arith; most = omega arith; stands = subst (λ i. Stands i (new_state g.params)) (sym same) (new_stands g bytes is) };
+  kept = λ image same.
+      record {
+        n = 0;
+        told = omega arith;
+        most = omega arith;
+        stands = subst (λ i. Stands i (new_state g.params))
+            (sym same) (new_stands g bytes is);
+      };
   placed = refl;
 }
 
-pub holds : (g : Geometry) (seats : ℕ) (bytes : List ℕ) (events : List Event) (w : World) → IsFormatted g bytes → Run (new_world g.params seats bytes) events w → IsHeld w
+pub holds : (g : Geometry) (seats : ℕ) (bytes : List ℕ) (events : List Event) (w : World) → IsFormatted g bytes
+    → Run (new_world g.params seats bytes) events w → IsHeld w
 holds g seats bytes events w is run = run_held (new_world g.params seats bytes) w events run (new_held g seats bytes is)
 
 -- a prefix of the accepted commands
@@ -42,12 +50,20 @@ prefix_accepted w held n =
     (accepted_parts length (new_state w.params) (take n w.accepted) (drop n w.accepted)
     (subst (AllAccepted length (new_state w.params)) (sym (take-append-drop n w.accepted)) held.accepted)).0
 
-prefix_counted : (w : World) → IsHeld w → (n : ℕ) → n ≤ length w.accepted → (state_from w.params (take n w.accepted)).seq ≡ n
+prefix_counted : (w : World) → IsHeld w → (n : ℕ) → n ≤ length w.accepted
+    → (state_from w.params (take n w.accepted)).seq ≡ n
 prefix_counted w held n most =
-    omega (arith, seq_fold length (new_state w.params) (take n w.accepted) (prefix_accepted w held n), length-take n w.accepted, most)
+    omega (
+      arith,
+      seq_fold length (new_state w.params) (take n w.accepted) (prefix_accepted w held n),
+      length-take n
+          w.accepted,
+      most,
+    )
 
 -- the law
-pub told_held : (g : Geometry) (seats : ℕ) (bytes : List ℕ) (events : List Event) (w : World) → IsFormatted g bytes → Run (new_world g.params seats bytes) events w
+pub told_held : (g : Geometry) (seats : ℕ) (bytes : List ℕ) (events : List Event) (w : World) → IsFormatted g bytes
+    → Run (new_world g.params seats bytes) events w
     → (image : List ℕ) → IsImageOf w.device image → HoldsTold w image
 told_held g seats bytes events w formatted run image left =
     let held = holds g seats bytes events w formatted run in
@@ -58,5 +74,6 @@ told_held g seats bytes events w formatted run image left =
       most = kept.most;
       stands = kept.stands;
       count = prefix_counted w held kept.n kept.most;
-      books = λ hop there. books_kept w.params (take kept.n w.accepted) hop held.within (prefix_accepted w held kept.n) there;
+      books = λ hop there. books_kept w.params (take kept.n w.accepted) hop held.within (prefix_accepted w held kept.n)
+          there;
     }

@@ -40,4 +40,5 @@ pub record HoldsTold (w : World) (image : List ℕ) : Type 0 where
   pub most : n ≤ length w.accepted
   pub stands : Stands image (state_from w.params (take n w.accepted))
   pub count : (state_from w.params (take n w.accepted)).seq ≡ n
-  pub books : (hop : HopId) → IsTrue (has_hop (state_from w.params []) hop) → KeepsBooks w.params (take n w.accepted) hop
+  pub books : (hop : HopId) → IsTrue (has_hop (state_from w.params []) hop)
+      → KeepsBooks w.params (take n w.accepted) hop

@@ -1,6 +1,7 @@
 -- What may happen next to a relay, in any order. An event that has no place changes nothing.
 use Rattle.std.specs.Prelude.{◌≡◌, ◌≢◌, ◌⊎◌, ◌+◌, ◌<◌, ℕ, max, nat_le, Bool, true, false, if◌then◌else◌}
-use Rattle.std.specs.Prelude.{List, [], ◌∷◌, ◌++◌, Option, Some, None, length, map, take, drop, slice_index_or, slice_set}
+use Rattle.std.specs.Prelude.{List, [], ◌∷◌, ◌++◌, Option, Some, None, length, map, take, drop, slice_index_or}
+use Rattle.std.specs.Prelude.{slice_set}
 use Rattle.std.specs.List.{zip}
 use Rattle.rly_core.specs.Bounds.{IsIn}
 use Rattle.rly_core.specs.declared.refusal.Refusal.TheVariants.{Broken, OutOfMemory, Unsure}
@@ -295,8 +296,8 @@ abbrev pub Run : World → List Event → World → Type 0
 Run old [] new = new ≡ old
 Run old (event ∷ events) new = (mid : World) × Happens old event mid × Run mid events new
 
--- a relay in a phase is never stuck: the phase's own bytes may be written, and then it may be synced; where a gate reads
--- closed already, it may be synced at once
+-- a relay in a phase is never stuck: the phase's own bytes may be written, and then it may be synced; where a gate
+-- reads closed already, it may be synced at once
 pub record GoesOn (w : World) (phase : Phase) : Type 0 where
   pub x : Standing
   pub stands : IsStanding w.device.synced x
