@@ -9,3 +9,10 @@ mod RelayHolds
 mod RelayPhases
 mod RelayRecords
 mod RelayStart
+mod PairLists
+mod PairRuns
+mod PairFetch
+mod PairCoreSteps
+mod PairUpper
+mod PairLower
+mod PairHolds

@@ -2,3 +2,8 @@ pub mod RelayLaw
 pub mod RelayPhases
 pub mod RelaySteps
 pub mod RelayWorld
+pub mod PairPayloads
+pub mod PairEnd
+pub mod PairCores
+pub mod PairWorld
+pub mod PairExchange

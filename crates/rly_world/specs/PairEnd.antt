@@ -1,0 +1,140 @@
+-- One end of a link: what its relay accepted and told, and the calls of its cores that wait for their answers.
+use Rattle.std.specs.Prelude.{ℕ, nat_le, max, Bool, true, false, if◌then◌else◌, List, [], ◌∷◌, ◌++◌, length, map, take}
+use Rattle.rly_core.specs.declared.params.Params.{Params}
+use Rattle.rly_core.specs.declared.refusal.Refusal.TheVariants as refusal
+use Rattle.rly_machine.specs.declared.command.Ask.{Ask}
+use Rattle.rly_machine.specs.declared.command.Command.{Command}
+use Rattle.rly_machine.specs.declared.reply.Reply.{Reply}
+use Rattle.rly_machine.specs.declared.reply.Reply.TheVariants.{Refused}
+use Rattle.rly_machine.specs.Ask.{ask_step}
+use Rattle.rly_machine.specs.Fold.{fold}
+use Rattle.rly_machine.specs.History.{accepted_by, is_failure}
+use Rattle.rly_machine.specs.State.{State, new_state}
+
+-- a call that waits to be made, and the place of the core that asked it
+pub record Asked : Type 0 where
+  pub core : ℕ
+  pub ask : Ask
+
+-- a call that was made and waits for its answer: the reply, and how many commands were accepted by then
+pub record Replied : Type 0 where
+  pub call : Asked
+  pub reply : Reply
+  pub position : ℕ
+
+-- an end of a link
+pub record End : Type 0 where
+  -- the parameters of its spool, which was new at first
+  pub params : Params
+  -- the commands that it accepted, in order
+  pub accepted : List (Command (List ℕ))
+  -- the greatest position of an answer that it gave
+  pub told : ℕ
+  -- how far its device has failed since the last crash: 0 not at all; 1 it may work again after a crash; 2 it is broken
+  pub harm : ℕ
+  -- the calls that wait to be made and, before them, those that were made and wait for their answers, in the order in
+  -- which they were asked
+  pub asked : List Asked
+  pub replied : List Replied
+
+-- how a call goes
+pub data Outcome : Type 0 where
+  -- it is made, and answered with the machine's reply
+  Done : Outcome
+  -- the device fails: it is answered 12, and its command stands or not
+  Unsure : (stands : Bool) → Outcome
+  -- the journal is broken, a read fails, or memory is refused: it is answered 11, 13 or 14, and isn't made
+  Broken : Outcome
+  DeviceRead : Outcome
+  OutOfMemory : Outcome
+
+-- the answer in place of the machine's reply
+abbrev pub reply_by : Outcome → Reply → Reply
+reply_by Done reply = reply
+reply_by (Unsure stands) reply = Refused refusal.Unsure
+reply_by Broken reply = Refused refusal.Broken
+reply_by DeviceRead reply = Refused refusal.DeviceRead
+reply_by OutOfMemory reply = Refused refusal.OutOfMemory
+
+-- whether the command of the call is made
+abbrev pub is_made : Outcome → Bool
+is_made Done = true
+is_made (Unsure stands) = stands
+is_made Broken = false
+is_made DeviceRead = false
+is_made OutOfMemory = false
+
+-- how far the device has failed by it
+abbrev pub harm_by : Outcome → ℕ
+harm_by Done = 0
+harm_by (Unsure stands) = 1
+harm_by Broken = 2
+harm_by DeviceRead = 0
+harm_by OutOfMemory = 0
+
+-- whether a call may go so: a device that failed never works again before the next crash
+abbrev pub may_go : End → Outcome → Bool
+may_go e outcome = nat_le e.harm (harm_by outcome)
+
+-- the state of its machine
+abbrev pub state_of : End → State (List ℕ)
+state_of e = fold length (new_state e.params) e.accepted
+
+-- the machine's reply to an ask
+abbrev pub reply_at : End → Ask → Reply
+reply_at e ask = (ask_step (state_of e) ask).1
+
+-- the commands that are accepted once a call went so
+abbrev pub accepted_after : End → Ask → Outcome → List (Command (List ℕ))
+accepted_after e ask outcome = e.accepted ++ (if is_made outcome then accepted_by ask (reply_at e ask) else [])
+
+-- the end once a call went so
+abbrev pub after_call : End → Ask → Outcome → End
+after_call e ask outcome = record e { accepted = accepted_after e ask outcome; harm = harm_by outcome }
+
+-- an answer is given: unless it is a failure, all commands up to its position are told
+abbrev pub with_told : End → Reply → ℕ → End
+with_told e reply position = record e { told = if is_failure reply then e.told else max e.told position }
+
+-- a core asks calls, which wait behind those asked before
+abbrev pub with_asked : End → ℕ → List Ask → End
+with_asked e core asks = record e { asked = e.asked ++ map (λ ask. record { core = core; ask = ask }) asks }
+
+-- the first of the calls that wait is made
+abbrev pub with_made : End → Outcome → List Asked → End
+with_made e outcome [] = e
+with_made e outcome (call ∷ calls) =
+    let reply = reply_by outcome (reply_at e call.ask) in
+    let after = after_call e call.ask outcome in
+    if may_go e outcome
+    then record after {
+      asked = calls;
+      replied = e.replied ++ (record { call = call; reply = reply; position = length after.accepted }) ∷ [];
+    }
+    else e
+
+-- a call of another caller is made, and answered at once or not
+abbrev pub with_other : End → Ask → Outcome → Bool → End
+with_other e ask outcome is_answered =
+    let after = after_call e ask outcome in
+    if may_go e outcome
+    then if is_answered then with_told after (reply_by outcome (reply_at e ask)) (length after.accepted) else after
+    else e
+
+-- A crash leaves a prefix of the accepted commands, which has all that was told. Nothing waits after it. Unless the
+-- relay opens again, it is broken until the next crash.
+abbrev pub with_crash : End → ℕ → Bool → End
+with_crash e kept opens = record e {
+  accepted = take kept e.accepted;
+  harm = if opens then 0 else 2;
+  asked = [];
+  replied = [];
+}
+
+-- the end of a new spool
+abbrev pub new_end : Params → End
+new_end params = record { params = params; accepted = []; told = 0; harm = 0; asked = []; replied = [] }
+
+-- the commands that no crash takes away: those up to the position that was told
+abbrev pub lasting : End → List (Command (List ℕ))
+lasting e = take e.told e.accepted

@@ -1,0 +1,91 @@
+-- A worked exchange of two relays: three datagrams, of which the second comes first, a copy, a crash of the lower before
+-- it answers, and a crash of the upper.
+use Rattle.std.specs.Prelude.{ℕ, true, List, [], ◌∷◌, ◌++◌}
+use Rattle.rly_core.specs.declared.ids.HopId.{HopId}
+use Rattle.rly_core.specs.declared.params.Params.{Params}
+use Rattle.rly_hop.specs.declared.message.Message.{Message}
+use Rattle.rly_hop.specs.declared.message.Message.TheVariants.{Custody, Data}
+use Rattle.rly_hop.specs.declared.message.StationId.{StationId}
+use Rattle.rly_machine.specs.declared.command.Ask.TheVariants.{Command}
+use Rattle.rly_machine.specs.declared.command.Command.TheVariants.{Take}
+use Rattle.rly_world.specs.PairEnd.{Done}
+use Rattle.rly_world.specs.PairPayloads.{Numbered}
+use Rattle.rly_world.specs.PairWorld.{PairEvent, PairSetup, PairWorld, pair_after, pair_start}
+use Rattle.rly_world.specs.PairWorld.{Turns, UpperHears, LowerHears, UpperMakes, LowerMakes}
+use Rattle.rly_world.specs.PairWorld.{UpperAnswers, LowerAnswers, UpperServes, UpperCrashes, LowerCrashes}
+
+-- small spools with CoDel's defaults, stations 1 and 2, one receiving core
+abbrev pub small_params : Params
+small_params = record {
+  hops = 1;
+  peers = 1;
+  window = 8;
+  items = 16;
+  bytes = 4096;
+  maxpacket = 1500;
+  target = 5000;
+  interval = 100000;
+}
+
+abbrev pub exchange_setup : PairSetup
+exchange_setup = record {
+  upper_params = small_params;
+  lower_params = small_params;
+  upper = record { 0 = 1 };
+  lower = record { 0 = 2 };
+  hop = record { 0 = 1 };
+  window = 8;
+  peer = record { 0 = 1 };
+  receivers = 1;
+}
+
+-- the upper takes a datagram of one byte from its own peer
+abbrev pub comes_in : ℕ → PairEvent
+comes_in n = UpperServes (Command (Take (record { 0 = 1 }) n (record { 0 = 1 }) 0 (n ∷ []))) Done true
+
+-- the sending core names a call, which is made and answered
+abbrev pub one_call : List PairEvent
+one_call = Turns true 0 ∷ UpperMakes Done ∷ UpperAnswers true ∷ []
+
+-- a packet arrives at the lower, and its Take is made
+abbrev pub arrives : ℕ → List PairEvent
+arrives packet = LowerHears packet 0 (record { 0 = 1 }) 0 ∷ LowerMakes Done ∷ []
+
+abbrev pub arrives_answered : ℕ → List PairEvent
+arrives_answered packet = arrives packet ++ LowerAnswers true ∷ []
+
+-- Three datagrams come in, and are sent as packets 0 to 2. Data 2 arrives, then Data 1, then Data 1 again; their answers
+-- are packets 3 to 5. The upper releases 1.
+abbrev pub exchange_begins : List PairEvent
+exchange_begins =
+    comes_in 1 ∷ comes_in 2 ∷ comes_in 3 ∷ one_call
+    ++ one_call ++ one_call ++ one_call ++ one_call ++ one_call ++ one_call
+    ++ arrives_answered 1 ++ UpperHears 3 ∷ arrives_answered 0 ++ arrives_answered 0
+    ++ UpperHears 4 ∷ one_call ++ UpperHears 5 ∷ []
+
+-- The lower crashes before it answers Data 2, and keeps so many commands. Data 2 arrives again, and is answered by packet
+-- 6. The upper releases 2, crashes, and asks for its window.
+abbrev pub exchange_ends : ℕ → List PairEvent
+exchange_ends kept =
+    arrives 1 ++ LowerCrashes kept true ∷ arrives_answered 1
+    ++ UpperHears 6 ∷ one_call ++ UpperCrashes 8 true ∷ one_call
+
+-- the two relays after it
+abbrev pub exchanged : ℕ → PairWorld
+exchanged kept = pair_after (pair_start exchange_setup) (exchange_begins ++ exchange_ends kept)
+
+-- a datagram of the exchange
+abbrev pub datagram : ℕ → Numbered (List ℕ)
+datagram n = record { number = n; payload = n ∷ [] }
+
+-- the packets of the exchange
+abbrev pub data_packet : ℕ → Message (List ℕ)
+data_packet n = Data (record { 0 = 1 }) (record { 0 = 2 }) n (n ∷ [])
+
+abbrev pub custody_packet : ℕ → Message (List ℕ)
+custody_packet last = Custody (record { 0 = 2 }) (record { 0 = 1 }) last
+
+abbrev pub exchange_packets : List (Message (List ℕ))
+exchange_packets =
+    data_packet 1 ∷ data_packet 2 ∷ data_packet 3
+    ∷ custody_packet 0 ∷ custody_packet 1 ∷ custody_packet 1 ∷ custody_packet 2 ∷ []

@@ -1,0 +1,55 @@
+-- What went through a spool, by the replies to its commands: what came from a peer, and what went into a hop's flight.
+use Rattle.std.specs.Prelude.{ℕ, ◌+◌, ◌==◌, ◌≡◌, if◌then◌else◌, Some}
+use Rattle.std.specs.Prelude.{List, [], ◌∷◌, ◌++◌, length, map, take, drop, slice_get}
+use Rattle.rly_core.specs.declared.ids.HopId.{HopId}
+use Rattle.rly_core.specs.declared.ids.PeerId.{PeerId}
+use Rattle.rly_machine.specs.declared.command.Command.{Command}
+use Rattle.rly_machine.specs.declared.command.Command.TheVariants.{Take, Pick}
+use Rattle.rly_machine.specs.declared.hop.Item.{Item}
+use Rattle.rly_machine.specs.declared.reply.Reply.{Reply}
+use Rattle.rly_machine.specs.declared.reply.Reply.TheVariants.{Taken, Picked}
+use Rattle.rly_machine.specs.State.{State, HopState, hop_at}
+use Rattle.rly_machine.specs.Step.{step}
+
+-- a payload under its custody number
+pub record Numbered (P : Type 0) : Type 0 where
+  pub number : ℕ
+  pub payload : P
+
+-- the payloads of items
+abbrev pub payloads_of : {P : Type 0} → List (Item P) → List P
+payloads_of items = map (λ item. item.payload) items
+
+-- what a command took from a peer, by its reply
+abbrev pub taken_by : {P : Type 0} → PeerId → Command P → Reply → List (Numbered P)
+taken_by peer (Take from number to stamp payload) (Taken id) =
+    if from.0 == peer.0 then (record { number = number; payload = payload }) ∷ [] else []
+taken_by peer _ _ = []
+
+-- what the accepted Takes among some commands took from a peer, in order
+abbrev pub taken : {P : Type 0} → (P → ℕ) → PeerId → State P → List (Command P) → List (Numbered P)
+taken len peer s [] = []
+taken len peer s (command ∷ commands) =
+    taken_by peer command (step len s command).1 ++ taken len peer (step len s command).0 commands
+
+-- what a command put into the flight of a hop, by its reply: the first that waits behind those dropped
+abbrev pub picked_by : {P : Type 0} → HopId → HopState P → Command P → Reply → List (Numbered P)
+picked_by hop h (Pick to now) (Picked number id dropped) =
+    if to.0 == hop.0
+    then map (λ item. record { number = number; payload = item.payload }) (take 1 (drop (length dropped) h.queue))
+    else []
+picked_by hop h _ _ = []
+
+-- what the accepted Picks among some commands put into the flight of a hop, in order
+abbrev pub picked : {P : Type 0} → (P → ℕ) → HopId → State P → List (Command P) → List (Numbered P)
+picked len hop s [] = []
+picked len hop s (command ∷ commands) =
+    picked_by hop (hop_at s hop) command (step len s command).1 ++ picked len hop (step len s command).0 commands
+
+-- payloads numbered 1, 2, 3, ..
+abbrev pub AreNumbered : {P : Type 0} → List (Numbered P) → Type 0
+AreNumbered xs = (k : ℕ) (x : Numbered _) → slice_get xs k ≡ Some x → x.number ≡ k + 1
+
+-- a list is the beginning of another
+abbrev pub IsPrefix : {X : Type 0} → List X → List X → Type 0
+IsPrefix {X} xs ys = (rest : List X) × (ys ≡ xs ++ rest)
