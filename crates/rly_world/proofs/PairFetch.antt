@@ -1,29 +1,29 @@
 -- What a Fetch gives is what was picked under its number.
-use Rattle.std.proofs.Common.{ℕ, ◌≡◌, ◌+◌, ◌-◌, ◌<◌, ◌≤◌, Bool, true, false, true≢false, cond, not, List, [], ◌∷◌, ◌++◌, length, get_or, set, drop, map, refl, arith, sym, ◌∙◌, ap, subst, Option, Some, None, Result, Ok, Err, replicate}
+use Rattle.std.proofs.Common.{ℕ, ◌≡◌, ◌+◌, ◌-◌, ◌<◌, Bool, true, false, cond, not, List, [], ◌∷◌}
+use Rattle.std.proofs.Common.{length, get_or, map, refl, arith, sym, ◌∙◌, ap, subst, Option, Some, None}
+use Rattle.std.proofs.Common.{Result, Err}
 use Rattle.std.specs.Prelude.{nat_le, slice_get}
 use Rattle.std.specs.Option.{ok_or, option_map}
-use Rattle.std.proofs.lemmas.Bool.{leb-false, lt-leb, not-false}
-use Rattle.std.proofs.lemmas.List.{get_or-drop, length-drop, length-map, length-replicate, length-set}
+use Rattle.std.proofs.lemmas.Bool.{leb-false, lt-leb}
+use Rattle.std.proofs.lemmas.List.{get_or-drop, length-drop, length-map, length-set}
 use Rattle.std.proofs.lemmas.Option.{get_or_from_slice_get, slice_get-get_or, slice_get-map, slice_get_within}
 use Rattle.rly_core.specs.declared.ids.HopId.{HopId}
-use Rattle.rly_core.specs.declared.params.Params.{Params}
 use Rattle.rly_core.specs.declared.refusal.Refusal.{Refusal}
 use Rattle.rly_core.specs.declared.refusal.Refusal.TheVariants.{NoSuchHop, NeverSent, NotInFlight}
 use Rattle.rly_machine.specs.declared.command.Command.{Command}
 use Rattle.rly_machine.specs.declared.command.Command.TheVariants.{Take, Pick, Release}
 use Rattle.rly_machine.specs.declared.command.Query.TheVariants.{Fetch}
 use Rattle.rly_machine.specs.declared.hop.Item.{Item}
-use Rattle.rly_machine.specs.declared.reply.Reply.{Reply}
 use Rattle.rly_machine.specs.declared.reply.Reply.TheVariants.{Bytes, Refused}
 use Rattle.rly_machine.specs.Fold.{fold}
 use Rattle.rly_machine.specs.Pick.{pick_refusal}
-use Rattle.rly_machine.specs.Query.{fetch_reply, item_of, query_reply}
+use Rattle.rly_machine.specs.Query.{fetch_reply, query_reply}
 use Rattle.rly_machine.specs.Release.{release_refusal}
-use Rattle.rly_machine.specs.State.{State, HopState, has_hop, hop_at, is_among, new_hop, new_state, next_number}
+use Rattle.rly_machine.specs.State.{State, HopState, has_hop, hop_at, is_among, new_hop, next_number}
 use Rattle.rly_machine.specs.Step.{step}
 use Rattle.rly_machine.specs.Take.{take_refusal}
-use Rattle.rly_world.proofs.PairRuns.{Flows, either_way, flows_from_new}
-use Rattle.rly_world.specs.PairPayloads.{Numbered, payloads_of, picked}
+use Rattle.rly_world.proofs.PairRuns.{Flows, either_way}
+use Rattle.rly_world.specs.PairPayloads.{Numbered, payloads_of}
 
 -- a payload is in a list under a number: at its place, counted from 1
 pub record IsUnder {P : Type 0} (xs : List (Numbered P)) (number : ℕ) (payload : P) : Type 0 where
@@ -31,7 +31,8 @@ pub record IsUnder {P : Type 0} (xs : List (Numbered P)) (number : ℕ) (payload
   pub found : slice_get xs (number - 1) ≡ Some (record { number = number; payload = payload })
 
 -- no command adds a hop or takes one away
-hops_step : {P : Type 0} (len : P → ℕ) (s : State P) (command : Command P) → length (step len s command).0.hops ≡ length s.hops
+hops_step : {P : Type 0} (len : P → ℕ) (s : State P) (command : Command P)
+    → length (step len s command).0.hops ≡ length s.hops
 hops_step len s (Take from number to stamp payload) =
     either_way len s (Take from number to stamp payload) (take_refusal len s from number to stamp (len payload)) _ refl
     (λ after reply. length after.hops ≡ length s.hops) (λ reply refuses. refl) (λ none. length-set s.hops (to.0 - 1) _)
@@ -42,15 +43,18 @@ hops_step len s (Release to number) =
     either_way len s (Release to number) (release_refusal s to number) _ refl
     (λ after reply. length after.hops ≡ length s.hops) (λ reply refuses. refl) (λ none. length-set s.hops (to.0 - 1) _)
 
-pub hops_fold : {P : Type 0} (len : P → ℕ) (s : State P) (commands : List (Command P)) → length (fold len s commands).hops ≡ length s.hops
+pub hops_fold : {P : Type 0} (len : P → ℕ) (s : State P) (commands : List (Command P))
+    → length (fold len s commands).hops ≡ length s.hops
 hops_fold len s [] = refl
 hops_fold len s (command ∷ commands) = hops_fold len (step len s command).0 commands ∙ hops_step len s command
 
-pub hop_stays : {P : Type 0} (len : P → ℕ) (s : State P) (commands : List (Command P)) (hop : HopId) → has_hop s hop ≡ true → has_hop (fold len s commands) hop ≡ true
+pub hop_stays : {P : Type 0} (len : P → ℕ) (s : State P) (commands : List (Command P)) (hop : HopId)
+    → has_hop s hop ≡ true → has_hop (fold len s commands) hop ≡ true
 hop_stays len s commands hop there = ap (λ n. is_among n hop.0) (hops_fold len s commands) ∙ there
 
 -- as many were picked as were released and are in flight
-pub picked_count : {P : Type 0} (h : HopState P) (xs : List (Numbered P)) → Flows new_hop h xs → length xs ≡ h.released + length h.flight
+pub picked_count : {P : Type 0} (h : HopState P) (xs : List (Numbered P)) → Flows new_hop h xs
+    → length xs ≡ h.released + length h.flight
 picked_count {P} h xs flows =
     let size = length-map h.flight (λ (item : Item P). item.payload) in
     let same : length (payloads_of h.flight) ≡ length (map (λ (x : Numbered P). x.payload) xs) - (h.released - 0) =
@@ -76,12 +80,16 @@ under_of {P} xs k payload numbered below at =
     let there : slice_get xs k ≡ Some (get_or xs k d) = slice_get-get_or xs k d below in
     let number_is : (get_or xs k d).number ≡ k + 1 = numbered k (get_or xs k d) there in
     let in_map : slice_get (map (λ (x : Numbered P). x.payload) xs) k ≡ Some (get_or xs k d).payload =
-    slice_get-map (λ (x : Numbered P). x.payload) xs k ∙ ap (λ (o : Option (Numbered P)). option_map (λ (x : Numbered P). x.payload) o) there in
-    let payload_is : (get_or xs k d).payload ≡ payload = sym (get_or_from_slice_get (map (λ (x : Numbered P). x.payload) xs) k (get_or xs k d).payload payload in_map) ∙ at in
+    slice_get-map (λ (x : Numbered P). x.payload) xs k
+    ∙ ap (λ (o : Option (Numbered P)). option_map (λ (x : Numbered P). x.payload) o) there in
+    let payload_is : (get_or xs k d).payload ≡ payload = sym
+    (get_or_from_slice_get (map (λ (x : Numbered P). x.payload) xs) k (get_or xs k d).payload payload in_map)
+    ∙ at in
     record {
       counted = omega arith;
       found = ap (slice_get xs) (let e : k + 1 - 1 ≡ k = omega arith in e) ∙ there
-          ∙ ap (λ (n : ℕ). let o : Option (Numbered P) = Some (record { number = n; payload = (get_or xs k d).payload }) in o) number_is
+          ∙ ap (λ (n : ℕ). let o : Option (Numbered P) = Some
+          (record { number = n; payload = (get_or xs k d).payload }) in o) number_is
           ∙ ap (λ (p : P). let o : Option (Numbered P) = Some (record { number = k + 1; payload = p }) in o) payload_is;
     }
 
@@ -91,21 +99,25 @@ not_refused : (b : Bool) (refusal : Refusal) (rest : Result (Item (List ℕ)) Re
 not_refused true refusal rest payload is = absurd (let e : Refused refusal ≡ Bytes payload = is in cc)
 not_refused false refusal rest payload is = (refl, is)
 
-item_given : (o : Option (Item (List ℕ))) (payload : List ℕ) → fetch_reply (ok_or o NotInFlight) ≡ Bytes payload → option_map (λ (item : Item (List ℕ)). item.payload) o ≡ Some payload
+item_given : (o : Option (Item (List ℕ))) (payload : List ℕ) → fetch_reply (ok_or o NotInFlight) ≡ Bytes payload
+    → option_map (λ (item : Item (List ℕ)). item.payload) o ≡ Some payload
 item_given None payload is = absurd (let e : Refused NotInFlight ≡ Bytes payload = is in cc)
 item_given (Some item) payload is =
     let e : Bytes item.payload ≡ Bytes payload = is in
     let same : item.payload ≡ payload = (cc) in
     ap (λ (p : List ℕ). let o : Option (List ℕ) = Some p in o) same
 
-gives_item : (o : Option (Item (List ℕ))) (payload : List ℕ) → option_map (λ (item : Item (List ℕ)). item.payload) o ≡ Some payload → fetch_reply (ok_or o NotInFlight) ≡ Bytes payload
+gives_item : (o : Option (Item (List ℕ))) (payload : List ℕ)
+    → option_map (λ (item : Item (List ℕ)). item.payload) o ≡ Some payload
+    → fetch_reply (ok_or o NotInFlight) ≡ Bytes payload
 gives_item None payload is = absurd (let e : (let o : Option (List ℕ) = None in o) ≡ Some payload = is in cc)
 gives_item (Some item) payload is =
     let e : (let o : Option (List ℕ) = Some item.payload in o) ≡ Some payload = is in
     let same : item.payload ≡ payload = (cc) in
     ap (λ (p : List ℕ). Bytes p) same
 
-pub fetched_is_picked : (s : State (List ℕ)) (hop : HopId) (number : ℕ) (payload : List ℕ) (xs : List (Numbered (List ℕ)))
+pub fetched_is_picked : (s : State (List ℕ)) (hop : HopId) (number : ℕ) (payload : List ℕ)
+    (xs : List (Numbered (List ℕ)))
     → Flows new_hop (hop_at s hop) xs → query_reply s (Fetch hop number) ≡ Bytes payload → IsUnder xs number payload
 fetched_is_picked s hop number payload xs flows is =
     let h : HopState (List ℕ) = hop_at s hop in
@@ -116,19 +128,26 @@ fetched_is_picked s hop number payload xs flows is =
     let kept : (hop_at s hop).released < number = leb-false _ _ c.0 in
     let i : ℕ = number - (hop_at s hop).released - 1 in
     let given = item_given (slice_get (hop_at s hop).flight (number - (hop_at s hop).released - 1)) payload c.1 in
-    let in_flight : slice_get (payloads_of (hop_at s hop).flight) (number - (hop_at s hop).released - 1) ≡ Some payload =
-    slice_get-map (λ (item : Item (List ℕ)). item.payload) (hop_at s hop).flight (number - (hop_at s hop).released - 1) ∙ given in
+    let in_flight : slice_get (payloads_of (hop_at s hop).flight)
+    (number - (hop_at s hop).released - 1) ≡ Some payload =
+    slice_get-map (λ (item : Item (List ℕ)). item.payload) (hop_at s hop).flight (number - (hop_at s hop).released - 1)
+    ∙ given in
     let at : get_or (map (λ (x : Numbered (List ℕ)). x.payload) xs) (number - 1) payload ≡ payload =
-    ap (λ n. get_or (map (λ (x : Numbered (List ℕ)). x.payload) xs) n payload) (let e : number - 1 ≡ (hop_at s hop).released + (number - (hop_at s hop).released - 1) = omega (arith, kept) in e)
+    ap (λ n. get_or (map (λ (x : Numbered (List ℕ)). x.payload) xs) n payload)
+    (let e : number - 1 ≡ (hop_at s hop).released + (number - (hop_at s hop).released - 1) = omega
+    (arith, kept) in e)
     ∙ sym (flight_at (hop_at s hop) xs (number - (hop_at s hop).released - 1) payload flows)
-    ∙ get_or_from_slice_get (payloads_of (hop_at s hop).flight) (number - (hop_at s hop).released - 1) payload payload in_flight in
+    ∙ get_or_from_slice_get (payloads_of (hop_at s hop).flight)
+    (number - (hop_at s hop).released - 1) payload payload in_flight in
     subst (λ n. IsUnder xs n payload) (let e : number - 1 + 1 ≡ number = omega (arith, kept) in e)
     (under_of xs (number - 1) payload (λ k x found. (let e = flows.numbered k x found in omega (arith, e)))
     (omega (arith, sent, kept, picked_count (hop_at s hop) xs flows)) at)
 
 -- what was picked and isn't released is what a Fetch gives
-pub picked_is_fetched : (s : State (List ℕ)) (hop : HopId) (k : ℕ) (one : Numbered (List ℕ)) (xs : List (Numbered (List ℕ)))
-    → has_hop s hop ≡ true → Flows new_hop (hop_at s hop) xs → slice_get xs k ≡ Some one → (hop_at s hop).released < one.number
+pub picked_is_fetched : (s : State (List ℕ)) (hop : HopId) (k : ℕ) (one : Numbered (List ℕ))
+    (xs : List (Numbered (List ℕ)))
+    → has_hop s hop ≡ true → Flows new_hop (hop_at s hop) xs → slice_get xs k ≡ Some one
+    → (hop_at s hop).released < one.number
     → query_reply s (Fetch hop one.number) ≡ Bytes one.payload
 picked_is_fetched s hop k one xs there flows found kept =
     let place = flows.numbered k one found in
@@ -138,18 +157,31 @@ picked_is_fetched s hop k one xs there flows found kept =
     let size = length-map (hop_at s hop).flight (λ (item : Item (List ℕ)). item.payload) in
     let pays : List (List ℕ) = map (λ (x : Numbered (List ℕ)). x.payload) xs in
     let in_map : slice_get (map (λ (x : Numbered (List ℕ)). x.payload) xs) k ≡ Some one.payload =
-    slice_get-map (λ (x : Numbered (List ℕ)). x.payload) xs k ∙ ap (λ (o : Option (Numbered (List ℕ))). option_map (λ (x : Numbered (List ℕ)). x.payload) o) found in
-    let at : get_or (payloads_of (hop_at s hop).flight) (one.number - (hop_at s hop).released - 1) one.payload ≡ one.payload =
+    slice_get-map (λ (x : Numbered (List ℕ)). x.payload) xs k
+    ∙ ap (λ (o : Option (Numbered (List ℕ))). option_map (λ (x : Numbered (List ℕ)). x.payload) o) found in
+    let at : get_or (payloads_of (hop_at s hop).flight)
+    (one.number - (hop_at s hop).released - 1) one.payload ≡ one.payload =
     flight_at (hop_at s hop) xs (one.number - (hop_at s hop).released - 1) one.payload flows
-    ∙ ap (λ n. get_or pays n one.payload) (let e : (hop_at s hop).released + (one.number - (hop_at s hop).released - 1) ≡ k = omega (arith, kept, place) in e)
+    ∙ ap (λ n. get_or pays n one.payload)
+    (let e : (hop_at s hop).released + (one.number - (hop_at s hop).released - 1) ≡ k = omega
+    (arith, kept, place) in e)
     ∙ get_or_from_slice_get pays k one.payload one.payload in_map in
-    let in_flight : slice_get (payloads_of (hop_at s hop).flight) (one.number - (hop_at s hop).released - 1) ≡ Some one.payload =
-    slice_get-get_or (payloads_of (hop_at s hop).flight) (one.number - (hop_at s hop).released - 1) one.payload (omega (arith, kept, place, below, count, size))
+    let in_flight : slice_get (payloads_of (hop_at s hop).flight)
+    (one.number - (hop_at s hop).released - 1) ≡ Some one.payload =
+    slice_get-get_or (payloads_of (hop_at s hop).flight) (one.number - (hop_at s hop).released - 1) one.payload
+    (omega (arith, kept, place, below, count, size))
     ∙ ap (λ (p : List ℕ). let o : Option (List ℕ) = Some p in o) at in
     let given = gives_item (slice_get (hop_at s hop).flight (one.number - (hop_at s hop).released - 1)) one.payload
-    (sym (slice_get-map (λ (item : Item (List ℕ)). item.payload) (hop_at s hop).flight (one.number - (hop_at s hop).released - 1)) ∙ in_flight) in
-    let inner : Result (Item (List ℕ)) Refusal = ok_or (slice_get (hop_at s hop).flight (one.number - (hop_at s hop).released - 1)) NotInFlight in
-    ap (λ b. fetch_reply (cond (not b) (Err NoSuchHop) (cond (nat_le (next_number (hop_at s hop)) one.number) (Err NeverSent) (cond (nat_le one.number (hop_at s hop).released) (Err NotInFlight) inner)))) there
-    ∙ ap (λ b. fetch_reply (cond b (Err NeverSent) (cond (nat_le one.number (hop_at s hop).released) (Err NotInFlight) inner))) (lt-leb (next_number (hop_at s hop)) one.number (omega (arith, place, below, count)))
+    (sym (slice_get-map (λ (item : Item (List ℕ)). item.payload) (hop_at s hop).flight
+    (one.number - (hop_at s hop).released - 1)) ∙ in_flight) in
+    let inner : Result (Item (List ℕ)) Refusal = ok_or
+    (slice_get (hop_at s hop).flight (one.number - (hop_at s hop).released - 1)) NotInFlight in
+    ap (λ b. fetch_reply
+    (cond (not b) (Err NoSuchHop)
+    (cond (nat_le (next_number (hop_at s hop)) one.number) (Err NeverSent)
+    (cond (nat_le one.number (hop_at s hop).released) (Err NotInFlight) inner)))) there
+    ∙ ap (λ b. fetch_reply
+    (cond b (Err NeverSent) (cond (nat_le one.number (hop_at s hop).released) (Err NotInFlight) inner)))
+    (lt-leb (next_number (hop_at s hop)) one.number (omega (arith, place, below, count)))
     ∙ ap (λ b. fetch_reply (cond b (Err NotInFlight) inner)) (lt-leb one.number (hop_at s hop).released kept)
     ∙ given

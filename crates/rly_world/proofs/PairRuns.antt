@@ -1,8 +1,12 @@
 -- What was taken from a peer and what went into flight, over any row of commands.
-use Rattle.std.proofs.Common.{ℕ, ◌≡◌, ◌+◌, ◌-◌, ◌<◌, ◌≤◌, ◌^◌, Bool, true, false, true≢false, cond, ◌⊎◌, inl, inr, List, [], ◌∷◌, ◌++◌, length, get_or, set, take, drop, map, min, refl, arith, sym, ◌∙◌, ap, subst, Option, Some, None, append_assoc, replicate}
+use Rattle.std.proofs.Common.{ℕ, ◌≡◌, ◌+◌, ◌-◌, ◌<◌, ◌≤◌, Bool, true, false, true≢false, cond, ◌⊎◌, inl, inr, List}
+use Rattle.std.proofs.Common.{[], ◌∷◌, ◌++◌, length, get_or, set, take, drop, map, min, refl, arith, sym, ◌∙◌, ap}
+use Rattle.std.proofs.Common.{subst, Option, Some, None, append_assoc, replicate}
 use Rattle.std.specs.Prelude.{nat_eq, slice_get}
 use Rattle.std.proofs.lemmas.Bool.{cases_eq, cases_lt, eq-eqb, ne_eqb}
-use Rattle.std.proofs.lemmas.List.{append-nil, drop-append-le, drop-drop, drop-map, get_or-append_right, get_or_append_left, get_or-set_other, get_or-set_same, length-append, length-drop, get_or-replicate, length-map, length-replicate, length-take, map-append, take-append-drop}
+use Rattle.std.proofs.lemmas.List.{append-nil, drop-append-le, drop-drop, drop-map, get_or-append_right}
+use Rattle.std.proofs.lemmas.List.{get_or_append_left, get_or-set_other, get_or-set_same, length-append, length-drop}
+use Rattle.std.proofs.lemmas.List.{get_or-replicate, length-map, length-replicate, length-take, map-append}
 use Rattle.std.proofs.lemmas.Option.{get_or_from_slice_get, slice_get-get_or, slice_get_within}
 use Rattle.rly_codel.specs.Cases.{Outcome}
 use Rattle.rly_core.specs.declared.ids.HopId.{HopId}
@@ -12,21 +16,24 @@ use Rattle.rly_machine.specs.declared.command.Command.{Command}
 use Rattle.rly_machine.specs.declared.command.Command.TheVariants.{Take, Pick, Release}
 use Rattle.rly_machine.specs.declared.hop.Item.{Item}
 use Rattle.rly_machine.specs.declared.reply.Reply.{Reply}
-use Rattle.rly_machine.specs.declared.reply.Reply.TheVariants.{Taken, Already, Picked, Nothing, Released, Unchanged, Bytes, WindowIs, Shown, Refused}
+use Rattle.rly_machine.specs.declared.reply.Reply.TheVariants.{Taken, Already, Picked, Nothing, Released, Unchanged}
+use Rattle.rly_machine.specs.declared.reply.Reply.TheVariants.{Bytes, WindowIs, Shown, Refused}
 use Rattle.rly_machine.specs.Accepted.{accept, is_accepted, unless}
 use Rattle.rly_machine.specs.Fold.{fold}
-use Rattle.rly_machine.specs.Pick.{outcome_of, pick_refusal, pick_reply, picked_reply, with_picked}
+use Rattle.rly_machine.specs.Pick.{outcome_of, pick_refusal, picked_reply, with_picked}
 use Rattle.rly_machine.specs.Release.{covered_count, release_refusal, with_released}
 use Rattle.rly_machine.specs.Take.{take_refusal, with_taken}
-use Rattle.rly_machine.specs.State.{State, HopState, has_hop, has_peer, hop_at, last_at, new_hop, new_state, next_number}
+use Rattle.rly_machine.specs.State.{State, HopState, has_hop, has_peer, hop_at, last_at, new_hop, new_state}
+use Rattle.rly_machine.specs.State.{next_number}
 use Rattle.rly_machine.specs.Step.{step}
-use Rattle.rly_machine.proofs.Folding.{fold_append}
 use Rattle.rly_machine.proofs.RealReplies.{counted}
 use Rattle.rly_machine.proofs.Refusals.{among, may_pick, may_release, may_take}
-use Rattle.rly_world.specs.PairPayloads.{AreNumbered, IsPrefix, Numbered, payloads_of, picked, picked_by, taken, taken_by}
+use Rattle.rly_world.specs.PairPayloads.{Numbered, payloads_of, picked, picked_by, taken}
+use Rattle.rly_world.specs.PairPayloads.{taken_by}
 
 -- a command that a check refuses leaves the state, and its reply accepts nothing; another comes to what it leaves
-pub either_way : {P : Type 0} (len : P → ℕ) (s : State P) (command : Command P) (refusal : Option Reply) (accepted : State P × Reply)
+pub either_way : {P : Type 0} (len : P → ℕ) (s : State P) (command : Command P) (refusal : Option Reply)
+    (accepted : State P × Reply)
     → step len s command ≡ unless refusal s accepted
     → (M : State P → Reply → Type 0)
     → ((reply : Reply) → is_accepted reply ≡ false → M s reply) → (refusal ≡ None → M accepted.0 accepted.1)
@@ -35,7 +42,8 @@ either_way len s command None accepted is M refused may = subst (λ (r : State _
 either_way {P} len s command (Some reply) accepted is M refused may =
     let refuses : is_accepted reply ≡ false =
     elim (is_accepted reply) as (λ b. is_accepted reply ≡ b → is_accepted reply ≡ false) [
-      | true ↦ λ accepts. (let told : is_accepted (step len s command).1 ≡ true = ap (λ (r : State P × Reply). is_accepted r.1) is ∙ accepts in
+      | true ↦ λ accepts. (let told : is_accepted (step len s command).1 ≡ true = ap
+          (λ (r : State P × Reply). is_accepted r.1) is ∙ accepts in
           let more = counted len s command told in
           let same : (step len s command).0.seq ≡ s.seq = ap (λ (r : State P × Reply). r.0.seq) is in
           absurd (omega (arith, more, same)))
@@ -71,9 +79,14 @@ pub record Takes {P : Type 0} (before after : ℕ) (more : List (Numbered P)) : 
   pub numbered : (k : ℕ) (x : Numbered P) → slice_get more k ≡ Some x → x.number ≡ before + k + 1
 
 takes_none : {P : Type 0} (n m : ℕ) → m ≡ n → Takes {P = P} n m []
-takes_none {P} n m same = record { last = omega (arith, same); numbered = λ k x found. absurd (omega (arith, slice_get_within [] k x found)) }
+takes_none {P} n m same = record {
+  last = omega (arith, same);
+  numbered = λ k x found. absurd
+      (omega (arith, slice_get_within [] k x found));
+}
 
-takes_one : {P : Type 0} (n number : ℕ) (payload : P) → number ≡ n + 1 → Takes n number ((record { number = number; payload = payload }) ∷ [])
+takes_one : {P : Type 0} (n number : ℕ) (payload : P) → number ≡ n + 1
+    → Takes n number ((record { number = number; payload = payload }) ∷ [])
 takes_one {P} n number payload next =
     let one : Numbered P = record { number = number; payload = payload } in
     record {
@@ -87,7 +100,8 @@ takes_one {P} n number payload next =
     }
 
 -- a reply that accepts nothing takes nothing and picks nothing
-none_taken : {P : Type 0} (peer : PeerId) (command : Command P) (reply : Reply) → is_accepted reply ≡ false → taken_by peer command reply ≡ []
+none_taken : {P : Type 0} (peer : PeerId) (command : Command P) (reply : Reply) → is_accepted reply ≡ false
+    → taken_by peer command reply ≡ []
 none_taken peer (Take from number hop stamp payload) (Taken id) refuses = absurd (true≢false refuses)
 none_taken peer (Take from number hop stamp payload) (Already last) refuses = refl
 none_taken peer (Take from number hop stamp payload) (Picked n id dropped) refuses = refl
@@ -101,7 +115,8 @@ none_taken peer (Take from number hop stamp payload) (Refused refusal) refuses =
 none_taken peer (Pick hop now) reply refuses = refl
 none_taken peer (Release hop number) reply refuses = refl
 
-none_picked : {P : Type 0} (hop : HopId) (h : HopState P) (command : Command P) (reply : Reply) → is_accepted reply ≡ false → picked_by hop h command reply ≡ []
+none_picked : {P : Type 0} (hop : HopId) (h : HopState P) (command : Command P) (reply : Reply)
+    → is_accepted reply ≡ false → picked_by hop h command reply ≡ []
 none_picked hop h (Pick to now) (Picked number id dropped) refuses = absurd (true≢false refuses)
 none_picked hop h (Pick to now) (Taken id) refuses = refl
 none_picked hop h (Pick to now) (Already last) refuses = refl
@@ -122,21 +137,31 @@ takes_at : {P : Type 0} (lasts : List ℕ) (from peer number : ℕ) (payload : P
     (cond (nat_eq from peer) ((record { number = number; payload = payload }) ∷ []) [])
 takes_at {P} lasts from peer number payload from_one within peer_one next =
     elim (cases_eq from peer) [
-      | inl same ↦ subst (λ b. Takes (get_or lasts (peer - 1) 0) (get_or (set lasts (from - 1) number) (peer - 1) 0) (cond b ((record { number = number; payload = payload }) ∷ []) [])) (sym (eq-eqb from peer same))
-          (subst (λ p. Takes (get_or lasts (p - 1) 0) (get_or (set lasts (from - 1) number) (p - 1) 0) ((record { number = number; payload = payload }) ∷ [])) same
-          (subst (λ n. Takes (get_or lasts (from - 1) 0) n ((record { number = number; payload = payload }) ∷ [])) (sym (get_or-set_same lasts (from - 1) number 0 (omega arith)))
+      | inl same ↦ subst (λ b. Takes (get_or lasts (peer - 1) 0) (get_or (set lasts (from - 1) number) (peer - 1) 0)
+          (cond b ((record { number = number; payload = payload }) ∷ []) [])) (sym (eq-eqb from peer same))
+          (subst (λ p. Takes (get_or lasts (p - 1) 0) (get_or (set lasts (from - 1) number) (p - 1) 0)
+          ((record { number = number; payload = payload }) ∷ [])) same
+          (subst (λ n. Takes (get_or lasts (from - 1) 0) n ((record { number = number; payload = payload }) ∷ []))
+          (sym (get_or-set_same lasts (from - 1) number 0 (omega arith)))
           (takes_one (get_or lasts (from - 1) 0) number payload next)))
-      | inr differ ↦ subst (λ b. Takes (get_or lasts (peer - 1) 0) (get_or (set lasts (from - 1) number) (peer - 1) 0) (cond b ((record { number = number; payload = payload }) ∷ []) [])) (sym (ne_eqb from peer differ))
+      | inr differ ↦ subst
+          (λ b. Takes (get_or lasts (peer - 1) 0) (get_or (set lasts (from - 1) number) (peer - 1) 0)
+          (cond b ((record { number = number; payload = payload }) ∷ []) [])) (sym (ne_eqb from peer differ))
           (takes_none (get_or lasts (peer - 1) 0) (get_or (set lasts (from - 1) number) (peer - 1) 0)
-          (get_or-set_other lasts (from - 1) (peer - 1) number 0 (λ e. differ (let f : from ≡ peer = omega (arith, e) in f))))
+          (get_or-set_other lasts (from - 1) (peer - 1) number 0
+          (λ e. differ (let f : from ≡ peer = omega (arith, e) in f))))
     ]
 
 pub takes_step : {P : Type 0} (len : P → ℕ) (s : State P) (command : Command P) (peer : PeerId) → 0 < peer.0
     → Takes (last_at s peer) (last_at (step len s command).0 peer) (taken_by peer command (step len s command).1)
 takes_step {P} len s (Take from number hop stamp payload) peer there =
-    either_way len s (Take from number hop stamp payload) (take_refusal len s from number hop stamp (len payload)) _ refl
-    (λ after reply. Takes {P = P} (last_at s peer) (last_at after peer) (taken_by peer (Take from number hop stamp payload) reply))
-    (λ reply refuses. subst (Takes (last_at s peer) (last_at s peer)) (sym (none_taken peer (Take from number hop stamp payload) reply refuses)) (takes_none (last_at s peer) (last_at s peer) refl))
+    either_way len s (Take from number hop stamp payload)
+    (take_refusal len s from number hop stamp (len payload)) _ refl
+    (λ after reply. Takes {P = P} (last_at s peer) (last_at after peer)
+    (taken_by peer (Take from number hop stamp payload) reply))
+    (λ reply refuses. subst (Takes (last_at s peer) (last_at s peer))
+    (sym (none_taken peer (Take from number hop stamp payload) reply refuses))
+    (takes_none (last_at s peer) (last_at s peer) refl))
     (λ none. (let may = may_take len s from number hop stamp (len payload) none in
     takes_at s.lasts from.0 peer.0 number payload may.peer_from may.peer_to there may.next))
 takes_step {P} len s (Pick to now) peer there =
@@ -157,15 +182,18 @@ in_either {X} xs ys k x found =
     let within = slice_get_within (xs ++ ys) k x found in
     let at = get_or_from_slice_get (xs ++ ys) k x x found in
     elim (cases_lt k (length xs)) [
-      | inl front ↦ inl (slice_get-get_or xs k x front ∙ ap (λ (y : X). Some y) (sym (get_or_append_left xs ys x k front) ∙ at))
+      | inl front ↦ inl (slice_get-get_or xs k x front
+          ∙ ap (λ (y : X). Some y) (sym (get_or_append_left xs ys x k front) ∙ at))
       | inr past ↦ inr (
         past,
         (let rest : k - length xs < length ys = omega (arith, within, length-append xs ys) in
-            slice_get-get_or ys (k - length xs) x rest ∙ ap (λ (y : X). Some y) (sym (get_or-append_right xs ys (length xs) k x refl past) ∙ at)),
+            slice_get-get_or ys (k - length xs) x rest
+            ∙ ap (λ (y : X). Some y) (sym (get_or-append_right xs ys (length xs) k x refl past) ∙ at)),
       )
     ]
 
-takes_again : {P : Type 0} (a b c : ℕ) (one two : List (Numbered P)) → Takes a b one → Takes b c two → Takes a c (one ++ two)
+takes_again : {P : Type 0} (a b c : ℕ) (one two : List (Numbered P)) → Takes a b one → Takes b c two
+    → Takes a c (one ++ two)
 takes_again {P} a b c one two first second = record {
   last = omega (arith, first.last, second.last, length-append one two);
   numbered = λ k x found. elim (in_either one two k x found) [
@@ -178,7 +206,8 @@ pub takes_fold : {P : Type 0} (len : P → ℕ) (s : State P) (commands : List (
     → Takes (last_at s peer) (last_at (fold len s commands) peer) (taken len peer s commands)
 takes_fold len s [] peer there = takes_none (last_at s peer) (last_at s peer) refl
 takes_fold len s (command ∷ commands) peer there =
-    takes_again (last_at s peer) (last_at (step len s command).0 peer) (last_at (fold len (step len s command).0 commands) peer)
+    takes_again (last_at s peer) (last_at (step len s command).0 peer)
+    (last_at (fold len (step len s command).0 commands) peer)
     (taken_by peer command (step len s command).1) (taken len peer (step len s command).0 commands)
     (takes_step len s command peer there) (takes_fold len (step len s command).0 commands peer there)
 
@@ -189,8 +218,10 @@ pub takes_from_new : {P : Type 0} (len : P → ℕ) (params : Params) (commands 
 takes_from_new {P} len params commands peer there =
     let found = among (length (replicate params.peers 0)) peer.0 there in
     let size = length-replicate {A = ℕ} params.peers 0 in
-    let start : last_at (new_state {P = P} params) peer ≡ 0 = get_or-replicate params.peers (peer.0 - 1) 0 0 (omega (arith, found.0, found.1, size)) in
-    subst (λ n. Takes n (last_at (fold len (new_state params) commands) peer) (taken len peer (new_state params) commands)) start
+    let start : last_at (new_state {P = P} params) peer ≡ 0 = get_or-replicate params.peers (peer.0 - 1) 0 0
+    (omega (arith, found.0, found.1, size)) in
+    subst (λ n. Takes n (last_at (fold len (new_state params) commands) peer)
+    (taken len peer (new_state params) commands)) start
     (takes_fold len (new_state params) commands peer found.0)
 
 -- ---- what goes into flight
@@ -199,8 +230,10 @@ takes_from_new {P} len params commands peer there =
 pub record Flows {P : Type 0} (before after : HopState P) (more : List (Numbered P)) : Type 0 where
   pub fewer : before.released ≤ after.released
   pub within : after.released - before.released ≤ length before.flight + length more
-  pub flight : payloads_of after.flight ≡ drop (after.released - before.released) (payloads_of before.flight ++ map (λ (x : Numbered P). x.payload) more)
-  pub numbered : (k : ℕ) (x : Numbered P) → slice_get more k ≡ Some x → x.number ≡ before.released + length before.flight + k + 1
+  pub flight : payloads_of after.flight ≡ drop (after.released - before.released)
+      (payloads_of before.flight ++ map (λ (x : Numbered P). x.payload) more)
+  pub numbered : (k : ℕ) (x : Numbered P) → slice_get more k ≡ Some x
+      → x.number ≡ before.released + length before.flight + k + 1
 
 length-payloads : {P : Type 0} (items : List (Item P)) → length (payloads_of items) ≡ length items
 length-payloads {P} items = length-map items (λ (item : Item P). item.payload)
@@ -209,43 +242,57 @@ length-numbered : {P : Type 0} (xs : List (Numbered P)) → length (map (λ (x :
 length-numbered {P} xs = length-map xs (λ (x : Numbered P). x.payload)
 
 -- the flight is the same
-still_flows : {P : Type 0} (h after : HopState P) → after.flight ≡ h.flight → after.released ≡ h.released → Flows h after []
+still_flows : {P : Type 0} (h after : HopState P) → after.flight ≡ h.flight → after.released ≡ h.released
+    → Flows h after []
 still_flows {P} h after same released = record {
   fewer = omega (arith, released);
   within = omega (arith, released);
   flight = ap (λ (l : List (Item P)). payloads_of l) same
-      ∙ sym ((let e : after.released - h.released ≡ 0 = omega (arith, released) in ap (λ k. drop k (payloads_of h.flight ++ [])) e) ∙ append-nil (payloads_of h.flight));
+      ∙ sym ((let e : after.released - h.released ≡ 0 = omega (arith, released) in ap
+      (λ k. drop k (payloads_of h.flight ++ [])) e) ∙ append-nil (payloads_of h.flight));
   numbered = λ k x found. absurd (omega (arith, slice_get_within [] k x found));
 }
 
-flows_again : {P : Type 0} (a b c : HopState P) (one two : List (Numbered P)) → Flows a b one → Flows b c two → Flows a c (one ++ two)
+flows_again : {P : Type 0} (a b c : HopState P) (one two : List (Numbered P)) → Flows a b one → Flows b c two
+    → Flows a c (one ++ two)
 flows_again {P} a b c one two first second =
     let pay : List (Numbered P) → List P = λ xs. map (λ (x : Numbered P). x.payload) xs in
     let old : List P = payloads_of a.flight in
     let size_old = length-payloads a.flight in
     let size_one = length-numbered one in
     let size_line = length-append (payloads_of a.flight) (map (λ (x : Numbered P). x.payload) one) in
-    let in_line : b.released - a.released ≤ length (payloads_of a.flight ++ map (λ (x : Numbered P). x.payload) one) = omega (arith, first.within, size_old, size_one, size_line) in
-    let flown : length b.flight ≡ length (payloads_of a.flight ++ map (λ (x : Numbered P). x.payload) one) - (b.released - a.released) =
-    sym (length-payloads b.flight) ∙ ap length first.flight ∙ length-drop (b.released - a.released) (payloads_of a.flight ++ map (λ (x : Numbered P). x.payload) one) in
+    let in_line : b.released - a.released ≤ length
+    (payloads_of a.flight ++ map (λ (x : Numbered P). x.payload) one) = omega
+    (arith, first.within, size_old, size_one, size_line) in
+    let flown : length b.flight ≡ length (payloads_of a.flight ++ map (λ (x : Numbered P). x.payload) one) -
+    (b.released - a.released) =
+    sym (length-payloads b.flight) ∙ ap length first.flight
+    ∙ length-drop (b.released - a.released) (payloads_of a.flight ++ map (λ (x : Numbered P). x.payload) one) in
     let size_both = length-append one two in
     record {
       fewer = omega (arith, first.fewer, second.fewer);
       within = omega (arith, first.within, first.fewer, second.fewer, second.within, flown, size_line, size_old, size_one, size_both);
       flight = second.flight
           ∙ ap (λ l. drop (c.released - b.released) (l ++ pay two)) first.flight
-          ∙ ap (drop (c.released - b.released)) (sym (drop-append-le (b.released - a.released) (old ++ pay one) (pay two) in_line))
+          ∙ ap (drop (c.released - b.released))
+          (sym (drop-append-le (b.released - a.released) (old ++ pay one) (pay two) in_line))
           ∙ drop-drop (c.released - b.released) (b.released - a.released) ((old ++ pay one) ++ pay two)
-          ∙ ap (λ n. drop n ((old ++ pay one) ++ pay two)) (let e : b.released - a.released + (c.released - b.released) ≡ c.released - a.released = omega (arith, first.fewer, second.fewer) in e)
-          ∙ ap (drop (c.released - a.released)) (append_assoc old (pay one) (pay two) ∙ ap (λ l. old ++ l) (sym (map-append (λ (x : Numbered P). x.payload) one two)));
+          ∙ ap (λ n. drop n ((old ++ pay one) ++ pay two))
+          (let e : b.released - a.released + (c.released - b.released) ≡ c.released - a.released = omega
+          (arith, first.fewer, second.fewer) in e)
+          ∙ ap (drop (c.released - a.released))
+          (append_assoc old (pay one) (pay two)
+          ∙ ap (λ l. old ++ l) (sym (map-append (λ (x : Numbered P). x.payload) one two)));
       numbered = λ k x found. elim (in_either one two k x found) [
         | inl front ↦ first.numbered k x front
-        | inr back ↦ (let at = second.numbered (k - length one) x back.1 in omega (arith, at, flown, first.fewer, first.within, size_line, size_old, size_one, back.0))
+        | inr back ↦ (let at = second.numbered (k - length one) x back.1 in omega
+            (arith, at, flown, first.fewer, first.within, size_line, size_old, size_one, back.0))
       ];
     }
 
 -- the first in flight are released
-flows_released : {P : Type 0} (h : HopState P) (count : ℕ) → count ≤ length h.flight → Flows h (with_released h count) []
+flows_released : {P : Type 0} (h : HopState P) (count : ℕ) → count ≤ length h.flight
+    → Flows h (with_released h count) []
 flows_released {P} h count within =
     let gone : h.released + count - h.released ≡ count = omega arith in
     record {
@@ -266,7 +313,8 @@ flows_picked : {P : Type 0} (h : HopState P) (now : ℕ) (outcome : Outcome) (re
     → drop outcome.dropped h.queue ≡ rest → Flows h (with_picked h now outcome) (picked_of (next_number h) rest)
 unfolding picked_of
 flows_picked {P} h now outcome [] is =
-    still_flows h (with_picked h now outcome) (ap (λ (q : List (Item P)). h.flight ++ take 1 q) is ∙ append-nil h.flight) refl
+    still_flows h (with_picked h now outcome)
+    (ap (λ (q : List (Item P)). h.flight ++ take 1 q) is ∙ append-nil h.flight) refl
 flows_picked {P} h now outcome (item ∷ behind) is =
     let none : h.released - h.released ≡ 0 = omega arith in
     let one : Numbered P = record { number = next_number h; payload = item.payload } in
@@ -292,12 +340,16 @@ both_none false = refl
 -- what the reply to a pick says that it put into flight
 picked_by_pick : {P : Type 0} (hop to : HopId) (now : ℕ) (h g : HopState P) (count : ℕ) (rest : List (Item P))
     → (to.0 ≡ hop.0 → g ≡ h) → drop count h.queue ≡ rest
-    → picked_by hop g (Pick to now) (picked_reply (next_number h) (map (λ (item : Item P). item.id) (take count h.queue)) rest) ≡ cond (nat_eq to.0 hop.0) (picked_of (next_number h) rest) []
+    → picked_by hop g (Pick to now)
+    (picked_reply (next_number h) (map (λ (item : Item P). item.id) (take count h.queue)) rest) ≡ cond
+    (nat_eq to.0 hop.0) (picked_of (next_number h) rest) []
 unfolding picked_of
 picked_by_pick {P} hop to now h g count [] same is = sym (both_none {P = P} (nat_eq to.0 hop.0))
 picked_by_pick {P} hop to now h g count (item ∷ behind) same is =
     let ids : List ℕ = map (λ (item : Item P). item.id) (take count h.queue) in
-    let shown : List (Item P) → List (Numbered P) = λ q. map (λ (item : Item P). record { number = next_number h; payload = item.payload }) (take 1 q) in
+    let shown : List (Item P)
+    → List (Numbered P) = λ q. map (λ (item : Item P). record { number = next_number h; payload = item.payload })
+    (take 1 q) in
     let left : length (drop count h.queue) ≡ length (item ∷ behind) = ap length is in
     let dropped : length (map (λ (item : Item P). item.id) (take count h.queue)) ≡ count =
     length-map (take count h.queue) (λ (item : Item P). item.id) ∙ length-take count h.queue
@@ -312,59 +364,79 @@ picked_by_pick {P} hop to now h g count (item ∷ behind) same is =
     ]
 
 -- the hop of an accepted command is the new one, and every other hop stays
-pub own_hop : {P : Type 0} (s : State P) (hop to : HopId) (h : HopState P) → 0 < to.0 → to.0 ≤ length s.hops → to.0 ≡ hop.0 → hop_at (accept s to h) hop ≡ h
+pub own_hop : {P : Type 0} (s : State P) (hop to : HopId) (h : HopState P) → 0 < to.0 → to.0 ≤ length s.hops
+    → to.0 ≡ hop.0 → hop_at (accept s to h) hop ≡ h
 own_hop {P} s hop to h from below same =
-    ap (λ n. get_or (set s.hops (to.0 - 1) h) (n - 1) new_hop) (sym same) ∙ get_or-set_same s.hops (to.0 - 1) h new_hop (omega arith)
+    ap (λ n. get_or (set s.hops (to.0 - 1) h) (n - 1) new_hop) (sym same)
+    ∙ get_or-set_same s.hops (to.0 - 1) h new_hop (omega arith)
 
-pub other_hop : {P : Type 0} (s : State P) (hop to : HopId) (h : HopState P) → 0 < to.0 → 0 < hop.0 → (to.0 ≡ hop.0 → ⊥) → hop_at (accept s to h) hop ≡ hop_at s hop
-other_hop {P} s hop to h from hop_from differ = get_or-set_other s.hops (to.0 - 1) (hop.0 - 1) h new_hop (λ same. differ (let e : to.0 ≡ hop.0 = omega (arith, same) in e))
+pub other_hop : {P : Type 0} (s : State P) (hop to : HopId) (h : HopState P) → 0 < to.0 → 0 < hop.0
+    → (to.0 ≡ hop.0 → ⊥) → hop_at (accept s to h) hop ≡ hop_at s hop
+other_hop {P} s hop to h from hop_from differ = get_or-set_other s.hops (to.0 - 1) (hop.0 - 1) h new_hop
+    (λ same. differ (let e : to.0 ≡ hop.0 = omega (arith, same) in e))
 
 -- a change of one hop
-flows_at : {P : Type 0} (s : State P) (hop to : HopId) (h : HopState P) (more : List (Numbered P)) → 0 < hop.0 → 0 < to.0 → to.0 ≤ length s.hops
+flows_at : {P : Type 0} (s : State P) (hop to : HopId) (h : HopState P) (more : List (Numbered P)) → 0 < hop.0
+    → 0 < to.0 → to.0 ≤ length s.hops
     → Flows (hop_at s to) h more → Flows (hop_at s hop) (hop_at (accept s to h) hop) (cond (nat_eq to.0 hop.0) more [])
 flows_at {P} s hop to h more hop_from from below flows = elim (cases_eq to.0 hop.0) [
   | inl same ↦ (let here : hop_at s to ≡ hop_at s hop = ap (λ n. get_or s.hops (n - 1) new_hop) same in
-      subst (λ (t : List (Numbered P)). Flows (hop_at s hop) (hop_at (accept s to h) hop) t) (sym (ap (λ b. cond b more []) (eq-eqb to.0 hop.0 same)))
+      subst (λ (t : List (Numbered P)). Flows (hop_at s hop) (hop_at (accept s to h) hop) t)
+      (sym (ap (λ b. cond b more []) (eq-eqb to.0 hop.0 same)))
       (subst (λ (after : HopState P). Flows (hop_at s hop) after more) (sym (own_hop s hop to h from below same))
       (subst (λ (before : HopState P). Flows before h more) here flows)))
-  | inr differ ↦ subst (λ (t : List (Numbered P)). Flows (hop_at s hop) (hop_at (accept s to h) hop) t) (sym (ap (λ b. cond b more []) (ne_eqb to.0 hop.0 differ)))
-      (subst (λ (after : HopState P). Flows (hop_at s hop) after []) (sym (other_hop s hop to h from hop_from differ)) (still_flows (hop_at s hop) (hop_at s hop) refl refl))
+  | inr differ ↦ subst (λ (t : List (Numbered P)). Flows (hop_at s hop) (hop_at (accept s to h) hop) t)
+      (sym (ap (λ b. cond b more []) (ne_eqb to.0 hop.0 differ)))
+      (subst (λ (after : HopState P). Flows (hop_at s hop) after []) (sym (other_hop s hop to h from hop_from differ))
+      (still_flows (hop_at s hop) (hop_at s hop) refl refl))
 ]
 
 pub flows_step : {P : Type 0} (len : P → ℕ) (s : State P) (command : Command P) (hop : HopId) → 0 < hop.0
-    → Flows (hop_at s hop) (hop_at (step len s command).0 hop) (picked_by hop (hop_at s hop) command (step len s command).1)
+    → Flows (hop_at s hop) (hop_at (step len s command).0 hop)
+    (picked_by hop (hop_at s hop) command (step len s command).1)
 flows_step {P} len s (Take from number to stamp payload) hop there =
     either_way len s (Take from number to stamp payload) (take_refusal len s from number to stamp (len payload)) _ refl
-    (λ after reply. Flows (hop_at s hop) (hop_at after hop) (picked_by hop (hop_at s hop) (Take from number to stamp payload) reply))
+    (λ after reply. Flows (hop_at s hop) (hop_at after hop)
+    (picked_by hop (hop_at s hop) (Take from number to stamp payload) reply))
     (λ reply refuses. still_flows (hop_at s hop) (hop_at s hop) refl refl)
     (λ none. (let may = may_take len s from number to stamp (len payload) none in
-    subst (Flows (hop_at s hop) (hop_at (accept s to (with_taken (hop_at s to) (s.seq + 1) stamp payload)) hop)) (both_none {P = P} (nat_eq to.0 hop.0))
+    subst (Flows (hop_at s hop) (hop_at (accept s to (with_taken (hop_at s to) (s.seq + 1) stamp payload)) hop))
+    (both_none {P = P} (nat_eq to.0 hop.0))
     (flows_at s hop to (with_taken (hop_at s to) (s.seq + 1) stamp payload) [] there may.hop_from may.hop_to
     (still_flows (hop_at s to) (with_taken (hop_at s to) (s.seq + 1) stamp payload) refl refl))))
 flows_step {P} len s (Pick to now) hop there =
     either_way len s (Pick to now) (pick_refusal s to now) _ refl
     (λ after reply. Flows (hop_at s hop) (hop_at after hop) (picked_by hop (hop_at s hop) (Pick to now) reply))
-    (λ reply refuses. subst (Flows (hop_at s hop) (hop_at s hop)) (sym (none_picked hop (hop_at s hop) (Pick to now) reply refuses)) (still_flows (hop_at s hop) (hop_at s hop) refl refl))
+    (λ reply refuses. subst (Flows (hop_at s hop) (hop_at s hop))
+    (sym (none_picked hop (hop_at s hop) (Pick to now) reply refuses))
+    (still_flows (hop_at s hop) (hop_at s hop) refl refl))
     (λ none. (let may = may_pick s to now none in
     let outcome : Outcome = outcome_of len s.params (hop_at s to) now in
-    subst (Flows (hop_at s hop) (hop_at (accept s to (with_picked (hop_at s to) now (outcome_of len s.params (hop_at s to) now))) hop))
-    (sym (picked_by_pick hop to now (hop_at s to) (hop_at s hop) outcome.dropped (drop outcome.dropped (hop_at s to).queue) (λ same. sym (ap (λ n. get_or s.hops (n - 1) new_hop) same)) refl))
-    (flows_at s hop to (with_picked (hop_at s to) now outcome) (picked_of (next_number (hop_at s to)) (drop outcome.dropped (hop_at s to).queue)) there may.hop_from may.hop_to
+    subst (Flows (hop_at s hop)
+    (hop_at (accept s to (with_picked (hop_at s to) now (outcome_of len s.params (hop_at s to) now))) hop))
+    (sym (picked_by_pick hop to now (hop_at s to) (hop_at s hop) outcome.dropped
+    (drop outcome.dropped (hop_at s to).queue) (λ same. sym (ap (λ n. get_or s.hops (n - 1) new_hop) same)) refl))
+    (flows_at s hop to (with_picked (hop_at s to) now outcome)
+    (picked_of (next_number (hop_at s to)) (drop outcome.dropped (hop_at s to).queue)) there may.hop_from may.hop_to
     (flows_picked (hop_at s to) now outcome (drop outcome.dropped (hop_at s to).queue) refl))))
 flows_step {P} len s (Release to number) hop there =
     either_way len s (Release to number) (release_refusal s to number) _ refl
     (λ after reply. Flows (hop_at s hop) (hop_at after hop) (picked_by hop (hop_at s hop) (Release to number) reply))
     (λ reply refuses. still_flows (hop_at s hop) (hop_at s hop) refl refl)
     (λ none. (let may = may_release s to number none in
-    subst (Flows (hop_at s hop) (hop_at (accept s to (with_released (hop_at s to) (covered_count (hop_at s to) number))) hop)) (both_none {P = P} (nat_eq to.0 hop.0))
-    (flows_at s hop to (with_released (hop_at s to) (covered_count (hop_at s to) number)) [] there may.hop_from may.hop_to
+    subst (Flows (hop_at s hop)
+    (hop_at (accept s to (with_released (hop_at s to) (covered_count (hop_at s to) number))) hop))
+    (both_none {P = P} (nat_eq to.0 hop.0))
+    (flows_at s hop to (with_released (hop_at s to)
+    (covered_count (hop_at s to) number)) [] there may.hop_from may.hop_to
     (flows_released (hop_at s to) (covered_count (hop_at s to) number) (omega (arith, may.given))))))
 
 pub flows_fold : {P : Type 0} (len : P → ℕ) (s : State P) (commands : List (Command P)) (hop : HopId) → 0 < hop.0
     → Flows (hop_at s hop) (hop_at (fold len s commands) hop) (picked len hop s commands)
 flows_fold len s [] hop there = still_flows (hop_at s hop) (hop_at s hop) refl refl
 flows_fold len s (command ∷ commands) hop there =
-    flows_again (hop_at s hop) (hop_at (step len s command).0 hop) (hop_at (fold len (step len s command).0 commands) hop)
+    flows_again (hop_at s hop) (hop_at (step len s command).0 hop)
+    (hop_at (fold len (step len s command).0 commands) hop)
     (picked_by hop (hop_at s hop) command (step len s command).1) (picked len hop (step len s command).0 commands)
     (flows_step len s command hop there) (flows_fold len (step len s command).0 commands hop there)
 
@@ -374,6 +446,8 @@ pub flows_from_new : {P : Type 0} (len : P → ℕ) (params : Params) (commands 
 flows_from_new {P} len params commands hop there =
     let found = among (length (replicate params.hops (let h : HopState P = new_hop in h))) hop.0 there in
     let size = length-replicate params.hops (let h : HopState P = new_hop in h) in
-    let start : hop_at (new_state {P = P} params) hop ≡ new_hop = get_or-replicate params.hops (hop.0 - 1) (let h : HopState P = new_hop in h) new_hop (omega (arith, found.0, found.1, size)) in
-    subst (λ (h : HopState P). Flows h (hop_at (fold len (new_state params) commands) hop) (picked len hop (new_state params) commands)) start
+    let start : hop_at (new_state {P = P} params) hop ≡ new_hop = get_or-replicate params.hops (hop.0 - 1)
+    (let h : HopState P = new_hop in h) new_hop (omega (arith, found.0, found.1, size)) in
+    subst (λ (h : HopState P). Flows h (hop_at (fold len (new_state params) commands) hop)
+    (picked len hop (new_state params) commands)) start
     (flows_fold len (new_state params) commands hop found.0)

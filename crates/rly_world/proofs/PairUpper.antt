@@ -1,20 +1,19 @@
 -- What the upper end keeps: it releases only what the lower has taken, and its answered Fetches give what was picked.
-use Rattle.std.proofs.Common.{ℕ, ◌≡◌, ◌+◌, ◌-◌, ◌<◌, ◌≤◌, Bool, true, false, true≢false, ◌==◌, nat_le, max, min, cond, if◌then◌else◌, ◌⊎◌, inl, inr, List, [], ◌∷◌, ◌++◌, length, map, take, drop, refl, arith, sym, ◌∙◌, ap, subst, Option, Some, None, Result, Ok, Err}
-use Rattle.std.specs.Prelude.{nat_eq}
+use Rattle.std.proofs.Common.{ℕ, ◌≡◌, ◌+◌, ◌<◌, ◌≤◌, Bool, true, false, true≢false, max}
+use Rattle.std.proofs.Common.{if◌then◌else◌, inl, inr, List, [], ◌∷◌, ◌++◌, length, take, drop, refl, arith}
+use Rattle.std.proofs.Common.{sym, ◌∙◌, ap, subst, None}
 use Rattle.std.specs.List.{AllByRecursion}
 use Rattle.std.proofs.Math.Seq.{take-length}
-use Rattle.std.proofs.lemmas.Bool.{cases_eq, eq-eqb, leb-true}
-use Rattle.std.proofs.lemmas.List.{append-nil, length-append, length-take, take-append-drop, take-append-le, take-take}
+use Rattle.std.proofs.lemmas.Bool.{cases_eq, eq-eqb}
+use Rattle.std.proofs.lemmas.List.{length-append, length-take, take-append-drop, take-append-le, take-take}
 use Rattle.rly_core.specs.declared.ids.HopId.{HopId}
 use Rattle.rly_core.specs.declared.params.Params.{Params}
-use Rattle.rly_core.specs.declared.refusal.Refusal.{Refusal}
 use Rattle.rly_hop.specs.Sender.{Sender}
 use Rattle.rly_machine.specs.declared.command.Ask.{Ask}
 use Rattle.rly_machine.specs.declared.command.Ask.TheVariants as ask
 use Rattle.rly_machine.specs.declared.command.Command.{Command}
 use Rattle.rly_machine.specs.declared.command.Command.TheVariants.{Take, Pick, Release}
 use Rattle.rly_machine.specs.declared.command.Query.TheVariants as query
-use Rattle.rly_machine.specs.declared.hop.Item.{Item}
 use Rattle.rly_machine.specs.declared.reply.Reply.{Reply}
 use Rattle.rly_machine.specs.declared.reply.Reply.TheVariants as reply
 use Rattle.rly_machine.specs.Accepted.{accept, is_accepted}
@@ -22,18 +21,21 @@ use Rattle.rly_machine.specs.Ask.{ask_step}
 use Rattle.rly_machine.specs.Fold.{fold}
 use Rattle.rly_machine.specs.History.{accepted_by, is_failure}
 use Rattle.rly_machine.specs.Pick.{outcome_of, pick_refusal, with_picked}
-use Rattle.rly_machine.specs.Query.{fetch_reply, item_of, query_reply}
+use Rattle.rly_machine.specs.Query.{query_reply}
 use Rattle.rly_machine.specs.Release.{covered_count, release_refusal, with_released}
-use Rattle.rly_machine.specs.State.{HopState, State, has_hop, hop_at, new_hop, new_state}
+use Rattle.rly_machine.specs.State.{HopState, State, has_hop, hop_at, new_state}
 use Rattle.rly_machine.specs.Step.{step}
 use Rattle.rly_machine.specs.Take.{take_refusal, with_taken}
 use Rattle.rly_machine.proofs.Folding.{fold_append}
 use Rattle.rly_machine.proofs.Refusals.{among, may_pick, may_release, may_take}
 use Rattle.rly_world.specs.PairCores.{fetched_event, is_for_sender, sender_event}
-use Rattle.rly_world.specs.PairEnd.{Asked, End, Outcome, Replied, Done, Unsure, Broken, DeviceRead, OutOfMemory, accepted_after, after_call, harm_by, is_made, lasting, may_go, reply_at, reply_by, state_of, with_crash, with_made, with_other, with_told}
+use Rattle.rly_world.specs.PairEnd.{Asked, End, Outcome, Replied, Done, Unsure, Broken, DeviceRead, OutOfMemory}
+use Rattle.rly_world.specs.PairEnd.{accepted_after, after_call, harm_by, is_made, lasting, may_go, reply_at, reply_by}
+use Rattle.rly_world.specs.PairEnd.{state_of, with_crash, with_made, with_other, with_told}
 use Rattle.rly_world.specs.PairPayloads.{IsPrefix, Numbered, picked}
-use Rattle.rly_world.proofs.PairCoreSteps.{IsKept, IsSafeAsk, IsSafeEvent, acked_later, ask_later, either, either_known, event_later}
-use Rattle.rly_world.proofs.PairFetch.{IsUnder, fetched_is_picked}
+use Rattle.rly_world.proofs.PairCoreSteps.{IsKept, IsSafeAsk, IsSafeEvent, acked_later, ask_later, either, either_known}
+use Rattle.rly_world.proofs.PairCoreSteps.{event_later}
+use Rattle.rly_world.proofs.PairFetch.{fetched_is_picked}
 use Rattle.rly_world.proofs.PairLists.{all_append, all_weaker, prefix_all, prefix_same, prefix_take}
 use Rattle.rly_world.proofs.PairRuns.{either_way, flows_fold, flows_from_new, other_hop, own_hop, picked_append}
 
@@ -41,18 +43,21 @@ use Rattle.rly_world.proofs.PairRuns.{either_way, flows_fold, flows_from_new, ot
 pub more_cases : (s : State (List ℕ)) (an : Ask) (outcome : Outcome) (Q : List (Command (List ℕ)) → Type 0)
     → Q [] → ((c : Command (List ℕ)) → an ≡ ask.Command c → is_accepted (step length s c).1 ≡ true → Q (c ∷ []))
     → Q (if is_made outcome then accepted_by an (ask_step s an).1 else [])
-more_cases s (ask.Query q) outcome Q none one = elim (is_made outcome) as (λ b. Q (if b then [] else [])) [ true ↦ none | false ↦ none ]
+more_cases s (ask.Query q) outcome Q none one = elim (is_made outcome) as
+    (λ b. Q (if b then [] else [])) [ true ↦ none | false ↦ none ]
 more_cases s (ask.Command c) outcome Q none one =
     elim (is_made outcome) as (λ b. Q (if b then accepted_by (ask.Command c) (step length s c).1 else [])) [
-      | true ↦ elim (is_accepted (step length s c).1) as (λ b. is_accepted (step length s c).1 ≡ b → Q (if b then c ∷ [] else [])) [
-        | true ↦ λ is. one c refl is
-        | false ↦ λ is. none
-      ] refl
+      | true ↦ elim (is_accepted (step length s c).1) as
+          (λ b. is_accepted (step length s c).1 ≡ b → Q (if b then c ∷ [] else [])) [
+            | true ↦ λ is. one c refl is
+            | false ↦ λ is. none
+          ] refl
       | false ↦ none
     ]
 
 -- what was picked by more commands goes on from what was picked before
-pub picked_front : (hop : HopId) (s : State (List ℕ)) (xs ys : List (Command (List ℕ))) → IsPrefix xs ys → IsPrefix (picked length hop s xs) (picked length hop s ys)
+pub picked_front : (hop : HopId) (s : State (List ℕ)) (xs ys : List (Command (List ℕ))) → IsPrefix xs ys
+    → IsPrefix (picked length hop s xs) (picked length hop s ys)
 picked_front hop s xs ys p =
     (picked length hop (fold length s xs) p.0, ap (picked length hop s) p.1 ∙ picked_append length hop s xs p.0)
 
@@ -63,7 +68,8 @@ given_by hop e = picked length hop (new_state e.params) (lasting e)
 -- an answer that is due gives what was picked by its position
 pub record IsTrueReply (hop : HopId) (params : Params) (accepted : List (Command (List ℕ))) (r : Replied) : Type 0 where
   pub position : r.position ≤ length accepted
-  pub told : IsSafeEvent (picked length hop (new_state params) (take r.position accepted)) 0 (sender_event r.call.ask r.reply)
+  pub told : IsSafeEvent (picked length hop (new_state params) (take r.position accepted)) 0
+      (sender_event r.call.ask r.reply)
 
 -- the upper end, where the lower has taken so many for good
 pub record IsUpper (hop : HopId) (kept : ℕ) (e : End) (s : Sender) : Type 0 where
@@ -74,12 +80,14 @@ pub record IsUpper (hop : HopId) (kept : ℕ) (e : End) (s : Sender) : Type 0 wh
   pub replied : AllByRecursion (IsTrueReply hop e.params e.accepted) e.replied
   pub released : (hop_at (state_of e) hop).released ≤ kept
 
-pub upper_later : (hop : HopId) (kept rest : ℕ) (e : End) (s : Sender) → kept ≤ rest → IsUpper hop kept e s → IsUpper hop rest e s
+pub upper_later : (hop : HopId) (kept rest : ℕ) (e : End) (s : Sender) → kept ≤ rest → IsUpper hop kept e s
+    → IsUpper hop rest e s
 upper_later hop kept rest e s below up = record {
   there = up.there;
   told = up.told;
   acked = acked_later kept rest below s.acked up.acked;
-  asked = all_weaker (λ (c : Asked). IsSafeAsk hop kept c.ask) (λ (c : Asked). IsSafeAsk hop rest c.ask) (λ c. ask_later hop kept rest below c.ask) e.asked up.asked;
+  asked = all_weaker (λ (c : Asked). IsSafeAsk hop kept c.ask) (λ (c : Asked). IsSafeAsk hop rest c.ask)
+      (λ c. ask_later hop kept rest below c.ask) e.asked up.asked;
   replied = up.replied;
   released = omega (arith, up.released, below);
 }
@@ -92,32 +100,42 @@ ReleasesKept hop kept (Release to number) = to.0 ≡ hop.0 → number ≤ kept
 ReleasesKept hop kept (Take from number to stamp payload) = Unit {0}
 ReleasesKept hop kept (Pick to now) = Unit {0}
 
-released_at : (s : State (List ℕ)) (hop to : HopId) (h : HopState (List ℕ)) (kept : ℕ) → 0 < hop.0 → 0 < to.0 → to.0 ≤ length s.hops
+released_at : (s : State (List ℕ)) (hop to : HopId) (h : HopState (List ℕ)) (kept : ℕ) → 0 < hop.0 → 0 < to.0
+    → to.0 ≤ length s.hops
     → (hop_at s hop).released ≤ kept → (to.0 ≡ hop.0 → h.released ≤ kept) → (hop_at (accept s to h) hop).released ≤ kept
 released_at s hop to h kept hop_from from below old new = elim (cases_eq to.0 hop.0) [
-  | inl same ↦ subst (λ (after : HopState (List ℕ)). after.released ≤ kept) (sym (own_hop s hop to h from below same)) (new same)
-  | inr differ ↦ subst (λ (after : HopState (List ℕ)). after.released ≤ kept) (sym (other_hop s hop to h from hop_from differ)) old
+  | inl same ↦ subst (λ (after : HopState (List ℕ)). after.released ≤ kept) (sym (own_hop s hop to h from below same))
+      (new same)
+  | inr differ ↦ subst (λ (after : HopState (List ℕ)). after.released ≤ kept)
+      (sym (other_hop s hop to h from hop_from differ)) old
 ]
 
-released_step : (s : State (List ℕ)) (c : Command (List ℕ)) (hop : HopId) (kept : ℕ) → 0 < hop.0 → ReleasesKept hop kept c
+released_step : (s : State (List ℕ)) (c : Command (List ℕ)) (hop : HopId) (kept : ℕ) → 0 < hop.0
+    → ReleasesKept hop kept c
     → (hop_at s hop).released ≤ kept → (hop_at (step length s c).0 hop).released ≤ kept
 released_step s (Take from number to stamp payload) hop kept there only old =
-    either_way length s (Take from number to stamp payload) (take_refusal length s from number to stamp (length payload)) _ refl
+    either_way length s (Take from number to stamp payload)
+    (take_refusal length s from number to stamp (length payload)) _ refl
     (λ after reply. (hop_at after hop).released ≤ kept) (λ reply refuses. old)
     (λ none. (let may = may_take length s from number to stamp (length payload) none in
     released_at s hop to (with_taken (hop_at s to) (s.seq + 1) stamp payload) kept there may.hop_from may.hop_to old
-    (λ same. (let here : (hop_at s to).released ≡ (hop_at s hop).released = ap (λ n. (let id : HopId = record { 0 = n } in (hop_at s id).released)) same in omega (arith, here, old)))))
+    (λ same. (let here : (hop_at s to).released ≡ (hop_at s hop).released = ap
+    (λ n. (let id : HopId = record { 0 = n } in (hop_at s id).released)) same in omega (arith, here, old)))))
 released_step s (Pick to now) hop kept there only old =
     either_way length s (Pick to now) (pick_refusal s to now) _ refl
     (λ after reply. (hop_at after hop).released ≤ kept) (λ reply refuses. old)
     (λ none. (let may = may_pick s to now none in
-    released_at s hop to (with_picked (hop_at s to) now (outcome_of length s.params (hop_at s to) now)) kept there may.hop_from may.hop_to old
-    (λ same. (let here : (hop_at s to).released ≡ (hop_at s hop).released = ap (λ n. (let id : HopId = record { 0 = n } in (hop_at s id).released)) same in omega (arith, here, old)))))
+    released_at s hop to
+    (with_picked (hop_at s to) now
+    (outcome_of length s.params (hop_at s to) now)) kept there may.hop_from may.hop_to old
+    (λ same. (let here : (hop_at s to).released ≡ (hop_at s hop).released = ap
+    (λ n. (let id : HopId = record { 0 = n } in (hop_at s id).released)) same in omega (arith, here, old)))))
 released_step s (Release to number) hop kept there only old =
     either_way length s (Release to number) (release_refusal s to number) _ refl
     (λ after reply. (hop_at after hop).released ≤ kept) (λ reply refuses. old)
     (λ none. (let may = may_release s to number none in
-    released_at s hop to (with_released (hop_at s to) (covered_count (hop_at s to) number)) kept there may.hop_from may.hop_to old
+    released_at s hop to
+    (with_released (hop_at s to) (covered_count (hop_at s to) number)) kept there may.hop_from may.hop_to old
     (λ same. (let all = only same in omega (arith, all, may.some)))))
 
 -- a call of the sending core, or of another caller, does so too
@@ -132,12 +150,14 @@ own_releases hop kept (ask.Command (Pick to now)) safe = tt
 own_releases hop kept (ask.Query q) safe = tt
 
 pub others_release : (hop : HopId) (kept : ℕ) (an : Ask) → is_for_sender hop an ≡ false → AskReleasesKept hop kept an
-others_release hop kept (ask.Command (Release to number)) other = λ same. absurd (true≢false (sym (eq-eqb to.0 hop.0 same) ∙ other))
+others_release hop kept (ask.Command (Release to number)) other = λ same. absurd
+    (true≢false (sym (eq-eqb to.0 hop.0 same) ∙ other))
 others_release hop kept (ask.Command (Take peer number to stamp payload)) other = tt
 others_release hop kept (ask.Command (Pick to now)) other = tt
 others_release hop kept (ask.Query q) other = tt
 
-command_of : (hop : HopId) (kept : ℕ) (an : Ask) (c : Command (List ℕ)) → an ≡ ask.Command c → AskReleasesKept hop kept an → ReleasesKept hop kept c
+command_of : (hop : HopId) (kept : ℕ) (an : Ask) (c : Command (List ℕ)) → an ≡ ask.Command c
+    → AskReleasesKept hop kept an → ReleasesKept hop kept c
 command_of hop kept an c is releases = subst (AskReleasesKept hop kept) is releases
 
 -- ---- a call is made
@@ -146,35 +166,46 @@ command_of hop kept an c is releases = subst (AskReleasesKept hop kept) is relea
 abbrev pub grown : End → List (Command (List ℕ)) → ℕ → End
 grown e more harm = record e { accepted = e.accepted ++ more; harm = harm }
 
-replied_grown : (hop : HopId) (params : Params) (accepted more : List (Command (List ℕ))) (r : Replied) → IsTrueReply hop params accepted r → IsTrueReply hop params (accepted ++ more) r
+replied_grown : (hop : HopId) (params : Params) (accepted more : List (Command (List ℕ))) (r : Replied)
+    → IsTrueReply hop params accepted r → IsTrueReply hop params (accepted ++ more) r
 replied_grown hop params accepted more r is = record {
   position = omega (arith, is.position, length-append accepted more);
-  told = subst (λ (l : List (Command (List ℕ))). IsSafeEvent (picked length hop (new_state params) l) 0 (sender_event r.call.ask r.reply)) (sym (take-append-le r.position accepted more is.position)) is.told;
+  told = subst (λ (l : List (Command (List ℕ))). IsSafeEvent (picked length hop (new_state params) l) 0
+      (sender_event r.call.ask r.reply)) (sym (take-append-le r.position accepted more is.position)) is.told;
 }
 
-pub given_grown : (hop : HopId) (e : End) (more : List (Command (List ℕ))) (harm : ℕ) → e.told ≤ length e.accepted → given_by hop (grown e more harm) ≡ given_by hop e
-given_grown hop e more harm told = ap (picked length hop (new_state e.params)) (take-append-le e.told e.accepted more told)
+pub given_grown : (hop : HopId) (e : End) (more : List (Command (List ℕ))) (harm : ℕ) → e.told ≤ length e.accepted
+    → given_by hop (grown e more harm) ≡ given_by hop e
+given_grown hop e more harm told = ap (picked length hop (new_state e.params))
+    (take-append-le e.told e.accepted more told)
 
-upper_grown : (hop : HopId) (kept : ℕ) (e : End) (s : Sender) (more : List (Command (List ℕ))) (harm : ℕ) → IsUpper hop kept e s
+upper_grown : (hop : HopId) (kept : ℕ) (e : End) (s : Sender) (more : List (Command (List ℕ))) (harm : ℕ)
+    → IsUpper hop kept e s
     → (hop_at (fold length (state_of e) more) hop).released ≤ kept → IsUpper hop kept (grown e more harm) s
 upper_grown hop kept e s more harm up released = record {
   there = up.there;
   told = omega (arith, up.told, length-append e.accepted more);
   acked = up.acked;
   asked = up.asked;
-  replied = all_weaker (IsTrueReply hop e.params e.accepted) (IsTrueReply hop e.params (e.accepted ++ more)) (replied_grown hop e.params e.accepted more) e.replied up.replied;
-  released = subst (λ (x : State (List ℕ)). (hop_at x hop).released ≤ kept) (sym (fold_append length (new_state e.params) e.accepted more)) released;
+  replied = all_weaker (IsTrueReply hop e.params e.accepted) (IsTrueReply hop e.params (e.accepted ++ more))
+      (replied_grown hop e.params e.accepted more) e.replied up.replied;
+  released = subst (λ (x : State (List ℕ)). (hop_at x hop).released ≤ kept)
+      (sym (fold_append length (new_state e.params) e.accepted more)) released;
 }
 
-pub upper_called : (hop : HopId) (kept : ℕ) (e : End) (s : Sender) (an : Ask) (outcome : Outcome) → AskReleasesKept hop kept an → IsUpper hop kept e s → IsUpper hop kept (after_call e an outcome) s
+pub upper_called : (hop : HopId) (kept : ℕ) (e : End) (s : Sender) (an : Ask) (outcome : Outcome)
+    → AskReleasesKept hop kept an → IsUpper hop kept e s → IsUpper hop kept (after_call e an outcome) s
 upper_called hop kept e s an outcome releases up =
     let found = among _ hop.0 up.there in
     more_cases (state_of e) an outcome (λ more. IsUpper hop kept (grown e more (harm_by outcome)) s)
     (upper_grown hop kept e s [] (harm_by outcome) up up.released)
-    (λ c is accepts. upper_grown hop kept e s (c ∷ []) (harm_by outcome) up (released_step (state_of e) c hop kept found.0 (command_of hop kept an c is releases) up.released))
+    (λ c is accepts. upper_grown hop kept e s (c ∷ []) (harm_by outcome) up
+    (released_step (state_of e) c hop kept found.0 (command_of hop kept an c is releases) up.released))
 
 -- what the machine replies to a call of the sending core is safe to tell
-told_of : (xs : List (Numbered (List ℕ))) (an : Ask) (r : Reply) → ((payload : List ℕ) → r ≡ reply.Bytes payload → IsSafeEvent xs 0 (fetched_event an payload)) → IsSafeEvent xs 0 (sender_event an r)
+told_of : (xs : List (Numbered (List ℕ))) (an : Ask) (r : Reply)
+    → ((payload : List ℕ) → r ≡ reply.Bytes payload → IsSafeEvent xs 0 (fetched_event an payload))
+    → IsSafeEvent xs 0 (sender_event an r)
 told_of xs an (reply.Bytes payload) bytes = bytes payload refl
 told_of xs an (reply.WindowIs first next) bytes = tt
 told_of xs an (reply.Picked number id dropped) bytes = tt
@@ -186,21 +217,30 @@ told_of xs an (reply.Taken id) bytes = tt
 told_of xs an (reply.Already last) bytes = tt
 told_of xs an (reply.Shown status) bytes = tt
 
-machine_told : (hop : HopId) (kept : ℕ) (params : Params) (accepted : List (Command (List ℕ))) (an : Ask) → has_hop (new_state {P = List ℕ} params) hop ≡ true → IsSafeAsk hop kept an
-    → IsSafeEvent (picked length hop (new_state params) accepted) 0 (sender_event an (ask_step (fold length (new_state params) accepted) an).1)
+machine_told : (hop : HopId) (kept : ℕ) (params : Params) (accepted : List (Command (List ℕ))) (an : Ask)
+    → has_hop (new_state {P = List ℕ} params) hop ≡ true → IsSafeAsk hop kept an
+    → IsSafeEvent (picked length hop (new_state params) accepted) 0
+    (sender_event an (ask_step (fold length (new_state params) accepted) an).1)
 machine_told hop kept params accepted (ask.Query (query.Fetch to number)) there safe =
-    told_of (picked length hop (new_state params) accepted) (ask.Query (query.Fetch to number)) (query_reply (fold length (new_state params) accepted) (query.Fetch to number))
-    (λ payload is. fetched_is_picked (fold length (new_state params) accepted) hop number payload (picked length hop (new_state params) accepted)
+    told_of (picked length hop (new_state params) accepted) (ask.Query (query.Fetch to number))
+    (query_reply (fold length (new_state params) accepted) (query.Fetch to number))
+    (λ payload is. fetched_is_picked (fold length (new_state params) accepted) hop number payload
+    (picked length hop (new_state params) accepted)
     (flows_from_new length params accepted hop there)
-    (subst (λ (h : HopId). query_reply (fold length (new_state params) accepted) (query.Fetch h number) ≡ reply.Bytes payload) safe is))
+    (subst (λ (h : HopId). query_reply (fold length (new_state params) accepted)
+    (query.Fetch h number) ≡ reply.Bytes payload) safe is))
 machine_told hop kept params accepted (ask.Query (query.Window to)) there safe =
-    told_of (picked length hop (new_state params) accepted) (ask.Query (query.Window to)) (query_reply (fold length (new_state params) accepted) (query.Window to)) (λ payload is. tt)
+    told_of (picked length hop (new_state params) accepted) (ask.Query (query.Window to))
+    (query_reply (fold length (new_state params) accepted) (query.Window to)) (λ payload is. tt)
 machine_told hop kept params accepted (ask.Query (query.Show to)) there safe =
-    told_of (picked length hop (new_state params) accepted) (ask.Query (query.Show to)) (query_reply (fold length (new_state params) accepted) (query.Show to)) (λ payload is. tt)
+    told_of (picked length hop (new_state params) accepted) (ask.Query (query.Show to))
+    (query_reply (fold length (new_state params) accepted) (query.Show to)) (λ payload is. tt)
 machine_told hop kept params accepted (ask.Command c) there safe =
-    told_of (picked length hop (new_state params) accepted) (ask.Command c) (step length (fold length (new_state params) accepted) c).1 (λ payload is. tt)
+    told_of (picked length hop (new_state params) accepted) (ask.Command c)
+    (step length (fold length (new_state params) accepted) c).1 (λ payload is. tt)
 
-reply_told : (xs : List (Numbered (List ℕ))) (an : Ask) (outcome : Outcome) (machine : Reply) → IsSafeEvent xs 0 (sender_event an machine) → IsSafeEvent xs 0 (sender_event an (reply_by outcome machine))
+reply_told : (xs : List (Numbered (List ℕ))) (an : Ask) (outcome : Outcome) (machine : Reply)
+    → IsSafeEvent xs 0 (sender_event an machine) → IsSafeEvent xs 0 (sender_event an (reply_by outcome machine))
 reply_told xs an Done machine safe = safe
 reply_told xs an (Unsure stands) machine safe = tt
 reply_told xs an Broken machine safe = tt
@@ -208,59 +248,82 @@ reply_told xs an DeviceRead machine safe = tt
 reply_told xs an OutOfMemory machine safe = tt
 
 -- the accepted commands begin those after a call, and what was given stays
-pub called_front : (e : End) (an : Ask) (outcome : Outcome) → IsPrefix e.accepted (take (length (accepted_after e an outcome)) (accepted_after e an outcome))
-called_front e an outcome = ((if is_made outcome then accepted_by an (reply_at e an) else []), take-length (accepted_after e an outcome))
+pub called_front : (e : End) (an : Ask) (outcome : Outcome)
+    → IsPrefix e.accepted (take (length (accepted_after e an outcome)) (accepted_after e an outcome))
+called_front e an outcome =
+    ((if is_made outcome then accepted_by an (reply_at e an) else []), take-length (accepted_after e an outcome))
 
-given_called : (hop : HopId) (e : End) (an : Ask) (outcome : Outcome) → e.told ≤ length e.accepted → given_by hop (after_call e an outcome) ≡ given_by hop e
-given_called hop e an outcome told = given_grown hop e (if is_made outcome then accepted_by an (reply_at e an) else []) (harm_by outcome) told
+given_called : (hop : HopId) (e : End) (an : Ask) (outcome : Outcome) → e.told ≤ length e.accepted
+    → given_by hop (after_call e an outcome) ≡ given_by hop e
+given_called hop e an outcome told = given_grown hop e (if is_made outcome then accepted_by an (reply_at e an) else [])
+    (harm_by outcome) told
 
 -- an end that keeps what it has to, and has given no less than before
 abbrev pub GoesOn : HopId → ℕ → Sender → List (Numbered (List ℕ)) → End → Type 0
 GoesOn hop kept s given e = IsUpper hop kept e s × IsPrefix given (given_by hop e)
 
-pub upper_made : (hop : HopId) (kept : ℕ) (e : End) (s : Sender) (outcome : Outcome) (calls : List Asked) → e.asked ≡ calls → IsUpper hop kept e s
+pub upper_made : (hop : HopId) (kept : ℕ) (e : End) (s : Sender) (outcome : Outcome) (calls : List Asked)
+    → e.asked ≡ calls → IsUpper hop kept e s
     → GoesOn hop kept s (given_by hop e) (with_made e outcome calls)
 upper_made hop kept e s outcome [] is up = (up, prefix_all (given_by hop e))
 upper_made hop kept e s outcome (call ∷ calls) is up =
-    let asked : AllByRecursion (λ (c : Asked). IsSafeAsk hop kept c.ask) (call ∷ calls) = subst (AllByRecursion (λ (c : Asked). IsSafeAsk hop kept c.ask)) is up.asked in
+    let asked : AllByRecursion (λ (c : Asked). IsSafeAsk hop kept c.ask) (call ∷ calls) = subst
+    (AllByRecursion (λ (c : Asked). IsSafeAsk hop kept c.ask)) is up.asked in
     let called = upper_called hop kept e s call.ask outcome (own_releases hop kept call.ask asked.0) up in
     let all : List (Command (List ℕ)) = accepted_after e call.ask outcome in
-    let due : Replied = record { call = call; reply = reply_by outcome (reply_at e call.ask); position = length (accepted_after e call.ask outcome) } in
-    let told = event_later (picked length hop (new_state e.params) e.accepted) (picked length hop (new_state e.params) (take (length all) all)) 0 0
-    (picked_front hop (new_state e.params) e.accepted (take (length all) all) (called_front e call.ask outcome)) (omega arith)
+    let due : Replied = record {
+      call = call;
+      reply = reply_by outcome (reply_at e call.ask);
+      position = length
+          (accepted_after e call.ask outcome);
+    } in
+    let told = event_later (picked length hop (new_state e.params) e.accepted)
+    (picked length hop (new_state e.params) (take (length all) all)) 0 0
+    (picked_front hop (new_state e.params) e.accepted (take (length all) all) (called_front e call.ask outcome))
+    (omega arith)
     (sender_event call.ask (reply_by outcome (reply_at e call.ask)))
-    (reply_told (picked length hop (new_state e.params) e.accepted) call.ask outcome (reply_at e call.ask) (machine_told hop kept e.params e.accepted call.ask up.there asked.0)) in
-    either (may_go e outcome) (record (after_call e call.ask outcome) { asked = calls; replied = e.replied ++ due ∷ [] }) e (GoesOn hop kept s (given_by hop e)) (
+    (reply_told (picked length hop (new_state e.params) e.accepted) call.ask outcome (reply_at e call.ask)
+    (machine_told hop kept e.params e.accepted call.ask up.there asked.0)) in
+    either (may_go e outcome)
+    (record (after_call e call.ask outcome) { asked = calls; replied = e.replied ++ due ∷ [] }) e
+    (GoesOn hop kept s (given_by hop e)) (
       record {
         there = called.there;
         told = called.told;
         acked = called.acked;
         asked = asked.1;
-        replied = all_append (IsTrueReply hop e.params all) e.replied (due ∷ []) called.replied (record { position = omega arith; told = told }, tt);
+        replied = all_append (IsTrueReply hop e.params all) e.replied (due ∷ []) called.replied
+            (record { position = omega arith; told = told }, tt);
         released = called.released;
       },
-      prefix_same (given_by hop e) (given_by hop (after_call e call.ask outcome)) (given_called hop e call.ask outcome up.told),
+      prefix_same (given_by hop e) (given_by hop (after_call e call.ask outcome))
+          (given_called hop e call.ask outcome up.told),
     )
     (up, prefix_all (given_by hop e))
 
 -- ---- an answer is given
 
-told_safe : (hop : HopId) (kept : ℕ) (e : End) (s : Sender) (told : ℕ) → told ≤ length e.accepted → e.told ≤ told → IsUpper hop kept e s
+told_safe : (hop : HopId) (kept : ℕ) (e : End) (s : Sender) (told : ℕ) → told ≤ length e.accepted → e.told ≤ told
+    → IsUpper hop kept e s
     → GoesOn hop kept s (given_by hop e) (record e { told = told })
 told_safe hop kept e s told within more up = (
   record { there = up.there; told = within; acked = up.acked; asked = up.asked; replied = up.replied; released = up.released },
-  picked_front hop (new_state e.params) (take e.told e.accepted) (take told e.accepted) (prefix_take e.told told e.accepted more),
+  picked_front hop (new_state e.params) (take e.told e.accepted) (take told e.accepted)
+      (prefix_take e.told told e.accepted more),
 )
 
-pub upper_told : (hop : HopId) (kept : ℕ) (e : End) (s : Sender) (r : Reply) (position : ℕ) → position ≤ length e.accepted → IsUpper hop kept e s
+pub upper_told : (hop : HopId) (kept : ℕ) (e : End) (s : Sender) (r : Reply) (position : ℕ)
+    → position ≤ length e.accepted → IsUpper hop kept e s
     → GoesOn hop kept s (given_by hop e) (with_told e r position)
 upper_told hop kept e s r position within up =
-    either (is_failure r) e.told (max e.told position) (λ told. GoesOn hop kept s (given_by hop e) (record e { told = told }))
+    either (is_failure r) e.told (max e.told position)
+    (λ told. GoesOn hop kept s (given_by hop e) (record e { told = told }))
     (told_safe hop kept e s e.told up.told (omega arith) up)
     (told_safe hop kept e s (max e.told position) (omega (arith, up.told, within)) (omega arith) up)
 
 -- what the core is told is then given for good
-failed_told : (xs : List (Numbered (List ℕ))) (an : Ask) (r : Reply) → is_failure r ≡ true → IsSafeEvent xs 0 (sender_event an r)
+failed_told : (xs : List (Numbered (List ℕ))) (an : Ask) (r : Reply) → is_failure r ≡ true
+    → IsSafeEvent xs 0 (sender_event an r)
 failed_told xs an (reply.Bytes payload) fails = absurd (true≢false (sym fails))
 failed_told xs an (reply.WindowIs first next) fails = tt
 failed_told xs an (reply.Picked number id dropped) fails = tt
@@ -275,36 +338,48 @@ failed_told xs an (reply.Shown status) fails = tt
 pub event_told : (hop : HopId) (e : End) (r : Replied) → IsTrueReply hop e.params e.accepted r
     → IsSafeEvent (given_by hop (with_told e r.reply r.position)) 0 (sender_event r.call.ask r.reply)
 event_told hop e r is =
-    either_known (is_failure r.reply) e.told (max e.told r.position) (λ told. IsSafeEvent (picked length hop (new_state e.params) (take told e.accepted)) 0 (sender_event r.call.ask r.reply))
+    either_known (is_failure r.reply) e.told (max e.told r.position)
+    (λ told. IsSafeEvent (picked length hop (new_state e.params) (take told e.accepted)) 0
+    (sender_event r.call.ask r.reply))
     (λ fails. failed_told (picked length hop (new_state e.params) (take e.told e.accepted)) r.call.ask r.reply fails)
-    (event_later (picked length hop (new_state e.params) (take r.position e.accepted)) (picked length hop (new_state e.params) (take (max e.told r.position) e.accepted)) 0 0
-    (picked_front hop (new_state e.params) (take r.position e.accepted) (take (max e.told r.position) e.accepted) (prefix_take r.position (max e.told r.position) e.accepted (omega arith)))
+    (event_later (picked length hop (new_state e.params) (take r.position e.accepted))
+    (picked length hop (new_state e.params) (take (max e.told r.position) e.accepted)) 0 0
+    (picked_front hop (new_state e.params) (take r.position e.accepted) (take (max e.told r.position) e.accepted)
+    (prefix_take r.position (max e.told r.position) e.accepted (omega arith)))
     (omega arith) (sender_event r.call.ask r.reply) is.told)
 
 -- ---- another caller's call
 
-pub upper_served : (hop : HopId) (kept : ℕ) (e : End) (s : Sender) (an : Ask) (outcome : Outcome) (is_answered : Bool) → is_for_sender hop an ≡ false → IsUpper hop kept e s
+pub upper_served : (hop : HopId) (kept : ℕ) (e : End) (s : Sender) (an : Ask) (outcome : Outcome) (is_answered : Bool)
+    → is_for_sender hop an ≡ false → IsUpper hop kept e s
     → GoesOn hop kept s (given_by hop e) (with_other e an outcome is_answered)
 upper_served hop kept e s an outcome is_answered other up =
     let after : End = after_call e an outcome in
     let called = upper_called hop kept e s an outcome (others_release hop kept an other) up in
     let same = given_called hop e an outcome up.told in
-    either (may_go e outcome) (if is_answered then with_told after (reply_by outcome (reply_at e an)) (length after.accepted) else after) e (GoesOn hop kept s (given_by hop e))
-    (either is_answered (with_told after (reply_by outcome (reply_at e an)) (length after.accepted)) after (GoesOn hop kept s (given_by hop e))
-    (subst (λ (given : List (Numbered (List ℕ))). GoesOn hop kept s given (with_told after (reply_by outcome (reply_at e an)) (length after.accepted))) same
+    either (may_go e outcome)
+    (if is_answered then with_told after (reply_by outcome (reply_at e an)) (length after.accepted) else after) e
+    (GoesOn hop kept s (given_by hop e))
+    (either is_answered (with_told after (reply_by outcome (reply_at e an)) (length after.accepted)) after
+    (GoesOn hop kept s (given_by hop e))
+    (subst (λ (given : List (Numbered (List ℕ))). GoesOn hop kept s given
+    (with_told after (reply_by outcome (reply_at e an)) (length after.accepted))) same
     (upper_told hop kept after s (reply_by outcome (reply_at e an)) (length after.accepted) (omega arith) called))
     (called, prefix_same (given_by hop e) (given_by hop after) same))
     (up, prefix_all (given_by hop e))
 
 -- ---- a crash
 
-pub upper_crashed : (hop : HopId) (kept : ℕ) (e : End) (s new : Sender) (n : ℕ) (opens : Bool) → e.told ≤ n → new.acked ≡ None → IsUpper hop kept e s
+pub upper_crashed : (hop : HopId) (kept : ℕ) (e : End) (s new : Sender) (n : ℕ) (opens : Bool) → e.told ≤ n
+    → new.acked ≡ None → IsUpper hop kept e s
     → GoesOn hop kept new (given_by hop e) (with_crash e n opens)
 upper_crashed hop kept e s new n opens within none up =
     let found = among _ hop.0 up.there in
-    let fewer = (flows_fold length (fold length (new_state e.params) (take n e.accepted)) (drop n e.accepted) hop found.0).fewer in
+    let fewer = (flows_fold length (fold length (new_state e.params) (take n e.accepted))
+    (drop n e.accepted) hop found.0).fewer in
     let whole : fold length (fold length (new_state e.params) (take n e.accepted)) (drop n e.accepted) ≡ state_of e =
-    sym (fold_append length (new_state e.params) (take n e.accepted) (drop n e.accepted)) ∙ ap (fold length (new_state e.params)) (take-append-drop n e.accepted) in
+    sym (fold_append length (new_state e.params) (take n e.accepted) (drop n e.accepted))
+    ∙ ap (fold length (new_state e.params)) (take-append-drop n e.accepted) in
     let released_is = ap (λ (x : State (List ℕ)). (hop_at x hop).released) whole in (
       record {
         there = up.there;
@@ -314,5 +389,6 @@ upper_crashed hop kept e s new n opens within none up =
         replied = tt;
         released = omega (arith, fewer, released_is, up.released);
       },
-      prefix_same (given_by hop e) (given_by hop (with_crash e n opens)) (ap (picked length hop (new_state e.params)) (take-take e.told n e.accepted within)),
+      prefix_same (given_by hop e) (given_by hop (with_crash e n opens))
+          (ap (picked length hop (new_state e.params)) (take-take e.told n e.accepted within)),
     )

@@ -1,11 +1,9 @@
 -- A worked exchange of two relays: three datagrams, of which the second comes first, a copy, a crash of the lower before
 -- it answers, and a crash of the upper.
 use Rattle.std.specs.Prelude.{ℕ, true, List, [], ◌∷◌, ◌++◌}
-use Rattle.rly_core.specs.declared.ids.HopId.{HopId}
 use Rattle.rly_core.specs.declared.params.Params.{Params}
 use Rattle.rly_hop.specs.declared.message.Message.{Message}
 use Rattle.rly_hop.specs.declared.message.Message.TheVariants.{Custody, Data}
-use Rattle.rly_hop.specs.declared.message.StationId.{StationId}
 use Rattle.rly_machine.specs.declared.command.Ask.TheVariants.{Command}
 use Rattle.rly_machine.specs.declared.command.Command.TheVariants.{Take}
 use Rattle.rly_world.specs.PairEnd.{Done}

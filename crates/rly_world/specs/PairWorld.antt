@@ -1,6 +1,6 @@
 -- Two relays, an upper one that gives datagrams to a lower one, and the packets between them. Packets may be lost, come
 -- again, or come in another order; sends and devices may fail; either end may crash.
-use Rattle.std.specs.Prelude.{ℕ, ◌≤◌, nat_le, Bool, true, if◌then◌else◌, Option, Some, None, IsTrue}
+use Rattle.std.specs.Prelude.{ℕ, nat_le, Bool, true, if◌then◌else◌, Option, Some, None, IsTrue}
 use Rattle.std.specs.Prelude.{List, [], ◌∷◌, ◌++◌, length, replicate, slice_get, slice_set}
 use Rattle.rly_core.specs.declared.ids.HopId.{HopId}
 use Rattle.rly_core.specs.declared.ids.PeerId.{PeerId}

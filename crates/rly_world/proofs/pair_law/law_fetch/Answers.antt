@@ -1,5 +1,4 @@
-use Rattle.std.proofs.Common.{ℕ, ◌≡◌, ◌∙◌, Some, length, ◌++◌}
-use Rattle.std.specs.Prelude.{slice_get}
+use Rattle.std.proofs.Common.{length, ◌++◌}
 use Rattle.rly_machine.specs.Fold.{fold}
 use Rattle.rly_machine.specs.State.{new_state}
 use Rattle.rly_world.specs.PairPayloads.{picked}
@@ -11,6 +10,8 @@ use Rattle.rly_world.proofs.pair_law.law_fetch.Goals as goal
 pub returns : goal.returns
 returns c params commands more hop k one there found kept =
     let s = fold length (new_state params) (commands ++ more) in
-    picked_is_fetched (fold length (new_state params) (commands ++ more)) hop k one (picked length hop (new_state params) (commands ++ more))
-    (hop_stays length (new_state params) (commands ++ more) hop there) (flows_from_new length params (commands ++ more) hop there)
+    picked_is_fetched (fold length (new_state params) (commands ++ more)) hop k one
+    (picked length hop (new_state params) (commands ++ more))
+    (hop_stays length (new_state params) (commands ++ more) hop there)
+    (flows_from_new length params (commands ++ more) hop there)
     (get_in_front _ _ k one (picked_append length hop (new_state params) commands more) found) kept

@@ -14,7 +14,8 @@ returns-clause-flight g c params commands hop there =
     let len = g.C.Content.length_of in
     let released : ℕ = (hop_at (fold len (new_state params) commands) hop).released in
     (flows_from_new len params commands hop there).flight
-    ∙ ap (λ n. drop n (map (λ one. one.payload) (picked len hop (new_state params) commands))) (let e : released - 0 ≡ released = omega arith in e)
+    ∙ ap (λ n. drop n (map (λ one. one.payload) (picked len hop (new_state params) commands)))
+    (let e : released - 0 ≡ released = omega arith in e)
 
 pub returns-clause-released : goal.returns-clause-released
 returns-clause-released g c params commands hop there =
