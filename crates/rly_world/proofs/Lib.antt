@@ -16,3 +16,4 @@ mod PairCoreSteps
 mod PairUpper
 mod PairLower
 mod PairHolds
+mod PairWaiting

@@ -7,3 +7,4 @@ pub mod PairEnd
 pub mod PairCores
 pub mod PairWorld
 pub mod PairExchange
+pub mod PairWaiting

@@ -10,6 +10,7 @@ ghost use Rattle.rly_machine.specs.State.{has_hop, has_peer, hop_at, last_at, ne
 ghost use Rattle.rly_machine.specs.declared.command.Command.{Command};
 ghost use Rattle.rly_world.specs.PairExchange.{datagram, exchange_packets, exchanged};
 ghost use Rattle.rly_world.specs.PairPayloads.{AreNumbered, IsPrefix, Numbered, payloads_of, picked, taken};
+ghost use Rattle.rly_world.specs.PairWaiting.{waiting_after, waiting_count};
 ghost use Rattle.rly_world.specs.PairWorld.{IsPair, PairEvent, PairSetup, lastingly_picked, lastingly_taken, now_taken, pair_after, pair_start, released_count};
 
 use rly_machine::{Content, Query, Reply};
@@ -58,6 +59,15 @@ pub fn law_two()
         → IsPrefix (now_taken (pair_after (pair_start setup) events)) (lastingly_picked (pair_after (pair_start setup) events)) }
     ensures released { (setup : PairSetup) (events : List PairEvent) → IsPair setup
         → released_count (pair_after (pair_start setup) events) ≤ length (lastingly_taken (pair_after (pair_start setup) events)) }
+{}
+
+/// Two relays whose workers wait for each answer before they go on are a case of two relays: what a list of events makes
+/// of them, a list makes of two relays. At most one call waits at each of their ends.
+pub fn law_one_at_a_time()
+    ensures case { (setup : PairSetup) (events : List PairEvent) → (fewer : List PairEvent)
+        × (waiting_after (pair_start setup) events ≡ pair_after (pair_start setup) fewer) }
+    ensures one { (setup : PairSetup) (events : List PairEvent) → (waiting_count (waiting_after (pair_start setup) events).upper ≤ 1)
+        × (waiting_count (waiting_after (pair_start setup) events).lower ≤ 1) }
 {}
 
 /// A worked exchange, over the definitions of `law_two`: what arrives too early is taken later, a copy isn't taken twice,
