@@ -5,3 +5,5 @@ pub mod Sizes
 pub mod Fitness
 pub mod Restored
 pub mod Totals
+pub mod StoredForms
+pub mod Inlined

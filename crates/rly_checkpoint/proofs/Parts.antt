@@ -1,18 +1,19 @@
 -- Each part of a checkpoint is read as it was spelled.
-use Rattle.std.proofs.Common.{◌≡◌, ℕ, ◌+◌, ◌*◌, ◌≤◌, Bool, true, false, cond, ◌||◌, not, eqb, ltb, List, [], ◌∷◌, ◌++◌, length, take, drop, Option, Some, None, refl, sym, ap, subst, ◌∙◌, append_assoc, arith, length-append, inl, inr}
+use Rattle.std.proofs.Common.{◌≡◌, ℕ, ◌+◌, ◌*◌, ◌<◌, ◌≤◌, Bool, true, false, cond, ◌||◌, not, eqb, ltb, List, [], ◌∷◌, ◌++◌, length, get_or, take, drop, Option, Some, None, refl, sym, ap, subst, ◌∙◌, append_assoc, arith, length-append, inl, inr}
 use Rattle.std.specs.List.{flat_map}
 use Rattle.std.proofs.lemmas.Bool.{eqb-true, ltb-false, le-ltb, or_parts}
 use Rattle.std.proofs.lemmas.Grind.{flat_map-append}
 use Rattle.std.proofs.lemmas.List.Concat.{flat_map-cons}
-use Rattle.std.proofs.lemmas.List.{append-nil, nil_from_length, take_at, drop_at, take-append-drop, length-take, get_or-drop}
+use Rattle.std.proofs.lemmas.List.{append-nil, nil_from_length, take_at, drop_at, take-append-drop, length-take, get_or-drop, get_or-append-add}
 use Rattle.byteorder.specs.Endian.{big_bytes}
 use Rattle.rly_core.specs.declared.params.Params.{Params}
 use Rattle.rly_codel.specs.declared.state.CodelState.{CodelState}
 use Rattle.rly_machine.specs.declared.hop.Item.{Item}
 use Rattle.rly_machine.specs.State.{State, HopState}
-use Rattle.rly_record.specs.HelpersReading.{◌⊗◌, many_at, field_at, then_at}
+use Rattle.rly_record.specs.HelpersReading.{Reader, ◌⊗◌, many_at, field_at, then_at}
 use Rattle.rly_record.proofs.Fields.{IsBytes, IsBytes-rest, bind_some, bind_is, guard_some, chosen, some_is, Takes}
-use Rattle.rly_checkpoint.specs.Checkpoint.{flag_byte, entry_of, codel_of, hop_bytes, checkpoint_of}
+use Rattle.rly_checkpoint.specs.Checkpoint.{flag_byte, codel_of, entry_spelled, hop_spelled, inline_form, state_spelled}
+use Rattle.rly_checkpoint.specs.Forms.{AreForms}
 use Rattle.rly_checkpoint.specs.HelpersFitting.{FitsBytes, CodelFits, EntryFits, LinesFit, HopFits}
 use Rattle.rly_checkpoint.specs.HelpersReading.{flag_at, codel_at, inline_at, entry_at, entries_at, lines_at, counts_at, hop_bytes_at, state_at, whole_state}
 use Rattle.rly_record.proofs.Readers.{Reads, Fit, u16_reads, u32_reads, u64_reads, then_reads, pair_reads, made_reads, many_reads}
@@ -76,28 +77,53 @@ inline_again size payload rest len =
     let long : ltb (length (payload ++ rest)) size ≡ false = le-ltb _ _ (omega (arith, length-append payload rest)) in
     rw (long, take_at payload rest size len, drop_at payload rest size len) refl
 
-inline_reads : (size : ℕ) → Reads (inline_at size) (λ payload. 0 ∷ payload) (λ payload. length payload ≡ size)
-inline_reads size = record { takes = inline_takes size; again = inline_again size }
+-- an entry in four parts
+entry_parts : (a b c d : List ℕ) → a ++ (b ++ (c ++ d)) ≡ a ++ b ++ c ++ d
+entry_parts a b c d = simp append_assoc
 
-entry_reads : Reads entry_at entry_of EntryFits
-unfolding entry_at entry_of
-entry_reads = made_reads
-    (λ (x : ℕ × (ℕ × (ℕ × List ℕ))). record { id = x.0; stamp = x.1.0; payload = x.1.1.1 })
-    (λ (item : Item (List ℕ)). (item.id, (item.stamp, (length item.payload, item.payload))))
-    entry_of EntryFits (pair_reads u64_reads (pair_reads u64_reads (then_reads inline_at (λ payload. 0 ∷ payload) (λ size payload. length payload ≡ size) u16_reads inline_reads)))
-    (λ x fits. ap (λ (n : ℕ). big_bytes 8 x.0 ++ (big_bytes 8 x.1.0 ++ (big_bytes 2 n ++ (0 ∷ x.1.1.1)))) (sym fits.1.1.1))
-    (λ x fits. record { id = fits.0; stamp = fits.1.0; payload = subst (FitsBytes 2) (sym fits.1.1.1) fits.1.1.0 })
-    (λ item fits. ((fits.id, (fits.stamp, (fits.payload, refl))), refl))
+-- what stands behind a text is bytes, if the whole is
+rest_are_bytes : (text rest bytes : List ℕ) → bytes ≡ text ++ rest → IsBytes bytes → IsBytes rest
+rest_are_bytes text rest bytes is all i = subst (λ (n : ℕ). n < 256) (ap (λ (l : List ℕ). get_or l (length text + i) 0) is ∙ get_or-append-add text rest i 0) (all (length text + i))
 
-pub length-entry_of : (item : Item (List ℕ)) → length (entry_of item) ≡ 19 + length item.payload
-unfolding entry_of
-length-entry_of item = omega arith
+-- the form of payloads that are inline
+pub inline_forms : AreForms length inline_form (λ _. Unit {0}) inline_at
+inline_forms = record {
+  takes = λ size bytes payload rest fits e. let t = inline_takes size bytes payload rest fits e in (t.0.parts, t.1, tt);
+  again = λ payload rest has. inline_again (length payload) payload rest refl;
+  some = λ payload. omega arith;
+}
 
-pub length-entries : (items : List (Item (List ℕ))) → 19 * length items ≤ length (flat_map entry_of items)
-length-entries [] = omega arith
-length-entries (item ∷ items) =
-    let cut : length (flat_map entry_of (item ∷ items)) ≡ length (entry_of item) + length (flat_map entry_of items) = ap (λ (t : List ℕ). length t) (flat_map-cons entry_of item items) ∙ length-append (entry_of item) (flat_map entry_of items) in
-    omega (arith, cut, length-entry_of item, length-entries items)
+-- a form as a reader takes and gives it
+form_reads : {P : Type 0} {len : P → ℕ} {form : P → List ℕ} {HasForm : P → Type 0} {form_at : ℕ → Reader P} (forms : AreForms len form HasForm form_at) (size : ℕ) → Reads (form_at size) form (λ payload. (len payload ≡ size) × HasForm payload)
+form_reads {P} {len} {form} {HasForm} {form_at} forms size = record {
+  takes = λ bytes payload rest fits e.
+      let t = forms.takes size bytes payload rest fits e in
+      (record { parts = t.0; rest_fits = rest_are_bytes (form payload) rest bytes t.0 fits }, (t.1, t.2));
+  again = λ payload rest fits. ap (λ (n : ℕ). form_at n (form payload ++ rest)) (sym fits.0) ∙ forms.again payload rest fits.1;
+}
+
+entry_reads : {P : Type 0} {len : P → ℕ} {form : P → List ℕ} {HasForm : P → Type 0} {form_at : ℕ → Reader P} (forms : AreForms len form HasForm form_at) → Reads (entry_at form_at) (entry_spelled len form) (EntryFits len HasForm)
+unfolding entry_at entry_spelled
+entry_reads {P} {len} {form} {HasForm} {form_at} forms = made_reads
+    (λ (x : ℕ × (ℕ × (ℕ × P))). record { id = x.0; stamp = x.1.0; payload = x.1.1.1 })
+    (λ (item : Item P). (item.id, (item.stamp, (len item.payload, item.payload))))
+    (entry_spelled len form) (EntryFits len HasForm)
+    (pair_reads u64_reads (pair_reads u64_reads (then_reads form_at form (λ size payload. (len payload ≡ size) × HasForm payload) u16_reads (form_reads forms))))
+    (λ x fits. entry_parts (big_bytes 8 x.0) (big_bytes 8 x.1.0) (big_bytes 2 x.1.1.0) (form x.1.1.1)
+    ∙ ap (λ (n : ℕ). big_bytes 8 x.0 ++ big_bytes 8 x.1.0 ++ big_bytes 2 n ++ form x.1.1.1) (sym fits.1.1.1.0))
+    (λ x fits. record { id = fits.0; stamp = fits.1.0; payload = subst (FitsBytes 2) (sym fits.1.1.1.0) fits.1.1.0; form = fits.1.1.1.1 })
+    (λ item fits. ((fits.id, (fits.stamp, (fits.payload, (refl, fits.form)))), refl))
+
+pub length-entry : {P : Type 0} (len : P → ℕ) (form : P → List ℕ) (item : Item P) → length (entry_spelled len form item) ≡ 18 + length (form item.payload)
+unfolding entry_spelled
+length-entry len form item = omega (arith, length-append (big_bytes 8 item.id ++ big_bytes 8 item.stamp ++ big_bytes 2 (len item.payload)) (form item.payload))
+
+pub length-entries : {P : Type 0} {len : P → ℕ} {form : P → List ℕ} {HasForm : P → Type 0} {form_at : ℕ → Reader P} (forms : AreForms len form HasForm form_at) (items : List (Item P)) → 19 * length items ≤ length (flat_map (entry_spelled len form) items)
+length-entries forms [] = omega arith
+length-entries {P} {len} {form} forms (item ∷ items) =
+    let spell : Item P → List ℕ = entry_spelled len form in
+    let cut : length (flat_map spell (item ∷ items)) ≡ length (spell item) + length (flat_map spell items) = ap (λ (t : List ℕ). length t) (flat_map-cons spell item items) ∙ length-append (spell item) (flat_map spell items) in
+    omega (arith, cut, length-entry len form item, forms.some item.payload, length-entries forms items)
 
 -- ---- lines
 
@@ -106,35 +132,37 @@ guard_goes : {A : Type 0} (b : Bool) (read : Option A) (x : A) → cond b None r
 guard_goes true read x e = absurd cc
 guard_goes false read x e = (refl, e)
 
-line_reads : (n : ℕ) → Reads (entries_at n) (flat_map entry_of) (Fit EntryFits n)
+line_reads : {P : Type 0} {len : P → ℕ} {form : P → List ℕ} {HasForm : P → Type 0} {form_at : ℕ → Reader P} (forms : AreForms len form HasForm form_at) (n : ℕ) → Reads (entries_at form_at n) (flat_map (entry_spelled len form)) (Fit (EntryFits len HasForm) n)
 unfolding entries_at
-line_reads n =
-    let many = many_reads n entry_reads in
+line_reads {P} {len} {form} {HasForm} {form_at} forms n =
+    let many = many_reads n (entry_reads forms) in
     record {
-      takes = λ bytes items rest fits e. many.takes bytes items rest fits (guard_goes (ltb (length bytes) (19 * n)) (many_at entry_at n bytes) (items, rest) e).1;
+      takes = λ bytes items rest fits e. many.takes bytes items rest fits (guard_goes (ltb (length bytes) (19 * n)) (many_at (entry_at form_at) n bytes) (items, rest) e).1;
       again = λ items rest fits.
-          let text : List ℕ = flat_map entry_of items in
+          let text : List ℕ = flat_map (entry_spelled len form) items in
           let count : length items ≡ n = fits.count in
-          let long : ltb (length (text ++ rest)) (19 * n) ≡ false = le-ltb _ _ (omega (arith, length-append text rest, length-entries items, count)) in
+          let long : ltb (length (text ++ rest)) (19 * n) ≡ false = le-ltb _ _ (omega (arith, length-append text rest, length-entries forms items, count)) in
           rw long (many.again items rest fits);
     }
 
 -- the bytes of what is in flight and what waits
-abbrev lines_of : List (Item (List ℕ)) × List (Item (List ℕ)) → List ℕ
-lines_of x = big_bytes 2 (length x.0) ++ (big_bytes 4 (length x.1) ++ (flat_map entry_of x.0 ++ flat_map entry_of x.1))
+abbrev lines_of : {P : Type 0} → (P → ℕ) → (P → List ℕ) → List (Item P) × List (Item P) → List ℕ
+lines_of len form x = big_bytes 2 (length x.0) ++ (big_bytes 4 (length x.1) ++ (flat_map (entry_spelled len form) x.0 ++ flat_map (entry_spelled len form) x.1))
 
-lines_reads : Reads lines_at lines_of (λ x. LinesFit x.0 x.1)
+lines_reads : {P : Type 0} {len : P → ℕ} {form : P → List ℕ} {HasForm : P → Type 0} {form_at : ℕ → Reader P} (forms : AreForms len form HasForm form_at) → Reads (lines_at form_at) (lines_of len form) (λ x. LinesFit len HasForm x.0 x.1)
 unfolding lines_at
-lines_reads = made_reads
-    (λ (x : ℕ × (ℕ × (List (Item (List ℕ)) × List (Item (List ℕ))))). x.1.1)
-    (λ (x : List (Item (List ℕ)) × List (Item (List ℕ))). (length x.0, (length x.1, x)))
-    lines_of (λ x. LinesFit x.0 x.1)
-    (then_reads (λ n. then_at (field_at 4) (λ m. entries_at n ⊗ entries_at m)) (λ (x : ℕ × (List (Item (List ℕ)) × List (Item (List ℕ)))). big_bytes 4 x.0 ++ (flat_map entry_of x.1.0 ++ flat_map entry_of x.1.1))
-    (λ n x. FitsBytes 4 x.0 × (Fit EntryFits n x.1.0 × Fit EntryFits x.0 x.1.1)) u16_reads
-    (λ n. then_reads (λ m. entries_at n ⊗ entries_at m) (λ (x : List (Item (List ℕ)) × List (Item (List ℕ))). flat_map entry_of x.0 ++ flat_map entry_of x.1) (λ m x. Fit EntryFits n x.0 × Fit EntryFits m x.1) u32_reads
-    (λ m. pair_reads (line_reads n) (line_reads m))))
-    (λ x fits. ap (λ (n : ℕ). big_bytes 2 n ++ (big_bytes 4 x.1.0 ++ (flat_map entry_of x.1.1.0 ++ flat_map entry_of x.1.1.1))) (sym fits.1.1.0.count)
-    ∙ ap (λ (m : ℕ). big_bytes 2 (length x.1.1.0) ++ (big_bytes 4 m ++ (flat_map entry_of x.1.1.0 ++ flat_map entry_of x.1.1.1))) (sym fits.1.1.1.count))
+lines_reads {P} {len} {form} {HasForm} {form_at} forms =
+    let spell : List (Item P) → List ℕ = flat_map (entry_spelled len form) in
+    made_reads
+    (λ (x : ℕ × (ℕ × (List (Item P) × List (Item P)))). x.1.1)
+    (λ (x : List (Item P) × List (Item P)). (length x.0, (length x.1, x)))
+    (lines_of len form) (λ x. LinesFit len HasForm x.0 x.1)
+    (then_reads (λ n. then_at (field_at 4) (λ m. entries_at form_at n ⊗ entries_at form_at m)) (λ (x : ℕ × (List (Item P) × List (Item P))). big_bytes 4 x.0 ++ (spell x.1.0 ++ spell x.1.1))
+    (λ n x. FitsBytes 4 x.0 × (Fit (EntryFits len HasForm) n x.1.0 × Fit (EntryFits len HasForm) x.0 x.1.1)) u16_reads
+    (λ n. then_reads (λ m. entries_at form_at n ⊗ entries_at form_at m) (λ (x : List (Item P) × List (Item P)). spell x.0 ++ spell x.1) (λ m x. Fit (EntryFits len HasForm) n x.0 × Fit (EntryFits len HasForm) m x.1) u32_reads
+    (λ m. pair_reads (line_reads forms n) (line_reads forms m))))
+    (λ x fits. ap (λ (n : ℕ). big_bytes 2 n ++ (big_bytes 4 x.1.0 ++ (spell x.1.1.0 ++ spell x.1.1.1))) (sym fits.1.1.0.count)
+    ∙ ap (λ (m : ℕ). big_bytes 2 (length x.1.1.0) ++ (big_bytes 4 m ++ (spell x.1.1.0 ++ spell x.1.1.1))) (sym fits.1.1.1.count))
     (λ x fits. record { in_flight = subst (FitsBytes 2) (sym fits.1.1.0.count) fits.0; waiting = subst (FitsBytes 4) (sym fits.1.1.1.count) fits.1.0; flight = fits.1.1.0.each; queue = fits.1.1.1.each })
     (λ x fits. ((fits.in_flight, (fits.waiting, (record { count = refl; each = fits.flight }, record { count = refl; each = fits.queue }))), refl))
 
@@ -147,13 +175,13 @@ counts_reads : Reads counts_at (λ x. big_bytes 8 x.0 ++ (big_bytes 8 x.1.0 ++ b
 unfolding counts_at
 counts_reads = pair_reads u64_reads (pair_reads u64_reads u64_reads)
 
-hop_parts : HopState (List ℕ) → ℕ × (CodelState × ((ℕ × (ℕ × ℕ)) × (List (Item (List ℕ)) × List (Item (List ℕ)))))
+hop_parts : {P : Type 0} → HopState P → ℕ × (CodelState × ((ℕ × (ℕ × ℕ)) × (List (Item P) × List (Item P))))
 hop_parts h = (h.moment, (h.codel, ((h.taken, (h.dropped, h.released)), (h.flight, h.queue))))
 
-pub hop_reads : Reads hop_bytes_at hop_bytes HopFits
-unfolding hop_bytes_at hop_bytes hop_parts
-hop_reads = made_reads
-    (λ (x : ℕ × (CodelState × ((ℕ × (ℕ × ℕ)) × (List (Item (List ℕ)) × List (Item (List ℕ)))))). record {
+pub hop_reads : {P : Type 0} {len : P → ℕ} {form : P → List ℕ} {HasForm : P → Type 0} {form_at : ℕ → Reader P} (forms : AreForms len form HasForm form_at) → Reads (hop_bytes_at form_at) (hop_spelled len form) (HopFits len HasForm)
+unfolding hop_bytes_at hop_spelled hop_parts
+hop_reads {P} {len} {form} {HasForm} {form_at} forms = made_reads
+    (λ (x : ℕ × (CodelState × ((ℕ × (ℕ × ℕ)) × (List (Item P) × List (Item P))))). record {
       queue = x.1.1.1.1;
       flight = x.1.1.1.0;
       codel = x.1.0;
@@ -162,31 +190,31 @@ hop_reads = made_reads
       dropped = x.1.1.0.1.0;
       released = x.1.1.0.1.1;
     })
-    hop_parts hop_bytes HopFits (pair_reads u64_reads (pair_reads codel_reads (pair_reads counts_reads lines_reads)))
+    hop_parts (hop_spelled len form) (HopFits len HasForm) (pair_reads u64_reads (pair_reads codel_reads (pair_reads counts_reads (lines_reads forms))))
     (λ x fits.
-    let f : List (Item (List ℕ)) = x.1.1.1.0 in
-    let q : List (Item (List ℕ)) = x.1.1.1.1 in
-    regroup (big_bytes 8 x.0) (codel_of x.1.0) (big_bytes 8 x.1.1.0.0) (big_bytes 8 x.1.1.0.1.0) (big_bytes 8 x.1.1.0.1.1) (big_bytes 2 (length f)) (big_bytes 4 (length q)) (flat_map entry_of f) (flat_map entry_of q)
-    ∙ ap (λ (t : List ℕ). big_bytes 8 x.0 ++ codel_of x.1.0 ++ big_bytes 8 x.1.1.0.0 ++ big_bytes 8 x.1.1.0.1.0 ++ big_bytes 8 x.1.1.0.1.1 ++ big_bytes 2 (length f) ++ big_bytes 4 (length q) ++ t) (sym (flat_map-append entry_of f q)))
+    let f : List (Item P) = x.1.1.1.0 in
+    let q : List (Item P) = x.1.1.1.1 in
+    regroup (big_bytes 8 x.0) (codel_of x.1.0) (big_bytes 8 x.1.1.0.0) (big_bytes 8 x.1.1.0.1.0) (big_bytes 8 x.1.1.0.1.1) (big_bytes 2 (length f)) (big_bytes 4 (length q)) (flat_map (entry_spelled len form) f) (flat_map (entry_spelled len form) q)
+    ∙ ap (λ (t : List ℕ). big_bytes 8 x.0 ++ codel_of x.1.0 ++ big_bytes 8 x.1.1.0.0 ++ big_bytes 8 x.1.1.0.1.0 ++ big_bytes 8 x.1.1.0.1.1 ++ big_bytes 2 (length f) ++ big_bytes 4 (length q) ++ t) (sym (flat_map-append (entry_spelled len form) f q)))
     (λ x fits. record { moment = fits.0; codel = fits.1.0; taken = fits.1.1.0.0; dropped = fits.1.1.0.1.0; released = fits.1.1.0.1.1; lines = fits.1.1.1 })
     (λ h fits. ((fits.moment, (fits.codel, ((fits.taken, (fits.dropped, fits.released)), fits.lines))), refl))
 
 -- ---- whole states
 
 -- a state has its bytes under some parameters
-pub record StateFits (given : Params) (s : State (List ℕ)) : Type 0 where
+pub record StateFits {P : Type 0} (len : P → ℕ) (HasForm : P → Type 0) (given : Params) (s : State P) : Type 0 where
   pub params : s.params ≡ given
   pub seq : FitsBytes 8 s.seq
   pub lasts : Fit (FitsBytes 8) given.peers s.lasts
-  pub hops : Fit HopFits given.hops s.hops
+  pub hops : Fit (HopFits len HasForm) given.hops s.hops
 
-state_reads : (params : Params) → Reads (state_at params) checkpoint_of (StateFits params)
-unfolding state_at checkpoint_of
-state_reads params = made_reads
-    (λ (x : ℕ × (List ℕ × List (HopState (List ℕ)))). record { params = params; hops = x.1.1; lasts = x.1.0; seq = x.0 })
-    (λ (s : State (List ℕ)). (s.seq, (s.lasts, s.hops)))
-    checkpoint_of (StateFits params) (pair_reads u64_reads (pair_reads (many_reads params.peers u64_reads) (many_reads params.hops hop_reads)))
-    (λ x fits. sym (append_assoc (big_bytes 8 x.0) (flat_map (big_bytes 8) x.1.0) (flat_map hop_bytes x.1.1)))
+state_reads : {P : Type 0} {len : P → ℕ} {form : P → List ℕ} {HasForm : P → Type 0} {form_at : ℕ → Reader P} (forms : AreForms len form HasForm form_at) (params : Params) → Reads (state_at form_at params) (state_spelled len form) (StateFits len HasForm params)
+unfolding state_at state_spelled
+state_reads {P} {len} {form} {HasForm} {form_at} forms params = made_reads
+    (λ (x : ℕ × (List ℕ × List (HopState P))). record { params = params; hops = x.1.1; lasts = x.1.0; seq = x.0 })
+    (λ (s : State P). (s.seq, (s.lasts, s.hops)))
+    (state_spelled len form) (StateFits len HasForm params) (pair_reads u64_reads (pair_reads (many_reads params.peers u64_reads) (many_reads params.hops (hop_reads forms))))
+    (λ x fits. sym (append_assoc (big_bytes 8 x.0) (flat_map (big_bytes 8) x.1.0) (flat_map (hop_spelled len form) x.1.1)))
     (λ x fits. record { params = refl; seq = fits.0; lasts = fits.1.0; hops = fits.1.1 })
     (λ s fits. ((fits.seq, (fits.lasts, fits.hops)), ap (λ (p : Params). record { params = p; hops = s.hops; lasts = s.lasts; seq = s.seq }) (sym fits.params)))
 
@@ -195,21 +223,23 @@ guard_ends true x y e = (refl, cc)
 guard_ends false x y e = absurd cc
 
 -- the test that nothing is left
-abbrev ended : State (List ℕ) × List ℕ → Option (State (List ℕ))
+abbrev ended : {P : Type 0} → State P × List ℕ → Option (State P)
 ended x = cond (eqb (length x.1) 0) (Some x.0) None
 
-pub whole_takes : (params : Params) (bytes : List ℕ) (s : State (List ℕ)) → IsBytes bytes → whole_state params bytes ≡ Some s → (bytes ≡ checkpoint_of s) × StateFits params s
+pub whole_takes : {P : Type 0} {len : P → ℕ} {form : P → List ℕ} {HasForm : P → Type 0} {form_at : ℕ → Reader P} (forms : AreForms len form HasForm form_at) (params : Params) (bytes : List ℕ) (s : State P) → IsBytes bytes → whole_state form_at params bytes ≡ Some s → (bytes ≡ state_spelled len form s) × StateFits len HasForm params s
 unfolding whole_state
-whole_takes params bytes s fits e =
-    let a = bind_some (state_at params bytes) ended s e in
+whole_takes {P} {len} {form} {HasForm} {form_at} forms params bytes s fits e =
+    let spell : State P → List ℕ = state_spelled len form in
+    let a = bind_some (state_at form_at params bytes) ended s e in
     let g = guard_ends (eqb (length a.0.1) 0) a.0.0 s a.2 in
-    let t = (state_reads params).takes bytes a.0.0 a.0.1 fits a.1 in
+    let t = (state_reads forms params).takes bytes a.0.0 a.0.1 fits a.1 in
     let nothing : a.0.1 ≡ [] = nil_from_length a.0.1 (eqb-true _ _ g.0) in
-    let whole : bytes ≡ checkpoint_of a.0.0 = t.0.parts ∙ ap (λ (rest : List ℕ). checkpoint_of a.0.0 ++ rest) nothing ∙ append-nil (checkpoint_of a.0.0) in
-    subst (λ (v : State (List ℕ)). (bytes ≡ checkpoint_of v) × StateFits params v) g.1 (whole, t.1)
+    let whole : bytes ≡ spell a.0.0 = t.0.parts ∙ ap (λ (rest : List ℕ). spell a.0.0 ++ rest) nothing ∙ append-nil (spell a.0.0) in
+    subst (λ (v : State P). (bytes ≡ spell v) × StateFits len HasForm params v) g.1 (whole, t.1)
 
-pub whole_again : (params : Params) (s : State (List ℕ)) → StateFits params s → whole_state params (checkpoint_of s) ≡ Some s
+pub whole_again : {P : Type 0} {len : P → ℕ} {form : P → List ℕ} {HasForm : P → Type 0} {form_at : ℕ → Reader P} (forms : AreForms len form HasForm form_at) (params : Params) (s : State P) → StateFits len HasForm params s → whole_state form_at params (state_spelled len form s) ≡ Some s
 unfolding whole_state
-whole_again params s fits =
-    let read : state_at params (checkpoint_of s) ≡ Some (s, []) = ap (state_at params) (sym (append-nil (checkpoint_of s))) ∙ (state_reads params).again s [] fits in
-    bind_is (state_at params (checkpoint_of s)) (s, []) ended (Some s) read refl
+whole_again {P} {len} {form} {HasForm} {form_at} forms params s fits =
+    let text : List ℕ = state_spelled len form s in
+    let read : state_at form_at params text ≡ Some (s, []) = ap (state_at form_at params) (sym (append-nil text)) ∙ (state_reads forms params).again s [] fits in
+    bind_is (state_at form_at params text) (s, []) ended (Some s) read refl

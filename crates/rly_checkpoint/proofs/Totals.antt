@@ -27,56 +27,56 @@ sum_below f most (x ∷ xs) all =
     omega (arith, sum_by-cons f x xs, first, others)
 
 -- the payload bytes of live items
-pub bytes_below : (moment seq : ℕ) (items : List (Item (List ℕ))) → All (IsLive length moment seq) items → bytes_of length items ≤ 1200 * length items
-bytes_below moment seq items live = sum_below (λ (item : Item (List ℕ)). length item.payload) 1200 items (λ k d lt. (live k d lt).length)
+pub bytes_below : {P : Type 0} (len : P → ℕ) (moment seq : ℕ) (items : List (Item P)) → All (IsLive len moment seq) items → bytes_of len items ≤ 1200 * length items
+bytes_below {P} len moment seq items live = sum_below (λ (item : Item P). len item.payload) 1200 items (λ k d lt. (live k d lt).length)
 
 -- a hop is sound where its numbers are, and its items stand in a row
-pub hop_is : (params : Params) (seq : ℕ) (h : HopState (List ℕ)) (row : Bool)
+pub hop_is : {P : Type 0} (len : P → ℕ) (params : Params) (seq : ℕ) (h : HopState P) (row : Bool)
     → h.taken ≡ length h.queue + length h.flight + h.dropped + h.released → h.taken ≤ seq → h.moment < 2 ^ 52 → length h.flight ≤ params.window
     → (h.codel.first_above_time ≤ h.moment + params.interval) × (h.codel.drop_next ≤ h.moment + params.interval) × (h.codel.lastcount ≤ h.codel.count) × (h.codel.count ≤ h.dropped)
-    → ((row ≡ true) ↔ IsRow h.moment seq 0 0 (live_line h)) → (row ≡ true) ↔ IsSoundHop length params seq h
-hop_is params seq h row balance taken moment window codel test = (
+    → ((row ≡ true) ↔ IsRow len h.moment seq 0 0 (live_line h)) → (row ≡ true) ↔ IsSoundHop len params seq h
+hop_is len params seq h row balance taken moment window codel test = (
   λ yes. record {
     balance = balance;
     taken = taken;
     moment = moment;
     window = window;
-    items = row_live h.moment seq (live_line h) (test.0 yes);
-    order = row_order h.moment seq (live_line h) (test.0 yes);
+    items = row_live len h.moment seq (live_line h) (test.0 yes);
+    order = row_order len h.moment seq (live_line h) (test.0 yes);
     first_above_time = codel.0;
     drop_next = codel.1;
     lastcount = codel.2;
     count = codel.3;
   },
-  λ sound. test.1 (row_from h.moment seq (live_line h) sound.items sound.order),
+  λ sound. test.1 (row_from len h.moment seq (live_line h) sound.items sound.order),
 )
 
 -- ---- the hops, one behind the other
 
 -- a place among the hops
-pub map_place : (hops : List (Hop (List ℕ))) (i : ℕ) → i < length hops → i < length (map hop_state hops)
-map_place hops i lt =
-    let view : Hop (List ℕ) → HopState (List ℕ) = hop_state in
+pub map_place : {P : Type 0} (hops : List (Hop P)) (i : ℕ) → i < length hops → i < length (map hop_state hops)
+map_place {P} hops i lt =
+    let view : Hop P → HopState P = hop_state in
     omega (arith, lt, length-map hops view)
 
 -- what is true of all the hops is true of the one that was read
-pub hop_among : (P : HopState (List ℕ) → Type 0) (hops : List (Hop (List ℕ))) (i : ℕ) (old : Hop (List ℕ)) → i < length hops → old ≡ get_or hops i old → All P (map hop_state hops) → P (hop_state old)
+pub hop_among : {C : Type 0} (P : HopState C → Type 0) (hops : List (Hop C)) (i : ℕ) (old : Hop C) → i < length hops → old ≡ get_or hops i old → All P (map hop_state hops) → P (hop_state old)
 hop_among P hops i old lt is all =
     subst P (sym (read_hop hops i old lt is)) (all i new_hop (map_place hops i lt))
 
 -- one more hop of which it is true
-pub hop_more : (P : HopState (List ℕ) → Type 0) (hops : List (Hop (List ℕ))) (i : ℕ) (old : Hop (List ℕ)) → i < length hops → old ≡ get_or hops i old → All P (take i (map hop_state hops)) → P (hop_state old) → All P (take (i + 1) (map hop_state hops))
-hop_more P hops i old lt is before here =
-    let view : Hop (List ℕ) → HopState (List ℕ) = hop_state in
+pub hop_more : {C : Type 0} (P : HopState C → Type 0) (hops : List (Hop C)) (i : ℕ) (old : Hop C) → i < length hops → old ≡ get_or hops i old → All P (take i (map hop_state hops)) → P (hop_state old) → All P (take (i + 1) (map hop_state hops))
+hop_more {C} P hops i old lt is before here =
+    let view : Hop C → HopState C = hop_state in
     All-more P (map view hops) i new_hop (map_place hops i lt) before (subst P (read_hop hops i old lt is) here)
 
 -- no hop keeps more than all
-pub too_many : (hops : List (Hop (List ℕ))) (i : ℕ) (old : Hop (List ℕ)) (most : ℕ) → i < length hops → old ≡ get_or hops i old → most < length (live_line (hop_state old)) → sum_by (λ h. length (live_line h)) (map hop_state hops) ≤ most → ⊥
-too_many hops i old most lt is many few = omega (arith, counted_le (λ (h : HopState (List ℕ)). length (live_line h)) hops i old lt is, many, few)
+pub too_many : {P : Type 0} (hops : List (Hop P)) (i : ℕ) (old : Hop P) (most : ℕ) → i < length hops → old ≡ get_or hops i old → most < length (live_line (hop_state old)) → sum_by (λ h. length (live_line h)) (map hop_state hops) ≤ most → ⊥
+too_many {P} hops i old most lt is many few = omega (arith, counted_le (λ (h : HopState P). length (live_line h)) hops i old lt is, many, few)
 
 -- the payload bytes of a sound hop
-pub hop_bytes_below : (params : Params) (seq : ℕ) (h : HopState (List ℕ)) → IsWithinLimits params → IsSoundHop length params seq h → length (live_line h) ≤ params.items → bytes_of length (live_line h) ≤ 19660800
-hop_bytes_below params seq h within sound few = omega (arith, bytes_below h.moment seq (live_line h) sound.items, few, within.items.1)
+pub hop_bytes_below : {P : Type 0} (len : P → ℕ) (params : Params) (seq : ℕ) (h : HopState P) → IsWithinLimits params → IsSoundHop len params seq h → length (live_line h) ≤ params.items → bytes_of len (live_line h) ≤ 19660800
+hop_bytes_below len params seq h within sound few = omega (arith, bytes_below len h.moment seq (live_line h) sound.items, few, within.items.1)
 
 -- ---- whole states
 
@@ -87,34 +87,34 @@ sum_fits seq numbers top few all =
     omega (arith, sum_below (λ (number : ℕ). number) max_seq numbers below, few)
 
 -- hops that were found wanting are those of no sound state
-pub not_sound : (params : Params) (hops read : List (Hop (List ℕ))) (lasts : List ℕ) (seq : ℕ) → read ≡ hops
-    → (All (IsSoundHop length params seq) (map hop_state read) × (sum_by (λ h. length (live_line h)) (map hop_state read) ≤ params.items) → ⊥)
-    → IsSound length (record { params = params; hops = map hop_state hops; lasts = lasts; seq = seq }) → ⊥
-not_sound params hops read lasts seq same wanting sound =
-    let view : Hop (List ℕ) → HopState (List ℕ) = hop_state in
+pub not_sound : {P : Type 0} (len : P → ℕ) (params : Params) (hops read : List (Hop P)) (lasts : List ℕ) (seq : ℕ) → read ≡ hops
+    → (All (IsSoundHop len params seq) (map hop_state read) × (sum_by (λ h. length (live_line h)) (map hop_state read) ≤ params.items) → ⊥)
+    → IsSound len (record { params = params; hops = map hop_state hops; lasts = lasts; seq = seq }) → ⊥
+not_sound {P} len params hops read lasts seq same wanting sound =
+    let view : Hop P → HopState P = hop_state in
     let e : map view hops ≡ map view read = sym (ap (map view) same) in
-    wanting (subst (All (IsSoundHop length params seq)) e sound.hops, subst (λ (l : List (HopState (List ℕ))). sum_by (λ h. length (live_line h)) l ≤ params.items) e sound.items)
+    wanting (subst (All (IsSoundHop len params seq)) e sound.hops, subst (λ (l : List (HopState P)). sum_by (λ h. length (live_line h)) l ≤ params.items) e sound.items)
 
 -- a state is sound where its parts are, and it keeps no more bytes than it may
-pub state_is : (params : Params) (hops read : List (Hop (List ℕ))) (lasts numbers : List ℕ) (seq taken items bytes : ℕ) → read ≡ hops → numbers ≡ lasts
+pub state_is : {P : Type 0} (len : P → ℕ) (params : Params) (hops read : List (Hop P)) (lasts numbers : List ℕ) (seq taken items bytes : ℕ) → read ≡ hops → numbers ≡ lasts
     → IsWithinLimits params → length hops ≡ params.hops → length lasts ≡ params.peers
-    → All (IsSoundHop length params seq) (map hop_state read) → All (λ number. number ≤ seq) numbers
+    → All (IsSoundHop len params seq) (map hop_state read) → All (λ number. number ≤ seq) numbers
     → sum numbers ≡ taken → taken ≡ sum_by (λ h. h.taken) (map hop_state read)
     → items ≡ sum_by (λ h. length (live_line h)) (map hop_state read) → items ≤ params.items
-    → bytes ≡ sum_by (λ h. bytes_of length (live_line h)) (map hop_state read) → seq ≤ max_seq
-    → (leb bytes params.bytes ≡ true) ↔ IsSound length (record { params = params; hops = map hop_state hops; lasts = lasts; seq = seq })
-state_is params hops read lasts numbers seq taken items bytes same same_lasts within hop_count peer_count sound_hops sound_lasts is_sum is_taken is_items few is_bytes top =
-    let view : Hop (List ℕ) → HopState (List ℕ) = hop_state in
+    → bytes ≡ sum_by (λ h. bytes_of len (live_line h)) (map hop_state read) → seq ≤ max_seq
+    → (leb bytes params.bytes ≡ true) ↔ IsSound len (record { params = params; hops = map hop_state hops; lasts = lasts; seq = seq })
+state_is {P} len params hops read lasts numbers seq taken items bytes same same_lasts within hop_count peer_count sound_hops sound_lasts is_sum is_taken is_items few is_bytes top =
+    let view : Hop P → HopState P = hop_state in
     let e : map view read ≡ map view hops = ap (map view) same in
-    let count : HopState (List ℕ) → ℕ = λ h. length (live_line h) in
-    let weight : HopState (List ℕ) → ℕ = λ h. bytes_of length (live_line h) in
-    let took : HopState (List ℕ) → ℕ = λ h. h.taken in
+    let count : HopState P → ℕ = λ h. length (live_line h) in
+    let weight : HopState P → ℕ = λ h. bytes_of len (live_line h) in
+    let took : HopState P → ℕ = λ h. h.taken in
     let b : bytes ≡ sum_by weight (map view hops) = is_bytes ∙ ap (sum_by weight) e in (
       λ light. record {
         params = within;
         hop_count = length-map hops view ∙ hop_count;
         peer_count = peer_count;
-        hops = subst (All (IsSoundHop length params seq)) e sound_hops;
+        hops = subst (All (IsSoundHop len params seq)) e sound_hops;
         lasts = subst (All (λ number. number ≤ seq)) same_lasts sound_lasts;
         numbers = sym (ap sum same_lasts) ∙ is_sum ∙ is_taken ∙ ap (sum_by took) e;
         items = subst (λ (n : ℕ). n ≤ params.items) (is_items ∙ ap (sum_by count) e) few;

@@ -1,18 +1,17 @@
 -- Entries and hops that were written in parts.
-use Rattle.std.proofs.Common.{◌≡◌, ℕ, List, [], ◌∷◌, ◌++◌, length, ap, ◌∙◌, append_assoc}
+use Rattle.std.proofs.Common.{◌≡◌, ℕ, List, ◌++◌, length, ap, ◌∙◌, append_assoc}
 use Rattle.std.specs.List.{flat_map}
 use Rattle.byteorder.specs.Endian.{big_bytes}
 use Rattle.rly_machine.specs.declared.hop.Item.{Item}
 use Rattle.rly_machine.specs.State.{HopState, live_line}
-use Rattle.rly_checkpoint.specs.Checkpoint.{entry_of, codel_of, hop_bytes}
+use Rattle.rly_checkpoint.specs.Checkpoint.{codel_of, entry_spelled, hop_spelled}
 
 -- an entry that was written in two parts
-pub entry_written : (item : Item (List ℕ)) (head payload old middle new : List ℕ)
-    → head ≡ big_bytes 8 item.id ++ big_bytes 8 item.stamp ++ big_bytes 2 (length payload) ++ 0 ∷ [] → payload ≡ item.payload → middle ≡ old ++ head → new ≡ middle ++ payload → new ≡ old ++ entry_of item
-unfolding entry_of
-entry_written item head payload old middle new is same first last =
-    last ∙ ap (λ (t : List ℕ). t ++ payload) first ∙ append_assoc old head payload ∙ ap (λ (t : List ℕ). old ++ (t ++ payload)) is
-    ∙ ap (λ (p : List ℕ). old ++ (big_bytes 8 item.id ++ big_bytes 8 item.stamp ++ big_bytes 2 (length p) ++ 0 ∷ p)) same
+pub entry_written : {P : Type 0} (len : P → ℕ) (form : P → List ℕ) (item : Item P) (head old middle new : List ℕ)
+    → head ≡ big_bytes 8 item.id ++ big_bytes 8 item.stamp ++ big_bytes 2 (len item.payload) → middle ≡ old ++ head → new ≡ middle ++ form item.payload → new ≡ old ++ entry_spelled len form item
+unfolding entry_spelled
+entry_written len form item head old middle new is first last =
+    last ∙ ap (λ (t : List ℕ). t ++ form item.payload) first ∙ append_assoc old head (form item.payload) ∙ ap (λ (t : List ℕ). old ++ (t ++ form item.payload)) is
 
 four : (old a b c d : List ℕ) → old ++ a ++ b ++ c ++ d ≡ old ++ (a ++ b ++ c ++ d)
 four old a b c d = simp append_assoc
@@ -21,14 +20,14 @@ counted : (m c t d r f q : List ℕ) → m ++ c ++ (t ++ d ++ r ++ f ++ q) ≡ m
 counted m c t d r f q = simp append_assoc
 
 -- a hop that was written in four parts
-pub hop_written : (h : HopState (List ℕ)) (codel counts old o1 o2 o3 new : List ℕ)
+pub hop_written : {P : Type 0} (len : P → ℕ) (form : P → List ℕ) (h : HopState P) (codel counts old o1 o2 o3 new : List ℕ)
     → codel ≡ codel_of h.codel
     → counts ≡ big_bytes 8 h.taken ++ big_bytes 8 h.dropped ++ big_bytes 8 h.released ++ big_bytes 2 (length h.flight) ++ big_bytes 4 (length h.queue)
-    → o1 ≡ old ++ big_bytes 8 h.moment → o2 ≡ o1 ++ codel → o3 ≡ o2 ++ counts → new ≡ o3 ++ flat_map entry_of (live_line h)
-    → new ≡ old ++ hop_bytes h
-unfolding hop_bytes
-hop_written h codel counts old o1 o2 o3 new is_codel is_counts s1 s2 s3 s4 =
-    let l : List ℕ = flat_map entry_of (live_line h) in
+    → o1 ≡ old ++ big_bytes 8 h.moment → o2 ≡ o1 ++ codel → o3 ≡ o2 ++ counts → new ≡ o3 ++ flat_map (entry_spelled len form) (live_line h)
+    → new ≡ old ++ hop_spelled len form h
+unfolding hop_spelled
+hop_written len form h codel counts old o1 o2 o3 new is_codel is_counts s1 s2 s3 s4 =
+    let l : List ℕ = flat_map (entry_spelled len form) (live_line h) in
     let m : List ℕ = big_bytes 8 h.moment in
     let all : new ≡ old ++ m ++ codel ++ counts ++ l =
     s4 ∙ ap (λ (t : List ℕ). t ++ l) (s3 ∙ ap (λ (t : List ℕ). t ++ counts) (s2 ∙ ap (λ (t : List ℕ). t ++ codel) s1)) in

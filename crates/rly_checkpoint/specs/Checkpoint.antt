@@ -13,27 +13,37 @@ abbrev pub flag_byte : Bool → ℕ
 flag_byte true = 1
 flag_byte false = 0
 
--- a live datagram: its id, stamp and length, the form of its payload (0: inline), and the payload
-unfoldable pub entry_of : Item (List ℕ) → List ℕ
-entry_of item = big_bytes 8 item.id ++ big_bytes 8 item.stamp ++ big_bytes 2 (length item.payload) ++ 0 ∷ item.payload
-
 -- CoDel's state
 unfoldable pub codel_of : CodelState → List ℕ
 codel_of c =
     big_bytes 8 c.first_above_time ++ big_bytes 8 c.drop_next ++ big_bytes 8 c.count ++ big_bytes 8 c.lastcount
     ++ flag_byte c.dropping ∷ []
 
+-- a live datagram, whose payload has a length and a form: its id, stamp, length and form
+unfoldable pub entry_spelled : {P : Type 0} → (P → ℕ) → (P → List ℕ) → Item P → List ℕ
+entry_spelled len form item =
+    big_bytes 8 item.id ++ big_bytes 8 item.stamp ++ big_bytes 2 (len item.payload) ++ form item.payload
+
 -- a hop: its last moment, CoDel's state, its counts, how many are in flight and how many wait, and the entries of both
-unfoldable pub hop_bytes : HopState (List ℕ) → List ℕ
-hop_bytes h =
+unfoldable pub hop_spelled : {P : Type 0} → (P → ℕ) → (P → List ℕ) → HopState P → List ℕ
+hop_spelled len form h =
     big_bytes 8 h.moment ++ codel_of h.codel
     ++ big_bytes 8 h.taken ++ big_bytes 8 h.dropped ++ big_bytes 8 h.released
     ++ big_bytes 2 (length h.flight) ++ big_bytes 4 (length h.queue)
-    ++ flat_map entry_of (live_line h)
+    ++ flat_map (entry_spelled len form) (live_line h)
 
 -- a whole state: the count of accepted commands, each peer's last number, and each hop
-unfoldable pub checkpoint_of : State (List ℕ) → List ℕ
-checkpoint_of s = big_bytes 8 s.seq ++ flat_map (big_bytes 8) s.lasts ++ flat_map hop_bytes s.hops
+unfoldable pub state_spelled : {P : Type 0} → (P → ℕ) → (P → List ℕ) → State P → List ℕ
+state_spelled len form s =
+    big_bytes 8 s.seq ++ flat_map (big_bytes 8) s.lasts ++ flat_map (hop_spelled len form) s.hops
+
+-- the form of a payload that is inline: the byte 0, and the payload
+abbrev pub inline_form : List ℕ → List ℕ
+inline_form payload = 0 ∷ payload
+
+-- a whole state with every payload inline
+abbrev pub checkpoint_of : State (List ℕ) → List ℕ
+checkpoint_of = state_spelled length inline_form
 
 -- how long the shortest checkpoint under those parameters is, which is that of an empty spool
 abbrev pub least_checkpoint_length : Params → ℕ

@@ -9,6 +9,10 @@ use Rattle.rly_machine.specs.State.{HopState}
 abbrev pub FitsBytes : ℕ → ℕ → Type 0
 FitsBytes width n = n < 256 ^ width
 
+-- what is asked of no content
+abbrev pub IsAny : {P : Type 0} → P → Type 0
+IsAny payload = Unit {0}
+
 -- CoDel's numbers fit
 pub record CodelFits (c : CodelState) : Type 0 where
   pub first_above_time : FitsBytes 8 c.first_above_time
@@ -16,24 +20,25 @@ pub record CodelFits (c : CodelState) : Type 0 where
   pub count : FitsBytes 8 c.count
   pub lastcount : FitsBytes 8 c.lastcount
 
--- an item's numbers fit, and its length does
-pub record EntryFits (item : Item (List ℕ)) : Type 0 where
+-- an item's numbers fit, its length does, and what it carries has a form
+pub record EntryFits {P : Type 0} (len : P → ℕ) (HasForm : P → Type 0) (item : Item P) : Type 0 where
   pub id : FitsBytes 8 item.id
   pub stamp : FitsBytes 8 item.stamp
-  pub payload : FitsBytes 2 (length item.payload)
+  pub payload : FitsBytes 2 (len item.payload)
+  pub form : HasForm item.payload
 
 -- the items in flight and those that wait, which are given, have entries, and their counts fit
-pub record LinesFit (first second : List (Item (List ℕ))) : Type 0 where
+pub record LinesFit {P : Type 0} (len : P → ℕ) (HasForm : P → Type 0) (first second : List (Item P)) : Type 0 where
   pub in_flight : FitsBytes 2 (length first)
   pub waiting : FitsBytes 4 (length second)
-  pub flight : AllByRecursion EntryFits first
-  pub queue : AllByRecursion EntryFits second
+  pub flight : AllByRecursion (EntryFits len HasForm) first
+  pub queue : AllByRecursion (EntryFits len HasForm) second
 
 -- a hop's numbers fit
-pub record HopFits (h : HopState (List ℕ)) : Type 0 where
+pub record HopFits {P : Type 0} (len : P → ℕ) (HasForm : P → Type 0) (h : HopState P) : Type 0 where
   pub moment : FitsBytes 8 h.moment
   pub codel : CodelFits h.codel
   pub taken : FitsBytes 8 h.taken
   pub dropped : FitsBytes 8 h.dropped
   pub released : FitsBytes 8 h.released
-  pub lines : LinesFit h.flight h.queue
+  pub lines : LinesFit len HasForm h.flight h.queue

@@ -26,34 +26,35 @@ codel_at = made_at
     })
     (field_at 8 ⊗ field_at 8 ⊗ field_at 8 ⊗ field_at 8 ⊗ flag_at)
 
--- so many bytes of a payload, behind the byte that says that they are inline
+-- the form of a payload of so many bytes that is inline
 unfoldable pub inline_at : ℕ → Reader (List ℕ)
 inline_at size [] = None
 inline_at size (form ∷ bytes) =
     if not (form == 0) || nat_lt (length bytes) size then None else Some (take size bytes, drop size bytes)
 
--- an entry
-unfoldable pub entry_at : Reader (Item (List ℕ))
-entry_at = made_at
+-- an entry, where the form of what has so many bytes is read so
+unfoldable pub entry_at : {P : Type 0} → (ℕ → Reader P) → Reader (Item P)
+entry_at form_at = made_at
     (λ (id, (stamp, (size, payload))). record { id = id; stamp = stamp; payload = payload })
-    (field_at 8 ⊗ field_at 8 ⊗ then_at (field_at 2) inline_at)
+    (field_at 8 ⊗ field_at 8 ⊗ then_at (field_at 2) form_at)
 
 -- so many entries, of which each has 19 bytes at least
-unfoldable pub entries_at : ℕ → Reader (List (Item (List ℕ)))
-entries_at count bytes = if nat_lt (length bytes) (19 * count) then None else many_at entry_at count bytes
+unfoldable pub entries_at : {P : Type 0} → (ℕ → Reader P) → ℕ → Reader (List (Item P))
+entries_at form_at count bytes =
+    if nat_lt (length bytes) (19 * count) then None else many_at (entry_at form_at) count bytes
 
 -- what is in flight and what waits, behind the counts of both
-unfoldable pub lines_at : Reader (List (Item (List ℕ)) × List (Item (List ℕ)))
-lines_at = made_at (λ (in_flight, (waiting, lines)). lines)
-    (then_at (field_at 2) (λ in_flight. then_at (field_at 4) (λ waiting. entries_at in_flight ⊗ entries_at waiting)))
+unfoldable pub lines_at : {P : Type 0} → (ℕ → Reader P) → Reader (List (Item P) × List (Item P))
+lines_at form_at = made_at (λ (in_flight, (waiting, lines)). lines)
+    (then_at (field_at 2) (λ in_flight. then_at (field_at 4) (λ waiting. entries_at form_at in_flight ⊗ entries_at form_at waiting)))
 
 -- a hop's counts: what it took, dropped and released
 unfoldable pub counts_at : Reader (ℕ × (ℕ × ℕ))
 counts_at = field_at 8 ⊗ field_at 8 ⊗ field_at 8
 
 -- a hop
-unfoldable pub hop_bytes_at : Reader (HopState (List ℕ))
-hop_bytes_at = made_at
+unfoldable pub hop_bytes_at : {P : Type 0} → (ℕ → Reader P) → Reader (HopState P)
+hop_bytes_at form_at = made_at
     (λ (moment, (codel, ((taken, (dropped, released)), (flight, queue)))). record {
       queue = queue;
       flight = flight;
@@ -63,16 +64,16 @@ hop_bytes_at = made_at
       dropped = dropped;
       released = released;
     })
-    (field_at 8 ⊗ codel_at ⊗ counts_at ⊗ lines_at)
+    (field_at 8 ⊗ codel_at ⊗ counts_at ⊗ lines_at form_at)
 
 -- a whole state, of which the parameters say how many hops and peers it has
-unfoldable pub state_at : Params → Reader (State (List ℕ))
-state_at params = made_at
+unfoldable pub state_at : {P : Type 0} → (ℕ → Reader P) → Params → Reader (State P)
+state_at form_at params = made_at
     (λ (seq, (lasts, hops)). record { params = params; hops = hops; lasts = lasts; seq = seq })
-    (field_at 8 ⊗ many_at (field_at 8) params.peers ⊗ many_at hop_bytes_at params.hops)
+    (field_at 8 ⊗ many_at (field_at 8) params.peers ⊗ many_at (hop_bytes_at form_at) params.hops)
 
 -- a whole state and nothing behind it
-unfoldable pub whole_state : Params → List ℕ → Option (State (List ℕ))
-whole_state params bytes = do
-  state ← state_at params bytes
+unfoldable pub whole_state : {P : Type 0} → (ℕ → Reader P) → Params → List ℕ → Option (State P)
+whole_state form_at params bytes = do
+  state ← state_at form_at params bytes
   if length state.1 == 0 then Some state.0 else None

@@ -1,4 +1,7 @@
 pub mod Checkpoint
 pub mod HelpersFitting
+pub mod Forms
 pub mod HelpersReading
 pub mod HelpersRows
+pub mod Stored
+pub mod HelpersStored

@@ -1,9 +1,15 @@
 //! Laws of checkpoints, each the contract of a function without a body.
 
-ghost use Rattle.std.specs.Prelude.{◌≡◌, ◌+◌, ◌*◌, ℕ, List, length};
+ghost use Rattle.std.specs.Prelude.{◌≡◌, ◌+◌, ◌*◌, ℕ, All, List, length};
+ghost use Rattle.rly_machine.specs.Map.{map_state};
 ghost use Rattle.rly_machine.specs.Sound.{IsSound};
 ghost use Rattle.rly_machine.specs.State.{State, live_bytes, live_items};
-ghost use Rattle.rly_checkpoint.specs.Checkpoint.{checkpoint_of};
+ghost use Rattle.rly_checkpoint.specs.Checkpoint.{checkpoint_of, state_spelled};
+ghost use Rattle.rly_checkpoint.specs.Forms.{HaveForms};
+ghost use Rattle.rly_checkpoint.specs.Stored.{state_in, stored_form, stored_length};
+
+use crate::form::Form;
+use crate::stored::Stored;
 
 /// No two sound states have one checkpoint under the same parameters.
 pub fn law_one_state()
@@ -15,4 +21,19 @@ pub fn law_one_state()
 pub fn law_length()
     ensures { (s : State (List ℕ)) → IsSound length s
         → length (checkpoint_of s) ≡ 8 + 8 * s.params.peers + 71 * s.params.hops + 19 * live_items s + live_bytes length s }
+{}
+
+/// No two sound states are spelled as one under the same parameters, where what they carry has forms.
+pub fn law_one_spelling<C: Form>()
+    ensures { (a b : State C) → IsSound C.length_of a → IsSound C.length_of b
+        → All (HaveForms C.has_form) a.hops → All (HaveForms C.has_form) b.hops → a.params ≡ b.params
+        → state_spelled C.length_of C.form a ≡ state_spelled C.length_of C.form b → a ≡ b }
+{
+    C::law_forms();
+}
+
+/// A state of which every payload is inline is spelled as its checkpoint, and stands for its bytes over every image.
+pub fn law_inline()
+    ensures spelled { (s : State (List ℕ)) → state_spelled stored_length stored_form (map_state Stored.Inline s) ≡ checkpoint_of s }
+    ensures bytes { (image : List ℕ) (s : State (List ℕ)) → state_in image (map_state Stored.Inline s) ≡ s }
 {}

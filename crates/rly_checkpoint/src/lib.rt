@@ -8,13 +8,17 @@
 //! `rly_segment` and `rly_journal`.
 #![tactic(auto)]
 
+mod form;
 mod laws;
 mod reading;
 mod restoring;
 mod sound;
+mod stored;
 mod writing;
 
-pub use crate::laws::{law_length, law_one_state};
-pub use crate::restoring::read_checkpoint;
-pub use crate::writing::{checkpoint_len, write_checkpoint};
+pub use crate::form::Form;
+pub use crate::laws::{law_inline, law_length, law_one_spelling, law_one_state};
+pub use crate::restoring::{read_checkpoint, read_state};
+pub use crate::stored::{Place, Stored};
+pub use crate::writing::{append_state, checkpoint_len, write_checkpoint};
 pub use rly_record::DecodeFault;

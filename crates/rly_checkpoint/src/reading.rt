@@ -2,23 +2,24 @@ ghost use Rattle.std.specs.Prelude.{◌≡◌, ◌≤◌, ◌<◌, ◌^◌, ℕ,
 ghost use Rattle.rly_core.specs.Limits.{IsWithinLimits};
 ghost use Rattle.rly_record.specs.HelpersReading.{Gives, many_at, field_at};
 ghost use Rattle.rly_checkpoint.specs.Checkpoint.{least_checkpoint_length};
-ghost use Rattle.rly_checkpoint.specs.HelpersReading.{codel_at, counts_at, entry_at, flag_at, hop_bytes_at, inline_at, entries_at, lines_at, whole_state};
+ghost use Rattle.rly_checkpoint.specs.HelpersReading.{codel_at, counts_at, entry_at, flag_at, hop_bytes_at, entries_at, lines_at, whole_state};
 ghost use Rattle.rly_machine.specs.Kept.{hop_state, state_of};
 
+use crate::form::Form;
 use crate::writing::{ENTRY_LENGTH, HOP_LENGTH, NUMBER_LENGTH};
 use byteorder::{BigEndian, ByteOrder};
 use rly_core::Params;
-use rly_machine::{CodelState, Hop, Item, Payload, Queue};
+use rly_machine::{CodelState, Content, Hop, Item, Queue};
 use rly_record::DecodeFault;
 use std::alloc::Global;
 use std::collections::VecDeque;
 
 /// The parts of a spool, as a checkpoint has them.
 #[derive(Drop)]
-pub(crate) struct Parts {
+pub(crate) struct Parts<C: Content> {
     pub(crate) seq: u64,
     pub(crate) lasts: Vec<u64>,
-    pub(crate) hops: Vec<Hop<Payload>>,
+    pub(crate) hops: Vec<Hop<C>>,
 }
 
 /// How many datagrams a hop took, dropped and released.
@@ -31,9 +32,9 @@ struct Counts {
 
 /// What is in flight for a hop, and what waits.
 #[derive(Drop)]
-struct Lines {
-    flight: Vec<Item<Payload>>,
-    queue: Vec<Item<Payload>>,
+struct Lines<C> {
+    flight: Vec<Item<C>>,
+    queue: Vec<Item<C>>,
 }
 
 /// A number of two bytes, and what stands behind it.
@@ -57,7 +58,7 @@ fn u32_of(bytes: &[u8]) -> Result<(u32, &[u8]), DecodeFault>
 }
 
 /// A number of eight bytes, and what stands behind it.
-fn u64_of(bytes: &[u8]) -> Result<(u64, &[u8]), DecodeFault>
+pub(crate) fn u64_of(bytes: &[u8]) -> Result<(u64, &[u8]), DecodeFault>
     ensures { Gives (λ x. (x.0, x.1.now)) result (field_at 8 bytes.now) }
 {
     if bytes.len() < 8 {
@@ -98,31 +99,15 @@ fn codel_of(bytes: &[u8]) -> Result<(CodelState, &[u8]), DecodeFault>
     Ok((codel, rest))
 }
 
-/// So many bytes of a payload behind the byte of its form, and what stands behind them.
-#[tactic(auto, unfolding(crate::specs::HelpersReading::inline_at))]
-fn inline_of(alloc: Global, size: u16, bytes: &[u8]) -> Result<(Payload, &[u8]), DecodeFault>
-    ensures { Gives (λ x. (x.0, x.1.now)) result (inline_at size bytes.now) }
-{
-    let [form, rest @ ..] = bytes else {
-        return Err(DecodeFault::Malformed);
-    };
-    let size = usize::from(size);
-    if *form != 0 || rest.len() < size {
-        return Err(DecodeFault::Malformed);
-    }
-    let (payload, rest) = rest.split_at(size);
-    Ok((Payload::copy_of(alloc, payload)?, rest))
-}
-
 /// An entry, and what stands behind it.
 #[tactic(auto, unfolding(crate::specs::HelpersReading::entry_at))]
-fn entry_of(alloc: Global, bytes: &[u8]) -> Result<(Item<Payload>, &[u8]), DecodeFault>
-    ensures { Gives (λ x. (x.0, x.1.now)) result (entry_at bytes.now) }
+fn entry_of<C: Form>(alloc: Global, bytes: &[u8]) -> Result<(Item<C>, &[u8]), DecodeFault>
+    ensures { Gives (λ x. (x.0, x.1.now)) result (entry_at C.form_at bytes.now) }
 {
     let (id, rest) = u64_of(bytes)?;
     let (stamp, rest) = u64_of(rest)?;
     let (size, rest) = u16_of(rest)?;
-    let (payload, rest) = inline_of(alloc, size, rest)?;
+    let (payload, rest) = C::read_form(alloc, size, rest)?;
     Ok((Item { id, stamp, payload }, rest))
 }
 
@@ -144,13 +129,13 @@ fn counts_of(bytes: &[u8]) -> Result<(Counts, &[u8]), DecodeFault>
 
 /// So many entries, and what stands behind them.
 #[tactic(auto, unfolding(crate::specs::HelpersReading::entries_at))]
-fn line_of(
+fn line_of<C: Form>(
     alloc: Global,
     count: usize,
     bytes: &[u8],
-) -> Result<(Vec<Item<Payload>>, &[u8]), DecodeFault>
+) -> Result<(Vec<Item<C>>, &[u8]), DecodeFault>
     requires { count < 2 ^ 32 }
-    ensures { Gives (λ x. (x.0.items, x.1.now)) result (entries_at count bytes.now) }
+    ensures { Gives (λ x. (x.0.items, x.1.now)) result (entries_at C.form_at count bytes.now) }
 {
     if bytes.len() < ENTRY_LENGTH * count {
         return Err(DecodeFault::Malformed);
@@ -159,12 +144,12 @@ fn line_of(
 }
 
 /// So many entries, for which memory is reserved, and what stands behind them.
-fn entries_of(
+fn entries_of<C: Form>(
     alloc: Global,
     count: usize,
     bytes: &[u8],
-) -> Result<(Vec<Item<Payload>>, &[u8]), DecodeFault>
-    ensures { Gives (λ x. (x.0.items, x.1.now)) result (many_at entry_at count bytes.now) }
+) -> Result<(Vec<Item<C>>, &[u8]), DecodeFault>
+    ensures { Gives (λ x. (x.0.items, x.1.now)) result (many_at (entry_at C.form_at) count bytes.now) }
 {
     let mut entries = Vec::with_capacity(alloc, count)?;
     let mut rest = bytes;
@@ -178,8 +163,8 @@ fn entries_of(
 
 /// What is in flight and what waits, and what stands behind them.
 #[tactic(auto, unfolding(crate::specs::HelpersReading::lines_at))]
-fn lines_of(alloc: Global, bytes: &[u8]) -> Result<(Lines, &[u8]), DecodeFault>
-    ensures { Gives (λ x. ((x.0.flight.items, x.0.queue.items), x.1.now)) result (lines_at bytes.now) }
+fn lines_of<C: Form>(alloc: Global, bytes: &[u8]) -> Result<(Lines<C>, &[u8]), DecodeFault>
+    ensures { Gives (λ x. ((x.0.flight.items, x.0.queue.items), x.1.now)) result (lines_at C.form_at bytes.now) }
 {
     let (in_flight, rest) = u16_of(bytes)?;
     let (waiting, rest) = u32_of(rest)?;
@@ -190,8 +175,8 @@ fn lines_of(alloc: Global, bytes: &[u8]) -> Result<(Lines, &[u8]), DecodeFault>
 
 /// A hop, and what stands behind it.
 #[tactic(auto, unfolding(crate::specs::HelpersReading::hop_bytes_at))]
-fn hop_of_bytes(alloc: Global, bytes: &[u8]) -> Result<(Hop<Payload>, &[u8]), DecodeFault>
-    ensures { Gives (λ x. (hop_state x.0, x.1.now)) result (hop_bytes_at bytes.now) }
+fn hop_of_bytes<C: Form>(alloc: Global, bytes: &[u8]) -> Result<(Hop<C>, &[u8]), DecodeFault>
+    ensures { Gives (λ x. (hop_state x.0, x.1.now)) result (hop_bytes_at C.form_at bytes.now) }
 {
     let (moment, rest) = u64_of(bytes)?;
     let (codel, rest) = codel_of(rest)?;
@@ -210,12 +195,12 @@ fn hop_of_bytes(alloc: Global, bytes: &[u8]) -> Result<(Hop<Payload>, &[u8]), De
 }
 
 /// So many hops, and what stands behind them.
-fn hops_of(
+fn hops_of<C: Form>(
     alloc: Global,
     count: usize,
     bytes: &[u8],
-) -> Result<(Vec<Hop<Payload>>, &[u8]), DecodeFault>
-    ensures { Gives (λ x. (map hop_state x.0.items, x.1.now)) result (many_at hop_bytes_at count bytes.now) }
+) -> Result<(Vec<Hop<C>>, &[u8]), DecodeFault>
+    ensures { Gives (λ x. (map hop_state x.0.items, x.1.now)) result (many_at (hop_bytes_at C.form_at) count bytes.now) }
 {
     let mut hops = Vec::with_capacity(alloc, count)?;
     let mut rest = bytes;
@@ -243,11 +228,16 @@ fn numbers_of(alloc: Global, count: usize, bytes: &[u8]) -> Result<(Vec<u64>, &[
 
 /// The parts of a spool with those parameters, and nothing behind them. Bytes that are too few for its peers and hops take no
 /// memory.
-pub(crate) fn parts_of(alloc: Global, params: Params, bytes: &[u8]) -> Result<Parts, DecodeFault>
+pub(crate) fn parts_of<C: Form>(
+    alloc: Global,
+    params: Params,
+    bytes: &[u8],
+) -> Result<Parts<C>, DecodeFault>
     requires { IsWithinLimits params }
-    ensures gives { Gives (λ parts. state_of params parts.hops parts.lasts parts.seq) result (whole_state params bytes.now) }
+    ensures gives { Gives (λ parts. state_of params parts.hops parts.lasts parts.seq) result (whole_state C.form_at params bytes.now) }
     ensures memory { result ≡ Err DecodeFault.OutOfMemory → least_checkpoint_length params ≤ length bytes.now }
 {
+    C::law_forms();
     let peers = NUMBER_LENGTH * params.peers as usize;
     let hops = HOP_LENGTH * params.hops as usize;
     if bytes.len() < NUMBER_LENGTH + peers + hops {
@@ -258,9 +248,13 @@ pub(crate) fn parts_of(alloc: Global, params: Params, bytes: &[u8]) -> Result<Pa
 
 /// The same, of bytes that are enough for the peers and hops.
 #[tactic(auto, unfolding(crate::specs::HelpersReading::state_at, crate::specs::HelpersReading::whole_state))]
-fn whole_parts_of(alloc: Global, params: Params, bytes: &[u8]) -> Result<Parts, DecodeFault>
+fn whole_parts_of<C: Form>(
+    alloc: Global,
+    params: Params,
+    bytes: &[u8],
+) -> Result<Parts<C>, DecodeFault>
     requires { IsWithinLimits params }
-    ensures { Gives (λ parts. state_of params parts.hops parts.lasts parts.seq) result (whole_state params bytes.now) }
+    ensures { Gives (λ parts. state_of params parts.hops parts.lasts parts.seq) result (whole_state C.form_at params bytes.now) }
 {
     let (seq, rest) = u64_of(bytes)?;
     let (lasts, rest) = numbers_of(alloc, params.peers as usize, rest)?;

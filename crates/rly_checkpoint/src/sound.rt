@@ -6,9 +6,10 @@ ghost use Rattle.rly_machine.specs.Sound.{IsSound, IsSoundHop};
 ghost use Rattle.rly_machine.specs.State.{bytes_of, live_line};
 ghost use Rattle.rly_checkpoint.specs.HelpersRows.{Follows, IsRow};
 
+use crate::form::Form;
 use crate::reading::Parts;
 use rly_core::{Params, limits};
-use rly_machine::{CodelState, Content, Hop, Item, Payload};
+use rly_machine::{CodelState, Content, Hop, Item};
 
 /// What the hops of a spool come to.
 #[derive(Clone, Copy)]
@@ -19,11 +20,11 @@ struct Totals {
 }
 
 /// Whether a spool of these parts is sound, as every spool is that commands lead to.
-pub(crate) fn is_sound(params: &Params, parts: &Parts) -> bool
+pub(crate) fn is_sound<C: Form>(params: &Params, parts: &Parts<C>) -> bool
     requires params { IsWithinLimits params.now }
     requires hop_count { length parts.now.hops.items ≡ params.now.hops }
     requires peer_count { length parts.now.lasts.items ≡ params.now.peers }
-    ensures { IsTrue result ↔ IsSound length (state_of params.now parts.now.hops parts.now.lasts parts.now.seq) }
+    ensures { IsTrue result ↔ IsSound C.length_of (state_of params.now parts.now.hops parts.now.lasts parts.now.seq) }
 {
     let lasts = parts.lasts.as_slice();
     if parts.seq > limits::MAX_SEQ || !are_within(lasts, parts.seq) {
@@ -54,15 +55,15 @@ fn sum_of(numbers: &[u64]) -> u64
 }
 
 /// What the hops come to, where each is sound and no one keeps more than all may.
-fn totals_of(params: &Params, seq: u64, hops: &[Hop<Payload>]) -> Option<Totals>
+fn totals_of<C: Form>(params: &Params, seq: u64, hops: &[Hop<C>]) -> Option<Totals>
     requires params { IsWithinLimits params.now }
     requires seq { seq ≤ max_seq }
     requires count { length hops.now ≤ 64 }
-    ensures none { IfNone result (¬ (All (IsSoundHop length params.now seq) (map hop_state hops.now) × (sum_by (λ h. length (live_line h)) (map hop_state hops.now) ≤ params.now.items))) }
-    ensures hops { IfSome result (λ _. All (IsSoundHop length params.now seq) (map hop_state hops.now)) }
+    ensures none { IfNone result (¬ (All (IsSoundHop C.length_of params.now seq) (map hop_state hops.now) × (sum_by (λ h. length (live_line h)) (map hop_state hops.now) ≤ params.now.items))) }
+    ensures hops { IfSome result (λ _. All (IsSoundHop C.length_of params.now seq) (map hop_state hops.now)) }
     ensures taken { IfSome result (λ totals. totals.taken ≡ sum_by (λ h. h.taken) (map hop_state hops.now)) }
     ensures items { IfSome result (λ totals. totals.items ≡ sum_by (λ h. length (live_line h)) (map hop_state hops.now)) }
-    ensures bytes { IfSome result (λ totals. totals.bytes ≡ sum_by (λ h. bytes_of length (live_line h)) (map hop_state hops.now)) }
+    ensures bytes { IfSome result (λ totals. totals.bytes ≡ sum_by (λ h. bytes_of C.length_of (live_line h)) (map hop_state hops.now)) }
 {
     let mut totals = Totals {
         taken: 0,
@@ -85,10 +86,10 @@ fn totals_of(params: &Params, seq: u64, hops: &[Hop<Payload>]) -> Option<Totals>
 }
 
 /// Whether a hop is sound.
-fn is_sound_hop(params: &Params, seq: u64, hop: &Hop<Payload>) -> bool
+fn is_sound_hop<C: Form>(params: &Params, seq: u64, hop: &Hop<C>) -> bool
     requires params { IsWithinLimits params.now }
     requires seq { seq ≤ max_seq }
-    ensures { IsTrue result ↔ IsSoundHop length params.now seq (hop_state hop.now) }
+    ensures { IsTrue result ↔ IsSoundHop C.length_of params.now seq (hop_state hop.now) }
 {
     if !balances(hop) || hop.taken > seq {
         return false;
@@ -100,7 +101,7 @@ fn is_sound_hop(params: &Params, seq: u64, hop: &Hop<Payload>) -> bool
 }
 
 /// Whether what a hop took waits, is in flight, was dropped or was released.
-fn balances(hop: &Hop<Payload>) -> bool
+fn balances<C: Form>(hop: &Hop<C>) -> bool
     ensures { IsTrue result ↔ (hop.now.taken ≡ length hop.now.queue.items + length hop.now.flight.items + hop.now.dropped + hop.now.released) }
 {
     let live = hop.queue.len() as u64 + hop.flight.len() as u64;
@@ -120,9 +121,9 @@ fn is_codel(codel: &CodelState, latest: u64, dropped: u64) -> bool
 }
 
 /// Whether a hop's live datagrams stand in order.
-fn is_row(hop: &Hop<Payload>, seq: u64) -> bool
+fn is_row<C: Form>(hop: &Hop<C>, seq: u64) -> bool
     requires { length (live_line (hop_state hop.now)) < 2 ^ 64 }
-    ensures { IsTrue result ↔ IsRow hop.now.moment seq 0 0 (live_line (hop_state hop.now)) }
+    ensures { IsTrue result ↔ IsRow C.length_of hop.now.moment seq 0 0 (live_line (hop_state hop.now)) }
 {
     let count = hop.flight.len() + hop.queue.len();
     let mut id = 0;
@@ -139,7 +140,7 @@ fn is_row(hop: &Hop<Payload>, seq: u64) -> bool
 }
 
 /// A live datagram of a hop, counted from the first in flight.
-pub(crate) fn live_at(hop: &Hop<Payload>, index: usize) -> &Item<Payload>
+pub(crate) fn live_at<C: Form>(hop: &Hop<C>, index: usize) -> &Item<C>
     requires { index < length (live_line (hop_state hop.now)) }
     ensures { result.now ≡ slice_index_or (live_line (hop_state hop.now)) index result.now }
 {
@@ -152,8 +153,8 @@ pub(crate) fn live_at(hop: &Hop<Payload>, index: usize) -> &Item<Payload>
 }
 
 /// Whether a datagram may stand behind one with that id and stamp.
-fn follows(item: &Item<Payload>, id: u64, stamp: u64, moment: u64, seq: u64) -> bool
-    ensures { IsTrue result ↔ Follows moment seq id stamp item.now }
+fn follows<C: Form>(item: &Item<C>, id: u64, stamp: u64, moment: u64, seq: u64) -> bool
+    ensures { IsTrue result ↔ Follows C.length_of moment seq id stamp item.now }
 {
     id < item.id
         && item.id <= seq

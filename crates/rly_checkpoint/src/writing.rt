@@ -4,12 +4,13 @@ ghost use Rattle.std.specs.Vec.{vec_capacity};
 ghost use Rattle.byteorder.specs.Endian.{big_bytes};
 ghost use Rattle.rly_machine.specs.Kept.{hop_state};
 ghost use Rattle.rly_machine.specs.State.{live_line};
-ghost use Rattle.rly_checkpoint.specs.Checkpoint.{checkpoint_of, codel_of, entry_of, hop_bytes};
-ghost use Rattle.rly_checkpoint.specs.HelpersFitting.{EntryFits, HopFits};
+ghost use Rattle.rly_checkpoint.specs.Checkpoint.{checkpoint_of, codel_of, entry_spelled, hop_spelled, state_spelled};
+ghost use Rattle.rly_checkpoint.specs.HelpersFitting.{EntryFits, HopFits, IsAny};
 
+use crate::form::{Form, append};
 use crate::sound::live_at;
 use byteorder::{BigEndian, ByteOrder};
-use rly_machine::{CodelState, Hop, Item, Machine, Payload};
+use rly_machine::{CodelState, Content, Hop, Item, Machine, Payload};
 use std::alloc::AllocError;
 
 /// The length in bytes of a number: the count of accepted commands, a peer's last number or a hop's last moment.
@@ -21,7 +22,10 @@ const CODEL_LENGTH: usize = 33;
 /// The length in bytes of a hop's counts.
 const COUNTS_LENGTH: usize = 30;
 
-/// The length in bytes of an entry up to its payload.
+/// The length in bytes of an entry up to its form.
+const ENTRY_HEAD: usize = 18;
+
+/// The length in bytes of the shortest entry.
 pub(crate) const ENTRY_LENGTH: usize = 19;
 
 /// The length in bytes of a hop, without its entries.
@@ -48,31 +52,21 @@ pub fn write_checkpoint(machine: &Machine<Payload>, out: &mut Vec<u8>) -> Result
     ensures capacity { vec_capacity out.old ≤ vec_capacity out.new }
 {
     out.reserve(checkpoint_len(machine) as usize)?;
-    append_checkpoint(machine, out);
+    append_state(machine, out);
     Ok(())
 }
 
-/// Adds the checkpoint of a spool for which there is room.
-#[tactic(auto, unfolding(crate::specs::Checkpoint::checkpoint_of))]
-fn append_checkpoint(machine: &Machine<Payload>, out: &mut Vec<u8>)
-    requires { vec_len out.old + length (checkpoint_of machine.now.state) ≤ vec_capacity out.old }
-    ensures items { out.new.items ≡ out.old.items ++ checkpoint_of machine.now.state }
+/// Adds the spelling of a spool, for which there is room. It takes no memory.
+#[tactic(auto, unfolding(crate::specs::Checkpoint::state_spelled))]
+pub fn append_state<C: Form>(machine: &Machine<C>, out: &mut Vec<u8>)
+    requires { vec_len out.old + length (state_spelled C.length_of C.form machine.now.state) ≤ vec_capacity out.old }
+    ensures items { out.new.items ≡ out.old.items ++ state_spelled C.length_of C.form machine.now.state }
     ensures capacity { vec_capacity out.old ≤ vec_capacity out.new }
 {
     machine.law_sound();
     append_number(machine.seq(), out);
     append_numbers(machine.lasts(), out);
     append_hops(machine.hops(), out);
-}
-
-/// Adds bytes for which there is room.
-fn append(bytes: &[u8], out: &mut Vec<u8>)
-    requires { vec_len out.old + length bytes.now ≤ vec_capacity out.old }
-    ensures items { out.new.items ≡ out.old.items ++ bytes.now }
-    ensures len { vec_len out.new ≡ vec_len out.old + length bytes.now }
-    ensures capacity { vec_capacity out.old ≤ vec_capacity out.new }
-{
-    out.extend_from_slice(bytes).unwrap();
 }
 
 /// Adds a number for which there is room.
@@ -100,10 +94,10 @@ fn append_numbers(numbers: &[u64], out: &mut Vec<u8>)
 }
 
 /// Adds hops for which there is room.
-fn append_hops(hops: &[Hop<Payload>], out: &mut Vec<u8>)
-    requires fit { All HopFits (map hop_state hops.now) }
-    requires room { vec_len out.old + length (flat_map hop_bytes (map hop_state hops.now)) ≤ vec_capacity out.old }
-    ensures items { out.new.items ≡ out.old.items ++ flat_map hop_bytes (map hop_state hops.now) }
+fn append_hops<C: Form>(hops: &[Hop<C>], out: &mut Vec<u8>)
+    requires fit { All (HopFits C.length_of IsAny) (map hop_state hops.now) }
+    requires room { vec_len out.old + length (flat_map (hop_spelled C.length_of C.form) (map hop_state hops.now)) ≤ vec_capacity out.old }
+    ensures items { out.new.items ≡ out.old.items ++ flat_map (hop_spelled C.length_of C.form) (map hop_state hops.now) }
     ensures capacity { vec_capacity out.old ≤ vec_capacity out.new }
 {
     for hop in hops {
@@ -112,11 +106,11 @@ fn append_hops(hops: &[Hop<Payload>], out: &mut Vec<u8>)
 }
 
 /// Adds a hop for which there is room.
-fn append_hop(hop: &Hop<Payload>, out: &mut Vec<u8>)
-    requires fits { HopFits (hop_state hop.now) }
-    requires room { vec_len out.old + length (hop_bytes (hop_state hop.now)) ≤ vec_capacity out.old }
-    ensures items { out.new.items ≡ out.old.items ++ hop_bytes (hop_state hop.now) }
-    ensures len { vec_len out.new ≡ vec_len out.old + length (hop_bytes (hop_state hop.now)) }
+fn append_hop<C: Form>(hop: &Hop<C>, out: &mut Vec<u8>)
+    requires fits { HopFits C.length_of IsAny (hop_state hop.now) }
+    requires room { vec_len out.old + length (hop_spelled C.length_of C.form (hop_state hop.now)) ≤ vec_capacity out.old }
+    ensures items { out.new.items ≡ out.old.items ++ hop_spelled C.length_of C.form (hop_state hop.now) }
+    ensures len { vec_len out.new ≡ vec_len out.old + length (hop_spelled C.length_of C.form (hop_state hop.now)) }
     ensures capacity { vec_capacity out.old ≤ vec_capacity out.new }
 {
     append_number(hop.moment, out);
@@ -140,8 +134,8 @@ fn codel_bytes(codel: &CodelState) -> [u8; CODEL_LENGTH]
 }
 
 /// A hop's counts: of what it took, dropped and released, of what is in flight, and of what waits.
-fn counts_bytes(hop: &Hop<Payload>) -> [u8; COUNTS_LENGTH]
-    requires { HopFits (hop_state hop.now) }
+fn counts_bytes<C: Form>(hop: &Hop<C>) -> [u8; COUNTS_LENGTH]
+    requires { HopFits C.length_of IsAny (hop_state hop.now) }
     ensures { let h = hop_state hop.now in result ≡ big_bytes 8 h.taken ++ big_bytes 8 h.dropped ++ big_bytes 8 h.released ++ big_bytes 2 (length h.flight) ++ big_bytes 4 (length h.queue) }
 {
     let mut bytes = [0; COUNTS_LENGTH];
@@ -154,11 +148,11 @@ fn counts_bytes(hop: &Hop<Payload>) -> [u8; COUNTS_LENGTH]
 }
 
 /// Adds the entries of what is in flight and what waits, for which there is room.
-fn append_live(hop: &Hop<Payload>, out: &mut Vec<u8>)
-    requires fit { AllByRecursion EntryFits (live_line (hop_state hop.now)) }
-    requires room { vec_len out.old + length (flat_map entry_of (live_line (hop_state hop.now))) ≤ vec_capacity out.old }
-    ensures items { out.new.items ≡ out.old.items ++ flat_map entry_of (live_line (hop_state hop.now)) }
-    ensures len { vec_len out.new ≡ vec_len out.old + length (flat_map entry_of (live_line (hop_state hop.now))) }
+fn append_live<C: Form>(hop: &Hop<C>, out: &mut Vec<u8>)
+    requires fit { AllByRecursion (EntryFits C.length_of IsAny) (live_line (hop_state hop.now)) }
+    requires room { vec_len out.old + length (flat_map (entry_spelled C.length_of C.form) (live_line (hop_state hop.now))) ≤ vec_capacity out.old }
+    ensures items { out.new.items ≡ out.old.items ++ flat_map (entry_spelled C.length_of C.form) (live_line (hop_state hop.now)) }
+    ensures len { vec_len out.new ≡ vec_len out.old + length (flat_map (entry_spelled C.length_of C.form) (live_line (hop_state hop.now))) }
     ensures capacity { vec_capacity out.old ≤ vec_capacity out.new }
 {
     let count = hop.flight.len() + hop.queue.len();
@@ -168,23 +162,23 @@ fn append_live(hop: &Hop<Payload>, out: &mut Vec<u8>)
 }
 
 /// Adds an entry for which there is room.
-fn append_entry(item: &Item<Payload>, out: &mut Vec<u8>)
-    requires fits { EntryFits item.now }
-    requires room { vec_len out.old + length (entry_of item.now) ≤ vec_capacity out.old }
-    ensures items { out.new.items ≡ out.old.items ++ entry_of item.now }
-    ensures len { vec_len out.new ≡ vec_len out.old + length (entry_of item.now) }
+fn append_entry<C: Form>(item: &Item<C>, out: &mut Vec<u8>)
+    requires fits { EntryFits C.length_of IsAny item.now }
+    requires room { vec_len out.old + length (entry_spelled C.length_of C.form item.now) ≤ vec_capacity out.old }
+    ensures items { out.new.items ≡ out.old.items ++ entry_spelled C.length_of C.form item.now }
+    ensures len { vec_len out.new ≡ vec_len out.old + length (entry_spelled C.length_of C.form item.now) }
     ensures capacity { vec_capacity out.old ≤ vec_capacity out.new }
 {
-    let payload = item.payload.as_slice();
-    append(&entry_head(item.id, item.stamp, payload.len() as u16), out);
-    append(payload, out);
+    let head = entry_head(item.id, item.stamp, item.payload.len() as u16);
+    append(&head, out);
+    item.payload.append_form(out);
 }
 
-/// An entry up to its payload, which is `size` bytes long and inline.
-fn entry_head(id: u64, stamp: u64, size: u16) -> [u8; ENTRY_LENGTH]
-    ensures { result ≡ big_bytes 8 id ++ big_bytes 8 stamp ++ big_bytes 2 size ++ 0 ∷ [] }
+/// An entry up to its form.
+fn entry_head(id: u64, stamp: u64, size: u16) -> [u8; ENTRY_HEAD]
+    ensures { result ≡ big_bytes 8 id ++ big_bytes 8 stamp ++ big_bytes 2 size }
 {
-    let mut bytes = [0; ENTRY_LENGTH];
+    let mut bytes = [0; ENTRY_HEAD];
     BigEndian::write_u64(&mut bytes, id);
     BigEndian::write_u64(&mut bytes[8..], stamp);
     BigEndian::write_u16(&mut bytes[16..], size);

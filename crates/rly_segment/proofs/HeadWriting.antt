@@ -3,8 +3,8 @@ use Rattle.std.proofs.Common.{◌≡◌, ◌≤◌, ◌+◌, ◌*◌, ◌++◌, 
 use Rattle.std.specs.List.{flat_map}
 use Rattle.byteorder.specs.Endian.{big_bytes}
 use Rattle.rly_core.specs.declared.params.Params.{Params}
-use Rattle.rly_machine.specs.State.{State, new_hop, new_state}
-use Rattle.rly_checkpoint.specs.Checkpoint.{checkpoint_of, codel_of, hop_bytes}
+use Rattle.rly_machine.specs.State.{HopState, State, new_hop, new_state}
+use Rattle.rly_checkpoint.specs.Checkpoint.{checkpoint_of, codel_of, hop_spelled, inline_form, state_spelled}
 use Rattle.rly_core.specs.declared.params.Geometry.{Geometry}
 use Rattle.rly_segment.specs.Device.{IsGeometry}
 use Rattle.rly_segment.specs.Heads.{IsHead, head_of}
@@ -34,21 +34,24 @@ length-lasts : (n : ℕ) → length (flat_map (big_bytes 8) (replicate n 0)) ≡
 length-lasts zero = refl
 length-lasts (suc n) = omega (arith, length-append (big_bytes 8 0) (flat_map (big_bytes 8) (replicate n 0)), length-lasts n)
 
-length-new_hop : length (hop_bytes new_hop) ≡ 71
-unfolding hop_bytes codel_of
+abbrev spelled : HopState (List ℕ) → List ℕ
+spelled = hop_spelled length inline_form
+
+length-new_hop : length (spelled new_hop) ≡ 71
+unfolding hop_spelled codel_of
 length-new_hop = refl
 
-length-hops : (n : ℕ) → length (flat_map hop_bytes (replicate n new_hop)) ≡ 71 * n
+length-hops : (n : ℕ) → length (flat_map spelled (replicate n new_hop)) ≡ 71 * n
 length-hops zero = refl
-length-hops (suc n) = omega (arith, length-append (hop_bytes new_hop) (flat_map hop_bytes (replicate n new_hop)), length-new_hop, length-hops n)
+length-hops (suc n) = omega (arith, length-append (spelled new_hop) (flat_map spelled (replicate n new_hop)), length-new_hop, length-hops n)
 
 -- how long the checkpoint of the empty state is
 pub length-new : (p : Params) → length (checkpoint_of (new_state p)) ≡ 8 + 8 * p.peers + 71 * p.hops
-unfolding checkpoint_of
+unfolding state_spelled
 length-new p =
     omega (
       arith,
-      length-append (big_bytes 8 0 ++ flat_map (big_bytes 8) (replicate p.peers 0)) (flat_map hop_bytes (replicate p.hops new_hop)),
+      length-append (big_bytes 8 0 ++ flat_map (big_bytes 8) (replicate p.peers 0)) (flat_map spelled (replicate p.hops new_hop)),
       length-append (big_bytes 8 0) (flat_map (big_bytes 8) (replicate p.peers 0)),
       length-lasts p.peers,
       length-hops p.hops,

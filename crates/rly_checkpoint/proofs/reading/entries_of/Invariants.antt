@@ -6,7 +6,7 @@ use Rattle.rly_record.proofs.Loops.{with_front}
 use Rattle.rly_checkpoint.proofs.reading.entries_of.Given as goal
 
 abbrev pub invariant-loop : goal.invariant-loop
-invariant-loop l = record {
-  so_far : with_front l.entries.items (many_at entry_at (l.count - l.counter) l.rest) ≡ many_at entry_at l.count l.bytes;
+invariant-loop g l = record {
+  so_far : with_front l.entries.items (many_at (entry_at g.C.Form.form_at) (l.count - l.counter) l.rest) ≡ many_at (entry_at g.C.Form.form_at) l.count l.bytes;
   room : vec_len l.entries + (l.count - l.counter) ≤ vec_capacity l.entries;
 }

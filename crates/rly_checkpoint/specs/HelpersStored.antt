@@ -1,0 +1,24 @@
+-- Helpers: reading what stands for a payload behind its length. Nothing here is claimed.
+use Rattle.std.specs.Prelude.{ℕ, ◌==◌, if◌then◌else◌, [], ◌∷◌, Some, None}
+use Rattle.rly_record.specs.HelpersReading.{◌>>=◌, Reader, field_at}
+use Rattle.rly_checkpoint.specs.HelpersReading.{inline_at}
+use Rattle.rly_checkpoint.specs.declared.stored.Stored.{Stored}
+use Rattle.rly_checkpoint.specs.declared.stored.Stored.TheVariants.{Inline, Placed}
+
+-- a payload inline
+unfoldable pub inlined_at : ℕ → Reader Stored
+inlined_at size bytes = do
+  payload ← inline_at size bytes
+  Some (Inline payload.0, payload.1)
+
+-- the place of a payload that has bytes, behind the byte 1
+unfoldable pub placed_at : ℕ → Reader Stored
+placed_at size bytes =
+    if size == 0 then None else do
+      start ← field_at 8 bytes
+      Some (Placed (record { start = start.0; length = size }), start.1)
+
+-- either, as the form says
+unfoldable pub stored_at : ℕ → Reader Stored
+stored_at size [] = None
+stored_at size (form ∷ bytes) = if form == 1 then placed_at size bytes else inlined_at size (form ∷ bytes)

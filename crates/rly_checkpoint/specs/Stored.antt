@@ -1,0 +1,33 @@
+-- What a head has for a payload: its bytes, or the place on the device where they lie (docs/FORMATS.md, "Heads"). What an
+-- image of the device stands for takes the bytes from there.
+use Rattle.std.specs.Prelude.{ℕ, ◌+◌, ◌<◌, ◌≤◌, ◌^◌, List, ◌∷◌, length, slice_range}
+use Rattle.byteorder.specs.Endian.{big_bytes}
+use Rattle.rly_machine.specs.Map.{map_state}
+use Rattle.rly_machine.specs.State.{State}
+use Rattle.rly_checkpoint.specs.Checkpoint.{inline_form}
+use Rattle.rly_checkpoint.specs.declared.stored.Stored.{Stored}
+use Rattle.rly_checkpoint.specs.declared.stored.Stored.TheVariants.{Inline, Placed}
+
+-- how many bytes a payload has
+abbrev pub stored_length : Stored → ℕ
+stored_length (Inline payload) = length payload
+stored_length (Placed place) = place.length
+
+-- its form: the byte 0 and the payload, or the byte 1 and where it begins
+abbrev pub stored_form : Stored → List ℕ
+stored_form (Inline payload) = inline_form payload
+stored_form (Placed place) = 1 ∷ big_bytes 8 place.start
+
+-- what a form can be spelled of: a payload without bytes is always inline
+abbrev pub IsStorable : Stored → Type 0
+IsStorable (Inline payload) = Unit {0}
+IsStorable (Placed place) = (place.start < 2 ^ 64) × (1 ≤ place.length)
+
+-- the payload in an image of the device
+abbrev pub payload_in : List ℕ → Stored → List ℕ
+payload_in image (Inline payload) = payload
+payload_in image (Placed place) = slice_range image place.start (place.start + place.length)
+
+-- the state with bytes that a state stands for over an image
+abbrev pub state_in : List ℕ → State Stored → State (List ℕ)
+state_in image s = map_state (payload_in image) s

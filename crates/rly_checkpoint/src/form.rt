@@ -1,0 +1,76 @@
+ghost use Rattle.std.specs.Prelude.{◌≡◌, ◌≤◌, ◌+◌, ◌++◌, ℕ, List, length, vec_len};
+ghost use Rattle.std.specs.Vec.{vec_capacity};
+ghost use Rattle.rly_record.specs.HelpersReading.{Gives, Reader};
+ghost use Rattle.rly_checkpoint.specs.Checkpoint.{inline_form};
+ghost use Rattle.rly_checkpoint.specs.Forms.{AreForms};
+ghost use Rattle.rly_checkpoint.specs.HelpersReading.{inline_at};
+
+use rly_machine::{Content, Payload};
+use rly_record::DecodeFault;
+use std::alloc::Global;
+
+/// What an entry of a checkpoint can carry: content that has a form, which stands behind its length.
+pub trait Form: Content {
+    /// The bytes of its form.
+    ghost form: { Self → List ℕ };
+
+    /// What there is a form of.
+    ghost has_form: { Self → Type 0 };
+
+    /// How the form of content of a length is read.
+    ghost form_at: { ℕ → Reader Self };
+
+    /// Adds its form, for which there is room.
+    fn append_form(&self, out: &mut Vec<u8>)
+        requires { vec_len out.old + length (form self.now) ≤ vec_capacity out.old }
+        ensures items { out.new.items ≡ out.old.items ++ form self.now }
+        ensures len { vec_len out.new ≡ vec_len out.old + length (form self.now) }
+        ensures capacity { vec_capacity out.old ≤ vec_capacity out.new };
+
+    /// Reads the form of content of a length, and what stands behind it.
+    fn read_form(alloc: Global, size: u16, bytes: &[u8]) -> Result<(Self, &[u8]), DecodeFault>
+        ensures { Gives (λ x. (x.0, x.1.now)) result (form_at size bytes.now) };
+
+    /// Forms are read as they are spelled.
+    fn law_forms()
+        ensures { AreForms Self.length_of form has_form form_at };
+}
+
+/// Bytes stand inline, behind the byte 0.
+impl Form for Payload {
+    ghost form = { inline_form };
+
+    ghost has_form = { λ _. Unit {0} };
+
+    ghost form_at = { inline_at };
+
+    fn append_form(&self, out: &mut Vec<u8>) {
+        append(&[0], out);
+        append(self.as_slice(), out);
+    }
+
+    #[tactic(auto, unfolding(crate::specs::HelpersReading::inline_at))]
+    fn read_form(alloc: Global, size: u16, bytes: &[u8]) -> Result<(Payload, &[u8]), DecodeFault> {
+        let [form, rest @ ..] = bytes else {
+            return Err(DecodeFault::Malformed);
+        };
+        let size = usize::from(size);
+        if *form != 0 || rest.len() < size {
+            return Err(DecodeFault::Malformed);
+        }
+        let (payload, rest) = rest.split_at(size);
+        Ok((Payload::copy_of(alloc, payload)?, rest))
+    }
+
+    fn law_forms() {}
+}
+
+/// Adds bytes for which there is room.
+pub(crate) fn append(bytes: &[u8], out: &mut Vec<u8>)
+    requires { vec_len out.old + length bytes.now ≤ vec_capacity out.old }
+    ensures items { out.new.items ≡ out.old.items ++ bytes.now }
+    ensures len { vec_len out.new ≡ vec_len out.old + length bytes.now }
+    ensures capacity { vec_capacity out.old ≤ vec_capacity out.new }
+{
+    out.extend_from_slice(bytes).unwrap();
+}

@@ -1,0 +1,101 @@
+ghost use Rattle.std.specs.Prelude.{◌≡◌, ◌++◌, ◌∷◌};
+ghost use Rattle.byteorder.specs.Endian.{big_bytes};
+ghost use Rattle.rly_record.specs.HelpersReading.{Gives};
+ghost use Rattle.rly_checkpoint.specs.HelpersStored.{inlined_at, placed_at, stored_at};
+ghost use Rattle.rly_checkpoint.specs.Stored.{IsStorable, stored_form, stored_length};
+
+use crate::form::{Form, append};
+use crate::reading::u64_of;
+use byteorder::{BigEndian, ByteOrder};
+use rly_machine::{Content, Payload};
+use rly_record::DecodeFault;
+use std::alloc::Global;
+
+/// Where a payload lies on the device, in bytes from its beginning.
+#[derive(Clone, Copy, Debug, PartialEq, Eq)]
+pub struct Place {
+    /// Where it begins.
+    pub start: u64,
+    /// How many bytes it has.
+    pub length: u16,
+}
+
+/// What a head has for a payload. One without bytes is always inline.
+#[derive(Debug, Drop)]
+pub enum Stored {
+    /// Its bytes.
+    Inline(Payload),
+    /// The place on the device where they lie.
+    Placed(Place),
+}
+
+impl Content for Stored {
+    ghost length_of = { stored_length };
+
+    fn len(&self) -> usize {
+        match self {
+            Stored::Inline(payload) => payload.len(),
+            Stored::Placed(place) => usize::from(place.length),
+        }
+    }
+}
+
+impl Form for Stored {
+    ghost form = { stored_form };
+
+    ghost has_form = { IsStorable };
+
+    ghost form_at = { stored_at };
+
+    fn append_form(&self, out: &mut Vec<u8>) {
+        match self {
+            Stored::Inline(payload) => payload.append_form(out),
+            Stored::Placed(place) => append(&placed_form(*place), out),
+        }
+    }
+
+    #[tactic(auto, unfolding(crate::specs::HelpersStored::stored_at))]
+    fn read_form(alloc: Global, size: u16, bytes: &[u8]) -> Result<(Stored, &[u8]), DecodeFault> {
+        match bytes {
+            [1, rest @ ..] => placed_of(size, rest),
+            [_, ..] => inlined_of(alloc, size, bytes),
+            [] => Err(DecodeFault::Malformed),
+        }
+    }
+
+    fn law_forms() {}
+}
+
+/// A payload inline, and what stands behind it.
+#[tactic(auto, unfolding(crate::specs::HelpersStored::inlined_at))]
+fn inlined_of(alloc: Global, size: u16, bytes: &[u8]) -> Result<(Stored, &[u8]), DecodeFault>
+    ensures { Gives (λ x. (x.0, x.1.now)) result (inlined_at size bytes.now) }
+{
+    let (payload, rest) = Payload::read_form(alloc, size, bytes)?;
+    Ok((Stored::Inline(payload), rest))
+}
+
+/// The place of a payload behind the byte of its form, and what stands behind it.
+#[tactic(auto, unfolding(crate::specs::HelpersStored::placed_at))]
+fn placed_of(size: u16, bytes: &[u8]) -> Result<(Stored, &[u8]), DecodeFault>
+    ensures { Gives (λ x. (x.0, x.1.now)) result (placed_at size bytes.now) }
+{
+    if size == 0 {
+        return Err(DecodeFault::Malformed);
+    }
+    let (start, rest) = u64_of(bytes)?;
+    let place = Place {
+        start,
+        length: size,
+    };
+    Ok((Stored::Placed(place), rest))
+}
+
+/// The form of a payload by place.
+fn placed_form(place: Place) -> [u8; 9]
+    ensures { result ≡ 1 ∷ big_bytes 8 place.start }
+{
+    let mut bytes = [1; 9];
+    BigEndian::write_u64(&mut bytes[1..], place.start);
+    bytes
+}
