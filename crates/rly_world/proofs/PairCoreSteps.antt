@@ -35,7 +35,7 @@ use Rattle.rly_world.specs.PairPayloads.{IsPrefix, Numbered}
 use Rattle.rly_world.proofs.PairFetch.{IsUnder}
 use Rattle.rly_world.proofs.PairLists.{get_in_front}
 
--- given: what the upper picked for the lower and no crash takes away; kept: how many the lower took that no crash takes away
+-- given: what the upper picked for the lower, which no crash takes away; kept: how many the lower took, likewise
 
 -- a message says nothing that either could lose
 abbrev pub IsSafe : List (Numbered (List ℕ)) → ℕ → Message (List ℕ) → Type 0
@@ -339,4 +339,8 @@ pub answers_safely : (given : List (Numbered (List ℕ))) (kept : ℕ) (peer : P
     → AnswersSafely given kept peer hop stamp (receiving_step r (in_event.Answered a))
 answers_safely given kept peer hop stamp r number a waits is =
     subst (λ (o : Option ℕ). AnswersSafely given kept peer hop stamp (after_answer r o a)) (sym waits)
-    (record { asks = reply_asks_none peer hop stamp r number a; sends = reply_safe given kept r number a is; pending = refl })
+    (record {
+      asks = reply_asks_none peer hop stamp r number a;
+      sends = reply_safe given kept r number a is;
+      pending = refl;
+    })

@@ -127,7 +127,14 @@ upper_answering w is_sent (r ∷ rest) is h =
     (AllByRecursion (up.IsTrueReply w.setup.hop w.upper.params w.upper.accepted)) is h.upper.replied in
     let e : End = record w.upper { replied = rest } in
     let still : IsUpper w.setup.hop (kept_in w) (record w.upper { replied = rest }) w.sender =
-    record { there = h.upper.there; told = h.upper.told; acked = h.upper.acked; asked = h.upper.asked; replied = replied.1; released = h.upper.released } in
+    record {
+      there = h.upper.there;
+      told = h.upper.told;
+      acked = h.upper.acked;
+      asked = h.upper.asked;
+      replied = replied.1;
+      released = h.upper.released;
+    } in
     let told = upper_told w.setup.hop (kept_in w) e w.sender r.reply r.position replied.0.position still in
     let after : PairWorld = record w { upper = with_told e r.reply r.position } in
     let event : OutEvent (List ℕ) = sender_event r.call.ask r.reply in
@@ -307,7 +314,14 @@ answered_by w is_sent r rest (Some it) there is h =
     (take_answer r.reply) waits.0 truth in
     let left = pending_after w.receivers r it result.0 take.0 calls there take.1 all answers.pending in
     let still : IsLower w.setup.peer (given_in w) (record w.lower { replied = rest }) (set w.receivers own result.0) =
-    record { there = h.lower.there; told = h.lower.told; asked = h.lower.asked; replied = replied.1; pending = left.1; order = h.lower.order } in
+    record {
+      there = h.lower.there;
+      told = h.lower.told;
+      asked = h.lower.asked;
+      replied = replied.1;
+      pending = left.1;
+      order = h.lower.order;
+    } in
     let told = lower_told w.setup.peer (given_in w) e
     (set w.receivers own result.0) r.reply r.position replied.0.position still in
     let on = lower_goes_on w after (set w.receivers own result.0) h told in

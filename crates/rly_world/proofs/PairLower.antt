@@ -378,7 +378,14 @@ told_safe : (peer : PeerId) (given : List (Numbered (List ℕ))) (e : End) (rece
     → told ≤ length e.accepted → e.told ≤ told → IsLower peer given e receivers
     → GoesOn peer given receivers (kept_by peer e) (record e { told = told })
 told_safe peer given e receivers told within more low = (
-  record { there = low.there; told = within; asked = low.asked; replied = low.replied; pending = low.pending; order = low.order },
+  record {
+    there = low.there;
+    told = within;
+    asked = low.asked;
+    replied = low.replied;
+    pending = low.pending;
+    order = low.order;
+  },
   prefix_length (taken length peer (new_state e.params) (take e.told e.accepted))
       (taken length peer (new_state e.params) (take told e.accepted))
       (taken_front peer (new_state e.params) (take e.told e.accepted) (take told e.accepted)

@@ -271,7 +271,18 @@ flows_again {P} a b c one two first second =
     let size_both = length-append one two in
     record {
       fewer = omega (arith, first.fewer, second.fewer);
-      within = omega (arith, first.within, first.fewer, second.fewer, second.within, flown, size_line, size_old, size_one, size_both);
+      within = omega (
+        arith,
+        first.within,
+        first.fewer,
+        second.fewer,
+        second.within,
+        flown,
+        size_line,
+        size_old,
+        size_one,
+        size_both,
+      );
       flight = second.flight
           ∙ ap (λ l. drop (c.released - b.released) (l ++ pay two)) first.flight
           ∙ ap (drop (c.released - b.released))

@@ -307,7 +307,14 @@ told_safe : (hop : HopId) (kept : ℕ) (e : End) (s : Sender) (told : ℕ) → t
     → IsUpper hop kept e s
     → GoesOn hop kept s (given_by hop e) (record e { told = told })
 told_safe hop kept e s told within more up = (
-  record { there = up.there; told = within; acked = up.acked; asked = up.asked; replied = up.replied; released = up.released },
+  record {
+    there = up.there;
+    told = within;
+    acked = up.acked;
+    asked = up.asked;
+    replied = up.replied;
+    released = up.released;
+  },
   picked_front hop (new_state e.params) (take e.told e.accepted) (take told e.accepted)
       (prefix_take e.told told e.accepted more),
 )

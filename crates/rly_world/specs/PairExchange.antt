@@ -1,5 +1,5 @@
--- A worked exchange of two relays: three datagrams, of which the second comes first, a copy, a crash of the lower before
--- it answers, and a crash of the upper.
+-- A worked exchange of two relays: three datagrams, of which the second comes first, a copy, a crash of the lower
+-- before it answers, and a crash of the upper.
 use Rattle.std.specs.Prelude.{ℕ, true, List, [], ◌∷◌, ◌++◌}
 use Rattle.rly_core.specs.declared.params.Params.{Params}
 use Rattle.rly_hop.specs.declared.message.Message.{Message}
@@ -52,8 +52,8 @@ arrives packet = LowerHears packet 0 (record { 0 = 1 }) 0 ∷ LowerMakes Done �
 abbrev pub arrives_answered : ℕ → List PairEvent
 arrives_answered packet = arrives packet ++ LowerAnswers true ∷ []
 
--- Three datagrams come in, and are sent as packets 0 to 2. Data 2 arrives, then Data 1, then Data 1 again; their answers
--- are packets 3 to 5. The upper releases 1.
+-- Three datagrams come in, and are sent as packets 0 to 2. Data 2 arrives, then Data 1, then Data 1 again; their
+-- answers are packets 3 to 5. The upper releases 1.
 abbrev pub exchange_begins : List PairEvent
 exchange_begins =
     comes_in 1 ∷ comes_in 2 ∷ comes_in 3 ∷ one_call
@@ -61,8 +61,8 @@ exchange_begins =
     ++ arrives_answered 1 ++ UpperHears 3 ∷ arrives_answered 0 ++ arrives_answered 0
     ++ UpperHears 4 ∷ one_call ++ UpperHears 5 ∷ []
 
--- The lower crashes before it answers Data 2, and keeps so many commands. Data 2 arrives again, and is answered by packet
--- 6. The upper releases 2, crashes, and asks for its window.
+-- The lower crashes before it answers Data 2, and keeps so many commands. Data 2 arrives again, and is answered by
+-- packet 6. The upper releases 2, crashes, and asks for its window.
 abbrev pub exchange_ends : ℕ → List PairEvent
 exchange_ends kept =
     arrives 1 ++ LowerCrashes kept true ∷ arrives_answered 1

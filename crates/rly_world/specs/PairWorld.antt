@@ -75,7 +75,7 @@ pub data PairEvent : Type 0 where
   -- the sending core has its turn, at this moment of the hop's link clock; or it times out
   Turns : (is_open : Bool) (moment : ℕ) → PairEvent
   Timeout : PairEvent
-  -- a payload is fetched for the sending core that it hasn't asked for yet, as where a whole window is asked for at once
+  -- a payload that the sending core hasn't asked for yet is fetched for it, as where a window is asked for at once
   FetchesAhead : (number : ℕ) → PairEvent
   -- the packet at this place arrives at the upper; or at the lower, where it is given to this core, which takes it for
   -- this hop with this stamp
