@@ -1,4 +1,5 @@
 mod RelayAnswers
+mod RelayAppends
 mod RelayBegins
 mod RelayBooks
 mod RelayCalls

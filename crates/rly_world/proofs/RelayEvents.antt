@@ -41,11 +41,11 @@ use Rattle.rly_world.proofs.RelayHolds.{core_of, whole_state}
 use Rattle.rly_world.proofs.RelayPhases.{Begins, IsPhaseImage, first_image}
 
 -- a world whose round is known
-in_round : (P : World → Type 0) (w : World) (round : Option Round) → w.round ≡ round → P w
+pub in_round : (P : World → Type 0) (w : World) (round : Option Round) → w.round ≡ round → P w
     → P (record w { round = round })
 in_round P w round is = subst (λ r. P (record w { round = r })) is
 
-from_round : (P : World → Type 0) (w : World) (round : Option Round) → w.round ≡ round → P (record w { round = round })
+pub from_round : (P : World → Type 0) (w : World) (round : Option Round) → w.round ≡ round → P (record w { round = round })
     → P w
 from_round P w round is = subst (λ r. P (record w { round = r })) (sym is)
 

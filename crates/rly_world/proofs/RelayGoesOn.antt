@@ -9,11 +9,13 @@ use Rattle.rly_gate.specs.Group.{IsOpen, frame_of, open_gate}
 use Rattle.rly_record.specs.Spelling.{body_of}
 use Rattle.rly_segment.specs.Heads.{segment_place}
 use Rattle.rly_segment.proofs.Gates.{zero_closes}
-use Rattle.rly_journal.specs.Standing.{Commands, Standing, gate_of}
+use Rattle.rly_journal.specs.Standing.{Commands, IsStanding, Standing, gate_of}
 use Rattle.rly_segment.specs.Formatted.{IsFormatted}
+use Rattle.rly_world.proofs.RelayBegins.{one_standing}
 use Rattle.rly_world.specs.RelayPhases.{IsDone, IsNeeded, bytes_of, place_of}
 use Rattle.rly_world.specs.RelaySteps.{Event, GoesOn, Run}
-use Rattle.rly_world.specs.RelayWorld.{Body, Gate, Head, Phase, Round, Seal, Switch, World, Writing, logged, new_world}
+use Rattle.rly_world.specs.RelayWorld.{Body, Gate, Head, Phase, Round, Seal, Switch, World, Writing, asked_of, logged}
+use Rattle.rly_world.specs.RelayWorld.{new_world}
 use Rattle.rly_world.specs.RelayWorld.{seen_of}
 use Rattle.rly_world.proofs.RelayCalls.{writing_of}
 use Rattle.rly_world.proofs.RelayDevice.{asked_seen}
@@ -51,7 +53,8 @@ done_already (Switch segment) x commands seen skipped = absurd (skipped tt)
 done_already Body x commands seen skipped = absurd (skipped tt)
 done_already Gate x commands seen skipped = absurd (skipped tt)
 
-goes_on : (w : World) (round : Round) (phase : Phase) → IsHeld w → w.round ≡ Some round → round.stage ≡ Writing phase
+pub goes_on : (w : World) (round : Round) (phase : Phase) → IsHeld w → w.round ≡ Some round
+    → round.stage ≡ Writing phase
     → GoesOn w phase
 goes_on w round phase held is at =
     let placed = subst (IsPlaced (core_of w) w.is_open w.is_broken) (at_stage w round (Writing phase) is at)
@@ -112,3 +115,24 @@ pub relay_goes_on : (g : Geometry) (seats : ℕ) (bytes : List ℕ) (events : Li
     → GoesOn w phase
 relay_goes_on g seats bytes events w round phase formatted run is at =
     goes_on w round phase (holds g seats bytes events w formatted run) is at
+
+-- what its own write leaves is done
+pub own_done : (w : World) (round : Round) (phase : Phase) → IsHeld w → w.round ≡ Some round
+    → round.stage ≡ Writing phase
+    → (x : Standing) → IsStanding w.device.synced x
+    → IsDone phase x (logged w) (seen_of (asked_of w.device (Write (place_of phase x) (bytes_of phase x (logged w)))))
+own_done w round phase held is at x stands =
+    let placed = subst (IsPlaced (core_of w) w.is_open w.is_broken) (at_stage w round (Writing phase) is at)
+    held.placed in
+    let now = (writing_of (core_of w) w.is_open w.is_broken phase round.batches round.answers placed).2 in
+    let within : place_of phase now.x + length (bytes_of phase now.x (logged w)) ≤ length (seen_of w.device) = omega (
+      arith,
+      phase_within phase now.x (logged w) w.device.synced now.stands now.begins,
+      (now.images (seen_of w.device) held.seen).outside.same_length,
+    ) in
+    subst (λ y. IsDone phase y (logged w)
+    (seen_of (asked_of w.device (Write (place_of phase y) (bytes_of phase y (logged w))))))
+    (one_standing now.x x now.stands stands)
+    (subst (IsDone phase now.x (logged w))
+    (sym (asked_seen w.device (Write (place_of phase now.x) (bytes_of phase now.x (logged w)))))
+    (done_when phase now.x (logged w) (seen_of w.device) within))

@@ -1,16 +1,20 @@
 //! What holds of one relay after every list of events, each law on a function without a body.
 
-ghost use Rattle.std.specs.Prelude.{◌≡◌, ◌↔◌, List, Some, ℕ};
+ghost use Rattle.std.specs.Prelude.{◌≡◌, ◌↔◌, [], List, Some, map, ℕ};
 ghost use Rattle.rly_core.specs.declared.params.Geometry.{Geometry as AGeometry};
 ghost use Rattle.rly_journal.specs.declared.tail.Tail.{Tail as ATail};
+ghost use Rattle.rly_gate.specs.Calls.{appending};
 ghost use Rattle.rly_journal.specs.Log.{IsFull, IsLogged};
+ghost use Rattle.rly_journal.specs.Standing.{IsStanding, Standing, gate_of};
+ghost use Rattle.rly_record.specs.Spelling.{body_of};
 ghost use Rattle.rly_disk.specs.Trace.{DeviceEvent, images_after, seen_after};
 ghost use Rattle.rly_machine.specs.State.{State};
 ghost use Rattle.rly_segment.specs.Formatted.{IsFormatted};
 ghost use Rattle.rly_world.specs.RelayPhases.{IsDueIn};
 ghost use Rattle.rly_world.specs.RelayLaw.{HoldsTold};
-ghost use Rattle.rly_world.specs.RelaySteps.{Event, GoesOn, Run};
-ghost use Rattle.rly_world.specs.RelayWorld.{Device, IsImageOf, Phase, Round, World, Writing, asked_of, new_world, seen_of};
+ghost use Rattle.rly_world.specs.RelaySteps.{Calls, Event, GoesOn, Run};
+ghost use Rattle.rly_world.specs.RelayWorld.{Answering, Body, Device, IsImageOf, Phase, Round, World, Writing};
+ghost use Rattle.rly_world.specs.RelayWorld.{asked_of, logged, new_world, seen_of};
 
 /// From a formatted device with nothing pending, after every list of events: whatever a crash now may leave stands for the
 /// state after a prefix of the accepted commands, which holds every command that was answered as accepted.
@@ -25,6 +29,16 @@ pub fn law_relay_goes_on()
     ensures { (g : AGeometry) (seats : ℕ) (bytes : List ℕ) (events : List Event) (w : World) (round : Round) (phase : Phase)
         → IsFormatted g bytes → Run (new_world g.params seats bytes) events w
         → w.round ≡ Some round → round.stage ≡ Writing phase → GoesOn w phase }
+{}
+
+/// The calls by which a journal appends a group have their place, in that order, while the round's commands are to be
+/// written, and lead to a round that is answered.
+pub fn law_relay_appends()
+    ensures { (g : AGeometry) (seats : ℕ) (bytes : List ℕ) (events : List Event) (w : World) (round : Round) (x : Standing)
+        → IsFormatted g bytes → Run (new_world g.params seats bytes) events w
+        → w.round ≡ Some round → round.stage ≡ Writing Body → IsStanding w.device.synced x
+        → (new : World) × Run w (map Calls (appending (gate_of x) (body_of (logged w)))) new
+        × (new.round ≡ Some (record round { stage = Answering })) × (new.device.since ≡ []) }
 {}
 
 /// A segment is due by what the device reads exactly where the journal that ends there says so.
