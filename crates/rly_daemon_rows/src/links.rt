@@ -94,6 +94,28 @@ fn a_link_is_tried(rt: HostRuntime) -> Result<(), Fail> {
     Ok(())
 }
 
+/// Checks that each of many empty packets ends a wait, and gives nothing.
+fn expect_woken(rt: &(impl Abort + Host), link: &mut UdpLink<HostRuntime>) -> Result<(), Fail> {
+    let other = UdpSocket::bind(rt, "127.0.0.1:0")?;
+    let before = rt.monotonic()?;
+    for _packet in 0..200 {
+        other.send_to(b"", "127.0.0.1:4027")?;
+        expect!(rt; link.recv(&mut [0; MAX_PACKET]) == Ok(None));
+    }
+    let woken = rt.monotonic()?;
+    expect!(rt; woken.saturating_sub(before) < Duration::from_millis(1_000));
+    Ok(())
+}
+
+/// An empty packet ends a wait and isn't heard: 200 waits take two seconds.
+#[test]
+fn an_empty_packet_ends_a_wait(rt: HostRuntime) -> Result<(), Fail> {
+    let mut link = link_of(rt, "127.0.0.1:4027", "127.0.0.1:4028")?;
+    expect_woken(&rt, &mut link)?;
+    expect!(rt; link.failures() == 0);
+    Ok(())
+}
+
 /// Each send of a packet that UDP can't carry fails, and is counted.
 #[test]
 fn failures_of_a_link_are_counted(rt: HostRuntime) -> Result<(), Fail> {

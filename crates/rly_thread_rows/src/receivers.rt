@@ -1,9 +1,11 @@
 //! A receiving worker.
 
+ghost use Rattle.std.specs.Prelude.{None};
+
 use crate::workers::{MemEnds, expect_sent, expect_sent_again, link_with, plan, spool_with};
-use rly_core::{Params, PeerId};
+use rly_core::{HopId, Params, PeerId};
 use rly_machine::{Machine, Payload};
-use rly_threads::{Ends, MemDesk, MemLink, MemTurn, receiver_run};
+use rly_threads::{Ends, Go, MemDesk, MemLink, MemTurn, Point, Turn, Worker, receiver_run};
 use std::alloc::Global;
 use std::process::Abort;
 use std::sync::Wait;
@@ -61,6 +63,72 @@ fn full_is_told(rt: HostRuntime) {
     let link = link_with(&rt, alloc, 1, &[0], DATA, 0);
     let ends = receive(&rt, alloc, spool_with(&rt, alloc, 1, 2), link, 2);
     expect_sent(&rt, &ends, 1, FULL);
+}
+
+/// Turns that keep for how many datagrams it was said that they were taken, and for which hop it was said last.
+#[derive(Drop)]
+struct Listening {
+    left: u64,
+    said: u64,
+    hop: HopId,
+}
+
+impl Turn for Listening {
+    ghost told = { λ _. None };
+
+    ghost latest = { λ _. 0 };
+
+    fn between<R: Wait>(&mut self, rt: &R, worker: Worker, point: Point) -> Go {
+        let _ = rt;
+        let _ = worker;
+        let on = self.left > 0;
+        match point {
+            Point::Start => self.left = self.left.saturating_sub(1),
+            Point::Heard | Point::Call | Point::Answered => {}
+            Point::Taken(hop) => {
+                self.said = self.said.saturating_add(1);
+                self.hop = hop;
+            }
+        }
+        Go {
+            now: 150,
+            since: 0,
+            on,
+        }
+    }
+}
+
+/// Checks for how many datagrams a receiver that hears a datagram three times says that they were taken, and for which hop.
+fn expect_said<R: Abort + Wait>(
+    rt: &R,
+    alloc: Global,
+    machine: Machine<Payload>,
+    said: u64,
+    hop: HopId,
+) {
+    let turn = Listening {
+        left: 4,
+        said: 0,
+        hop: HopId(0),
+    };
+    let mut ends = Ends {
+        link: link_with(rt, alloc, 3, &[0, 1, 2], DATA, 0),
+        desk: MemDesk::new(alloc, machine),
+        turn,
+    };
+    receiver_run(rt, alloc, &plan(rt, alloc), PeerId(1), &mut ends);
+    expect!(rt; ends.desk.calls() == 3);
+    expect!(rt; ends.turn.said == said);
+    expect!(rt; ends.turn.hop == hop);
+}
+
+/// What is taken is said once, for its hop. What was taken before, or finds no room, isn't.
+#[test]
+fn what_is_taken_is_said(rt: HostRuntime) {
+    let alloc = rt.alloc();
+    expect_said(&rt, alloc, empty(&rt, alloc), 1, HopId(1));
+    expect_said(&rt, alloc, spool_with(&rt, alloc, 8, 1), 0, HopId(0));
+    expect_said(&rt, alloc, spool_with(&rt, alloc, 1, 2), 0, HopId(0));
 }
 
 /// The refusals of that data: the spool is full, there is no route.
