@@ -9,6 +9,7 @@ mod RelayGoesOn
 mod RelayHolds
 mod RelayPhases
 mod RelayRecords
+mod RelayReplaces
 mod RelayStart
 mod PairLists
 mod PairRuns

@@ -21,18 +21,18 @@ use Rattle.rly_world.proofs.RelayPhases.{body_next}
 use Rattle.rly_world.proofs.RelayStart.{holds}
 
 -- the write of a phase
-abbrev own_write : Phase → Standing → Commands → DeviceEvent
+abbrev pub own_write : Phase → Standing → Commands → DeviceEvent
 own_write phase x commands = Write (place_of phase x) (bytes_of phase x commands)
 
 -- a phase's write and its sync
-abbrev after_both : World → Phase → Standing → World
+abbrev pub after_both : World → Phase → Standing → World
 after_both w phase x = after (after w (event.Calls (own_write phase x (logged w)))) (event.Calls Sync)
 
-record MayFinish (w : World) (phase : Phase) (x : Standing) : Type 0 where
-  write : IsNeeded phase x (seen_of w.device) → MayCall w (own_write phase x (logged w))
-  then_sync : IsNeeded phase x (seen_of w.device) → MayCall (event.called w (own_write phase x (logged w))) Sync
+pub record MayFinish (w : World) (phase : Phase) (x : Standing) : Type 0 where
+  pub write : IsNeeded phase x (seen_of w.device) → MayCall w (own_write phase x (logged w))
+  pub then_sync : IsNeeded phase x (seen_of w.device) → MayCall (event.called w (own_write phase x (logged w))) Sync
 
-may_finish : (w : World) (round : Round) (phase : Phase) (x : Standing) → IsHeld w → w.round ≡ Some round
+pub may_finish : (w : World) (round : Round) (phase : Phase) (x : Standing) → IsHeld w → w.round ≡ Some round
     → round.stage ≡ Writing phase → IsStanding w.device.synced x → MayFinish w phase x
 may_finish w round phase x held is at stands =
     let goes = goes_on w round phase held is at in
@@ -40,7 +40,7 @@ may_finish w round phase x held is at stands =
     (record { write = goes.write; then_sync = goes.then_sync })
 
 -- both are made
-both_run : (w : World) (phase : Phase) (x : Standing) (events : List Event) (new : World) → MayFinish w phase x
+pub both_run : (w : World) (phase : Phase) (x : Standing) (events : List Event) (new : World) → MayFinish w phase x
     → IsNeeded phase x (seen_of w.device) → Run (after_both w phase x) events new
     → Run w (event.Calls (own_write phase x (logged w)) ∷ event.Calls Sync ∷ events) new
 both_run w phase x events new may needed rest = (

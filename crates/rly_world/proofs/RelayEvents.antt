@@ -45,7 +45,8 @@ pub in_round : (P : World → Type 0) (w : World) (round : Option Round) → w.r
     → P (record w { round = round })
 in_round P w round is = subst (λ r. P (record w { round = r })) is
 
-pub from_round : (P : World → Type 0) (w : World) (round : Option Round) → w.round ≡ round → P (record w { round = round })
+pub from_round : (P : World → Type 0) (w : World) (round : Option Round) → w.round ≡ round
+    → P (record w { round = round })
     → P w
 from_round P w round is = subst (λ r. P (record w { round = r })) (sym is)
 

@@ -82,7 +82,7 @@ first_image phase x commands old =
 
 -- ---- the opening of a segment
 
-length-behind : (x : Standing)
+pub length-behind : (x : Standing)
     → length (head_of (x.generation + 1) (state_in x) ++ 0 ∷ []) ≡ 13 + length (checkpoint_of (state_in x))
 length-behind x =
     omega (

@@ -15,4 +15,6 @@ mod relay_law;
 pub use crate::pair_law::{
     law_exchange, law_fetch, law_flight, law_one_at_a_time, law_taken, law_two,
 };
-pub use crate::relay_law::{law_device, law_due, law_relay, law_relay_appends, law_relay_goes_on};
+pub use crate::relay_law::{
+    law_device, law_due, law_relay, law_relay_appends, law_relay_goes_on, law_relay_replaces,
+};
