@@ -25,10 +25,13 @@ All_left P xs ys all k d lt = subst P (get_or_append_left xs ys d k lt) (all k d
 All_right : {A : Type 0} (P : A → Type 0) (xs ys : List A) → All P (xs ++ ys) → All P ys
 All_right P xs ys all k d lt = subst P (get_or-append-add xs ys k d) (all (length xs + k) d (omega (arith, lt, length-append xs ys)))
 
-entry_fits : {P : Type 0} (len : P → ℕ) (HasForm : P → Type 0) (moment seq : ℕ) (item : Item P) → moment < 2 ^ 52 → seq ≤ max_seq → IsLive len moment seq item → HasForm item.payload → EntryFits len HasForm item
+entry_fits : {P : Type 0} (len : P → ℕ) (HasForm : P → Type 0) (moment seq : ℕ) (item : Item P) → moment < 2 ^ 52
+    → seq ≤ max_seq → IsLive len moment seq item → HasForm item.payload → EntryFits len HasForm item
 entry_fits len HasForm moment seq item early few live has = record { id = omega (arith, live.last); stamp = omega (arith, live.stamp); payload = omega (arith, live.length); form = has }
 
-pub hop_fits : {P : Type 0} (len : P → ℕ) (HasForm : P → Type 0) (params : Params) (seq : ℕ) (h : HopState P) → IsWithinLimits params → seq ≤ max_seq → length (live_line h) ≤ 16384 → IsSoundHop len params seq h → HaveForms HasForm h → HopFits len HasForm h
+pub hop_fits : {P : Type 0} (len : P → ℕ) (HasForm : P → Type 0) (params : Params) (seq : ℕ) (h : HopState P)
+    → IsWithinLimits params → seq ≤ max_seq → length (live_line h) ≤ 16384 → IsSoundHop len params seq h
+    → HaveForms HasForm h → HopFits len HasForm h
 hop_fits len HasForm params seq h within few live sound has =
     let early : h.moment < 2 ^ 52 = sound.moment in
     let all : All (EntryFits len HasForm) (live_line h) = λ k d lt. entry_fits len HasForm h.moment seq (get_or (live_line h) k d) early few (sound.items k d lt) (has k d lt) in
@@ -53,12 +56,14 @@ hop_fits len HasForm params seq h within few live sound has =
     }
 
 -- the hops of a sound state
-pub hops_fit : {P : Type 0} (len : P → ℕ) (HasForm : P → Type 0) (s : State P) → IsSound len s → All (HaveForms HasForm) s.hops → All (HopFits len HasForm) s.hops
+pub hops_fit : {P : Type 0} (len : P → ℕ) (HasForm : P → Type 0) (s : State P) → IsSound len s
+    → All (HaveForms HasForm) s.hops → All (HopFits len HasForm) s.hops
 hops_fit {P} len HasForm s sound has k d lt =
     let some : length (live_line (get_or s.hops k d)) ≤ 16384 = omega (arith, get_or-le-sum_by (λ (h : HopState P). length (live_line h)) s.hops k d lt, sound.items, sound.params.items.1) in
     hop_fits len HasForm s.params s.seq (get_or s.hops k d) sound.params sound.seq some (sound.hops k d lt) (has k d lt)
 
-pub state_fits : {P : Type 0} (len : P → ℕ) (HasForm : P → Type 0) (s : State P) → IsSound len s → All (HaveForms HasForm) s.hops → StateFits len HasForm s.params s
+pub state_fits : {P : Type 0} (len : P → ℕ) (HasForm : P → Type 0) (s : State P) → IsSound len s
+    → All (HaveForms HasForm) s.hops → StateFits len HasForm s.params s
 state_fits len HasForm s sound has = record {
   params = refl;
   seq = omega (arith, sound.seq);
@@ -80,13 +85,16 @@ any_have hops k d lt i item below = tt
 pub inline_have : (hops : List (HopState (List ℕ))) → All (HaveForms (λ (payload : List ℕ). Unit {0})) hops
 inline_have hops = any_have hops
 
-pub one_state : (a b : State (List ℕ)) → IsSound length a → IsSound length b → a.params ≡ b.params → checkpoint_of a ≡ checkpoint_of b → a ≡ b
+pub one_state : (a b : State (List ℕ)) → IsSound length a → IsSound length b → a.params ≡ b.params
+    → checkpoint_of a ≡ checkpoint_of b → a ≡ b
 one_state a b sound_a sound_b params same = one_spelled inline_forms a b sound_a sound_b (inline_have a.hops) (inline_have b.hops) params same
 
 -- what is in flight and what waits, as one line
-recursion_append : {A : Type 0} (P : A → Type 0) (xs ys : List A) → AllByRecursion P xs → AllByRecursion P ys → AllByRecursion P (xs ++ ys)
+recursion_append : {A : Type 0} (P : A → Type 0) (xs ys : List A) → AllByRecursion P xs → AllByRecursion P ys
+    → AllByRecursion P (xs ++ ys)
 recursion_append P [] ys first second = second
 recursion_append P (x ∷ xs) ys first second = (first.0, recursion_append P xs ys first.1 second)
 
-pub live_fit : {P : Type 0} (len : P → ℕ) (HasForm : P → Type 0) (h : HopState P) → HopFits len HasForm h → AllByRecursion (EntryFits len HasForm) (live_line h)
+pub live_fit : {P : Type 0} (len : P → ℕ) (HasForm : P → Type 0) (h : HopState P) → HopFits len HasForm h
+    → AllByRecursion (EntryFits len HasForm) (live_line h)
 live_fit len HasForm h fits = recursion_append (EntryFits len HasForm) h.flight h.queue fits.lines.flight fits.lines.queue

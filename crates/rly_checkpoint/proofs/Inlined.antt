@@ -13,7 +13,8 @@ use Rattle.rly_checkpoint.specs.Stored.{payload_in, state_in, stored_form, store
 use Rattle.rly_checkpoint.specs.declared.stored.Stored.{Stored}
 use Rattle.rly_checkpoint.specs.declared.stored.Stored.TheVariants.{Inline}
 
-entries_inline : (items : List (Item (List ℕ))) → flat_map (entry_spelled stored_length stored_form) (map (map_item Inline) items) ≡ flat_map (entry_spelled length inline_form) items
+entries_inline : (items : List (Item (List ℕ)))
+    → flat_map (entry_spelled stored_length stored_form) (map (map_item Inline) items) ≡ flat_map (entry_spelled length inline_form) items
 unfolding entry_spelled
 entries_inline [] = refl
 entries_inline (item ∷ items) =
@@ -21,7 +22,8 @@ entries_inline (item ∷ items) =
     ∙ ap (λ (rest : List ℕ). entry_spelled length inline_form item ++ rest) (entries_inline items)
     ∙ sym (flat_map-cons (entry_spelled length inline_form) item items)
 
-hop_inline : (h : HopState (List ℕ)) → hop_spelled stored_length stored_form (map_hop Inline h) ≡ hop_spelled length inline_form h
+hop_inline : (h : HopState (List ℕ))
+    → hop_spelled stored_length stored_form (map_hop Inline h) ≡ hop_spelled length inline_form h
 unfolding hop_spelled
 hop_inline h =
     let text : ℕ → ℕ → List ℕ → List ℕ = λ flight queue entries.
@@ -32,7 +34,8 @@ hop_inline h =
     ∙ ap (λ (items : List (Item Stored)). text (length h.flight) (length h.queue) (spell items)) (sym (map-append (map_item Inline) h.flight h.queue))
     ∙ ap (text (length h.flight) (length h.queue)) (entries_inline (live_line h))
 
-hops_inline : (hops : List (HopState (List ℕ))) → flat_map (hop_spelled stored_length stored_form) (map (map_hop Inline) hops) ≡ flat_map (hop_spelled length inline_form) hops
+hops_inline : (hops : List (HopState (List ℕ)))
+    → flat_map (hop_spelled stored_length stored_form) (map (map_hop Inline) hops) ≡ flat_map (hop_spelled length inline_form) hops
 hops_inline [] = refl
 hops_inline (h ∷ hops) =
     let spell : HopState Stored → List ℕ = hop_spelled stored_length stored_form in
@@ -42,7 +45,8 @@ hops_inline (h ∷ hops) =
     ∙ sym (flat_map-cons (hop_spelled length inline_form) h hops)
 
 -- such a state is spelled as the state with bytes
-pub spelled_inline : (s : State (List ℕ)) → state_spelled stored_length stored_form (map_state Inline s) ≡ checkpoint_of s
+pub spelled_inline : (s : State (List ℕ))
+    → state_spelled stored_length stored_form (map_state Inline s) ≡ checkpoint_of s
 unfolding state_spelled
 spelled_inline s = ap (λ (hops : List ℕ). big_bytes 8 s.seq ++ flat_map (big_bytes 8) s.lasts ++ hops) (hops_inline s.hops)
 

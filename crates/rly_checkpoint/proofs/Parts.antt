@@ -20,7 +20,8 @@ use Rattle.rly_record.proofs.Readers.{Reads, Fit, u16_reads, u32_reads, u64_read
 
 -- ---- flags and CoDel's state
 
-flag_takes : (bytes : List ℕ) (flag : Bool) (rest : List ℕ) → IsBytes bytes → flag_at bytes ≡ Some (flag, rest) → Takes bytes (flag_byte flag ∷ []) rest × Unit {0}
+flag_takes : (bytes : List ℕ) (flag : Bool) (rest : List ℕ) → IsBytes bytes → flag_at bytes ≡ Some (flag, rest)
+    → Takes bytes (flag_byte flag ∷ []) rest × Unit {0}
 unfolding flag_at
 flag_takes [] flag rest fits e = absurd cc
 flag_takes (b ∷ bytes) flag rest fits e =
@@ -58,7 +59,8 @@ not-false : (b : Bool) → not b ≡ false → b ≡ true
 not-false true e = refl
 not-false false e = absurd cc
 
-inline_takes : (size : ℕ) (bytes payload rest : List ℕ) → IsBytes bytes → inline_at size bytes ≡ Some (payload, rest) → Takes bytes (0 ∷ payload) rest × (length payload ≡ size)
+inline_takes : (size : ℕ) (bytes payload rest : List ℕ) → IsBytes bytes → inline_at size bytes ≡ Some (payload, rest)
+    → Takes bytes (0 ∷ payload) rest × (length payload ≡ size)
 unfolding inline_at
 inline_takes size [] payload rest fits e = absurd cc
 inline_takes size (form ∷ bytes) payload rest fits e =
@@ -71,7 +73,8 @@ inline_takes size (form ∷ bytes) payload rest fits e =
     subst (λ (x : List ℕ × List ℕ). Takes (form ∷ bytes) (0 ∷ x.0) x.1 × (length x.0 ≡ size)) g.1
     (record { parts = parts; rest_fits = λ i. rw get_or-drop (IsBytes-rest form bytes fits (size + i)) }, len)
 
-inline_again : (size : ℕ) (payload rest : List ℕ) → length payload ≡ size → inline_at size (0 ∷ payload ++ rest) ≡ Some (payload, rest)
+inline_again : (size : ℕ) (payload rest : List ℕ) → length payload ≡ size
+    → inline_at size (0 ∷ payload ++ rest) ≡ Some (payload, rest)
 unfolding inline_at
 inline_again size payload rest len =
     let long : ltb (length (payload ++ rest)) size ≡ false = le-ltb _ _ (omega (arith, length-append payload rest)) in
@@ -91,6 +94,7 @@ inline_forms = record {
   takes = λ size bytes payload rest fits e. let t = inline_takes size bytes payload rest fits e in (t.0.parts, t.1, tt);
   again = λ payload rest has. inline_again (length payload) payload rest refl;
   some = λ payload. omega arith;
+  few = λ payload. omega arith;
 }
 
 -- a form as a reader takes and gives it
@@ -99,7 +103,8 @@ form_reads {P} {len} {form} {HasForm} {form_at} forms size = record {
   takes = λ bytes payload rest fits e.
       let t = forms.takes size bytes payload rest fits e in
       (record { parts = t.0; rest_fits = rest_are_bytes (form payload) rest bytes t.0 fits }, (t.1, t.2));
-  again = λ payload rest fits. ap (λ (n : ℕ). form_at n (form payload ++ rest)) (sym fits.0) ∙ forms.again payload rest fits.1;
+  again = λ payload rest fits. ap (λ (n : ℕ). form_at n (form payload ++ rest)) (sym fits.0)
+      ∙ forms.again payload rest fits.1;
 }
 
 entry_reads : {P : Type 0} {len : P → ℕ} {form : P → List ℕ} {HasForm : P → Type 0} {form_at : ℕ → Reader P} (forms : AreForms len form HasForm form_at) → Reads (entry_at form_at) (entry_spelled len form) (EntryFits len HasForm)
@@ -114,7 +119,8 @@ entry_reads {P} {len} {form} {HasForm} {form_at} forms = made_reads
     (λ x fits. record { id = fits.0; stamp = fits.1.0; payload = subst (FitsBytes 2) (sym fits.1.1.1.0) fits.1.1.0; form = fits.1.1.1.1 })
     (λ item fits. ((fits.id, (fits.stamp, (fits.payload, (refl, fits.form)))), refl))
 
-pub length-entry : {P : Type 0} (len : P → ℕ) (form : P → List ℕ) (item : Item P) → length (entry_spelled len form item) ≡ 18 + length (form item.payload)
+pub length-entry : {P : Type 0} (len : P → ℕ) (form : P → List ℕ) (item : Item P)
+    → length (entry_spelled len form item) ≡ 18 + length (form item.payload)
 unfolding entry_spelled
 length-entry len form item = omega (arith, length-append (big_bytes 8 item.id ++ big_bytes 8 item.stamp ++ big_bytes 2 (len item.payload)) (form item.payload))
 
@@ -128,7 +134,8 @@ length-entries {P} {len} {form} forms (item ∷ items) =
 -- ---- lines
 
 -- a test behind which a reading goes on
-guard_goes : {A : Type 0} (b : Bool) (read : Option A) (x : A) → cond b None read ≡ Some x → (b ≡ false) × (read ≡ Some x)
+guard_goes : {A : Type 0} (b : Bool) (read : Option A) (x : A) → cond b None read ≡ Some x
+    → (b ≡ false) × (read ≡ Some x)
 guard_goes true read x e = absurd cc
 guard_goes false read x e = (refl, e)
 
@@ -168,7 +175,8 @@ lines_reads {P} {len} {form} {HasForm} {form_at} forms =
 
 -- ---- hops
 
-regroup : (a b c d e f g x y : List ℕ) → a ++ (b ++ ((c ++ (d ++ e)) ++ (f ++ (g ++ (x ++ y))))) ≡ a ++ b ++ c ++ d ++ e ++ f ++ g ++ (x ++ y)
+regroup : (a b c d e f g x y : List ℕ)
+    → a ++ (b ++ ((c ++ (d ++ e)) ++ (f ++ (g ++ (x ++ y))))) ≡ a ++ b ++ c ++ d ++ e ++ f ++ g ++ (x ++ y)
 regroup a b c d e f g x y = simp append_assoc
 
 counts_reads : Reads counts_at (λ x. big_bytes 8 x.0 ++ (big_bytes 8 x.1.0 ++ big_bytes 8 x.1.1)) (λ x. FitsBytes 8 x.0 × (FitsBytes 8 x.1.0 × FitsBytes 8 x.1.1))
@@ -234,12 +242,14 @@ whole_takes {P} {len} {form} {HasForm} {form_at} forms params bytes s fits e =
     let g = guard_ends (eqb (length a.0.1) 0) a.0.0 s a.2 in
     let t = (state_reads forms params).takes bytes a.0.0 a.0.1 fits a.1 in
     let nothing : a.0.1 ≡ [] = nil_from_length a.0.1 (eqb-true _ _ g.0) in
-    let whole : bytes ≡ spell a.0.0 = t.0.parts ∙ ap (λ (rest : List ℕ). spell a.0.0 ++ rest) nothing ∙ append-nil (spell a.0.0) in
+    let whole : bytes ≡ spell a.0.0 = t.0.parts ∙ ap (λ (rest : List ℕ). spell a.0.0 ++ rest) nothing
+    ∙ append-nil (spell a.0.0) in
     subst (λ (v : State P). (bytes ≡ spell v) × StateFits len HasForm params v) g.1 (whole, t.1)
 
 pub whole_again : {P : Type 0} {len : P → ℕ} {form : P → List ℕ} {HasForm : P → Type 0} {form_at : ℕ → Reader P} (forms : AreForms len form HasForm form_at) (params : Params) (s : State P) → StateFits len HasForm params s → whole_state form_at params (state_spelled len form s) ≡ Some s
 unfolding whole_state
 whole_again {P} {len} {form} {HasForm} {form_at} forms params s fits =
     let text : List ℕ = state_spelled len form s in
-    let read : state_at form_at params text ≡ Some (s, []) = ap (state_at form_at params) (sym (append-nil text)) ∙ (state_reads forms params).again s [] fits in
+    let read : state_at form_at params text ≡ Some (s, []) = ap (state_at form_at params) (sym (append-nil text))
+    ∙ (state_reads forms params).again s [] fits in
     bind_is (state_at form_at params text) (s, []) ended (Some s) read refl

@@ -24,7 +24,8 @@ pub sound_again : {P : Type 0} {len : P → ℕ} {form : P → List ℕ} {HasFor
     → whole_state form_at params bytes ≡ Some s
 sound_again {P} {len} {form} {HasForm} {form_at} forms params bytes s sound has given same =
     let read : Params → List ℕ → Option (State P) = whole_state form_at in
-    ap (read params) same ∙ subst (λ (p : Params). read p (state_spelled len form s) ≡ Some s) given (whole_again forms s.params s (state_fits len HasForm s sound has))
+    ap (read params) same
+    ∙ subst (λ (p : Params). read p (state_spelled len form s) ≡ Some s) given (whole_again forms s.params s (state_fits len HasForm s sound has))
 
 -- what was read is the one state that it may be
 pub same_state : {P : Type 0} {len : P → ℕ} {form : P → List ℕ} {HasForm : P → Type 0} {form_at : ℕ → Reader P} (forms : AreForms len form HasForm form_at) (params : Params) (bytes : List ℕ) (found s : State P) → whole_state form_at params bytes ≡ Some found → IsSound len s → All (HaveForms HasForm) s.hops → s.params ≡ params
@@ -35,7 +36,8 @@ same_state forms params bytes found s is sound has given same = some_is found s 
 pub hops_read : {P : Type 0} {len : P → ℕ} {form : P → List ℕ} {HasForm : P → Type 0} {form_at : ℕ → Reader P} (forms : AreForms len form HasForm form_at) (params : Params) (bytes : List ℕ) (s : State P) (hops : List (Hop P)) → IsBytes bytes → whole_state form_at params bytes ≡ Some s → s.hops ≡ map hop_state hops → length hops ≡ params.hops
 hops_read {P} forms params bytes s hops fits found same =
     let view : Hop P → HopState P = hop_state in
-    sym (length-map hops view) ∙ sym (ap (λ (l : List (HopState P)). length l) same) ∙ (whole_takes forms params bytes s fits found).1.hops.count
+    sym (length-map hops view) ∙ sym (ap (λ (l : List (HopState P)). length l) same)
+    ∙ (whole_takes forms params bytes s fits found).1.hops.count
 
 pub peers_read : {P : Type 0} {len : P → ℕ} {form : P → List ℕ} {HasForm : P → Type 0} {form_at : ℕ → Reader P} (forms : AreForms len form HasForm form_at) (params : Params) (bytes : List ℕ) (s : State P) → IsBytes bytes → whole_state form_at params bytes ≡ Some s → length s.lasts ≡ params.peers
 peers_read forms params bytes s fits found = (whole_takes forms params bytes s fits found).1.lasts.count

@@ -18,7 +18,8 @@ pub record RowIs {P : Type 0} (len : P → ℕ) (moment seq id stamp : ℕ) (ite
   pub live : All (IsLive len moment seq) items
   pub order : AllPairs ComesBefore items
 
-row_there : {P : Type 0} (len : P → ℕ) (moment seq id stamp : ℕ) (items : List (Item P)) → IsRow len moment seq id stamp items → RowIs len moment seq id stamp items
+row_there : {P : Type 0} (len : P → ℕ) (moment seq id stamp : ℕ) (items : List (Item P))
+    → IsRow len moment seq id stamp items → RowIs len moment seq id stamp items
 row_there len moment seq id stamp [] row = record {
   behind = All-nil (IsBehind id stamp);
   live = All-nil (IsLive len moment seq);
@@ -34,7 +35,8 @@ row_there len moment seq id stamp (item ∷ items) row =
       order = AllPairs-cons ComesBefore item items (All-weaker (IsBehind item.id item.stamp) (ComesBefore item) (λ x b. record { id = b.id_rises; stamp = b.stamp_stays }) items rest.behind) rest.order;
     }
 
-row_back : {P : Type 0} (len : P → ℕ) (moment seq id stamp : ℕ) (items : List (Item P)) → All (IsBehind id stamp) items → All (IsLive len moment seq) items → AllPairs ComesBefore items → IsRow len moment seq id stamp items
+row_back : {P : Type 0} (len : P → ℕ) (moment seq id stamp : ℕ) (items : List (Item P)) → All (IsBehind id stamp) items
+    → All (IsLive len moment seq) items → AllPairs ComesBefore items → IsRow len moment seq id stamp items
 row_back len moment seq id stamp [] behind live order = tt
 row_back len moment seq id stamp (item ∷ items) behind live order =
     let b = All-head (IsBehind id stamp) item items behind in
@@ -47,12 +49,15 @@ row_back len moment seq id stamp (item ∷ items) behind live order =
     )
 
 -- a row from the start on
-pub row_live : {P : Type 0} (len : P → ℕ) (moment seq : ℕ) (items : List (Item P)) → IsRow len moment seq 0 0 items → All (IsLive len moment seq) items
+pub row_live : {P : Type 0} (len : P → ℕ) (moment seq : ℕ) (items : List (Item P)) → IsRow len moment seq 0 0 items
+    → All (IsLive len moment seq) items
 row_live len moment seq items row = (row_there len moment seq 0 0 items row).live
 
-pub row_order : {P : Type 0} (len : P → ℕ) (moment seq : ℕ) (items : List (Item P)) → IsRow len moment seq 0 0 items → AllPairs ComesBefore items
+pub row_order : {P : Type 0} (len : P → ℕ) (moment seq : ℕ) (items : List (Item P)) → IsRow len moment seq 0 0 items
+    → AllPairs ComesBefore items
 row_order len moment seq items row = (row_there len moment seq 0 0 items row).order
 
-pub row_from : {P : Type 0} (len : P → ℕ) (moment seq : ℕ) (items : List (Item P)) → All (IsLive len moment seq) items → AllPairs ComesBefore items → IsRow len moment seq 0 0 items
+pub row_from : {P : Type 0} (len : P → ℕ) (moment seq : ℕ) (items : List (Item P)) → All (IsLive len moment seq) items
+    → AllPairs ComesBefore items → IsRow len moment seq 0 0 items
 row_from len moment seq items live order =
     row_back len moment seq 0 0 items (All-weaker (IsLive len moment seq) (IsBehind 0 0) (λ x l. record { id_rises = omega (arith, l.first); stamp_stays = omega arith }) items live) live order

@@ -9,10 +9,13 @@ use Rattle.rly_machine.specs.declared.hop.Item.{Item}
 use Rattle.rly_machine.specs.Sound.{IsSound}
 use Rattle.rly_machine.specs.State.{State, HopState, bytes_of, live_bytes, live_items, live_line}
 use Rattle.rly_checkpoint.specs.Checkpoint.{checkpoint_of, codel_of, entry_spelled, hop_spelled, inline_form, state_spelled}
+use Rattle.rly_record.specs.HelpersReading.{Reader}
+use Rattle.rly_checkpoint.specs.Forms.{AreForms}
 use Rattle.rly_checkpoint.proofs.Parts.{length-entry}
 
 -- the bytes of one thing and of those behind it
-length-cons : {A : Type 0} (spell : A → List ℕ) (x : A) (xs : List A) → length (flat_map spell (x ∷ xs)) ≡ length (spell x) + length (flat_map spell xs)
+length-cons : {A : Type 0} (spell : A → List ℕ) (x : A) (xs : List A)
+    → length (flat_map spell (x ∷ xs)) ≡ length (spell x) + length (flat_map spell xs)
 length-cons spell x xs = ap (λ (t : List ℕ). length t) (flat_map-cons spell x xs) ∙ length-append (spell x) (flat_map spell xs)
 
 pub length-numbers : (numbers : List ℕ) → length (flat_map (big_bytes 8) numbers) ≡ 8 * length numbers
@@ -23,17 +26,20 @@ length-numbers (number ∷ numbers) = omega (arith, length-cons (big_bytes 8) nu
 abbrev pub form_bytes : {P : Type 0} → (P → List ℕ) → List (Item P) → ℕ
 form_bytes form items = sum_by (λ item. length (form item.payload)) items
 
-pub entries_length : {P : Type 0} (len : P → ℕ) (form : P → List ℕ) (items : List (Item P)) → length (flat_map (entry_spelled len form) items) ≡ 18 * length items + form_bytes form items
+pub entries_length : {P : Type 0} (len : P → ℕ) (form : P → List ℕ) (items : List (Item P))
+    → length (flat_map (entry_spelled len form) items) ≡ 18 * length items + form_bytes form items
 entries_length len form [] = refl
 entries_length {P} len form (item ∷ items) =
     let bytes : form_bytes form (item ∷ items) ≡ length (form item.payload) + form_bytes form items = sum_by-cons (λ (x : Item P). length (form x.payload)) item items in
     omega (arith, length-cons (entry_spelled len form) item items, length-entry len form item, entries_length len form items, bytes)
 
-pub length-hop : {P : Type 0} (len : P → ℕ) (form : P → List ℕ) (h : HopState P) → length (hop_spelled len form h) ≡ 71 + length (flat_map (entry_spelled len form) (live_line h))
+pub length-hop : {P : Type 0} (len : P → ℕ) (form : P → List ℕ) (h : HopState P)
+    → length (hop_spelled len form h) ≡ 71 + length (flat_map (entry_spelled len form) (live_line h))
 unfolding hop_spelled codel_of
 length-hop len form h = omega arith
 
-pub hops_length : {P : Type 0} (len : P → ℕ) (form : P → List ℕ) (hops : List (HopState P)) → length (flat_map (hop_spelled len form) hops) ≡ 71 * length hops + 18 * sum_by (λ h. length (live_line h)) hops + sum_by (λ h. form_bytes form (live_line h)) hops
+pub hops_length : {P : Type 0} (len : P → ℕ) (form : P → List ℕ) (hops : List (HopState P))
+    → length (flat_map (hop_spelled len form) hops) ≡ 71 * length hops + 18 * sum_by (λ h. length (live_line h)) hops + sum_by (λ h. form_bytes form (live_line h)) hops
 hops_length len form [] = refl
 hops_length {P} len form (h ∷ hops) =
     let items : sum_by (λ x. length (live_line x)) (h ∷ hops) ≡ length (live_line h) + sum_by (λ x. length (live_line x)) hops = sum_by-cons (λ (x : HopState P). length (live_line x)) h hops in
@@ -41,15 +47,18 @@ hops_length {P} len form (h ∷ hops) =
     omega (arith, length-cons (hop_spelled len form) h hops, length-hop len form h, entries_length len form (live_line h), hops_length len form hops, items, bytes)
 
 -- a hop has 71 bytes at least
-pub length-hops : {P : Type 0} (len : P → ℕ) (form : P → List ℕ) (hops : List (HopState P)) → 71 * length hops ≤ length (flat_map (hop_spelled len form) hops)
+pub length-hops : {P : Type 0} (len : P → ℕ) (form : P → List ℕ) (hops : List (HopState P))
+    → 71 * length hops ≤ length (flat_map (hop_spelled len form) hops)
 length-hops len form hops = omega (arith, hops_length len form hops)
 
 -- the bytes of a whole state, one part behind the other
-pub length-parts : {P : Type 0} (len : P → ℕ) (form : P → List ℕ) (s : State P) → length (state_spelled len form s) ≡ 8 + length (flat_map (big_bytes 8) s.lasts) + length (flat_map (hop_spelled len form) s.hops)
+pub length-parts : {P : Type 0} (len : P → ℕ) (form : P → List ℕ) (s : State P)
+    → length (state_spelled len form s) ≡ 8 + length (flat_map (big_bytes 8) s.lasts) + length (flat_map (hop_spelled len form) s.hops)
 unfolding state_spelled
 length-parts len form s = omega (arith, length-append (big_bytes 8 s.seq ++ flat_map (big_bytes 8) s.lasts) (flat_map (hop_spelled len form) s.hops), length-append (big_bytes 8 s.seq) (flat_map (big_bytes 8) s.lasts))
 
-pub spelled_length : {P : Type 0} (len : P → ℕ) (form : P → List ℕ) (s : State P) → IsSound len s → length (state_spelled len form s) ≡ 8 + 8 * s.params.peers + 71 * s.params.hops + 18 * live_items s + sum_by (λ h. form_bytes form (live_line h)) s.hops
+pub spelled_length : {P : Type 0} (len : P → ℕ) (form : P → List ℕ) (s : State P) → IsSound len s
+    → length (state_spelled len form s) ≡ 8 + 8 * s.params.peers + 71 * s.params.hops + 18 * live_items s + sum_by (λ h. form_bytes form (live_line h)) s.hops
 spelled_length len form s sound = omega (arith, length-parts len form s, length-numbers s.lasts, hops_length len form s.hops, sound.hop_count, sound.peer_count)
 
 -- where all payloads are inline, a form has a byte more than its payload
@@ -58,7 +67,8 @@ inline_bytes [] = refl
 inline_bytes (item ∷ items) =
     omega (arith, sum_by-cons (λ (x : Item (List ℕ)). length (inline_form x.payload)) item items, sum_by-cons (λ (x : Item (List ℕ)). length x.payload) item items, inline_bytes items)
 
-inline_hops : (hops : List (HopState (List ℕ))) → sum_by (λ h. form_bytes inline_form (live_line h)) hops ≡ sum_by (λ h. length (live_line h)) hops + sum_by (λ h. bytes_of length (live_line h)) hops
+inline_hops : (hops : List (HopState (List ℕ)))
+    → sum_by (λ h. form_bytes inline_form (live_line h)) hops ≡ sum_by (λ h. length (live_line h)) hops + sum_by (λ h. bytes_of length (live_line h)) hops
 inline_hops [] = refl
 inline_hops (h ∷ hops) =
     omega (
@@ -70,8 +80,32 @@ inline_hops (h ∷ hops) =
       inline_hops hops,
     )
 
-pub checkpoint_length : (s : State (List ℕ)) → IsSound length s → length (checkpoint_of s) ≡ 8 + 8 * s.params.peers + 71 * s.params.hops + 19 * live_items s + live_bytes length s
+pub checkpoint_length : (s : State (List ℕ)) → IsSound length s
+    → length (checkpoint_of s) ≡ 8 + 8 * s.params.peers + 71 * s.params.hops + 19 * live_items s + live_bytes length s
 checkpoint_length s sound = omega (arith, spelled_length length inline_form s sound, inline_hops s.hops)
+
+-- the forms are at most as long as where each payload stood inline and had a place too
+few_bytes : {P : Type 0} {len : P → ℕ} {form : P → List ℕ} {HasForm : P → Type 0} {form_at : ℕ → Reader P} (forms : AreForms len form HasForm form_at) (items : List (Item P)) → form_bytes form items ≤ 9 * length items + bytes_of len items
+few_bytes forms [] = omega arith
+few_bytes {P} {len} {form} forms (item ∷ items) =
+    omega (arith, sum_by-cons (λ (x : Item P). length (form x.payload)) item items, sum_by-cons (λ (x : Item P). len x.payload) item items, forms.few item.payload, few_bytes forms items)
+
+few_hops : {P : Type 0} {len : P → ℕ} {form : P → List ℕ} {HasForm : P → Type 0} {form_at : ℕ → Reader P} (forms : AreForms len form HasForm form_at) (hops : List (HopState P))
+    → sum_by (λ h. form_bytes form (live_line h)) hops ≤ 9 * sum_by (λ h. length (live_line h)) hops + sum_by (λ h. bytes_of len (live_line h)) hops
+few_hops forms [] = omega arith
+few_hops {P} {len} {form} forms (h ∷ hops) =
+    omega (
+      arith,
+      sum_by-cons (λ (x : HopState P). form_bytes form (live_line x)) h hops,
+      sum_by-cons (λ (x : HopState P). length (live_line x)) h hops,
+      sum_by-cons (λ (x : HopState P). bytes_of len (live_line x)) h hops,
+      few_bytes forms (live_line h),
+      few_hops forms hops,
+    )
+
+pub most_length : {P : Type 0} {len : P → ℕ} {form : P → List ℕ} {HasForm : P → Type 0} {form_at : ℕ → Reader P} (forms : AreForms len form HasForm form_at) (s : State P) → IsSound len s
+    → length (state_spelled len form s) ≤ 8 + 8 * s.params.peers + 71 * s.params.hops + 27 * live_items s + live_bytes len s
+most_length {P} {len} {form} forms s sound = omega (arith, spelled_length len form s sound, few_hops forms s.hops)
 
 -- ---- the parts of a hop
 

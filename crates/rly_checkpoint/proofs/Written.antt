@@ -11,7 +11,8 @@ pub entry_written : {P : Type 0} (len : P → ℕ) (form : P → List ℕ) (item
     → head ≡ big_bytes 8 item.id ++ big_bytes 8 item.stamp ++ big_bytes 2 (len item.payload) → middle ≡ old ++ head → new ≡ middle ++ form item.payload → new ≡ old ++ entry_spelled len form item
 unfolding entry_spelled
 entry_written len form item head old middle new is first last =
-    last ∙ ap (λ (t : List ℕ). t ++ form item.payload) first ∙ append_assoc old head (form item.payload) ∙ ap (λ (t : List ℕ). old ++ (t ++ form item.payload)) is
+    last ∙ ap (λ (t : List ℕ). t ++ form item.payload) first ∙ append_assoc old head (form item.payload)
+    ∙ ap (λ (t : List ℕ). old ++ (t ++ form item.payload)) is
 
 four : (old a b c d : List ℕ) → old ++ a ++ b ++ c ++ d ≡ old ++ (a ++ b ++ c ++ d)
 four old a b c d = simp append_assoc

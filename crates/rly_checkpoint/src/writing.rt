@@ -1,9 +1,9 @@
-ghost use Rattle.std.specs.Prelude.{◌≡◌, ◌≤◌, ◌<◌, ◌+◌, ◌++◌, ◌∷◌, [], All, IsOk, OnErr, OnOk, length, map, vec_len};
+ghost use Rattle.std.specs.Prelude.{◌≡◌, ◌≤◌, ◌<◌, ◌+◌, ◌*◌, ◌++◌, ◌∷◌, [], All, IsOk, OnErr, OnOk, length, map, vec_len};
 ghost use Rattle.std.specs.List.{AllByRecursion, flat_map};
 ghost use Rattle.std.specs.Vec.{vec_capacity};
 ghost use Rattle.byteorder.specs.Endian.{big_bytes};
 ghost use Rattle.rly_machine.specs.Kept.{hop_state};
-ghost use Rattle.rly_machine.specs.State.{live_line};
+ghost use Rattle.rly_machine.specs.State.{live_bytes, live_items, live_line};
 ghost use Rattle.rly_checkpoint.specs.Checkpoint.{checkpoint_of, codel_of, entry_spelled, hop_spelled, state_spelled};
 ghost use Rattle.rly_checkpoint.specs.HelpersFitting.{EntryFits, HopFits, IsAny};
 
@@ -27,6 +27,9 @@ const ENTRY_HEAD: usize = 18;
 
 /// The length in bytes of the shortest entry.
 pub(crate) const ENTRY_LENGTH: usize = 19;
+
+/// The length in bytes of an entry by place.
+const PLACED_LENGTH: u64 = 27;
 
 /// The length in bytes of a hop, without its entries.
 pub(crate) const HOP_LENGTH: usize = NUMBER_LENGTH + CODEL_LENGTH + COUNTS_LENGTH;
@@ -54,6 +57,20 @@ pub fn write_checkpoint(machine: &Machine<Payload>, out: &mut Vec<u8>) -> Result
     out.reserve(checkpoint_len(machine) as usize)?;
     append_state(machine, out);
     Ok(())
+}
+
+/// How many bytes the spelling of a spool has at most: each of its payloads inline, and a place for each.
+pub fn most_len<C: Form>(machine: &Machine<C>) -> u64
+    ensures enough { length (state_spelled C.length_of C.form machine.now.state) ≤ result }
+    ensures bounded { let s = machine.now.state in result ≡ 8 + 8 * s.params.peers + 71 * s.params.hops + 27 * live_items s + live_bytes C.length_of s }
+{
+    C::law_forms();
+    machine.law_sound();
+    let params = machine.params();
+    let peers = NUMBER_LENGTH as u64 * params.peers;
+    let hops = HOP_LENGTH as u64 * params.hops;
+    let entries = PLACED_LENGTH * machine.item_count() + machine.byte_count();
+    NUMBER_LENGTH as u64 + peers + hops + entries
 }
 
 /// Adds the spelling of a spool, for which there is room. It takes no memory.

@@ -33,3 +33,5 @@ mod machine;
 mod params;
 #[cfg(test)]
 mod records;
+#[cfg(test)]
+mod stored;

@@ -266,7 +266,7 @@ fn an_item_in_flight_is_relocated(rt: HostRuntime) -> Result<(), Fail> {
     match machine.item(HopId(1), 2) {
         Ok(item) => {
             expect!(rt; item.id == 4 && item.stamp == 10);
-                    }
+        }
         Err(refusal) => panic!(rt; "{refusal}"),
     }
     expect_bytes(&rt, &machine, 2, b"ZZ");

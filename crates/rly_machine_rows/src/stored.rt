@@ -1,0 +1,101 @@
+//! States whose payloads may be places on the device, byte by byte.
+use rly_checkpoint::{
+    DecodeFault, Place, Stored, append_state, law_inline, law_one_spelling, most_len, read_state,
+};
+use rly_core::{HopId, Params};
+use rly_machine::Machine;
+use std::alloc::{AllocError, Global};
+use std::process::Abort;
+use std::test::Fail;
+
+const PARAMS: Params = Params {
+    hops: 1,
+    peers: 1,
+    window: 8,
+    items: 16,
+    bytes: 4_096,
+    maxpacket: 1_500,
+    target: 5_000,
+    interval: 100_000,
+};
+
+/// One datagram was released, one is in flight whose two bytes lie at 300, and two wait.
+const SPELLED: [u8; 153] = [
+    // six commands were accepted, and the last number of peer 1 is 4
+    0, 0, 0, 0, 0, 0, 0, 6, 0, 0, 0, 0, 0, 0, 0, 4,
+    // the hop's last moment
+    0, 0, 0, 0, 0, 0, 0, 20,
+    // CoDel's state
+    0, 0, 0, 0, 0, 0, 0, 0, 0, 0, 0, 0, 0, 0, 0, 0, 0, 0, 0, 0, 0, 0, 0, 0, 0, 0, 0, 0, 0, 0, 0, 0,
+    0,
+    // four datagrams were taken, none dropped and one released
+    0, 0, 0, 0, 0, 0, 0, 4, 0, 0, 0, 0, 0, 0, 0, 0, 0, 0, 0, 0, 0, 0, 0, 1,
+    // one is in flight, and two wait
+    0, 1, 0, 0, 0, 2,
+    // the id, stamp, length, form and place of the first
+    0, 0, 0, 0, 0, 0, 0, 4, 0, 0, 0, 0, 0, 0, 0, 10, 0, 2, 1, 0, 0, 0, 0, 0, 0, 1, 44,
+    // the id, stamp, length and form of the second, and its payload
+    0, 0, 0, 0, 0, 0, 0, 5, 0, 0, 0, 0, 0, 0, 0, 20, 0, 1, 0, 0x43,
+    // the third, which has none
+    0, 0, 0, 0, 0, 0, 0, 6, 0, 0, 0, 0, 0, 0, 0, 20, 0, 0, 0,
+];
+
+/// Where the length of the first entry ends, and where the form of the third one stands.
+const FIRST_LENGTH: usize = 104;
+
+const THIRD_FORM: usize = 152;
+
+/// A spool is spelled in the room that it has at most.
+fn spelled(alloc: Global, machine: &Machine<Stored>) -> Result<Vec<u8>, AllocError> {
+    let mut out = Vec::with_capacity(alloc, most_len(machine) as usize)?;
+    append_state(machine, &mut out);
+    Ok(out)
+}
+
+/// What is in flight lies at its place, and as many bytes are live as are inline and lie elsewhere.
+fn expect_places(rt: &impl Abort, machine: &Machine<Stored>) {
+    match machine.item(HopId(1), 2) {
+        Ok(item) => {
+            expect!(rt; matches!(
+                    &item.payload,
+                    Stored::Placed(Place {
+                        start: 300,
+                        length: 2,
+                    })
+                ));
+        }
+        Err(refusal) => panic!(rt; "{refusal}"),
+    }
+    expect!(rt; machine.item_count() == 3 && machine.byte_count() == 3);
+}
+
+#[test]
+fn a_state_with_places_is_read_and_spelled(rt: HostRuntime) -> Result<(), Fail> {
+    let alloc = rt.alloc();
+    law_inline();
+    law_one_spelling::<Stored>();
+    let machine: Machine<Stored> = read_state(alloc, PARAMS, &SPELLED)?;
+    expect_places(&rt, &machine);
+    expect!(rt; spelled(alloc, &machine)?.as_slice() == SPELLED.as_slice());
+    Ok(())
+}
+
+/// Whether bytes are read as no state.
+fn is_malformed(alloc: Global, bytes: &[u8]) -> bool {
+    let read: Result<Machine<Stored>, DecodeFault> = read_state(alloc, PARAMS, bytes);
+    matches!(&read, Err(DecodeFault::Malformed))
+}
+
+/// A place of no bytes, another form, and the spelling without its last byte are no state.
+#[test]
+fn only_spellings_of_places_are_read(rt: HostRuntime) -> Result<(), Fail> {
+    let alloc = rt.alloc();
+    let mut bytes = SPELLED;
+    bytes[FIRST_LENGTH] = 0;
+    expect!(rt; is_malformed(alloc, &bytes));
+    let mut bytes = SPELLED;
+    bytes[THIRD_FORM] = 2;
+    expect!(rt; is_malformed(alloc, &bytes));
+    expect!(rt; is_malformed(alloc, &SPELLED[..THIRD_FORM]));
+    Ok(())
+}
