@@ -10,7 +10,7 @@ enumerate_push n (y ∷ ys) x =
     let same : n + 1 + length ys ≡ n + length (y ∷ ys) = omega arith in
     ap (λ es. (n, y) ∷ es) (enumerate_push (n + 1) ys x ∙ ap (λ k. enumerate_from (n + 1) ys ++ (k, x) ∷ []) same)
 
--- the lines of one element more, behind a text
+-- the lines of one element more, after a text
 pub lines_more : {X : Type 0} (f : ℕ × X → List ℕ) (text : List ℕ) (xs : List X) (i : ℕ) (d : X) → i < length xs
     → (text ++ flat_map f (enumerate_from 1 (take i xs))) ++ f (i + 1, get_or xs i d) ≡ text ++ flat_map f (enumerate_from 1 (take (i + 1) xs))
 lines_more f text xs i d within =
@@ -20,7 +20,7 @@ lines_more f text xs i d within =
     ∙ ap (λ k. enumerate_from 1 (take i xs) ++ (k, get_or xs i d) ∷ []) number in
     flat_map_more f text (enumerate_from 1 (take i xs)) (i + 1, get_or xs i d) ∙ ap (λ es. text ++ flat_map f es) (sym last)
 
--- the same, where the line was written behind those so far
+-- the same, where the line was written after those so far
 pub lines_written : {X : Type 0} (f : ℕ × X → List ℕ) (old mid new : List ℕ) (xs : List X) (i number : ℕ) (d : X) → i < length xs → number ≡ i
     → mid ≡ old ++ flat_map f (enumerate_from 1 (take i xs)) → new ≡ mid ++ f (number + 1, get_or xs i d)
     → new ≡ old ++ flat_map f (enumerate_from 1 (take (i + 1) xs))

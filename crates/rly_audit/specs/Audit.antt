@@ -24,7 +24,7 @@ pub record IsReported (disk : DiskState) (old new : Option (List ℕ)) : Type 0 
   pub opened : IsOpened disk state
   pub written : Appends old new (report_of state)
 
--- a beginning of it was written, but not all
+-- a prefix of it was written, but not all
 pub record IsBegun (disk : DiskState) (old new : Option (List ℕ)) : Type 0 where
   pub state : State (List ℕ)
   pub opened : IsOpened disk state

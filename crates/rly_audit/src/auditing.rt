@@ -28,7 +28,7 @@ pub fn audit<D: Disk, W: Write>(
 ) -> Result<D, (AuditFault, D)>
     // What is written is the report on the state that the device stands for.
     ensures written { OnOk result (IsReported (D.state disk) (W.contents writer.old) (W.contents writer.new)) }
-    // Where the writer fails, a beginning of that report was written, and never all.
+    // Where the writer fails, a prefix of that report was written, and never all.
     ensures begun { IfErr result (λ failed. failed.0 ≡ AuditFault.Output → IsBegun (D.state disk) (W.contents writer.old) (W.contents writer.new)) }
     // At a refusal nothing was written; it is that of the first check of opening that fails, or 14 or 23.
     ensures silent { IfErr result (λ failed. (refusal : ARefusal) → failed.0 ≡ AuditFault.Refused refusal → Keeps (W.contents writer.old) (W.contents writer.new)) }

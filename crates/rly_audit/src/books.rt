@@ -179,7 +179,7 @@ fn total(numbers: &[u64]) -> u128
     total
 }
 
-/// What became of a hop's datagrams. It displays as their counts, each behind its name.
+/// What became of a hop's datagrams. It displays as their counts, each after its name.
 #[derive(Drop)]
 pub struct HopCounts<'a> {
     /// All numbers of the hop.

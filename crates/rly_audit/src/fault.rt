@@ -10,7 +10,7 @@ pub enum AuditFault {
     /// The device wasn't opened (20 to 23), or a growth of memory was refused (14). Nothing was written.
     #[error("{0}")]
     Refused(Refusal),
-    /// The writer failed. A beginning of the report was written, but not all.
+    /// The writer failed. A prefix of the report was written, but not all.
     #[error("rly: output failed")]
     Output,
 }

@@ -84,7 +84,7 @@ inline_again size payload rest len =
 entry_parts : (a b c d : List ℕ) → a ++ (b ++ (c ++ d)) ≡ a ++ b ++ c ++ d
 entry_parts a b c d = simp append_assoc
 
--- what stands behind a text is bytes, if the whole is
+-- what stands after a text is bytes, if the whole is
 rest_are_bytes : (text rest bytes : List ℕ) → bytes ≡ text ++ rest → IsBytes bytes → IsBytes rest
 rest_are_bytes text rest bytes is all i = subst (λ (n : ℕ). n < 256) (ap (λ (l : List ℕ). get_or l (length text + i) 0) is ∙ get_or-append-add text rest i 0) (all (length text + i))
 
@@ -133,7 +133,7 @@ length-entries {P} {len} {form} forms (item ∷ items) =
 
 -- ---- lines
 
--- a test behind which a reading goes on
+-- a test after which a reading goes on
 guard_goes : {A : Type 0} (b : Bool) (read : Option A) (x : A) → cond b None read ≡ Some x
     → (b ≡ false) × (read ≡ Some x)
 guard_goes true read x e = absurd cc

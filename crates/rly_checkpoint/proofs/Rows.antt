@@ -1,4 +1,4 @@
--- Items in a row are live, and each comes before those behind it.
+-- Items in a row are live, and each comes before those after it.
 use Rattle.std.proofs.Common.{ℕ, suc, ◌<◌, ◌≤◌, List, [], ◌∷◌, get_or, arith}
 use Rattle.std.specs.Prelude.{All, AllPairs}
 use Rattle.std.proofs.lemmas.List.Elements.{All-nil, All-cons, All-head, All-tail, All-weaker}
@@ -7,7 +7,7 @@ use Rattle.rly_machine.specs.declared.hop.Item.{Item}
 use Rattle.rly_machine.specs.Sound.{ComesBefore, IsLive}
 use Rattle.rly_checkpoint.specs.HelpersRows.{IsRow}
 
--- an item comes behind an id and a stamp
+-- an item comes after an id and a stamp
 pub record IsBehind {P : Type 0} (id stamp : ℕ) (item : Item P) : Type 0 where
   pub id_rises : id < item.id
   pub stamp_stays : stamp ≤ item.stamp

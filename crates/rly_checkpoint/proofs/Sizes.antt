@@ -13,7 +13,7 @@ use Rattle.rly_record.specs.HelpersReading.{Reader}
 use Rattle.rly_checkpoint.specs.Forms.{AreForms}
 use Rattle.rly_checkpoint.proofs.Parts.{length-entry}
 
--- the bytes of one thing and of those behind it
+-- the bytes of one thing and of those after it
 length-cons : {A : Type 0} (spell : A → List ℕ) (x : A) (xs : List A)
     → length (flat_map spell (x ∷ xs)) ≡ length (spell x) + length (flat_map spell xs)
 length-cons spell x xs = ap (λ (t : List ℕ). length t) (flat_map-cons spell x xs) ∙ length-append (spell x) (flat_map spell xs)
@@ -51,7 +51,7 @@ pub length-hops : {P : Type 0} (len : P → ℕ) (form : P → List ℕ) (hops :
     → 71 * length hops ≤ length (flat_map (hop_spelled len form) hops)
 length-hops len form hops = omega (arith, hops_length len form hops)
 
--- the bytes of a whole state, one part behind the other
+-- the bytes of a whole state, one part after the other
 pub length-parts : {P : Type 0} (len : P → ℕ) (form : P → List ℕ) (s : State P)
     → length (state_spelled len form s) ≡ 8 + length (flat_map (big_bytes 8) s.lasts) + length (flat_map (hop_spelled len form) s.hops)
 unfolding state_spelled

@@ -51,7 +51,7 @@ hop_is len params seq h row balance taken moment window codel test = (
   λ sound. test.1 (row_from len h.moment seq (live_line h) sound.items sound.order),
 )
 
--- ---- the hops, one behind the other
+-- ---- the hops, one after the other
 
 -- a place among the hops
 pub map_place : {P : Type 0} (hops : List (Hop P)) (i : ℕ) → i < length hops → i < length (map hop_state hops)

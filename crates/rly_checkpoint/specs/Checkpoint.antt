@@ -1,4 +1,4 @@
--- The bytes of a whole state (docs/FORMATS.md, "Heads"): what a segment's head holds behind its generation and length.
+-- The bytes of a whole state (docs/FORMATS.md, "Heads"): what a segment's head holds after its generation and length.
 -- It is a function of the state, and under the same parameters no two sound states share one (`law_one_state`).
 use Rattle.std.specs.Prelude.{ℕ, ◌+◌, ◌*◌, List, [], ◌∷◌, ◌++◌, length, Bool, true, false}
 use Rattle.std.specs.List.{flat_map}

@@ -1,4 +1,4 @@
--- The form of what an entry carries: what stands behind its length. Each kind of content has a form of its own.
+-- The form of what an entry carries: what stands after its length. Each kind of content has a form of its own.
 use Rattle.std.specs.Prelude.{◌≡◌, ℕ, ◌+◌, ◌<◌, ◌≤◌, List, ◌++◌, length, slice_index, Some, All}
 use Rattle.rly_machine.specs.State.{HopState, live_line}
 use Rattle.rly_record.specs.HelpersReading.{Reader}

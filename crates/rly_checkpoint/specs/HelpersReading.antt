@@ -1,5 +1,5 @@
 -- Helpers: reading a checkpoint from left to right, as the private functions do it: what stands at the front and the
--- bytes behind it, or nothing where no such thing stands there. What is read here need not be sound. Nothing here is
+-- bytes after it, or nothing where no such thing stands there. What is read here need not be sound. Nothing here is
 -- claimed.
 use Rattle.std.specs.Prelude.{ℕ, ◌*◌, ◌==◌, ◌||◌, not, nat_lt, if◌then◌else◌, Bool, true}
 use Rattle.std.specs.Prelude.{false, List, [], ◌∷◌, length, take, drop, Option, Some, None}
@@ -43,7 +43,7 @@ unfoldable pub entries_at : {P : Type 0} → (ℕ → Reader P) → ℕ → Read
 entries_at form_at count bytes =
     if nat_lt (length bytes) (19 * count) then None else many_at (entry_at form_at) count bytes
 
--- what is in flight and what waits, behind the counts of both
+-- what is in flight and what waits, after the counts of both
 unfoldable pub lines_at : {P : Type 0} → (ℕ → Reader P) → Reader (List (Item P) × List (Item P))
 lines_at form_at = made_at (λ (in_flight, (waiting, lines)). lines)
     (then_at (field_at 2) (λ in_flight. then_at (field_at 4) (λ waiting. entries_at form_at in_flight ⊗ entries_at form_at waiting)))
@@ -72,7 +72,7 @@ state_at form_at params = made_at
     (λ (seq, (lasts, hops)). record { params = params; hops = hops; lasts = lasts; seq = seq })
     (field_at 8 ⊗ many_at (field_at 8) params.peers ⊗ many_at (hop_bytes_at form_at) params.hops)
 
--- a whole state and nothing behind it
+-- a whole state and nothing after it
 unfoldable pub whole_state : {P : Type 0} → (ℕ → Reader P) → Params → List ℕ → Option (State P)
 whole_state form_at params bytes = do
   state ← state_at form_at params bytes

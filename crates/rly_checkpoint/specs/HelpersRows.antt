@@ -2,7 +2,7 @@
 use Rattle.std.specs.Prelude.{ℕ, ◌<◌, ◌≤◌, List, [], ◌∷◌}
 use Rattle.rly_machine.specs.declared.hop.Item.{Item}
 
--- an item may stand behind one with that id and stamp, in a hop whose last moment is given and a spool that accepted so
+-- an item may stand after one with that id and stamp, in a hop whose last moment is given and a spool that accepted so
 -- many commands
 pub record Follows {P : Type 0} (len : P → ℕ) (moment seq id stamp : ℕ) (item : Item P) : Type 0 where
   pub later : id < item.id

@@ -1,4 +1,4 @@
--- Helpers: reading what stands for a payload behind its length. Nothing here is claimed.
+-- Helpers: reading what stands for a payload after its length. Nothing here is claimed.
 use Rattle.std.specs.Prelude.{ℕ, ◌==◌, if◌then◌else◌, [], ◌∷◌, Some, None}
 use Rattle.rly_record.specs.HelpersReading.{◌>>=◌, Reader, field_at}
 use Rattle.rly_checkpoint.specs.HelpersReading.{inline_at}
@@ -11,7 +11,7 @@ inlined_at size bytes = do
   payload ← inline_at size bytes
   Some (Inline payload.0, payload.1)
 
--- the place of a payload that has bytes, behind the byte 1
+-- the place of a payload that has bytes, after the byte 1
 unfoldable pub placed_at : ℕ → Reader Stored
 placed_at size bytes =
     if size == 0 then None else do

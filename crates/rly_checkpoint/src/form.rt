@@ -9,7 +9,7 @@ use rly_machine::{Content, Payload};
 use rly_record::DecodeFault;
 use std::alloc::Global;
 
-/// What an entry of a checkpoint can carry: content that has a form, which stands behind its length.
+/// What an entry of a checkpoint can carry: content that has a form, which stands after its length.
 pub trait Form: Content {
     /// The bytes of its form.
     ghost form: { Self → List ℕ };
@@ -27,7 +27,7 @@ pub trait Form: Content {
         ensures len { vec_len out.new ≡ vec_len out.old + length (form self.now) }
         ensures capacity { vec_capacity out.old ≤ vec_capacity out.new };
 
-    /// Reads the form of content of a length, and what stands behind it.
+    /// Reads the form of content of a length, and what stands after it.
     fn read_form(alloc: Global, size: u16, bytes: &[u8]) -> Result<(Self, &[u8]), DecodeFault>
         ensures { Gives (λ x. (x.0, x.1.now)) result (form_at size bytes.now) };
 
@@ -36,7 +36,7 @@ pub trait Form: Content {
         ensures { AreForms Self.length_of form has_form form_at };
 }
 
-/// Bytes stand inline, behind the byte 0.
+/// Bytes stand inline, after the byte 0.
 impl Form for Payload {
     ghost form = { inline_form };
 

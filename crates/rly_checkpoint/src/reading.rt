@@ -37,7 +37,7 @@ struct Lines<C> {
     queue: Vec<Item<C>>,
 }
 
-/// A number of two bytes, and what stands behind it.
+/// A number of two bytes, and what stands after it.
 fn u16_of(bytes: &[u8]) -> Result<(u16, &[u8]), DecodeFault>
     ensures { Gives (λ x. (x.0, x.1.now)) result (field_at 2 bytes.now) }
 {
@@ -47,7 +47,7 @@ fn u16_of(bytes: &[u8]) -> Result<(u16, &[u8]), DecodeFault>
     Ok((BigEndian::read_u16(bytes), &bytes[2..]))
 }
 
-/// A number of four bytes, and what stands behind it.
+/// A number of four bytes, and what stands after it.
 fn u32_of(bytes: &[u8]) -> Result<(u32, &[u8]), DecodeFault>
     ensures { Gives (λ x. (x.0, x.1.now)) result (field_at 4 bytes.now) }
 {
@@ -57,7 +57,7 @@ fn u32_of(bytes: &[u8]) -> Result<(u32, &[u8]), DecodeFault>
     Ok((BigEndian::read_u32(bytes), &bytes[4..]))
 }
 
-/// A number of eight bytes, and what stands behind it.
+/// A number of eight bytes, and what stands after it.
 pub(crate) fn u64_of(bytes: &[u8]) -> Result<(u64, &[u8]), DecodeFault>
     ensures { Gives (λ x. (x.0, x.1.now)) result (field_at 8 bytes.now) }
 {
@@ -67,7 +67,7 @@ pub(crate) fn u64_of(bytes: &[u8]) -> Result<(u64, &[u8]), DecodeFault>
     Ok((BigEndian::read_u64(bytes), &bytes[8..]))
 }
 
-/// A flag, and what stands behind it.
+/// A flag, and what stands after it.
 #[tactic(auto, unfolding(crate::specs::HelpersReading::flag_at))]
 fn flag_of(bytes: &[u8]) -> Result<(bool, &[u8]), DecodeFault>
     ensures { Gives (λ x. (x.0, x.1.now)) result (flag_at bytes.now) }
@@ -79,7 +79,7 @@ fn flag_of(bytes: &[u8]) -> Result<(bool, &[u8]), DecodeFault>
     }
 }
 
-/// CoDel's state, and what stands behind it.
+/// CoDel's state, and what stands after it.
 #[tactic(auto, unfolding(crate::specs::HelpersReading::codel_at))]
 fn codel_of(bytes: &[u8]) -> Result<(CodelState, &[u8]), DecodeFault>
     ensures { Gives (λ x. (x.0, x.1.now)) result (codel_at bytes.now) }
@@ -99,7 +99,7 @@ fn codel_of(bytes: &[u8]) -> Result<(CodelState, &[u8]), DecodeFault>
     Ok((codel, rest))
 }
 
-/// An entry, and what stands behind it.
+/// An entry, and what stands after it.
 #[tactic(auto, unfolding(crate::specs::HelpersReading::entry_at))]
 fn entry_of<C: Form>(alloc: Global, bytes: &[u8]) -> Result<(Item<C>, &[u8]), DecodeFault>
     ensures { Gives (λ x. (x.0, x.1.now)) result (entry_at C.form_at bytes.now) }
@@ -111,7 +111,7 @@ fn entry_of<C: Form>(alloc: Global, bytes: &[u8]) -> Result<(Item<C>, &[u8]), De
     Ok((Item { id, stamp, payload }, rest))
 }
 
-/// How many datagrams a hop took, dropped and released, and what stands behind them.
+/// How many datagrams a hop took, dropped and released, and what stands after them.
 #[tactic(auto, unfolding(crate::specs::HelpersReading::counts_at))]
 fn counts_of(bytes: &[u8]) -> Result<(Counts, &[u8]), DecodeFault>
     ensures { Gives (λ x. ((x.0.taken, (x.0.dropped, x.0.released)), x.1.now)) result (counts_at bytes.now) }
@@ -127,7 +127,7 @@ fn counts_of(bytes: &[u8]) -> Result<(Counts, &[u8]), DecodeFault>
     Ok((counts, rest))
 }
 
-/// So many entries, and what stands behind them.
+/// So many entries, and what stands after them.
 #[tactic(auto, unfolding(crate::specs::HelpersReading::entries_at))]
 fn line_of<C: Form>(
     alloc: Global,
@@ -143,7 +143,7 @@ fn line_of<C: Form>(
     entries_of(alloc, count, bytes)
 }
 
-/// So many entries, for which memory is reserved, and what stands behind them.
+/// So many entries, for which memory is reserved, and what stands after them.
 fn entries_of<C: Form>(
     alloc: Global,
     count: usize,
@@ -161,7 +161,7 @@ fn entries_of<C: Form>(
     Ok((entries, rest))
 }
 
-/// What is in flight and what waits, and what stands behind them.
+/// What is in flight and what waits, and what stands after them.
 #[tactic(auto, unfolding(crate::specs::HelpersReading::lines_at))]
 fn lines_of<C: Form>(alloc: Global, bytes: &[u8]) -> Result<(Lines<C>, &[u8]), DecodeFault>
     ensures { Gives (λ x. ((x.0.flight.items, x.0.queue.items), x.1.now)) result (lines_at C.form_at bytes.now) }
@@ -173,7 +173,7 @@ fn lines_of<C: Form>(alloc: Global, bytes: &[u8]) -> Result<(Lines<C>, &[u8]), D
     Ok((Lines { flight, queue }, rest))
 }
 
-/// A hop, and what stands behind it.
+/// A hop, and what stands after it.
 #[tactic(auto, unfolding(crate::specs::HelpersReading::hop_bytes_at))]
 fn hop_of_bytes<C: Form>(alloc: Global, bytes: &[u8]) -> Result<(Hop<C>, &[u8]), DecodeFault>
     ensures { Gives (λ x. (hop_state x.0, x.1.now)) result (hop_bytes_at C.form_at bytes.now) }
@@ -194,7 +194,7 @@ fn hop_of_bytes<C: Form>(alloc: Global, bytes: &[u8]) -> Result<(Hop<C>, &[u8]),
     Ok((hop, rest))
 }
 
-/// So many hops, and what stands behind them.
+/// So many hops, and what stands after them.
 fn hops_of<C: Form>(
     alloc: Global,
     count: usize,
@@ -212,7 +212,7 @@ fn hops_of<C: Form>(
     Ok((hops, rest))
 }
 
-/// So many numbers of eight bytes, and what stands behind them.
+/// So many numbers of eight bytes, and what stands after them.
 fn numbers_of(alloc: Global, count: usize, bytes: &[u8]) -> Result<(Vec<u64>, &[u8]), DecodeFault>
     ensures { Gives (λ x. (x.0.items, x.1.now)) result (many_at (field_at 8) count bytes.now) }
 {
@@ -226,7 +226,7 @@ fn numbers_of(alloc: Global, count: usize, bytes: &[u8]) -> Result<(Vec<u64>, &[
     Ok((numbers, rest))
 }
 
-/// The parts of a spool with those parameters, and nothing behind them. Bytes that are too few for its peers and hops take no
+/// The parts of a spool with those parameters, and nothing after them. Bytes that are too few for its peers and hops take no
 /// memory.
 pub(crate) fn parts_of<C: Form>(
     alloc: Global,

@@ -152,7 +152,7 @@ pub(crate) fn live_at<C: Form>(hop: &Hop<C>, index: usize) -> &Item<C>
     }
 }
 
-/// Whether a datagram may stand behind one with that id and stamp.
+/// Whether a datagram may stand after one with that id and stamp.
 fn follows<C: Form>(item: &Item<C>, id: u64, stamp: u64, moment: u64, seq: u64) -> bool
     ensures { IsTrue result ↔ Follows C.length_of moment seq id stamp item.now }
 {

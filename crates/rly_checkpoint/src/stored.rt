@@ -66,7 +66,7 @@ impl Form for Stored {
     fn law_forms() {}
 }
 
-/// A payload inline, and what stands behind it.
+/// A payload inline, and what stands after it.
 #[tactic(auto, unfolding(crate::specs::HelpersStored::inlined_at))]
 fn inlined_of(alloc: Global, size: u16, bytes: &[u8]) -> Result<(Stored, &[u8]), DecodeFault>
     ensures { Gives (λ x. (x.0, x.1.now)) result (inlined_at size bytes.now) }
@@ -75,7 +75,7 @@ fn inlined_of(alloc: Global, size: u16, bytes: &[u8]) -> Result<(Stored, &[u8]),
     Ok((Stored::Inline(payload), rest))
 }
 
-/// The place of a payload behind the byte of its form, and what stands behind it.
+/// The place of a payload after the byte of its form, and what stands after it.
 #[tactic(auto, unfolding(crate::specs::HelpersStored::placed_at))]
 fn placed_of(size: u16, bytes: &[u8]) -> Result<(Stored, &[u8]), DecodeFault>
     ensures { Gives (λ x. (x.0, x.1.now)) result (placed_at size bytes.now) }

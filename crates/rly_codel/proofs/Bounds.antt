@@ -12,7 +12,7 @@ use Rattle.rly_codel.specs.DropTimes.{drop_time, least_below, drops_due}
 use Rattle.rly_codel.specs.Cases.{Outcome, dequeue_of, unarmed, below_target, phase_begins, phase_goes_on, first_count}
 use Rattle.rly_codel.specs.declared.state.CodelState.{CodelState}
 
--- the last item isn't over, since nothing waits behind it
+-- the last item isn't over, since nothing waits after it
 front_of-le : (p : Params) (now : ℕ) (item : Waiting) (behind : List Waiting) →
     front_of p now (item ∷ behind) ≤ length behind
 front_of-le p now item [] =

@@ -14,7 +14,7 @@ use Rattle.rly_codel.specs.declared.state.CodelState.{CodelState}
 nothing : Waiting
 nothing = record { stamp = 0; bytes = 0 }
 
--- from an index on stands the item there, and then what is behind it
+-- from an index on stands the item there, and then what is after it
 from_index : (ws : List Waiting) (i : ℕ) → i < length ws → drop i ws ≡ get_or ws i nothing ∷ drop (i + 1) ws
 from_index ws i h = rw add-one (drop-cons ws i nothing h)
 

@@ -37,7 +37,7 @@ dodequeue-front_suc p now (item ∷ behind) s n h =
       | inr below ↦ absurd (let broken : 0 ≡ suc n = rw below.0 at h in omega arith)
     ]
 
--- behind the first item of a front the rest of the front stands
+-- after the first item of a front the rest of the front stands
 pub front_of-rest : (p : Params) (now : ℕ) (item : Waiting) (behind : List Waiting) (n : ℕ) →
     front_of p now (item ∷ behind) ≡ suc n → front_of p now behind ≡ n
 front_of-rest p now item behind n h =
@@ -101,7 +101,7 @@ front_of-all_over p now (item ∷ behind) (suc i) h =
       | inr below ↦ absurd (let none : suc i < 0 = rw below at h in omega arith)
     ]
 
--- the item behind the front isn't over
+-- the item after the front isn't over
 pub front_of-ends : (p : Params) (now : ℕ) (q : List Waiting) (m : ℕ) → front_of p now q ≡ m → m < length q →
     IsOverAt p now q m → ⊥
 front_of-ends p now [] m h there over = omega arith

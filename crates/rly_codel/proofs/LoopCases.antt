@@ -18,7 +18,7 @@ pub drop_loop-off : (p : Params) (now : ℕ) (q : List Waiting) (s : CodelState)
 drop_loop-off p now [] s off = refl
 drop_loop-off p now (item ∷ behind) s off = rw (and_right (nat_le s.drop_next now) s.dropping off) refl
 
--- the drop times behind the first are those of the next count from the next drop time on
+-- the drop times after the first are those of the next count from the next drop time on
 drop_time-shift : (step : ℕ → ℕ) (drop_next count j : ℕ) →
     drop_time step drop_next count (suc j) ≡ drop_time step (drop_next + step (count + 1)) (count + 1) j
 drop_time-shift step drop_next count zero = refl
@@ -32,7 +32,7 @@ least_below-same f g zero same = refl
 least_below-same f g (suc bound) same =
     rw (same 0, least_below-same (λ j. f (suc j)) (λ j. g (suc j)) bound (λ j. same (suc j))) refl
 
--- one turn, where the front goes on behind the item dropped: the count grows, and so does the next drop time
+-- one turn, where the front goes on after the item dropped: the count grows, and so does the next drop time
 drop_turn-goes_on : (p : Params) (now : ℕ) (behind : List Waiting) (s : CodelState) (n : ℕ) → is_armed now s ≡ true →
     front_of p now behind ≡ suc n →
     drop_turn p now behind s ≡ record s { drop_next = s.drop_next + step_of p.interval (s.count + 1); count = s.count + 1 }
@@ -101,7 +101,7 @@ drop_loop-phase p now (item ∷ behind) s n armed on h =
         rw (turns, drop_turn-goes_on p now behind s n armed rest, again next n armed on rest)
         (sym (phase_goes_on-due p now (suc n) s due (omega arith)))
 
--- the branch that enters the dropping state, armed, behind the item that it drops
+-- the branch that enters the dropping state, armed, after the item that it drops
 enter_dropping-armed : (p : Params) (now : ℕ) (behind : List Waiting) (s : CodelState) (n : ℕ) → is_armed now s ≡ true →
     front_of p now behind ≡ n → enter_dropping p now behind s ≡ (phase_begins p now (suc n) s).state
 enter_dropping-armed p now behind s zero armed h = rw (dodequeue-front_zero p now behind s h) refl

@@ -9,7 +9,7 @@ use Rattle.rly_codel.specs.DropTimes.{drop_time, drops_due}
 use Rattle.rly_codel.specs.declared.state.CodelState.{CodelState}
 
 -- what a dequeue comes to: how many items it drops from the front, and the state that it leaves.
--- The item behind those dropped, if there is one, is delivered.
+-- The item after those dropped, if there is one, is delivered.
 pub record Outcome : Type 0 where
   pub dropped : ℕ
   pub state : CodelState

@@ -5,7 +5,7 @@ use Rattle.rly_core.specs.declared.params.Params.{Params}
 use Rattle.rly_codel.specs.Waiting.{Waiting, waiting_bytes}
 use Rattle.rly_codel.specs.declared.state.CodelState.{CodelState}
 
--- over: it has waited for target or longer, and more than maxpacket bytes wait behind it
+-- over: it has waited for target or longer, and more than maxpacket bytes wait after it
 abbrev pub is_over : Params → ℕ → Waiting → List Waiting → Bool
 is_over p now item behind = nat_le p.target (now - item.stamp) && nat_lt p.maxpacket (waiting_bytes behind)
 

@@ -9,7 +9,7 @@ use rly_core::Params;
 use rly_law::{Control, Plain};
 
 /// Decides how many items at the front of the lane are dropped at `now`, a moment of the lane's
-/// clock, and whether the one behind them is delivered (RFC 8289 section 5, `dequeue`).
+/// clock, and whether the one after them is delivered (RFC 8289 section 5, `dequeue`).
 pub fn dequeue<L: Lane>(state: &mut CodelState, lane: &L, now: u64, params: &Params) -> Verdict
     requires params { IsWithinLimits params.now }
     requires now { now < 2 ^ 52 }
@@ -149,7 +149,7 @@ fn look_at<L: Lane>(
     }
 }
 
-/// Whether an item has waited for less than target, or has too little behind it to be dropped.
+/// Whether an item has waited for less than target, or has too little after it to be dropped.
 fn is_below_target<L: Lane>(lane: &L, index: usize, now: u64, params: &Params) -> bool
     requires stamps { All (λ item. item.stamp ≤ now) (L.waiting lane.now) }
     requires index { index < length (L.waiting lane.now) }
@@ -187,7 +187,7 @@ fn drop_while_due<L: Lane, T: Control>(
     dropped
 }
 
-/// Counts one drop of a phase and looks at the candidate at `next`, behind the item that is
+/// Counts one drop of a phase and looks at the candidate at `next`, after the item that is
 /// dropped: where it may be dropped the next drop time is set, and else the phase ends.
 fn count_drop<L: Lane, T: Control>(
     state: &mut CodelState,

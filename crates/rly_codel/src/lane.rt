@@ -15,7 +15,7 @@ pub trait Lane {
         requires { index < length (waiting self.now) }
         ensures { HoldsAt (λ item. item.stamp ≡ result) (waiting self.now) index };
 
-    /// How many payload bytes the items behind an item have, its own not among them. It is asked once for each item that may be
+    /// How many payload bytes the items after an item have, its own not among them. It is asked once for each item that may be
     /// dropped, so it is told without a look at those.
     fn bytes_behind(&self, index: usize) -> u64
         requires { index < length (waiting self.now) }

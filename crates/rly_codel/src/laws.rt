@@ -15,7 +15,7 @@ pub fn law_cases_are_the_loop()
 {}
 
 /// The front is the longest run of over items at the front of a list: each item in it is over, and
-/// the one behind it, where there is one, isn't.
+/// the one after it, where there is one, isn't.
 pub fn law_front_is_the_longest_run()
     ensures all_over { (params : Params) (now : ℕ) (queue : List Waiting) (i : ℕ)
         → i < front_of params now queue → IsOverAt params now queue i }

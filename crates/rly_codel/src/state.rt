@@ -41,6 +41,6 @@ impl Default for CodelState {
 pub struct Verdict {
     /// How many items at the front are dropped.
     pub dropped: usize,
-    /// Whether the item behind them is there, and delivered.
+    /// Whether the item after them is there, and delivered.
     pub delivered: bool,
 }

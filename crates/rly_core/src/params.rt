@@ -18,7 +18,7 @@ pub struct Params {
     pub items: u64,
     /// Live payload bytes, 1 to 16,777,216.
     pub bytes: u64,
-    /// CoDel drops nothing while at most this many payload bytes wait behind a datagram
+    /// CoDel drops nothing while at most this many payload bytes wait after a datagram
     /// (RFC 8289 section 5, `maxpacket`), 0 to 65,535 bytes.
     pub maxpacket: u64,
     /// The acceptable waiting time (RFC 8289 section 4.4, `TARGET`), 1 to interval microseconds.

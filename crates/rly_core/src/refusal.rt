@@ -67,7 +67,7 @@ pub enum Refusal {
     Station,
     /// 50: a plan that isn't TOML, or lacks a key, or has a value of another type.
     Syntax,
-    /// 51: a contact that begins before the one in front of it begins.
+    /// 51: a contact that begins before the one before it begins.
     Unsorted,
     /// 52: contacts that overlap, or a station or destination that is there twice.
     Overlap,

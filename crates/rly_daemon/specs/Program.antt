@@ -39,7 +39,7 @@ pub record HasReport (old new : Option (List ℕ)) : Type 0 where
   pub balance : balances (books_of state) ≡ true
   pub written : Appends old new (report_of state)
 
--- a journal was opened whole, all lines were played on it, and it is whole behind them
+-- a journal was opened whole, all lines were played on it, and it is whole after them
 pub record HasPlayed (batch : ℕ) (left old new : Option (List ℕ)) : Type 0 where
   pub opened : JournalState FileDisk
   pub behind : JournalState FileDisk
@@ -47,8 +47,8 @@ pub record HasPlayed (batch : ℕ) (left old new : Option (List ℕ)) : Type 0 w
   pub goes : behind.broken ≡ false
   pub played : PlaysAll (lines_a_round batch) file_state opened behind left old new
 
--- a command that ended well: the reader before and behind it, the bytes that there were to read, and those of the
--- writer before and behind it
+-- a command that ended well: the reader before and after it, the bytes that there were to read, and those of the
+-- writer before and after it
 abbrev pub IsDone : {R : Type 0} → Settings → R → R → Option (List ℕ) → Option (List ℕ) → Option (List ℕ) → Type 0
 IsDone (Sim params) before behind left old new = IsWithinLimits params
     × IfSome left (λ input. Appends old new (text_for (new_state params) input))

@@ -136,7 +136,7 @@ fn format_never_shortens_a_file(rt: HostRuntime) -> Result<(), Fail> {
     Ok(())
 }
 
-/// Checks that what lies behind the small device is as it was.
+/// Checks that what lies after the small device is as it was.
 fn expect_kept(rt: &impl Abort, bytes: &[u8]) {
     assert!(rt; bytes.len() == 200_000);
     expect!(rt; bytes.iter().skip(165_880).all(|byte| *byte == 7));

@@ -195,7 +195,7 @@ fn a_relay_needs_room_and_links(rt: HostRuntime) -> Result<(), Fail> {
     expect_links(&rt, device.as_str(), plan.as_str())
 }
 
-/// A small device whose first write behind its opening fails.
+/// A small device whose first write after its opening fails.
 fn failing(rt: &(impl Abort + AllocGlobal)) -> Result<FaultDisk<MemDisk>, Fail> {
     let disk = small_disk(rt)?;
     let before = disk.calls();

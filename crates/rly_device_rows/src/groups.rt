@@ -1,4 +1,4 @@
-//! Groups behind their gates.
+//! Groups after their gates.
 use rly_disk::{After, Disk, FaultDisk, MemDisk, Torn};
 use rly_gate::{GroupFault, append_group, read_group};
 use std::alloc::{AllocError, Global};
@@ -15,7 +15,7 @@ const FRAME: [u8; 31] = [
     9, 9, 9, 9, 0, 1, 1, 0, 1, 0, 0, 0, 0, 0, 0, 0, 1, 0, 1, 0, 0, 0, 0, 0, 0, 0, 0, 0, 1, 0x41, 9,
 ];
 
-/// The group of that body, with the closed gate behind it.
+/// The group of that body, with the closed gate after it.
 const GROUP: [u8; 32] = [
     0xa5, 0, 0, 0, 0x1a, 0, 1, 1, 0, 1, 0, 0, 0, 0, 0, 0, 0, 1, 0, 1, 0, 0, 0, 0, 0, 0, 0, 0, 0, 1,
     0x41, 0,

@@ -33,12 +33,12 @@ const HEADER: [u8; 51] = [
     1, 0x86, 0xa0,
 ];
 
-/// What the head of the empty state begins with, places 64 to 76: 87 bytes `00` stand behind it.
+/// What the head of the empty state begins with, places 64 to 76: 87 bytes `00` stand after it.
 const HEAD: [u8; 13] = [0xa5, 0, 0, 0, 0, 0, 0, 0, 1, 0, 0, 0, 0x57];
 
 const SIZE: u64 = 165_880;
 
-/// The gate of the second segment, and the last byte of the generation behind it.
+/// The gate of the second segment, and the last byte of the generation after it.
 const SECOND_GATE: u64 = 82_972;
 
 const SECOND_GENERATION: u64 = 82_980;

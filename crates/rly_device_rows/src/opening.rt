@@ -60,7 +60,7 @@ fn bytes_of<D: Disk>(alloc: Global, disk: &mut D) -> Result<Vec<u8>, AllocError>
     Ok(bytes)
 }
 
-/// Whether the head of the empty state stands at a place, with a closed gate behind it.
+/// Whether the head of the empty state stands at a place, with a closed gate after it.
 fn is_new_head(bytes: &[u8], place: usize) -> bool {
     bytes.iter().skip(place).take(13).eq(HEAD.iter())
         && bytes

@@ -30,7 +30,7 @@ after_nothing_new a P so_far call = record {
   before = λ t c le left. so_far.before t c le (call.since t c (omega (arith, le, so_far.later)) left);
 }
 
--- two rows of calls, one behind the other
+-- two rows of calls, one after the other
 pub joined : {a b e : DiskState} (P Q : List ℕ → Type 0) → LeavesOnly a b P → LeavesOnly b e Q → LeavesOnly a e (λ c. P c ⊎ Q c)
 joined {a} P Q first second = record {
   later = omega (arith, first.later, second.later);

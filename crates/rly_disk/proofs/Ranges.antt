@@ -20,7 +20,7 @@ module _ {old new : List ℕ} (place n : ℕ) (same : SameOutside place n old ne
       ext_get_or 0 _ _ (simp length-take (omega (arith, same.same_length)))
       (λ i h. let low : i < k = omega (arith, h, length-take k new) in get_or-take k new i 0 low ∙ same.each i (inl (omega (arith, low, le))) ∙ sym (get_or-take k old i 0 low))
 
-  -- the bytes behind it
+  -- the bytes after it
   pub behind : (k : ℕ) → place + n ≤ k → drop k new ≡ drop k old
   behind k le =
       ext_get_or 0 _ _ (simp length-drop (omega (arith, same.same_length)))

@@ -16,7 +16,7 @@ synced_events [] = 0
 synced_events (event ∷ events) =
     if not (is_sync event) && (synced_events events == 0) then 0 else suc (synced_events events)
 
--- the events behind the last sync
+-- the events after the last sync
 abbrev pub pending : List Event → List Event
 pending events = drop (synced_events events) events
 

@@ -10,7 +10,7 @@ pub data DeviceEvent : Type 0 where
   FailedRead : (place count : ℕ) → DeviceEvent
   -- these bytes were written from a place on
   Write : (place : ℕ) (bytes : List ℕ) → DeviceEvent
-  -- the write of these bytes failed; in their range a read now gives the others, of which none lies behind it
+  -- the write of these bytes failed; in their range a read now gives the others, of which none lies after it
   FailedWrite : (place : ℕ) (bytes left : List ℕ) → DeviceEvent
   Sync : DeviceEvent
   FailedSync : DeviceEvent
@@ -123,7 +123,7 @@ IsFailed FailedSync event = ⊥
 abbrev pub is_spent : DiskState → Bool
 is_spent disk = nat_le (2 ^ 64 - 1) disk.calls
 
--- of a row of calls those in front of one were made, and it failed: it is the last event, it isn't tried again, and
+-- of a row of calls those before one were made, and it failed: it is the last event, it isn't tried again, and
 -- nothing goes on after it
 pub record EndsAtFailure (calls events : List DeviceEvent) : Type 0 where
   pub done : List DeviceEvent
@@ -134,7 +134,7 @@ pub record EndsAtFailure (calls events : List DeviceEvent) : Type 0 where
   pub failed : IsFailed call last
   pub events_are : events ≡ done ++ last ∷ []
 
--- of a row of calls those in front of one were made, which wasn't counted, since the counts stand at their last value
+-- of a row of calls those before one were made, which wasn't counted, since the counts stand at their last value
 pub record EndsUncounted (calls events : List DeviceEvent) : Type 0 where
   pub call : DeviceEvent
   pub rest : List DeviceEvent
@@ -196,7 +196,7 @@ pub record Makes {D : Type 0} (state : D → DiskState) (calls : List DeviceEven
   pub made : IsMade whole (is_spent (state new)) calls events
   pub untouched : events ≡ [] → new ≡ old
 
--- the calls in front of a row were made, all of them or those up to the first that failed, and then no other
+-- the calls before a row were made, all of them or those up to the first that failed, and then no other
 pub record MakesFront {D : Type 0} (state : D → DiskState) (calls : List DeviceEvent) (whole : Bool) (old new : D)
     : Type 0 where
   pub front : List DeviceEvent

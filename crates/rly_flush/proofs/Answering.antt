@@ -29,7 +29,7 @@ pub record IsUnderWay (line : Responding) (whole : List Entry) (calls : List Cal
   pub legal : LegalBy without_bytes (harm_after 0 line.history) (state_after line.start line.history) (zip calls given)
   pub history : once_told line calls given ≡ whole
 
--- the first of them stands in front of the others
+-- the first of them stands before the others
 pub first_of : (line : Responding) (whole : List Entry) (said : List (Snapshot Call)) (i : ℕ) (x : Snapshot Call) {all given : List Answer} {answer : Answer}
     → IsUnderWay line whole (drop i (map (λ (s : Snapshot Call). s.value) said)) all → all ≡ answer ∷ given → i + length all ≡ length said → x ≡ get_or said i x
     → IsUnderWay line whole (x.value ∷ drop (i + 1) (map (λ (s : Snapshot Call). s.value) said)) (answer ∷ given)

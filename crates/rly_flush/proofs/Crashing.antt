@@ -30,13 +30,13 @@ next_of old journal lines calls given = record {
   line = record { of = old.line.of; taken = old.line.taken ++ calls; start = old.line.start; history = old.line.history ++ zip calls given; lines = lines };
 }
 
--- refusals behind refusals
+-- refusals after refusals
 pub refusals_append : (refusal : Refusal) (p : ℕ) (front back : List Call)
     → zip (front ++ back) (refusals refusal p (front ++ back)) ≡ zip front (refusals refusal p front) ++ zip back (refusals refusal p back)
 refusals_append refusal p [] back = refl
 refusals_append refusal p (call ∷ front) back = ap (λ l. (call, refusal_of refusal p call) ∷ l) (refusals_append refusal p front back)
 
--- the round that broke the journal is refused, and then each behind it
+-- the round that broke the journal is refused, and then each after it
 refused_first : {given : List Answer} {p q : ℕ} (history : List Entry) (calls : List Call) → given ≡ refusals Unsure p calls → q ≡ p
     → history ++ zip calls given ≡ history ++ entries_since q calls []
 refused_first history calls refused same = rw (refused, same, append-nil)
@@ -155,7 +155,7 @@ module _ {D : Type 0} (state : D → DiskState) (consistent : (disk : D) → (st
       pub round_safe : (state old.journal.disk).honest → old.first.broken ≡ false → IsCrashSafe state old next
       round_safe honest sound = round_safe_by now.round honest sound
 
-      -- and behind it, where the journal is broken: by calls of that round or of an earlier one
+      -- and after it, where the journal is broken: by calls of that round or of an earlier one
       broken_rest : (safe : IsCrashSafe state old next) → (state journal.disk).honest → journal.broken ≡ true → IsDoubtful next next safe.calls → IsCrashSafe state next next
       broken_rest safe honest broke =
           let Left : List ℕ → Type 0 = λ image. Stands image (state_reached old) ⊎ Stands image safe.target in

@@ -1,4 +1,4 @@
--- Answers that refuse all calls, and those of a served round, behind a history.
+-- Answers that refuse all calls, and those of a served round, after a history.
 use Rattle.std.proofs.Common.{ℕ, ◌≡◌, ◌≤◌, ◌++◌, ◌∷◌, [], List, Bool, true, false, true≢false, cond, length, refl, sym, ap, subst, ◌∙◌, arith}
 use Rattle.std.specs.List.{AllByRecursion, zip}
 use Rattle.std.proofs.lemmas.List.{map-append}

@@ -39,7 +39,7 @@ new_flusher given end = record {
 abbrev pub state_reached : {D : Type 0} → FlusherState D → State (List ℕ)
 state_reached f = state_after f.line.start f.line.history
 
--- calls that were refused since the journal broke: those of the round that broke it, and those behind it
+-- calls that were refused since the journal broke: those of the round that broke it, and those after it
 abbrev pub entries_since : ℕ → List Call → List Call → List Entry
 entries_since p broke behind = zip broke (refusals Unsure p broke) ++ zip behind (refusals Broken p behind)
 
@@ -124,7 +124,7 @@ pub record IsOneHistory {D : Type 0} (state : D → DiskState) (f : FlusherState
   -- one that was given broken stays as it was
   pub still : f.first.broken ≡ true → f.journal ≡ f.first
   pub later : Later (state f.first.disk) (state f.journal.disk)
-  -- each line was told that start and a beginning of it, with all calls of its seat, unless the seat is gone
+  -- each line was told that start and a prefix of it, with all calls of its seat, unless the seat is gone
   pub told : AreTold f.line.start f.line.history f.line.lines
   -- a crash now leaves all that was answered
   pub kept : (state f.journal.disk).honest → f.first.broken ≡ false

@@ -20,7 +20,7 @@ behind_the_gate at body old image closed same = record {
   whole = inl (λ opened. closed (sym (same.each at (inl (omega arith))) ∙ opened));
 }
 
--- bytes stand behind a gate that is open
+-- bytes stand after a gate that is open
 pub gate_opened : (place : ℕ) (bytes old image : List ℕ) → place < length old → StandsAt old (place + 1) bytes → SameOutside place 1 old image
     → IsOpen image place → StandsAt image place (open_gate ∷ bytes)
 gate_opened place bytes old image within stands same opened =

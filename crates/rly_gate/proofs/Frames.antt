@@ -23,7 +23,7 @@ filled field frame last four long is_last =
     ∙ ap (λ l. field ++ l) (set_split (drop 4 frame) (length frame - 5) 0 below ∙ ap (λ l. body_in frame ++ 0 ∷ l) rest)
     ∙ sym (append_assoc field (body_in frame) (0 ∷ []))
 
--- a write behind a gate and then a write of the gate are one write of both
+-- a write after a gate and then a write of the gate are one write of both
 pub gate_and_frame : (at gate : ℕ) (frame old : List ℕ) → at + 1 ≤ length old
     → overwritten at (gate ∷ []) (overwritten (at + 1) frame old) ≡ overwritten at (gate ∷ frame) old
 gate_and_frame at gate frame old within =
@@ -65,14 +65,14 @@ group_length image at n rest stands =
     ∙ ap (take 4) inner
     ∙ take_at (big_bytes 4 n) rest 4 refl
 
--- so many bytes and so many behind them
+-- so many bytes and so many after them
 pub take_both : (n m : ℕ) (xs : List ℕ) → take (n + m) xs ≡ take n xs ++ take m (drop n xs)
 take_both n m xs =
     sym (take-append-drop n (take (n + m) xs))
     ∙ ap (λ l. l ++ drop n (take (n + m) xs)) (take-take n (n + m) xs (omega arith))
     ∙ ap (λ l. take n xs ++ l) (drop-take n m xs)
 
--- an open gate, a length and a body, one behind the other
+-- an open gate, a length and a body, one after the other
 pub group_parts : (image : List ℕ) (at n : ℕ) (body : List ℕ) → at + 1 ≤ length image → get_or image at 0 ≡ open_gate
     → take 4 (drop (at + 1) image) ≡ big_bytes 4 n → length body ≡ n → body ≡ take n (drop (at + 5) image)
     → take (length (open_gate ∷ (big_bytes 4 (length body) ++ body))) (drop at image) ≡ open_gate ∷ (big_bytes 4 (length body) ++ body)

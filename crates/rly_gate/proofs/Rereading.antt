@@ -37,7 +37,7 @@ module _ {D : Type 0} (state : D → DiskState) {a b : D} where
   pub group_only : {A : Type 0} (at end : ℕ) (result : Result (Option (Vec ℕ A)) GroupFault) → (n : ℕ) × Makes state (group_reads at end n result) (is_told result) a b → OnlyReads state (is_told result) a b
   group_only at end result made = reads_of state (group_reads at end made.0 result) (are_group_reads at end made.0 result) made.1
 
-  -- the gate is open, and the length behind it was not read, or leaves no place for the group
+  -- the gate is open, and the length after it was not read, or leaves no place for the group
   pub group_cut : (A : Type 0) {e : D} (at end : ℕ) (fault : GroupFault) → (fault ≡ OutOfMemory → ⊥) → Makes state (Read at 1 ∷ []) true a b
       → Makes state (length_reads at end) (is_told {A = Option (Vec ℕ A)} (Err fault)) b e
       → (n : ℕ) × Makes state (group_reads {A = A} at end n (Err fault)) (is_told {A = Option (Vec ℕ A)} (Err fault)) a e
@@ -49,7 +49,7 @@ module _ {D : Type 0} (state : D → DiskState) {a b : D} where
       cut true second = makes_front state (Read at 1 ∷ Read (at + 1) 4 ∷ []) (Read (at + 5) 0 ∷ []) (makes_joined state (Read at 1 ∷ []) (Read (at + 1) 4 ∷ []) false first second)
       cut false second = makes_front state (Read at 1 ∷ []) (Read (at + 1) 4 ∷ Read (at + 5) 0 ∷ []) (makes_joined state (Read at 1 ∷ []) [] false first second)
 
-  -- the gate is open, and the length behind it leaves a place
+  -- the gate is open, and the length after it leaves a place
   pub group_length_read : {e : D} (at end : ℕ) → at + 6 ≤ end → Makes state (Read at 1 ∷ []) true a b → Makes state (length_reads at end) true b e
       → Makes state (Read at 1 ∷ Read (at + 1) 4 ∷ []) true a e
   group_length_read {e} at end fits first second =

@@ -13,7 +13,7 @@ abbrev pub settling : ℕ → List ℕ → List DeviceEvent
 settling at [] = Sync ∷ []
 settling at (byte ∷ bytes) = Write at (byte ∷ bytes) ∷ Sync ∷ []
 
--- a group is appended at a closed gate: its frame is made durable behind the gate, and then the gate is opened
+-- a group is appended at a closed gate: its frame is made durable after the gate, and then the gate is opened
 abbrev pub appending : ℕ → List ℕ → List DeviceEvent
 appending at body = settling (at + 1) (frame_of body) ++ settling at (open_gate ∷ [])
 
@@ -29,11 +29,11 @@ are_told (Ok bytes) = true
 are_told (Err read.OutOfMemory) = true
 are_told (Err read.Device) = false
 
--- the length behind an open gate is read where a length and a gate have room before the end
+-- the length after an open gate is read where a length and a gate have room before the end
 abbrev pub length_reads : ℕ → ℕ → List DeviceEvent
 length_reads at end = if nat_le (at + 6) end then Read (at + 1) 4 ∷ [] else []
 
--- a group is read: its gate, the length behind it where it is open, and then the body. A failed read was one of these
+-- a group is read: its gate, the length after it where it is open, and then the body. A failed read was one of these
 abbrev pub group_reads : {A : Type 0} → ℕ → ℕ → ℕ → Result (Option (Vec ℕ A)) GroupFault → List DeviceEvent
 group_reads at end n (Ok None) = Read at 1 ∷ []
 group_reads at end n (Ok (Some body)) = Read at 1 ∷ Read (at + 1) 4 ∷ Read (at + 5) (length body.items) ∷ []

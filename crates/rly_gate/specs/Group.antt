@@ -1,4 +1,4 @@
--- Groups: a row of bytes behind one gate, with a closed gate behind it.
+-- Groups: a row of bytes after one gate, with a closed gate after it.
 use Rattle.std.specs.Prelude.{◌≡◌, ◌≢◌, ◌⊎◌, ◌-◌, ℕ, List, [], ◌∷◌, ◌++◌, length, take, drop, slice_index}
 use Rattle.byteorder.specs.Endian.{big_bytes}
 use Rattle.rly_disk.specs.DiskModel.{SameOutside}
@@ -15,7 +15,7 @@ IsOpen image at = slice_index image at ≡ open_gate
 abbrev pub IsClosed : List ℕ → ℕ → Type 0
 IsClosed image at = slice_index image at ≢ open_gate
 
--- what stands behind the gate of a group: the body's length in 4 bytes, the body, and a closed gate
+-- what stands after the gate of a group: the body's length in 4 bytes, the body, and a closed gate
 abbrev pub frame_of : List ℕ → List ℕ
 frame_of body = big_bytes 4 (length body) ++ body ++ 0 ∷ []
 
@@ -31,7 +31,7 @@ body_in frame = take (length frame - 5) (drop 4 frame)
 abbrev pub StandsAt : List ℕ → ℕ → List ℕ → Type 0
 StandsAt image at bytes = take (length bytes) (drop at image) ≡ bytes
 
--- what a crash within an append may leave: all other bytes as they were, and the gate closed or the whole group behind
+-- what a crash within an append may leave: all other bytes as they were, and the gate closed or the whole group after
 -- it
 pub record IsAppended (at : ℕ) (body old image : List ℕ) : Type 0 where
   pub outside : SameOutside at (length (group_of body)) old image

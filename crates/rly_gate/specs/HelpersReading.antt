@@ -6,7 +6,7 @@ use Rattle.rly_gate.specs.declared.read.GroupFault.TheVariants.{OutOfMemory, Dam
 use Rattle.rly_gate.specs.Group.{StandsAt}
 use Rattle.rly_gate.specs.Reading.{HoldsNone}
 
--- what is answered of the length behind an open gate
+-- what is answered of the length after an open gate
 abbrev pub IsReadLength : List ℕ → ℕ → ℕ → Result ℕ GroupFault → Type 0
 IsReadLength image at end (Ok n) = StandsAt image (at + 1) (big_bytes 4 n) × (n < 2 ^ 32)
 IsReadLength image at end (Err Damaged) = HoldsNone image at end

@@ -7,7 +7,7 @@ use Rattle.rly_gate.specs.declared.read.GroupFault.{GroupFault}
 use Rattle.rly_gate.specs.declared.read.GroupFault.TheVariants.{OutOfMemory, Damaged, Device}
 use Rattle.rly_gate.specs.Group.{IsClosed, IsOpen, StandsAt, frame_of, open_gate}
 
--- an open gate, the length of a body and the body stand at a place, and the gate behind them lies before an end
+-- an open gate, the length of a body and the body stand at a place, and the gate after them lies before an end
 pub record HoldsGroup (image : List ℕ) (at end : ℕ) (body : List ℕ) : Type 0 where
   pub bytes : StandsAt image at (open_gate ∷ (big_bytes 4 (length body) ++ body))
   pub fits : length body < 2 ^ 32

@@ -8,7 +8,7 @@ use crate::settling::settle;
 use byteorder::{BigEndian, ByteOrder};
 use rly_disk::{Disk, DiskFault};
 
-/// Appends a group at a closed gate: settles what stands behind the gate, and then opens it. The
+/// Appends a group at a closed gate: settles what stands after the gate, and then opens it. The
 /// frame is 4 bytes, the body and 1 byte; the call fills the 4 with the body's length and the last
 /// with a closed gate. What a crash at any moment of the call leaves is said by `law_append`.
 pub fn append_group<D: Disk>(disk: &mut D, at: u64, frame: &mut [u8]) -> Result<(), DiskFault>

@@ -7,6 +7,6 @@ pub const CLOSED_GATE: u8 = 0;
 /// The bytes of a body's length.
 pub(crate) const LENGTH_BYTES: usize = 4;
 
-/// How many bytes longer than its body a frame is: the body's length in front of it, and the closed
-/// gate behind it.
+/// How many bytes longer than its body a frame is: the body's length before it, and the closed
+/// gate after it.
 pub(crate) const FRAME_OVERHEAD: u64 = 5;

@@ -8,7 +8,7 @@ ghost use Rattle.rly_gate.specs.Group.{IsAppended, IsClosed};
 
 use rly_disk::Disk;
 
-/// A crash at any moment of an append leaves its gate closed, or the whole group with a closed gate behind it, and all
+/// A crash at any moment of an append leaves its gate closed, or the whole group with a closed gate after it, and all
 /// other bytes as they were.
 pub fn law_append<D: Disk>(old: &D, new: &D)
     ensures { (at : ℕ) (body : List ℕ) (whole : Bool) → Makes D.state (appending at body) whole old.now new.now

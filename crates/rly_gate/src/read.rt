@@ -25,14 +25,14 @@ pub enum ReadFault {
 pub enum GroupFault {
     /// The memory for the body was refused.
     OutOfMemory,
-    /// The gate is open, and the group and the gate behind it don't lie before the end.
+    /// The gate is open, and the group and the gate after it don't lie before the end.
     Damaged,
     /// A read of the device failed.
     Device,
 }
 
 /// Reads the body of the group at a gate, or `None` where the gate is closed. The group and the
-/// gate behind it lie before `end`.
+/// gate after it lie before `end`.
 pub fn read_group<D: Disk>(
     alloc: Global,
     disk: &mut D,
@@ -60,7 +60,7 @@ pub fn read_group<D: Disk>(
     }
 }
 
-/// The length of the body of the group at an open gate, where that group and the gate behind it
+/// The length of the body of the group at an open gate, where that group and the gate after it
 /// lie before the end.
 fn read_length<D: Disk>(disk: &mut D, at: u64, end: u64) -> Result<usize, GroupFault>
     requires gate { at < end }

@@ -49,7 +49,7 @@ field_8 place bytes fits long =
     be_bytes_8 (field 8 place bytes) (field_at 8 place bytes) (length-field 8 place bytes long) (field-fits 8 place bytes fits)
     (omega (arith, item 8 0 rest (omega arith), item 8 1 rest (omega arith), item 8 2 rest (omega arith), item 8 3 rest (omega arith), item 8 4 rest (omega arith), item 8 5 rest (omega arith), item 8 6 rest (omega arith), item 8 7 rest (omega arith)))
 
--- a field and what is behind it
+-- a field and what is after it
 pub field-append : (width place behind : ℕ) (bytes : List ℕ) → behind ≡ place + width → field width place bytes ++ drop behind bytes ≡ drop place bytes
 field-append width place behind bytes e = rw (e, ← drop-drop) (take-append-drop width (drop place bytes))
 

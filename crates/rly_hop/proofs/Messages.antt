@@ -25,7 +25,7 @@ station-fits place bytes fits low =
 number-fits : (place : ℕ) (bytes : List ℕ) → IsBytes bytes → field_at 8 place bytes < 2 ^ 64
 number-fits place bytes fits = big_from-lt 0 8 (drop place bytes) (IsBytes-drop place bytes fits)
 
--- the bytes of the header and of the number behind it
+-- the bytes of the header and of the number after it
 header-spelled : (bytes rest : List ℕ) (kind : ℕ) → IsBytes bytes → IsHeader bytes → kind_of bytes ≡ kind → 16 ≤ length bytes → drop 16 bytes ≡ rest
     → bytes ≡ header kind (station_at 4 bytes) (station_at 6 bytes) ++ big_bytes 8 (field_at 8 8 bytes) ++ rest
 header-spelled bytes rest kind fits head is long behind =

@@ -1,15 +1,15 @@
--- A slice of which two parts were written, the second right behind the first.
+-- A slice of which two parts were written, the second right after the first.
 use Rattle.std.proofs.Common.{◌≡◌, ℕ, ◌+◌, ◌-◌, ◌≤◌, List, ◌++◌, length, take, drop, refl, ap, ◌∙◌, append_assoc, arith, length-append}
 use Rattle.std.proofs.lemmas.List.{append-nil, drop-drop, drop_all, drop_at, length-drop, length-take, take_all, take_at}
 use borrow.Rule.Slice.PartMut.{put_mid}
 
--- all behind a place is written
+-- all after a place is written
 put_mid-end : (xs new : List ℕ) (at count : ℕ) → length xs ≤ at + count → put_mid at count xs new ≡ take at xs ++ new
 put_mid-end xs new at count all =
     let none = drop_all count (drop at xs) (omega (arith, length-drop at xs)) in
     rw (none, append-nil) refl
 
--- a part is written right behind a front
+-- a part is written right after a front
 put_mid-behind : (front rest new : List ℕ) (at count : ℕ) → length front ≡ at → put_mid at count (front ++ rest) new ≡ front ++ (new ++ drop count rest)
 put_mid-behind front rest new at count long = rw (take_at front rest at long, drop_at front rest at long) refl
 

@@ -170,7 +170,7 @@ received-refused r taken (Answered any) from to n code h e =
     (t.0, t.1, t.2, (t.3.0, ap asked t.3.1, t.3.2))
 received-refused r taken Lost from to n code h e = absurd cc
 
--- ---- a Take follows the Data that was heard, and nothing is named behind it
+-- ---- a Take follows the Data that was heard, and nothing is named after it
 
 told-take : (r : Receiver) (k : ℕ) (any : TakeAnswer) (n : ℕ) (payload : List ℕ) → take_reply r k any ≡ Some (Take n payload) → ⊥
 told-take r k answer.Taken n payload e = cc

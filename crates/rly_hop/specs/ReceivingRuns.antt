@@ -34,7 +34,7 @@ IsHeard (Answered any) = ⊥
 IsHeard Lost = ⊥
 
 -- The event is the answer on which custody of all numbers up to n is due: the last Take, whose number is n, is answered
--- Taken; or a Take is answered Already n, or is refused by the gap right behind n.
+-- Taken; or a Take is answered Already n, or is refused by the gap right after n.
 abbrev pub IsCustodyDue : Option ℕ → InEvent (List ℕ) → ℕ → Type 0
 IsCustodyDue taken (Answered answer.Taken) n = taken ≡ Some n
 IsCustodyDue taken (Answered (answer.Already last)) n = n ≡ last

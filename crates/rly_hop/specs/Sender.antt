@@ -16,7 +16,7 @@ pub record Sender : Type 0 where
   pub cursor : ℕ
   pub acked : Option ℕ
 
--- the cursor stands in the flight or right behind it, and what is acknowledged is in the flight
+-- the cursor stands in the flight or right after it, and what is acknowledged is in the flight
 pub record IsInOrder (s : Sender) : Type 0 where
   pub begun : s.first ≤ s.cursor
   pub ended : s.cursor ≤ s.next

@@ -29,7 +29,7 @@ turn s is_open = first_row (
     ∷ ((s.cursor == s.next) && nat_lt (s.next - s.first) s.window, Some Pick)
     ∷ []) None
 
--- a release was answered: the flight begins behind the acknowledged number
+-- a release was answered: the flight begins after the acknowledged number
 abbrev pub after_release : Sender → Option ℕ → Sender
 after_release s None = s
 after_release s (Some a) = record s { first = a + 1; cursor = max s.cursor (a + 1); acked = None }

@@ -14,7 +14,7 @@ use rly_core::Refusal;
 use rly_core::limits::MAX_PAYLOAD;
 use std::cmp::Ordering;
 
-/// What stands in front of a message's own fields.
+/// What stands before a message's own fields.
 #[derive(Clone, Copy)]
 struct Header {
     kind: Kind,

@@ -68,7 +68,7 @@ fn check_stations(from: StationId, to: StationId) -> Result<(), Refusal>
     Ok(())
 }
 
-/// Writes what is common to all kinds: the header, and the number behind it.
+/// Writes what is common to all kinds: the header, and the number after it.
 fn write_front(out: &mut [u8], kind: Kind, from: StationId, to: StationId, number: u64)
     requires { 16 ≤ length out.old }
     ensures { out.new ≡ header (message_kind_byte kind) from to ++ big_bytes 8 number ++ drop 16 out.old }
@@ -81,7 +81,7 @@ fn write_front(out: &mut [u8], kind: Kind, from: StationId, to: StationId, numbe
     BigEndian::write_u64(&mut out[place::NUMBER..], number);
 }
 
-/// Writes the length of a payload, and the payload behind it.
+/// Writes the length of a payload, and the payload after it.
 fn write_payload(out: &mut [u8], payload: &[u8])
     requires short { length payload.now ≤ MAX_PAYLOAD }
     requires room { 18 + length payload.now ≤ length out.old }

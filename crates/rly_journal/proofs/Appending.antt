@@ -25,7 +25,7 @@ use Rattle.rly_journal.proofs.Agreeing.{same_before}
 use Rattle.rly_journal.proofs.Frame.{gate_above}
 use Rattle.rly_journal.proofs.Growing.{appended, gate_behind-more, grown, other_bytes, replayed-more, with_group}
 
--- the end behind a group
+-- the end after a group
 abbrev pub appended_tail : Tail → List ℕ → Tail
 appended_tail tail body = record tail { gate = tail.gate + (5 + length body) }
 
@@ -42,7 +42,7 @@ room_left tail n room above few =
 pub gathered_body : (commands : Commands) (group : GroupState) (s t : State (List ℕ)) → 1 ≤ group.count → group.count ≤ 64 → Gathers commands group s t → HaveBody commands
 gathered_body commands group s t least most gathers = ((omega (arith, gathers.count, least), omega (arith, gathers.count, most)), gathers.have)
 
--- which gates read closed behind a group
+-- which gates read closed after a group
 closed_still : (g : Geometry) (segment gate n : ℕ) (old new : List ℕ) (closed : List Bool) → segment_place g segment < gate → gate + n ≤ segment_end g segment → 1 ≤ g.length
     → AreClosed old g g.segments closed → SameOutside gate n old new → AreClosed new g g.segments closed
 closed_still g segment gate n old new closed above within long before outside u small =
@@ -62,7 +62,7 @@ logged_within old tail s logged =
     (subst (λ h. IsGeometry h (length old)) (sym logged.ends.geometry) logged.stands.scanned.fits)
     (subst (λ k. k < tail.geometry.segments) (sym logged.ends.segment) (subst (λ h. logged.x.segment < h.segments) (sym logged.ends.geometry) logged.stands.scanned.newest.there))
 
--- the group of some commands, behind what stands for a state
+-- the group of some commands, after what stands for a state
 module _ (tail : Tail) (commands : Commands) (s : State (List ℕ)) (body : HaveBody commands) (accepted : AllAccepted length s commands)
     (few : length (body_of commands) ≤ 78274) (room : tail.gate + 6 + length (body_of commands) ≤ segment_end tail.geometry tail.segment) where
   same_end : (x : Standing) → EndsAt tail x → segment_end tail.geometry tail.segment ≡ standing_end x
@@ -71,7 +71,7 @@ module _ (tail : Tail) (commands : Commands) (s : State (List ℕ)) (body : Have
   grown_state : (x : Standing) → s ≡ state_in x → fold length s commands ≡ state_in (with_group x commands)
   grown_state x state = ap (λ r. fold length r commands) state ∙ sym (replayed-more x.checkpoint x.groups commands)
 
-  -- a crash while it is appended leaves what stands for the state before it or behind it
+  -- a crash while it is appended leaves what stands for the state before it or after it
   pub append_image : (old image : List ℕ) → IsLogged old tail s → IsAppended tail.gate (body_of commands) old image → Stands image s ⊎ Stands image (fold length s commands)
   append_image old image logged left =
       let x : Standing = logged.x in
@@ -83,7 +83,7 @@ module _ (tail : Tail) (commands : Commands) (s : State (List ℕ)) (body : Have
         | inr after ↦ inr (with_group x commands, after, grown_state x logged.state)
       ]
 
-  -- the group stands, and the journal ends behind it
+  -- the group stands, and the journal ends after it
   pub append_logged : (old new : List ℕ) → IsLogged old tail s → new ≡ overwritten tail.gate (group_of (body_of commands)) old
       → IsLogged new (appended_tail tail (body_of commands)) (fold length s commands)
   append_logged old new logged written =
@@ -119,7 +119,7 @@ module _ (tail : Tail) (commands : Commands) (s : State (List ℕ)) (body : Have
             (omega (arith, place, gate, above)) (omega (arith, long, room)) (omega (arith, fits.fits)) logged.gates outside;
       }
 
--- what holds of the end behind a group
+-- what holds of the end after a group
 pub append_shape : (size : ℕ) (tail : Tail) (group : GroupState) (commands : Commands) (s t : State (List ℕ)) → IsShaped size tail s → Gathers commands group s t → 1 ≤ group.count
     → tail.gate + 6 + length (group_body group) ≤ segment_end tail.geometry tail.segment → IsShaped size (appended_tail tail (group_body group)) t
 append_shape size tail group commands s t shaped gathers least room =

@@ -46,7 +46,7 @@ head_for g size t n s geometry sound params few =
       room = omega (arith, geometry.fits, checkpoint_length s sound, sound.items, sound.bytes, whole, peers, hops, items, bytes);
     }
 
--- the end behind a new head
+-- the end after a new head
 abbrev pub renewed_tail : Tail → ℕ → ℕ → Tail
 renewed_tail tail t gate = record { geometry = tail.geometry; segment = t; generation = tail.generation + 1; gate = gate; closed = set tail.closed t false }
 
@@ -96,7 +96,7 @@ renewed_image tail s t old image logged sound below other head left =
       | inr after ↦ (with_segment x t, after, logged.state)
     ]
 
--- which gates read closed behind a new head
+-- which gates read closed after a new head
 closed_again : (g : Geometry) (t : ℕ) (closed : List Bool) (old new : List ℕ) → g.segments ≤ length closed → t < g.segments → 1 ≤ g.length
     → AreClosed old g g.segments closed → SameOutside (segment_place g t) g.length old new → (IsClosed new (segment_place g t) → ⊥)
     → AreClosed new g g.segments (set closed t false)
@@ -117,7 +117,7 @@ closed_again g t closed old new wide below long before outside now_open u small 
           )
     ]
 
--- the new head stands, and the journal ends behind it
+-- the new head stands, and the journal ends after it
 pub renewed_logged : (tail : Tail) (s : State (List ℕ)) (t gate : ℕ) (old new : List ℕ) → IsLogged old tail s → IsSound length s
     → t < tail.geometry.segments → t ≢ tail.segment → IsHead tail.geometry t (tail.generation + 1) s → gate ≡ first_gate tail.geometry t s
     → length tail.closed ≡ 256

@@ -21,7 +21,7 @@ use Rattle.rly_journal.specs.declared.open_fault.OpenFault.TheVariants as fault
 use Rattle.rly_journal.specs.declared.tail.Tail.{Tail}
 use Rattle.rly_journal.specs.Calls.{BreaksOpening, EndsScan, MakesOpening, Scan, gate_past, group_scan, groups_scan, head_gate, head_scan, last_gate, opening, scan, scan_before, tells}
 
--- ---- the calls in front of a row
+-- ---- the calls before a row
 
 module _ {D : Type 0} (state : D → DiskState) {a b : D} {whole : Bool} where
   pub front_first : {calls : List DeviceEvent} (more : List DeviceEvent) → Makes state calls whole a b → MakesFront state (calls ++ more) whole a b
@@ -127,7 +127,7 @@ scan_push x n =
     ap (λ l. head_scan x.geometry x.segment x.head ++ l) (groups_push (head_gate x) x.groups n)
     ∙ sym (append_assoc (head_scan x.geometry x.segment x.head) (groups_scan (head_gate x) x.groups) (group_scan (last_gate x) n))
 
--- the journal ends behind it
+-- the journal ends after it
 abbrev pub past_body : Tail → ℕ → Tail
 past_body tail n = record tail { gate = tail.gate + 5 + n }
 
@@ -148,7 +148,7 @@ module _ {D : Type 0} (state : D → DiskState) {a b e : D} (tail : Tail) (x : S
         (makes_joined state (scan_before x) (group_scan (last_gate x) n) true so_far (subst (λ k. Makes state (group_scan k n) true b e) ends.gate made)),
   )
 
-  -- the gate behind all groups was
+  -- the gate after all groups was
   pub scanned_all : Makes state (Read tail.gate 1 ∷ []) true b e → (y : Scan) × EndsScan tail y × Makes state (scan y) true a e
   scanned_all made = (
     x,

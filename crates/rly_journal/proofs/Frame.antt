@@ -16,17 +16,17 @@ pub record SameReads (x : Standing) (old new : List ℕ) : Type 0 where
   pub heads : (t : ℕ) → t < x.geometry.segments → t ≢ x.segment → IsPassedOver x.geometry t old new
   pub own : SameBytes (segment_place x.geometry x.segment) (gate_of x) old new
 
--- the gate behind groups lies behind the first one
+-- the gate after groups lies after the first one
 pub gate_above : (at : ℕ) (groups : List Commands) → at ≤ gate_behind at groups
 gate_above at [] = omega arith
 gate_above at (commands ∷ groups) = omega (arith, gate_above (next_gate at commands) groups)
 
--- how long a head is behind its gate
+-- how long a head is after its gate
 pub length-head : (generation : ℕ) (s : State (List ℕ)) → length (head_of generation s) ≡ 12 + length (checkpoint_of s)
 unfolding head_of
 length-head generation s = omega (arith, length-append (big_bytes 8 generation ++ big_bytes 4 (length (checkpoint_of s))) (checkpoint_of s), length-append (big_bytes 8 generation) (big_bytes 4 (length (checkpoint_of s))))
 
--- how long a group is without the gate behind it
+-- how long a group is without the gate after it
 pub length-group : (body : List ℕ) → length (open_gate ∷ (big_bytes 4 (length body) ++ body)) ≡ 5 + length body
 length-group body = omega (arith, length-append (big_bytes 4 (length body)) body)
 

@@ -84,7 +84,7 @@ reads_before {old} {new} x n scanned within same =
       own = same_before (gate_of x) n (segment_place x.geometry x.segment) (gate_of x) (omega arith) same;
     }
 
--- a whole group behind the first closed gate
+-- a whole group after the first closed gate
 pub appended : {old new : List ℕ} (x : Standing) (commands : Commands) → IsStanding old x → HaveBody commands → AllAccepted length (state_in x) commands
     → length (body_of commands) < 2 ^ 32 → gate_of x + 1 + length (frame_of (body_of commands)) ≤ standing_end x
     → SameOutside (gate_of x) (length (group_of (body_of commands))) old new → StandsAt new (gate_of x) (group_of (body_of commands)) → IsStanding new (with_group x commands)

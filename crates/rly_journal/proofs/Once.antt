@@ -61,7 +61,7 @@ head_once one_state {image} g segment n m a b short small_n small_m first second
     let size : length (checkpoint_of a) ≡ length (checkpoint_of b) = number_once 4 (length (checkpoint_of a)) (length (checkpoint_of b)) (omega (arith, first.head.room, short)) (omega (arith, second.head.room, short)) bytes in
     (generation, one_state a b first.sound second.sound (first.head.params ∙ sym second.head.params) (same_bytes image (place + 12) (checkpoint_of a) (checkpoint_of b) size parts_a.1 parts_b.1))
 
--- two bodies behind one gate
+-- two bodies after one gate
 pub body_there_once : {image : List ℕ} (at end : ℕ) (a b : List ℕ) → HoldsGroup image at end a → HoldsGroup image at end b → a ≡ b
 body_there_once {image} at end a b first second =
     let size : length a ≡ length b = number_once 4 (length a) (length b) first.fits second.fits

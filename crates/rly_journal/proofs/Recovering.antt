@@ -89,7 +89,7 @@ read_again P only read honest = let same = only.crash honest in subst P same.see
 
 -- ---- one group more
 
--- the end behind a gate
+-- the end after a gate
 abbrev pub with_gate : Tail → ℕ → Tail
 with_gate tail gate = record tail { gate = gate }
 
@@ -188,7 +188,7 @@ shape_more size gate tail commands s t shaped have accepted state above within =
 
 -- ---- the newest head
 
--- the end behind a head
+-- the end after a head
 abbrev pub head_tail : Geometry → ℕ → ℕ → ℕ → List Bool → Tail
 head_tail g segment generation gate closed = record { geometry = g; segment = segment; generation = generation; gate = gate; closed = closed }
 

@@ -74,7 +74,7 @@ moved commands group s t gathers some same =
     let least = positive group.count some in
     omega (arith, more, still, gathers.count, least)
 
--- the calls behind it hold a command
+-- the calls after it hold a command
 pub was_asked : (calls : List Call) (given : List Answer) (commands : Commands) (group : GroupState) (s t : State (List ℕ)) → AreServed calls given s t
     → Gathers commands group s t → eqb group.count 0 ≡ false → holds_command calls ≡ true
 was_asked calls given commands group s t served gathers some = by_test _ (λ (none : holds_command calls ≡ false).
@@ -138,7 +138,7 @@ module _ (tail : Tail) (s : State (List ℕ)) where
       (omega (arith, left_room, logged_within old tail s logged)) left)
 
 module _ {D : Type 0} (state : D → DiskState) {a b : D} (tail : Tail) where
-  -- where a segment was opened, the journal ends behind its head
+  -- where a segment was opened, the journal ends after its head
   pub renew_durable : (s : State (List ℕ)) → IsShaped (state a).size tail s → IsFull tail → IsSound length s → length tail.closed ≡ 256 → IsDurable (state a) tail s
       → ((state b).honest → Consistent (state b)) → Makes state (renewing tail s) true a b → IsDurable (state b) (renewed tail s) s
   renew_durable s shaped full sound wide durable facts made = record {
@@ -147,7 +147,7 @@ module _ {D : Type 0} (state : D → DiskState) {a b : D} (tail : Tail) where
         (renew_logged tail s shaped full sound (state a).seen wide durable.settled.consistent.seen_size durable.logged);
   }
 
-  -- where a group was appended, it ends behind that
+  -- where a group was appended, it ends after that
   pub append_durable : (group : GroupState) (commands : Commands) (s t : State (List ℕ)) → IsDurable (state a) tail s → Gathers commands group s t → 1 ≤ group.count → group.count ≤ 64
       → length (group_body group) ≤ 78274 → tail.gate + 6 + length (group_body group) ≤ segment_end tail.geometry tail.segment
       → ((state b).honest → Consistent (state b)) → Makes state (appending tail.gate (group_body group)) true a b → IsDurable (state b) (appended_tail tail (group_body group)) t

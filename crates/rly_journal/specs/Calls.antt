@@ -23,7 +23,7 @@ use Rattle.rly_journal.specs.Standing.{Commands}
 abbrev pub other_segment : Tail → ℕ
 other_segment tail = 1 - tail.segment
 
--- where the journal ends behind a new head, which holds the state
+-- where the journal ends after a new head, which holds the state
 abbrev pub renewed : Tail → State (List ℕ) → Tail
 renewed tail s = record {
   geometry = tail.geometry;
@@ -50,7 +50,7 @@ rounding tail s true commands = renewing tail s ++ logging (renewed tail s).gate
 rounding tail s false commands = logging tail.gate commands
 
 -- what an opening comes by: the geometry, the segment of the newest head, and how many bytes there are in the body of
--- the head and of each group behind it
+-- the head and of each group after it
 pub record Scan : Type 0 where
   pub geometry : Geometry
   pub segment : ℕ
@@ -62,11 +62,11 @@ abbrev pub head_scan : Geometry → ℕ → ℕ → List DeviceEvent
 head_scan g segment n =
     Read 0 51 ∷ (generation_reads g g.segments ++ head_reads (segment_place g segment) (Some n))
 
--- a group is read: its gate, the length behind it, and the body
+-- a group is read: its gate, the length after it, and the body
 abbrev pub group_scan : ℕ → ℕ → List DeviceEvent
 group_scan at n = Read at 1 ∷ Read (at + 1) 4 ∷ Read (at + 5) n ∷ []
 
--- groups that stand one behind the other, and the gate behind them
+-- groups that stand one after the other, and the gate after them
 abbrev pub groups_scan : ℕ → List ℕ → List DeviceEvent
 groups_scan at [] = []
 groups_scan at (n ∷ lengths) = group_scan at n ++ groups_scan (at + 5 + n) lengths
@@ -75,7 +75,7 @@ abbrev pub gate_past : ℕ → List ℕ → ℕ
 gate_past at [] = at
 gate_past at (n ∷ lengths) = gate_past (at + 5 + n) lengths
 
--- the gate behind the head, and the first closed gate
+-- the gate after the head, and the first closed gate
 abbrev pub head_gate : Scan → ℕ
 head_gate x = segment_place x.geometry x.segment + 13 + x.head
 

@@ -22,7 +22,7 @@ pub record IsHeadless (image : List ℕ) (g : Geometry) (place : ℕ) : Type 0 w
   pub none : (generation : ℕ) (s : State (List ℕ)) → HoldsHead image g segment generation s → ⊥
   pub at : place ≡ segment_place g segment
 
--- behind the newest head and whole groups a gate is open, and no group of accepted commands stands there
+-- after the newest head and whole groups a gate is open, and no group of accepted commands stands there
 pub record IsBroken (image : List ℕ) (place : ℕ) : Type 0 where
   pub x : Standing
   pub scanned : IsScanned image x

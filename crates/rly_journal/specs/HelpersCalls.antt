@@ -32,7 +32,7 @@ abbrev pub IsReadied : {A D : Type 0} → (D → DiskState) → JournalState D �
 IsReadied state old new calls (Ok done) = (new.broken ≡ false) × IsReady state old new calls
 IsReadied state old new calls (Err refusal) = IsUnready state old new calls refusal
 
--- the header and the newest head were read, behind which the journal ends
+-- the header and the newest head were read, after which the journal ends
 abbrev pub IsHeadRead : {D : Type 0} → (D → DiskState) → Tail → D → D → Type 0
 IsHeadRead state tail old new =
     (n : ℕ) × (tail.gate ≡ segment_place tail.geometry tail.segment + 13 + n)
@@ -42,7 +42,7 @@ abbrev pub IsHeadCut : {D : Type 0} → (D → DiskState) → OpenFault → D �
 IsHeadCut state why old new =
     (g : Geometry) × (segment n : ℕ) × MakesFront state (head_scan g segment n) (tells why) old new
 
--- a group was read, behind which the journal ends now; or its gate was, which is closed
+-- a group was read, after which the journal ends now; or its gate was, which is closed
 abbrev pub IsGroupRead : {D : Type 0} → (D → DiskState) → Tail → Tail → Result Bool OpenFault → D → D → Type 0
 IsGroupRead state before after (Ok true) old new =
     (n : ℕ) × (after ≡ record before { gate = before.gate + 5 + n })

@@ -16,7 +16,7 @@ offset tail = tail.gate - segment_place tail.geometry tail.segment
 abbrev pub IsFull : Tail → Type 0
 IsFull tail = IsDue tail.geometry (offset tail)
 
--- the journal ends behind the same head as before
+-- the journal ends after the same head as before
 pub record IsSameHead (old new : Tail) : Type 0 where
   pub segment : new.segment ≡ old.segment
   pub generation : new.generation ≡ old.generation

@@ -1,5 +1,5 @@
 -- When an image stands for a state (docs/DEFINITIONS.md, "What an image stands for"): the checkpoint of the newest
--- head, followed by the commands of the groups behind it, up to the first closed gate.
+-- head, followed by the commands of the groups after it, up to the first closed gate.
 use Rattle.std.specs.Prelude.{◌≡◌, ℕ, ◌+◌, ⊤, List, [], ◌∷◌, length}
 use Rattle.rly_core.specs.declared.params.Geometry.{Geometry}
 use Rattle.rly_machine.specs.declared.command.Command.{Command}
@@ -15,16 +15,16 @@ use Rattle.rly_segment.specs.Heads.{HoldsHead, IsNewest, first_gate, segment_end
 abbrev pub Commands : Type 0
 Commands = List (Command (List ℕ))
 
--- the place of the gate behind a group of these commands
+-- the place of the gate after a group of these commands
 abbrev pub next_gate : ℕ → Commands → ℕ
 next_gate at commands = at + 5 + length (body_of commands)
 
--- the place of the gate behind groups that stand one behind the other
+-- the place of the gate after groups that stand one after the other
 abbrev pub gate_behind : ℕ → List Commands → ℕ
 gate_behind at [] = at
 gate_behind at (commands ∷ groups) = gate_behind (next_gate at commands) groups
 
--- groups of these commands stand from a gate on, one behind the other, and the gate behind each lies before an end
+-- groups of these commands stand from a gate on, one after the other, and the gate after each lies before an end
 abbrev pub HoldGroups : List ℕ → ℕ → ℕ → List Commands → Type 0
 HoldGroups image end at [] = ⊤
 HoldGroups image end at (commands ∷ groups) =
@@ -41,7 +41,7 @@ AreAccepted s [] = ⊤
 AreAccepted s (commands ∷ groups) = AllAccepted length s commands × AreAccepted (fold length s commands) groups
 
 -- what is read of an image: the geometry, the newest segment with the generation and the checkpoint of its head, and
--- the groups behind it
+-- the groups after it
 pub record Standing : Type 0 where
   pub geometry : Geometry
   pub segment : ℕ
@@ -49,7 +49,7 @@ pub record Standing : Type 0 where
   pub checkpoint : State (List ℕ)
   pub groups : List Commands
 
--- the gate behind the head
+-- the gate after the head
 abbrev pub first_of : Standing → ℕ
 first_of x = first_gate x.geometry x.segment x.checkpoint
 
@@ -65,7 +65,7 @@ gate_of x = gate_behind (first_of x) x.groups
 abbrev pub state_in : Standing → State (List ℕ)
 state_in x = replayed x.checkpoint x.groups
 
--- that is what is read of an image, up to the gate behind the groups
+-- that is what is read of an image, up to the gate after the groups
 pub record IsScanned (image : List ℕ) (x : Standing) : Type 0 where
   pub device : IsDevice image
   pub geometry : x.geometry ≡ geometry_in image
@@ -75,7 +75,7 @@ pub record IsScanned (image : List ℕ) (x : Standing) : Type 0 where
   pub groups : HoldGroups image (standing_end x) (first_of x) x.groups
   pub accepted : AreAccepted x.checkpoint x.groups
 
--- that is all that is read of an image: the gate behind the groups is closed
+-- that is all that is read of an image: the gate after the groups is closed
 pub record IsStanding (image : List ℕ) (x : Standing) : Type 0 where
   pub scanned : IsScanned image x
   pub closed : IsClosed image (gate_of x)

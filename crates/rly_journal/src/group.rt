@@ -17,10 +17,10 @@ use std::marker::Model;
 /// The bytes of the largest frame: a length in 4, a count in 2, 64 records of 1,223, and a gate.
 const FRAME_ROOM: usize = 78_279;
 
-/// The bytes in front of the records.
+/// The bytes before the records.
 const RECORDS: usize = 6;
 
-/// The bytes of the length, in front of the body.
+/// The bytes of the length, before the body.
 const BODY: usize = 4;
 
 /// The group that a round makes, in the frame in which it is written. Its memory is reserved once,
@@ -64,7 +64,7 @@ impl Group {
         self.count == 0
     }
 
-    /// How many bytes it takes behind its gate, with the gate: its length in 4 bytes and its body.
+    /// How many bytes it takes after its gate, with the gate: its length in 4 bytes and its body.
     pub(crate) fn len(&self) -> u64
         ensures { result ≡ 5 + length (group_body self.now) }
     {
@@ -123,7 +123,7 @@ impl Group {
     }
 }
 
-/// Fills in the count in front of the records, and adds the byte in which the gate behind them is
+/// Fills in the count before the records, and adds the byte in which the gate after them is
 /// written.
 fn complete(frame: &mut Vec<u8>, count: u16)
     requires long { 6 ≤ length frame.old.items }

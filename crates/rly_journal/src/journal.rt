@@ -244,7 +244,7 @@ impl<D: Disk> Journal<D> {
     }
 
     /// Where a journal ends that isn't broken, on an honest disk: in the newest segment, at the first closed gate
-    /// behind the head there. So a segment is due, as `round` says it, exactly where it is due by what the device reads.
+    /// after the head there. So a segment is due, as `round` says it, exactly where it is due by what the device reads.
     pub fn law_tail(&self)
         ensures { (D.state self.now.disk).honest → self.now.broken ≡ false → IsDurable (D.state self.now.disk) self.now.tail self.now.state }
     {

@@ -16,7 +16,7 @@ use rly_segment::{
 };
 use std::alloc::Global;
 
-/// The bytes of a group in front of its body: the gate and the body's length.
+/// The bytes of a group before its body: the gate and the body's length.
 const GROUP_START: u64 = 5;
 
 /// What a device stands for, and where its journal ends.
@@ -26,7 +26,7 @@ pub(crate) struct Recovered {
     pub(crate) machine: Machine<Payload>,
 }
 
-/// Reads what a device stands for: the newest head, and the groups behind it up to the first closed gate.
+/// Reads what a device stands for: the newest head, and the groups after it up to the first closed gate.
 pub(crate) fn recover<D: Disk>(alloc: Global, disk: &mut D) -> Result<Recovered, OpenFault>
     ensures shaped { IfOk result (λ found. IsShaped (D.state disk.old).size found.tail found.machine.state) }
     ensures logged { (D.state disk.old).honest → IfOk result (λ found. IsLogged (D.state disk.old).seen found.tail found.machine.state) }

@@ -30,7 +30,7 @@ pub struct Tail {
     pub segment: u64,
     /// The generation of that head.
     pub generation: u64,
-    /// The place of the first closed gate behind it.
+    /// The place of the first closed gate after it.
     pub gate: u64,
     /// For each segment, whether its gate reads closed.
     pub closed: [bool; MAX_SEGMENTS as usize],

@@ -11,7 +11,7 @@ use Rattle.rly_line.specs.HelpersEnds.{idle, taking, together, putting}
 use Rattle.rly_line.specs.Submission.{AreBeside, calls_of, AreNumbered, AreLined, IsNext}
 use Rattle.rly_line.proofs.Views.{alone, at_set, each_set, each_push}
 
--- a call behind others is the last of its own seat's, and none of another's
+-- a call after others is the last of its own seat's, and none of another's
 pub calls_of_own : (seat : ℕ) (calls : List Call) (x : Call) → x.seat.0 ≡ seat → calls_of seat (calls ++ x ∷ []) ≡ calls_of seat calls ++ x ∷ []
 calls_of_own seat calls x own =
     filter-append (λ (c : Call). c.seat.0 == seat) calls (x ∷ []) ∙ ap (λ b. calls_of seat calls ++ cond b (x ∷ []) []) (eq-eqb x.seat.0 seat own)
@@ -89,7 +89,7 @@ puts n pass v call may mine next items views room rule at =
       refl,
     )
 
--- a call of a seat stands behind the seat's others, and before the rest
+-- a call of a seat stands after the seat's others, and before the rest
 calls_of_at : (seat : ℕ) (gone : List Call) (x : Call) (items : List Call) → x.seat.0 ≡ seat
     → calls_of seat (gone ++ x ∷ items) ≡ calls_of seat gone ++ x ∷ calls_of seat items
 calls_of_at seat gone x items own =

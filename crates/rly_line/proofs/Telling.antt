@@ -1,4 +1,4 @@
--- An answer is told: what each line was told stays a beginning of the history.
+-- An answer is told: what each line was told stays a prefix of the history.
 use Rattle.std.proofs.Common.{◌≡◌, ◌≢◌, ◌==◌, inl, inr, ℕ, zero, suc, ◌+◌, ◌<◌, true, false, true≢false, Bool, cond, Option, Some, None, List, [], ◌∷◌, ◌++◌, length, map, set, get_or, sym, refl, ap, ◌∙◌, subst, append_assoc, append-nil, eq-eqb, ne_eqb, arith, get_or-set_other, get_or-set_same, length-append}
 use Rattle.std.specs.Prelude.{All, IfNone, IfSome, MatchBool}
 use Rattle.std.specs.List.{range_with_len}
@@ -37,7 +37,7 @@ pub calls_in_push : (history : List Entry) (x : Entry) → calls_in (history ++ 
 calls_in_push [] x = refl
 calls_in_push (y ∷ ys) x = ap (λ l. y.0 ∷ l) (calls_in_push ys x)
 
--- entries behind others
+-- entries after others
 entries_other : (seat : ℕ) (history : List Entry) (x : Entry) → x.0.seat.0 ≢ seat → entries_of seat (history ++ x ∷ []) ≡ entries_of seat history
 entries_other seat history x other =
     filter-append (λ (e : Entry). e.0.seat.0 == seat) history (x ∷ [])
@@ -98,7 +98,7 @@ module _ (r : Responding) (call : Call) (answer : Answer) (left : List Call) (ho
         };
       }
 
-  -- a line that was told less, or is of a seat that is gone, is told a beginning of the longer history
+  -- a line that was told less, or is of a seat that is gone, is told a prefix of the longer history
   older : (t : Teller) → IsTold r.start r.history t → (t.gone ≡ false → call.seat.0 ≢ t.seat) → IsTold r.start History t
   older t told other = record {
     base = told.base;

@@ -1,4 +1,4 @@
--- The thread that answers: what it told each seat is a beginning of one legal history, of the calls that it took.
+-- The thread that answers: what it told each seat is a prefix of one legal history, of the calls that it took.
 use Rattle.std.specs.Prelude.{ℕ, ◌≡◌, ◌<◌, ◌⊎◌, List, [], ◌++◌, All, false, Some, None, length, map}
 use Rattle.rly_machine.specs.declared.call.Call.{Call}
 use Rattle.rly_machine.specs.History.{Entry, LegalButForBytes}
@@ -35,7 +35,7 @@ calls_in history = map (λ entry. entry.0) history
 abbrev pub AreLeft : Responding → List Call → Type 0
 AreLeft r left = r.taken ≡ calls_in r.history ++ left
 
--- a line was told nothing, or the start and a beginning of the history. The rest has no call of its seat, unless the
+-- a line was told nothing, or the start and a prefix of the history. The rest has no call of its seat, unless the
 -- seat is gone
 pub record IsTold (start : State (List ℕ)) (history : List Entry) (line : Teller) : Type 0 where
   pub base : (line.base ≡ None) ⊎ (line.base ≡ Some start)

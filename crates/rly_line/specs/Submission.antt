@@ -1,4 +1,4 @@
--- The line that calls go into, under one rule: of each seat, the calls that were taken, and behind them those in the
+-- The line that calls go into, under one rule: of each seat, the calls that were taken, and after them those in the
 -- line, are those that it put.
 use Rattle.std.specs.Prelude.{ℕ, ◌≡◌, ◌+◌, ◌<◌, ◌≤◌, ◌==◌, List, [], ◌∷◌, ◌++◌, true, filter, length}
 use mathlib.Core.Option.{some}
@@ -13,7 +13,7 @@ use Rattle.rly_line.specs.declared.submission.LineView.{LineView}
 abbrev pub calls_of : ℕ → List Call → List Call
 calls_of seat calls = filter (λ call. call.seat.0 == seat) calls
 
--- calls that are numbered one after another, behind a number
+-- calls that are numbered one after another, after a number
 abbrev pub AreNumbered : ℕ → List Call → Type 0
 AreNumbered last [] = Unit {0}
 AreNumbered last (call ∷ calls) = (call.number ≡ last + 1) × AreNumbered (last + 1) calls
@@ -38,7 +38,7 @@ pub record LineId : Type 0 where
   pub table : TableId
   pub key : Badge (Key Call)
 
--- a call is the next of its seat, one of so many, behind those taken
+-- a call is the next of its seat, one of so many, after those taken
 pub record IsNext (seats : ℕ) (taken : List Call) (call : Call) : Type 0 where
   pub seat : call.seat.0 < seats
   pub number : call.number ≡ length (calls_of call.seat.0 taken) + 1

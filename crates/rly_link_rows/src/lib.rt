@@ -6,7 +6,7 @@
 #![tactic(auto)]
 
 /// As `assert!`, by one call: the prover then sees one way on where `assert!` has two. `assert!` stands where a later call needs
-/// what was asserted. A number behind the condition names a row.
+/// what was asserted. A number after the condition names a row.
 #[cfg(test)]
 macro_rules! expect {
     ($rt:expr; $cond:expr $(,)?) => {

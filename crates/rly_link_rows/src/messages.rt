@@ -52,7 +52,7 @@ fn the_worked_messages_are_read(rt: HostRuntime) {
     expect_read(&rt, &FULL, FULL_MESSAGE);
 }
 
-/// This message is written as these bytes, and nothing behind them.
+/// This message is written as these bytes, and nothing after them.
 fn expect_written(rt: &impl Abort, message: Message<&[u8]>, bytes: &[u8]) {
     let mut out = [0xee; 1_300];
     expect!(rt; write_message(message, &mut out) == Ok(bytes.len()));

@@ -188,13 +188,13 @@ fn resend_is_a_whole_number_in_its_range(rt: HostRuntime) -> Result<(), Fail> {
     )
 }
 
-/// The answer for the whole plan with one more neighbour of this station behind it.
+/// The answer for the whole plan with one more neighbour of this station after it.
 fn answer_to_neighbour(alloc: Global, tail: &str, station: u64) -> Result<u8, AllocError> {
     let text = format!(in alloc; "{WHOLE}{tail}station = {station}\n")?;
     Ok(answer(alloc, text.as_str()))
 }
 
-/// The answer for the whole plan with one more route to this destination behind it.
+/// The answer for the whole plan with one more route to this destination after it.
 fn answer_to_route(alloc: Global, destination: u64) -> Result<u8, AllocError> {
     let text = format!(in alloc; "{WHOLE}[[route]]\nhop = 1\ndestination = {destination}\n")?;
     Ok(answer(alloc, text.as_str()))

@@ -37,7 +37,7 @@ pub record Moves {P : Type 0} (before after : HopState P) (tells : HopAccount) :
   pub count : length tells.numbers ≡ length tells.sent
   pub numbered : (k : ℕ) → k < length tells.numbers → get_or tells.numbers k 0 ≡ before.released + length before.flight + 1 + k
 
--- how often an id is in two lists, one behind the other
+-- how often an id is in two lists, one after the other
 pub times-append : (id : ℕ) (xs ys : List ℕ) → times id (xs ++ ys) ≡ times id xs + times id ys
 times-append id xs ys =
     let is : ℕ → Bool = λ other. nat_eq other id in
@@ -58,7 +58,7 @@ no_moves h = record {
   numbered = λ k none. absurd (omega arith);
 }
 
--- two rows, one behind the other
+-- two rows, one after the other
 pub moves_again : {P : Type 0} (a b c : HopState P) (one two : HopAccount) → Moves a b one → Moves b c two → Moves a c (and_then one two)
 moves_again {P} a b c one two first second =
     let k : ℕ = b.released - a.released in
@@ -117,7 +117,7 @@ quiet_told hop command (Bytes payload) q = absurd q
 quiet_told hop command (WindowIs first next) q = absurd q
 quiet_told hop command (Shown status) q = absurd q
 
--- a check that fails is answered quietly, and so are those behind it
+-- a check that fails is answered quietly, and so are those after it
 quiet_check : (fails : Bool) (x : Reply) (rest : Option Reply) (reply : Reply) → IsQuiet x → (rest ≡ Some reply → IsQuiet reply) → cond fails (Some x) rest ≡ Some reply → IsQuiet reply
 quiet_check true x rest reply q more h = subst IsQuiet (let e : x ≡ reply = (cc) in e) q
 quiet_check false x rest reply q more h = more h
@@ -195,7 +195,7 @@ picked_tells : {P : Type 0} → HopState P → ℕ → List (Item P) → HopAcco
 picked_tells h count [] = nothing
 picked_tells h count (item ∷ behind) = record { taken = []; dropped = ids_of (take count h.queue); sent = item.id ∷ []; numbers = next_number h ∷ [] }
 
--- what waits behind those dropped goes into flight, if anything does
+-- what waits after those dropped goes into flight, if anything does
 moves_picked : {P : Type 0} (h : HopState P) (now : ℕ) (outcome : Outcome) (rest : List (Item P))
     → drop outcome.dropped h.queue ≡ rest → (0 < length h.queue → outcome.dropped < length h.queue)
     → Moves h (with_picked h now outcome) (picked_tells h outcome.dropped rest)

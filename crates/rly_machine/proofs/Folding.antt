@@ -1,4 +1,4 @@
--- Rows of commands one behind the other, and what a step never changes.
+-- Rows of commands one after the other, and what a step never changes.
 use Rattle.std.proofs.Common.{ℕ, ◌≡◌, ◌+◌, List, [], ◌∷◌, ◌++◌, length, Option, Some, None, refl, arith, ◌∙◌}
 use Rattle.std.specs.Prelude.{IsTrue}
 use Rattle.rly_machine.specs.declared.command.Command.{Command}
@@ -13,13 +13,13 @@ use Rattle.rly_machine.specs.Release.{release_refusal}
 use Rattle.rly_machine.specs.Take.{take_refusal}
 use Rattle.rly_machine.proofs.RealReplies.{counted}
 
--- one row behind another
+-- one row after another
 pub fold_append : {P : Type 0} (len : P → ℕ) (s : State P) (front back : List (Command P))
     → fold len s (front ++ back) ≡ fold len (fold len s front) back
 fold_append len s [] back = refl
 fold_append len s (command ∷ front) back = fold_append len (step len s command).0 front back
 
--- one command behind a row
+-- one command after a row
 pub fold_push : {P : Type 0} (len : P → ℕ) (s : State P) (front : List (Command P)) (command : Command P)
     → fold len s (front ++ command ∷ []) ≡ (step len (fold len s front) command).0
 fold_push len s front command = fold_append len s front (command ∷ [])

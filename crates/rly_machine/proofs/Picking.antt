@@ -19,7 +19,7 @@ use Rattle.rly_machine.specs.State.{State, HopState, bytes_of, hop_at, live_byte
 use Rattle.rly_machine.proofs.Refusals.{MayPick}
 use Rattle.rly_machine.proofs.Soundness.{bytes_after, items_after, live_later, sound_accept}
 
--- the front of a list and what is behind it
+-- the front of a list and what is after it
 pub front_all : {X : Type 0} (P : X → Type 0) (xs ys : List X) → All P (xs ++ ys) → All P xs
 front_all P xs ys all k d below =
     let in_all : k < length (xs ++ ys) = omega (arith, length-append xs ys) in
@@ -31,14 +31,14 @@ back_all P xs ys all k d below =
     let same : get_or (xs ++ ys) (length xs + k) d ≡ get_or ys k d = get_or-append-add xs ys k d in
     rw (← same) (all (length xs + k) d in_all)
 
--- an element behind items that are gone from the middle
+-- an element after items that are gone from the middle
 behind_gap : {X : Type 0} (xs ys : List X) (n j : ℕ) (d : X) → length xs ≤ j → get_or (xs ++ drop n ys) j d ≡ get_or (xs ++ ys) (length xs + (n + (j - length xs))) d
 behind_gap xs ys n j d past =
     get_or-append_right xs (drop n ys) (length xs) j d refl past
     ∙ get_or-drop n ys (j - length xs) d
     ∙ sym (get_or-append-add xs ys (n + (j - length xs)) d)
 
--- an element in front of them
+-- an element before them
 before_gap : {X : Type 0} (xs ys : List X) (n i : ℕ) (d : X) → i < length xs → get_or (xs ++ drop n ys) i d ≡ get_or (xs ++ ys) i d
 before_gap xs ys n i d first = get_or_append_left xs (drop n ys) d i first ∙ sym (get_or_append_left xs ys d i first)
 

@@ -10,7 +10,7 @@ use Rattle.rly_machine.specs.Pick.{is_idle, pick_refusal}
 use Rattle.rly_machine.specs.Release.{covered_count, release_refusal}
 use Rattle.rly_machine.specs.Take.{take_refusal}
 
--- a check that didn't fail, and the row behind it
+-- a check that didn't fail, and the row after it
 pub passed : {X : Type 0} (fails : Bool) (x : X) (rest : Option X) → cond fails (Some x) rest ≡ None → (fails ≡ false) × (rest ≡ None)
 passed true x rest h = absurd (let e : Some x ≡ None = h in cc)
 passed false x rest h = (refl, h)

@@ -11,7 +11,7 @@ use Rattle.rly_machine.specs.Pick.{waiting_of}
 use Rattle.rly_machine.specs.State.{bytes_of}
 use Rattle.rly_machine.proofs.Waiting.{behind_le}
 
--- the payload bytes of items and one more behind them
+-- the payload bytes of items and one more after them
 bytes_more : {P : Type 0} (len : P → ℕ) (queued : List (Queued P)) (last : Queued P)
     → bytes_of len (items_of (queued ++ last ∷ [])) ≡ bytes_of len (items_of queued) + len last.item.payload
 bytes_more {P} len [] last =
@@ -40,7 +40,7 @@ AddUp-push len total next (q ∷ behind) last is_next is_last all =
     let goes_on : (q.total + b + l) % 2 ^ 64 ≡ next = sym (mod-add-mod (q.total + b) (2 ^ 64) l) ∙ (rw (all.0) (sym is_next)) in
     (rw bytes goes_on, AddUp-push len total next behind last is_next is_last all.1)
 
--- the total at an index, and the payload bytes behind it
+-- the total at an index, and the payload bytes after it
 pub AddUp-at : {P : Type 0} (len : P → ℕ) (total : ℕ) (queued : List (Queued P)) (i : ℕ) (q : Queued P) → i < length queued
     → q ≡ get_or queued i q → AddUp len total queued
     → (q.total + bytes_of len (drop (i + 1) (items_of queued))) % 2 ^ 64 ≡ total
@@ -66,7 +66,7 @@ waiting_bytes-of {P} len (item ∷ items) =
     let here : Waiting = record { stamp = item.stamp; bytes = len item.payload } in
     sum_by-cons seen here (waiting_of len items) ∙ ap (λ n. len item.payload + n) (waiting_bytes-of len items) ∙ sym (sum_by-cons size item items)
 
--- where those that wait have fewer than 2 ^ 64 payload bytes, those behind an index have what is left of them modulo 2 ^ 64
+-- where those that wait have fewer than 2 ^ 64 payload bytes, those after an index have what is left of them modulo 2 ^ 64
 pub behind_whole : {P : Type 0} (len : P → ℕ) (items : List (Item P)) (n : ℕ) → waiting_bytes (waiting_of len items) < 2 ^ 64
     → bytes_of len (drop n items) % 2 ^ 64 ≡ waiting_bytes (drop n (waiting_of len items))
 behind_whole {P} len items n fits =

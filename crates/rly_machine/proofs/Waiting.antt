@@ -13,7 +13,7 @@ use Rattle.rly_machine.specs.Sound.{IsLive}
 pub waiting_length : {P : Type 0} (len : P → ℕ) (items : List (Item P)) → length (waiting_of len items) ≡ length items
 waiting_length {P} len items = length-map items (λ (item : Item P). let w : Waiting = record { stamp = item.stamp; bytes = len item.payload } in w)
 
--- those behind are no more than all
+-- those after are no more than all
 pub behind_le : (xs : List Waiting) (n : ℕ) → waiting_bytes (drop n xs) ≤ waiting_bytes xs
 behind_le xs n = let size : Waiting → ℕ = λ w. w.bytes in omega (arith, sum_by-take-drop size xs n)
 

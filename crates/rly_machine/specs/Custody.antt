@@ -30,7 +30,7 @@ account_of hop (Pick to now) (Picked number id dropped) =
     if to.0 == hop.0 then record { taken = []; dropped = dropped; sent = id ∷ []; numbers = number ∷ [] } else nothing
 account_of hop _ _ = nothing
 
--- and the one behind it
+-- and the one after it
 abbrev pub and_then : HopAccount → HopAccount → HopAccount
 and_then a b = record {
   taken = a.taken ++ b.taken;

@@ -8,7 +8,7 @@ use Rattle.rly_machine.specs.State.{bytes_of}
 abbrev pub items_of : {P : Type 0} → List (Queued P) → List (Item P)
 items_of queued = map (λ q. q.item) queued
 
--- the total at each item, and the payload bytes behind it, are the total of the queue
+-- the total at each item, and the payload bytes after it, are the total of the queue
 abbrev pub AddUp : {P : Type 0} → (P → ℕ) → ℕ → List (Queued P) → Type 0
 AddUp len total [] = Unit {0}
 AddUp len total (q ∷ behind) =

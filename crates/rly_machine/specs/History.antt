@@ -39,7 +39,7 @@ abbrev pub state_after : State (List ℕ) → List Entry → State (List ℕ)
 state_after s [] = s
 state_after s (entry ∷ entries) = state_after (next_state s entry) entries
 
--- the harm that a history told last, behind harm that was told before
+-- the harm that a history told last, after harm that was told before
 abbrev pub harm_after : ℕ → List Entry → ℕ
 harm_after harmed [] = harmed
 harm_after harmed (entry ∷ entries) = harm_after (harm entry.1.reply) entries

@@ -1,4 +1,4 @@
--- Pick: CoDel drops what is due, and the item behind goes into flight.
+-- Pick: CoDel drops what is due, and the item after goes into flight.
 use Rattle.std.specs.Prelude.{ℕ, ◌+◌, ◌^◌, nat_le, ◌==◌, not, ◌&&◌, max, Bool, if◌then◌else◌, Option, Some, None}
 use Rattle.std.specs.Prelude.{List, [], ◌∷◌, ◌++◌, length, map, take, drop}
 use Rattle.rly_core.specs.declared.ids.HopId.{HopId}
@@ -42,12 +42,12 @@ with_dropped h count = record h { queue = drop count h.queue; dropped = h.droppe
 abbrev pub with_sent : {P : Type 0} → HopState P → HopState P
 with_sent h = record h { queue = drop 1 h.queue; flight = h.flight ++ take 1 h.queue }
 
--- a hop after CoDel decided: the dropped items are gone, and the one behind them is in flight
+-- a hop after CoDel decided: the dropped items are gone, and the one after them is in flight
 abbrev pub with_picked : {P : Type 0} → HopState P → ℕ → Outcome → HopState P
 with_picked h now outcome =
     with_sent (with_dropped (record h { codel = outcome.state; moment = max now h.moment }) outcome.dropped)
 
--- the answer where items are left behind those dropped: the first of them got a number
+-- the answer where items are left after those dropped: the first of them got a number
 abbrev pub picked_reply : {P : Type 0} → ℕ → List ℕ → List (Item P) → Reply
 picked_reply number dropped [] = Nothing
 picked_reply number dropped (item ∷ behind) = Picked number item.id dropped

@@ -184,7 +184,7 @@ impl<C: Content> Hop<C> {
         bytes
     }
 
-    /// Picks at a moment, not before the last one: CoDel drops what is due, and the datagram behind
+    /// Picks at a moment, not before the last one: CoDel drops what is due, and the datagram after
     /// goes into flight. Answers the reply, and how many datagrams and payload bytes were dropped.
     pub(crate) fn pick(&mut self, now: u64, rules: &Rules, ids: Vec<u64>) -> (Reply, Dropped)
         requires params { IsWithinLimits rules.now }

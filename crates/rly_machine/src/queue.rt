@@ -10,7 +10,7 @@ use std::collections::VecDeque;
 use std::marker::Model;
 
 /// The datagrams that wait for a hop, in order of taking. Contracts see them, and how many more it holds without memory. How
-/// many payload bytes wait behind one of them is told without a look at those.
+/// many payload bytes wait after one of them is told without a look at those.
 #[derive(Debug, Drop)]
 pub struct Queue<C: Content> {
     queued: VecDeque<Queued<C>>,
@@ -90,7 +90,7 @@ impl<C: Content> Queue<C> {
         &self.queued[index].item
     }
 
-    /// How many payload bytes wait behind a datagram, its own not among them, modulo 2^64.
+    /// How many payload bytes wait after a datagram, its own not among them, modulo 2^64.
     pub(crate) fn bytes_behind(&self, index: usize) -> u64
         requires { index < length self.now.items }
         ensures { result ≡ bytes_of C.length_of (drop (index + 1) self.now.items) % 2 ^ 64 }

@@ -18,7 +18,7 @@ pub enum Reply {
         number: u64,
         /// Its id.
         id: u64,
-        /// The ids of the datagrams that CoDel dropped in front of it, in order.
+        /// The ids of the datagrams that CoDel dropped before it, in order.
         dropped: Ids,
     },
     /// The queue was empty.

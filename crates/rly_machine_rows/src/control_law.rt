@@ -25,7 +25,7 @@ fn steps_of_intervals(rt: HostRuntime) {
     }
 }
 
-/// The last step that a table has, and the first one behind it, are among them.
+/// The last step that a table has, and the first one after it, are among them.
 #[test]
 fn steps_by_a_table(rt: HostRuntime) {
     for (interval, count, want) in &STEPS {

@@ -78,19 +78,19 @@ fn expect_rows(rt: &impl Abort, before: CodelState, params: &Params, rows: &[Row
     state
 }
 
-/// A datagram is delivered behind none that is dropped.
+/// A datagram is delivered after none that is dropped.
 const NO_DROP: Option<Verdict> = Some(Verdict {
     dropped: 0,
     delivered: true,
 });
 
-/// Behind one.
+/// After one.
 const ONE_DROP: Option<Verdict> = Some(Verdict {
     dropped: 1,
     delivered: true,
 });
 
-/// Behind four.
+/// After four.
 const FOUR_DROPS: Option<Verdict> = Some(Verdict {
     dropped: 4,
     delivered: true,
@@ -171,7 +171,7 @@ fn four_drops_are_due_at_once(rt: HostRuntime) {
     let _ = expect_rows(&rt, CodelState::default(), &Params::default(), &AT_ONCE);
 }
 
-/// A state behind a phase of five drops.
+/// A state after a phase of five drops.
 const BEHIND_FIVE: CodelState = CodelState {
     first_above_time: 1_000,
     drop_next: 1_000_000,
@@ -180,7 +180,7 @@ const BEHIND_FIVE: CodelState = CodelState {
     dropping: false,
 };
 
-/// Exactly 16 intervals behind `drop_next` the last phase no longer counts.
+/// Exactly 16 intervals after `drop_next` the last phase no longer counts.
 const SOON_AND_LATE: [Row; 2] = [
     Row {
         count: 3,

@@ -188,7 +188,7 @@ fn is_worked_release(command: &Command<Payload>) -> bool {
     }
 }
 
-/// Reads the worked Take in front of what may follow.
+/// Reads the worked Take before what may follow.
 fn expect_take(rt: &impl Abort, alloc: Global, bytes: &[u8]) -> Result<(), DecodeFault> {
     let (command, length) = read_command(alloc, bytes)?;
     expect!(rt; is_worked_take(&command) && length == 24);

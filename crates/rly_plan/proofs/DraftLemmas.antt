@@ -1,4 +1,4 @@
--- The items that were read, in front of those that are left.
+-- The items that were read, before those that are left.
 use Rattle.std.proofs.Common.{◌≡◌, Bool, true, List, [], ◌∷◌, ◌++◌, length, Option, None, option_map, refl, arith}
 use Rattle.std.proofs.lemmas.Bool.{false_from_ne_true}
 use Rattle.toml.specs.Data.{table}
@@ -8,7 +8,7 @@ use Rattle.toml.proofs.Views.{Entry}
 use Rattle.rly_plan.specs.Keys.{has_no_key}
 use Rattle.rly_plan.specs.Draft.{pair_of}
 
--- what was read before, in front of what is read
+-- what was read before, before what is read
 abbrev pub behind : {A : Type 0} → List A → Option (List A) → Option (List A)
 behind front o = option_map (λ xs. front ++ xs) o
 

@@ -30,7 +30,7 @@ latest_early e es t early = rw (lt-ltb t e.contact.begin early)
 pub latest_late : (e : Summed) (es : List Summed) (t : ℕ) → e.contact.begin ≤ t → latest (e ∷ es) t ≡ or_later e (latest es t)
 latest_late e es t begun = rw (le-ltb t e.contact.begin begun)
 
--- where one has begun, the contacts in front of them have ended
+-- where one has begun, the contacts before them have ended
 begun_since : (front sum : ℕ) (es : List Summed) (t : ℕ) → AreSummed front sum es → IfSome (latest es t) (λ _. front ≤ t)
 begun_since front sum [] t kept = tt
 begun_since front sum (e ∷ es) t kept =
@@ -143,7 +143,7 @@ pub latest_none : (es : List Summed) (t : ℕ) → AllWithin (λ e. has_begun t 
 latest_none [] t early = refl
 latest_none (e ∷ es) t early = latest_early e es t (leb-false e.contact.begin t (early 0 e (omega arith) (omega arith)))
 
--- the entry in front of the first that has not begun
+-- the entry before the first that has not begun
 pub latest_at : (es : List Summed) (t k : ℕ) (d : Summed) → k < length es → AllWithin (λ e. has_begun t e ≡ true) es 0 (suc k) → AllWithin (λ e. has_begun t e ≡ false) es (suc k) (length es)
     → latest es t ≡ Some (get_or es k d)
 latest_at [] t k d within begun early = absurd (omega arith)
@@ -155,7 +155,7 @@ latest_at (e ∷ es) t (suc k) d within begun early =
       latest_at es t k d (omega arith) (λ j x low high. begun (suc j) x (omega arith) (omega arith)) (λ j x low high. early (suc j) x (omega arith) (omega arith)),
     )
 
--- the sum behind the last contact
+-- the sum after the last contact
 pub sum_below_end : (front sum : ℕ) (es : List Summed) → AreSummed front sum es → sum ≤ front → sum_after sum es ≤ end_after front es
 sum_below_end front sum [] kept below = below
 sum_below_end front sum (e ∷ es) kept below = sum_below_end e.contact.end _ es kept.4 (omega (arith, kept.0, kept.1, below))

@@ -26,7 +26,7 @@ drop_of_none : {A : Type 0} (k : ℕ) → drop k (none_of A) ≡ []
 drop_of_none zero = refl
 drop_of_none (suc k) = refl
 
--- the last has no neighbour behind it
+-- the last has no neighbour after it
 adjacent_end : {A : Type 0} (test : A → A → Bool) (xs : List A) (k : ℕ) → length xs ≤ k + 1 → all_adjacent test (drop k xs) ≡ true
 adjacent_end {A} test [] k past = rw (drop_of_none {A = A} k)
 adjacent_end {A} test (x ∷ []) zero past = refl
@@ -50,7 +50,7 @@ contact_bounds c h =
     let bounds = between_bounds (number c.begin + 1) (MOMENT_LIMIT - 1) c.end ends in
     (omega (arith, bounds.0), omega (arith, bounds.1))
 
--- a contact that stands apart begins when those in front of it have ended
+-- a contact that stands apart begins when those before it have ended
 pub ended_at : (ds : List ContactDraft) (i : ℕ) (d : ContactDraft) → all_adjacent are_apart ds ≡ true → i < length ds → last_end (map contact_from (take i ds)) ≤ number (get_or ds i d).begin
 ended_at [] i d apart within = absurd (omega arith)
 ended_at (x ∷ ds) zero d apart within = omega arith
@@ -94,19 +94,19 @@ marked_any : (seen : List Bool) (x : ℕ) (ys : List ℕ) → x < length seen
 marked_any seen x [] within = refl
 marked_any seen x (y ∷ ys) within = rw (mark_one seen x y within, marked_any seen x ys within) (or_swap (is_marked seen y) (y == x) (list_any (is_marked seen) ys) (list_any (λ z. z == x) ys))
 
--- what repeats behind a number that was not marked
+-- what repeats after a number that was not marked
 pub marked_more : (seen : List Bool) (x : ℕ) (ys : List ℕ) → x < length seen
     → (list_any (is_marked (set seen x true)) ys || repeats ys) ≡ (list_any (is_marked seen) ys || (list_any (λ y. y == x) ys || repeats ys))
 marked_more seen x ys within = rw (marked_any seen x ys within) (or_assoc (list_any (is_marked seen) ys) (list_any (λ y. y == x) ys) (repeats ys))
 
--- where two neighbours pass, the answer is that of those behind the first
+-- where two neighbours pass, the answer is that of those after the first
 adjacent_passed : {A : Type 0} (test : A → A → Bool) (xs : List A) (i : ℕ) (d e : A) → 0 < i → i < length xs → test (get_or xs (i - 1) d) (get_or xs i e) ≡ true
     → all_adjacent test (drop (i - 1) xs) ≡ all_adjacent test xs → all_adjacent test (drop (i + 1 - 1) xs) ≡ all_adjacent test xs
 adjacent_passed test xs i d e some within pass same =
     let less : i + 1 - 1 ≡ i = omega arith in
     rw (less, ← same, adjacent_more test xs i d e some within, pass)
 
--- the same of contacts, each of which begins no earlier than f of the one in front of it
+-- the same of contacts, each of which begins no earlier than f of the one before it
 pub contacts_passed : (f : ContactDraft → ℤ) (xs : List ContactDraft) (i a b : ℕ) (d e : ContactDraft) → 0 < i → i < length xs → a ≡ number (get_or xs i e).begin → b ≡ number (f (get_or xs (i - 1) d)) → b ≤ a
     → all_adjacent (λ x y. nat_le (number (f x)) (number y.begin)) (drop (i - 1) xs) ≡ all_adjacent (λ x y. nat_le (number (f x)) (number y.begin)) xs
     → all_adjacent (λ x y. nat_le (number (f x)) (number y.begin)) (drop (i + 1 - 1) xs) ≡ all_adjacent (λ x y. nat_le (number (f x)) (number y.begin)) xs

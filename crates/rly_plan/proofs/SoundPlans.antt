@@ -20,7 +20,7 @@ use Rattle.rly_plan.proofs.PassLemmas.{between_bounds, contact_bounds}
 
 -- ---- what passed
 
--- the draft behind a plan, and that it passed
+-- the draft after a plan, and that it passed
 record Passed (d : PlanText) (plan : ContactPlan) : Type 0 where
   ranged : is_in_range d ≡ true
   apart : overlaps d ≡ false

@@ -1,5 +1,5 @@
 -- Nothing is claimed here: how the contacts of a hop are kept and searched, which only private functions speak of.
--- Each contact stands beside how long the link was open in those in front of it.
+-- Each contact stands beside how long the link was open in those before it.
 use Rattle.std.specs.Prelude.{◌≡◌, ℕ, ◌+◌, ◌-◌, ◌<◌, ◌≤◌, List, [], ◌∷◌, map}
 use Rattle.std.specs.Prelude.{Option, Some, None, nat_lt, if◌then◌else◌}
 use Rattle.rly_core.specs.declared.limits.TheConstants.{MOMENT_LIMIT}
@@ -16,8 +16,8 @@ last_end (c ∷ d ∷ cs) = last_end (d ∷ cs)
 abbrev pub contacts_in : List Summed → List Contact
 contacts_in = map (λ e. e.contact)
 
--- Behind contacts that ended by `front`, in which the link was open for `sum`: each contact lasts, begins when the
--- one in front of it has ended, and stands beside the open time before it.
+-- After contacts that ended by `front`, in which the link was open for `sum`: each contact lasts, begins when the
+-- one before it has ended, and stands beside the open time before it.
 abbrev pub AreSummed : ℕ → ℕ → List Summed → Type 0
 AreSummed front sum [] = Unit {0}
 AreSummed front sum (e ∷ es) =

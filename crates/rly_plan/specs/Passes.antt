@@ -89,7 +89,7 @@ all_adjacent test [] = true
 all_adjacent test (x ∷ []) = true
 all_adjacent test (x ∷ y ∷ xs) = test x y && all_adjacent test (y ∷ xs)
 
--- a contact begins no earlier than the one in front of it begins, and no earlier than that one ends
+-- a contact begins no earlier than the one before it begins, and no earlier than that one ends
 abbrev pub begin_in_order : ContactDraft → ContactDraft → Bool
 begin_in_order front c = nat_le (number front.begin) (number c.begin)
 

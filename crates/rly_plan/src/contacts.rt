@@ -16,14 +16,14 @@ pub(crate) struct Contact {
     pub end: u64,
 }
 
-/// A contact, and how long the link was open in the contacts in front of it.
+/// A contact, and how long the link was open in the contacts before it.
 #[derive(Clone, Copy, Debug)]
 struct Summed {
     contact: Contact,
     before: u64,
 }
 
-/// The contacts of one hop, in order. None begins before the one in front of it ends.
+/// The contacts of one hop, in order. None begins before the one before it ends.
 #[derive(Debug, Drop)]
 pub(crate) struct Contacts {
     entries: Vec<Summed>,
@@ -55,7 +55,7 @@ impl Contacts {
         }
     }
 
-    /// Puts a contact behind the others. An `Err` leaves them as they were.
+    /// Puts a contact after the others. An `Err` leaves them as they were.
     pub(crate) fn push(&mut self, contact: Contact) -> Result<(), AllocError>
         requires behind { last_end self.old ≤ contact.begin }
         requires lasts { contact.begin < contact.end }

@@ -19,14 +19,14 @@ impl PlanDraft {
             && routes_in_range(&self.routes)
     }
 
-    /// Pass 5: whether no contact begins before the one in front of it begins.
+    /// Pass 5: whether no contact begins before the one before it begins.
     pub(crate) fn is_sorted(&self) -> bool
         ensures { result ≡ is_sorted self.now }
     {
         self.hops.iter().all(|hop| begin_in_order(&hop.contacts))
     }
 
-    /// Pass 6: whether a contact begins before the one in front of it ends, or a station of the
+    /// Pass 6: whether a contact begins before the one before it ends, or a station of the
     /// peers, one of the hops or a destination is there twice.
     pub(crate) fn overlaps(&self, alloc: Global) -> Result<bool, AllocError>
         ensures { IfOk result (λ found. found ≡ overlaps self.now) }
@@ -165,7 +165,7 @@ fn is_station(station: i64) -> bool
     is_between(station, 1, 65_535)
 }
 
-/// Whether no contact begins before the one in front of it begins.
+/// Whether no contact begins before the one before it begins.
 fn begin_in_order(contacts: &[ContactDraft]) -> bool
     ensures { result ≡ all_adjacent begin_in_order contacts.now }
 {
@@ -177,7 +177,7 @@ fn begin_in_order(contacts: &[ContactDraft]) -> bool
     true
 }
 
-/// Whether no contact begins before the one in front of it ends. They may touch.
+/// Whether no contact begins before the one before it ends. They may touch.
 fn are_apart(contacts: &[ContactDraft]) -> bool
     ensures { result ≡ all_adjacent are_apart contacts.now }
 {

@@ -11,11 +11,11 @@ abbrev pub least_length : Geometry → ℕ
 least_length g =
     21 + 8 * g.params.peers + 71 * g.params.hops + 27 * g.params.items + g.params.bytes / (g.segments - 1) + group_room
 
--- the segments are long enough: a head and the largest group behind it always find room in one
+-- the segments are long enough: a head and the largest group after it always find room in one
 abbrev pub Fits : Geometry → Type 0
 Fits g = least_length g ≤ g.length
 
--- the largest group has no room behind so many bytes of a segment: before a round that holds a command, a new segment
+-- the largest group has no room after so many bytes of a segment: before a round that holds a command, a new segment
 -- is opened
 abbrev pub IsDue : Geometry → ℕ → Type 0
 IsDue g offset = g.length < offset + group_room

@@ -36,7 +36,7 @@ pub fn least_length(geometry: &Geometry) -> u64
         + GROUP_ROOM
 }
 
-/// Whether the segments are long enough for every head, with the largest group behind it.
+/// Whether the segments are long enough for every head, with the largest group after it.
 pub fn fits(geometry: &Geometry) -> bool
     requires params { IsWithinLimits geometry.now.params }
     requires segments { IsIn 2 256 geometry.now.segments }
@@ -45,7 +45,7 @@ pub fn fits(geometry: &Geometry) -> bool
     least_length(geometry) <= geometry.length
 }
 
-/// Whether the largest group has no room behind so many bytes of a segment.
+/// Whether the largest group has no room after so many bytes of a segment.
 pub fn is_due(geometry: &Geometry, offset: u64) -> bool
     requires { offset + GROUP_ROOM < 2 ^ 64 }
     ensures { IsTrue result ↔ IsDue geometry.now offset }

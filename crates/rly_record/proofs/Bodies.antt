@@ -20,7 +20,7 @@ use Rattle.rly_record.proofs.Fields.{IsBytes, bind_some, bind_is, some_is, Takes
 use Rattle.rly_record.proofs.Readers.{Reads, many_reads}
 use Rattle.rly_record.proofs.Records.{command_takes, command_again, is_refused, length-record_of, one_reading}
 
--- what is read of many records: the commands and the bytes behind them
+-- what is read of many records: the commands and the bytes after them
 abbrev pub AllFound : Type 0
 AllFound = List (Command (List ℕ)) × List ℕ
 
@@ -29,7 +29,7 @@ AllFound = List (Command (List ℕ)) × List ℕ
 command_reads : Reads command_at record_of HasRecord
 command_reads = record { takes = λ bytes command rest fits e. command_takes bytes (command, rest) fits e; again = command_again }
 
--- a test behind which a reading goes on
+-- a test after which a reading goes on
 guard_goes : {A : Type 0} (b : Bool) (read : Option A) (x : A) → cond b None read ≡ Some x → (b ≡ false) × (read ≡ Some x)
 guard_goes true read x e = absurd cc
 guard_goes false read x e = (refl, e)
@@ -160,7 +160,7 @@ body_spelled bytes fits there =
     let whole = whole_takes bytes commands.0 fits commands.1 in
     (commands.0, whole.0, whole.1)
 
--- ---- writing records one behind the other
+-- ---- writing records one after the other
 
 -- the lengths of the records from a place on
 abbrev pub lengths_from : ℕ → List (Command (List ℕ)) → ℕ

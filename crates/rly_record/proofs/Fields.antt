@@ -31,7 +31,7 @@ pub bind_some : {A B : Type 0} (r : Option A) (f : A → Option B) (y : B) → (
 bind_some (Some x) f y e = (x, refl, e)
 bind_some None f y e = absurd cc
 
--- a step that finds something, and the step behind it
+-- a step that finds something, and the step after it
 pub bind_is : {A B : Type 0} (r : Option A) (x : A) (f : A → Option B) (z : Option B) → r ≡ Some x → f x ≡ z → (r >>= f) ≡ z
 bind_is r x f z found next = rw found next
 

@@ -1,4 +1,4 @@
--- Reading things one behind the other.
+-- Reading things one after the other.
 use Rattle.std.proofs.Common.{◌≡◌, ℕ, suc, ◌+◌, ◌-◌, ◌<◌, ◌≤◌, List, [], ◌∷◌, ◌++◌, Option, Some, None, refl, sym, ap, ◌∙◌, append_assoc, arith}
 use Rattle.std.proofs.lemmas.List.{append-nil}
 use Rattle.rly_record.specs.HelpersReading.{◌>>=◌, Fails, Reader, many_at}

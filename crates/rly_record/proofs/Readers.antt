@@ -26,7 +26,7 @@ u32_reads = number_reads 4 wide_4
 pub u64_reads : Reads (field_at 8) (big_bytes 8) (λ n. n < 256 ^ 8)
 u64_reads = number_reads 8 wide_8
 
--- a thing and, behind it, another that depends on it
+-- a thing and, after it, another that depends on it
 pub then_reads : {A B : Type 0} {one : Reader A} {s : A → List ℕ} {F : A → Type 0} (other : A → Reader B) (t : B → List ℕ) (G : A → B → Type 0)
     → Reads one s F → ((a : A) → Reads (other a) t (G a)) → Reads (then_at one other) (λ (p : A × B). s p.0 ++ t p.1) (λ (p : A × B). F p.0 × G p.0 p.1)
 then_reads {A} {B} {one} {s} {F} other t G p q = record {
@@ -44,7 +44,7 @@ then_reads {A} {B} {one} {s} {F} other t G p q = record {
       (bind_is (other ab.0 tail) (ab.1, rest) (λ (b : B × List ℕ). Some ((ab.0, b.0), b.1)) (Some (ab, rest)) ((q ab.0).again ab.1 rest fits.1) refl);
 }
 
--- a thing and, behind it, another
+-- a thing and, after it, another
 pub pair_reads : {A B : Type 0} {one : Reader A} {s : A → List ℕ} {F : A → Type 0} {other : Reader B} {t : B → List ℕ} {G : B → Type 0}
     → Reads one s F → Reads other t G → Reads (one ⊗ other) (λ (p : A × B). s p.0 ++ t p.1) (λ (p : A × B). F p.0 × G p.1)
 pair_reads {other = other} {t = t} {G = G} p q = then_reads (λ _. other) t (λ _. G) p (λ _. q)

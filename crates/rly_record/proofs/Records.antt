@@ -14,7 +14,7 @@ use Rattle.rly_record.specs.HelpersReading.{Fails, Reader, made_at, payload_at, 
 use Rattle.rly_record.proofs.Fields.{IsBytes, IsBytes-rest, bind_some, bind_is, chosen, some_is, Takes, payload_takes, payload_again}
 use Rattle.rly_record.proofs.Readers.{Reads, u16_reads, u64_reads, pair_reads}
 
--- what is read of a record: the command and the bytes behind it
+-- what is read of a record: the command and the bytes after it
 abbrev pub Found : Type 0
 Found = Command (List ℕ) × List ℕ
 
@@ -115,13 +115,13 @@ pub is_refused : {A : Type 0} (fault : DecodeFault) (read : Option A) (x : A) �
 is_refused OutOfMemory read x fails e = refl
 is_refused Malformed read x fails e = let no : None ≡ Some x = sym fails ∙ e in absurd cc
 
--- the bytes behind a front are no more than all
+-- the bytes after a front are no more than all
 pub length-behind : (bytes text rest : List ℕ) → bytes ≡ text ++ rest → length rest ≤ length bytes
 length-behind bytes text rest parts =
     let size : length bytes ≡ length (text ++ rest) = ap (λ (t : List ℕ). length t) parts in
     omega (arith, size, length-append text rest)
 
--- the bytes behind a front, counted from the bytes behind it
+-- the bytes after a front, counted from the bytes after it
 pub behind_front : (bytes text rest : List ℕ) → bytes ≡ text ++ rest → (bytes ≡ text ++ drop (length bytes - length rest) bytes) × (length bytes - length rest ≡ length text)
 behind_front bytes text rest parts =
     let whole : length bytes ≡ length (text ++ rest) = ap (λ (t : List ℕ). length t) parts in

@@ -1,4 +1,4 @@
--- Writing things one behind the other.
+-- Writing things one after the other.
 use Rattle.std.proofs.Common.{◌≡◌, ℕ, suc, ◌+◌, ◌<◌, ◌≤◌, List, [], ◌∷◌, ◌++◌, length, get_or, take, drop, sym, ap, ◌∙◌, append_assoc, length-append, arith}
 use Rattle.std.specs.List.{flat_map}
 use Rattle.std.proofs.lemmas.Grind.{flat_map-append}
@@ -6,7 +6,7 @@ use Rattle.std.proofs.lemmas.List.{append-nil, drop_more, take_all}
 use Rattle.std.proofs.lemmas.List.Concat.{flat_map-cons}
 use Rattle.std.proofs.Math.Seq.{take-suc}
 
--- one more thing behind those that were written
+-- one more thing after those that were written
 pub written_next : {A : Type 0} (spell : A → List ℕ) (xs : List A) (i : ℕ) (x d : A) (old items more : List ℕ) → i < length xs → x ≡ get_or xs i d
     → items ≡ old ++ flat_map spell (take i xs) → more ≡ items ++ spell x → more ≡ old ++ flat_map spell (take (i + 1) xs)
 written_next {A} spell xs i x d old items more lt is so_far written =

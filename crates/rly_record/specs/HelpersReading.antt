@@ -1,4 +1,4 @@
--- Helpers: reading from left to right, as the private functions do it: what stands at the front and the bytes behind
+-- Helpers: reading from left to right, as the private functions do it: what stands at the front and the bytes after
 -- it, or nothing where no such thing stands there. Nothing here is claimed: what is read is said by `Spelling`.
 use Rattle.std.specs.Prelude.{◌≡◌, ℕ, zero, suc, ⊤, ◌||◌, ◌==◌, nat_lt, if◌then◌else◌, List}
 use Rattle.std.specs.Prelude.{[], ◌∷◌, length, take, drop, Option, Some, None, Result, Ok, Err}
@@ -10,7 +10,7 @@ use Rattle.rly_machine.specs.Map.{map_command}
 use Rattle.rly_record.specs.declared.decode_fault.DecodeFault.{DecodeFault}
 use Rattle.rly_record.specs.declared.decode_fault.DecodeFault.TheVariants.{OutOfMemory, Malformed}
 
--- a step behind another, made only where that one found something
+-- a step after another, made only where that one found something
 infixl 10 ◌>>=◌
 abbrev pub ◌>>=◌ : {A B : Type 0} → Option A → (A → Option B) → Option B
 None >>= f = None
@@ -34,7 +34,7 @@ Reader A = List ℕ → Option (A × List ℕ)
 abbrev pub command_bytes : Command (Bor (List ℕ)) → Command (List ℕ)
 command_bytes command = map_command (λ payload. payload.now) command
 
--- what stands in front, and what stands behind it
+-- what stands in front, and what stands after it
 abbrev pub in_front : {A : Type 0} → Option (A × List ℕ) → Option A
 in_front read = read >>= λ x. Some x.0
 
@@ -45,14 +45,14 @@ behind read = read >>= λ x. Some x.1
 abbrev pub field_at : ℕ → Reader ℕ
 field_at width bytes = if nat_lt (length bytes) width then None else Some (big_number width bytes, drop width bytes)
 
--- a thing and, behind it, another that depends on it
+-- a thing and, after it, another that depends on it
 abbrev pub then_at : {A B : Type 0} → Reader A → (A → Reader B) → Reader (A × B)
 then_at one other bytes = do
   a ← one bytes
   b ← other a.0 a.1
   Some ((a.0, b.0), b.1)
 
--- a thing and, behind it, another
+-- a thing and, after it, another
 infixr 20 ◌⊗◌
 abbrev pub ◌⊗◌ : {A B : Type 0} → Reader A → Reader B → Reader (A × B)
 one ⊗ other = then_at one (λ _. other)
@@ -63,7 +63,7 @@ made_at made one bytes = do
   a ← one bytes
   Some (made a.0, a.1)
 
--- so many things of a kind, one behind the other
+-- so many things of a kind, one after the other
 unfoldable pub many_at : {A : Type 0} → Reader A → ℕ → Reader (List A)
 many_at one zero bytes = Some ([], bytes)
 many_at one (suc n) bytes = do
@@ -71,7 +71,7 @@ many_at one (suc n) bytes = do
   others ← many_at one n first.1
   Some (first.0 ∷ others.0, others.1)
 
--- a payload behind its length, which is at most 1,200
+-- a payload after its length, which is at most 1,200
 unfoldable pub payload_at : Reader (List ℕ)
 payload_at bytes = do
   size ← field_at 2 bytes
@@ -106,7 +106,7 @@ body_at bytes = do
   count ← field_at 2 bytes
   if (count.0 == 0) || nat_lt 64 count.0 then None else many_at command_at count.0 count.1
 
--- a body and nothing behind it
+-- a body and nothing after it
 unfoldable pub whole_body : List ℕ → Option (List (Command (List ℕ)))
 whole_body bytes = do
   body ← body_at bytes

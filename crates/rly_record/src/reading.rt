@@ -47,7 +47,7 @@ pub fn read_body(alloc: Global, bytes: &[u8]) -> Result<Vec<Command<Payload>>, D
     body_of_bytes(alloc, bytes)
 }
 
-/// A number of two bytes, and what stands behind it.
+/// A number of two bytes, and what stands after it.
 fn u16_of(bytes: &[u8]) -> Result<(u16, &[u8]), DecodeFault>
     ensures gives { Gives (λ x. (x.0, x.1.now)) result (field_at 2 bytes.now) }
     ensures malformed { IsOkUnless result DecodeFault.Malformed }
@@ -58,7 +58,7 @@ fn u16_of(bytes: &[u8]) -> Result<(u16, &[u8]), DecodeFault>
     Ok((BigEndian::read_u16(bytes), &bytes[2..]))
 }
 
-/// A number of eight bytes, and what stands behind it.
+/// A number of eight bytes, and what stands after it.
 fn u64_of(bytes: &[u8]) -> Result<(u64, &[u8]), DecodeFault>
     ensures gives { Gives (λ x. (x.0, x.1.now)) result (field_at 8 bytes.now) }
     ensures malformed { IsOkUnless result DecodeFault.Malformed }
@@ -69,7 +69,7 @@ fn u64_of(bytes: &[u8]) -> Result<(u64, &[u8]), DecodeFault>
     Ok((BigEndian::read_u64(bytes), &bytes[8..]))
 }
 
-/// A payload behind its length.
+/// A payload after its length.
 #[tactic(auto, unfolding(crate::specs::HelpersReading::payload_at))]
 fn payload_of(bytes: &[u8]) -> Result<(&[u8], &[u8]), DecodeFault>
     ensures gives { Gives (λ x. (x.0.now, x.1.now)) result (payload_at bytes.now) }
@@ -128,7 +128,7 @@ fn release_of(bytes: &[u8]) -> Result<(Command<&[u8]>, &[u8]), DecodeFault>
     Ok((Command::Release { hop, number }, rest))
 }
 
-/// The record at the front, its payload borrowed, and what stands behind it.
+/// The record at the front, its payload borrowed, and what stands after it.
 #[tactic(auto, unfolding(crate::specs::HelpersReading::command_at))]
 fn command_of(bytes: &[u8]) -> Result<(Command<&[u8]>, &[u8]), DecodeFault>
     ensures gives { Gives (λ x. (command_bytes x.0, x.1.now)) result (command_at bytes.now) }
@@ -168,7 +168,7 @@ fn keep(alloc: Global, command: Command<&[u8]>) -> Result<Command<Payload>, Allo
     })
 }
 
-/// What stands behind so many records.
+/// What stands after so many records.
 fn behind_commands(count: u16, bytes: &[u8]) -> Result<&[u8], DecodeFault>
     ensures gives { Gives (λ rest. rest.now) result (behind (many_at command_at count bytes.now)) }
     ensures malformed { IsOkUnless result DecodeFault.Malformed }
@@ -181,7 +181,7 @@ fn behind_commands(count: u16, bytes: &[u8]) -> Result<&[u8], DecodeFault>
     Ok(rest)
 }
 
-/// So many records, one behind the other.
+/// So many records, one after the other.
 fn commands_of(
     alloc: Global,
     count: u16,
@@ -200,7 +200,7 @@ fn commands_of(
     Ok(commands)
 }
 
-/// A body and nothing behind it. Memory is wanted once it is seen to be one.
+/// A body and nothing after it. Memory is wanted once it is seen to be one.
 #[tactic(auto, unfolding(crate::specs::HelpersReading::body_at, crate::specs::HelpersReading::whole_body))]
 fn body_of_bytes(alloc: Global, bytes: &[u8]) -> Result<Vec<Command<Payload>>, DecodeFault>
     ensures gives { Gives (λ commands. commands.items) result (whole_body bytes.now) }

@@ -81,7 +81,7 @@ pub(crate) struct Script<'a> {
 }
 
 impl<'a> Script<'a> {
-    /// A round, counted from 0; empty behind the last.
+    /// A round, counted from 0; empty after the last.
     pub(crate) fn round(&self, index: usize) -> &'a [Step] {
         let before = index.saturating_mul(self.calls).min(self.steps.len());
         let (_, rest) = self.steps.split_at(before);

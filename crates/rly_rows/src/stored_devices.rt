@@ -13,7 +13,7 @@ const HEADER: [u8; 51] = [
 /// Places 64 to 76, the head of the empty state up to its body, which is 87 bytes 00.
 const HEAD: [u8; 13] = [0xa5, 0, 0, 0, 0, 0, 0, 0, 1, 0, 0, 0, 0x57];
 
-/// Places 164 to 195 once the first datagram was taken: a group of one Take, and the closed gate behind it.
+/// Places 164 to 195 once the first datagram was taken: a group of one Take, and the closed gate after it.
 pub(crate) const FIRST_GROUP: [u8; 32] = [
     0xa5, 0, 0, 0, 0x1a, 0, 1, 1, 0, 1, 0, 0, 0, 0, 0, 0, 0, 1, 0, 1, 0, 0, 0, 0, 0, 0, 0, 0, 0, 1,
     0x41, 0,

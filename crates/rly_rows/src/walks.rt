@@ -130,7 +130,7 @@ fn go_on(
     Ok(true)
 }
 
-/// Expects of a journal that was opened behind a failure the numbers of the rounds that stand, and answers how many these are.
+/// Expects of a journal that was opened after a failure the numbers of the rounds that stand, and answers how many these are.
 fn expect_found(
     rt: &impl Abort,
     alloc: Global,

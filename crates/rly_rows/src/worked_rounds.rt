@@ -90,7 +90,7 @@ fn expect_whole<D: Disk>(
     expect_state(rt, alloc, journal, &mut machine)
 }
 
-/// Device E behind two openings and a round of two copies, which makes two syncs.
+/// Device E after two openings and a round of two copies, which makes two syncs.
 fn two_copies(rt: &impl Abort, alloc: Global) -> Result<MemDisk, AllocError> {
     let disk = FaultDisk::new(device_e(rt, alloc)?, 0, 0, After::GoesOn);
     let disk = opened(rt, alloc, disk).into_disk();
@@ -151,7 +151,7 @@ fn expect_none_or_all<D: Disk + Drop>(
     expect_whole(rt, alloc, &mut journal, steps)
 }
 
-/// The same behind a crash.
+/// The same after a crash.
 fn expect_crashed(
     rt: &impl Abort,
     alloc: Global,

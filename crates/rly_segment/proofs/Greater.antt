@@ -58,7 +58,7 @@ module _ (image : List ℕ) (g : Geometry) (n : ℕ) where
     alone = λ e. one_more (λ t. t ≢ n → IsOpen image (segment_place g t) → generation_in image g t < generation) (λ t lt other open_t. omega (arith, before.most t lt open_t, above e)) (λ other _. absurd (other refl));
   }
 
-  -- behind a closed gate
+  -- after a closed gate
   pub closed_next : (found : Option Greatest) → IsFound image g n found → IsClosed image (segment_place g n) → IsFound image g (n + 1) found
   closed_next None is closed = none_more is closed
   closed_next (Some best) is closed = kept best is (λ opened. absurd (closed opened))
@@ -67,7 +67,7 @@ module _ (image : List ℕ) (g : Geometry) (n : ℕ) where
   greater_closed found None none is closed = closed_next found is closed
   greater_closed found (Some generation) none is opened = absurd cc
 
-  -- behind an open gate
+  -- after an open gate
   pub greater_kept : (found : Option Greatest) (gate : Option ℕ) (best : Greatest) (generation : ℕ) → found ≡ Some best → gate ≡ Some generation → generation < best.generation
       → IsFound image g n found → IsReadGate image (segment_place g n) gate → IsGreatest image g (n + 1) best
   greater_kept found gate best generation found_is gate_is less is read =

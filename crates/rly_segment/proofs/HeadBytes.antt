@@ -12,7 +12,7 @@ use Rattle.rly_segment.specs.Answers.{HoldsNoHead}
 use Rattle.rly_segment.specs.Heads.{HoldsHead, head_of, segment_place}
 use Rattle.rly_segment.proofs.Standing.{stands_back, stands_both, stands_front}
 
--- the generation and the length in front of a body
+-- the generation and the length before a body
 abbrev pub start_of : ℕ → ℕ → List ℕ
 start_of generation count = big_bytes 8 generation ++ big_bytes 4 count
 
@@ -32,7 +32,7 @@ pub head_begins : (image : List ℕ) (at generation : ℕ) (s : State (List ℕ)
 unfolding head_of
 head_begins image at generation s stands = stands_front image at (start_of generation (length (checkpoint_of s))) (checkpoint_of s) stands
 
--- behind them stands the body
+-- after them stands the body
 pub head_body : (image : List ℕ) (place generation : ℕ) (s : State (List ℕ)) → StandsAt image (place + 1) (head_of generation s) → StandsAt image (place + 13) (checkpoint_of s)
 unfolding head_of
 head_body image place generation s stands =
@@ -46,7 +46,7 @@ start_once image at a n b m a_fits b_fits n_fits m_fits first second =
     let same : start_of a n ≡ start_of b m = sym first ∙ second in
     (number_once 8 a b a_fits b_fits (ap (take 8) same), number_once 4 n m n_fits m_fits (ap (drop 8) same))
 
--- a generation and a length were read behind the gate of a segment, at its place
+-- a generation and a length were read after the gate of a segment, at its place
 module _ (image : List ℕ) (g : Geometry) (segment place generation count : ℕ) (short : g.length < 2 ^ 31) (where_it_is : place ≡ segment_place g segment)
     (fits : (generation < 2 ^ 64) × (count < 2 ^ 32)) (start : StandsAt image (place + 1) (start_of generation count)) where
   -- what a head there holds begins with them
@@ -59,7 +59,7 @@ module _ (image : List ℕ) (g : Geometry) (segment place generation count : ℕ
   pub too_long : g.length < 13 + count + 78280 → HoldsNoHead image g segment
   too_long past other s holds = omega (arith, holds.head.room, start_is other s holds)
 
-  -- so many bytes behind them were read too
+  -- so many bytes after them were read too
   module _ (body seen : List ℕ) (same : seen ≡ image) (is : body ≡ take count (drop (place + 13) seen)) where
     body_read : body ≡ take count (drop (segment_place g segment + 13) image)
     body_read = is ∙ ap (λ (l : List ℕ). take count (drop (place + 13) l)) same ∙ ap (λ at. take count (drop (at + 13) image)) where_it_is

@@ -8,7 +8,7 @@ use Rattle.rly_core.specs.declared.params.Geometry.{Geometry}
 use Rattle.rly_gate.specs.Group.{StandsAt}
 use Rattle.rly_segment.specs.Device.{device_mark, geometry_in, header_of, number_in}
 
--- a part of what stands behind the gate
+-- a part of what stands after the gate
 pub field : (image header : List ℕ) (k w : ℕ) → StandsAt image 1 header → k + w ≤ length header → take w (drop (1 + k) image) ≡ take w (drop k header)
 field image header k w stands within =
     let rest : ℕ = length header - k in

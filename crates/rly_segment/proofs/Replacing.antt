@@ -1,4 +1,4 @@
--- What a crash leaves while bytes behind a gate are written.
+-- What a crash leaves while bytes after a gate are written.
 use Rattle.std.proofs.Common.{◌≡◌, ◌⊎◌, ◌↔◌, ◌≤◌, ◌<◌, ◌+◌, ◌++◌, Bool, true, false, IsTrue, ◌∙◌, ℕ, List, [], ◌∷◌, length, get_or, take, drop, arith, ap, refl, sym, subst, inl, inr, ⊎_elim}
 use Rattle.std.specs.Prelude.{Result, Ok, Err, OnOk}
 use Rattle.std.proofs.lemmas.Bool.{cases_eq, cases_lt, false≢true}
@@ -34,7 +34,7 @@ module _ (place : ℕ) (bytes old : List ℕ) where
     whole = inl closing.gate;
   }
 
-  -- while the bytes behind it are written
+  -- while the bytes after it are written
   pub at_second : (mid image : List ℕ) → SameOutside place 1 old mid → IsClosed mid place → SameOutside (place + 1) (length bytes) mid image → IsReplacing place bytes old image
   at_second mid image first closed second = record {
     outside = same_outside_again place (length (open_gate ∷ bytes))
@@ -101,7 +101,7 @@ closing_then place false rest old c told image = ⊎_elim
     later)
     image
 
--- ---- bytes behind a gate
+-- ---- bytes after a gate
 
 pub replacing_image : (place : ℕ) (closed : Bool) (behind old c : List ℕ) → place + 1 + length behind ≤ length old → (IsTrue closed ↔ IsClosed old place)
     → images_within (replacing place closed behind) old (λ d. d ≡ old) c → IsReplacing place behind old c

@@ -11,7 +11,7 @@ segment_within g segment size geometry there =
     let next : segment + 1 ≤ g.segments = omega arith in
     omega (arith, geometry.room, mul-le-mul_right g.length next)
 
--- one behind the other
+-- one after the other
 pub segment_behind : (g : Geometry) (t segment : ℕ) → t < segment → segment_end g t ≤ segment_place g segment
 segment_behind g t segment before =
     let next : t + 1 ≤ segment = omega arith in

@@ -4,7 +4,7 @@ use Rattle.std.proofs.lemmas.List.{drop-drop, drop-take, drop_at, take-take, tak
 use Rattle.rly_gate.proofs.Frames.{take_both}
 use Rattle.rly_gate.specs.Group.{StandsAt}
 
--- two rows of bytes, one behind the other
+-- two rows of bytes, one after the other
 pub stands_both : (image : List ℕ) (at : ℕ) (a b : List ℕ) → StandsAt image at a → StandsAt image (at + length a) b → StandsAt image at (a ++ b)
 stands_both image at a b first second =
     ap (λ k. take k (drop at image)) (length-append a b)
@@ -29,7 +29,7 @@ stands_back image at a b both =
     ∙ ap (drop (length a)) both
     ∙ drop_at a b (length a) refl
 
--- a part of the first so many bytes behind a place
+-- a part of the first so many bytes after a place
 pub part_of_front : (image front : List ℕ) (at n place width : ℕ) → front ≡ take n (drop at image) → place + width ≤ n
     → take width (drop place front) ≡ take width (drop (at + place) image)
 part_of_front image front at n place width is within =

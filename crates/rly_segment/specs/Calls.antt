@@ -24,7 +24,7 @@ abbrev pub closing : ℕ → Bool → List DeviceEvent
 closing place true = Sync ∷ []
 closing place false = Write place (0 ∷ []) ∷ Sync ∷ []
 
--- bytes are written behind a gate, which is closed before it and opened after it
+-- bytes are written after a gate, which is closed before it and opened after it
 abbrev pub replacing : ℕ → Bool → List ℕ → List DeviceEvent
 replacing place closed behind =
     closing place closed ++ (settling (place + 1) behind ++ settling place (open_gate ∷ []))
@@ -45,7 +45,7 @@ opens (Err opening.Device) = false
 abbrev pub closing_gates : Geometry → ℕ → List DeviceEvent
 closing_gates g n = each_below (λ t. settling (segment_place g t) (0 ∷ [])) n
 
--- all of a new device is written but its header's gate: the gates of its segments, what stands behind the first of
+-- all of a new device is written but its header's gate: the gates of its segments, what stands after the first of
 -- them, the header's fields, and then the first gate is opened
 abbrev pub filling : Geometry → List ℕ → List DeviceEvent
 filling g head =
@@ -55,7 +55,7 @@ filling g head =
 abbrev pub formatting : Geometry → Bool → List ℕ → List DeviceEvent
 formatting g closed head = Read 0 1 ∷ (closing 0 closed ++ (filling g head ++ settling 0 (open_gate ∷ [])))
 
--- what stands behind the first gate of a new device
+-- what stands after the first gate of a new device
 abbrev pub new_head : Geometry → List ℕ
 new_head g = head_of 1 (new_state g.params) ++ 0 ∷ []
 

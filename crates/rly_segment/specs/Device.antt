@@ -10,7 +10,7 @@ use Rattle.rly_reclaim.specs.Room.{Fits}
 abbrev pub device_mark : List ℕ
 device_mark = 0x52 ∷ 0x4c ∷ 0x59 ∷ 0x44 ∷ 0x45 ∷ 0x56 ∷ 0x30 ∷ 0x31 ∷ 0 ∷ 1 ∷ []
 
--- what stands behind the header's gate
+-- what stands after the header's gate
 unfoldable pub header_of : Geometry → List ℕ
 header_of g =
     device_mark ++ big_bytes 2 g.params.hops ++ big_bytes 2 g.params.peers ++ big_bytes 2 g.params.window
@@ -38,7 +38,7 @@ geometry_in image = record {
   length = number_in image 19 4;
 }
 
--- the bytes of a device that has a header: the gate is open, and the mark stands behind it
+-- the bytes of a device that has a header: the gate is open, and the mark stands after it
 pub record IsDevice (image : List ℕ) : Type 0 where
   pub long : 64 ≤ length image
   pub gate : IsOpen image 0

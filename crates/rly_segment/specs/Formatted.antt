@@ -6,7 +6,7 @@ use Rattle.rly_gate.specs.Group.{IsClosed, StandsAt}
 use Rattle.rly_segment.specs.Device.{IsDevice, IsGeometry, device_length, geometry_in}
 use Rattle.rly_segment.specs.Heads.{opened_head, segment_place}
 
--- a new device: its header, the head of the empty state in the first segment with no group behind it, and no other head
+-- a new device: its header, the head of the empty state in the first segment with no group after it, and no other head
 pub record IsFormatted (g : Geometry) (image : List ℕ) : Type 0 where
   pub device : IsDevice image
   pub geometry : geometry_in image ≡ g
@@ -14,7 +14,7 @@ pub record IsFormatted (g : Geometry) (image : List ℕ) : Type 0 where
   pub head : StandsAt image (segment_place g 0) (opened_head 1 (new_state g.params))
   pub others : (t : ℕ) → 0 < t → t < g.segments → IsClosed image (segment_place g t)
 
--- the bytes that are no part of the device are as they were: those behind the header's fields, and those behind the
+-- the bytes that are no part of the device are as they were: those after the header's fields, and those after the
 -- last segment
 pub record IsSameBeside (g : Geometry) (old image : List ℕ) : Type 0 where
   pub same_length : length image ≡ length old

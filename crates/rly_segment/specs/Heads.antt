@@ -14,7 +14,7 @@ use Rattle.rly_segment.specs.Device.{number_in}
 abbrev pub segment_place : Geometry → ℕ → ℕ
 segment_place g segment = 64 + segment * g.length
 
--- the place behind a segment
+-- the place after a segment
 abbrev pub segment_end : Geometry → ℕ → ℕ
 segment_end g segment = segment_place g segment + g.length
 
@@ -52,15 +52,15 @@ IsAmbiguous image g place =
     (NoneIsOpen image g × (place ≡ 64))
     ⊎ ((segment : ℕ) × IsLastOfTie image g segment × (place ≡ segment_place g segment))
 
--- what stands behind the gate of a segment whose head holds a state
+-- what stands after the gate of a segment whose head holds a state
 unfoldable pub head_of : ℕ → State (List ℕ) → List ℕ
 head_of generation s = big_bytes 8 generation ++ big_bytes 4 (length (checkpoint_of s)) ++ checkpoint_of s
 
--- a whole head: its gate, and the closed gate of the first group behind it
+-- a whole head: its gate, and the closed gate of the first group after it
 abbrev pub opened_head : ℕ → State (List ℕ) → List ℕ
 opened_head generation s = open_gate ∷ head_of generation s ++ 0 ∷ []
 
--- the place of the first group's gate, behind a head that holds a state
+-- the place of the first group's gate, after a head that holds a state
 abbrev pub first_gate : Geometry → ℕ → State (List ℕ) → ℕ
 first_gate g segment s = segment_place g segment + 13 + length (checkpoint_of s)
 

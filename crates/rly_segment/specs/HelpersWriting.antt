@@ -14,13 +14,13 @@ pub record IsClosing (place : ℕ) (old image : List ℕ) : Type 0 where
   pub outside : SameOutside place 1 old image
   pub gate : IsOpen image place → image ≡ old
 
--- within a write of bytes behind a gate, which is closed before it and opened after it: all other bytes as they were,
+-- within a write of bytes after a gate, which is closed before it and opened after it: all other bytes as they were,
 -- and where the gate is open, the bytes that were there or the whole ones
 pub record IsReplacing (place : ℕ) (behind old image : List ℕ) : Type 0 where
   pub outside : SameOutside place (length (open_gate ∷ behind)) old image
   pub whole : (IsOpen image place → image ≡ old) ⊎ StandsAt image place (open_gate ∷ behind)
 
--- all of a new device but the header's gate, where these bytes stand behind the first segment's gate
+-- all of a new device but the header's gate, where these bytes stand after the first segment's gate
 pub record IsUnopened (g : Geometry) (behind image : List ℕ) : Type 0 where
   pub header : StandsAt image 1 (header_of g)
   pub head : StandsAt image (segment_place g 0) (open_gate ∷ behind)
@@ -32,7 +32,7 @@ shape_of g =
     device_mark ++ big_bytes 2 g.params.hops ++ big_bytes 2 g.params.peers ++ big_bytes 2 g.params.window
     ++ big_bytes 2 g.segments ++ big_bytes 4 g.length
 
--- the fields behind them
+-- the fields after them
 abbrev pub limits_of : Params → List ℕ
 limits_of p =
     big_bytes 4 p.items ++ big_bytes 4 p.bytes ++ big_bytes 4 p.maxpacket ++ big_bytes 8 p.target

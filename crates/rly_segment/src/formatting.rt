@@ -21,13 +21,13 @@ use rly_gate::{CLOSED_GATE, OPEN_GATE, is_open, settle};
 use rly_machine::Machine;
 use std::alloc::{AllocError, Global};
 
-/// The bytes of the header behind its gate.
+/// The bytes of the header after its gate.
 const FIELDS_LENGTH: usize = SHAPE_LENGTH + LIMITS_LENGTH;
 
 /// The bytes of the mark, the counts and the segments' length.
 const SHAPE_LENGTH: usize = 22;
 
-/// The bytes of the fields behind them.
+/// The bytes of the fields after them.
 const LIMITS_LENGTH: usize = 28;
 
 /// Why a device was not formatted.
@@ -42,7 +42,7 @@ pub enum FormatFault {
 }
 
 /// Makes a new device with no datagram in it. A crash at any moment of the call leaves the old
-/// device, none, or the new one. Bytes behind the header's fields and behind the last segment stay.
+/// device, none, or the new one. Bytes after the header's fields and after the last segment stay.
 pub fn format<D: Disk>(alloc: Global, disk: &mut D, geometry: &Geometry) -> Result<(), FormatFault>
     ensures geometry { result ≡ Err FormatFault.BadGeometry ↔ ¬ IsGeometry geometry.now (D.state disk.old).size }
     ensures any_moment { Settled (D.state disk.old)
@@ -65,7 +65,7 @@ pub fn format<D: Disk>(alloc: Global, disk: &mut D, geometry: &Geometry) -> Resu
     }
 }
 
-/// What stands behind the first segment's gate in a new device.
+/// What stands after the first segment's gate in a new device.
 fn new_head(alloc: Global, geometry: &Geometry) -> Result<Vec<u8>, AllocError>
     requires { IsWithinLimits geometry.now.params }
     ensures { IfOk result (λ head. head.items ≡ head_of 1 (new_state geometry.now.params) ++ 0 ∷ []) }
@@ -74,7 +74,7 @@ fn new_head(alloc: Global, geometry: &Geometry) -> Result<Vec<u8>, AllocError>
     head_bytes(alloc, 1, &machine)
 }
 
-/// Makes a new device, with these bytes behind the first segment's gate.
+/// Makes a new device, with these bytes after the first segment's gate.
 fn write_device<D: Disk>(disk: &mut D, geometry: &Geometry, head: &[u8]) -> Result<(), DiskFault>
     requires geometry { IsGeometry geometry.now (D.state disk.old).size }
     requires head { head.now ≡ head_of 1 (new_state geometry.now.params) ++ 0 ∷ [] }
@@ -111,7 +111,7 @@ fn close_gates<D: Disk>(disk: &mut D, geometry: &Geometry) -> Result<(), DiskFau
     Ok(())
 }
 
-/// What stands behind the header's gate.
+/// What stands after the header's gate.
 fn header_fields(geometry: &Geometry) -> [u8; FIELDS_LENGTH]
     requires params { IsWithinLimits geometry.now.params }
     requires segments { geometry.now.segments < 2 ^ 16 }

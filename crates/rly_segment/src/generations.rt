@@ -88,7 +88,7 @@ fn read_gate<D: Disk>(disk: &mut D, place: u64) -> Result<Option<u64>, DiskFault
     }
 }
 
-/// What was found of the segments up to and with this one, behind what was found before it.
+/// What was found of the segments up to and with this one, after what was found before it.
 fn greater(found: Option<Greatest>, segment: u64, gate: Option<u64>) -> Option<Greatest>
     ensures found { (image : List ℕ) (g : Geometry) → IsFound image g segment found
         → IsReadGate image (segment_place g segment) gate → IsFound image g (segment + 1) result }

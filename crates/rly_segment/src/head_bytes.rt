@@ -10,7 +10,7 @@ use rly_gate::CLOSED_GATE;
 use rly_machine::{Machine, Payload};
 use std::alloc::{AllocError, Global};
 
-/// What stands behind a segment's gate: a head that holds the machine's state, and the closed gate of the first group.
+/// What stands after a segment's gate: a head that holds the machine's state, and the closed gate of the first group.
 pub(crate) fn head_bytes(
     alloc: Global,
     generation: u64,

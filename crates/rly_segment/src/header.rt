@@ -12,7 +12,7 @@ use rly_disk::Disk;
 use rly_gate::{OPEN_GATE, fill};
 use rly_reclaim::fits;
 
-/// The bytes of the header's gate, mark and fields. What stands behind them is not read.
+/// The bytes of the header's gate, mark and fields. What stands after them is not read.
 const HEADER_BYTES: usize = 51;
 
 /// `RLYDEV01` and the version, 1.
@@ -21,7 +21,7 @@ pub(crate) const DEVICE_MARK: [u8; 10] = [0x52, 0x4c, 0x59, 0x44, 0x45, 0x56, 0x
 /// Why a device's header was not read.
 #[derive(Clone, Copy, Debug, PartialEq, Eq)]
 pub enum HeaderFault {
-    /// It is shorter than a header, its gate is closed, or another mark stands behind the gate.
+    /// It is shorter than a header, its gate is closed, or another mark stands after the gate.
     NotADevice,
     /// No device of its size has the geometry that it names.
     BadGeometry,
@@ -54,7 +54,7 @@ pub fn read_header<D: Disk>(disk: &mut D) -> Result<Geometry, HeaderFault>
     }
 }
 
-/// Whether the gate is open and the mark stands behind it.
+/// Whether the gate is open and the mark stands after it.
 fn is_device(header: &[u8; HEADER_BYTES]) -> bool
     ensures { IsTrue result ↔ (IsOpen header.now 0 × StandsAt header.now 1 device_mark) }
 {

@@ -18,13 +18,13 @@ use rly_machine::{Machine, Payload};
 use rly_reclaim::GROUP_ROOM;
 use std::alloc::Global;
 
-/// The bytes of a head's generation and of its body's length, which stand behind its gate.
+/// The bytes of a head's generation and of its body's length, which stand after its gate.
 pub(crate) const START_BYTES: usize = 12;
 
-/// The bytes of a head in front of its body.
+/// The bytes of a head before its body.
 const BODY_OFFSET: u64 = 13;
 
-/// What a head holds, and the gate behind it.
+/// What a head holds, and the gate after it.
 #[derive(Drop)]
 pub struct Head {
     /// The number of the opening that wrote the head, counted from 1.
@@ -40,13 +40,13 @@ pub struct Head {
 pub enum HeadFault {
     /// The memory for the head was refused.
     OutOfMemory,
-    /// The bytes behind the gate are not the head of a sound state.
+    /// The bytes after the gate are not the head of a sound state.
     Damaged,
     /// A read of the device failed.
     Device,
 }
 
-/// What stands in front of a head's body.
+/// What stands before a head's body.
 #[derive(Clone, Copy)]
 struct Start {
     generation: u64,
@@ -98,7 +98,7 @@ pub fn read_head<D: Disk>(
     })
 }
 
-/// Reads the generation and the length behind the gate of a head.
+/// Reads the generation and the length after the gate of a head.
 fn read_start<D: Disk>(disk: &mut D, place: u64) -> Result<Start, DiskFault>
     requires place_fits { place + 1 < 2 ^ 64 }
     requires room { place + 13 ≤ (D.state disk.old).size }

@@ -18,7 +18,7 @@ pub fn segment_place(geometry: &Geometry, segment: u64) -> u64
     FIRST_SEGMENT + segment * geometry.length
 }
 
-/// The place behind a segment.
+/// The place after a segment.
 pub fn segment_end(geometry: &Geometry, segment: u64) -> u64
     requires segment { segment < 256 }
     requires length { geometry.now.length < 2 ^ 31 }

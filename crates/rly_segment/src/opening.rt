@@ -30,7 +30,7 @@ pub enum OpeningFault {
     Device,
 }
 
-/// Opens a segment: writes a head that holds the machine's state, with a closed gate behind it, and
+/// Opens a segment: writes a head that holds the machine's state, with a closed gate after it, and
 /// answers that gate's place. What a crash at any moment of the call leaves is said by `law_opening`.
 pub fn open_segment<D: Disk>(
     alloc: Global,
@@ -57,7 +57,7 @@ pub fn open_segment<D: Disk>(
     }
 }
 
-/// Writes bytes behind a gate, which is closed before it and opened after it.
+/// Writes bytes after a gate, which is closed before it and opened after it.
 fn replace<D: Disk>(disk: &mut D, place: u64, closed: bool, behind: &[u8]) -> Result<(), DiskFault>
     requires place { place + 1 < 2 ^ 64 }
     requires room { place + 1 + length behind.now ≤ (D.state disk.old).size }

@@ -30,7 +30,7 @@ number_read gives parses f id n none value = rw (← one_text-rows f id) (go (on
     go None e = none e
     go (Some t) e = one t n (value t e)
 
--- a default behind what a map reads
+-- a default after what a map reads
 pub default_mapped : {X Y : Type 0} (f : X → Y) (o : Option X) (d : X) → f (unwrap_or o d) ≡ unwrap_or (option_map f o) (f d)
 default_mapped f None d = refl
 default_mapped f (Some x) d = refl

@@ -6,7 +6,7 @@ use crate::arguments::{batch, number, with_arg, with_option, with_params, with_p
 use clap::Command;
 use std::alloc::{AllocError, Global};
 
-/// The help behind the options of `sim` and `play`.
+/// The help on the options of `sim` and `play`.
 const LINES: &str = "Each line of standard input is one command, and gets one line of answer:
   take PEER NUMBER HOP STAMP PAYLOAD   a datagram comes in; PAYLOAD is hexadecimal, or - for none
   pick HOP NOW                         CoDel lets a datagram of the hop into flight, and may drop some
@@ -16,19 +16,19 @@ const LINES: &str = "Each line of standard input is one command, and gets one li
   show HOP                             all numbers of the hop
 Any other line answers `refused 16 line`. STAMP and NOW are microseconds of the hop's link clock.";
 
-/// The help behind the options of `format`.
+/// The help on the options of `format`.
 const FORMATTED: &str =
     "Prints `formatted` and the bytes that the device takes: 64, and its segments.
 Values out of their limits answer `refused 21 badgeometry` before the file is touched.";
 
-/// The help behind the options of `audit`.
+/// The help on the options of `audit`.
 const AUDITED: &str =
     "Prints a line for each hop, then one for each peer, the count of accepted commands, and
 `balance ok`: what each hop took waits, is in flight, was dropped or was released, and the peers'
 last numbers sum up to what the hops took. The file is locked meanwhile, for which it has to be one
 that may be written.";
 
-/// The help behind the options of `serve`.
+/// The help on the options of `serve`.
 const SERVED: &str =
     "Takes datagrams from each peer of the plan, and hands them to its hops while a contact is open.
 A datagram is acknowledged once the device holds it. SIGINT or SIGTERM may end the program at any

@@ -2,12 +2,12 @@
 use Rattle.std.specs.Prelude.{◌≡◌, ◌<◌, ℕ, List, ◌++◌, length, take, Option, Some, None, ⊤}
 use Rattle.std.specs.Io.KnownBytes.{Appends}
 
--- known bytes grow by a beginning of a text
+-- known bytes grow by a prefix of a text
 abbrev pub AppendsBeginning : Option (List ℕ) → Option (List ℕ) → List ℕ → Type 0
 AppendsBeginning None new text = ⊤
 AppendsBeginning (Some xs) None text = ⊥
 AppendsBeginning (Some xs) (Some ys) text = (count : ℕ) × (ys ≡ xs ++ take count text)
 
--- known bytes grow by a beginning of a text that has an end which is missing
+-- known bytes grow by a prefix of a text that has an end which is missing
 abbrev pub BreaksOff : Option (List ℕ) → Option (List ℕ) → List ℕ → Type 0
 BreaksOff old new text = (count : ℕ) × (count < length text) × Appends old new (take count text)

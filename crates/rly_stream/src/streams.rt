@@ -27,7 +27,7 @@ pub fn read_some<R: Read>(reader: &mut R, buffer: &mut [u8]) -> Result<usize, St
     Err(StreamFault::Input)
 }
 
-/// Writes all of some text. Where the writer fails, a beginning of it was written, and never all. A
+/// Writes all of some text. Where the writer fails, a prefix of it was written, and never all. A
 /// write that a signal interrupts is made again.
 pub fn write_whole<W: Write>(writer: &mut W, text: &[u8]) -> Result<(), StreamFault>
     ensures whole { OnOk result (Appends (W.contents writer.old) (W.contents writer.new) text.now) }
@@ -45,7 +45,7 @@ pub fn write_whole<W: Write>(writer: &mut W, text: &[u8]) -> Result<(), StreamFa
     Ok(())
 }
 
-/// Writes a beginning of some text.
+/// Writes a prefix of some text.
 fn write_some<W: Write>(writer: &mut W, text: &[u8]) -> Result<usize, StreamFault>
     ensures bound { IfOk result (λ count. count ≤ length text.now) }
     ensures bytes { IfOk result (λ count. Appends (W.contents writer.old) (W.contents writer.new) (take count text.now)) }

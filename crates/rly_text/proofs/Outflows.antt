@@ -23,7 +23,7 @@ adds_begins a b c x y h k =
     let more : h.0 ++ (b.held ++ y) ≡ (h.0 ++ k.0) ++ (c.held ++ k.1) = ap (λ l. h.0 ++ l) k.3 ∙ sym (append_assoc h.0 k.0 (c.held ++ k.1)) in
     (h.0 ++ k.0, k.1, appends_appends a.written b.written c.written h.0 k.0 h.1 k.2, first ∙ more)
 
--- a beginning of a front is one of the whole
+-- a prefix of a front is one of the whole
 pub begins_whole : (a b : Outflow) (front rest : List ℕ) → AddsBeginning a b front → AddsBeginning a b (front ++ rest)
 begins_whole a b front rest h =
     let more : (h.0 ++ (b.held ++ h.1)) ++ rest ≡ h.0 ++ (b.held ++ (h.1 ++ rest)) =
@@ -37,7 +37,7 @@ begins_nothing a b text h = begins_whole a b [] text h
 pub begins_added : (a b : Outflow) (text : List ℕ) → Adds a b text → AddsBeginning a b text
 begins_added a b text h = (h.0, [], h.1, h.2 ∙ ap (λ l. h.0 ++ l) (sym (append-nil b.held)))
 
--- some was written before the text was added, and some behind that
+-- some was written before the text was added, and some after that
 pub adds_between : (a b c d : Outflow) (text : List ℕ) → Adds a b [] → Adds b c text → Adds c d [] → Adds a d text
 adds_between a b c d text h k m = subst (λ l. Adds a d l) (append-nil text) (adds_adds a c d text [] (adds_adds a b c [] text h k) m)
 
@@ -46,7 +46,7 @@ begins_between a b c d text h k m = subst (λ l. AddsBeginning a d l) (append-ni
 
 -- ---- what is held
 
--- a text is put behind it
+-- a text is put after it
 pub adds_held : (written : Option (List ℕ)) (held new text : List ℕ) → new ≡ held ++ text → Adds (outflow_of written held) (outflow_of written new) text
 adds_held written held new text same = ([], appends_none written, sym same)
 
@@ -58,7 +58,7 @@ begins_left written old new h = ([], h.0, appends_none written, append-nil old �
 pub begins_lost : (written : Option (List ℕ)) (held new text : List ℕ) → new ≡ [] → AddsBeginning (outflow_of written held) (outflow_of written new) text
 begins_lost written held new text none = ([], held ++ text, appends_none written, ap (λ l. l ++ (held ++ text)) (sym none))
 
--- a beginning of it was written, and none is held
+-- a prefix of it was written, and none is held
 pub begins_written : (a b : Option (List ℕ)) (held new : List ℕ) → new ≡ [] → AppendsBeginning a b held → AddsBeginning (outflow_of a held) (outflow_of b new) []
 begins_written None b held new none h = ([], held, tt, append-nil held ∙ ap (λ l. l ++ held) (sym none))
 begins_written (Some xs) None held new none h = absurd h
@@ -70,7 +70,7 @@ begins_written (Some xs) (Some ys) held new none h =
 pub ends_written : (a b c : Option (List ℕ)) (held text : List ℕ) → Adds (outflow_of a []) (outflow_of b held) text → Appends b c held → Appends a c text
 ends_written a b c held text h k = subst (λ l. Appends a c l) (sym h.2) (appends_appends a b c h.0 held h.1 k)
 
--- or a beginning of it
+-- or a prefix of it
 pub ends_begun : (a b c : Option (List ℕ)) (held text : List ℕ) → AddsBeginning (outflow_of a []) (outflow_of b held) text → AppendsBeginning b c held → AppendsBeginning a c text
 ends_begun a b c held text h k = subst (λ l. AppendsBeginning a c l) (sym h.3) (begins_more a b c h.0 (held ++ h.1) h.2 (begins_front b c held h.1 k))
 

@@ -50,7 +50,7 @@ no_payload (Some p) (Some n) None stamp = refl
 no_payload (Some p) (Some n) (Some h) None = refl
 no_payload (Some p) (Some n) (Some h) (Some s) = refl
 
--- so the words behind the stamp need no search for a space
+-- so the words after the stamp need no search for a space
 pub take_words : (peer number hop stamp text : List ℕ) → take_in (peer ∷ number ∷ hop ∷ stamp ∷ words_of text) ≡ take_in (peer ∷ number ∷ hop ∷ stamp ∷ text ∷ [])
 take_words peer number hop stamp text = by (position (λ b. b == 32) text) refl where
   by : (o : Option ℕ) → position (λ b. b == 32) text ≡ o → take_in (peer ∷ number ∷ hop ∷ stamp ∷ words_of text) ≡ take_in (peer ∷ number ∷ hop ∷ stamp ∷ text ∷ [])

@@ -34,6 +34,6 @@ told_begun first now next slots answers slot left rest so_far begun =
     rw so_far.whole (adds_begins first now next so_far.told (slot_text slot rest ++ round_text left (answers_behind slot rest)) so_far.added
     (begins_whole now next (slot_text slot rest) (round_text left (answers_behind slot rest)) begun))
 
--- from an index on stands the slot there, and then what is behind it
+-- from an index on stands the slot there, and then what is after it
 pub next_slot : (slots : Slots) (i : ℕ) (d : Option Subject) → i < length slots → drop i slots ≡ get_or slots i d ∷ drop (i + 1) slots
 next_slot slots i d h = rw add-one (drop-cons slots i d h)

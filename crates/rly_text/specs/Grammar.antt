@@ -50,7 +50,7 @@ hop_in word = do
   id ← id_in word
   Some (record { 0 = id })
 
--- the bytes of a payload: none behind a dash, else those of pairs of hexadecimal digits, one pair at least
+-- the bytes of a payload: none after a dash, else those of pairs of hexadecimal digits, one pair at least
 abbrev pub payload_in : List ℕ → Option (List ℕ)
 payload_in word =
     if bytes_eq word (codes "-") then Some []

@@ -13,7 +13,7 @@ AnswersLine false (Some xs) (Some ys) old new s t = (xs ≡ []) × Adds old new 
 AnswersLine true (Some xs) (Some ys) old new s t = (reply : List ℕ) × Adds old new reply
     × (text_for s xs ≡ reply ++ text_for t ys)
 
--- where that stops early, a beginning of the text was added
+-- where that stops early, a prefix of the text was added
 abbrev pub BeginsAnswer : Option (List ℕ) → Outflow → Outflow → ByteState → Type 0
 BeginsAnswer left old new s = IfSome left (λ xs. AddsBeginning old new (text_for s xs))
 

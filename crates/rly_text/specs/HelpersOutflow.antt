@@ -1,4 +1,4 @@
--- What becomes of reply text: it is held back, and written in front of what is held. Nothing here is claimed: it lies
+-- What becomes of reply text: it is held back, and written before what is held. Nothing here is claimed: it lies
 -- between the text of a command (Text, Playing) and what its writer is given.
 use Rattle.std.specs.Prelude.{◌≡◌, ℕ, List, ◌++◌, Option}
 use Rattle.std.specs.Io.KnownBytes.{Appends}
@@ -15,7 +15,7 @@ outflow_of written held = record { written = written; held = held }
 abbrev pub Adds : Outflow → Outflow → List ℕ → Type 0
 Adds old new text = (moved : List ℕ) × Appends old.written new.written moved × (old.held ++ text ≡ moved ++ new.held)
 
--- a beginning of it was
+-- a prefix of it was
 abbrev pub AddsBeginning : Outflow → Outflow → List ℕ → Type 0
 AddsBeginning old new text = (moved rest : List ℕ) × Appends old.written new.written moved
     × (old.held ++ text ≡ moved ++ (new.held ++ rest))

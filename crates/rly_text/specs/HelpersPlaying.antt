@@ -24,7 +24,7 @@ AddsPlay batch state j k None old new = ⊤
 AddsPlay batch state j k (Some xs) old new = (text : List ℕ) × Plays batch state j k (lines_of xs) text
     × Adds old new text
 
--- the first of them were played, and a beginning of their text was added
+-- the first of them were played, and a prefix of their text was added
 abbrev pub BeginsPlay : {D : Type 0} → ℕ → (D → DiskState) → JournalState D → JournalState D
     → Option (List ℕ) → Outflow → Outflow → Type 0
 BeginsPlay batch state j k None old new = ⊤
@@ -62,7 +62,7 @@ slot_text None answers = refusal_line Line ++ 10 ∷ []
 slot_text (Some subject) [] = []
 slot_text (Some subject) (answer ∷ answers) = reply_text subject answer.reply ++ 10 ∷ []
 
--- the answers that are left for the lines behind it
+-- the answers that are left for the lines after it
 abbrev pub answers_behind : Option Subject → List Answer → List Answer
 answers_behind None answers = answers
 answers_behind (Some subject) [] = []
@@ -91,7 +91,7 @@ pub record IsReady (batch : Batch) : Type 0 where
   pub calls : batch.calls.items ≡ []
   pub answers : batch.answers.items ≡ []
 
--- what a line asked stands behind what those before it asked
+-- what a line asked stands after what those before it asked
 pub record IsPut (asked : Option Ask) (old new : Batch) : Type 0 where
   pub slots : new.slots.items ≡ old.slots.items ++ subject_in asked ∷ []
   pub asks : asks_of new.calls.items ≡ asks_of old.calls.items ++ asks_in (asked ∷ [])

@@ -33,7 +33,7 @@ abbrev pub served_text : List ServedLine → List ℕ
 served_text [] = []
 served_text (first ∷ more) = reply_line first.0 first.1 ++ 10 ∷ served_text more
 
--- the state behind a line: a refusal of the journal leaves it
+-- the state after a line: a refusal of the journal leaves it
 abbrev pub state_behind : ByteState → Option Ask → Reply → ByteState
 state_behind s None reply = s
 state_behind s (Some ask) reply = if is_failure reply then s else (ask_step s ask).0
@@ -67,7 +67,7 @@ pub record PlayGoesOn {D : Type 0} (state : D → DiskState) (old new : JournalS
   pub calm : (state new.disk).failures ≡ (state old.disk).failures
 
 -- the device failed: the lines before that round were served, those of the round, no more than a round has, may or may
--- not stand, and the journal is broken for all behind them
+-- not stand, and the journal is broken for all after them
 pub record PlayBreaks {D : Type 0} (batch : ℕ) (state : D → DiskState) (old new : JournalState D)
     (told : List ServedLine) : Type 0 where
   pub running : old.broken ≡ false
@@ -117,7 +117,7 @@ PlaysAll batch state j k None old new = ⊤
 PlaysAll batch state j k (Some xs) old new = (text : List ℕ) × Plays batch state j k (lines_of xs) text
     × Appends old new text
 
--- the first of them were played, and a beginning of their text was written
+-- the first of them were played, and a prefix of their text was written
 abbrev pub PlaysFront : {D : Type 0} → ℕ → (D → DiskState) → JournalState D → JournalState D
     → Option (List ℕ) → Option (List ℕ) → Option (List ℕ) → Type 0
 PlaysFront batch state j k None old new = ⊤

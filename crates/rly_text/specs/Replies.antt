@@ -44,7 +44,7 @@ abbrev pub status_text : HopId → HopStatus → List ℕ
 status_text hop s = codes "hop " ++ decimal hop.0 ++ counts_text s ++ discards_text s.codel
     ++ codes " moment " ++ decimal s.moment
 
--- ids, each behind a space
+-- ids, each after a space
 unfoldable pub ids_text : List ℕ → List ℕ
 ids_text ids = flat_map (λ id. 32 ∷ decimal id) ids
 

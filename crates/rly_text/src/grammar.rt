@@ -23,7 +23,7 @@ pub fn parse_line(alloc: Global, line: &[u8]) -> Result<Option<Ask>, AllocError>
     parse_words(alloc, verb, args)
 }
 
-/// What a verb and the words behind it ask.
+/// What a verb and the words after it ask.
 fn parse_words(alloc: Global, verb: &[u8], args: &[u8]) -> Result<Option<Ask>, AllocError>
     ensures { IfOk result (λ ask. ask ≡ ask_in_words (verb.now ∷ words_of args.now)) }
 {
@@ -157,7 +157,7 @@ fn parse_hop_and_number(args: &[u8]) -> Option<(HopId, u64)>
     Some((parse_hop(hop)?, parse_number(number)?))
 }
 
-/// The first word of a text and what stands behind its space, if it has one.
+/// The first word of a text and what stands after its space, if it has one.
 fn cut(text: &[u8]) -> Option<(&[u8], &[u8])>
     ensures { MatchOption result (words_of text.now ≡ text.now ∷ []) (λ parts. words_of text.now ≡ parts.0.now ∷ words_of parts.1.now) }
 {

@@ -100,7 +100,7 @@ impl Batch {
         Ok(true)
     }
 
-    /// Puts what a line asks behind the lines that are there.
+    /// Puts what a line asks after the lines that are there.
     fn put(&mut self, ask: Option<Ask>) -> Result<(), AllocError>
         ensures put { OnOk result (IsPut ask self.old self.new) }
         ensures answers { self.new.answers ≡ self.old.answers }

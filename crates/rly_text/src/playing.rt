@@ -29,7 +29,7 @@ pub fn play<D: Disk, R: Read, W: Write>(
     // What is written is the text of what is read.
     ensures written { OnOk result (PlaysAll batch D.state journal.old journal.new
         (R.remaining reader.old) (W.contents writer.old) (W.contents writer.new)) }
-    // Where it stops early, a beginning of such a text was written.
+    // Where it stops early, a prefix of such a text was written.
     ensures begun { OnErr result (PlaysFront batch D.state journal.old journal.new
         (R.remaining reader.old) (W.contents writer.old) (W.contents writer.new)) }
 {

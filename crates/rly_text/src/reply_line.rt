@@ -111,7 +111,7 @@ impl fmt::Display for Dropped<'_> {
     }
 }
 
-/// Ids, each behind a space.
+/// Ids, each after a space.
 #[derive(Drop)]
 struct SpacedIds<'a> {
     ids: &'a [u64],

@@ -29,7 +29,7 @@ pub fn sim<R: Read, W: Write>(
     // What is written is the text of what is read.
     ensures written { OnOk result (IfSome (R.remaining reader.old) (λ input.
         Appends (W.contents writer.old) (W.contents writer.new) (text_for (new_state params) input))) }
-    // Where it stops early, a beginning of that text was written.
+    // Where it stops early, a prefix of that text was written.
     ensures begun { OnErr result (IfSome (R.remaining reader.old) (λ input.
         AppendsBeginning (W.contents writer.old) (W.contents writer.new) (text_for (new_state params) input))) }
 {

@@ -61,7 +61,7 @@ pub(super) fn takes(alloc: Global, count: u64, bytes: usize) -> Result<String, F
     Ok(text)
 }
 
-/// Checks what `sim` writes behind the replies to such takes.
+/// Checks what `sim` writes after the replies to such takes.
 fn expect_behind(
     rt: &(impl Abort + AllocGlobal),
     params: Params,
@@ -75,7 +75,7 @@ fn expect_behind(
     expect(rt, params, text.as_str(), expected.as_str())
 }
 
-/// The reply lines of such takes, and what stands behind them.
+/// The reply lines of such takes, and what stands after them.
 pub(super) fn behind_taken(alloc: Global, count: u64, output: &str) -> Result<String, Fail> {
     let mut expected = String::new(alloc);
     for id in 1..=count {

@@ -94,7 +94,7 @@ impl Write for Full {
     }
 }
 
-/// Checks that `sim` answers the first line alone, since its reader fails behind it.
+/// Checks that `sim` answers the first line alone, since its reader fails after it.
 fn expect_first<R: Read>(rt: &(impl Abort + AllocGlobal), reader: &mut R) {
     let mut written = Vec::new(rt.alloc());
     let outcome = sim(rt.alloc(), Params::DEFAULT, reader, &mut written);
@@ -154,7 +154,7 @@ fn a_failed_write_ends_with_a_beginning(rt: HostRuntime) -> Result<(), Fail> {
     Ok(())
 }
 
-/// Lines of as many digits as a command may have bytes, of one more, and of many more, and a command behind them.
+/// Lines of as many digits as a command may have bytes, of one more, and of many more, and a command after them.
 fn long_lines(alloc: Global) -> Result<String, AllocError> {
     let mut text = String::new(alloc);
     for length in [4_096, 4_097, 150_000] {

@@ -8,7 +8,7 @@ pub none_left : {P : Type 0} (left : List P) → length left ≡ 0 → left ≡ 
 none_left [] none = refl
 none_left (p ∷ left) none = absurd (omega (arith, none))
 
--- the items in front of those that are left have something each, so far
+-- the items before those that are left have something each, so far
 pub record Each {P H : Type 0} (Has : P → H → Type 0) (all left : List P) (had : List H) : Type 0 where
   pub done : List P
   pub whole : all ≡ done ++ left

@@ -51,7 +51,7 @@ either_way {P} len s command (Some reply) accepted is M refused may =
     ] refl in
     subst (λ (r : State P × Reply). M r.0 r.1) (sym is) (refused reply refuses)
 
--- ---- one row behind another
+-- ---- one row after another
 
 pub taken_append : {P : Type 0} (len : P → ℕ) (peer : PeerId) (s : State P) (front back : List (Command P))
     → taken len peer s (front ++ back) ≡ taken len peer s front ++ taken len peer (fold len s front) back
@@ -175,7 +175,7 @@ takes_step {P} len s (Release to number) peer there =
     (λ reply refuses. takes_none {P = P} (last_at s peer) (last_at s peer) refl)
     (λ none. takes_none {P = P} (last_at s peer) (last_at s peer) refl)
 
--- an element of two lists, one behind the other
+-- an element of two lists, one after the other
 pub in_either : {X : Type 0} (xs ys : List X) (k : ℕ) (x : X) → slice_get (xs ++ ys) k ≡ Some x
     → (slice_get xs k ≡ Some x) ⊎ ((length xs ≤ k) × (slice_get ys (k - length xs) ≡ Some x))
 in_either {X} xs ys k x found =
@@ -315,7 +315,7 @@ flows_released {P} h count within =
       numbered = λ k x found. absurd (omega (arith, slice_get_within [] k x found));
     }
 
--- what a pick put into flight at its own hop: what is left behind those dropped, if anything is
+-- what a pick put into flight at its own hop: what is left after those dropped, if anything is
 picked_of : {P : Type 0} → ℕ → List (Item P) → List (Numbered P)
 picked_of number [] = []
 picked_of number (item ∷ behind) = (record { number = number; payload = item.payload }) ∷ []

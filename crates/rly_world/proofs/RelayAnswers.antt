@@ -100,7 +100,7 @@ asked_none (call ∷ calls) (answer ∷ given) none =
     ap (λ l. l ++ accepted_of (zip calls given)) (none_asked call.ask answer.reply parts.0)
     ∙ asked_none calls given parts.1
 
--- the calls behind a batch are no more than with it
+-- the calls after a batch are no more than with it
 pub fewer_calls : (batch : Batch) (batches : List Batch)
     → length (calls_of batches) ≤ length (calls_of (batch ∷ batches))
 fewer_calls batch batches = omega (arith, length-append batch (calls_of batches))

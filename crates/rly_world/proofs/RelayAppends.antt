@@ -49,7 +49,7 @@ both_run w phase x events new may needed rest = (
   (after_both w phase x, inl (may.then_sync needed, refl), rest),
 )
 
--- the standing is the same behind a body that was written
+-- the standing is the same after a body that was written
 body_stands : (w : World) (batches : List Batch) (answers : List Answer) (x : Standing)
     → IsHeld (in_phase w Body batches answers) → IsStanding w.device.synced x
     → IsStanding (seen_of (asked_of w.device (own_write Body x (logged w)))) x

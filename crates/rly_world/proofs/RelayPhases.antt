@@ -310,7 +310,7 @@ pub gate_next : (x : Standing) (commands : Commands) (old seen : List ℕ) → I
 gate_next x commands old seen stands begins left done =
     appended_whole x commands begins.0 stands (gate_appended x commands begins.0 stands begins.1 left) done
 
--- a write in the range leaves a phase's image, and so do the bytes read behind it
+-- a write in the range leaves a phase's image, and so do the bytes read after it
 pub phase_torn : (phase : Phase) (x : Standing) (commands : Commands) (old seen d image : List ℕ) (place n : ℕ)
     → place_of phase x ≤ place
     → place + n ≤ place_of phase x + length (bytes_of phase x commands) → IsNeeded phase x seen

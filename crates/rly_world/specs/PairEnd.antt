@@ -96,7 +96,7 @@ after_call e ask outcome = record e { accepted = accepted_after e ask outcome; h
 abbrev pub with_told : End → Reply → ℕ → End
 with_told e reply position = record e { told = if is_failure reply then e.told else max e.told position }
 
--- a core asks calls, which wait behind those asked before
+-- a core asks calls, which wait after those asked before
 abbrev pub with_asked : End → ℕ → List Ask → End
 with_asked e core asks = record e { asked = e.asked ++ map (λ ask. record { core = core; ask = ask }) asks }
 

@@ -32,7 +32,7 @@ taken len peer s [] = []
 taken len peer s (command ∷ commands) =
     taken_by peer command (step len s command).1 ++ taken len peer (step len s command).0 commands
 
--- what a command put into the flight of a hop, by its reply: the first that waits behind those dropped
+-- what a command put into the flight of a hop, by its reply: the first that waits after those dropped
 abbrev pub picked_by : {P : Type 0} → HopId → HopState P → Command P → Reply → List (Numbered P)
 picked_by hop h (Pick to now) (Picked number id dropped) =
     if to.0 == hop.0

@@ -55,7 +55,7 @@ pub record MaySync (phase : Phase) (device : Device) (commands : Commands) : Typ
   pub stands : IsStanding device.synced x
   pub done : IsDone phase x commands (seen_of device)
 
--- the largest group has no room behind the first closed gate
+-- the largest group has no room after the first closed gate
 abbrev pub IsDueIn : List ℕ → Type 0
 IsDueIn image =
     (x : Standing) × IsStanding image x × IsDue x.geometry (gate_of x - segment_place x.geometry x.segment)

@@ -44,8 +44,8 @@ asked_of device (FailedWrite place bytes left) =
     record device { since = device.since ++ FailedWrite place bytes left ∷ [] }
 asked_of device FailedSync = record device { since = device.since ++ FailedSync ∷ [] }
 
--- the phases of a round: a segment is opened by closing its gate, writing a head behind it and opening the gate; the
--- commands are appended by writing a body behind the next gate and opening that
+-- the phases of a round: a segment is opened by closing its gate, writing a head after it and opening the gate; the
+-- commands are appended by writing a body after the next gate and opening that
 pub data Phase : Type 0 where
   Seal : (segment : ℕ) → Phase
   Head : (segment : ℕ) → Phase

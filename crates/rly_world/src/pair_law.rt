@@ -52,7 +52,7 @@ pub fn law_fetch()
 {}
 
 /// Two relays, both new at first, over any list of events. What the lower has taken from the upper, in order and with its
-/// numbers, is the beginning of what the upper has picked for it and no crash takes away. And the upper has released no
+/// numbers, is a prefix of what the upper has picked for it and no crash takes away. And the upper has released no
 /// more than the lower has taken and no crash takes away.
 pub fn law_two()
     ensures order { (setup : PairSetup) (events : List PairEvent) → IsPair setup

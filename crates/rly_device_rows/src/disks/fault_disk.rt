@@ -70,7 +70,7 @@ fn expect_torn(rt: &impl Abort, disk: &MemDisk, image: &[u8; 4]) {
     expect!(rt; !disk.is_image(&[8, image[1], image[2], 9]));
 }
 
-/// Fails in a write of 1 and 2 at place 1 of a disk of nines, and crashes behind the first byte of it.
+/// Fails in a write of 1 and 2 at place 1 of a disk of nines, and crashes after the first byte of it.
 fn expect_torn_write(
     rt: &impl Abort,
     alloc: Global,

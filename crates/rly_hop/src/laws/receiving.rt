@@ -12,7 +12,7 @@ use crate::receiving::{InAction, InEvent, TakeAnswer};
 
 /// After any events a receiving core sends custody of all numbers up to n from its own station to its peer station, and
 /// only on an answer to a Take: Taken, where n is the number of the last Take that it named, Already n, or the gap right
-/// behind n.
+/// after n.
 pub fn law_custody_follows_an_answer()
     ensures { (own peer from to : StationId) (before : List (InEvent (List ℕ))) (event : InEvent (List ℕ)) (n : ℕ) →
         in_action_after own peer before event ≡ Some (InAction.Send (Message.Custody from to n)) →
@@ -36,7 +36,7 @@ pub fn law_take_follows_data()
         event ≡ InEvent.Heard (Message.Data peer own n payload) }
 {}
 
-/// A receiving core names at most one action an event, and behind a Take none until an answer comes.
+/// A receiving core names at most one action an event, and after a Take none until an answer comes.
 pub fn law_nothing_is_named_while_an_answer_is_due()
     ensures one { (own peer : StationId) (events : List (InEvent (List ℕ))) → length (in_actions (receiver own peer) events) ≡ length events }
     ensures none { (own peer : StationId) (before heard : List (InEvent (List ℕ))) (event : InEvent (List ℕ)) (n : ℕ) (payload : List ℕ) →

@@ -38,7 +38,7 @@ pub fn law_data_is_what_was_fetched()
         IsGiven before n }
 {}
 
-/// After any events the cursor of a sending core lies in the flight that it knows or right behind it, and what it knows to
+/// After any events the cursor of a sending core lies in the flight that it knows or right after it, and what it knows to
 /// be acknowledged lies in that flight.
 pub fn law_cursor_is_in_order()
     ensures { (own hop : StationId) (window : ℕ) (events : List (OutEvent (List ℕ))) → IsInOrder (sender_after (sender own hop window) events) }

@@ -3,7 +3,7 @@ use Rattle.std.specs.Vec.Iter.{into_iter_items}
 use Rattle.rly_daemon.specs.Serving.{duties, duty_at, duty_of}
 use Rattle.rly_daemon.proofs.serving.posts_of.Given as goal
 
--- the workers so far, in front of those that are left
+-- the workers so far, before those that are left
 abbrev pub invariant-loop-worker : goal.invariant-loop-worker
 invariant-loop-worker g l =
     map duty_at l.posts.items ++ map (duty_of l.fn.plan l.fn.turns) (into_iter_items l.worker-iterator)

@@ -4,7 +4,7 @@ use Rattle.std.specs.Vec.Iter.{into_iter_items}
 use Rattle.rly_plan.specs.Passes.{all_adjacent, are_apart, contact_in_range, hop_from}
 use Rattle.rly_plan.proofs.plan.settled_hops.Given as goal
 
--- the hops so far, in front of those that the drafts left are
+-- the hops so far, before those that the drafts left are
 abbrev pub invariant-loop-draft : goal.invariant-loop-draft
 invariant-loop-draft l = record {
   made : l.hops.items ++ map hop_from (into_iter_items l.draft-iterator) ≡ map hop_from l.fn.drafts.items;

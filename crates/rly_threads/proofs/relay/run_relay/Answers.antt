@@ -4,7 +4,7 @@ use Rattle.rly_flush.specs.Flushing.{IsServed, new_flusher}
 use Rattle.rly_threads.specs.Relay.{new_end}
 use Rattle.rly_threads.proofs.relay.run_relay.Goals as goal
 
--- what the closure requires, and behind it that the links and the turns may be sent and the runtime shared
+-- what the closure requires, and after it that the links and the turns may be sent and the runtime shared
 pub scoped-requires : goal.scoped-requires
 scoped-requires g c =
     let workers : c.len-workers.result ≡ length c.args.posts.items = search rules in
