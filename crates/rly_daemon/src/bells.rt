@@ -11,14 +11,17 @@ use std::io::ErrorKind;
 use std::net::{Net, SocketAddr, ToSocketAddrs, UdpSocket};
 use std::sync::atomic::{AtomicU64, Ordering};
 
-/// No wait is under way, and the bell wasn't rung since the last one ended.
-const QUIET: u64 = 0;
+/// The hop's sender asked nothing since its last wait, as where no contact is open: nothing is there to wake it for.
+const IDLE: u64 = 0;
 
-/// A wait is under way.
-const WAITING: u64 = 1;
+/// It asked something since its last wait, so that what is taken from now on may find it waiting.
+const LISTENING: u64 = 1;
 
-/// The bell was rung since the last wait ended, or within the one that is under way.
-const RUNG: u64 = 2;
+/// The same, and it waits.
+const WAITING: u64 = 2;
+
+/// The bell was rung since it asked.
+const RUNG: u64 = 3;
 
 /// A bell for each hop of a plan.
 #[derive(Drop)]
@@ -43,17 +46,25 @@ impl Bells {
         Ok(Bells { bells })
     }
 
-    /// Ends the wait of a hop's link that is under way, or else the next one.
+    /// A datagram was taken for a hop: if the hop's sender asked something since its last wait, the wait that is under way
+    /// ends, or else the next one.
     pub(crate) fn ring(&self, hop: HopId) {
         if let Some(bell) = self.at(hop) {
             bell.ring();
         }
     }
 
-    /// A hop's link is about to wait. Whether it may: not if its bell was rung since its last wait ended.
+    /// A hop's sender is about to ask something.
+    pub(crate) fn listen(&self, hop: HopId) {
+        if let Some(bell) = self.at(hop) {
+            bell.state.store(LISTENING, Ordering::SeqCst);
+        }
+    }
+
+    /// A hop's link is about to wait. Whether it may: not if its bell was rung.
     pub(crate) fn begin_wait(&self, hop: HopId) -> bool {
         match self.at(hop) {
-            Some(bell) => bell.state.swap(WAITING, Ordering::SeqCst) != RUNG,
+            Some(bell) => bell.is_idle() || bell.state.swap(WAITING, Ordering::SeqCst) != RUNG,
             None => true,
         }
     }
@@ -61,7 +72,7 @@ impl Bells {
     /// A hop's link waits no more.
     pub(crate) fn end_wait(&self, hop: HopId) {
         if let Some(bell) = self.at(hop) {
-            bell.state.store(QUIET, Ordering::SeqCst);
+            bell.state.store(IDLE, Ordering::SeqCst);
         }
     }
 
@@ -94,13 +105,19 @@ impl Bell {
         Ok(Bell {
             socket,
             address,
-            state: AtomicU64::new(QUIET),
+            state: AtomicU64::new(IDLE),
         })
     }
 
-    /// Whoever finds that the link waits sends the packet that ends the wait. Else the link finds that the bell was rung.
+    /// Whether there is nothing to wake the sender for.
+    fn is_idle(&self) -> bool {
+        self.state.load(Ordering::SeqCst) == IDLE
+    }
+
+    /// Whoever finds that the link waits sends the packet that ends the wait. Else the link finds that the bell was rung. A
+    /// sender that is idle sees what was taken before it asks the next time.
     fn ring(&self) {
-        if self.state.swap(RUNG, Ordering::SeqCst) == WAITING {
+        if !self.is_idle() && self.state.swap(RUNG, Ordering::SeqCst) == WAITING {
             let _lost = self.socket.send_to(b"", self.address);
         }
     }

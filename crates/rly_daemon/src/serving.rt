@@ -18,7 +18,7 @@ use rly_core::{HopId, Params, PeerId, Refusal};
 use rly_disk::Disk;
 use rly_journal::Journal;
 use rly_plan::{Addresses, Plan, law_plan_is_sound};
-use rly_threads::{LinkFault, Post, Relayed, Worker, run_relay};
+use rly_threads::{Post, Relayed, Worker, run_relay};
 use std::alloc::{AllocError, Global};
 use std::fs;
 use std::fs::{File, Files};
@@ -126,7 +126,7 @@ fn posts_of<'a, H: AllocGlobal + Net + Clock>(
     };
     let mut posts = Vec::new(rt.alloc());
     for worker in workers_of(rt.alloc(), plan)? {
-        let post = post_of(rt, plan, worker, turns, bells.clone()?)?;
+        let post = post_of(rt, plan, worker, turns, &bells)?;
         if posts.push(post).is_err() {
             return Err(AllocError.into());
         }
@@ -134,34 +134,27 @@ fn posts_of<'a, H: AllocGlobal + Net + Clock>(
     Ok(posts)
 }
 
-/// A worker of a plan, with its link and its turns. A receiver rings the bells, and a sender's link has the bell of its hop.
-/// A worker whose neighbour isn't in the plan has no link.
+/// A worker of a plan, with its link and its turns. Its turns tell the bells, and a sender's link has the bell of its hop. A
+/// worker whose neighbour isn't in the plan has no link.
 fn post_of<'a, H: Net + Clock>(
     rt: &'a H,
     plan: &Plan,
     worker: Worker,
     turns: u64,
-    bells: Arc<Bells, Global>,
-) -> Result<UdpPost<'a, H>, LinkFault>
+    bells: &Arc<Bells, Global>,
+) -> Result<UdpPost<'a, H>, ServeFault>
     ensures { IfOk result (λ post. duty_at post ≡ duty_of plan.now turns worker) }
 {
     let Some(addresses) = addresses_of(plan, worker) else {
-        return Err(LinkFault);
+        return Err(ServeFault::Link);
     };
     let link = UdpLink::open(rt, rt, addresses)?;
-    let turn = WallClock::new(rt, turns);
-    Ok(match worker {
-        Worker::Receiver(_) => Post {
-            worker,
-            link,
-            turn: turn.with_bells(bells),
-        },
-        Worker::Sender(hop) => Post {
-            worker,
-            link: link.with_bell(bells, hop),
-            turn,
-        },
-    })
+    let link = match worker {
+        Worker::Receiver(_) => link,
+        Worker::Sender(hop) => link.with_bell(bells.clone()?, hop),
+    };
+    let turn = WallClock::new(rt, turns).with_bells(bells.clone()?);
+    Ok(Post { worker, link, turn })
 }
 
 /// The addresses of a worker's link.

@@ -117,6 +117,20 @@ impl<C: Clock + Drop> UdpLink<C> {
         }
     }
 
+    /// Sends, and waits for room in the system's buffer, so that a slow link isn't taken for one that loses packets. The
+    /// system is told to wait only where there is no room.
+    fn send_waiting(&mut self, packet: &[u8]) -> io::Result<usize>
+        ensures { self.new ≡ record self.old { waits = self.new.waits } }
+    {
+        match self.socket.send_to(packet, self.remote) {
+            Err(error) if error.kind() == ErrorKind::WouldBlock => {
+                self.set_waits(true)?;
+                self.socket.send_to(packet, self.remote)
+            }
+            outcome => outcome,
+        }
+    }
+
     /// Counts a call that failed.
     fn fail(&mut self) -> LinkFault
         ensures { FailuresRose self.old.failures self.new.failures }
@@ -169,11 +183,10 @@ impl<C: Clock + Drop> Link for UdpLink<C> {
         ensures no_failure { OnOk result (self.new.failures ≡ self.old.failures) }
         ensures spent { self.old.failures ≡ 2 ^ 64 - 1 → IsErr result }
     {
-        // A send waits for room in the system's buffer, so that a slow link isn't taken for one that loses packets.
-        if self.is_spent() || self.set_waits(true).is_err() {
+        if self.is_spent() {
             return Err(self.fail());
         }
-        match self.socket.send_to(packet, self.remote) {
+        match self.send_waiting(packet) {
             Ok(_) => Ok(()),
             Err(_) => Err(self.fail()),
         }

@@ -11,7 +11,7 @@ use std::sync::{Arc, Wait};
 use std::time::{Clock, Duration};
 
 /// A turn that hands its worker the wall clock, and microseconds of a clock that never falls. It ends the worker after a
-/// number of turns, and rings the bell of each hop that it is told of.
+/// number of turns, and tells the bells of the hops what its worker comes to.
 #[derive(Drop)]
 pub struct WallClock<C: Clock + Drop> {
     clock: C,
@@ -41,7 +41,7 @@ impl<C: Clock + Drop> WallClock<C> {
         }
     }
 
-    /// The same with the bells of the hops, for a worker that takes datagrams.
+    /// The same with the bells of the hops.
     pub(crate) fn with_bells(mut self, bells: Arc<Bells, Global>) -> WallClock<C>
         ensures { result ≡ record self { bells = result.bells } }
     {
@@ -49,10 +49,15 @@ impl<C: Clock + Drop> WallClock<C> {
         self
     }
 
-    /// Rings the bell of the hop that a datagram was taken for.
-    fn ring(&self, point: Point) {
-        if let (Point::Taken(hop), Some(bells)) = (point, &self.bells) {
-            bells.ring(hop);
+    /// Rings the bell of the hop that a datagram was taken for. The bell of a sender that asks something listens.
+    fn tell_bells(&self, worker: Worker, point: Point) {
+        let Some(bells) = &self.bells else {
+            return;
+        };
+        match (worker, point) {
+            (Worker::Sender(hop), Point::Call) => bells.listen(hop),
+            (_, Point::Taken(hop)) => bells.ring(hop),
+            _ => {}
         }
     }
 
@@ -120,7 +125,7 @@ impl<C: Clock + Drop> Turn for WallClock<C> {
         ensures tells { TellsMore (endless_tells self.old.left self.old.handed) (endless_tells self.new.left self.new.handed) ((worker, point, result) ∷ []) }
     {
         let _ = rt;
-        self.ring(point);
+        self.tell_bells(worker, point);
         let go = self.go(point);
         self.handed = self.handed.and(&(worker, point), &go);
         go
