@@ -54,10 +54,14 @@ impl<C: Clock + Drop> WallClock<C> {
         let Some(bells) = &self.bells else {
             return;
         };
-        match (worker, point) {
-            (Worker::Sender(hop), Point::Call) => bells.listen(hop),
-            (_, Point::Taken(hop)) => bells.ring(hop),
-            _ => {}
+        match point {
+            Point::Taken(hop) => bells.ring(hop),
+            Point::Call => {
+                if let Worker::Sender(hop) = worker {
+                    bells.listen(hop);
+                }
+            }
+            Point::Start | Point::Heard | Point::Answered => {}
         }
     }
 
