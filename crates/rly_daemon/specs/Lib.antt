@@ -1,3 +1,4 @@
+pub mod Faults
 pub mod FileDisk
 pub mod Formatting
 pub mod WallClock

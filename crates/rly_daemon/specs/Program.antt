@@ -1,29 +1,25 @@
 -- What a run of the program leaves, by what its command line asks (docs/COMMANDS.md).
-use Rattle.std.specs.Prelude.{◌≡◌, ℕ, ◌≤◌, List, [], ◌∷◌, ◌++◌, IfSome, max, min, Option, false, true, codes}
+use Rattle.std.specs.Prelude.{◌≡◌, ℕ, ◌≤◌, List, [], ◌∷◌, ◌++◌, length, IfSome, max, min, Bool, Option, false, true, codes}
 use Rattle.std.specs.Fmt.{decimal}
-use Rattle.std.specs.Io.KnownBytes.{Appends, Keeps}
+use Rattle.std.specs.Io.KnownBytes.{Appends}
 use Rattle.rly_audit.specs.Report.{balances, books_of, report_of}
-use Rattle.rly_audit.specs.declared.fault.AuditFault.{AuditFault}
-use Rattle.rly_audit.specs.declared.fault.AuditFault.TheVariants as audit
 use Rattle.rly_core.specs.Limits.{IsWithinLimits}
+use Rattle.rly_core.specs.declared.params.Geometry.{Geometry}
+use Rattle.rly_flush.specs.Flushing.{IsServed, new_flusher}
+use Rattle.rly_line.specs.Submission.{LineId}
+use Rattle.rly_plan.specs.ContactPlan.{ContactPlan}
+use Rattle.rly_threads.specs.Relay.{new_end}
 use Rattle.rly_journal.specs.Journal.{JournalState}
 use Rattle.rly_machine.specs.State.{State, new_state}
 use Rattle.rly_segment.specs.Device.{IsGeometry, device_length}
 use Rattle.rly_settings.specs.declared.given.Settings.{Settings}
 use Rattle.rly_settings.specs.declared.given.Settings.TheVariants.{Sim, Format, Play, Audit, Serve}
 use Rattle.rly_daemon.specs.FileDisk.{file_state}
-use Rattle.rly_daemon.specs.Formatting.{wanted_geometry}
+use Rattle.rly_daemon.specs.Formatting.{HasMade, wanted_geometry}
+use Rattle.rly_daemon.specs.Serving.{HasRoom, ended_line, workers_of}
 use Rattle.rly_text.specs.Playing.{PlaysAll}
 use Rattle.rly_text.specs.Text.{text_for}
 use Rattle.rly_daemon.specs.declared.file_disk.FileDisk.{FileDisk}
-use Rattle.rly_daemon.specs.declared.command_fault.CommandFault.{CommandFault}
-use Rattle.rly_daemon.specs.declared.command_fault.CommandFault.TheVariants.{Text, Refused}
-use Rattle.rly_text.specs.declared.text_fault.TextFault.TheVariants.{Output}
-
--- how the program says that an audit failed
-abbrev pub audit_fault : AuditFault → CommandFault
-audit_fault (audit.Refused refusal) = Refused refusal
-audit_fault audit.Output = Text Output
 
 -- the line that says how many bytes a new device takes
 abbrev pub size_line : ℕ → List ℕ
@@ -47,21 +43,44 @@ pub record HasPlayed (batch : ℕ) (left old new : Option (List ℕ)) : Type 0 w
   pub goes : behind.broken ≡ false
   pub played : PlaysAll (lines_a_round batch) file_state opened behind left old new
 
--- a command that ended well: the reader before and after it, the bytes that there were to read, and those of the
--- writer before and after it
-abbrev pub IsDone : {R : Type 0} → Settings → R → R → Option (List ℕ) → Option (List ℕ) → Option (List ℕ) → Type 0
-IsDone (Sim params) before behind left old new = IsWithinLimits params
-    × IfSome left (λ input. Appends old new (text_for (new_state params) input))
-IsDone (Format file params segments length) before behind left old new = (behind ≡ before)
-    × IsGeometry (wanted_geometry params segments length) (device_length (wanted_geometry params segments length))
-    × Appends old new (size_line (device_length (wanted_geometry params segments length)))
-IsDone (Play file batch) before behind left old new = HasPlayed batch left old new
-IsDone (Audit file) before behind left old new = (behind ≡ before) × HasReport old new
-IsDone (Serve file plan turns) before behind left old new = (behind ≡ before) × Keeps old new × (1 ≤ turns)
+-- a new device was made, and its size told
+pub record HasFormatted (geometry : Geometry) (force : Bool) (old new : Option (List ℕ)) : Type 0 where
+  pub made : HasMade geometry force
+  pub written : Appends old new (size_line (device_length geometry))
+
+-- A plan was served on a device that was opened whole, until its workers had their turns, and the journal is whole after all
+-- rounds. What ended it was told.
+pub record HasServed (turns : ℕ) (new : Option (List ℕ)) : Type 0 where
+  pub plan : ContactPlan
+  pub opened : JournalState FileDisk
+  pub left : JournalState FileDisk
+  pub room : HasRoom plan opened.state.params
+  pub ends : 1 ≤ turns
+  pub begun : opened.broken ≡ false
+  pub whole : left.broken ≡ false
+  pub line : LineId
+  pub served : IsServed file_state (new_flusher opened (new_end line (length (workers_of plan)))) left
+  pub begins : Option (List ℕ)
+  pub told : Appends begins new (ended_line turns)
+
+-- a command that ended well: the reader before and after it, the bytes that there were to read, those of the writer before and
+-- after it, and those of standard error
+abbrev pub IsDone : {R : Type 0} → Settings → R → R → Option (List ℕ) → Option (List ℕ) → Option (List ℕ)
+    → Option (List ℕ) → Option (List ℕ) → Type 0
+IsDone (Sim params) before behind left old new told_old told_new = IsWithinLimits params
+    × IfSome left (λ input. Appends old new (text_for (new_state params) input)) × (told_new ≡ told_old)
+IsDone (Format file params segments length force) before behind left old new told_old told_new = (behind ≡ before)
+    × HasFormatted (wanted_geometry params segments length) force old new × (told_new ≡ told_old)
+IsDone (Play file batch) before behind left old new told_old told_new =
+    HasPlayed batch left old new × (told_new ≡ told_old)
+IsDone (Audit file) before behind left old new told_old told_new =
+    (behind ≡ before) × HasReport old new × (told_new ≡ told_old)
+IsDone (Serve file plan turns) before behind left old new told_old told_new =
+    (behind ≡ before) × (new ≡ old) × HasServed turns told_new
 
 -- the values of a spool or of a device are out of their limits
 abbrev pub IsOutOfLimits : Settings → Type 0
 IsOutOfLimits (Sim params) = ¬ IsWithinLimits params
-IsOutOfLimits (Format file params segments length) =
+IsOutOfLimits (Format file params segments length force) =
     ¬ IsGeometry (wanted_geometry params segments length) (device_length (wanted_geometry params segments length))
 IsOutOfLimits _ = ⊥

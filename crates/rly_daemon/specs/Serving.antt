@@ -1,5 +1,6 @@
 -- What a relay needs of its device, and the workers that it starts.
-use Rattle.std.specs.Prelude.{◌≡◌, ◌⊎◌, ℕ, ◌<◌, ◌≤◌, List, ◌++◌, map, length, Option, None, Some}
+use Rattle.std.specs.Prelude.{◌≡◌, ◌⊎◌, ℕ, ◌<◌, ◌≤◌, List, [], ◌∷◌, ◌++◌, codes, map, length, Option, None, Some}
+use Rattle.std.specs.Fmt.{decimal}
 use Rattle.std.specs.List.{AllZip, range_with_len}
 use Rattle.std.specs.Option.{option_map}
 use Rattle.rly_core.specs.declared.params.Params.{Params}
@@ -38,6 +39,10 @@ workers_of plan = receivers (length plan.peers) ++ senders (length plan.hops)
 abbrev pub addresses_of : ContactPlan → Worker → Option Endpoints
 addresses_of plan (worker.Receiver peer) = option_map (λ n. n.addresses) (peer_at plan peer)
 addresses_of plan (worker.Sender hop) = option_map (λ n. n.addresses) (next_hop_at plan hop)
+
+-- the line that says what ended it
+abbrev pub ended_line : ℕ → List ℕ
+ended_line turns = codes "rly: ended after " ++ decimal turns ++ codes " turns" ++ 10 ∷ []
 
 -- a worker, the addresses of its link, and how many turns it has
 pub record Duty : Type 0 where

@@ -2,9 +2,13 @@
 
 ghost use Rattle.rly_plan.specs.Sound.{IsSoundPlan};
 
+use crate::address_fault::{End, EndFault};
 use crate::command_fault::ServeFault;
+use crate::file_fault::SystemWord;
+use crate::serving::fault_of_link;
 use rly_core::HopId;
 use rly_plan::Plan;
+use rly_threads::Worker;
 use std::alloc::{AllocError, Global};
 use std::io;
 use std::io::ErrorKind;
@@ -37,10 +41,18 @@ impl Bells {
         let mut bells = Vec::new(alloc);
         for index in 0..plan.hop_count() as u16 {
             if let Some(neighbour) = plan.hop(HopId(index + 1)) {
-                let Ok(bell) = Bell::open(net, neighbour.addresses.listen()) else {
-                    return Err(ServeFault::Link);
-                };
-                bells.push(bell).map_err(|_| AllocError)?;
+                let addresses = &neighbour.addresses;
+                match Bell::open(net, addresses.listen()) {
+                    Ok(bell) => bells.push(bell).map_err(|_| AllocError)?,
+                    Err(error) => {
+                        let fault = EndFault {
+                            end: End::Listen,
+                            word: SystemWord(error),
+                        };
+                        let worker = Worker::Sender(HopId(index + 1));
+                        return Err(fault_of_link(alloc, worker, addresses, fault));
+                    }
+                }
             }
         }
         Ok(Bells { bells })

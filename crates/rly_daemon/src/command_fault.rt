@@ -1,63 +1,45 @@
-use rly_audit::AuditFault;
+use crate::address_fault::AddressFault;
+use crate::file_fault::{Cause, FileFault, SystemWord};
 use rly_core::Refusal;
 use rly_text::TextFault;
-use rly_threads::LinkFault;
 use std::alloc::AllocError;
 use thiserror::Error;
 
-/// Why a relay wasn't started, or didn't end well; displays as the line for standard error.
-#[derive(Clone, Copy, Debug, PartialEq, Eq, Error)]
+/// Why a relay wasn't started, or didn't end well; displays as the lines for standard error.
+#[derive(Debug, Drop, Error)]
 pub enum ServeFault {
     /// The plan can't be read, or isn't UTF-8.
-    #[error("rly: plan failed")]
-    Plan,
-    /// A socket refused the addresses of a link.
-    #[error("rly: link failed")]
-    Link,
+    #[error("rly: plan failed\nrly: plan: {0}")]
+    Plan(SystemWord),
+    /// A socket refused an address of a link.
+    #[error("rly: link failed\nrly: {0}")]
+    Link(AddressFault),
     /// There was no thread for a worker.
     #[error("rly: worker failed")]
     Worker,
+    /// Standard error failed, so that what is served wasn't told.
+    #[error("rly: output failed")]
+    Untold,
     /// The plan or the device was refused, or the journal ended broken.
-    #[error("{0}")]
-    Refused(Refusal),
-}
-
-impl From<Refusal> for ServeFault {
-    ghost use Rattle.std.specs.Prelude.{◌≡◌};
-    ghost use Rattle.rly_daemon.specs.declared.command_fault.ServeFault.TheVariants.{Refused};
-
-    ghost from_gives = { λ refusal fault. fault ≡ Refused refusal };
-
-    fn from(refusal: Refusal) -> ServeFault {
-        ServeFault::Refused(refusal)
-    }
+    #[error("{0}{1}")]
+    Refused(Refusal, Cause),
 }
 
 impl From<AllocError> for ServeFault {
     ghost use Rattle.std.specs.Prelude.{◌≡◌};
     ghost use Rattle.rly_core.specs.declared.refusal.Refusal.TheVariants.{OutOfMemory};
     ghost use Rattle.rly_daemon.specs.declared.command_fault.ServeFault.TheVariants.{Refused};
+    ghost use Rattle.rly_daemon.specs.declared.file_fault.Cause.TheVariants.{Told};
 
-    ghost from_gives = { λ _ fault. fault ≡ Refused OutOfMemory };
+    ghost from_gives = { λ _ fault. fault ≡ Refused OutOfMemory Told };
 
     fn from(_refused: AllocError) -> ServeFault {
-        ServeFault::Refused(Refusal::OutOfMemory)
+        ServeFault::Refused(Refusal::OutOfMemory, Cause::Told)
     }
 }
 
-impl From<LinkFault> for ServeFault {
-    ghost use Rattle.std.specs.Prelude.{◌≡◌};
-    ghost use Rattle.rly_daemon.specs.declared.command_fault.ServeFault.TheVariants.{Link};
-
-    ghost from_gives = { λ _ fault. fault ≡ Link };
-
-    fn from(_failed: LinkFault) -> ServeFault {
-        ServeFault::Link
-    }
-}
-
-/// Why a command of the program failed; displays as the line for standard error.
-#[derive(Clone, Copy, Debug, PartialEq, Eq, Error)]
+/// Why a command of the program failed; displays as the lines for standard error.
+#[derive(Debug, Drop, Error)]
 pub(crate) enum CommandFault {
     /// The input, the output or the memory failed.
     #[error("{0}")]
@@ -65,9 +47,12 @@ pub(crate) enum CommandFault {
     /// The relay wasn't started, or didn't end well.
     #[error("{0}")]
     Serve(ServeFault),
+    /// A device to be formatted holds so many live datagrams.
+    #[error("rly: format failed\nrly: device: live datagrams: {0}; --force formats it, and they are lost")]
+    Live(u64),
     /// Something was refused.
-    #[error("{0}")]
-    Refused(Refusal),
+    #[error("{0}{1}")]
+    Refused(Refusal, Cause),
 }
 
 impl From<TextFault> for CommandFault {
@@ -92,27 +77,15 @@ impl From<ServeFault> for CommandFault {
     }
 }
 
-impl From<Refusal> for CommandFault {
+impl From<FileFault> for CommandFault {
     ghost use Rattle.std.specs.Prelude.{◌≡◌};
+    ghost use Rattle.rly_core.specs.declared.refusal.Refusal.TheVariants.{Device};
     ghost use Rattle.rly_daemon.specs.declared.command_fault.CommandFault.TheVariants.{Refused};
+    ghost use Rattle.rly_daemon.specs.declared.file_fault.Cause.TheVariants.{System};
 
-    ghost from_gives = { λ refusal fault. fault ≡ Refused refusal };
+    ghost from_gives = { λ file fault. fault ≡ Refused Device (System file) };
 
-    fn from(refusal: Refusal) -> CommandFault {
-        CommandFault::Refused(refusal)
-    }
-}
-
-impl From<AuditFault> for CommandFault {
-    ghost use Rattle.std.specs.Prelude.{◌≡◌};
-    ghost use Rattle.rly_daemon.specs.Program.{audit_fault};
-
-    ghost from_gives = { λ audit fault. fault ≡ audit_fault audit };
-
-    fn from(audit: AuditFault) -> CommandFault {
-        match audit {
-            AuditFault::Refused(refusal) => CommandFault::Refused(refusal),
-            AuditFault::Output => CommandFault::Text(TextFault::Output),
-        }
+    fn from(file: FileFault) -> CommandFault {
+        CommandFault::Refused(Refusal::Device, Cause::System(file))
     }
 }

@@ -6,17 +6,23 @@
 //! are handed on. This is the edge: only the program and tests call it.
 #![tactic(auto)]
 
+mod address_fault;
 mod bells;
 mod command_fault;
 mod file_disk;
+mod file_fault;
+mod formatting;
 mod geometry;
 mod program;
 mod serving;
 mod udp_link;
 mod wall_clock;
 
+pub use crate::address_fault::{AddressFault, End, EndFault};
 pub use crate::command_fault::ServeFault;
 pub use crate::file_disk::FileDisk;
+pub use crate::file_fault::{Cause, FileFault, FilePart, SystemWord};
+pub use crate::formatting::{UseFault, unused};
 pub use crate::program::{Host, run};
 pub use crate::serving::{UdpRelayed, read_plan, serve};
 pub use crate::udp_link::UdpLink;

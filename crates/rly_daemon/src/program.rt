@@ -1,4 +1,4 @@
-ghost use Rattle.std.specs.Prelude.{◌≡◌, ◌≤◌, ◌↔◌, ◌⊎◌, [], Err, IfErr, IfOk, IfSome, OnOk, false, map};
+ghost use Rattle.std.specs.Prelude.{◌≡◌, ◌≤◌, ◌↔◌, ◌⊎◌, [], Err, IfErr, IfOk, IfSome, IsErr, OnOk, false, map};
 ghost use Rattle.std.specs.Io.KnownBytes.{Appends, Keeps};
 ghost use Rattle.rly_core.specs.Limits.{IsWithinLimits};
 ghost use Rattle.rly_core.specs.declared.refusal.Refusal.{Refusal as ARefusal};
@@ -8,16 +8,22 @@ ghost use Rattle.rly_journal.specs.declared.open_fault.OpenFault.{OpenFault};
 ghost use Rattle.rly_segment.specs.Device.{IsGeometry, device_length};
 ghost use Rattle.rly_settings.specs.CommandLine.{AsksHelp, IsSettings, asked_of, kinds_at};
 ghost use Rattle.rly_settings.specs.declared.given.Settings.{Settings as ASettings};
-ghost use Rattle.rly_daemon.specs.Formatting.{wanted_geometry};
-ghost use Rattle.rly_daemon.specs.Program.{HasPlayed, HasReport, IsDone, IsOutOfLimits, size_line};
+ghost use Rattle.rly_daemon.specs.FileDisk.{file_state};
+ghost use Rattle.rly_daemon.specs.Formatting.{FindsNoneLive, HasMade, wanted_geometry};
+ghost use Rattle.rly_daemon.specs.Program.{HasPlayed, HasReport, HasServed, IsDone, IsOutOfLimits, size_line};
+ghost use Rattle.rly_daemon.specs.Serving.{ended_line};
+ghost use Rattle.rly_daemon.specs.declared.file_fault.Cause.{Cause as ACause};
 ghost use Rattle.rly_text.specs.Text.{text_for};
 
 use crate::command_fault::{CommandFault, ServeFault};
 use crate::file_disk::FileDisk;
+use crate::file_fault::Cause;
+use crate::formatting::{UseFault, unused};
 use crate::geometry::{device_size, geometry_of};
 use crate::serving::{read_plan, serve};
-use rly_audit::audit;
-use rly_core::{Params, Refusal};
+use rly_audit::{AuditFault, audit};
+use rly_core::{Geometry, Params, Refusal};
+use rly_disk::Disk;
 use rly_journal::Journal;
 use rly_segment::{FormatFault, format};
 use rly_settings::{Settings, SettingsFault, settings};
@@ -57,10 +63,11 @@ pub fn run<H: Host, S: AsStr, R: Read, W: Write, E: Write>(
     // Where it ends well, the words ask for help or the version, or what they ask for was done.
     ensures done { result ≡ 0 → (AsksHelp (map S.text words.now) × (reader.new ≡ reader.old))
         ⊎ ((settings : ASettings) × IsSettings (asked_of (map S.text words.now)) settings × (kinds_at (map S.text words.now) ≡ [])
-        × IsDone settings reader.old reader.new (R.remaining reader.old) (W.contents writer.old) (W.contents writer.new)) }
+        × IsDone settings reader.old reader.new (R.remaining reader.old) (W.contents writer.old) (W.contents writer.new)
+        (E.contents errors.old) (E.contents errors.new)) }
 {
     match settings(rt.alloc(), words) {
-        Ok(settings) => match obey(rt, settings, reader, writer) {
+        Ok(settings) => match obey(rt, settings, reader, writer, errors) {
             Ok(()) => 0,
             Err(fault) => fail(&fault, errors),
         },
@@ -71,14 +78,16 @@ pub fn run<H: Host, S: AsStr, R: Read, W: Write, E: Write>(
 }
 
 /// Runs one command.
-fn obey<H: Host, R: Read, W: Write>(
+fn obey<H: Host, R: Read, W: Write, E: Write>(
     rt: &H,
     settings: Settings<'_>,
     reader: &mut R,
     writer: &mut W,
+    errors: &mut E,
 ) -> Result<(), CommandFault>
-    ensures done { OnOk result (IsDone settings.entry reader.old reader.new (R.remaining reader.old) (W.contents writer.old) (W.contents writer.new)) }
-    ensures refused { IsOutOfLimits settings.entry → (result ≡ Err (CommandFault.Refused Refusal.BadGeometry))
+    ensures done { OnOk result (IsDone settings.entry reader.old reader.new (R.remaining reader.old) (W.contents writer.old) (W.contents writer.new)
+        (E.contents errors.old) (E.contents errors.new)) }
+    ensures refused { IsOutOfLimits settings.entry → (result ≡ Err (CommandFault.Refused Refusal.BadGeometry Cause.Options))
         × (reader.new ≡ reader.old) × (writer.new ≡ writer.old) }
 {
     match settings {
@@ -88,17 +97,16 @@ fn obey<H: Host, R: Read, W: Write>(
             params,
             segments,
             length,
+            force,
         } => {
-            let size = format_file(rt, file, params, segments, length)?;
+            let geometry = wanted(params, segments, length)?;
+            let size = format_file(rt, file, &geometry, force)?;
             print_size(size, writer)?;
             Ok(())
         }
         Settings::Play { file, batch } => run_play(rt, file, batch, reader, writer),
         Settings::Audit { file } => run_audit(rt, file, writer),
-        Settings::Serve { file, plan, turns } => {
-            run_serve(rt, file, plan, turns)?;
-            Ok(())
-        }
+        Settings::Serve { file, plan, turns } => { run_serve(rt, file, plan, turns, errors) }
     }
 }
 
@@ -112,36 +120,70 @@ fn run_sim<R: Read, W: Write>(
     ensures limits { OnOk result (IsWithinLimits params) }
     ensures written { OnOk result (IfSome (R.remaining reader.old) (λ input.
         Appends (W.contents writer.old) (W.contents writer.new) (text_for (new_state params) input))) }
-    ensures refused { ¬ IsWithinLimits params → (result ≡ Err (CommandFault.Refused Refusal.BadGeometry))
+    ensures refused { ¬ IsWithinLimits params → (result ≡ Err (CommandFault.Refused Refusal.BadGeometry Cause.Options))
         × (reader.new ≡ reader.old) × (writer.new ≡ writer.old) }
 {
-    params.check()?;
+    if let Err(refusal) = params.check() {
+        return Err(CommandFault::Refused(refusal, Cause::Options));
+    }
     sim(alloc, params, reader, writer)?;
     Ok(())
 }
 
-/// Makes a new device in a file, and answers how many bytes it takes. Values out of their limits
-/// are refused before the file is touched.
+/// The geometry that is asked for. Values out of their limits are refused before any file is touched.
+fn wanted(params: Params, segments: u64, length: Option<u64>) -> Result<Geometry, CommandFault>
+    ensures geometry { IfOk result (λ geometry. (geometry ≡ wanted_geometry params segments length) × IsGeometry geometry (device_length geometry)) }
+    ensures refused { IfErr result (λ fault. fault ≡ CommandFault.Refused Refusal.BadGeometry Cause.Options) }
+    ensures limits { IsErr result ↔ ¬ IsGeometry (wanted_geometry params segments length) (device_length (wanted_geometry params segments length)) }
+{
+    match geometry_of(params, segments, length) {
+        Ok(geometry) => Ok(geometry),
+        Err(refusal) => Err(CommandFault::Refused(refusal, Cause::Options)),
+    }
+}
+
+/// Makes a new device in a file, and answers how many bytes it takes.
 fn format_file<H: AllocGlobal + Files<File = File>>(
     rt: &H,
     file: &str,
-    params: Params,
-    segments: u64,
-    length: Option<u64>,
-) -> Result<u64, Refusal>
-    ensures size { IfOk result (λ size. size ≡ device_length (wanted_geometry params segments length)) }
-    ensures geometry { OnOk result (IsGeometry (wanted_geometry params segments length) (device_length (wanted_geometry params segments length))) }
-    ensures limits { result ≡ Err Refusal.BadGeometry ↔ ¬ IsGeometry (wanted_geometry params segments length) (device_length (wanted_geometry params segments length)) }
+    geometry: &Geometry,
+    force: bool,
+) -> Result<u64, CommandFault>
+    requires { IsGeometry geometry.now (device_length geometry.now) }
+    ensures size { IfOk result (λ size. size ≡ device_length geometry.now) }
+    ensures made { OnOk result (HasMade geometry.now force) }
 {
-    let geometry = geometry_of(params, segments, length)?;
-    let size = device_size(&geometry);
-    let mut disk = FileDisk::make(rt, file, size)?;
-    match format(rt.alloc(), &mut disk, &geometry) {
+    let size = device_size(geometry);
+    let disk = FileDisk::make(rt, file)?;
+    let mut disk = free_disk(rt.alloc(), disk, force)?;
+    disk.extend(size)?;
+    match format(rt.alloc(), &mut disk, geometry) {
         Ok(()) => Ok(size),
-        Err(FormatFault::OutOfMemory) => Err(Refusal::OutOfMemory),
-        Err(FormatFault::BadGeometry) => Err(Refusal::BadGeometry),
-        Err(FormatFault::Device) => Err(Refusal::Device),
+        Err(FormatFault::OutOfMemory) => Err(refused(Refusal::OutOfMemory, &disk)),
+        Err(FormatFault::BadGeometry) => Err(refused(Refusal::BadGeometry, &disk)),
+        Err(FormatFault::Device) => Err(refused(Refusal::Device, &disk)),
     }
+}
+
+/// A disk on which no datagram lives, or any where that is forced.
+fn free_disk(alloc: Global, disk: FileDisk, force: bool) -> Result<FileDisk, CommandFault>
+    ensures looked { IfOk result (λ left. force ≡ false → FindsNoneLive file_state disk left) }
+{
+    if force {
+        return Ok(disk);
+    }
+    match unused(alloc, disk) {
+        Ok(disk) => Ok(disk),
+        Err((UseFault::Live(count), _disk)) => Err(CommandFault::Live(count)),
+        Err((UseFault::Refused(refusal), disk)) => Err(refused(refusal, &disk)),
+    }
+}
+
+/// A refusal of a device, with what the system said of the first call that failed.
+fn refused(refusal: Refusal, disk: &FileDisk) -> CommandFault
+    ensures { (cause : ACause) × (result ≡ CommandFault.Refused refusal cause) }
+{
+    CommandFault::Refused(refusal, Cause::of_device(refusal, disk.fault()))
 }
 
 /// Prints how many bytes a new device takes.
@@ -162,12 +204,13 @@ fn run_play<H: AllocGlobal + Files<File = File>, R: Read, W: Write>(
 ) -> Result<(), CommandFault>
     ensures played { OnOk result (HasPlayed batch (R.remaining reader.old) (W.contents writer.old) (W.contents writer.new)) }
 {
-    let mut journal = open_journal(rt, file)?;
+    let disk = FileDisk::open(rt, file)?;
+    let mut journal = open_journal(rt.alloc(), disk)?;
     // The command line was refused for any other number.
     let batch = batch.clamp(1, MAX_BATCH);
     play(rt.alloc(), reader, writer, &mut journal, batch)?;
     if journal.is_broken() {
-        return Err(CommandFault::Refused(Refusal::Broken));
+        return Err(refused(Refusal::Broken, &journal.into_disk()));
     }
     Ok(())
 }
@@ -179,7 +222,7 @@ fn run_audit<H: AllocGlobal + Files<File = File>, W: Write>(
     writer: &mut W,
 ) -> Result<(), CommandFault>
     ensures reported { OnOk result (HasReport (W.contents writer.old) (W.contents writer.new)) }
-    ensures silent { IfErr result (λ fault. (refusal : ARefusal) → fault ≡ CommandFault.Refused refusal → Keeps (W.contents writer.old) (W.contents writer.new)) }
+    ensures silent { IfErr result (λ fault. (refusal : ARefusal) (cause : ACause) → fault ≡ CommandFault.Refused refusal cause → Keeps (W.contents writer.old) (W.contents writer.new)) }
 {
     let disk = FileDisk::open(rt, file)?;
     match audit(rt.alloc(), disk, writer) {
@@ -187,32 +230,46 @@ fn run_audit<H: AllocGlobal + Files<File = File>, W: Write>(
             writer.flush().map_err(|_| TextFault::Output)?;
             Ok(())
         }
-        Err((fault, _disk)) => Err(CommandFault::from(fault)),
+        Err((AuditFault::Refused(refusal), disk)) => Err(refused(refusal, &disk)),
+        Err((AuditFault::Output, _disk)) => Err(CommandFault::Text(TextFault::Output)),
     }
 }
 
 /// Runs the relay of a plan on the device in a file. The plan is read before the file is touched.
-fn run_serve<H: Host>(rt: &H, file: &str, plan: &str, turns: u64) -> Result<(), ServeFault>
-    ensures ends { OnOk result (1 ≤ turns) }
+fn run_serve<H: Host, E: Write>(
+    rt: &H,
+    file: &str,
+    plan: &str,
+    turns: u64,
+    errors: &mut E,
+) -> Result<(), CommandFault>
+    ensures served { OnOk result (HasServed turns (E.contents errors.new)) }
 {
     let plan = read_plan(rt, plan)?;
-    let journal = open_journal(rt, file)?;
-    let _relayed = serve(rt, journal, &plan, turns)?;
+    let disk = FileDisk::open(rt, file)?;
+    let size = disk.size();
+    let journal = open_journal(rt.alloc(), disk)?;
+    let _relayed = serve(rt, journal, &plan, turns, size, errors)?;
+    tell_end(turns, errors)?;
     Ok(())
 }
 
-/// Opens the journal on the device in a file.
-fn open_journal<H: AllocGlobal + Files<File = File>>(
-    rt: &H,
-    file: &str,
-) -> Result<Journal<FileDisk>, Refusal>
-    ensures whole { IfOk result (λ journal. journal.broken ≡ false) }
-    ensures refusal { IfErr result (λ refusal. (fault : OpenFault) × (refusal ≡ opening_refusal fault)) }
+/// Says what ended a relay.
+fn tell_end<E: Write>(turns: u64, errors: &mut E) -> Result<(), ServeFault>
+    ensures { OnOk result (Appends (E.contents errors.old) (E.contents errors.new) (ended_line turns)) }
 {
-    let disk = FileDisk::open(rt, file)?;
-    match Journal::open(rt.alloc(), disk) {
+    let told = writeln!(errors, "rly: ended after {turns} turns");
+    told.map_err(|_| ServeFault::Untold)
+}
+
+/// Opens the journal on a device.
+fn open_journal(alloc: Global, disk: FileDisk) -> Result<Journal<FileDisk>, CommandFault>
+    ensures whole { IfOk result (λ journal. journal.broken ≡ false) }
+    ensures refusal { IfErr result (λ told. (fault : OpenFault) × (cause : ACause) × (told ≡ CommandFault.Refused (opening_refusal fault) cause)) }
+{
+    match Journal::open(alloc, disk) {
         Ok(journal) => Ok(journal),
-        Err((fault, _disk)) => Err(Refusal::from(fault)),
+        Err((fault, disk)) => Err(refused(Refusal::from(fault), &disk)),
     }
 }
 

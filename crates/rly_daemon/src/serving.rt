@@ -4,14 +4,19 @@ ghost use Rattle.std.specs.Prelude.{◌≡◌, ◌≤◌, ◌⊎◌, ◌++◌, E
 ghost use Rattle.rly_core.specs.declared.refusal.Refusal.{Refusal as ARefusal};
 ghost use Rattle.rly_core.specs.declared.refusal.Refusal.TheVariants as refusal;
 ghost use Rattle.rly_daemon.specs.declared.command_fault.ServeFault.TheVariants as fault;
+ghost use Rattle.rly_daemon.specs.declared.file_fault.Cause.TheVariants as cause;
 ghost use Rattle.rly_daemon.specs.Serving.{HasRoom, HasRun, LacksRoom, addresses_of, duties, duty_at, duty_of, receivers, senders, workers_of};
+ghost use Rattle.rly_daemon.specs.declared.file_fault.SystemWord.{SystemWord as AWord};
 ghost use Rattle.rly_flush.specs.Flushing.{IsServed, new_flusher};
 ghost use Rattle.rly_line.specs.Submission.{LineId};
 ghost use Rattle.rly_plan.specs.Sound.{IsSoundPlan};
 ghost use Rattle.rly_threads.specs.Relay.{new_end};
 
+use crate::address_fault::{AddressFault, End, EndFault};
 use crate::bells::Bells;
 use crate::command_fault::ServeFault;
+use crate::file_fault::{Cause, SystemWord};
+use crate::formatting::live_items;
 use crate::udp_link::UdpLink;
 use crate::wall_clock::WallClock;
 use rly_core::{HopId, Params, PeerId, Refusal};
@@ -22,7 +27,7 @@ use rly_threads::{Post, Relayed, Worker, run_relay};
 use std::alloc::{AllocError, Global};
 use std::fs;
 use std::fs::{File, Files};
-use std::io::ErrorKind;
+use std::io::{ErrorKind, Write};
 use std::net::Net;
 use std::sync::{Arc, Wait};
 use std::thread::Threads;
@@ -40,31 +45,35 @@ pub fn read_plan<H: AllocGlobal + Files<File = File>>(
     path: &str,
 ) -> Result<Plan, ServeFault>
     ensures sound { IfOk result (λ plan. IsSoundPlan plan) }
-    ensures fault { IfErr result (λ f. (f ≡ fault.Plan) ⊎ ((refusal : ARefusal) × (f ≡ fault.Refused refusal))) }
+    ensures fault { IfErr result (λ f. ((word : AWord) × (f ≡ fault.Plan word)) ⊎ ((refusal : ARefusal) × (f ≡ fault.Refused refusal cause.Told))) }
 {
     match fs::read_to_string(rt, path) {
         Ok(text) => {
             law_plan_is_sound();
-            Ok(Plan::from_toml(rt.alloc(), text.as_str())?)
+            match Plan::from_toml(rt.alloc(), text.as_str()) {
+                Ok(plan) => Ok(plan),
+                Err(refusal) => Err(ServeFault::Refused(refusal, Cause::Told)),
+            }
         }
-        Err(error) if error.kind() == ErrorKind::OutOfMemory => {
-            Err(ServeFault::Refused(Refusal::OutOfMemory))
-        }
-        Err(_) => Err(ServeFault::Plan),
+        Err(error) if error.kind() == ErrorKind::OutOfMemory => Err(AllocError.into()),
+        Err(error) => Err(ServeFault::Plan(SystemWord(error))),
     }
 }
 
 /// Runs the relay of a plan on a journal until each worker had its turns, and answers what it leaves. Where the turns are 0
-/// they are without end.
-pub fn serve<'a, H: AllocGlobal + Net + Threads + Wait + Clock + Sync, D: Disk + Drop>(
+/// they are without end. Once all that it needs is there it tells what it serves, on a device of `size` bytes; where that
+/// can't be told it serves all the same, and the answer is `Untold` at its end.
+pub fn serve<'a, H: AllocGlobal + Net + Threads + Wait + Clock + Sync, D: Disk + Drop, E: Write>(
     rt: &'a H,
     journal: Journal<D>,
     plan: &Plan,
     turns: u64,
+    size: u64,
+    errors: &mut E,
 ) -> Result<UdpRelayed<'a, D, H>, ServeFault>
     requires sound { IsSoundPlan plan.now }
     ensures room { OnOk result (HasRoom plan.now journal.state.params) }
-    ensures lacks { LacksRoom plan.now journal.state.params → result ≡ Err (fault.Refused refusal.BadGeometry) }
+    ensures lacks { LacksRoom plan.now journal.state.params → (result ≡ Err (fault.Refused refusal.BadGeometry cause.Plan)) × (errors.new ≡ errors.old) }
     // A relay whose turns are without end never ends well.
     ensures ends { OnOk result (1 ≤ turns) }
     // Each worker of the plan did at its post what the plan says of it, as far as its link and its clock tell.
@@ -74,37 +83,63 @@ pub fn serve<'a, H: AllocGlobal + Net + Threads + Wait + Clock + Sync, D: Disk +
     ensures whole { IfOk result (λ relayed. relayed.finished.journal.broken ≡ false) }
 {
     check_room(plan, journal.params())?;
+    if journal.is_broken() {
+        return Err(ServeFault::Refused(Refusal::Broken, Cause::Told));
+    }
     let posts = posts_of(rt, plan, turns)?;
+    let told = tell_start(&journal, plan, size, errors);
     match run_relay(rt, rt.alloc(), journal, plan, posts) {
         Ok(relayed) => {
             outcome_of(relayed.finished.broken, relayed.complete)?;
+            told?;
             Ok(relayed)
         }
-        Err(_journal) => Err(ServeFault::Refused(Refusal::OutOfMemory)),
+        Err(_journal) => Err(AllocError.into()),
     }
 }
 
+/// Says what is served: the station, its neighbours, and how much of the device is taken.
+fn tell_start<D: Disk, E: Write>(
+    journal: &Journal<D>,
+    plan: &Plan,
+    size: u64,
+    errors: &mut E,
+) -> Result<(), ServeFault>
+    requires { journal.now.broken ≡ false }
+{
+    let station = plan.station();
+    let peers = plan.peer_count();
+    let hops = plan.hop_count();
+    let live = live_items(journal);
+    let items = journal.params().items;
+    let told = writeln!(
+        errors,
+        "rly: serving station {station}, {peers} peers, {hops} hops, device {size} bytes, {live} of {items} live"
+    );
+    told.map_err(|_| ServeFault::Untold)
+}
+
 /// Refuses a plan that has more peers or hops than the device.
-fn check_room(plan: &Plan, params: Params) -> Result<(), Refusal>
+fn check_room(plan: &Plan, params: Params) -> Result<(), ServeFault>
     ensures room { OnOk result (HasRoom plan.now params) }
-    ensures lacks { IfErr result (λ refused. (refused ≡ refusal.BadGeometry) × LacksRoom plan.now params) }
+    ensures lacks { IfErr result (λ refused. (refused ≡ fault.Refused refusal.BadGeometry cause.Plan) × LacksRoom plan.now params) }
 {
     let peers = plan.peer_count() as u64;
     let hops = plan.hop_count() as u64;
     if peers > params.peers || hops > params.hops {
-        return Err(Refusal::BadGeometry);
+        return Err(ServeFault::Refused(Refusal::BadGeometry, Cause::Plan));
     }
     Ok(())
 }
 
 /// How a relay ended that was started.
 fn outcome_of(is_broken: bool, is_complete: bool) -> Result<(), ServeFault>
-    ensures broken { is_broken ≡ true → result ≡ Err (fault.Refused refusal.Broken) }
+    ensures broken { is_broken ≡ true → result ≡ Err (fault.Refused refusal.Broken cause.Told) }
     ensures worker { is_broken ≡ false → is_complete ≡ false → result ≡ Err fault.Worker }
     ensures ok { is_broken ≡ false → is_complete ≡ true → IsOk result }
 {
     if is_broken {
-        return Err(ServeFault::Refused(Refusal::Broken));
+        return Err(ServeFault::Refused(Refusal::Broken, Cause::Told));
     }
     if !is_complete {
         return Err(ServeFault::Worker);
@@ -136,7 +171,7 @@ fn posts_of<'a, H: AllocGlobal + Net + Clock>(
 
 /// A worker of a plan, with its link and its turns. Its turns tell the bells, and a sender's link has the bell of its hop. A
 /// worker whose neighbour isn't in the plan has no link.
-fn post_of<'a, H: Net + Clock>(
+fn post_of<'a, H: AllocGlobal + Net + Clock>(
     rt: &'a H,
     plan: &Plan,
     worker: Worker,
@@ -146,15 +181,40 @@ fn post_of<'a, H: Net + Clock>(
     ensures { IfOk result (λ post. duty_at post ≡ duty_of plan.now turns worker) }
 {
     let Some(addresses) = addresses_of(plan, worker) else {
-        return Err(ServeFault::Link);
+        return Err(ServeFault::Worker);
     };
-    let link = UdpLink::open(rt, rt, addresses)?;
+    let link = match UdpLink::open(rt, rt, addresses) {
+        Ok(link) => link,
+        Err(fault) => return Err(fault_of_link(rt.alloc(), worker, addresses, fault)),
+    };
     let link = match worker {
         Worker::Receiver(_) => link,
         Worker::Sender(hop) => link.with_bell(bells.clone()?, hop),
     };
     let turn = WallClock::new(rt, turns).with_bells(bells.clone()?);
     Ok(Post { worker, link, turn })
+}
+
+/// Says whose link it was that the system refused, and at which address.
+pub(crate) fn fault_of_link(
+    alloc: Global,
+    worker: Worker,
+    addresses: &Addresses,
+    fault: EndFault,
+) -> ServeFault {
+    let text = match fault.end {
+        End::Listen => addresses.listen(),
+        End::Remote => addresses.remote(),
+    };
+    match String::from_str(alloc, text) {
+        Ok(address) => ServeFault::Link(AddressFault {
+            worker,
+            end: fault.end,
+            address,
+            word: fault.word,
+        }),
+        Err(refused) => ServeFault::from(refused),
+    }
 }
 
 /// The addresses of a worker's link.

@@ -1,7 +1,9 @@
 ghost use Rattle.std.specs.Prelude.{◌≡◌, ◌≤◌, ◌-◌, ◌^◌, ◌↔◌, IfOk, IfSome, IsErr, IsTrue, length};
 ghost use Rattle.rly_threads.specs.Ends.{FailuresRose};
 
+use crate::address_fault::{End, EndFault};
 use crate::bells::Bells;
+use crate::file_fault::SystemWord;
 use rly_core::HopId;
 use rly_plan::Addresses;
 use rly_threads::{Link, LinkFault};
@@ -37,23 +39,22 @@ pub struct UdpLink<C: Clock + Drop> {
 
 impl<C: Clock + Drop> UdpLink<C> {
     /// A link that receives at `listen` and sends to the first address that `remote` names. A name
-    /// is looked up once, here. It fails where the system refuses either text.
-    pub fn open<N: Net>(net: &N, clock: C, addresses: &Addresses) -> Result<UdpLink<C>, LinkFault>
+    /// is looked up once, here. It fails where the system refuses either text, and where `listen` has port 0.
+    pub fn open<N: Net>(net: &N, clock: C, addresses: &Addresses) -> Result<UdpLink<C>, EndFault>
         ensures addresses { IfOk result (λ link. link.addresses.value ≡ addresses.now) }
         ensures failures { IfOk result (λ link. link.failures ≡ 0) }
     {
-        match opened(net, addresses.listen(), addresses.remote()) {
-            Ok((socket, remote)) => Ok(UdpLink {
-                socket,
-                remote,
-                clock,
-                waits: true,
-                failures: 0,
-                bell: None,
-                addresses: Snapshot::of(addresses),
-            }),
-            Err(_) => Err(LinkFault),
-        }
+        let socket = refused_at(End::Listen, listening(net, addresses.listen()))?;
+        let remote = refused_at(End::Remote, named(net, addresses.remote()))?;
+        Ok(UdpLink {
+            socket,
+            remote,
+            clock,
+            waits: true,
+            failures: 0,
+            bell: None,
+            addresses: Snapshot::of(addresses),
+        })
     }
 
     /// The same as the link of a hop, whose bell ends its waits.
@@ -197,12 +198,32 @@ impl<C: Clock + Drop> Link for UdpLink<C> {
     }
 }
 
-/// A socket at an address, and the first address that a text names.
-fn opened<N: Net>(net: &N, listen: &str, remote: &str) -> io::Result<(UdpSocket, SocketAddr)> {
+/// Says at which address of a link the system refused something.
+fn refused_at<T>(end: End, outcome: io::Result<T>) -> Result<T, EndFault> {
+    match outcome {
+        Ok(value) => Ok(value),
+        Err(error) => Err(EndFault {
+            end,
+            word: SystemWord(error),
+        }),
+    }
+}
+
+/// A socket that receives at an address. A neighbour can't know a port that the system picks, so port 0 is none.
+fn listening<N: Net>(net: &N, listen: &str) -> io::Result<UdpSocket> {
+    if named(net, listen)?.port() == 0 {
+        let told = "a neighbour can't send to port 0";
+        return Err(io::Error::new(ErrorKind::InvalidInput, told));
+    }
     let socket = UdpSocket::bind(net, listen)?;
     socket.set_read_timeout(Some(Duration::from_millis(WAIT)))?;
-    match remote.to_socket_addrs(net)?.next() {
-        Some(remote) => Ok((socket, remote)),
+    Ok(socket)
+}
+
+/// The first address that a text names.
+fn named<N: Net>(net: &N, text: &str) -> io::Result<SocketAddr> {
+    match text.to_socket_addrs(net)?.next() {
+        Some(address) => Ok(address),
         None => Err(io::Error::from(ErrorKind::AddrNotAvailable)),
     }
 }

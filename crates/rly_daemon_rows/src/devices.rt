@@ -1,8 +1,9 @@
 //! Whole runs of the program on files.
 
-use crate::programs::expect;
-use crate::spools::takes;
-use rly_daemon::{FileDisk, Host};
+use crate::programs::{BAD_OPTIONS, expect, expect_stuck};
+use crate::spools::{small_disk, takes};
+use rly_daemon::{FileDisk, Host, UseFault, play, unused};
+use rly_journal::Journal;
 use std::alloc::Global;
 use std::process::Abort;
 use std::test::Fail;
@@ -112,7 +113,7 @@ const BAD_GEOMETRIES: [&str; 8] = [
 /// Checks that `format` is refused for an option, and makes no file.
 fn expect_untouched(rt: &(impl Abort + Host), path: &str, option: &str) {
     let words = ["rly", "format", path, option];
-    expect_refused(rt, &words, b"refused 21 badgeometry\n");
+    expect_refused(rt, &words, BAD_OPTIONS);
     expect!(rt; matches!(fs::exists(rt, path), Ok(false)));
 }
 
@@ -161,7 +162,7 @@ fn expect_damage(
 
 /// Checks what `play` says of a file that is none, of one that is too short, and of changed devices.
 fn expect_no_device(rt: &(impl Abort + Host), path: &str) -> Result<(), Fail> {
-    expect_play_refused(rt, path, b"refused 23 device\n");
+    expect_play_refused(rt, path, NOT_THERE);
     fs::write(rt, path, [0xa5u8; 63].as_slice())?;
     expect_play_refused(rt, path, b"refused 20 notadevice\n");
     make_small(rt, path);
@@ -170,9 +171,15 @@ fn expect_no_device(rt: &(impl Abort + Host), path: &str) -> Result<(), Fail> {
     expect_damage(rt, path, bytes, 64, b"refused 22 damaged 64\n")?;
     expect_damage(rt, path, bytes, 0, b"refused 20 notadevice\n")?;
     fs::write(rt, path, &bytes[..bytes.len().saturating_sub(1)])?;
-    expect_play_refused(rt, path, b"refused 21 badgeometry\n");
+    let short =
+        b"refused 21 badgeometry\nrly: device: its header has a value out of its limits, or its file is too short\n";
+    expect_play_refused(rt, path, short);
     Ok(())
 }
+
+/// What is told of a file that isn't there.
+pub(super) const NOT_THERE: &[u8] =
+    b"refused 23 device\nrly: device: No such file or directory (os error 2)\n";
 
 #[test]
 fn a_file_that_is_no_device_is_refused(rt: HostRuntime) -> Result<(), Fail> {
@@ -187,9 +194,11 @@ fn a_device_is_one_process_s(rt: HostRuntime) -> Result<(), Fail> {
     let path = path_of(&rt, "locked")?;
     make_small(&rt, path.as_str());
     let disk = FileDisk::open(&rt, path.as_str()).ok().ok_or("a device")?;
-    expect_play_refused(&rt, path.as_str(), b"refused 23 device\n");
-    let words = ["rly", "format", path.as_str()];
-    expect_refused(&rt, &words, b"refused 23 device\n");
+    let held = b"refused 23 device\nrly: lock: another program has it\n";
+    expect_play_refused(&rt, path.as_str(), held);
+    expect_refused(&rt, &["rly", "audit", path.as_str()], held);
+    let words = ["rly", "format", path.as_str(), "--force"];
+    expect_refused(&rt, &words, held);
     drop(disk);
     fs::remove_file(&rt, path.as_str())?;
     Ok(())
@@ -223,15 +232,98 @@ fn cut(rt: &HostRuntime, path: &str) -> Result<(), Fail> {
 fn audit_tells_what_play_left(rt: HostRuntime) -> Result<(), Fail> {
     let name = path_of(&rt, "audited")?;
     let path = name.as_str();
-    expect_refused(&rt, &["rly", "audit", path], b"refused 23 device\n");
+    expect_refused(&rt, &["rly", "audit", path], NOT_THERE);
     let words = ["rly", "format", path, "--hops=1", "--peers=1"];
     expect(&rt, &words, b"", 0, b"formatted 2309272\n", b"");
     let lines = busy_lines(rt.alloc())?;
     let words = ["rly", "play", path, "--batch=7"];
     expect(&rt, &words, lines.as_bytes(), 0, BUSY_REPLIES, b"");
     expect(&rt, &["rly", "audit", path], b"", 0, BUSY_BOOKS, b"");
+    expect_stuck(&rt, &["rly", "audit", path]);
     cut(&rt, path)?;
     expect_refused(&rt, &["rly", "audit", path], b"refused 20 notadevice\n");
     fs::remove_file(&rt, path)?;
+    Ok(())
+}
+
+/// What is told where a device that holds a live datagram would be formatted.
+const ONE_LIVES: &[u8] =
+    b"rly: format failed\nrly: device: live datagrams: 1; --force formats it, and they are lost\n";
+
+/// Runs `play` on lines, and checks that each is accepted.
+fn expect_played(rt: &(impl Abort + Host), path: &str, input: &[u8], output: &[u8]) {
+    expect(rt, &["rly", "play", path], input, 0, output, b"");
+}
+
+/// Checks that a device on which a datagram waits, and one on which it is in flight, is formatted by force alone.
+fn expect_kept_alive(rt: &(impl Abort + Host), path: &str) -> Result<(), Fail> {
+    make_small(rt, path);
+    let words = ["rly", "format", path, "--hops=1", "--peers=1"];
+    for (input, output) in [
+        (b"take 1 1 1 0 41\n".as_slice(), b"taken 1 1\n".as_slice()),
+        (b"pick 1 5\n".as_slice(), b"picked 1 1 1\n".as_slice()),
+    ] {
+        expect_played(rt, path, input, output);
+        let before = fs::read(rt, path)?;
+        expect_refused(rt, &words, ONE_LIVES);
+        expect!(rt; fs::read(rt, path)?.as_slice() == before.as_slice());
+    }
+    expect_played(rt, path, b"fetch 1 1\n", b"bytes 1 1 41\n");
+    let words = ["rly", "format", path, "--hops=1", "--peers=1", "--force"];
+    expect(rt, &words, b"", 0, b"formatted 2309272\n", b"");
+    expect_played(rt, path, b"window 1\n", b"window 1 1 1\n");
+    Ok(())
+}
+
+/// A device that holds live datagrams is formatted by force alone, and else stays as it was.
+#[test]
+fn live_datagrams_are_lost_by_force_alone(rt: HostRuntime) -> Result<(), Fail> {
+    let path = path_of(&rt, "alive")?;
+    expect_kept_alive(&rt, path.as_str())?;
+    fs::remove_file(&rt, path.as_str())?;
+    Ok(())
+}
+
+/// Checks that a device is formatted without a question once its datagram was let go, and a damaged one where one lived.
+fn expect_freed(rt: &(impl Abort + Host), path: &str) -> Result<(), Fail> {
+    make_small(rt, path);
+    let lines = b"take 1 1 1 0 41\npick 1 5\ndone 1 1\n";
+    expect_played(rt, path, lines, b"taken 1 1\npicked 1 1 1\nreleased 1 1\n");
+    make_small(rt, path);
+    expect_played(rt, path, b"take 1 1 1 0 41\n", b"taken 1 1\n");
+    let mut bytes = fs::read(rt, path)?;
+    if let Some(gate) = bytes.get_mut(64) {
+        *gate = 0;
+    }
+    fs::write(rt, path, bytes.as_slice())?;
+    make_small(rt, path);
+    Ok(())
+}
+
+/// A device with nothing live is formatted as a new one is, and so is one that is damaged.
+#[test]
+fn a_device_with_nothing_live_is_formatted(rt: HostRuntime) -> Result<(), Fail> {
+    let path = path_of(&rt, "freed")?;
+    expect_freed(&rt, path.as_str())?;
+    fs::remove_file(&rt, path.as_str())?;
+    Ok(())
+}
+
+/// A disk in memory on which a datagram lives is not free, and is handed back as it was.
+#[test]
+fn a_disk_is_looked_at(rt: HostRuntime) -> Result<(), Fail> {
+    let disk = unused(rt.alloc(), small_disk(&rt)?)
+        .ok()
+        .ok_or("a free disk")?;
+    let mut journal = Journal::open(rt.alloc(), disk).ok().ok_or("a journal")?;
+    let mut output = Vec::new(rt.alloc());
+    let mut lines = b"take 1 1 1 0 41\ntake 1 2 1 0 42\n".as_slice();
+    play(rt.alloc(), &mut lines, &mut output, &mut journal, 64)?;
+    expect!(rt; output.as_slice() == b"taken 1 1\ntaken 1 2\n".as_slice());
+    let (fault, disk) = unused(rt.alloc(), journal.into_disk())
+        .err()
+        .ok_or("a fault")?;
+    expect!(rt; fault == UseFault::Live(2));
+    expect!(rt; Journal::open(rt.alloc(), disk).is_ok());
     Ok(())
 }

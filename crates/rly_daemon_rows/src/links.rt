@@ -2,7 +2,7 @@
 
 use crate::serving::plan_with;
 use rly_core::PeerId;
-use rly_daemon::{Host, UdpLink, WallClock};
+use rly_daemon::{End, Host, UdpLink, WallClock};
 use rly_plan::Plan;
 use rly_threads::{Link, MAX_PACKET, Point, Turn, Worker};
 use std::net::UdpSocket;
@@ -17,6 +17,27 @@ fn link_of(rt: HostRuntime, listen: &str, remote: &str) -> Result<UdpLink<HostRu
     let plan = Plan::from_toml(rt.alloc(), text.as_str())?;
     let neighbour = plan.peer(PeerId(1)).ok_or("peer 1")?;
     Ok(UdpLink::open(&rt, rt, &neighbour.addresses)?)
+}
+
+/// At which end the system refuses a link's addresses.
+fn refused_end(rt: HostRuntime, listen: &str, remote: &str) -> Result<End, Fail> {
+    let text = plan_with(rt.alloc(), 1, 1, listen, remote)?;
+    let plan = Plan::from_toml(rt.alloc(), text.as_str())?;
+    let neighbour = plan.peer(PeerId(1)).ok_or("peer 1")?;
+    let fault = UdpLink::open(&rt, rt, &neighbour.addresses)
+        .err()
+        .ok_or("a fault")?;
+    Ok(fault.end)
+}
+
+/// A link receives at a port that its neighbour can know, so at none that the system picks, and sends to an address that there is.
+#[test]
+fn a_link_has_two_addresses(rt: HostRuntime) -> Result<(), Fail> {
+    let there = "127.0.0.1:4029";
+    expect!(rt; refused_end(rt, "127.0.0.1:0", there)? == End::Listen);
+    expect!(rt; refused_end(rt, "nowhere", there)? == End::Listen);
+    expect!(rt; refused_end(rt, there, "nowhere")? == End::Remote);
+    Ok(())
 }
 
 /// Checks that a link gives a packet of so many bytes for one that another socket sends.
@@ -119,7 +140,7 @@ fn an_empty_packet_ends_a_wait(rt: HostRuntime) -> Result<(), Fail> {
 /// Each send of a packet that UDP can't carry fails, and is counted.
 #[test]
 fn failures_of_a_link_are_counted(rt: HostRuntime) -> Result<(), Fail> {
-    let mut link = link_of(rt, "127.0.0.1:0", "127.0.0.1:4024")?;
+    let mut link = link_of(rt, "127.0.0.1:4023", "127.0.0.1:4024")?;
     let packet = vec![in rt.alloc(); 0u8; 65_536]?;
     expect_counted(&rt, &mut link, packet.as_slice());
     Ok(())

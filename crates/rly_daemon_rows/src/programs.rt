@@ -68,6 +68,10 @@ fn options_reach_the_machine(rt: HostRuntime) {
     );
 }
 
+/// What is told of options whose values are out of their limits.
+pub(super) const BAD_OPTIONS: &[u8] =
+    b"refused 21 badgeometry\nrly: options: a value is out of its limits\n";
+
 /// Options whose values are out of their limits.
 const OUT_OF_LIMITS: [&str; 5] = [
     "--hops=65537",
@@ -79,9 +83,9 @@ const OUT_OF_LIMITS: [&str; 5] = [
 
 #[test]
 fn options_out_of_limits_are_refused(rt: HostRuntime) {
-    let refused = b"refused 21 badgeometry\n";
     for word in &OUT_OF_LIMITS {
-        expect(&rt, &["rly", "sim", *word], b"done 1 0\n", 1, b"", refused);
+        let words = ["rly", "sim", *word];
+        expect(&rt, &words, b"done 1 0\n", 1, b"", BAD_OPTIONS);
     }
 }
 
@@ -118,6 +122,39 @@ fn help_has_status_0(rt: HostRuntime) {
     let help = finish(&rt, &["rly", "sim", "--help"], b"");
     expect!(rt; help.status == 0);
     expect!(rt; help.errors.is_empty() && !help.output.is_empty());
+}
+
+/// A writer that takes all, and can't hand it on.
+#[derive(Drop)]
+struct Stuck;
+
+impl Write for Stuck {
+    fn write(&mut self, text: &[u8]) -> io::Result<usize> {
+        Ok(text.len())
+    }
+
+    fn flush(&mut self) -> io::Result<()> {
+        Err(Error::from(ErrorKind::StorageFull))
+    }
+}
+
+/// Checks that a command whose output isn't handed on fails.
+pub(super) fn expect_stuck(rt: &(impl Abort + Host), words: &[&str]) {
+    let mut errors = Vec::new(rt.alloc());
+    let mut reader = b"".as_slice();
+    let status = run(rt, words, &mut reader, &mut Stuck, &mut errors);
+    assert!(rt; status == 1, "{words:?}");
+    assert!(rt;
+        errors.as_slice() == b"rly: output failed\n".as_slice(),
+        "{words:?}"
+    );
+}
+
+/// Help that isn't shown has status 1.
+#[test]
+fn help_is_handed_on(rt: HostRuntime) {
+    expect_stuck(&rt, &["rly", "sim", "--help"]);
+    expect_stuck(&rt, &["rly", "--version"]);
 }
 
 #[test]

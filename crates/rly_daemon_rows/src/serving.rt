@@ -7,7 +7,7 @@ use crate::devices::{make_small, path_of};
 use crate::programs::expect;
 use crate::spools::small_disk;
 use rly_core::Refusal;
-use rly_daemon::{Host, ServeFault, read_plan, serve};
+use rly_daemon::{Cause, Host, ServeFault, read_plan, serve};
 use rly_disk::{After, Disk, FaultDisk, MemDisk};
 use rly_journal::Journal;
 use rly_plan::Plan;
@@ -70,10 +70,15 @@ fn expect_custody(rt: &(impl Abort + Host), device: &str, plan: &str) -> Result<
         .ok()
         .ok_or("a thread")?;
     let words = ["rly", "serve", device, plan, "--turns", "20"];
-    expect(rt, &words, b"", 0, b"", b"");
+    expect(rt, &words, b"", 0, b"", SERVED);
     expect!(rt; neighbour.join(rt));
     Ok(())
 }
+
+/// What is told of a relay of 20 turns on a new small device.
+const SERVED: &[u8] =
+    b"rly: serving station 7, 1 peers, 1 hops, device 165880 bytes, 0 of 16 live\n\
+rly: ended after 20 turns\n";
 
 /// The books of a small device with one datagram.
 const ONE_TAKEN: &[u8] = b"hop 1 taken 1 queued 1 flight 0 dropped 0 released 0\n\
@@ -132,14 +137,21 @@ fn expect_end(rt: &(impl Abort + Host), device: &str, plan: &str, status: u8, er
 const PLANS: [(&str, &str); 3] = [
     ("station = 7\n", "refused 50 plan\n"),
     ("color = 7\n", "refused 54 plan\n"),
-    (PLAN, "refused 23 device\n"),
+    (
+        PLAN,
+        "refused 23 device\nrly: device: No such file or directory (os error 2)\n",
+    ),
 ];
+
+/// What is told of a plan that isn't there.
+const NO_PLAN: &str = "rly: plan failed\nrly: plan: No such file or directory (os error 2)\n";
 
 /// Checks in which order a relay looks at its plan and its device.
 fn expect_needs(rt: &(impl Abort + Host), device: &str, plan: &str) -> Result<(), Fail> {
-    expect_end(rt, device, plan, 1, "rly: plan failed\n");
+    expect_end(rt, device, plan, 1, NO_PLAN);
     fs::write(rt, plan, b"station = 7 # \xff\n".as_slice())?;
-    expect_end(rt, device, plan, 1, "rly: plan failed\n");
+    let told = "rly: plan failed\nrly: plan: stream did not contain valid UTF-8\n";
+    expect_end(rt, device, plan, 1, told);
     for (text, errors) in &PLANS {
         fs::write(rt, plan, *text)?;
         expect_end(rt, device, plan, 1, *errors);
@@ -147,7 +159,7 @@ fn expect_needs(rt: &(impl Abort + Host), device: &str, plan: &str) -> Result<()
     fs::write(rt, device, b"no device".as_slice())?;
     expect_end(rt, device, plan, 1, "refused 20 notadevice\n");
     fs::remove_file(rt, plan)?;
-    expect_end(rt, device, plan, 1, "rly: plan failed\n");
+    expect_end(rt, device, plan, 1, NO_PLAN);
     fs::remove_file(rt, device)?;
     Ok(())
 }
@@ -160,25 +172,57 @@ fn a_relay_needs_a_plan_and_a_device(rt: HostRuntime) -> Result<(), Fail> {
     expect_needs(&rt, device.as_str(), plan.as_str())
 }
 
-/// An address whose port the system picks.
-const FREE: &str = "127.0.0.1:0";
+/// An address whose port the system picks, one that is free, and one at which this machine doesn't receive.
+const PICKED: &str = "127.0.0.1:0";
 
-/// Plans of so many peers and hops and with these addresses: how a relay of theirs ends on a small device, and what is told.
-const LINKS: [(u16, u16, &str, &str, u8, &str); 6] = [
-    (2, 1, "nowhere", "nowhere", 1, "refused 21 badgeometry\n"),
-    (1, 2, "nowhere", "nowhere", 1, "refused 21 badgeometry\n"),
-    (1, 1, "nowhere", FREE, 1, "rly: link failed\n"),
-    (1, 1, FREE, "nowhere", 1, "rly: link failed\n"),
-    (1, 1, "127.0.0.1:4019", FREE, 1, "rly: link failed\n"),
-    (1, 1, FREE, FREE, 0, ""),
+const FREE: &str = "127.0.0.1:4019";
+
+const AWAY: &str = "192.0.2.1:4019";
+
+/// What is told where a plan has more peers or hops than the small device.
+const NO_ROOM: &str =
+    "refused 21 badgeometry\nrly: plan: it has more peers or hops than the device\n";
+
+/// Plans of so many peers and hops and with these addresses, and what is told of a relay of theirs on a small device.
+const LINKS: [(u16, u16, &str, &str, &str); 6] = [
+    (2, 1, "nowhere", "nowhere", NO_ROOM),
+    (1, 2, "nowhere", "nowhere", NO_ROOM),
+    (
+        1,
+        1,
+        PICKED,
+        FREE,
+        "rly: link failed\nrly: peer 1: listen 127.0.0.1:0: a neighbour can't send to port 0\n",
+    ),
+    (
+        1,
+        1,
+        AWAY,
+        FREE,
+        "rly: link failed\nrly: hop 1: listen 192.0.2.1:4019: Cannot assign requested address (os error 99)\n",
+    ),
+    (
+        1,
+        1,
+        FREE,
+        "127.0.0.1:x",
+        "rly: link failed\nrly: peer 1: remote 127.0.0.1:x: invalid port value\n",
+    ),
+    (
+        1,
+        1,
+        FREE,
+        FREE,
+        "rly: link failed\nrly: hop 1: listen 127.0.0.1:4019: Address already in use (os error 98)\n",
+    ),
 ];
 
 /// Checks how relays end on a small device.
 fn expect_links(rt: &(impl Abort + Host), device: &str, plan: &str) -> Result<(), Fail> {
-    for (peers, hops, listen, remote, status, errors) in &LINKS {
+    for (peers, hops, listen, remote, errors) in &LINKS {
         let text = plan_with(rt.alloc(), *peers, *hops, *listen, *remote)?;
         fs::write(rt, plan, text.as_str())?;
-        expect_end(rt, device, plan, *status, *errors);
+        expect_end(rt, device, plan, 1, *errors);
     }
     fs::remove_file(rt, plan)?;
     fs::remove_file(rt, device)?;
@@ -205,6 +249,10 @@ fn failing(rt: &(impl Abort + AllocGlobal)) -> Result<FaultDisk<MemDisk>, Fail> 
     Ok(FaultDisk::new(disk, opening.wrapping_add(1), 0, After::GoesOn))
 }
 
+/// What is told once it is served.
+const BEGUN: &[u8] =
+    b"rly: serving station 7, 1 peers, 1 hops, device 165880 bytes, 0 of 16 live\n";
+
 /// The plan of a relay at other addresses, by a file.
 fn other_plan(rt: &HostRuntime) -> Result<Plan, Fail>
     ensures { IfOk result (λ plan. IsSoundPlan plan) }
@@ -228,10 +276,15 @@ fn a_failed_write_ends_a_relay_broken(rt: HostRuntime) -> Result<(), Fail> {
     let neighbour = thread::spawn(&rt, move || hears_custody(&socket, "127.0.0.1:4031", 20))
         .ok()
         .ok_or("a thread")?;
-    assert_eq!(rt;
-        serve(&rt, journal, &plan, 20).err(),
-        Some(ServeFault::Refused(Refusal::Broken))
+    let mut errors = Vec::new(rt.alloc());
+    let ended = serve(&rt, journal, &plan, 20, 165_880, &mut errors);
+    assert!(rt;
+        matches!(
+            ended,
+            Err(ServeFault::Refused(Refusal::Broken, Cause::Told))
+        )
     );
+    expect!(rt; errors.as_slice() == BEGUN);
     assert!(rt; !neighbour.join(&rt));
     Ok(())
 }

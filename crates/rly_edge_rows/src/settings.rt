@@ -31,7 +31,8 @@ fn what_is_left_out_is_the_default(rt: HostRuntime) {
             file,
             params,
             segments: 2,
-            length: None
+            length: None,
+            force: false
         }));
     let play = settings_of(&rt, ["rly", "play", "spool"].as_slice());
     expect!(rt; play == Some(Settings::Play { file, batch: 1 }));
@@ -70,7 +71,17 @@ fn what_is_given_is_read(rt: HostRuntime) {
             file,
             params,
             segments: 3,
-            length: Some(4096)
+            length: Some(4096),
+            force: false
+        }));
+    let forced = settings_of(&rt, ["rly", "format", "--force", "spool"].as_slice());
+    let params = Params::DEFAULT;
+    expect!(rt; forced == Some(Settings::Format {
+            file,
+            params,
+            segments: 2,
+            length: None,
+            force: true
         }));
     let play = settings_of(&rt, ["rly", "play", "--batch", "64", "spool"].as_slice());
     expect!(rt; play == Some(Settings::Play { file, batch: 64 }));
@@ -106,6 +117,12 @@ fn bad_words_are_refused(rt: HostRuntime) {
         assert!(rt;
             are_bad(&rt, ["rly", "play", "spool", batch].as_slice()),
             "{batch}"
+        );
+    }
+    for force in ["--force=1", "--force=true", "--forced", "-f"] {
+        assert!(rt;
+            are_bad(&rt, ["rly", "format", "spool", force].as_slice()),
+            "{force}"
         );
     }
     let twice = ["rly", "play", "spool", "--batch=1", "--batch=1"];

@@ -1,7 +1,8 @@
 -- What a crash leaves of a journal that a flusher owns, round by round.
-use Rattle.std.proofs.Common.{ℕ, ◌≡◌, ◌⊎◌, inl, inr, ⊎_elim, ◌++◌, ◌∷◌, [], List, Bool, true, false, refl, sym, ap, subst, ◌∙◌, arith, append_assoc, append-nil}
+use Rattle.std.proofs.Common.{ℕ, ◌≡◌, ◌⊎◌, inl, inr, ⊎_elim, ◌++◌, ◌∷◌, [], List, Bool, Option, None, length, true, false, refl, sym, ap, subst, ◌∙◌, arith, append_assoc, append-nil}
 use Rattle.std.proofs.lemmas.Bool.{false≢true}
 use Rattle.std.specs.List.{zip}
+use Rattle.rly_core.specs.Bounds.{IsIn}
 use Rattle.rly_core.specs.declared.refusal.Refusal.{Refusal}
 use Rattle.rly_core.specs.declared.refusal.Refusal.TheVariants.{Broken, Unsure}
 use Rattle.rly_disk.specs.DiskModel.{Consistent, DiskState, LeavesOnly, Settled}
@@ -15,19 +16,21 @@ use Rattle.rly_journal.specs.Journal.{IsRound, JournalState}
 use Rattle.rly_journal.specs.Rounds.{AreServed, refusal_of, refusals}
 use Rattle.rly_journal.specs.Standing.{Stands}
 use Rattle.rly_line.specs.Replies.{Teller}
-use Rattle.rly_line.specs.Responding.{IsResponding, Responding, calls_in}
+use Rattle.rly_line.specs.Batches.{BatchView}
+use Rattle.rly_line.specs.Responding.{AreLeft, IsResponding, Responding, calls_in}
 use Rattle.rly_line.specs.Submission.{LineId}
-use Rattle.rly_flush.specs.HelpersFlushing.{IsFlushing, IsRounded}
-use Rattle.rly_flush.specs.Flushing.{FlusherState, GrewInRound, HoldsAnswered, IsCrashSafe, IsDoubtful, IsOneHistory, answered_state, entries_since, state_reached}
+use Rattle.rly_flush.specs.HelpersFlushing.{AreCollected, IsFlushing, IsRounded}
+use Rattle.rly_flush.specs.Flushing.{FlusherState, GrewInRound, HoldsAnswered, IsCrashSafe, IsDoubtful, IsOneHistory, IsOneRound, answered_state, entries_since, kept_calls, state_reached}
 use Rattle.rly_flush.proofs.Joining.{GoesOn, goes_on}
 use Rattle.rly_flush.proofs.Refusing.{calls_in_append, calls_in_zip, grows, up_to}
 
--- a flusher once these calls were taken and answered
-abbrev pub next_of : {D : Type 0} → FlusherState D → JournalState D → List Teller → List Call → List Answer → FlusherState D
-next_of old journal lines calls given = record {
+-- a flusher once these calls came, those of a round were answered, and this batch was kept
+abbrev pub next_of : {D : Type 0} → FlusherState D → JournalState D → Option BatchView → List Teller → List Call → List Call → List Answer → FlusherState D
+next_of old journal left lines came calls given = record {
   first = old.first;
   journal = journal;
-  line = record { of = old.line.of; taken = old.line.taken ++ calls; start = old.line.start; history = old.line.history ++ zip calls given; lines = lines };
+  kept = left;
+  line = record { of = old.line.of; taken = old.line.taken ++ came; start = old.line.start; history = old.line.history ++ zip calls given; lines = lines };
 }
 
 -- refusals after refusals
@@ -51,7 +54,7 @@ module _ {D : Type 0} (state : D → DiskState) (consistent : (disk : D) → (st
       → IsCrashSafe state f f
   at_rest f same whole stands = record {
     calls = [];
-    doubtful = inl (whole, sym (append-nil f.line.taken));
+    doubtful = inl (whole, sym (append-nil (calls_in f.line.history)));
     given = [];
     target = state_reached f;
     served = record { count = refl; legal = tt; only = tt; state = refl };
@@ -113,12 +116,16 @@ module _ {D : Type 0} (state : D → DiskState) (consistent : (disk : D) → (st
       }
 
   module _ (old : FlusherState D) (kept : IsFlushing state old) where
-    module _ (journal : JournalState D) (lines : List Teller) (calls : List Call) (given : List Answer) (now : IsRounded state old.journal journal calls given) where
+    module _ (journal : JournalState D) (left : Option BatchView) (lines : List Teller) (came calls : List Call) (given : List Answer) (now : IsRounded state old.journal journal calls given) where
       abbrev next : FlusherState D
-      next = next_of old journal lines calls given
+      next = next_of old journal left lines came calls given
 
       pub on : GoesOn state old.journal journal old.line.start old.line.history calls given
       on = goes_on state old.journal journal old.line.start old.line.history calls given now.round kept.position_is kept.running kept.unharmed
+
+      -- the calls of the history are those before and these
+      pub more : calls_in next.line.history ≡ calls_in old.line.history ++ calls
+      more = calls_in_append old.line.history (zip calls given) ∙ ap (λ l. calls_in old.line.history ++ l) (calls_in_zip calls given on.count)
 
       -- the history went on, and each failure in what was added is true
       pub grew : GrewInRound state old next
@@ -139,7 +146,7 @@ module _ {D : Type 0} (state : D → DiskState) (consistent : (disk : D) → (st
           let same : old.journal.state ≡ state_reached old = kept.running whole in
           record {
             calls = calls;
-            doubtful = inl (whole, refl);
+            doubtful = inl (whole, more);
             given = safe.given;
             target = safe.target;
             served = subst (λ s. AreServed calls safe.given s safe.target) same safe.served;
@@ -192,12 +199,13 @@ module _ {D : Type 0} (state : D → DiskState) (consistent : (disk : D) → (st
       same_by (inr (inr breaks)) broke = absurd (false≢true (sym breaks.0 ∙ broke))
 
       -- all of it goes on
-      pub kept_next : IsResponding next.line → IsFlushing state next
-      kept_next responding = record {
+      pub kept_next : kept_calls old.kept ++ came ≡ calls ++ kept_calls left → IsResponding next.line → IsFlushing state next
+      kept_next in_turn responding = record {
         responding = responding;
         start = kept.start;
         as_given = kept.as_given;
-        answered = calls_in_append old.line.history (zip calls given) ∙ ap (λ l. l ++ calls_in (zip calls given)) kept.answered ∙ ap (λ l. old.line.taken ++ l) (calls_in_zip calls given on.count);
+        answered = ap (λ l. l ++ kept_calls left) more ∙ append_assoc (calls_in old.line.history) calls (kept_calls left) ∙ ap (λ l. calls_in old.line.history ++ l) (sym in_turn)
+            ∙ sym (append_assoc (calls_in old.line.history) (kept_calls old.kept) came) ∙ ap (λ l. l ++ came) kept.answered;
         legal = legal_append (λ reply. reply) 0 old.line.start old.line.history (zip calls given) kept.legal on.legal;
         position_is = on.position_is;
         running = on.running;
@@ -214,46 +222,69 @@ pub record HasGone {D : Type 0} (state : D → DiskState) (old new : FlusherStat
   pub grew : GrewInRound state old new
   pub safe : (state old.journal.disk).honest → old.first.broken ≡ false → IsCrashSafe state old new
 
-module _ {D : Type 0} (state : D → DiskState) (consistent : (disk : D) → (state disk).honest → Consistent (state disk)) {old : FlusherState D} {collected : Responding} {calls : List Call}
-    (kept : IsFlushing state old) (taken : collected ≡ record old.line { taken = old.line.taken ++ calls }) where
-  -- without a call
-  pub stayed : calls ≡ [] → HasGone state old (record old { line = collected })
-  stayed none =
-      let same : collected ≡ old.line = taken ∙ ap (λ l. record old.line { taken = old.line.taken ++ l }) none ∙ ap (λ l. record old.line { taken = l }) (append-nil old.line.taken) in
-      subst (λ (l : Responding). HasGone state old (record old { line = l })) (sym same)
+module _ {D : Type 0} (state : D → DiskState) (consistent : (disk : D) → (state disk).honest → Consistent (state disk)) {old : FlusherState D} (kept : IsFlushing state old) where
+  -- without a round
+  pub stayed : {line : Responding} {left : Option BatchView} → old.kept ≡ None → left ≡ None → line ≡ old.line → HasGone state old (record old { kept = left; line = line })
+  stayed {line} {left} none none_left same =
+      subst (λ (y : Option BatchView × Responding). HasGone state old (record old { kept = y.0; line = y.1 })) (λ i. ((none ∙ sym none_left) i, sym same i))
       (record { flushing = kept; history = one_history state consistent old kept; grew = record { added = []; history = sym (append-nil old.line.history); truthful = tt }; safe = kept.safe })
 
-  module _ {said : List Call} {given : List Answer} {journal : JournalState D} (same : said ≡ calls) (now : IsRounded state old.journal journal calls given) where
-    -- the answers may be told
+  module _ {collected : Responding} {left : Option BatchView} {calls said : List Call} {given : List Answer} {journal : JournalState D} (taken : AreCollected old.line collected old.kept left calls) (same : said ≡ calls)
+      (now : IsRounded state old.journal journal calls given) where
+    -- the calls were taken and are not answered yet
+    pub left_to_tell : (rest : List Call) × AreLeft collected (said ++ rest)
+    left_to_tell = (
+      kept_calls left,
+      subst (λ (y : Responding × List Call). AreLeft y.0 (y.1 ++ kept_calls left)) (λ i. (sym taken.line i, sym same i))
+          (ap (λ l. l ++ taken.came) (sym kept.answered) ∙ append_assoc (calls_in old.line.history) (kept_calls old.kept) taken.came ∙ ap (λ l. calls_in old.line.history ++ l) taken.in_turn),
+    )
+
+    -- there are as many answers
+    pub as_many : length given ≡ length said
+    as_many = (on state consistent old kept journal left old.line.lines taken.came calls given now).count ∙ ap length (sym same)
+
+    -- and they may be told
     pub may_tell : LegalBy without_bytes (harm_after 0 collected.history) (state_after collected.start collected.history) (zip said given)
     may_tell =
-        subst (λ (y : Responding × List Call). LegalBy without_bytes (harm_after 0 y.0.history) (state_after y.0.start y.0.history) (zip y.1 given)) (λ i. (sym taken i, sym same i))
-        (legal_but_for_bytes (harm_after 0 old.line.history) (state_after old.line.start old.line.history) (zip calls given) (on state consistent old kept journal old.line.lines calls given now).legal)
+        subst (λ (y : Responding × List Call). LegalBy without_bytes (harm_after 0 y.0.history) (state_after y.0.start y.0.history) (zip y.1 given)) (λ i. (sym taken.line i, sym same i))
+        (legal_but_for_bytes (harm_after 0 old.line.history) (state_after old.line.start old.line.history) (zip calls given) (on state consistent old kept journal left old.line.lines taken.came calls given now).legal)
 
     -- once all were told
     pub went_on : {line : Responding} → line ≡ record collected { history = collected.history ++ zip said given; lines = line.lines } → IsResponding line
-        → HasGone state old (record { first = old.first; journal = journal; line = line })
+        → HasGone state old (record { first = old.first; journal = journal; kept = left; line = line })
     went_on {line} told responding =
-        let next : FlusherState D = next_of old journal line.lines calls given in
-        let is : line ≡ next.line = told ∙ ap (λ (y : Responding × List Call). record y.0 { history = y.0.history ++ zip y.1 given; lines = line.lines }) (λ i. (taken i, same i)) in
-        let flushing = kept_next state consistent old kept journal line.lines calls given now (subst IsResponding is responding) in
-        subst (λ (l : Responding). HasGone state old (record { first = old.first; journal = journal; line = l })) (sym is) (record {
+        let next : FlusherState D = next_of old journal left line.lines taken.came calls given in
+        let is : line ≡ next.line = told ∙ ap (λ (y : Responding × List Call). record y.0 { history = y.0.history ++ zip y.1 given; lines = line.lines }) (λ i. (taken.line i, same i)) in
+        let flushing = kept_next state consistent old kept journal left line.lines taken.came calls given now taken.in_turn (subst IsResponding is responding) in
+        subst (λ (l : Responding). HasGone state old (record { first = old.first; journal = journal; kept = left; line = l })) (sym is) (record {
           flushing = flushing;
           history = one_history state consistent next flushing;
-          grew = grew state consistent old kept journal line.lines calls given now;
-          safe = round_safe state consistent old kept journal line.lines calls given now;
+          grew = grew state consistent old kept journal left line.lines taken.came calls given now;
+          safe = round_safe state consistent old kept journal left line.lines taken.came calls given now;
         })
+
+    -- which was one round
+    pub one_round : {line : Responding} → line ≡ record collected { history = collected.history ++ zip said given; lines = line.lines } → IsIn 1 64 (length calls)
+        → IsOneRound state old (record { first = old.first; journal = journal; kept = left; line = line })
+    one_round {line} told count = record {
+      calls = calls;
+      given = given;
+      count = count;
+      in_turn = record { came = taken.came; taken = ap (λ (l : Responding). l.taken) told ∙ ap (λ (l : Responding). l.taken) taken.line; in_turn = taken.in_turn; full = taken.full };
+      history = ap (λ (l : Responding). l.history) told ∙ (λ i. (taken.line i).history ++ zip (same i) given);
+      round = now.round;
+    }
 
 -- nothing was taken yet
 pub at_first : {D : Type 0} (state : D → DiskState) (consistent : (disk : D) → (state disk).honest → Consistent (state disk)) (journal : JournalState D) (of : LineId) (line : Responding) (lines : List Teller)
     → line ≡ record { of = of; taken = []; start = answered_state journal; history = []; lines = lines } → IsResponding line
     → (journal.broken ≡ false → journal.position ≡ journal.state.seq)
     → ((state journal.disk).honest → journal.broken ≡ false → Settled (state journal.disk) × Stands (state journal.disk).seen journal.state)
-    → IsFlushing state (record { first = journal; journal = journal; line = line })
+    → IsFlushing state (record { first = journal; journal = journal; kept = None; line = line })
 at_first {D} state consistent journal of line lines is responding counted durable =
     let same : journal.broken ≡ false → answered_state journal ≡ journal.state = λ whole. ap (λ n. record journal.state { seq = n }) (counted whole) in
     let at : Responding = record { of = of; taken = []; start = answered_state journal; history = []; lines = lines } in
-    subst (λ (l : Responding). IsFlushing state (record { first = journal; journal = journal; line = l })) (sym is)
+    subst (λ (l : Responding). IsFlushing state (record { first = journal; journal = journal; kept = None; line = l })) (sym is)
     (record {
       responding = subst IsResponding is responding;
       start = refl;
@@ -265,5 +296,5 @@ at_first {D} state consistent journal of line lines is responding counted durabl
       unharmed = λ _. refl;
       still = λ _. refl;
       later = record { size = refl; honest = (λ h. h, λ h. h); calls = omega arith; failures = omega arith; syncs = omega arith; failed_reads = omega arith };
-      safe = λ honest whole. at_rest state consistent (record { first = journal; journal = journal; line = at }) (sym (same whole)) whole (durable honest whole);
+      safe = λ honest whole. at_rest state consistent (record { first = journal; journal = journal; kept = None; line = at }) (sym (same whole)) whole (durable honest whole);
     })

@@ -1,4 +1,5 @@
 pub mod Refusing
+pub mod Collecting
 pub mod Answering
 pub mod Joining
 pub mod Crashing

@@ -1,5 +1,6 @@
 -- The flusher: one history of all calls that it took, what the journal stands at, and what a crash leaves.
-use Rattle.std.specs.Prelude.{ℕ, ◌≡◌, ◌≤◌, ◌⊎◌, ◌+◌, List, [], ◌++◌, true, false, length}
+use Rattle.std.specs.Prelude.{ℕ, ◌≡◌, ◌<◌, ◌≤◌, ◌⊎◌, ◌+◌, List, [], ◌++◌, length}
+use Rattle.std.specs.Prelude.{Option, None, Some, IfSome, true, false}
 use Rattle.std.specs.List.{AllByRecursion, zip}
 use Rattle.rly_core.specs.Bounds.{IsIn}
 use Rattle.rly_core.specs.declared.refusal.Refusal.TheVariants.{Broken, DeviceRead, Unsure}
@@ -13,25 +14,34 @@ use Rattle.rly_machine.specs.State.{State}
 use Rattle.rly_journal.specs.Journal.{IsRound, JournalState}
 use Rattle.rly_journal.specs.Rounds.{AreServed, refusals}
 use Rattle.rly_journal.specs.Standing.{Stands}
+use Rattle.rly_line.specs.Batches.{BatchView, calls_in_batch}
 use Rattle.rly_line.specs.EndViews.{EndView}
 use Rattle.rly_line.specs.Responding.{AreTold, Responding, calls_in}
 
--- what contracts see of a flusher: the journal that it was given, that journal now, and what became of the calls
+-- what contracts see of a flusher: the journal that it was given, that journal now, the batch that it keeps for its
+-- next round, if one did not fit into the last, and what became of the calls
 pub record FlusherState (D : Type 0) : Type 0 where
   pub first : JournalState D
   pub journal : JournalState D
+  pub kept : Option BatchView
   pub line : Responding
+
+-- the calls of the batch that is kept
+abbrev pub kept_calls : Option BatchView → List Call
+kept_calls None = []
+kept_calls (Some batch) = calls_in_batch batch
 
 -- the state of a journal as far as was answered: its running state, which where it is broken counts as many commands as
 -- its position
 abbrev pub answered_state : {D : Type 0} → JournalState D → State (List ℕ)
 answered_state j = record j.state { seq = j.position }
 
--- a flusher with this journal at the end of new lines, which took no call yet
+-- a flusher with this journal at the end of new lines, which took no call yet and keeps none
 abbrev pub new_flusher : {D : Type 0} → JournalState D → EndView → FlusherState D
 new_flusher given end = record {
   first = given;
   journal = given;
+  kept = None;
   line = record { of = end.of; taken = []; start = answered_state given; history = []; lines = end.lines };
 }
 
@@ -43,12 +53,20 @@ state_reached f = state_after f.line.start f.line.history
 abbrev pub entries_since : ℕ → List Call → List Call → List Entry
 entries_since p broke behind = zip broke (refusals Unsure p broke) ++ zip behind (refusals Broken p behind)
 
--- one round: 1 to 64 calls were taken, and answered by one round of the journal
+-- calls came: the batch that was kept and those that came after it are the calls of a round, in order, and the batch
+-- that is kept now, which didn't fit
+pub record IsInTurn {D : Type 0} (old new : FlusherState D) (calls : List Call) : Type 0 where
+  pub came : List Call
+  pub taken : new.line.taken ≡ old.line.taken ++ came
+  pub in_turn : kept_calls old.kept ++ came ≡ calls ++ kept_calls new.kept
+  pub full : IfSome new.kept (λ batch. 64 < length calls + length batch.asks)
+
+-- one round: 1 to 64 calls, that of the batch that was kept first, were answered by one round of the journal
 pub record IsOneRound {D : Type 0} (state : D → DiskState) (old new : FlusherState D) : Type 0 where
   pub calls : List Call
   pub given : List Answer
   pub count : IsIn 1 64 (length calls)
-  pub taken : new.line.taken ≡ old.line.taken ++ calls
+  pub in_turn : IsInTurn old new calls
   pub history : new.line.history ≡ old.line.history ++ zip calls given
   pub round : IsRound state old.journal new.journal calls given
 
@@ -78,11 +96,11 @@ GrewInRounds state old new =
     ((old.journal.broken ≡ true) ⊎ HasFailed (state old.journal.disk) (state new.journal.disk))
     old.line.history new.line.history
 
--- the round whose commands may stand or not: that of these calls, which were taken now; where the journal was broken
+-- the round whose commands may stand or not: that of these calls, which were answered now; where the journal was broken
 -- before, the one that broke it
 abbrev pub IsDoubtful : {D : Type 0} → FlusherState D → FlusherState D → List Call → Type 0
 IsDoubtful old new calls =
-    ((old.journal.broken ≡ false) × (new.line.taken ≡ old.line.taken ++ calls))
+    ((old.journal.broken ≡ false) × (calls_in new.line.history ≡ calls_in old.line.history ++ calls))
     ⊎ ((old.journal.broken ≡ true) × (before : List Entry) × (behind : List Call)
     × (old.line.history ≡ before ++ entries_since old.journal.position calls behind))
 
@@ -110,8 +128,8 @@ KeepsAnswered disk history = (image : List ℕ) → disk.images image → HoldsA
 
 -- what holds at each exit: there is one history of the calls that were taken
 pub record IsOneHistory {D : Type 0} (state : D → DiskState) (f : FlusherState D) : Type 0 where
-  -- its calls are those, in the order in which they were taken
-  pub calls : calls_in f.line.history ≡ f.line.taken
+  -- its calls are those, in the order in which they were taken, but for the batch that is kept, which was taken last
+  pub calls : calls_in f.line.history ++ kept_calls f.kept ≡ f.line.taken
   -- it is legal from the state of the journal that was given
   pub start : f.line.start ≡ answered_state f.first
   pub as_given : f.first.broken ≡ false → f.line.start ≡ f.first.state
@@ -144,6 +162,7 @@ pub record IsContinued {D : Type 0} (state : D → DiskState) (old new : Flusher
   pub any_moment : (state old.journal.disk).honest → old.first.broken ≡ false
       → LeavesOnly (state old.journal.disk) (state new.journal.disk) (HoldsAnswered old.line.history)
 
--- rounds were made until all seats were gone, and left this journal
+-- rounds were made until all seats were gone, and left this journal, with no batch kept
 abbrev pub IsServed : {D : Type 0} → (D → DiskState) → FlusherState D → JournalState D → Type 0
-IsServed {D} state old left = (last : FlusherState D) × (last.journal ≡ left) × IsContinued state old last
+IsServed {D} state old left =
+    (last : FlusherState D) × (last.journal ≡ left) × (last.kept ≡ None) × IsContinued state old last

@@ -1,4 +1,4 @@
-ghost use Rattle.std.specs.Prelude.{◌≡◌, ◌≤◌, ℕ, [], false, length, map, vec_capacity, IfErr, IfOk, MatchBool};
+ghost use Rattle.std.specs.Prelude.{◌≡◌, ◌≤◌, ℕ, [], None, false, length, map, vec_capacity, IfErr, IfOk, MatchBool};
 ghost use Rattle.std.specs.List.{range_with_len};
 ghost use Rattle.rly_core.specs.Bounds.{IsIn};
 ghost use Rattle.rly_disk.specs.DiskModel.{Later};
@@ -9,10 +9,10 @@ ghost use Rattle.rly_flush.specs.Flushing.{GrewInRound, IsCrashSafe, IsOneHistor
 ghost use Rattle.rly_flush.specs.HelpersFlushing.{IsRounded};
 
 use crate::owned_journal::OwnedJournal;
-use crate::round_calls::{answer_all, collect, reserve};
+use crate::round_calls::{Lists, answer_all, collect};
 use rly_disk::Disk;
 use rly_journal::Journal;
-use rly_line::{LineEnd, Responder, Seat};
+use rly_line::{Batch, LineEnd, Responder, Seat};
 use rly_machine::{Answer, Call};
 use std::alloc::Global;
 use std::marker::Model;
@@ -20,29 +20,27 @@ use std::snapshot::Snapshot;
 use std::sync::Wait;
 
 /// The one thread that owns the journal, at the end of all seats' lines. Contracts see the journal that it was given,
-/// that journal now, and what became of the calls.
+/// that journal now, the batch that is kept for the next round, and what became of the calls.
 #[derive(Drop)]
 pub struct Flusher<D: Disk> {
     alloc: Global,
     first: Snapshot<OwnedJournal<D>>,
     owned: OwnedJournal<D>,
     line: Responder<OwnedJournal<D>>,
-    calls: Vec<Call>,
-    said: Vec<Snapshot<Call>>,
-    answers: Vec<Answer>,
+    kept: Option<Batch>,
+    lists: Lists,
 }
 
 impl<D: Disk> Model for Flusher<D> {
-    ghost use Rattle.std.specs.Prelude.{◌≡◌, ◌≤◌, [], vec_capacity};
-    ghost use Rattle.rly_flush.specs.HelpersFlushing.{AreReady, IsFlushing};
+    ghost use Rattle.rly_flush.specs.HelpersFlushing.{IsFlushing, IsReady};
     ghost use Rattle.rly_flush.specs.Flushing.{FlusherState};
 
     ghost Value = { FlusherState D };
 
-    ghost view = { λ f. record { first = f.first.value.journal; journal = f.owned.journal; line = f.line } };
+    ghost view = { λ f. record { first = f.first.value.journal; journal = f.owned.journal; kept = f.kept; line = f.line } };
 
-    ghost invariant = { λ f. IsFlushing D.state (record { first = f.first.value.journal; journal = f.owned.journal; line = f.line })
-        × AreReady f.calls f.said f.answers };
+    ghost invariant = { λ f. IsFlushing D.state (record { first = f.first.value.journal; journal = f.owned.journal; kept = f.kept; line = f.line })
+        × IsReady f.lists };
 }
 
 /// What a flusher leaves once all seats are gone.
@@ -66,7 +64,7 @@ impl<D: Disk> Flusher<D> {
         ensures history { IfOk result (λ flusher. IsOneHistory D.state flusher) }
         ensures refused { IfErr result (λ back. (back.0 ≡ journal) × (back.1 ≡ line_end)) }
     {
-        let Ok((calls, said, answers)) = reserve(alloc) else {
+        let Ok(lists) = Lists::reserve(alloc) else {
             return Err((journal, line_end));
         };
         journal.law_durable();
@@ -79,17 +77,18 @@ impl<D: Disk> Flusher<D> {
             first,
             owned,
             line,
-            calls,
-            said,
-            answers,
+            kept: None,
+            lists,
         })
     }
 
-    /// Waits for a call, takes more while there are any, 64 at most, makes one round of the journal for them, and
-    /// answers each in its seat's line. False: no call was left, and no seat.
+    /// Takes the batch that was kept, or else waits for one, takes more while there are any and they hold at most 64
+    /// calls together, makes one round of the journal for them, and answers each batch in its seat's line. The batch
+    /// that did not fit is kept for the next round. False: no batch was left, and no seat.
     pub fn round<R: Wait>(&mut self, rt: &R) -> bool
-        // It answers true exactly where it took calls, and made one round of the journal for them.
+        // It answers true exactly where it made one round of the journal, for the batch that was kept and those it took.
         ensures took { MatchBool result (IsOneRound D.state self.old self.new) (self.new ≡ self.old) }
+        ensures none_kept { result ≡ false → self.old.kept ≡ None }
         ensures first { self.new.first ≡ self.old.first }
         ensures of { self.new.line.of ≡ self.old.line.of }
         ensures start { self.new.line.start ≡ self.old.line.start }
@@ -99,16 +98,22 @@ impl<D: Disk> Flusher<D> {
         ensures any_moment { (D.state self.old.journal.disk).honest → self.old.first.broken ≡ false → IsCrashSafe D.state self.old self.new }
         ensures later { Later (D.state self.old.journal.disk) (D.state self.new.journal.disk) }
     {
-        if !collect(rt, &mut self.line, &mut self.calls, &mut self.said) {
+        if !collect(rt, &mut self.line, &mut self.kept, &mut self.lists) {
             return false;
         }
         commit(
             self.alloc,
             &mut self.owned.journal,
-            &mut self.calls,
-            &mut self.answers,
+            &mut self.lists.calls,
+            &mut self.lists.answers,
         );
-        answer_all(rt, &mut self.line, &mut self.said, &mut self.answers);
+        answer_all(
+            rt,
+            &mut self.line,
+            &mut self.lists.said,
+            &mut self.lists.wanted,
+            &mut self.lists.answers,
+        );
         true
     }
 
@@ -154,9 +159,8 @@ impl<D: Disk> Flusher<D> {
             first: _first,
             owned,
             line: _line,
-            calls: _calls,
-            said: _said,
-            answers: _answers,
+            kept: _kept,
+            lists: _lists,
         } = self;
         let OwnedJournal { journal } = owned;
         Finished {

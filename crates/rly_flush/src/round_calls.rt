@@ -1,14 +1,17 @@
-//! The calls of one round, and their answers.
+//! The batches of one round, and their answers.
 
-ghost use Rattle.std.specs.Prelude.{◌≡◌, ◌+◌, ◌<◌, ◌≤◌, ◌++◌, ◌∷◌, [], false, true, length, map, vec_capacity, IfOk, MatchBool};
+ghost use Rattle.std.specs.Prelude.{◌≡◌, ◌+◌, ◌<◌, ◌≤◌, ◌++◌, ◌∷◌, [], List, None, false, length, map, vec_capacity, IfNone, IfOk, IfSome, MatchBool};
 ghost use Rattle.std.specs.List.{zip};
 ghost use Rattle.rly_core.specs.Bounds.{IsIn};
+ghost use Rattle.rly_machine.specs.declared.call.Call.{Call as ACall};
 ghost use Rattle.rly_machine.specs.History.{LegalBy, harm_after, state_after, without_bytes};
+ghost use Rattle.rly_line.specs.Batches.{calls_in_batch, no_answers};
 ghost use Rattle.rly_line.specs.Responding.{AreLeft, IsResponding};
-ghost use Rattle.rly_flush.specs.HelpersFlushing.{said_of};
+ghost use Rattle.rly_flush.specs.Flushing.{kept_calls};
+ghost use Rattle.rly_flush.specs.HelpersFlushing.{AreCollected, HasRoom, IsReady, answers_said, calls_said};
 
 use rly_core::limits;
-use rly_line::{Responder, Standing};
+use rly_line::{Answers, Batch, Responder, Standing};
 use rly_machine::{Answer, Call};
 use std::alloc::{AllocError, Global};
 use std::marker::Model;
@@ -18,84 +21,138 @@ use std::sync::Wait;
 /// So many calls a round takes at most.
 const MAX_CALLS: usize = limits::MAX_ROUND as usize;
 
-/// The lists of one round, which are empty between rounds: the calls, the same calls for the history, which take no
-/// room, and the answers. Their memory is reserved once.
-pub(crate) type Lists = (Vec<Call>, Vec<Snapshot<Call>>, Vec<Answer>);
-
-/// Empty lists with room for one round.
-pub(crate) fn reserve(alloc: Global) -> Result<Lists, AllocError>
-    ensures calls { IfOk result (λ lists. (lists.0.items ≡ []) × (vec_capacity lists.0 ≡ 64)) }
-    ensures said { IfOk result (λ lists. (lists.1.items ≡ []) × (vec_capacity lists.1 ≡ 64)) }
-    ensures answers { IfOk result (λ lists. (lists.2.items ≡ []) × (vec_capacity lists.2 ≡ 64)) }
-{
-    let calls = Vec::with_capacity(alloc, MAX_CALLS)?;
-    let said = Vec::with_capacity(alloc, MAX_CALLS)?;
-    let answers = Vec::with_capacity(alloc, MAX_CALLS)?;
-    Ok((calls, said, answers))
+/// The lists of one round, which are empty between rounds. Their memory is reserved once.
+#[derive(Drop)]
+pub(crate) struct Lists {
+    /// The calls of its batches.
+    pub(crate) calls: Vec<Call>,
+    /// Its batches, for the history. They take no room.
+    pub(crate) said: Vec<Snapshot<Batch>>,
+    /// Where the answers to each batch go.
+    pub(crate) wanted: Vec<Answers>,
+    /// The answers to the calls.
+    pub(crate) answers: Vec<Answer>,
 }
 
-/// Waits for a call, and takes more while there are any, 64 at most. False: no call was left, and no seat.
+impl Lists {
+    /// Empty lists with room for one round.
+    pub(crate) fn reserve(alloc: Global) -> Result<Lists, AllocError>
+        ensures { IfOk result (λ lists. IsReady lists) }
+    {
+        let calls = Vec::with_capacity(alloc, MAX_CALLS)?;
+        let said = Vec::with_capacity(alloc, MAX_CALLS)?;
+        let wanted = Vec::with_capacity(alloc, MAX_CALLS)?;
+        let answers = Vec::with_capacity(alloc, MAX_CALLS)?;
+        Ok(Lists {
+            calls,
+            said,
+            wanted,
+            answers,
+        })
+    }
+
+    /// Adds a batch, whose calls there is room for.
+    fn add(&mut self, batch: Batch)
+        requires calls_room { length self.old.calls.items + length batch.asks ≤ vec_capacity self.old.calls }
+        requires said_room { length self.old.said.items < vec_capacity self.old.said }
+        requires wanted_room { length self.old.wanted.items < vec_capacity self.old.wanted }
+        requires wanted { self.old.wanted.items ≡ answers_said self.old.said.items }
+        ensures calls { self.new.calls.items ≡ self.old.calls.items ++ calls_in_batch batch }
+        ensures said { calls_said self.new.said.items ≡ calls_said self.old.said.items ++ calls_in_batch batch }
+        ensures wanted { self.new.wanted.items ≡ answers_said self.new.said.items }
+        ensures count { length self.new.said.items ≡ length self.old.said.items + 1 }
+        ensures calls_capacity { vec_capacity self.new.calls ≡ vec_capacity self.old.calls }
+        ensures said_capacity { vec_capacity self.new.said ≡ vec_capacity self.old.said }
+        ensures wanted_capacity { vec_capacity self.new.wanted ≡ vec_capacity self.old.wanted }
+        ensures answers { self.new.answers ≡ self.old.answers }
+    {
+        self.said.push_reserved(Snapshot::of(&batch));
+        let wanted = batch.into_calls(&mut self.calls);
+        self.wanted.push_reserved(wanted);
+    }
+}
+
+/// The batch that was kept, or else the next of the line, which it waits for. None: no batch was left, and no seat.
+fn first_batch<T: Standing, R: Wait>(
+    rt: &R,
+    line: &mut Responder<T>,
+    kept: &mut Option<Batch>,
+) -> Option<Batch>
+    requires holds { IsResponding line.old }
+    ensures emptied { kept.new ≡ None }
+    ensures some { IfSome result (λ batch. AreCollected line.old line.new kept.old None (calls_in_batch batch)) }
+    ensures none { IfNone result ((kept.old ≡ None) × (line.new ≡ line.old)) }
+    ensures holds { IsResponding line.new }
+{
+    match kept.take() {
+        Some(batch) => Some(batch),
+        None => line.wait(rt),
+    }
+}
+
+/// Collects the batches of a round: the one that was kept or else the next of the line, which it waits for, and more
+/// while there are any and they hold at most 64 calls together. The one that doesn't fit is kept. False: no batch was
+/// left, and no seat.
 pub(crate) fn collect<T: Standing, R: Wait>(
     rt: &R,
     line: &mut Responder<T>,
-    calls: &mut Vec<Call>,
-    said: &mut Vec<Snapshot<Call>>,
+    kept: &mut Option<Batch>,
+    lists: &mut Lists,
 ) -> bool
-    requires empty { (calls.old.items ≡ []) × (said.old.items ≡ []) }
-    requires room { (64 ≤ vec_capacity calls.old) × (64 ≤ vec_capacity said.old) }
-    ensures taken { line.new ≡ record line.old { taken = line.old.taken ++ calls.new.items } }
-    ensures said { said_of said.new ≡ calls.new.items }
-    ensures count { MatchBool result (IsIn 1 64 (length calls.new.items)) ((calls.new.items ≡ []) × (said.new.items ≡ [])) }
-    ensures calls_capacity { vec_capacity calls.new ≡ vec_capacity calls.old }
-    ensures said_capacity { vec_capacity said.new ≡ vec_capacity said.old }
+    requires holds { IsResponding line.old }
+    requires ready { IsReady lists.old }
+    ensures stayed { result ≡ false → (kept.old ≡ None) × (kept.new ≡ None) × (line.new ≡ line.old) × (lists.new ≡ lists.old) }
+    ensures collected { AreCollected line.old line.new kept.old kept.new lists.new.calls.items }
+    ensures said { calls_said lists.new.said.items ≡ lists.new.calls.items }
+    ensures wanted { lists.new.wanted.items ≡ answers_said lists.new.said.items }
+    ensures count { MatchBool result (IsIn 1 64 (length lists.new.calls.items)) (lists.new.calls.items ≡ []) }
+    ensures answers { lists.new.answers.items ≡ [] }
+    ensures room { HasRoom lists.new }
     ensures holds { IsResponding line.new }
 {
-    let Some(call) = line.wait(rt) else {
+    let Some(first) = first_batch(rt, line, kept) else {
         return false;
     };
-    keep(calls, said, call);
+    let _count = first.len();
+    lists.add(first);
     for _count in 1..MAX_CALLS {
-        let Some(call) = line.more(rt) else {
+        let Some(batch) = line.more(rt) else {
             break;
         };
-        keep(calls, said, call);
+        if lists.calls.len() + batch.len() > MAX_CALLS {
+            *kept = Some(batch);
+            break;
+        }
+        lists.add(batch);
     }
     true
 }
 
-/// Adds a call to both lists.
-fn keep(calls: &mut Vec<Call>, said: &mut Vec<Snapshot<Call>>, call: Call)
-    requires room { (length calls.old.items < vec_capacity calls.old) × (length said.old.items < vec_capacity said.old) }
-    ensures calls { calls.new.items ≡ calls.old.items ++ call ∷ [] }
-    ensures said { said_of said.new ≡ said_of said.old ++ call ∷ [] }
-    ensures count { length said.new.items ≡ length said.old.items + 1 }
-    ensures calls_capacity { vec_capacity calls.new ≡ vec_capacity calls.old }
-    ensures said_capacity { vec_capacity said.new ≡ vec_capacity said.old }
-{
-    said.push_reserved(Snapshot::of(&call));
-    calls.push_reserved(call);
-}
-
-/// Answers calls that were taken and are not answered yet, each in its seat's line.
+/// Answers batches that were taken and are not answered yet, each in its seat's line.
 pub(crate) fn answer_all<T: Standing, R: Wait>(
     rt: &R,
     line: &mut Responder<T>,
-    said: &mut Vec<Snapshot<Call>>,
+    said: &mut Vec<Snapshot<Batch>>,
+    wanted: &mut Vec<Answers>,
     answers: &mut Vec<Answer>,
 )
     requires holds { IsResponding line.old }
-    requires left { AreLeft line.old (said_of said.old) }
-    requires count { length answers.old.items ≡ length said.old.items }
-    requires legal { LegalBy without_bytes (harm_after 0 line.old.history) (state_after line.old.start line.old.history) (zip (said_of said.old) answers.old.items) }
-    ensures line { line.new ≡ record line.old { history = line.old.history ++ zip (said_of said.old) answers.old.items; lines = line.new.lines } }
-    ensures emptied { (said.new.items ≡ []) × (answers.new.items ≡ []) }
+    requires left { (left : List ACall) × AreLeft line.old (calls_said said.old.items ++ left) }
+    requires wanted { wanted.old.items ≡ answers_said said.old.items }
+    requires count { length answers.old.items ≡ length (calls_said said.old.items) }
+    requires legal { LegalBy without_bytes (harm_after 0 line.old.history) (state_after line.old.start line.old.history) (zip (calls_said said.old.items) answers.old.items) }
+    ensures line { line.new ≡ record line.old { history = line.old.history ++ zip (calls_said said.old.items) answers.old.items; lines = line.new.lines } }
+    ensures emptied { (said.new.items ≡ []) × (wanted.new.items ≡ []) × (answers.new.items ≡ []) }
     ensures said_capacity { vec_capacity said.new ≡ vec_capacity said.old }
+    ensures wanted_capacity { vec_capacity wanted.new ≡ vec_capacity wanted.old }
     ensures answers_capacity { vec_capacity answers.new ≡ vec_capacity answers.old }
     ensures holds { IsResponding line.new }
 {
     let mut next = 0;
-    for answer in answers.drain(..) {
-        line.answer(rt, &said[next], answer);
+    for wanted in wanted.drain(..) {
+        let batch = &said[next];
+        let filled = wanted.fill(answers);
+        line.answer(rt, batch, filled);
         next += 1;
     }
     said.clear();

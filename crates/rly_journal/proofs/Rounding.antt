@@ -183,9 +183,11 @@ logging_none state a gate group (command ∷ commands) s t gathers none = absurd
 -- a round that opened no segment
 pub serve_made : {D : Type 0} (state : D → DiskState) (old new : JournalState D) (calls : List Call) (given : List Answer) (group : GroupState) → AreServed calls given old.state new.state
     → Gathers (accepted_of (zip calls given)) group old.state new.state → (IsDueFor old calls → ⊥)
-    → Makes state (logging old.tail.gate (accepted_of (zip calls given))) (not new.broken) old.disk new.disk → MakesRound state old new calls
-serve_made state old new calls given group served gathers none makes = record {
+    → Makes state (logging old.tail.gate (accepted_of (zip calls given))) (not new.broken) old.disk new.disk
+    → (before after : List Answer) → (new.broken ≡ false → after ≡ before ++ given) → MakesRound state old new calls before after
+serve_made state old new calls given group served gathers none makes before after told = record {
   given = given;
+  told = told;
   served = served;
   recorded = gathers.have;
   opened = false;
@@ -194,7 +196,7 @@ serve_made state old new calls given group served gathers none makes = record {
   makes = makes;
 }
 
-module _ {D : Type 0} (state : D → DiskState) (old new : JournalState D) (calls : List Call) (made : MakesRound state old new calls) where
+module _ {D : Type 0} (state : D → DiskState) (old new : JournalState D) (calls : List Call) {before after : List Answer} (made : MakesRound state old new calls before after) where
   -- commands that are accepted move the state
   some_moved : 1 ≤ length (accepted_of (zip calls made.given)) → new.state ≡ old.state → ⊥
   some_moved some same = omega (arith, some, (served_fold calls made.given old.state new.state made.served).2, ap (λ r. r.seq) same)
@@ -266,11 +268,13 @@ module _ {D : Type 0} (state : D → DiskState) (old new : JournalState D) (call
 
 module _ {D : Type 0} (state : D → DiskState) (old mid : JournalState D) (calls : List Call) (same : mid.state ≡ old.state) where
   -- room was made, and the calls were served
-  pub round_made : (new : JournalState D) → IsReady state old mid calls → (IsDueFor mid calls → ⊥) → MakesRound state mid new calls → MakesRound state old new calls
-  round_made new ready none made = ⊎_elim
-      (λ calm. subst (λ j. MakesRound state j new calls) calm.1 made)
+  pub round_made : (new : JournalState D) {before after : List Answer} → IsReady state old mid calls → (IsDueFor mid calls → ⊥)
+      → MakesRound state mid new calls before after → MakesRound state old new calls before after
+  round_made new {before} {after} ready none made = ⊎_elim
+      (λ calm. subst (λ j. MakesRound state j new calls before after) calm.1 made)
       (λ opened. record {
         given = made.given;
+        told = made.told;
         served = subst (λ s. AreServed calls made.given s new.state) same made.served;
         recorded = made.recorded;
         opened = true;
@@ -286,6 +290,21 @@ module _ {D : Type 0} (state : D → DiskState) (old mid : JournalState D) (call
       unopened true opens makes = absurd (none (made.due opens))
       unopened false closed makes = makes
 
+-- a round, by other names
+pub made_as : {D : Type 0} (state : D → DiskState) (old new now : JournalState D) (calls : List Call) {before after : List Answer} (first last : List Answer)
+    → now ≡ new → before ≡ first → last ≡ after → MakesRound state old new calls before after → MakesRound state old now calls first last
+made_as state old new now calls {before} {after} first last is from to made =
+    subst (λ j. MakesRound state old j calls first last) (sym is) (record {
+      given = made.given;
+      told = λ going. to ∙ made.told going ∙ ap (λ l. l ++ made.given) from;
+      served = made.served;
+      recorded = made.recorded;
+      opened = made.opened;
+      due = made.due;
+      starved = made.starved;
+      makes = made.makes;
+    })
+
 -- no command of refused calls is accepted
 none_by_refusal : (refusal : Refusal) (an : Ask) → accepted_by an (Refused refusal) ≡ []
 none_by_refusal refusal (Command command) = refl
@@ -299,18 +318,23 @@ none_accepted refusal position (call ∷ calls) =
 module _ {D : Type 0} (state : D → DiskState) (old new : JournalState D) (calls : List Call) (refusal : Refusal) (whole : old.broken ≡ false) (same : new.state ≡ old.state)
     (readied : IsUnready state old new calls refusal) where
   -- no room was made, and all calls were refused
-  pub round_unmade : MakesRound state old new calls
-  round_unmade = ⊎_elim
-      (λ starved. subst (λ j. MakesRound state old j calls) (sym starved.1) (unserved old refl false (λ yes. let e : false ≡ true = yes in absurd cc) (λ no due. refl)
+  pub round_unmade : (before after : List Answer) (position : ℕ) → after ≡ before ++ refusals refusal position calls → position ≡ old.state.seq
+      → MakesRound state old new calls before after
+  round_unmade before after position refused counted = ⊎_elim
+      (λ starved. subst (λ j. MakesRound state old j calls before after) (sym starved.1) (unserved old refl false
+      (λ _. refused ∙ ap (λ r. before ++ refusals r position calls) starved.0 ∙ ap (λ n. before ++ refusals OutOfMemory n calls) counted)
+      (λ yes. let e : false ≡ true = yes in absurd cc) (λ no due. refl)
       (subst (λ b. Makes state [] (not b) old.disk old.disk) (sym whole) (makes_nothing state old.disk))))
-      (λ failed. unserved new same true (λ yes. failed.2) (λ no. let e : true ≡ false = no in absurd cc)
+      (λ failed. unserved new same true (λ going. let e : true ≡ false = sym failed.1 ∙ going in absurd cc) (λ yes. failed.2) (λ no. let e : true ≡ false = no in absurd cc)
       (subst (λ b. Makes state (renewing old.tail old.state ++ []) (not b) old.disk new.disk) (sym failed.1) (makes_front state (renewing old.tail old.state) [] failed.3)))
       readied
     where
-      unserved : (now : JournalState D) → now.state ≡ old.state → (opened : Bool) → (opened ≡ true → IsDueFor old calls) → (opened ≡ false → IsDueFor old calls → now ≡ old)
-          → Makes state (rounding old.tail old.state opened []) (not now.broken) old.disk now.disk → MakesRound state old now calls
-      unserved now still opened due starved makes = record {
+      unserved : (now : JournalState D) → now.state ≡ old.state → (opened : Bool)
+          → (now.broken ≡ false → after ≡ before ++ refusals OutOfMemory old.state.seq calls) → (opened ≡ true → IsDueFor old calls) → (opened ≡ false → IsDueFor old calls → now ≡ old)
+          → Makes state (rounding old.tail old.state opened []) (not now.broken) old.disk now.disk → MakesRound state old now calls before after
+      unserved now still opened told due starved makes = record {
         given = refusals OutOfMemory old.state.seq calls;
+        told = told;
         served = subst (AreServed calls (refusals OutOfMemory old.state.seq calls) old.state) (sym still) (served_starved old.state calls);
         recorded = subst (AllByRecursion HasRecord) (sym (none_accepted OutOfMemory old.state.seq calls)) tt;
         opened = opened;
@@ -344,8 +368,8 @@ module _ {D : Type 0} (state : D → DiskState) (old new : JournalState D) (call
       readied
 
 -- what a round that was served answers
-pub round_served : {D : Type 0} (state : D → DiskState) (old mid new : JournalState D) (calls : List Call) (given : List Answer) → old.broken ≡ false → mid.state ≡ old.state
-    → mid.position ≡ old.position → MakesRound state old new calls → Goes mid new calls given ⊎ Breaks mid new calls given → IsRound state old new calls given
+pub round_served : {D : Type 0} (state : D → DiskState) (old mid new : JournalState D) (calls : List Call) (given : List Answer) {before after : List Answer} → old.broken ≡ false → mid.state ≡ old.state
+    → mid.position ≡ old.position → MakesRound state old new calls before after → Goes mid new calls given ⊎ Breaks mid new calls given → IsRound state old new calls given
 round_served state old mid new calls given whole same kept made outcome = ⊎_elim
     (λ goes. inr (inl (
       whole,

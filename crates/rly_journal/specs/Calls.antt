@@ -125,8 +125,11 @@ fetching = []
 
 -- a round of a journal that isn't broken: its calls were served, and those of the device are its own, all of them where
 -- the journal goes on, else those up to the first that failed
-pub record MakesRound {D : Type 0} (state : D → DiskState) (old new : JournalState D) (calls : List Call) : Type 0 where
+pub record MakesRound {D : Type 0} (state : D → DiskState) (old new : JournalState D) (calls : List Call)
+    (before after : List Answer) : Type 0 where
   pub given : List Answer
+  -- where it goes on, that is what it answered
+  pub told : new.broken ≡ false → after ≡ before ++ given
   pub served : AreServed calls given old.state new.state
   pub recorded : AllByRecursion HasRecord (accepted_of (zip calls given))
   -- whether a segment was opened

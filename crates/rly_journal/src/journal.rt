@@ -1,19 +1,19 @@
 ghost use Rattle.std.specs.Prelude.{◌≡◌, ◌≢◌, ◌⊎◌, ◌+◌, ◌≤◌, ◌++◌, [], Err, IfErr, IfOk, IsOk, List, MatchResult, Ok, OnErr, OnOk, length, vec_capacity, true, false, if◌then◌else◌};
 ghost use Rattle.rly_core.specs.Bounds.{IsIn};
 ghost use Rattle.rly_disk.specs.DiskModel.{Later, Settled};
-ghost use Rattle.rly_disk.specs.Trace.{Makes};
+ghost use Rattle.rly_disk.specs.Trace.{Makes, seen_at_end};
 ghost use Rattle.rly_gate.specs.Reading.{OnlyRead};
 ghost use Rattle.rly_machine.specs.declared.call.Answer.{Answer as AnAnswer};
 ghost use Rattle.rly_machine.specs.declared.reply.Reply.{Reply as AReply};
 ghost use Rattle.rly_machine.specs.Sound.{IsSound};
 ghost use Rattle.rly_machine.specs.State.{has_peer, last_at};
 ghost use Rattle.rly_machine.specs.Query.{fetch_reply, item_of, show_reply};
-ghost use Rattle.rly_journal.specs.Calls.{BreaksOpening, MakesOpening, MakesRound, fetching, tells};
+ghost use Rattle.rly_journal.specs.Calls.{BreaksOpening, MakesOpening, MakesRound, fetching, renewed, renewing, tells};
 ghost use Rattle.rly_journal.specs.Faults.{IsRefused};
 ghost use Rattle.rly_journal.specs.HelpersCalls.{IsReadied};
 ghost use Rattle.rly_journal.specs.Journal.{Breaks, Goes, IsDueFor, IsRound, IsSafe, holds_command};
 ghost use Rattle.rly_journal.specs.HelpersGroups.{empty_group};
-ghost use Rattle.rly_journal.specs.Log.{IsDurable, IsSameHead};
+ghost use Rattle.rly_journal.specs.Log.{IsDurable, IsFull, IsLogged, IsSameHead};
 ghost use Rattle.rly_journal.specs.HelpersJournal.{IsShaped};
 ghost use Rattle.rly_journal.specs.Rounds.{refusals};
 ghost use Rattle.rly_journal.specs.Standing.{Stands};
@@ -110,8 +110,9 @@ impl<D: Disk> Journal<D> {
         ensures emptied { OnOk result (calls.new.items ≡ []) }
         ensures answers { OnOk result ((given : List AnAnswer) × (answers.new.items ≡ answers.old.items ++ given)
             × IsRound D.state self.old self.new calls.old.items given) }
-        // What it asks of the device: a segment is opened or not, and the accepted commands are appended as one group.
-        ensures trace { self.old.broken ≡ false → OnOk result (MakesRound D.state self.old self.new calls.old.items) }
+        // What it asks of the device: a segment is opened or not, and the commands that its answers accepted are appended as
+        // one group.
+        ensures trace { self.old.broken ≡ false → OnOk result (MakesRound D.state self.old self.new calls.old.items answers.old.items answers.new.items) }
         // A crash at any moment of the round leaves its commands whole or none of them.
         ensures any_moment { (D.state self.old.disk).honest → self.old.broken ≡ false → OnOk result (IsSafe D.state self.old self.new calls.old.items) }
         ensures durable { (D.state self.new.disk).honest → self.new.broken ≡ false → OnOk result (Settled (D.state self.new.disk) × Stands (D.state self.new.disk).seen self.new.state) }
@@ -251,6 +252,16 @@ impl<D: Disk> Journal<D> {
         let _ = &self.tail;
     }
 
+    /// A segment that is opened where one is due holds the running state, and has room for the largest group.
+    pub fn law_renewed(&self)
+        ensures { (D.state self.now.disk).honest → self.now.broken ≡ false → IsFull self.now.tail
+            → IsLogged (seen_at_end (renewing self.now.tail self.now.state) (D.state self.now.disk).seen) (renewed self.now.tail self.now.state) self.now.state
+            × (IsFull (renewed self.now.tail self.now.state) → ⊥) }
+    {
+        self.law_sound();
+        law_wide(&self.tail);
+    }
+
     /// Opens a segment where one is due, or says how all calls are refused.
     fn make_ready(&mut self, alloc: Global, calls: &[Call]) -> Result<(), Refusal>
         requires { self.old.broken ≡ false }
@@ -281,7 +292,7 @@ impl<D: Disk> Journal<D> {
         ensures emptied { calls.new.items ≡ [] }
         ensures answers { (given : List AnAnswer) × (answers.new.items ≡ answers.old.items ++ given)
             × (Goes self.old self.new calls.old.items given ⊎ Breaks self.old self.new calls.old.items given) }
-        ensures trace { MakesRound D.state self.old self.new calls.old.items }
+        ensures trace { MakesRound D.state self.old self.new calls.old.items answers.old.items answers.new.items }
         ensures head { IsSameHead self.old.tail self.new.tail }
         ensures calls_capacity { vec_capacity calls.new ≡ vec_capacity calls.old }
         ensures answers_capacity { vec_capacity answers.new ≡ vec_capacity answers.old }
@@ -320,6 +331,13 @@ fn begin<D: Disk>(alloc: Global, disk: &mut D) -> Result<Begun, OpenFault>
         },
         Err(fault) => Err(fault),
     }
+}
+
+/// An end tells of so many gates.
+fn law_wide(tail: &Tail)
+    ensures { length tail.now.closed ≡ 256 }
+{
+    let _tail = *tail;
 }
 
 /// Whether a round holds a command.

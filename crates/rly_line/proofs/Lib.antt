@@ -3,3 +3,4 @@ pub mod Submitting
 pub mod Replying
 pub mod Making
 pub mod Telling
+pub mod Hearing

@@ -23,9 +23,9 @@ between [] x behind d = refl
 between (c ∷ front) x behind d = between front x behind d
 
 -- so they are the lines of an end that takes the calls of so many seats
-pub new_end : (of : LineId) (capacity : ℕ) (taker : Taker) (lines : List Teller) (count : ℕ) → taker ≡ record { of = of; capacity = capacity; seats = count; taken = [] } → lines ≡ map new_teller (range_with_len 0 count)
+pub is_new_end : (of : LineId) (capacity : ℕ) (taker : Taker) (lines : List Teller) (count : ℕ) → taker ≡ record { of = of; capacity = capacity; seats = count; taken = [] } → lines ≡ map new_teller (range_with_len 0 count)
     → (taker.seats ≡ length lines) × AreInPlace lines
-new_end of capacity taker lines count counts made = (
+is_new_end of capacity taker lines count counts made = (
   ap (λ (t : Taker). t.seats) counts ∙ sym (ap length made ∙ length-map-range_with_len new_teller 0 count),
   subst AreInPlace (sym made) (new_in_place count),
 )

@@ -1,12 +1,12 @@
 -- Each step keeps the rule of a line that answers come out of.
 use Rattle.std.proofs.Common.{◌≡◌, ◌⊎◌, inl, inr, ⊎_elim, ℕ, true, true≢false, Option, Some, None, List, [], ◌∷◌, ◌++◌, length, set, sym, refl, ap, ◌∙◌, subst}
 use Rattle.crossbeam_channel.specs.Fifo.{Pushes, Pops, Forks}
-use Rattle.rly_machine.specs.declared.call.Answer.{Answer}
 use Rattle.rly_machine.specs.History.{Entry, LegalButForBytes}
 use Rattle.rly_machine.specs.State.{State}
 use Rattle.rly_line.specs.declared.replies.ReplyView.{ReplyView}
+use Rattle.rly_line.specs.Batches.{AnswersView}
 use Rattle.rly_line.specs.HelpersEnds.{Tells, AreReplied, Teaches, both_ends, telling, hearing}
-use Rattle.rly_line.specs.Replies.{GoesOn}
+use Rattle.rly_line.specs.Replies.{ExtendsHistory}
 use Rattle.rly_line.proofs.Views.{each_set, each_push, alone}
 
 abbrev Base : Type 0
@@ -17,24 +17,24 @@ settled : (base : Base) (a b : State (List ℕ)) → base ≡ Some a → (base �
 settled base a b is (inl none) = absurd (let e : None ≡ Some a = sym none ∙ is in cc)
 settled base a b is (inr same) = same
 
--- one more answer was told
-tells_more : (seat : ℕ) (base : Base) (known : List Entry) (items : List Answer) (told : List Entry) (answer : Answer) (start : State (List ℕ)) (history : List Entry)
-    → Tells seat base known items told → (base ≡ None) ⊎ (base ≡ Some start) → LegalButForBytes start history → GoesOn seat told answer history
-    → Tells seat (Some start) known (items ++ answer ∷ []) history
-tells_more seat base known [] told answer start history chain same legal next =
-    (start, history, refl, legal, subst (λ k. GoesOn seat k answer history) (sym chain) next, refl)
-tells_more seat base known (x ∷ items) told answer start history chain same legal next =
+-- one more batch of answers was told
+tells_more : (seat : ℕ) (base : Base) (known : List Entry) (items : List AnswersView) (told : List Entry) (given : AnswersView) (start : State (List ℕ)) (history : List Entry)
+    → Tells seat base known items told → (base ≡ None) ⊎ (base ≡ Some start) → LegalButForBytes start history → ExtendsHistory seat told given.answers history
+    → Tells seat (Some start) known (items ++ given ∷ []) history
+tells_more seat base known [] told given start history chain same legal next =
+    (start, history, refl, legal, subst (λ k. ExtendsHistory seat k given.answers history) (sym chain) next, refl)
+tells_more seat base known (x ∷ items) told given start history chain same legal next =
     let is : base ≡ Some start = settled base chain.0 start chain.2 same in (
       chain.0,
       chain.1,
       sym is ∙ chain.2,
       chain.3,
       chain.4,
-      tells_more seat base chain.1 items told answer start history chain.5 same legal next,
+      tells_more seat base chain.1 items told given start history chain.5 same legal next,
     )
 
 -- where nothing was told, the line is empty
-untold : (seat : ℕ) (base : Base) (known : List Entry) (items : List Answer) (told : List Entry) → Tells seat base known items told → base ≡ None
+untold : (seat : ℕ) (base : Base) (known : List Entry) (items : List AnswersView) (told : List Entry) → Tells seat base known items told → base ≡ None
     → (items ≡ []) × (known ≡ told)
 untold seat base known [] told chain none = (refl, chain)
 untold seat base known (x ∷ items) told chain none = absurd (let e : None ≡ Some chain.0 = sym none ∙ chain.2 in cc)
@@ -87,16 +87,16 @@ forks pass v seat is items views rule at =
       },
     )
 
--- an answer is put, which tells a history
-pub puts : (n pass : ℕ) (v : ReplyView) (answer : Answer) (start : State (List ℕ)) (history : List Entry) → v.tells ≡ true
-    → (v.base ≡ None) ⊎ (v.base ≡ Some start) → LegalButForBytes start history → GoesOn v.seat v.told answer history
-    → Pushes AreReplied n pass v answer (λ w. w ≡ record v { base = Some start; told = history })
-puts n pass v answer start history may same legal next items views room rule at =
+-- a batch of answers is put, which tells a history
+pub puts : (n pass : ℕ) (v : ReplyView) (given : AnswersView) (start : State (List ℕ)) (history : List Entry) → v.tells ≡ true
+    → (v.base ≡ None) ⊎ (v.base ≡ Some start) → LegalButForBytes start history → ExtendsHistory v.seat v.told given.answers history
+    → Pushes AreReplied n pass v given (λ w. w ≡ record v { base = Some start; told = history })
+puts n pass v given start history may same legal next items views room rule at =
     let teller = rule.0 in let hearer = rule.1 in let seat = rule.2 in let base = rule.3 in let known = rule.4 in let told = rule.5 in let line = rule.6 in
     let w : ReplyView = record v { base = Some start; told = history } in
     let t = line.tells pass v at may in
     let was : (base ≡ None) ⊎ (base ≡ Some start) = subst (λ (b : Base). (b ≡ None) ⊎ (b ≡ Some start)) t.2 same in
-    let its : GoesOn seat told answer history = subst (λ (y : ℕ × List Entry). GoesOn y.0 y.1 answer history) (λ i. (t.1 i, t.3 i)) next in
+    let its : ExtendsHistory seat told given.answers history = subst (λ (y : ℕ × List Entry). ExtendsHistory y.0 y.1 given.answers history) (λ i. (t.1 i, t.3 i)) next in
     let F : ℕ → ReplyView → Type 0 = λ j u. u.tells ≡ true → (j ≡ teller) × (u.seat ≡ seat) × (u.base ≡ Some start) × (u.told ≡ history) in
     let G : ℕ → ReplyView → Type 0 = λ j u. u.hears ≡ true → (j ≡ hearer) × (u.seat ≡ seat) × (u.known ≡ known) × ((u.base ≡ None) ⊎ (u.base ≡ Some start)) in
     let later = λ (u : ReplyView) (b : (u.base ≡ None) ⊎ (u.base ≡ base)). ⊎_elim {C = (u.base ≡ None) ⊎ (u.base ≡ Some start)} (λ e. inl e)
@@ -110,7 +110,7 @@ puts n pass v answer start history may same legal next items views room rule at 
         known,
         history,
         record {
-          chain = tells_more seat base known items told answer start history line.chain was legal its;
+          chain = tells_more seat base known items told given start history line.chain was legal its;
           tells = each_set F views pass w (λ _. (t.0, t.1, refl, refl)) (λ j u apart e p. absurd (apart ((line.tells j u e p).0 ∙ sym t.0)));
           hears = each_set G views pass w (λ p. let h = line.hears pass v at p in (h.0, h.1, h.2, inr refl))
               (λ j u apart e p. let h = line.hears j u e p in (h.0, h.1, h.2, later u h.3));
@@ -119,16 +119,16 @@ puts n pass v answer start history may same legal next items views room rule at 
       refl,
     )
 
--- the seat takes an answer
+-- the seat takes a batch of answers
 pub takes : (pass : ℕ) (v : ReplyView) → v.hears ≡ true
-    → Pops AreReplied pass v (λ answer w. (w ≡ record v { base = w.base; known = w.known }) × Teaches v.seat v.base w.base v.known answer w.known)
-takes pass v may answer items views rule at =
+    → Pops AreReplied pass v (λ given w. (w ≡ record v { base = w.base; known = w.known; base_before = v.base; known_before = v.known }) × Teaches v.seat v.base w.base v.known given.answers w.known)
+takes pass v may given items views rule at =
     let teller = rule.0 in let hearer = rule.1 in let seat = rule.2 in let base = rule.3 in let known = rule.4 in let told = rule.5 in let line = rule.6 in
     let start = line.chain.0 in let history = line.chain.1 in let is = line.chain.2 in
-    let w : ReplyView = record v { base = Some start; known = history } in
+    let w : ReplyView = record v { base = Some start; known = history; base_before = v.base; known_before = v.known } in
     let h = line.hears pass v at may in
-    let its : GoesOn v.seat v.known answer history =
-    subst (λ (y : ℕ × List Entry). GoesOn y.0 y.1 answer history) (λ i. (sym h.1 i, sym h.2 i)) line.chain.4 in
+    let its : ExtendsHistory v.seat v.known given.answers history =
+    subst (λ (y : ℕ × List Entry). ExtendsHistory y.0 y.1 given.answers history) (λ i. (sym h.1 i, sym h.2 i)) line.chain.4 in
     let F : ℕ → ReplyView → Type 0 = λ j u. u.tells ≡ true → (j ≡ teller) × (u.seat ≡ seat) × (u.base ≡ base) × (u.told ≡ told) in
     let G : ℕ → ReplyView → Type 0 = λ j u. u.hears ≡ true → (j ≡ hearer) × (u.seat ≡ seat) × (u.known ≡ history) × ((u.base ≡ None) ⊎ (u.base ≡ base)) in
     let was : (v.base ≡ None) ⊎ (v.base ≡ Some start) =

@@ -5,15 +5,15 @@ use Rattle.rly_line.specs.Replies.{Teller}
 use Rattle.rly_line.specs.Story.{StoryView}
 use Rattle.rly_line.specs.Submission.{LineId}
 
--- what contracts see of it: which line it takes calls from and how many that holds, the calls that were taken, and
--- what each seat's line was told
+-- what contracts see of it: which line it takes calls from and how many batches that holds, the calls that were taken,
+-- and what each seat's line was told
 pub record EndView : Type 0 where
   pub of : LineId
   pub capacity : ℕ
   pub taken : List Call
   pub lines : List Teller
 
--- a line in which nothing was told. It holds one answer
+-- a line in which nothing was told. It holds one batch of answers
 abbrev pub new_teller : ℕ → Teller
 new_teller number = record { seat = number; capacity = 1; base = None; told = []; gone = false }
 

@@ -1,18 +1,22 @@
 -- Nothing is claimed here: the two lines as their channels keep them, and the ends of a seat, which only private
 -- functions speak of. The rule of a line of answers is that it was told histories, each of which goes on from the one
 -- before, and that what the seat knows is the last one that it took.
-use Rattle.std.specs.Prelude.{ℕ, ◌≡◌, ◌⊎◌, List, [], ◌∷◌, Bool, true, false, Option, Some, None, length}
+use Rattle.std.specs.Prelude.{ℕ, ◌≡◌, ◌≤◌, ◌⊎◌, List, [], ◌∷◌, length, vec_capacity}
+use Rattle.std.specs.Prelude.{Bool, true, false, Option, Some, None}
+use Rattle.std.specs.Global.{Vec}
 use mathlib.Core.Option.{some}
 use lib.ListN.{get_elem?}
 use Rattle.crossbeam_channel.specs.Claims.{Pass}
 use Rattle.rly_machine.specs.declared.call.Answer.{Answer}
 use Rattle.rly_machine.specs.declared.call.Call.{Call}
 use Rattle.rly_machine.specs.declared.call.SeatId.{SeatId}
+use Rattle.rly_machine.specs.declared.command.Ask.{Ask}
 use Rattle.rly_machine.specs.History.{Entry, LegalButForBytes}
 use Rattle.rly_machine.specs.State.{State}
 use Rattle.rly_line.specs.declared.replies.ReplyView.{ReplyView}
 use Rattle.rly_line.specs.declared.submission.LineView.{LineView}
-use Rattle.rly_line.specs.Replies.{GoesOn, entries_of}
+use Rattle.rly_line.specs.Batches.{AnswersView, BatchView}
+use Rattle.rly_line.specs.Replies.{ExtendsHistory, entries_of}
 use Rattle.rly_line.specs.Submission.{LineId}
 
 -- ---- the line that calls go into
@@ -32,7 +36,7 @@ abbrev pub idle : LineView
 idle = record { puts = false; seat = 0; put = []; takes = false; seats = 0; taken = [] }
 
 -- the line that a pass is of
-abbrev pub line_of : Pass Call LineView → LineId
+abbrev pub line_of : Pass BatchView LineView → LineId
 line_of pass = record { table = pass.table_id; key = pass.me.0.of }
 
 -- what contracts see of a seat's end of the line, and of the other end
@@ -43,24 +47,24 @@ pub record Putter : Type 0 where
 
 pub record Taker : Type 0 where
   pub of : LineId
-  -- so many calls the line holds
+  -- so many batches the line holds
   pub capacity : ℕ
   pub seats : ℕ
   pub taken : List Call
 
 -- ---- a line that answers come out of
 
--- the answers in a line, each of which tells a history that goes on from the one before: from what is known to what
--- was told last
-abbrev pub Tells : ℕ → Option (State (List ℕ)) → List Entry → List Answer → List Entry → Type 0
+-- the batches of answers in a line, each of which tells a history that goes on from the one before: from what is known
+-- to what was told last
+abbrev pub Tells : ℕ → Option (State (List ℕ)) → List Entry → List AnswersView → List Entry → Type 0
 Tells seat base known [] told = known ≡ told
-Tells seat base known (answer ∷ answers) told =
+Tells seat base known (given ∷ more) told =
     (start : State (List ℕ)) × (history : List Entry) × (base ≡ Some start) × LegalButForBytes start history
-    × GoesOn seat known answer history × Tells seat base history answers told
+    × ExtendsHistory seat known given.answers history × Tells seat base history more told
 
 -- what holds of the answers in the line and of what each pass knows, where these passes tell and hear
 pub record IsReplyLine (teller hearer seat : ℕ) (base : Option (State (List ℕ))) (known told : List Entry)
-    (items : List Answer) (views : List ReplyView) : Type 0 where
+    (items : List AnswersView) (views : List ReplyView) : Type 0 where
   pub chain : Tells seat base known items told
   pub tells : (pass : ℕ) (v : ReplyView) → get_elem? views pass ≡ some v → v.tells ≡ true
       → (pass ≡ teller) × (v.seat ≡ seat) × (v.base ≡ base) × (v.told ≡ told)
@@ -68,41 +72,70 @@ pub record IsReplyLine (teller hearer seat : ℕ) (base : Option (State (List �
       → (pass ≡ hearer) × (v.seat ≡ seat) × (v.known ≡ known) × ((v.base ≡ None) ⊎ (v.base ≡ base))
 
 -- the rule
-abbrev pub AreReplied : List Answer → List ReplyView → Type 0
+abbrev pub AreReplied : List AnswersView → List ReplyView → Type 0
 AreReplied items views =
     (teller : ℕ) × (hearer : ℕ) × (seat : ℕ) × (base : Option (State (List ℕ)))
     × (known : List Entry) × (told : List Entry) × IsReplyLine teller hearer seat base known told items views
 
 -- the view of the first pass, which is cut into those of the two ends
 abbrev pub both_ends : ReplyView
-both_ends = record { tells = true; hears = true; seat = 0; base = None; known = []; told = [] }
+both_ends = record {
+  tells = true;
+  hears = true;
+  seat = 0;
+  base = None;
+  known = [];
+  base_before = None;
+  known_before = [];
+  told = [];
+}
 
 abbrev pub telling : ℕ → ReplyView
-telling seat = record { tells = true; hears = false; seat = seat; base = None; known = []; told = [] }
+telling seat = record both_ends { hears = false; seat = seat }
 
 abbrev pub hearing : ℕ → ReplyView
-hearing seat = record { tells = false; hears = true; seat = seat; base = None; known = []; told = [] }
+hearing seat = record both_ends { tells = false; seat = seat }
 
 -- what contracts see of its end that hears
 pub record Hearer : Type 0 where
   pub seat : ℕ
   pub base : Option (State (List ℕ))
   pub known : List Entry
+  -- it hears no more
+  pub deaf : Bool
 
--- what an answer taught: the base is the same in all answers
-pub record Teaches (seat : ℕ) (base known_base : Option (State (List ℕ))) (before : List Entry) (answer : Answer)
+-- one that nothing was heard by
+abbrev pub new_hearer : ℕ → Hearer
+new_hearer seat = record { seat = seat; base = None; known = []; deaf = false }
+
+-- what it knows, by what its pass knows: where it is deaf the last answers taught nothing
+abbrev pub heard_by : ReplyView → Bool → Hearer
+heard_by v false = record { seat = v.seat; base = v.base; known = v.known; deaf = false }
+heard_by v true = record { seat = v.seat; base = v.base_before; known = v.known_before; deaf = true }
+
+-- what a batch of answers taught: the base is the same in all of them
+pub record Teaches (seat : ℕ) (base known_base : Option (State (List ℕ))) (before : List Entry) (answers : List Answer)
     (after : List Entry) : Type 0 where
   pub start : State (List ℕ)
   pub same_base : (base ≡ None) ⊎ (base ≡ Some start)
   pub base_is : known_base ≡ Some start
   pub legal : LegalButForBytes start after
-  pub goes_on : GoesOn seat before answer after
+  pub goes_on : ExtendsHistory seat before answers after
 
 -- ---- a seat
 
--- the two ends of a seat are its own; it counts its calls; and while it is open all of them were answered
+-- the two ends of a seat are its own; it counts its calls; and while it is open all of them were answered, and it hears
 pub record IsSeated (seat : SeatId) (p : Putter) (h : Hearer) (calls : ℕ) (shut : Bool) : Type 0 where
   pub puts : p.seat ≡ seat.0
   pub hears : h.seat ≡ seat.0
   pub count : calls ≡ length p.put
   pub answered : shut ≡ false → length (entries_of seat.0 h.known) ≡ length p.put
+  pub listens : shut ≡ false → h.deaf ≡ false
+
+-- the lists of a batch have room for 64 each
+abbrev pub HasRoom : Vec Ask → Vec Answer → Type 0
+HasRoom asks answers = (64 ≤ vec_capacity asks) × (64 ≤ vec_capacity answers)
+
+-- and they are empty
+abbrev pub AreEmpty : Vec Ask → Vec Answer → Type 0
+AreEmpty asks answers = (asks.items ≡ []) × (answers.items ≡ []) × HasRoom asks answers

@@ -1,3 +1,4 @@
+pub mod Batches
 pub mod Submission
 pub mod Replies
 pub mod Story

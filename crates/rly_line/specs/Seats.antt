@@ -1,6 +1,7 @@
 -- A caller's seat: what it put, and what it knows.
 use Rattle.std.specs.Prelude.{ℕ, ◌≡◌, ◌+◌, ◌⊎◌, List, [], ◌∷◌, ◌++◌, length}
 use Rattle.std.specs.Prelude.{Bool, true, false, Option, Some, None, Result, Ok, Err}
+use Rattle.std.specs.List.{AllByRecursion, zip}
 use Rattle.rly_machine.specs.declared.call.Answer.{Answer}
 use Rattle.rly_machine.specs.declared.call.Call.{Call}
 use Rattle.rly_machine.specs.declared.call.SeatId.{SeatId}
@@ -9,8 +10,11 @@ use Rattle.rly_machine.specs.History.{Entry, LegalButForBytes}
 use Rattle.rly_machine.specs.State.{State}
 use Rattle.rly_line.specs.declared.call_error.CallError.{CallError}
 use Rattle.rly_line.specs.declared.call_error.CallError.TheVariants.{Closed, Lost}
+use Rattle.rly_line.specs.declared.call_error.BatchError.{BatchError}
+use Rattle.rly_line.specs.declared.call_error.BatchError.TheVariants as batch
+use Rattle.rly_line.specs.Batches.{calls_after}
 use Rattle.rly_line.specs.Replies.{entries_of}
-use Rattle.rly_line.specs.Submission.{LineId}
+use Rattle.rly_line.specs.Submission.{AreNumbered, LineId}
 
 -- what contracts see of a seat: which line it puts calls into, the calls that it put, the base state and the history
 -- that it knows, and whether it is shut
@@ -53,11 +57,48 @@ pub record IsAnsweredWith (before : Caller) (ask : Ask) (answer : Answer) (after
   pub same_base : (before.base ≡ None) ⊎ (before.base ≡ Some start)
   pub legal : LegalButForBytes start after.known
 
+-- the calls that put these asks together, under the seat's next numbers
+abbrev pub next_calls : Caller → List Ask → List Call
+next_calls c asks = calls_after c.seat (length c.put) asks
+
+-- a seat after asks that it put together were answered, where it was another before
+pub record AreAnsweredWith (before : Caller) (asks : List Ask) (answers : List Answer) (after : Caller) : Type 0 where
+  pub of : after.of ≡ before.of
+  pub seat : after.seat ≡ before.seat
+  pub open_still : after.shut ≡ false
+  -- the calls that it put grew by these asks, in order, under the next numbers
+  pub put : after.put ≡ before.put ++ next_calls before asks
+  -- there are as many answers
+  pub count : length answers ≡ length asks
+  -- what it knows begins with all that it knew, and ends with its calls of those numbers, one after another with no
+  -- other between, each with its answer, in order; before them are calls of others
+  pub between : List Entry
+  pub calls : List Call
+  pub each : length calls ≡ length asks
+  pub known : after.known ≡ (before.known ++ between) ++ zip calls answers
+  pub others : entries_of before.seat.0 between ≡ []
+  pub own : AllByRecursion (λ call. call.seat ≡ before.seat) calls
+  pub numbers : AreNumbered (length before.put) calls
+  -- so it holds of this seat's calls just those that were answered, each once, in order
+  pub all : entries_of before.seat.0 after.known ≡ entries_of before.seat.0 before.known ++ zip calls answers
+  -- it is legal but for bytes, from a base that is the same in all answers
+  pub start : State (List ℕ)
+  pub base : after.base ≡ Some start
+  pub same_base : (before.base ≡ None) ⊎ (before.base ≡ Some start)
+  pub legal : LegalButForBytes start after.known
+
 -- a seat after its ask was not answered: it was handed back and not put, or it was put and no answer came
 abbrev pub IsUnanswered : Caller → Ask → CallError → Caller → Type 0
 IsUnanswered before ask (Closed back) after = (back ≡ ask) × (after ≡ before)
 IsUnanswered before ask Lost after =
     after ≡ record before { put = before.put ++ next_call before ask ∷ []; shut = true }
+
+-- a seat after none of these asks was answered, with the asks that are left: they were not put and all are left, or
+-- they were put, none is left, and no answers came
+abbrev pub AreUnanswered : Caller → List Ask → BatchError → List Ask → Caller → Type 0
+AreUnanswered before asks batch.Closed left after = (left ≡ asks) × (after ≡ before)
+AreUnanswered before asks batch.Lost left after =
+    (left ≡ []) × (after ≡ record before { put = before.put ++ next_calls before asks; shut = true })
 
 -- a call was not put
 abbrev pub IsNotPut : Result Answer CallError → Type 0

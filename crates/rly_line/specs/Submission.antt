@@ -1,6 +1,7 @@
--- The line that calls go into, under one rule: of each seat, the calls that were taken, and after them those in the
--- line, are those that it put.
+-- The line that batches of calls go into, under one rule: of each seat, the calls that were taken, and after them those
+-- in the line, are those that it put.
 use Rattle.std.specs.Prelude.{ℕ, ◌≡◌, ◌+◌, ◌<◌, ◌≤◌, ◌==◌, List, [], ◌∷◌, ◌++◌, true, filter, length}
+use Rattle.std.specs.List.{AllByRecursion}
 use mathlib.Core.Option.{some}
 use lib.ListN.{get_elem?}
 use Rattle.atomic_table.specs.Seated.{TableId}
@@ -8,6 +9,7 @@ use Rattle.atomic_table.specs.declared.badge.Badge.{Badge}
 use Rattle.crossbeam_channel.specs.declared.flavors.array.Key.{Key}
 use Rattle.rly_machine.specs.declared.call.Call.{Call}
 use Rattle.rly_line.specs.declared.submission.LineView.{LineView}
+use Rattle.rly_line.specs.Batches.{BatchView, HasAsks, calls_in_batches}
 
 -- the calls of one seat
 abbrev pub calls_of : ℕ → List Call → List Call
@@ -28,20 +30,22 @@ pub record IsLine (owner : ℕ → ℕ) (head count : ℕ) (gone items : List Ca
   pub takes : (pass : ℕ) (v : LineView) → get_elem? views pass ≡ some v → v.takes ≡ true
       → (pass ≡ head) × (v.seats ≡ count) × (v.taken ≡ gone)
 
--- the rule
-abbrev pub AreLined : List Call → List LineView → Type 0
-AreLined items views =
-    (owner : ℕ → ℕ) × (head : ℕ) × (count : ℕ) × (gone : List Call) × IsLine owner head count gone items views
+-- the rule, of the batches in the line: of their calls, one after another; and each batch has an ask
+abbrev pub AreLined : List BatchView → List LineView → Type 0
+AreLined batches views =
+    (owner : ℕ → ℕ) × (head : ℕ) × (count : ℕ) × (gone : List Call)
+    × IsLine owner head count gone (calls_in_batches batches) views × AllByRecursion HasAsks batches
 
 -- which line it is, as the channel names itself
 pub record LineId : Type 0 where
   pub table : TableId
-  pub key : Badge (Key Call)
+  pub key : Badge (Key BatchView)
 
--- a call is the next of its seat, one of so many, after those taken
-pub record IsNext (seats : ℕ) (taken : List Call) (call : Call) : Type 0 where
-  pub seat : call.seat.0 < seats
-  pub number : call.number ≡ length (calls_of call.seat.0 taken) + 1
+-- a batch is the next of its seat, one of so many, after the calls that were taken
+pub record IsNext (seats : ℕ) (taken : List Call) (batch : BatchView) : Type 0 where
+  pub seat : batch.seat.0 < seats
+  pub before : batch.before ≡ length (calls_of batch.seat.0 taken)
+  pub asks : HasAsks batch
 
 -- the views of one line at one moment: that of the pass that takes, and that of a seat's pass
 pub record AreBeside (views : List LineView) (taker putter : LineView) : Type 0 where

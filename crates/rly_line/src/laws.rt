@@ -1,14 +1,14 @@
-//! The rule of the line that calls go into, whatever the schedule.
+//! The rule of the line that batches go into, whatever the schedule.
 
 ghost use Rattle.std.specs.Prelude.{◌≡◌, ◌++◌, List};
-ghost use Rattle.rly_machine.specs.declared.call.Call.{Call as ACall};
 ghost use Rattle.rly_line.specs.declared.submission.LineView.{LineView as AView};
+ghost use Rattle.rly_line.specs.Batches.{BatchView, calls_in_batches};
 ghost use Rattle.rly_line.specs.Submission.{AreBeside, AreLined, calls_of};
 
-/// Of each seat, the calls that were taken, and after them those that are in the line, are those that it
+/// Of each seat, the calls that were taken, and after them those of the batches in the line, are those that it
 /// put, ask for ask. The channel keeps the rule at each moment; `LineEnd::law_beginning` says it to who holds
 /// both ends.
 pub fn law_line()
-    ensures { (calls : List ACall) (views : List AView) (taker putter : AView) → AreLined calls views → AreBeside views taker putter
-        → putter.put ≡ calls_of putter.seat taker.taken ++ calls_of putter.seat calls }
+    ensures { (batches : List BatchView) (views : List AView) (taker putter : AView) → AreLined batches views → AreBeside views taker putter
+        → putter.put ≡ calls_of putter.seat taker.taken ++ calls_of putter.seat (calls_in_batches batches) }
 {}

@@ -1,23 +1,26 @@
-//! Seats and the line that they share: callers in threads of their own put calls into one line,
-//! and each is answered in a line of its own.
+//! Seats and the line that they share: callers in threads of their own put batches of 1 to 64 calls
+//! into one line, and each is answered in a line of its own, batch by batch.
 //!
-//! `specs/Submission.antt` has the rule of the line that calls go into, `specs/Replies.antt` that
-//! of a line that answers come out of. Callers use `Seat::call`. The one thread that answers has
-//! a `Responder` over a `LineEnd`. What it told each seat is a prefix of one history, which is
+//! `specs/Submission.antt` has the rule of the line that batches go into, `specs/Replies.antt` that
+//! of a line that answers come out of. Callers use `Seat::call_all`, or `Seat::call` for one ask. The
+//! one thread that answers has a `Responder` over a `LineEnd`. What it told each seat is a prefix of one history, which is
 //! legal but for the bytes of a Fetch (`docs/CLAIMS.md`).
 #![tactic(auto)]
 
+mod batch;
 mod call_error;
 mod laws;
 mod line_end;
 mod replies;
 mod responder;
 mod seat;
+mod seat_ends;
 mod setup;
 mod story;
 mod submission;
 
-pub use crate::call_error::CallError;
+pub use crate::batch::{Answers, Batch};
+pub use crate::call_error::{BatchError, CallError};
 pub use crate::laws::law_line;
 pub use crate::line_end::LineEnd;
 pub use crate::responder::Responder;

@@ -1,18 +1,19 @@
-ghost use Rattle.std.specs.Prelude.{◌≡◌, ◌∷◌, ◌++◌, ◌<◌, [], false, length, slice_set, IfNone, IfSome, MatchBool};
+ghost use Rattle.std.specs.Prelude.{◌≡◌, ◌++◌, ◌<◌, false, length, slice_set, IfNone, IfSome, MatchBool};
+ghost use Rattle.rly_line.specs.Batches.{calls_in_batch};
 ghost use Rattle.rly_line.specs.Replies.{MayTell};
 ghost use Rattle.rly_line.specs.Submission.{IsBeginning, IsNext};
 
+use crate::batch::{Answers, Batch};
 use crate::replies::TellEnd;
 use crate::seat::Seat;
 use crate::story::{Standing, Story};
 use crate::submission::TakeEnd;
-use rly_machine::{Answer, Call};
 use std::marker::Model;
 use std::sync::Wait;
 
 /// The other end of all seats' lines, for the one thread that answers. Contracts see which line it takes
-/// calls from and how many that holds, the calls that were taken and, for each seat, how many answers
-/// its line holds, the base and the history that it was told last, and whether the seat was found gone.
+/// calls from and how many batches that holds, the calls that were taken and, for each seat, how many batches of
+/// answers its line holds, the base and the history that it was told last, and whether the seat was found gone.
 #[derive(Drop)]
 pub struct LineEnd {
     calls: TakeEnd,
@@ -41,39 +42,39 @@ impl LineEnd {
         LineEnd { calls, replies }
     }
 
-    /// Waits for a call. None: no call was left, and no seat.
-    pub fn wait<R: Wait>(&mut self, rt: &R) -> Option<Call>
-        ensures taken { IfSome result (λ call. (self.new ≡ record self.old { taken = self.old.taken ++ call ∷ [] })
-            × IsNext (length self.old.lines) self.old.taken call) }
+    /// Waits for a batch. None: no batch was left, and no seat.
+    pub fn wait<R: Wait>(&mut self, rt: &R) -> Option<Batch>
+        ensures taken { IfSome result (λ batch. (self.new ≡ record self.old { taken = self.old.taken ++ calls_in_batch batch })
+            × IsNext (length self.old.lines) self.old.taken batch) }
         ensures none { IfNone result (self.new ≡ self.old) }
     {
         self.calls.wait(rt)
     }
 
-    /// A call that is in the line, if there is one.
-    pub fn more<R: Wait>(&mut self, rt: &R) -> Option<Call>
-        ensures taken { IfSome result (λ call. (self.new ≡ record self.old { taken = self.old.taken ++ call ∷ [] })
-            × IsNext (length self.old.lines) self.old.taken call) }
+    /// A batch that is in the line, if there is one.
+    pub fn more<R: Wait>(&mut self, rt: &R) -> Option<Batch>
+        ensures taken { IfSome result (λ batch. (self.new ≡ record self.old { taken = self.old.taken ++ calls_in_batch batch })
+            × IsNext (length self.old.lines) self.old.taken batch) }
         ensures none { IfNone result (self.new ≡ self.old) }
     {
         self.calls.more(rt)
     }
 
-    /// Puts an answer into its seat's line, which tells a history. It answers whether it did: it does
-    /// not where the seat is gone, and then never again.
-    pub fn tell<T: Standing, R: Wait>(&mut self, rt: &R, answer: Answer, story: &Story<T>) -> bool
-        requires seat { answer.seat.0 < length self.old.lines }
-        requires may { (teller_at self.old.lines answer.seat.0).gone ≡ false
-            → MayTell (teller_at self.old.lines answer.seat.0) story.now.start answer story.now.history }
+    /// Puts the answers to a batch into its seat's line, which tells a history. It answers whether it did: it
+    /// does not where the seat is gone, and then never again.
+    pub fn tell<T: Standing, R: Wait>(&mut self, rt: &R, answers: Answers, story: &Story<T>) -> bool
+        requires seat { answers.seat.0 < length self.old.lines }
+        requires may { (teller_at self.old.lines answers.seat.0).gone ≡ false
+            → MayTell (teller_at self.old.lines answers.seat.0) story.now.start answers.answers story.now.history }
         ensures of { self.new.of ≡ self.old.of }
         ensures taken { self.new.taken ≡ self.old.taken }
         ensures told { MatchBool result
-            (self.new.lines ≡ slice_set self.old.lines answer.seat.0 (with_told (teller_at self.old.lines answer.seat.0) story.now))
-            (self.new.lines ≡ slice_set self.old.lines answer.seat.0 (with_gone (teller_at self.old.lines answer.seat.0))) }
+            (self.new.lines ≡ slice_set self.old.lines answers.seat.0 (with_told (teller_at self.old.lines answers.seat.0) story.now))
+            (self.new.lines ≡ slice_set self.old.lines answers.seat.0 (with_gone (teller_at self.old.lines answers.seat.0))) }
     {
-        let seat = answer.seat.0 as usize;
+        let seat = answers.seat().0 as usize;
         let line = &mut self.replies[seat];
-        line.tell(rt, answer, story)
+        line.tell(rt, answers, story)
     }
 
     /// What is true of each seat at this line, at each moment: of the calls that it put, those that were

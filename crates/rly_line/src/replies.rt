@@ -1,11 +1,12 @@
-//! A line that one seat's answers come out of.
+//! A line that one seat's answers come out of, batch by batch.
 
-ghost use Rattle.std.specs.Prelude.{◌≡◌, ℕ, ◌∷◌, [], None, Some, false, true, IfNone, IfSome, IfOk, MatchBool};
+ghost use Rattle.std.specs.Prelude.{◌≡◌, ℕ, ◌∷◌, [], None, Some, false, length, true, IfNone, IfSome, IfOk, MatchBool};
 ghost use Rattle.crossbeam_channel.specs.Claims.{view, IsSeatAt};
 ghost use Rattle.crossbeam_channel.specs.Ends.{sends_on, receives_on};
-ghost use Rattle.rly_line.specs.HelpersEnds.{Teaches};
+ghost use Rattle.rly_line.specs.HelpersEnds.{Teaches, new_hearer};
 ghost use Rattle.rly_line.specs.Replies.{MayTell};
 
+use crate::batch::Answers;
 use crate::story::{Standing, Story};
 use crossbeam_channel::protocol::{Lesson, Outcome, Protocol, Split};
 use crossbeam_channel::{Pass, RuledReceiver, RuledSender, bounded_with};
@@ -39,8 +40,12 @@ pub struct ReplyView {
     pub seat: u64,
     /// The state that the histories begin in, once one was told or heard.
     pub base: Option<Start>,
-    /// The history that the seat was told with the last answer that it took.
+    /// The history that the seat was told with the last answers that it took.
     pub known: LinkedList<(Call, Answer)>,
+    /// The base before those answers.
+    pub base_before: Option<Start>,
+    /// The history that was known before those answers.
+    pub known_before: LinkedList<(Call, Answer)>,
     /// The history that was told last.
     pub told: LinkedList<(Call, Answer)>,
 }
@@ -48,7 +53,7 @@ pub struct ReplyView {
 /// The rule of the line.
 pub struct Replied;
 
-impl Protocol<Answer, ReplyView> for Replied {
+impl Protocol<Answers, ReplyView> for Replied {
     ghost use Rattle.rly_line.specs.HelpersEnds as helpers;
 
     ghost holds = { helpers.AreReplied };
@@ -98,41 +103,41 @@ impl Tale for Brand {
     ghost history = { [] };
 }
 
-/// An answer is put, which tells a history.
+/// A batch of answers is put, which tells a history.
 struct Puts<W> {
     tale: PhantomData<W>,
 }
 
-impl<W: Tale> Outcome<Answer, ReplyView> for Puts<W> {
+impl<W: Tale> Outcome<Answers, ReplyView> for Puts<W> {
     ghost use Rattle.std.specs.Prelude.{◌≡◌, Some};
 
-    ghost then = { λ v answer w. w ≡ record v { base = Some W.start; told = W.history } };
+    ghost then = { λ v given w. w ≡ record v { base = Some W.start; told = W.history } };
 }
 
-impl<W: Tale> Lesson<Answer, ReplyView> for Puts<W> {
-    ghost fact = { λ v answers. Unit {0} };
+impl<W: Tale> Lesson<Answers, ReplyView> for Puts<W> {
+    ghost fact = { λ v batches. Unit {0} };
 }
 
-/// An answer is taken.
+/// A batch of answers is taken.
 struct Takes;
 
-impl Outcome<Answer, ReplyView> for Takes {
+impl Outcome<Answers, ReplyView> for Takes {
     ghost use Rattle.std.specs.Prelude.{◌≡◌};
     ghost use Rattle.rly_line.specs.HelpersEnds.{Teaches};
 
-    ghost then = { λ v answer w. (w ≡ record v { base = w.base; known = w.known }) × Teaches v.seat v.base w.base v.known answer w.known };
+    ghost then = { λ v given w. (w ≡ record v { base = w.base; known = w.known; base_before = v.base; known_before = v.known }) × Teaches v.seat v.base w.base v.known given.answers w.known };
 }
 
-impl Lesson<Answer, ReplyView> for Takes {
-    ghost fact = { λ v answers. Unit {0} };
+impl Lesson<Answers, ReplyView> for Takes {
+    ghost fact = { λ v batches. Unit {0} };
 }
 
-/// The end of a seat's line that answers are put in. Contracts see whose it is, how many answers it
+/// The end of a seat's line that answers are put in. Contracts see whose it is, how many batches of answers it
 /// holds, the base and the history that it was told last, and whether the seat is gone.
 #[derive(Drop)]
 pub struct TellEnd {
-    line: RuledSender<Answer, ReplyView, Replied>,
-    pass: Pass<Answer, ReplyView>,
+    line: RuledSender<Answers, ReplyView, Replied>,
+    pass: Pass<Answers, ReplyView>,
     gone: bool,
 }
 
@@ -150,23 +155,23 @@ impl Model for TellEnd {
 }
 
 impl TellEnd {
-    /// Puts an answer, which tells a history. It answers whether it did: it does not where the seat
+    /// Puts a batch of answers, which tells a history. It answers whether it did: it does not where the seat
     /// is gone, and then never again.
-    pub fn tell<T: Standing, R: Wait>(&mut self, rt: &R, answer: Answer, story: &Story<T>) -> bool
-        requires { self.old.gone ≡ false → MayTell self.old story.now.start answer story.now.history }
+    pub fn tell<T: Standing, R: Wait>(&mut self, rt: &R, answers: Answers, story: &Story<T>) -> bool
+        requires { self.old.gone ≡ false → MayTell self.old story.now.start answers.answers story.now.history }
         ensures { MatchBool result (self.new ≡ record self.old { base = Some story.now.start; told = story.now.history }) (self.new ≡ record self.old { gone = true }) }
     {
-        self.tell_as::<Brand, T, R>(rt, answer, story)
+        self.tell_as::<Brand, T, R>(rt, answers, story)
     }
 
     fn tell_as<W: Tale, T: Standing, R: Wait>(
         &mut self,
         rt: &R,
-        answer: Answer,
+        answers: Answers,
         story: &Story<T>,
     ) -> bool
         requires tale { (W.start ≡ story.now.start) × (W.history ≡ story.now.history) }
-        requires may { self.old.gone ≡ false → MayTell self.old W.start answer W.history }
+        requires may { self.old.gone ≡ false → MayTell self.old W.start answers.answers W.history }
         ensures { MatchBool result (self.new ≡ record self.old { base = Some W.start; told = W.history }) (self.new ≡ record self.old { gone = true }) }
     {
         let _ = story;
@@ -175,7 +180,7 @@ impl TellEnd {
         }
         let put = self
             .line
-            .send_as::<Puts<W>, R>(rt, &mut self.pass, answer)
+            .send_as::<Puts<W>, R>(rt, &mut self.pass, answers)
             .is_ok();
         self.gone = !put;
         put
@@ -183,52 +188,60 @@ impl TellEnd {
 }
 
 /// A seat's end of the line. Contracts see whose it is, and the base and the history that the seat
-/// knows.
+/// knows, and whether it is deaf: it then hears no more.
 #[derive(Drop)]
 pub struct HearEnd {
-    line: RuledReceiver<Answer, ReplyView, Replied>,
-    pass: Pass<Answer, ReplyView>,
+    line: RuledReceiver<Answers, ReplyView, Replied>,
+    pass: Pass<Answers, ReplyView>,
+    is_deaf: bool,
 }
 
 impl Model for HearEnd {
     ghost use Rattle.std.specs.Prelude.{◌≡◌, true};
     ghost use Rattle.crossbeam_channel.specs.Claims.{view as pass_view, IsSeatAt};
     ghost use Rattle.crossbeam_channel.specs.Ends.{receives_on};
-    ghost use Rattle.rly_line.specs.HelpersEnds.{Hearer};
+    ghost use Rattle.rly_line.specs.HelpersEnds.{Hearer, heard_by};
 
     ghost Value = { Hearer };
 
-    ghost view = { λ e. record { seat = (pass_view e.pass).seat; base = (pass_view e.pass).base; known = (pass_view e.pass).known } };
+    ghost view = { λ e. heard_by (pass_view e.pass) e.is_deaf };
 
     ghost invariant = { λ e. IsSeatAt (receives_on e.line) e.pass × ((pass_view e.pass).hears ≡ true) };
 }
 
 impl HearEnd {
-    /// Waits for an answer. None: there was none, and the other end is gone.
-    pub fn hear<R: Wait>(&mut self, rt: &R) -> Option<Answer>
+    /// Waits for a batch of so many answers. None: there was none, and the other end is gone; or another
+    /// number came, which teaches nothing, and the end is deaf.
+    pub fn hear<R: Wait>(&mut self, rt: &R, count: usize) -> Option<Answers>
+        requires { self.old.deaf ≡ false }
         ensures seat { self.new.seat ≡ self.old.seat }
-        ensures heard { IfSome result (λ answer. Teaches self.old.seat self.old.base self.new.base self.old.known answer self.new.known) }
-        ensures none { IfNone result (self.new ≡ self.old) }
+        ensures count { IfSome result (λ given. length given.answers ≡ count) }
+        ensures listens { IfSome result (λ given. self.new.deaf ≡ false) }
+        ensures heard { IfSome result (λ given. Teaches self.old.seat self.old.base self.new.base self.old.known given.answers self.new.known) }
+        ensures none { IfNone result (self.new ≡ record self.old { deaf = self.new.deaf }) }
     {
         match self.line.recv_as::<Takes, R>(rt, &mut self.pass) {
-            Ok(answer) => Some(answer),
+            Ok(answers) => {
+                self.is_deaf = answers.len() != count;
+                if self.is_deaf { None } else { Some(answers) }
+            }
             Err(_) => None,
         }
     }
 }
 
-/// The two ends of a seat's line, in which nothing was told. It holds one answer.
+/// The two ends of a seat's line, in which nothing was told. It holds one batch of answers.
 pub fn reply_line(alloc: Global, seat: u16) -> Result<(TellEnd, HearEnd), AllocError>
-    ensures { IfOk result (λ ends. (ends.0 ≡ record { seat = seat; capacity = 1; base = None; told = []; gone = false }) × (ends.1 ≡ record { seat = seat; base = None; known = [] })) }
+    ensures { IfOk result (λ ends. (ends.0 ≡ record { seat = seat; capacity = 1; base = None; told = []; gone = false }) × (ends.1 ≡ new_hearer seat)) }
 {
     reply_line_of::<Brand>(alloc, seat)
 }
 
 fn reply_line_of<W: Whose>(alloc: Global, seat: u16) -> Result<(TellEnd, HearEnd), AllocError>
     requires { seat ≡ W.seat }
-    ensures { IfOk result (λ ends. (ends.0 ≡ record { seat = seat; capacity = 1; base = None; told = []; gone = false }) × (ends.1 ≡ record { seat = seat; base = None; known = [] })) }
+    ensures { IfOk result (λ ends. (ends.0 ≡ record { seat = seat; capacity = 1; base = None; told = []; gone = false }) × (ends.1 ≡ new_hearer seat)) }
 {
-    let (tells, hears, mut pass) = bounded_with::<Answer, ReplyView, Replied, Global>(alloc, 1)?;
+    let (tells, hears, mut pass) = bounded_with::<Answers, ReplyView, Replied, Global>(alloc, 1)?;
     let hearing = tells.another::<Ends<W>>(&mut pass);
     Ok((
         TellEnd {
@@ -239,6 +252,7 @@ fn reply_line_of<W: Whose>(alloc: Global, seat: u16) -> Result<(TellEnd, HearEnd
         HearEnd {
             line: hears,
             pass: hearing,
+            is_deaf: false,
         },
     ))
 }

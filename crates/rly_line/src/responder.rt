@@ -1,15 +1,16 @@
-ghost use Rattle.std.specs.Prelude.{◌≡◌, ℕ, ◌∷◌, ◌++◌, [], List, map, IfNone, IfSome};
-ghost use Rattle.std.specs.List.{range_with_len};
-ghost use Rattle.rly_machine.specs.History.{IsAnswered, harm_after, state_after, without_bytes};
+ghost use Rattle.std.specs.Prelude.{◌≡◌, ℕ, ◌++◌, [], List, length, map, IfNone, IfSome};
+ghost use Rattle.std.specs.List.{range_with_len, zip};
+ghost use Rattle.rly_machine.specs.History.{LegalBy, harm_after, state_after, without_bytes};
 ghost use Rattle.rly_machine.specs.declared.call.Call.{Call};
+ghost use Rattle.rly_line.specs.Batches.{calls_in_batch, no_answers};
 ghost use Rattle.rly_line.specs.EndViews.{new_teller};
 ghost use Rattle.rly_line.specs.Responding.{AreLeft, IsResponding};
 ghost use Rattle.rly_line.specs.Submission.{IsBeginning};
 
+use crate::batch::{Answers, Batch};
 use crate::line_end::LineEnd;
 use crate::seat::Seat;
 use crate::story::{Standing, Story};
-use rly_machine::{Answer, Call};
 use std::marker::Model;
 use std::snapshot::Snapshot;
 use std::sync::Wait;
@@ -44,37 +45,40 @@ impl<T: Standing> Responder<T> {
         Responder { line, story }
     }
 
-    /// Waits for a call. None: no call was left, and no seat.
-    pub fn wait<R: Wait>(&mut self, rt: &R) -> Option<Call>
-        ensures taken { IfSome result (λ call. self.new ≡ record self.old { taken = self.old.taken ++ call ∷ [] }) }
+    /// Waits for a batch. None: no batch was left, and no seat.
+    pub fn wait<R: Wait>(&mut self, rt: &R) -> Option<Batch>
+        ensures taken { IfSome result (λ batch. self.new ≡ record self.old { taken = self.old.taken ++ calls_in_batch batch }) }
         ensures none { IfNone result (self.new ≡ self.old) }
         ensures holds { IsResponding self.new }
     {
         self.line.wait(rt)
     }
 
-    /// A call that is in the line, if there is one.
-    pub fn more<R: Wait>(&mut self, rt: &R) -> Option<Call>
-        ensures taken { IfSome result (λ call. self.new ≡ record self.old { taken = self.old.taken ++ call ∷ [] }) }
+    /// A batch that is in the line, if there is one.
+    pub fn more<R: Wait>(&mut self, rt: &R) -> Option<Batch>
+        ensures taken { IfSome result (λ batch. self.new ≡ record self.old { taken = self.old.taken ++ calls_in_batch batch }) }
         ensures none { IfNone result (self.new ≡ self.old) }
         ensures holds { IsResponding self.new }
     {
         self.line.more(rt)
     }
 
-    /// Answers the first call that was taken and is not answered yet, and adds both to the history. A
-    /// seat that is gone is told nothing.
-    pub fn answer<R: Wait>(&mut self, rt: &R, call: &Snapshot<Call>, answer: Answer)
-        requires next { (left : List Call) × AreLeft self.old (call.now.value ∷ left) }
-        requires answered { IsAnswered without_bytes (harm_after 0 self.old.history) (state_after self.old.start self.old.history) (call.now.value, answer) }
+    /// Answers the first batch that was taken and is not answered yet, and adds its calls and their answers to the
+    /// history, next to each other. A seat that is gone is told nothing.
+    pub fn answer<R: Wait>(&mut self, rt: &R, batch: &Snapshot<Batch>, answers: Answers)
+        requires whose { answers ≡ record (no_answers batch.now.value) { answers = answers.answers } }
+        requires count { length answers.answers ≡ answers.wanted }
+        requires next { (left : List Call) × AreLeft self.old (calls_in_batch batch.now.value ++ left) }
+        requires answered { LegalBy without_bytes (harm_after 0 self.old.history) (state_after self.old.start self.old.history) (zip (calls_in_batch batch.now.value) answers.answers) }
         ensures of { self.new.of ≡ self.old.of }
         ensures taken { self.new.taken ≡ self.old.taken }
         ensures start { self.new.start ≡ self.old.start }
-        ensures history { self.new.history ≡ self.old.history ++ (call.now.value, answer) ∷ [] }
+        ensures history { self.new.history ≡ self.old.history ++ zip (calls_in_batch batch.now.value) answers.answers }
         ensures holds { IsResponding self.new }
     {
-        self.story.push(call, &answer);
-        self.line.tell(rt, answer, &self.story);
+        let _some = answers.wanted();
+        self.story.push(batch, &answers);
+        self.line.tell(rt, answers, &self.story);
     }
 
     /// What is true of each seat at this line, at each moment: of the calls that it put, those that were

@@ -1,54 +1,67 @@
-ghost use Rattle.std.specs.Prelude.{◌≡◌, ◌^◌, ◌≤◌, ◌⊎◌, [], None, true, IfErr, IfOk, length};
+ghost use Rattle.std.specs.Prelude.{◌≡◌, ◌+◌, ◌++◌, ◌^◌, ◌<◌, ◌≤◌, ◌⊎◌, [], Err, true, vec_capacity, IfErr, IfOk, OnOk, length};
+ghost use Rattle.rly_core.specs.Bounds.{IsIn};
+ghost use Rattle.rly_line.specs.declared.call_error.BatchError.TheVariants.{Closed};
+ghost use Rattle.rly_line.specs.HelpersEnds.{new_hearer};
+ghost use Rattle.rly_line.specs.Seats.{AreAnsweredWith, AreUnanswered, IsAnsweredWith, IsNotPut, IsUnanswered, new_caller};
+ghost use Rattle.rly_line.specs.Submission.{IsBeginning};
 
-use crate::call_error::CallError;
+use crate::call_error::{BatchError, CallError};
 use crate::replies::HearEnd;
+use crate::seat_ends::SeatEnds;
 use crate::submission::{SubmitEnd, TakeEnd};
-use rly_machine::{Answer, Ask, Call, SeatId};
+use rly_core::limits;
+use rly_machine::{Answer, Ask, SeatId};
+use std::alloc::{AllocError, Global};
 use std::marker::Model;
+use std::mem;
 use std::sync::Wait;
 
-/// So many calls a seat makes in its life.
-const MAX_CALLS: u64 = 1 << 52;
+/// So many asks a batch has at most.
+const MAX_ASKS: usize = limits::MAX_ROUND as usize;
 
 /// The place of one caller at the line. Contracts see which line it is, its number, the calls that it
 /// put, the base state and the history that it knows, and whether it is shut.
 #[derive(Drop)]
 pub struct Seat {
-    seat: SeatId,
-    line: SubmitEnd,
-    replies: HearEnd,
-    calls: u64,
-    is_shut: bool,
+    alloc: Global,
+    ends: SeatEnds,
+    asks: Vec<Ask>,
+    answers: Vec<Answer>,
 }
 
 impl Model for Seat {
-    ghost use Rattle.rly_line.specs.HelpersEnds.{IsSeated};
+    ghost use Rattle.std.specs.Prelude.{◌≡◌, false};
+    ghost use Rattle.rly_line.specs.HelpersEnds.{AreEmpty};
     ghost use Rattle.rly_line.specs.Seats.{Caller};
 
     ghost Value = { Caller };
 
-    ghost view = { λ s. record { of = s.line.of; seat = s.seat; put = s.line.put; base = s.replies.base; known = s.replies.known; shut = s.is_shut } };
+    ghost view = { λ s. s.ends };
 
-    ghost invariant = { λ s. IsSeated s.seat s.line s.replies s.calls s.is_shut };
+    ghost invariant = { λ s. s.ends.shut ≡ false → AreEmpty s.asks s.answers };
 }
 
 impl Seat {
-    ghost use Rattle.rly_line.specs.Seats.{IsAnsweredWith, IsNotPut, IsUnanswered, new_caller};
-    ghost use Rattle.rly_line.specs.Submission.{IsBeginning};
-
     /// A seat at its two ends, of which nothing was asked.
-    pub(crate) fn new(seat: SeatId, line: SubmitEnd, replies: HearEnd) -> Seat
+    pub(crate) fn new(
+        alloc: Global,
+        seat: SeatId,
+        line: SubmitEnd,
+        replies: HearEnd,
+    ) -> Result<Seat, AllocError>
         requires line { line ≡ record line { seat = seat.0; put = [] } }
-        requires replies { replies ≡ record { seat = seat.0; base = None; known = [] } }
-        ensures { result ≡ new_caller line.of seat.0 }
+        requires replies { replies ≡ new_hearer seat.0 }
+        ensures { IfOk result (λ made. made ≡ new_caller line.of seat.0) }
     {
-        Seat {
-            seat,
-            line,
-            replies,
-            calls: 0,
-            is_shut: false,
-        }
+        let asks = Vec::with_capacity(alloc, MAX_ASKS)?;
+        let answers = Vec::with_capacity(alloc, MAX_ASKS)?;
+        let ends = SeatEnds::new(seat, line, replies);
+        Ok(Seat {
+            alloc,
+            ends,
+            asks,
+            answers,
+        })
     }
 
     /// Of the calls that it put, those that were taken are a beginning.
@@ -58,19 +71,17 @@ impl Seat {
         ensures begins { IsBeginning self.seat.0 end.old.taken self.put }
     {
         let Seat {
-            seat,
-            line,
-            replies,
-            calls,
-            is_shut,
+            alloc,
+            ends,
+            asks,
+            answers,
         } = self;
-        let line = end.law_beginning(line);
+        let ends = ends.law_beginning(end);
         Seat {
-            seat,
-            line,
-            replies,
-            calls,
-            is_shut,
+            alloc,
+            ends,
+            asks,
+            answers,
         }
     }
 
@@ -78,7 +89,7 @@ impl Seat {
     pub fn id(&self) -> SeatId
         ensures { result ≡ self.now.seat }
     {
-        self.seat
+        self.ends.id()
     }
 
     /// Asks, and waits for the answer. Closed: the call was not put, and is handed back. Lost: it was
@@ -88,23 +99,87 @@ impl Seat {
         ensures err { IfErr result (λ error. IsUnanswered self.old ask error self.new) }
         ensures shut { (self.old.shut ≡ true) ⊎ (2 ^ 52 ≤ length self.old.put) → IsNotPut result }
     {
-        if self.is_shut || self.calls >= MAX_CALLS {
+        if !self.ends.may_put(1) {
             return Err(CallError::Closed(ask));
         }
-        let number = self.calls + 1;
-        let call = Call {
-            seat: self.seat,
-            number,
-            ask,
-        };
-        if let Err(back) = self.line.put(rt, call) {
-            return Err(CallError::Closed(back.ask));
+        let mut asks = mem::replace(&mut self.asks, Vec::new(self.alloc));
+        let answers = mem::replace(&mut self.answers, Vec::new(self.alloc));
+        asks.push_reserved(ask);
+        match self.ends.exchange(rt, self.ends.batch(asks, answers)) {
+            Ok(given) => {
+                let (asks, mut answers) = given.into_lists();
+                let answer = answers.take_last();
+                self.asks = asks;
+                self.answers = answers;
+                Ok(answer)
+            }
+            Err(Some(back)) => {
+                let (mut asks, answers) = back.into_lists();
+                let ask = asks.take_last();
+                self.asks = asks;
+                self.answers = answers;
+                Err(CallError::Closed(ask))
+            }
+            Err(None) => Err(CallError::Lost),
         }
-        self.calls = number;
-        let Some(answer) = self.replies.hear(rt) else {
-            self.is_shut = true;
-            return Err(CallError::Lost);
-        };
-        Ok(answer)
     }
+
+    /// Asks all of these together, and waits for their answers, which come together, in order, into an empty list with
+    /// room for them. No memory is asked for. Closed: none was put, and they stay where they are. Lost: they were put,
+    /// no answers came, and each later call is Closed; so it is where the seat would make more than 2^52 calls.
+    pub fn call_all<R: Wait>(
+        &mut self,
+        rt: &R,
+        asks: &mut Vec<Ask>,
+        answers: &mut Vec<Answer>,
+    ) -> Result<(), BatchError>
+        requires count { IsIn 1 64 (length asks.old.items) }
+        requires empty { answers.old.items ≡ [] }
+        requires room { length asks.old.items ≤ vec_capacity answers.old }
+        ensures ok { OnOk result (AreAnsweredWith self.old asks.old.items answers.new.items self.new) }
+        ensures none_left { OnOk result (asks.new.items ≡ []) }
+        ensures err { IfErr result (λ error. AreUnanswered self.old asks.old.items error asks.new.items self.new) }
+        ensures none_given { IfErr result (λ _. answers.new.items ≡ []) }
+        ensures shut { (self.old.shut ≡ true) ⊎ (2 ^ 52 < length self.old.put + length asks.old.items) → result ≡ Err Closed }
+        ensures capacity { (vec_capacity asks.old ≤ vec_capacity asks.new) × (vec_capacity answers.old ≤ vec_capacity answers.new) }
+    {
+        if !self.ends.may_put(asks.len()) {
+            return Err(BatchError::Closed);
+        }
+        let mut own_asks = mem::replace(&mut self.asks, Vec::new(self.alloc));
+        let own_answers = mem::replace(&mut self.answers, Vec::new(self.alloc));
+        move_all(asks, &mut own_asks);
+        match self
+            .ends
+            .exchange(rt, self.ends.batch(own_asks, own_answers))
+        {
+            Ok(given) => {
+                let (own_asks, mut own_answers) = given.into_lists();
+                move_all(&mut own_answers, answers);
+                self.asks = own_asks;
+                self.answers = own_answers;
+                Ok(())
+            }
+            Err(Some(back)) => {
+                let (mut own_asks, own_answers) = back.into_lists();
+                move_all(&mut own_asks, asks);
+                self.asks = own_asks;
+                self.answers = own_answers;
+                Err(BatchError::Closed)
+            }
+            Err(None) => Err(BatchError::Lost),
+        }
+    }
+}
+
+/// Moves all that is in one list to the end of another, which has room for it.
+fn move_all<T>(from: &mut Vec<T>, to: &mut Vec<T>)
+    requires room { length from.old.items + length to.old.items ≤ vec_capacity to.old }
+    ensures emptied { from.new.items ≡ [] }
+    ensures moved { to.new.items ≡ to.old.items ++ from.old.items }
+    ensures from_capacity { vec_capacity from.new ≡ vec_capacity from.old }
+    ensures to_capacity { vec_capacity to.old ≤ vec_capacity to.new }
+{
+    let moved = to.append(from);
+    prove!(moved.is_ok());
 }

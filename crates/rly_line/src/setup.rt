@@ -11,8 +11,8 @@ use rly_core::limits::{MAX_CAPACITY, MAX_SEATS};
 use rly_machine::SeatId;
 use std::alloc::{AllocError, Global};
 
-/// A line of that capacity, with so many seats and its other end: 1 to 256 each. Each seat is answered
-/// in a line of its own, which holds one answer.
+/// A line that holds so many batches, with so many seats and its other end: 1 to 256 each. Each seat is
+/// answered in a line of its own, which holds one batch of answers.
 pub fn make(alloc: Global, capacity: u16, seats: u16) -> Result<(Vec<Seat>, LineEnd), AllocError>
     requires capacity { (1 ≤ capacity) × (capacity ≤ MAX_CAPACITY) }
     requires seats { (1 ≤ seats) × (seats ≤ MAX_SEATS) }
@@ -26,7 +26,7 @@ pub fn make(alloc: Global, capacity: u16, seats: u16) -> Result<(Vec<Seat>, Line
     for number in 0..seats {
         let (tells, hears) = reply_line(alloc, number)?;
         let puts = line.seat()?;
-        let seat = Seat::new(SeatId(number), puts, hears);
+        let seat = Seat::new(alloc, SeatId(number), puts, hears)?;
         replies.push_reserved(tells);
         made.push_reserved(seat);
     }

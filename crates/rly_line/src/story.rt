@@ -1,10 +1,13 @@
 //! The history that the answering thread makes, in proofs alone.
 
-ghost use Rattle.std.specs.Prelude.{◌≡◌, ℕ, ◌∷◌, ◌++◌, [], List};
+ghost use Rattle.std.specs.Prelude.{◌≡◌, ℕ, ◌++◌, [], List};
+ghost use Rattle.std.specs.List.{zip};
 ghost use Rattle.rly_machine.specs.State.{State};
+ghost use Rattle.rly_line.specs.Batches.{calls_in_batch};
 
+use crate::batch::{Answers, Batch};
 use http_server::Log;
-use rly_machine::{Answer, Call, Machine, Payload};
+use rly_machine::{Machine, Payload};
 use std::marker::Model;
 use std::snapshot::Snapshot;
 
@@ -22,16 +25,17 @@ impl Standing for Machine<Payload> {
 #[derive(Drop)]
 pub struct Story<T: Standing> {
     begun: Snapshot<T>,
-    entries: Log<Snapshot<Call>, Snapshot<Answer>>,
+    batches: Log<Snapshot<Batch>, Snapshot<Answers>>,
 }
 
 impl<T: Standing> Model for Story<T> {
-    ghost use Rattle.std.specs.Prelude.{map};
+    ghost use Rattle.std.specs.List.{flat_map, zip};
+    ghost use Rattle.rly_line.specs.Batches.{calls_in_batch};
     ghost use Rattle.rly_line.specs.Story.{StoryView};
 
     ghost Value = { StoryView };
 
-    ghost view = { λ s. record { start = T.state s.begun.value; history = map (λ e. (e.0.value, e.1.value)) s.entries.items } };
+    ghost view = { λ s. record { start = T.state s.begun.value; history = flat_map (λ e. zip (calls_in_batch e.0.value) e.1.value.answers) s.batches.items } };
 }
 
 impl<T: Standing> Story<T> {
@@ -41,14 +45,14 @@ impl<T: Standing> Story<T> {
     {
         Story {
             begun: Snapshot::of(at),
-            entries: Log::new(),
+            batches: Log::new(),
         }
     }
 
-    /// The history with one more call and its answer.
-    pub fn push(&mut self, call: &Snapshot<Call>, answer: &Answer)
-        ensures { self.new ≡ record self.old { history = self.old.history ++ (call.now.value, answer.now) ∷ [] } }
+    /// The history with the calls of one more batch and their answers.
+    pub fn push(&mut self, batch: &Snapshot<Batch>, answers: &Answers)
+        ensures { self.new ≡ record self.old { history = self.old.history ++ zip (calls_in_batch batch.now.value) answers.now.answers } }
     {
-        self.entries = self.entries.and(call, &Snapshot::of(answer));
+        self.batches = self.batches.and(batch, &Snapshot::of(answers));
     }
 }

@@ -1,10 +1,12 @@
-//! The line that calls go into.
+//! The line that batches go into.
 
-ghost use Rattle.std.specs.Prelude.{◌≡◌, ◌+◌, ◌∷◌, ◌++◌, ◌<◌, [], length, IfErr, IfNone, IfOk, IfSome, OnErr, OnOk};
+ghost use Rattle.std.specs.Prelude.{◌≡◌, ◌+◌, ◌++◌, ◌<◌, [], length, IfErr, IfNone, IfOk, IfSome, OnErr, OnOk};
 ghost use Rattle.crossbeam_channel.specs.Claims.{view, IsSeatAt};
 ghost use Rattle.crossbeam_channel.specs.Ends.{sends_on, receives_on};
+ghost use Rattle.rly_line.specs.Batches.{calls_in_batch};
 ghost use Rattle.rly_line.specs.Submission.{IsBeginning, IsNext};
 
+use crate::batch::Batch;
 use crossbeam_channel::protocol::{Join, Lesson, Outcome, Protocol, Split};
 use crossbeam_channel::{Pass, RuledReceiver, RuledSender, bounded_with};
 use rly_machine::Call;
@@ -32,7 +34,7 @@ pub struct LineView {
 /// The rule of the line.
 pub struct Lined;
 
-impl Protocol<Call, LineView> for Lined {
+impl Protocol<Batch, LineView> for Lined {
     ghost use Rattle.std.specs.Prelude.{[]};
     ghost use Rattle.rly_line.specs.HelpersEnds as helpers;
     ghost use Rattle.rly_line.specs.Submission as submission;
@@ -54,31 +56,33 @@ impl Split<LineView> for Seats {
     ghost right = { λ v. putting v.seats [] };
 }
 
-/// A seat puts a call.
+/// A seat puts a batch.
 pub struct Puts;
 
-impl Outcome<Call, LineView> for Puts {
-    ghost use Rattle.std.specs.Prelude.{◌≡◌, ◌∷◌, ◌++◌, []};
+impl Outcome<Batch, LineView> for Puts {
+    ghost use Rattle.std.specs.Prelude.{◌≡◌, ◌++◌};
+    ghost use Rattle.rly_line.specs.Batches.{calls_in_batch};
 
-    ghost then = { λ v call w. w ≡ record v { put = v.put ++ call ∷ [] } };
+    ghost then = { λ v batch w. w ≡ record v { put = v.put ++ calls_in_batch batch } };
 }
 
-impl Lesson<Call, LineView> for Puts {
-    ghost fact = { λ v calls. Unit {0} };
+impl Lesson<Batch, LineView> for Puts {
+    ghost fact = { λ v batches. Unit {0} };
 }
 
-/// A call is taken.
+/// A batch is taken.
 pub struct Takes;
 
-impl Outcome<Call, LineView> for Takes {
-    ghost use Rattle.std.specs.Prelude.{◌≡◌, ◌∷◌, ◌++◌, []};
+impl Outcome<Batch, LineView> for Takes {
+    ghost use Rattle.std.specs.Prelude.{◌≡◌, ◌++◌};
+    ghost use Rattle.rly_line.specs.Batches.{calls_in_batch};
     ghost use Rattle.rly_line.specs.Submission.{IsNext};
 
-    ghost then = { λ v call w. (w ≡ record v { taken = v.taken ++ call ∷ [] }) × IsNext v.seats v.taken call };
+    ghost then = { λ v batch w. (w ≡ record v { taken = v.taken ++ calls_in_batch batch }) × IsNext v.seats v.taken batch };
 }
 
-impl Lesson<Call, LineView> for Takes {
-    ghost fact = { λ v calls. Unit {0} };
+impl Lesson<Batch, LineView> for Takes {
+    ghost fact = { λ v batches. Unit {0} };
 }
 
 /// A seat's pass and the one that takes are put together, and cut again.
@@ -100,19 +104,20 @@ impl Split<LineView> for Together {
     ghost right = { λ v. putting v.seat v.put };
 }
 
-impl Lesson<Call, LineView> for Together {
+impl Lesson<Batch, LineView> for Together {
     ghost use Rattle.std.specs.Prelude.{◌≡◌, ◌++◌};
+    ghost use Rattle.rly_line.specs.Batches.{calls_in_batches};
     ghost use Rattle.rly_line.specs.Submission.{calls_of};
 
-    ghost fact = { λ v calls. calls_of v.seat (v.taken ++ calls) ≡ v.put };
+    ghost fact = { λ v batches. calls_of v.seat (v.taken ++ calls_in_batches batches) ≡ v.put };
 }
 
 /// The whole line, while seats are given out. Contracts see it as the end that takes calls.
 #[derive(Drop)]
 pub struct Line {
-    puts: RuledSender<Call, LineView, Lined>,
-    takes: RuledReceiver<Call, LineView, Lined>,
-    pass: Pass<Call, LineView>,
+    puts: RuledSender<Batch, LineView, Lined>,
+    takes: RuledReceiver<Batch, LineView, Lined>,
+    pass: Pass<Batch, LineView>,
 }
 
 impl Model for Line {
@@ -134,7 +139,7 @@ impl Line {
         requires { 0 < capacity }
         ensures { IfOk result (λ line. line ≡ record line { capacity = capacity; seats = 0; taken = [] }) }
     {
-        let (puts, takes, pass) = bounded_with::<Call, LineView, Lined, Global>(alloc, capacity)?;
+        let (puts, takes, pass) = bounded_with::<Batch, LineView, Lined, Global>(alloc, capacity)?;
         Ok(Line { puts, takes, pass })
     }
 
@@ -162,8 +167,8 @@ impl Line {
 /// A seat's end of the line. Contracts see the seat's number and the calls that it put.
 #[derive(Drop)]
 pub struct SubmitEnd {
-    line: RuledSender<Call, LineView, Lined>,
-    pass: Pass<Call, LineView>,
+    line: RuledSender<Batch, LineView, Lined>,
+    pass: Pass<Batch, LineView>,
 }
 
 impl Model for SubmitEnd {
@@ -180,26 +185,27 @@ impl Model for SubmitEnd {
 }
 
 impl SubmitEnd {
-    /// Puts the seat's next call. Where the other end is gone, it hands the call back.
-    pub fn put<R: Wait>(&mut self, rt: &R, call: Call) -> Result<(), Call>
-        requires seat { call.seat.0 ≡ self.old.seat }
-        requires number { call.number ≡ length self.old.put + 1 }
-        ensures put { OnOk result (self.new ≡ record self.old { put = self.old.put ++ call ∷ [] }) }
-        ensures back { IfErr result (λ back. (back ≡ call) × (self.new ≡ self.old)) }
+    /// Puts the seat's next batch. Where the other end is gone, it hands the batch back.
+    pub fn put<R: Wait>(&mut self, rt: &R, batch: Batch) -> Result<(), Batch>
+        requires seat { batch.seat.0 ≡ self.old.seat }
+        requires before { batch.before ≡ length self.old.put }
+        ensures put { OnOk result (self.new ≡ record self.old { put = self.old.put ++ calls_in_batch batch }) }
+        ensures back { IfErr result (λ back. (back ≡ batch) × (self.new ≡ self.old)) }
     {
-        match self.line.send_as::<Puts, R>(rt, &mut self.pass, call) {
+        let _count = batch.len();
+        match self.line.send_as::<Puts, R>(rt, &mut self.pass, batch) {
             Ok(()) => Ok(()),
             Err(error) => Err(error.into_inner()),
         }
     }
 }
 
-/// The end of the line that takes calls. Contracts see how many calls the line holds, how
+/// The end of the line that takes batches. Contracts see how many batches the line holds, how
 /// many seats there are, and the calls taken.
 #[derive(Drop)]
 pub struct TakeEnd {
-    line: RuledReceiver<Call, LineView, Lined>,
-    pass: Pass<Call, LineView>,
+    line: RuledReceiver<Batch, LineView, Lined>,
+    pass: Pass<Batch, LineView>,
 }
 
 impl Model for TakeEnd {
@@ -216,24 +222,24 @@ impl Model for TakeEnd {
 }
 
 impl TakeEnd {
-    /// Waits for a call. None: no call was left, and no seat.
-    pub fn wait<R: Wait>(&mut self, rt: &R) -> Option<Call>
-        ensures taken { IfSome result (λ call. (self.new ≡ record self.old { taken = self.old.taken ++ call ∷ [] }) × IsNext self.old.seats self.old.taken call) }
+    /// Waits for a batch. None: no batch was left, and no seat.
+    pub fn wait<R: Wait>(&mut self, rt: &R) -> Option<Batch>
+        ensures taken { IfSome result (λ batch. (self.new ≡ record self.old { taken = self.old.taken ++ calls_in_batch batch }) × IsNext self.old.seats self.old.taken batch) }
         ensures none { IfNone result (self.new ≡ self.old) }
     {
         match self.line.recv_as::<Takes, R>(rt, &mut self.pass) {
-            Ok(call) => Some(call),
+            Ok(batch) => Some(batch),
             Err(_) => None,
         }
     }
 
-    /// A call that is in the line, if there is one.
-    pub fn more<R: Wait>(&mut self, rt: &R) -> Option<Call>
-        ensures taken { IfSome result (λ call. (self.new ≡ record self.old { taken = self.old.taken ++ call ∷ [] }) × IsNext self.old.seats self.old.taken call) }
+    /// A batch that is in the line, if there is one.
+    pub fn more<R: Wait>(&mut self, rt: &R) -> Option<Batch>
+        ensures taken { IfSome result (λ batch. (self.new ≡ record self.old { taken = self.old.taken ++ calls_in_batch batch }) × IsNext self.old.seats self.old.taken batch) }
         ensures none { IfNone result (self.new ≡ self.old) }
     {
         match self.line.try_recv_as::<Takes, R>(rt, &mut self.pass) {
-            Ok(call) => Some(call),
+            Ok(batch) => Some(batch),
             Err(_) => None,
         }
     }

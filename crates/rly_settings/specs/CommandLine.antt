@@ -1,10 +1,10 @@
 -- What the words of a command line ask for (docs/COMMANDS.md): the settings that clap's matches of the words have.
-use Rattle.std.specs.Prelude.{◌≡◌, ◌≢◌, ⊤, ℕ, List, [], ◌∷◌, true, Option, Some, None, codes, unwrap_or}
+use Rattle.std.specs.Prelude.{◌≡◌, ◌≢◌, ⊤, ℕ, List, [], ◌∷◌, Bool, true, false, Option, Some, None, codes, unwrap_or}
 use Rattle.std.specs.Str.Parse.{ParsesUnsigned}
 use Rattle.std.specs.declared.num.ParseIntError.{ParseIntError}
 use Rattle.clap.specs.Words.{App, IsAmong, Kinds, ReadsOne, Row, Rule, Text, fault_of, first_of, kind_of, one_of}
 use Rattle.clap.specs.Words.{new_app, new_rule, subcommand_of, with_rule, with_subcommand}
-use Rattle.clap.specs.declared.builder.action.ArgAction.TheVariants.{Set}
+use Rattle.clap.specs.declared.builder.action.ArgAction.TheVariants.{Set, SetTrue}
 use Rattle.clap.specs.declared.builder.value_parser.ValueParser.TheVariants as parser
 use Rattle.clap.specs.declared.error.Error.{Error}
 use Rattle.clap.specs.declared.error.kind.ErrorKind.TheVariants as kind
@@ -28,6 +28,10 @@ number_rule name = record (new_rule name) {
 -- one that has a default
 abbrev pub option_rule : Text → Text → Rule
 option_rule name default = record (number_rule name) { defaults = default ∷ [] }
+
+-- one without a value, which is there or not
+abbrev pub flag_rule : Text → Rule
+flag_rule name = record (new_rule name) { long = Some name; action = Some SetTrue }
 
 -- a path that a command works on
 abbrev pub path_rule : Text → Rule
@@ -57,8 +61,8 @@ unfoldable pub sim_app : App
 sim_app = with_param_rules (new_app (codes "sim"))
 
 unfoldable pub format_app : App
-format_app = with_rule (with_rule (with_param_rules (with_rule (new_app (codes "format")) (path_rule (codes "file"))))
-    (option_rule (codes "segments") (codes "2"))) (number_rule (codes "length"))
+format_app = with_rule (with_rule (with_rule (with_param_rules (with_rule (new_app (codes "format")) (path_rule (codes "file"))))
+    (option_rule (codes "segments") (codes "2"))) (number_rule (codes "length"))) (flag_rule (codes "force"))
 
 unfoldable pub play_app : App
 play_app = with_rule (with_rule (new_app (codes "play")) (path_rule (codes "file"))) batch_rule
@@ -98,6 +102,11 @@ abbrev pub HasNumber : List Row → Text → ℕ → ℕ → Type 0
 HasNumber rows name default n =
     (given : Option ℕ) × ReadsNumber (one_of name rows) given × (n ≡ unwrap_or given default)
 
+-- whether an option without a value is there
+pub record HasFlag (rows : List Row) (name : Text) (on : Bool) : Type 0 where
+  pub given : one_of name rows ≡ Some (codes "true") → on ≡ true
+  pub left_out : one_of name rows ≡ Some (codes "false") → on ≡ false
+
 -- the path under a name
 abbrev pub path_in : Text → List Row → Text
 path_in name rows = unwrap_or (first_of name rows) []
@@ -117,11 +126,12 @@ pub record HasParams (rows : List Row) (params : Params) : Type 0 where
 abbrev pub IsSettings : Option (Text × List Row) → Settings → Type 0
 IsSettings None s = ⊥
 IsSettings (Some (command, rows)) (Sim params) = (command ≡ codes "sim") × HasParams rows params
-IsSettings (Some (command, rows)) (Format file params segments length) = (command ≡ codes "format")
+IsSettings (Some (command, rows)) (Format file params segments length force) = (command ≡ codes "format")
     × (file.now ≡ path_in (codes "file") rows)
     × HasParams rows params
     × HasNumber rows (codes "segments") 2 segments
     × ReadsNumber (one_of (codes "length") rows) length
+    × HasFlag rows (codes "force") force
 IsSettings (Some (command, rows)) (Play file batch) = (command ≡ codes "play")
     × (file.now ≡ path_in (codes "file") rows)
     × HasNumber rows (codes "batch") 1 batch

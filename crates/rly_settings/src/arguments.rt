@@ -1,6 +1,6 @@
 ghost use Rattle.std.specs.Prelude.{◌≡◌, IfOk, false};
 ghost use Rattle.clap.specs.Words.{app_of, rule_of, with_rule};
-ghost use Rattle.rly_settings.specs.CommandLine.{batch_rule, number_rule, option_rule, path_rule, with_more_rules, with_param_rules};
+ghost use Rattle.rly_settings.specs.CommandLine.{batch_rule, flag_rule, number_rule, option_rule, path_rule, with_more_rules, with_param_rules};
 
 use clap::{Arg, ArgAction, Command, value_parser};
 use rly_core::limits;
@@ -108,6 +108,17 @@ fn with_more_params<'a>(alloc: Global, command: Command<'a>) -> Result<Command<'
         "CoDel's interval in microseconds, 1 to 3600000000",
     )?;
     Ok(with_interval)
+}
+
+/// An option without a value, which is there or not.
+pub(crate) fn flag<'a>(alloc: Global, name: &'a str, help: &'a str) -> Arg<'a>
+    ensures rule { rule_of result ≡ flag_rule name.now }
+    ensures own { result.global ≡ false }
+{
+    Arg::new(alloc, name)
+        .long(name)
+        .action(ArgAction::SetTrue)
+        .help(help)
 }
 
 /// A path that a command works on.

@@ -1,6 +1,6 @@
 ghost use Rattle.std.specs.Prelude.{◌≡◌, [], IfErr, IfOk, IfSome, OnOk, Some, map};
 ghost use Rattle.clap.specs.Words.{found_of, one_of, rows_of, subcommand_rows_of};
-ghost use Rattle.rly_settings.specs.CommandLine.{HasNumber, HasParams, IsSettings, IsTrueFault, ReadsNumber, asked_of, kinds_at, path_in};
+ghost use Rattle.rly_settings.specs.CommandLine.{HasFlag, HasNumber, HasParams, IsSettings, IsTrueFault, ReadsNumber, asked_of, kinds_at, path_in};
 
 use crate::commands::program;
 use crate::given::{Settings, SettingsFault};
@@ -56,6 +56,7 @@ fn settings_of<'a>(matches: &ArgMatches<'a>) -> Option<Settings<'a>>
             params: params_of(options),
             segments: number_of(options, "segments", DEFAULT_SEGMENTS),
             length: given_number(options, "length"),
+            force: has_flag(options, "force"),
         });
     }
     if let Some(options) = options_of(matches, "play") {
@@ -103,6 +104,13 @@ fn given_number(options: &ArgMatches<'_>, name: &str) -> Option<u64>
     ensures { ReadsNumber (one_of name.now (rows_of (found_of options.now))) result }
 {
     options.get_one::<u64>(name)
+}
+
+/// Whether an option without a value was given.
+fn has_flag(options: &ArgMatches<'_>, name: &str) -> bool
+    ensures { HasFlag (rows_of (found_of options.now)) name.now result }
+{
+    options.get_flag(name)
 }
 
 /// The parameters that the options give.

@@ -2,7 +2,7 @@ ghost use Rattle.std.specs.Prelude.{◌≡◌, IfOk, true};
 ghost use Rattle.clap.specs.Words.{app_of, new_app, with_subcommand};
 ghost use Rattle.rly_settings.specs.CommandLine.{audit_app, format_app, play_app, rly_app, rly_top, serve_app, sim_app};
 
-use crate::arguments::{batch, number, with_arg, with_option, with_params, with_path};
+use crate::arguments::{batch, flag, number, with_arg, with_option, with_params, with_path};
 use clap::Command;
 use std::alloc::{AllocError, Global};
 
@@ -19,6 +19,7 @@ Any other line answers `refused 16 line`. STAMP and NOW are microseconds of the 
 /// The help on the options of `format`.
 const FORMATTED: &str =
     "Prints `formatted` and the bytes that the device takes: 64, and its segments.
+What the file held is lost; a device that holds live datagrams is refused without `--force`.
 Values out of their limits answer `refused 21 badgeometry` before the file is touched.";
 
 /// The help on the options of `audit`.
@@ -85,7 +86,7 @@ fn format<'a>(alloc: Global) -> Result<Command<'a>, AllocError>
     let bare = named(
         alloc,
         "format",
-        "Makes a file, or extends one, and makes a new device in it; what it held is lost",
+        "Makes a file, or extends one, and makes a new device in it",
         FORMATTED,
     );
     let with_file = with_path(
@@ -109,7 +110,13 @@ fn format<'a>(alloc: Global) -> Result<Command<'a>, AllocError>
         "Bytes of each segment, below 2147483648; the least that fits the other options where none is given",
     );
     let with_length = with_arg(with_segments, length)?;
-    Ok(with_length)
+    let force = flag(
+        alloc,
+        "force",
+        "Formats also a device that holds live datagrams, which are lost then",
+    );
+    let with_force = with_arg(with_length, force)?;
+    Ok(with_force)
 }
 
 fn play<'a>(alloc: Global) -> Result<Command<'a>, AllocError>

@@ -22,6 +22,8 @@ pub enum Settings<'a> {
         segments: u64,
         /// The length of each segment in bytes: `None` for the least that fits.
         length: Option<u64>,
+        /// Whether datagrams that live on the device may be lost.
+        force: bool,
     },
     /// Commands from the standard input on the device in a file.
     Play {

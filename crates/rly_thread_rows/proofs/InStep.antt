@@ -1,39 +1,60 @@
 -- A thread that answers each call on a machine stays in step with it.
-use Rattle.std.proofs.Common.{ℕ, ◌≡◌, ◌∷◌, ◌++◌, [], List, refl, ap, sym, subst, ◌∙◌, append-nil}
+use Rattle.std.proofs.Common.{ℕ, ◌≡◌, ◌∷◌, ◌++◌, [], List, refl, ap, sym, subst, ◌∙◌, append-nil, length, length-append, take, arith}
+use Rattle.std.specs.List.{zip}
 use Rattle.rly_machine.specs.declared.call.Answer.{Answer}
 use Rattle.rly_machine.specs.declared.call.Call.{Call}
-use Rattle.rly_machine.specs.History.{Entry, IsAnswered, harm, harm_after, next_state, state_after, without_bytes}
+use Rattle.rly_machine.specs.History.{Entry, IsAnswered, LegalBy, harm, harm_after, next_state, state_after, without_bytes}
 use Rattle.rly_machine.specs.State.{State}
 use Rattle.rly_machine.proofs.Histories.{harm_after-append, state_after-append}
+use Rattle.rly_line.specs.Batches.{BatchView, calls_in_batch}
 use Rattle.rly_line.specs.Replies.{Teller}
 use Rattle.rly_line.specs.Responding.{AreLeft, Responding, calls_in}
 use Rattle.rly_line.specs.Submission.{LineId}
-use Rattle.rly_line.proofs.Telling.{calls_in_push}
+use Rattle.rly_line.proofs.Submitting.{length_batch}
+use Rattle.rly_line.proofs.Telling.{calls_in_append}
 use Rattle.rly_thread_rows.specs.InStep.{IsInStep}
 
-module _ {s : State (List ℕ)} {r now : Responding} (call : Call) (kept : IsInStep s r) (took_it : now ≡ record r { taken = r.taken ++ call ∷ [] }) where
-  pub next_of : (left : List Call) × AreLeft now (call ∷ left)
-  next_of = ([], subst (λ (x : Responding). AreLeft x (call ∷ [])) (sym took_it) (ap (λ l. l ++ call ∷ []) (kept.answered ∙ append-nil (calls_in r.history))))
+-- a batch of one ask is one call
+pub single : (b : BatchView) (items rest : List Call) (call : Call) → items ≡ calls_in_batch b → length b.asks ≡ 1 → items ≡ rest ++ call ∷ [] → calls_in_batch b ≡ call ∷ []
+single b items [] call is one last = sym is ∙ last
+single b items (x ∷ rest) call is one last = absurd (omega (arith, one, length_batch b, ap length is, ap length last, length-append rest (call ∷ [])))
 
-  pub answered_of : {answer : Answer} → IsAnswered without_bytes 0 s (call, answer)
-      → IsAnswered without_bytes (harm_after 0 now.history) (state_after now.start now.history) (call, answer)
-  answered_of {answer} answered = subst (λ (x : Responding). IsAnswered without_bytes (harm_after 0 x.history) (state_after x.start x.history) (call, answer)) (sym took_it)
-      (subst (λ (y : ℕ × State (List ℕ)). IsAnswered without_bytes y.0 y.1 (call, answer)) (λ i. (sym kept.unharmed i, kept.state i)) answered)
+-- and its one answer is filled in
+pub one_filled : (given items : List Answer) (answer : Answer) (n : ℕ) → given ≡ take n items → n ≡ 1 → items ≡ answer ∷ [] → given ≡ answer ∷ []
+one_filled given items answer n is one alone = is ∙ (λ i. take (one i) (alone i))
 
-  pub in_step : (answer : Answer) {then : State (List ℕ)} {after : Responding} → then ≡ next_state s (call, answer) → harm answer.reply ≡ 0
-      → after.taken ≡ now.taken → after.start ≡ now.start → after.history ≡ now.history ++ (call, answer) ∷ [] → IsInStep then after
-  in_step answer {then} {after} state harmless taken start history =
-      let old : now.history ≡ r.history = ap (λ (x : Responding). x.history) took_it in
-      let longer : after.history ≡ r.history ++ (call, answer) ∷ [] = history ∙ ap (λ h. h ++ (call, answer) ∷ []) old in
-      let begun : after.start ≡ r.start = start ∙ ap (λ (x : Responding). x.start) took_it in
-      let asks : calls_in after.history ≡ calls_in r.history ++ call ∷ [] = ap calls_in longer ∙ calls_in_push r.history (call, answer) in
-      record {
-        answered = taken ∙ ap (λ (x : Responding). x.taken) took_it ∙ ap (λ l. l ++ call ∷ []) (kept.answered ∙ append-nil (calls_in r.history)) ∙ sym asks
-            ∙ sym (append-nil (calls_in after.history));
-        state = state ∙ ap (λ x. next_state x (call, answer)) kept.state ∙ sym (state_after-append r.start r.history ((call, answer) ∷ []))
-            ∙ ap (λ (y : State (List ℕ) × List Entry). state_after y.0 y.1) (λ i. (sym begun i, sym longer i));
-        unharmed = ap (harm_after 0) longer ∙ harm_after-append 0 r.history ((call, answer) ∷ []) ∙ harmless;
-      }
+module _ {s : State (List ℕ)} {r now : Responding} (b : BatchView) (kept : IsInStep s r) (took_it : now ≡ record r { taken = r.taken ++ calls_in_batch b }) where
+  taken_is : now.taken ≡ calls_in r.history ++ calls_in_batch b
+  taken_is = ap (λ (x : Responding). x.taken) took_it ∙ ap (λ l. l ++ calls_in_batch b) (kept.answered ∙ append-nil (calls_in r.history))
+
+  pub next_of : (left : List Call) × AreLeft now (calls_in_batch b ++ left)
+  next_of = ([], taken_is ∙ ap (λ (x : Responding). calls_in x.history ++ calls_in_batch b) (sym took_it) ∙ ap (λ l. calls_in now.history ++ l) (sym (append-nil (calls_in_batch b))))
+
+  module _ (call : Call) (answer : Answer) (given : List Answer) (is : calls_in_batch b ≡ call ∷ []) (given_is : given ≡ answer ∷ []) where
+    entries : zip (calls_in_batch b) given ≡ (call, answer) ∷ []
+    entries = λ i. zip (is i) (given_is i)
+
+    pub answered_of : IsAnswered without_bytes 0 s (call, answer)
+        → LegalBy without_bytes (harm_after 0 now.history) (state_after now.start now.history) (zip (calls_in_batch b) given)
+    answered_of answered =
+        let alone : LegalBy without_bytes 0 s ((call, answer) ∷ []) = (answered, tt) in
+        let there : LegalBy without_bytes (harm_after 0 r.history) (state_after r.start r.history) ((call, answer) ∷ []) =
+        subst (λ (y : ℕ × State (List ℕ)). LegalBy without_bytes y.0 y.1 ((call, answer) ∷ [])) (λ i. (sym kept.unharmed i, kept.state i)) alone in
+        subst (λ (y : Responding × List Entry). LegalBy without_bytes (harm_after 0 y.0.history) (state_after y.0.start y.0.history) y.1) (λ i. (sym took_it i, sym entries i)) there
+
+    pub in_step : {then : State (List ℕ)} {after : Responding} → then ≡ next_state s (call, answer) → harm answer.reply ≡ 0
+        → after.taken ≡ now.taken → after.start ≡ now.start → after.history ≡ now.history ++ zip (calls_in_batch b) given → IsInStep then after
+    in_step {then} {after} state harmless taken start history =
+        let old : now.history ≡ r.history = ap (λ (x : Responding). x.history) took_it in
+        let longer : after.history ≡ r.history ++ (call, answer) ∷ [] = history ∙ (λ i. old i ++ entries i) in
+        let begun : after.start ≡ r.start = start ∙ ap (λ (x : Responding). x.start) took_it in
+        let asks : calls_in after.history ≡ calls_in r.history ++ call ∷ [] = ap calls_in longer ∙ calls_in_append r.history ((call, answer) ∷ []) in
+        record {
+          answered = taken ∙ taken_is ∙ ap (λ l. calls_in r.history ++ l) is ∙ sym asks ∙ sym (append-nil (calls_in after.history));
+          state = state ∙ ap (λ x. next_state x (call, answer)) kept.state ∙ sym (state_after-append r.start r.history ((call, answer) ∷ []))
+              ∙ ap (λ (y : State (List ℕ) × List Entry). state_after y.0 y.1) (λ i. (sym begun i, sym longer i));
+          unharmed = ap (harm_after 0) longer ∙ harm_after-append 0 r.history ((call, answer) ∷ []) ∙ harmless;
+        }
 
 -- nothing was asked yet
 pub in_step_first : (s : State (List ℕ)) (of : LineId) (r : Responding) (lines : List Teller) → r ≡ record { of = of; taken = []; start = s; history = []; lines = lines } → IsInStep s r

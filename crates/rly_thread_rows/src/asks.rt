@@ -12,7 +12,19 @@ pub(super) fn window() -> Ask {
     Ask::Query(Query::Window { hop: HopId(1) })
 }
 
-/// The reply to the take of a datagram `A` from a peer to hop 1, asked at a seat.
+/// The take of a datagram `A` from a peer to hop 1.
+pub(super) fn take<R: Abort>(rt: &R, alloc: Global, peer: u16, number: u64) -> Ask {
+    let payload = Payload::new(b"A".to_vec(alloc).expect(rt, "memory"));
+    Ask::Command(Command::Take {
+        peer: PeerId(peer),
+        number,
+        hop: HopId(1),
+        stamp: 0,
+        payload,
+    })
+}
+
+/// The reply to that take, asked at a seat.
 pub(super) fn take_at<R: Abort + Wait>(
     rt: &R,
     alloc: Global,
@@ -20,16 +32,8 @@ pub(super) fn take_at<R: Abort + Wait>(
     peer: u16,
     number: u64,
 ) -> Reply {
-    let payload = Payload::new(b"A".to_vec(alloc).expect(rt, "memory"));
-    let take = Command::Take {
-        peer: PeerId(peer),
-        number,
-        hop: HopId(1),
-        stamp: 0,
-        payload,
-    };
-    let answer = seat.call(rt, Ask::Command(take)).expect(rt, "an answer");
-    answer.reply
+    let ask = take(rt, alloc, peer, number);
+    seat.call(rt, ask).expect(rt, "an answer").reply
 }
 
 /// The reply to the take of number 1 from peer 1 at the first of two seats, which is let go then, and the second seat.

@@ -2,7 +2,7 @@
 
 ghost use Rattle.std.specs.Prelude.{◌≤◌};
 
-use crate::asks::{take_again, take_at, take_first};
+use crate::asks::{take, take_again, take_at, take_first};
 use crate::devices::device;
 use rly_core::{HopId, PeerId};
 use rly_disk::{After, Disk, FaultDisk};
@@ -129,4 +129,57 @@ fn calls_share_a_round(rt: HostRuntime) {
         }
     }
     panic!(rt; "each run met the failure")
+}
+
+/// Two batches of takes of one peer, so many each, asked at a seat one after the other. How many were taken, in order,
+/// each with its answer.
+fn batches_at<R: Abort + Wait>(rt: &R, alloc: Global, mut seat: Seat, peer: u16, size: u64) -> u64 {
+    let mut asks = Vec::new(alloc);
+    let mut answers = Vec::with_capacity(alloc, 64).expect(rt, "memory");
+    let mut taken = 0u64;
+    for batch in 0..2u64 {
+        for place in 1..=size {
+            let number = batch.saturating_mul(size).saturating_add(place);
+            let ask = take(rt, alloc, peer, number);
+            asks.push(ask).ok().expect(rt, "memory");
+        }
+        if asks.is_empty() || asks.len() > 64 {
+            panic!(rt; "a batch has 1 to 64 asks");
+        }
+        if !answers.is_empty() || answers.capacity() < 64 {
+            panic!(rt; "no room for the answers");
+        }
+        seat.call_all(rt, &mut asks, &mut answers)
+            .expect(rt, "answers");
+        for answer in answers.drain(..) {
+            if answer.number == taken.saturating_add(1)
+                && matches!(&answer.reply, Reply::Taken(_))
+            {
+                taken = answer.number;
+            }
+        }
+    }
+    taken
+}
+
+/// Four seats in threads of their own, each with two batches that don't fit into one round with another's: all takes
+/// are taken, and each answer is at its ask's place.
+#[test]
+fn batches_are_answered_in_order(rt: HostRuntime) {
+    let alloc = rt.alloc();
+    let (seats, flusher) = flusher_on(&rt, alloc, device(&rt, alloc), 4);
+    let mut asking = Vec::new(alloc);
+    for (seat, peer) in seats.into_iter().zip(1..=4) {
+        let size = 30 + u64::from(peer);
+        let asked = thread::spawn(&rt, move || batches_at(&rt, alloc, seat, peer, size))
+            .ok()
+            .expect(&rt, "a thread");
+        asking.push(asked).expect(&rt, "memory");
+    }
+    let finished = flusher.serve(&rt);
+    for (asked, size) in asking.into_iter().zip(31..=34) {
+        expect!(rt; asked.join(&rt) == 2u64.saturating_mul(size));
+    }
+    expect!(rt; !finished.broken);
+    expect!(rt; finished.journal.position() == 2 * (31 + 32 + 33 + 34));
 }

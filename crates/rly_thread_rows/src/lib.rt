@@ -17,9 +17,13 @@ macro_rules! expect {
 #[cfg(test)]
 mod asks;
 #[cfg(test)]
+mod copies;
+#[cfg(test)]
 mod devices;
 #[cfg(test)]
 mod expect;
+#[cfg(test)]
+mod failures;
 #[cfg(test)]
 mod flushers;
 #[cfg(test)]
@@ -30,5 +34,7 @@ mod overlap;
 mod receivers;
 #[cfg(test)]
 mod senders;
+#[cfg(test)]
+mod unsure;
 #[cfg(test)]
 mod workers;

@@ -73,22 +73,29 @@ impl Answering {
         (seats, answering)
     }
 
-    /// Waits for one call and answers it. False: all seats are gone.
-    fn answer<R: Wait>(&mut self, rt: &R) -> bool
+    /// Waits for a batch of one ask and answers it. False: all seats are gone.
+    fn answer<R: Abort + Wait>(&mut self, rt: &R) -> bool
         requires { IsInStep self.old.machine.state self.old.calls }
         ensures { IsInStep self.new.machine.state self.new.calls }
     {
-        let Some(call) = self.calls.wait(rt) else {
+        let Some(batch) = self.calls.wait(rt) else {
             return false;
         };
-        let said = Snapshot::of(&call);
-        let answer = evaluate(self.alloc, &mut self.machine, call);
-        self.calls.answer(rt, &said, answer);
+        let said = Snapshot::of(&batch);
+        if batch.len() != 1 {
+            panic!(rt; "more than one ask");
+        }
+        let mut calls = Vec::with_capacity(self.alloc, 1).expect(rt, "memory");
+        let mut answers = Vec::with_capacity(self.alloc, 1).expect(rt, "memory");
+        let wanted = batch.into_calls(&mut calls);
+        answers.push_reserved(evaluate(self.alloc, &mut self.machine, calls.take_last()));
+        let filled = wanted.fill(&mut answers);
+        self.calls.answer(rt, &said, filled);
         true
     }
 
     /// Answers so many calls at most, until all seats are gone.
-    fn answer_all<R: Wait>(&mut self, rt: &R, most: u64)
+    fn answer_all<R: Abort + Wait>(&mut self, rt: &R, most: u64)
         requires { IsInStep self.old.machine.state self.old.calls }
     {
         for _call in 0..most {
@@ -187,8 +194,8 @@ fn an_answer_is_lost(rt: HostRuntime) {
     let asking = thread::spawn(&rt, move || is_lost(&rt, seat))
         .ok()
         .expect(&rt, "a thread");
-    let call = line.wait(&rt).expect(&rt, "a call");
-    expect!(rt; (call.seat.0, call.number) == (0, 1));
+    let batch = line.wait(&rt).expect(&rt, "a batch");
+    expect!(rt; batch.len() == 1);
     expect!(rt; line.more(&rt).is_none());
     drop(line);
     expect!(rt; asking.join(&rt));

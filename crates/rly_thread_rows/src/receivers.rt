@@ -2,7 +2,7 @@
 
 ghost use Rattle.std.specs.Prelude.{None};
 
-use crate::workers::{MemEnds, expect_sent, expect_sent_again, link_with, plan, spool_with};
+use crate::workers::{MemEnds, expect_sent, link_with, plan, spool_with};
 use rly_core::{HopId, Params, PeerId};
 use rly_machine::{Machine, Payload};
 use rly_threads::{Ends, Go, MemDesk, MemLink, MemTurn, Point, Turn, Worker, receiver_run};
@@ -11,14 +11,19 @@ use std::process::Abort;
 use std::sync::Wait;
 
 /// Data from station 3 to station 7, number 1, payload `000c41`.
-const DATA: &[u8] =
+pub(super) const DATA: &[u8] =
     b"\x52\x4c\x01\x01\x00\x03\x00\x07\x00\x00\x00\x00\x00\x00\x00\x01\x00\x03\x00\x0c\x41";
 
-/// Its custody.
-const CUSTODY: &[u8] = b"\x52\x4c\x01\x02\x00\x07\x00\x03\x00\x00\x00\x00\x00\x00\x00\x01";
+/// The same for hop 2, payload `000e42`.
+const OTHER_DATA: &[u8] =
+    b"\x52\x4c\x01\x01\x00\x03\x00\x07\x00\x00\x00\x00\x00\x00\x00\x01\x00\x03\x00\x0e\x42";
+
+/// The custody of either.
+pub(super) const CUSTODY: &[u8] =
+    b"\x52\x4c\x01\x02\x00\x07\x00\x03\x00\x00\x00\x00\x00\x00\x00\x01";
 
 /// The receiver of peer 1 runs over a machine and these packets, for so many turns.
-fn receive<R: Abort + Wait>(
+pub(super) fn receive<R: Abort + Wait>(
     rt: &R,
     alloc: Global,
     machine: Machine<Payload>,
@@ -35,7 +40,7 @@ fn receive<R: Abort + Wait>(
 }
 
 /// An empty spool.
-fn empty<R: Abort>(rt: &R, alloc: Global) -> Machine<Payload> {
+pub(super) fn empty<R: Abort>(rt: &R, alloc: Global) -> Machine<Payload> {
     Machine::new(alloc, Params::DEFAULT).expect(rt, "memory")
 }
 
@@ -98,11 +103,12 @@ impl Turn for Listening {
     }
 }
 
-/// Checks for how many datagrams a receiver that hears a datagram three times says that they were taken, and for which hop.
+/// Checks for how many datagrams a receiver that hears this Data three times says that they were taken, and for which hop.
 fn expect_said<R: Abort + Wait>(
     rt: &R,
     alloc: Global,
     machine: Machine<Payload>,
+    data: &[u8],
     said: u64,
     hop: HopId,
 ) {
@@ -112,7 +118,7 @@ fn expect_said<R: Abort + Wait>(
         hop: HopId(0),
     };
     let mut ends = Ends {
-        link: link_with(rt, alloc, 3, &[0, 1, 2], DATA, 0),
+        link: link_with(rt, alloc, 3, &[0, 1, 2], data, 0),
         desk: MemDesk::new(alloc, machine),
         turn,
     };
@@ -126,9 +132,10 @@ fn expect_said<R: Abort + Wait>(
 #[test]
 fn what_is_taken_is_said(rt: HostRuntime) {
     let alloc = rt.alloc();
-    expect_said(&rt, alloc, empty(&rt, alloc), 1, HopId(1));
-    expect_said(&rt, alloc, spool_with(&rt, alloc, 8, 1), 0, HopId(0));
-    expect_said(&rt, alloc, spool_with(&rt, alloc, 1, 2), 0, HopId(0));
+    expect_said(&rt, alloc, empty(&rt, alloc), DATA, 1, HopId(1));
+    expect_said(&rt, alloc, empty(&rt, alloc), OTHER_DATA, 1, HopId(2));
+    expect_said(&rt, alloc, spool_with(&rt, alloc, 8, 1), DATA, 0, HopId(0));
+    expect_said(&rt, alloc, spool_with(&rt, alloc, 1, 2), DATA, 0, HopId(0));
 }
 
 /// The refusals of that data: the spool is full, there is no route.
@@ -165,22 +172,5 @@ fn others_are_not_heard(rt: HostRuntime) {
         let ends = hear_one(&rt, rt.alloc(), *packet);
         expect_sent(&rt, &ends, 0, CUSTODY);
         expect!(rt; ends.desk.calls() == 0);
-    }
-}
-
-/// In which of its receives the neighbour's datagram comes.
-const PLACES: [usize; 16] = [0, 4, 8, 12, 16, 20, 24, 28, 32, 36, 40, 44, 48, 52, 56, 60];
-
-/// The neighbour sends a datagram again in every fourth turn. Whichever call of the link fails, it is taken once and
-/// its custody sent.
-#[test]
-fn link_fails_once(rt: HostRuntime) {
-    let alloc = rt.alloc();
-    for fails_at in 1..80 {
-        let link = link_with(&rt, alloc, 64, &PLACES, DATA, fails_at);
-        let ends = receive(&rt, alloc, empty(&rt, alloc), link, 64);
-        expect_sent_again(&rt, &ends, 15, CUSTODY);
-        expect!(rt; matches!(ends.desk.machine().lasts().first(), Some(1)));
-        expect!(rt; ends.desk.machine().item_count() == 1);
     }
 }

@@ -1,8 +1,6 @@
 //! A sending worker.
 
-use crate::workers::{
-    MemEnds, expect_counts, expect_sent, expect_sent_again, link_with, plan, spool_with, take,
-};
+use crate::workers::{MemEnds, expect_counts, expect_sent, link_with, plan, spool_with, take};
 use rly_core::HopId;
 use rly_machine::{Machine, Payload};
 use rly_threads::{Ends, MemDesk, MemLink, MemTurn, sender_run};
@@ -11,7 +9,7 @@ use std::process::Abort;
 use std::sync::Wait;
 
 /// Data from station 7 to station 9, number 1, payload `000c41`.
-const DATA: &[u8] =
+pub(super) const DATA: &[u8] =
     b"\x52\x4c\x01\x01\x00\x07\x00\x09\x00\x00\x00\x00\x00\x00\x00\x01\x00\x03\x00\x0c\x41";
 
 /// Its custody.
@@ -37,12 +35,22 @@ fn send_from<R: Abort + Wait>(
 }
 
 /// The same over a spool with one datagram, with a window of one.
-fn send<R: Abort + Wait>(rt: &R, alloc: Global, link: MemLink, turn: MemTurn) -> MemEnds {
+pub(super) fn send<R: Abort + Wait>(
+    rt: &R,
+    alloc: Global,
+    link: MemLink,
+    turn: MemTurn,
+) -> MemEnds {
     send_from(rt, alloc, spool_with(rt, alloc, 8, 1), 1, link, turn)
 }
 
 /// A link that gives the custody in these of 64 receives.
-fn custody_at<R: Abort>(rt: &R, alloc: Global, places: &[usize], fails_at: u64) -> MemLink {
+pub(super) fn custody_at<R: Abort>(
+    rt: &R,
+    alloc: Global,
+    places: &[usize],
+    fails_at: u64,
+) -> MemLink {
     link_with(rt, alloc, 64, places, CUSTODY, fails_at)
 }
 
@@ -208,17 +216,5 @@ fn data_is_held_back_after_a_contact(rt: HostRuntime) {
         expect_counts(&rt, &ends, 0, 1, 0);
         // All turns waited but the second and the third, which came after turns that moved something.
         expect!(rt; ends.link.waits() == *turns - 2);
-    }
-}
-
-/// Whichever call of the link fails, the datagram is sent, and released once its custody was heard.
-#[test]
-fn link_fails_once(rt: HostRuntime) {
-    let alloc = rt.alloc();
-    for fails_at in 1..66 {
-        let link = custody_at(&rt, alloc, &[40, 56], fails_at);
-        let ends = send(&rt, alloc, link, MemTurn::new(1_000, 10_000, 64));
-        expect_sent_again(&rt, &ends, 2, DATA);
-        expect_counts(&rt, &ends, 0, 0, 1);
     }
 }

@@ -9,7 +9,7 @@ use rly_threads::{Ends, Link, MemDesk, MemLink, MemTurn};
 use std::alloc::Global;
 use std::process::Abort;
 
-/// Station 7, between station 3 and station 9.
+/// Station 7, after station 3 and before stations 9 and 10.
 const PLAN: &str = r#"
 station = 7
 [[peer]]
@@ -24,9 +24,19 @@ listen = "127.0.0.1:4003"
 remote = "127.0.0.1:4004"
 resend = 40
 contacts = [[100, 200], [300, 350], [1_000, 1_000_000_000]]
+[[hop]]
+id = 2
+station = 10
+listen = "127.0.0.1:4005"
+remote = "127.0.0.1:4006"
+resend = 80
+contacts = [[1_000, 1_000_000_000]]
 [[route]]
 destination = 12
 hop = 1
+[[route]]
+destination = 14
+hop = 2
 "#;
 
 /// What a worker works with in these tests.
@@ -50,7 +60,7 @@ pub(super) fn spool_with<R: Abort>(rt: &R, alloc: Global, items: u64, peer: u16)
     machine
 }
 
-/// A spool takes a datagram for hop 1, and then has had so many.
+/// A spool takes a datagram for hop 1, and then has had so many from its peer.
 pub(super) fn take<R: Abort>(
     rt: &R,
     alloc: Global,
@@ -58,18 +68,37 @@ pub(super) fn take<R: Abort>(
     peer: u16,
     number: u64,
 ) {
-    let bytes = b"\x00\x0c\x41".to_vec(alloc).expect(rt, "memory");
+    let payload = b"\x00\x0c\x41";
+    take_for(
+        rt,
+        alloc,
+        machine,
+        (PeerId(peer), number),
+        HopId(1),
+        payload,
+    );
+}
+
+/// The same for any hop and payload. A datagram comes from a peer under a number.
+pub(super) fn take_for<R: Abort>(
+    rt: &R,
+    alloc: Global,
+    machine: &mut Machine<Payload>,
+    (peer, number): (PeerId, u64),
+    hop: HopId,
+    payload: &[u8],
+) {
     let command = Command::Take {
-        peer: PeerId(peer),
+        peer,
         number,
-        hop: HopId(1),
+        hop,
         stamp: 0,
-        payload: Payload::new(bytes),
+        payload: Payload::new(payload.to_vec(alloc).expect(rt, "memory")),
     };
     let Ok(room) = machine.reserve_for(alloc, &command) else {
         panic!(rt; "memory");
     };
-    expect!(rt; matches!(&machine.apply(command, room), Reply::Taken(id) if *id == number));
+    expect!(rt; matches!(&machine.apply(command, room), Reply::Taken(_)));
 }
 
 /// A link that gives a packet in those of so many receives that have these numbers, counted from 0, and nothing else. Of its
@@ -102,14 +131,6 @@ pub(super) fn expect_sent<R: Abort>(rt: &R, ends: &MemEnds, count: usize, packet
     }
 }
 
-/// Checks that one call of the link failed, and how many packets were sent at least, each of them this one.
-pub(super) fn expect_sent_again<R: Abort>(rt: &R, ends: &MemEnds, least: usize, packet: &[u8]) {
-    expect!(rt; ends.link.failures() == 1);
-    let count = ends.link.delivered().len();
-    expect!(rt; count >= least);
-    expect_sent(rt, ends, count, packet);
-}
-
 /// Checks how many datagrams hop 1 has that wait, are in flight and were released.
 pub(super) fn expect_counts<R: Abort>(
     rt: &R,
@@ -118,9 +139,18 @@ pub(super) fn expect_counts<R: Abort>(
     flight: u64,
     released: u64,
 ) {
-    let shown = ends.desk.machine().ask_show(HopId(1));
-    let Reply::Shown(status) = shown else {
-        panic!(rt; "hop 1 is not shown");
+    expect_counts_of(rt, &ends.desk, HopId(1), (queued, flight, released));
+}
+
+/// The same for any hop.
+pub(super) fn expect_counts_of<R: Abort>(
+    rt: &R,
+    desk: &MemDesk,
+    hop: HopId,
+    counts: (u64, u64, u64),
+) {
+    let Reply::Shown(status) = desk.machine().ask_show(hop) else {
+        panic!(rt; "the hop is not shown");
     };
-    expect!(rt; (status.queued, status.flight, status.released) == (queued, flight, released));
+    expect!(rt; (status.queued, status.flight, status.released) == counts);
 }

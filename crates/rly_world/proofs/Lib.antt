@@ -1,17 +1,17 @@
-mod RelayAnswers
-mod RelayAppends
-mod RelayBegins
+pub mod RelayAnswers
+pub mod RelayAppends
+pub mod RelayBegins
 mod RelayBooks
-mod RelayCalls
-mod RelayDevice
-mod RelayEvents
-mod RelayGoesOn
-mod RelayHolds
-mod RelayPhases
-mod RelayRecords
-mod RelayReplaces
-mod RelayStart
-mod PairLists
+pub mod RelayCalls
+pub mod RelayDevice
+pub mod RelayEvents
+pub mod RelayGoesOn
+pub mod RelayHolds
+pub mod RelayPhases
+pub mod RelayRecords
+pub mod RelayReplaces
+pub mod RelayStart
+pub mod PairLists
 mod PairRuns
 mod PairFetch
 mod PairCoreSteps

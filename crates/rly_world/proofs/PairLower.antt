@@ -32,7 +32,7 @@ use Rattle.rly_machine.proofs.Refusals.{among, may_take}
 use Rattle.rly_world.specs.PairCores.{is_for_receiver, take_answer}
 use Rattle.rly_world.specs.PairEnd.{Asked, End, Outcome, Replied, Done, Unsure, Broken, DeviceRead, OutOfMemory}
 use Rattle.rly_world.specs.PairEnd.{accepted_after, after_call, harm_by, is_made, lasting, may_go, reply_at, reply_by}
-use Rattle.rly_world.specs.PairEnd.{state_of, with_crash, with_made, with_other, with_told}
+use Rattle.rly_world.specs.PairEnd.{state_of, told_by, with_crash, with_made, with_other, with_told}
 use Rattle.rly_world.specs.PairPayloads.{IsPrefix, Numbered, taken, taken_by}
 use Rattle.rly_world.proofs.PairCoreSteps.{IsSafeTake, IsTrueAnswer, answer_later, either, either_known, take_later}
 use Rattle.rly_world.proofs.PairCoreSteps.{take_number, waiting}
@@ -40,7 +40,7 @@ use Rattle.rly_world.proofs.PairFetch.{IsUnder}
 use Rattle.rly_world.proofs.PairLists.{all_append, all_weaker, prefix_again, prefix_length, prefix_more}
 use Rattle.rly_world.proofs.PairLists.{prefix_of_take, prefix_take}
 use Rattle.rly_world.proofs.PairRuns.{takes_from_new, takes_step, taken_append}
-use Rattle.rly_world.proofs.PairUpper.{grown, more_cases}
+use Rattle.rly_world.proofs.PairUpper.{grown, more_cases, told_within}
 
 -- what was taken by more commands goes on from what was taken before
 pub taken_front : (peer : PeerId) (s : State (List ℕ)) (xs ys : List (Command (List ℕ))) → IsPrefix xs ys
@@ -322,6 +322,33 @@ due_true peer given e (ask.Command (Pick hop now)) outcome there safe = absurd s
 due_true peer given e (ask.Command (Release hop number)) outcome there safe = absurd safe
 due_true peer given e (ask.Query q) outcome there safe = absurd safe
 
+-- of as many as the answer tells of
+due_told : (peer : PeerId) (given : List (Numbered (List ℕ))) (e : End) (an : Ask) (outcome : Outcome)
+    → has_peer (new_state {P = List ℕ} e.params) peer ≡ true → IsSafeTake peer given an
+    → IsTrueTake (length (taken length peer (new_state e.params)
+    (take (told_by outcome (length (accepted_after e an outcome))) (accepted_after e an outcome)))) an
+    (reply_by outcome (reply_at e an))
+due_told peer given e an Done there safe =
+    subst (λ (l : List (Command (List ℕ))). IsTrueTake (length (taken length peer (new_state e.params) l)) an
+    (reply_by Done (reply_at e an))) (sym (take-length (accepted_after e an Done)))
+    (due_true peer given e an Done there safe)
+due_told peer given e (ask.Command (Take from number hop stamp payload)) (Unsure stands) there safe = tt
+due_told peer given e (ask.Command (Take from number hop stamp payload)) Broken there safe = tt
+due_told peer given e (ask.Command (Take from number hop stamp payload)) DeviceRead there safe = tt
+due_told peer given e (ask.Command (Take from number hop stamp payload)) OutOfMemory there safe = tt
+due_told peer given e (ask.Command (Pick hop now)) (Unsure stands) there safe = absurd safe
+due_told peer given e (ask.Command (Pick hop now)) Broken there safe = absurd safe
+due_told peer given e (ask.Command (Pick hop now)) DeviceRead there safe = absurd safe
+due_told peer given e (ask.Command (Pick hop now)) OutOfMemory there safe = absurd safe
+due_told peer given e (ask.Command (Release hop number)) (Unsure stands) there safe = absurd safe
+due_told peer given e (ask.Command (Release hop number)) Broken there safe = absurd safe
+due_told peer given e (ask.Command (Release hop number)) DeviceRead there safe = absurd safe
+due_told peer given e (ask.Command (Release hop number)) OutOfMemory there safe = absurd safe
+due_told peer given e (ask.Query q) (Unsure stands) there safe = absurd safe
+due_told peer given e (ask.Query q) Broken there safe = absurd safe
+due_told peer given e (ask.Query q) DeviceRead there safe = absurd safe
+due_told peer given e (ask.Query q) OutOfMemory there safe = absurd safe
+
 -- an end that keeps what it has to, and has taken no less than before for good
 abbrev pub GoesOn : PeerId → List (Numbered (List ℕ)) → List Receiver → ℕ → End → Type 0
 GoesOn peer given receivers kept e = IsLower peer given e receivers × (kept ≤ kept_by peer e)
@@ -338,8 +365,7 @@ lower_made peer given e receivers outcome (call ∷ calls) is low =
     let due : Replied = record {
       call = call;
       reply = reply_by outcome (reply_at e call.ask);
-      position = length
-          (accepted_after e call.ask outcome);
+      position = told_by outcome (length (accepted_after e call.ask outcome));
     } in
     let shown : Replied → Asked = λ r. r.call in
     let line : map (λ (r : Replied). r.call) (e.replied ++ due ∷ []) ++ calls ≡ map
@@ -357,11 +383,8 @@ lower_made peer given e receivers outcome (call ∷ calls) is low =
         asked = asked.1;
         replied = all_append (IsTrueReply peer e.params all) e.replied (due ∷ []) called.replied (
           record {
-            position = omega arith;
-            told = subst (λ (l : List (Command (List ℕ))). IsTrueTake
-                (length (taken length peer (new_state e.params) l)) call.ask (reply_by outcome (reply_at e call.ask)))
-                (sym (take-length all))
-                (due_true peer given e call.ask outcome low.there asked.0);
+            position = told_within outcome (length all);
+            told = due_told peer given e call.ask outcome low.there asked.0;
           },
           tt,
         );

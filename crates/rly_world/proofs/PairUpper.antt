@@ -31,7 +31,7 @@ use Rattle.rly_machine.proofs.Refusals.{among, may_pick, may_release, may_take}
 use Rattle.rly_world.specs.PairCores.{fetched_event, is_for_sender, sender_event}
 use Rattle.rly_world.specs.PairEnd.{Asked, End, Outcome, Replied, Done, Unsure, Broken, DeviceRead, OutOfMemory}
 use Rattle.rly_world.specs.PairEnd.{accepted_after, after_call, harm_by, is_made, lasting, may_go, reply_at, reply_by}
-use Rattle.rly_world.specs.PairEnd.{state_of, with_crash, with_made, with_other, with_told}
+use Rattle.rly_world.specs.PairEnd.{state_of, told_by, with_crash, with_made, with_other, with_told}
 use Rattle.rly_world.specs.PairPayloads.{IsPrefix, Numbered, picked}
 use Rattle.rly_world.proofs.PairCoreSteps.{IsKept, IsSafeAsk, IsSafeEvent, acked_later, ask_later, either, either_known}
 use Rattle.rly_world.proofs.PairCoreSteps.{event_later}
@@ -239,19 +239,37 @@ machine_told hop kept params accepted (ask.Command c) there safe =
     told_of (picked length hop (new_state params) accepted) (ask.Command c)
     (step length (fold length (new_state params) accepted) c).1 (λ payload is. tt)
 
-reply_told : (xs : List (Numbered (List ℕ))) (an : Ask) (outcome : Outcome) (machine : Reply)
-    → IsSafeEvent xs 0 (sender_event an machine) → IsSafeEvent xs 0 (sender_event an (reply_by outcome machine))
-reply_told xs an Done machine safe = safe
-reply_told xs an (Unsure stands) machine safe = tt
-reply_told xs an Broken machine safe = tt
-reply_told xs an DeviceRead machine safe = tt
-reply_told xs an OutOfMemory machine safe = tt
-
 -- the accepted commands begin those after a call, and what was given stays
 pub called_front : (e : End) (an : Ask) (outcome : Outcome)
     → IsPrefix e.accepted (take (length (accepted_after e an outcome)) (accepted_after e an outcome))
 called_front e an outcome =
     ((if is_made outcome then accepted_by an (reply_at e an) else []), take-length (accepted_after e an outcome))
+
+-- an answer tells of no more than there are
+pub told_within : (outcome : Outcome) (count : ℕ) → told_by outcome count ≤ count
+told_within Done count = omega arith
+told_within (Unsure stands) count = omega arith
+told_within Broken count = omega arith
+told_within DeviceRead count = omega arith
+told_within OutOfMemory count = omega arith
+
+-- what it tells is safe
+due_safe : (hop : HopId) (e : End) (an : Ask) (outcome : Outcome)
+    → IsSafeEvent (picked length hop (new_state e.params) e.accepted) 0 (sender_event an (reply_at e an))
+    → IsSafeEvent (picked length hop (new_state e.params)
+    (take (told_by outcome (length (accepted_after e an outcome))) (accepted_after e an outcome))) 0
+    (sender_event an (reply_by outcome (reply_at e an)))
+due_safe hop e an Done safe =
+    let all : List (Command (List ℕ)) = accepted_after e an Done in
+    event_later (picked length hop (new_state e.params) e.accepted)
+    (picked length hop (new_state e.params) (take (length all) all)) 0 0
+    (picked_front hop (new_state e.params) e.accepted (take (length all) all) (called_front e an Done))
+    (omega arith)
+    (sender_event an (reply_at e an)) safe
+due_safe hop e an (Unsure stands) safe = tt
+due_safe hop e an Broken safe = tt
+due_safe hop e an DeviceRead safe = tt
+due_safe hop e an OutOfMemory safe = tt
 
 given_called : (hop : HopId) (e : End) (an : Ask) (outcome : Outcome) → e.told ≤ length e.accepted
     → given_by hop (after_call e an outcome) ≡ given_by hop e
@@ -274,16 +292,10 @@ upper_made hop kept e s outcome (call ∷ calls) is up =
     let due : Replied = record {
       call = call;
       reply = reply_by outcome (reply_at e call.ask);
-      position = length
-          (accepted_after e call.ask outcome);
+      position = told_by outcome (length (accepted_after e call.ask outcome));
     } in
-    let told = event_later (picked length hop (new_state e.params) e.accepted)
-    (picked length hop (new_state e.params) (take (length all) all)) 0 0
-    (picked_front hop (new_state e.params) e.accepted (take (length all) all) (called_front e call.ask outcome))
-    (omega arith)
-    (sender_event call.ask (reply_by outcome (reply_at e call.ask)))
-    (reply_told (picked length hop (new_state e.params) e.accepted) call.ask outcome (reply_at e call.ask)
-    (machine_told hop kept e.params e.accepted call.ask up.there asked.0)) in
+    let told = due_safe hop e call.ask outcome
+    (machine_told hop kept e.params e.accepted call.ask up.there asked.0) in
     either (may_go e outcome)
     (record (after_call e call.ask outcome) { asked = calls; replied = e.replied ++ due ∷ [] }) e
     (GoesOn hop kept s (given_by hop e)) (
@@ -293,7 +305,7 @@ upper_made hop kept e s outcome (call ∷ calls) is up =
         acked = called.acked;
         asked = asked.1;
         replied = all_append (IsTrueReply hop e.params all) e.replied (due ∷ []) called.replied
-            (record { position = omega arith; told = told }, tt);
+            (record { position = told_within outcome (length all); told = told }, tt);
         released = called.released;
       },
       prefix_same (given_by hop e) (given_by hop (after_call e call.ask outcome))

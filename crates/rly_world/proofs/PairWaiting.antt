@@ -20,7 +20,7 @@ use Rattle.rly_machine.specs.declared.command.Ask.{Ask}
 use Rattle.rly_world.specs.PairCores.{is_for_receiver, is_for_sender, receiver_asks, sender_asks, sender_event}
 use Rattle.rly_world.specs.PairCores.{take_answer}
 use Rattle.rly_world.specs.PairEnd.{Asked, End, Outcome, Replied, after_call, may_go, reply_at, reply_by}
-use Rattle.rly_world.specs.PairEnd.{with_asked, with_crash, with_made, with_other, with_told}
+use Rattle.rly_world.specs.PairEnd.{told_by, with_asked, with_crash, with_made, with_other, with_told}
 use Rattle.rly_world.specs.PairWaiting.{is_early, waiting_after, waiting_count, waiting_step}
 use Rattle.rly_world.specs.PairWorld.{PairEvent, PairSetup, PairWorld, pair_after, pair_start, pair_step}
 use Rattle.rly_world.specs.PairWorld.{Turns, Timeout, FetchesAhead, UpperHears, LowerHears, UpperMakes, LowerMakes}
@@ -99,8 +99,11 @@ made_waits : (e : End) (outcome : Outcome) (calls : List Asked) → e.asked ≡ 
 made_waits e outcome [] is = refl
 made_waits e outcome (call ∷ calls) is =
     let after : End = after_call e call.ask outcome in
-    let due : Replied =
-    record { call = call; reply = reply_by outcome (reply_at e call.ask); position = length after.accepted } in
+    let due : Replied = record {
+      call = call;
+      reply = reply_by outcome (reply_at e call.ask);
+      position = told_by outcome (length after.accepted);
+    } in
     either (may_go e outcome) (record after { asked = calls; replied = e.replied ++ due ∷ [] }) e
     (λ x. waiting_count x ≡ waiting_count e)
     (omega (arith, length-append e.replied (due ∷ []), ap length is)) refl

@@ -50,7 +50,7 @@ both_run w phase x events new may needed rest = (
 )
 
 -- the standing is the same after a body that was written
-body_stands : (w : World) (batches : List Batch) (answers : List Answer) (x : Standing)
+pub body_stands : (w : World) (batches : List Batch) (answers : List Answer) (x : Standing)
     → IsHeld (in_phase w Body batches answers) → IsStanding w.device.synced x
     → IsStanding (seen_of (asked_of w.device (own_write Body x (logged w)))) x
 body_stands w batches answers x held stands =

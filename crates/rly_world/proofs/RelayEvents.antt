@@ -26,7 +26,7 @@ use Rattle.rly_journal.proofs.Serving.{few_accepted}
 use Rattle.rly_world.specs.RelayPhases.{IsDueIn, MayOpen}
 use Rattle.rly_world.specs.RelaySteps.{AreEvaluated, Event, HasPlace, IsDueFor, IsEvaluated, MayTake, after}
 use Rattle.rly_world.specs.RelaySteps.{after_evaluation, answer_put, answered_first, broke, called, evaluated, greatest}
-use Rattle.rly_world.specs.RelaySteps.{on_device, rest_of, stopped, taken, with_batch}
+use Rattle.rly_world.specs.RelaySteps.{on_device, rest_of, stopped, taken, joined}
 use Rattle.rly_world.specs.RelaySteps as event
 use Rattle.rly_world.specs.RelayWorld.{Answering, Batch, Body, IsImageOf, Ready, Round, Seal, Stage, Taking, World}
 use Rattle.rly_world.specs.RelayWorld.{Writing, asked_of, batches_in, calls_of, logged, seen_of, state_from}
@@ -90,9 +90,9 @@ taking_placed : (k : Core) (broken : Bool) (batches : List Batch) (round : Optio
     → IsPlaced k true broken round → IsPlaced k true broken (round_at Taking batches [])
 taking_placed k broken batches round first placed = before_taking k broken batches round first placed
 
-with_batch_held : (w : World) (batch : Batch) → w.is_open ≡ true → TakesMore w.round → IsHeld w
-    → IsHeld (with_batch w batch)
-with_batch_held w batch opened first held =
+joined_held : (w : World) (batch : Batch) → w.is_open ≡ true → TakesMore w.round → IsHeld w
+    → IsHeld (joined w batch)
+joined_held w batch opened first held =
     by_room (nat_le (length (calls_of (batches_in w.round ++ batch ∷ []))) 64) refl
   where
     more : List Batch
@@ -125,8 +125,8 @@ may_take None (batch ∷ line) (Some round) may = inr (round, refl, may)
 
 taken_held : (w : World) (kept : Option Batch) (line : List Batch) → w.is_open ≡ true → TakesMore w.round → IsHeld w
     → IsHeld (taken w kept line)
-taken_held w (Some batch) line opened first held = with_batch_held (record w { kept = None }) batch opened first held
-taken_held w None (batch ∷ line) opened first held = with_batch_held (record w { line = line }) batch opened first held
+taken_held w (Some batch) line opened first held = joined_held (record w { kept = None }) batch opened first held
+taken_held w None (batch ∷ line) opened first held = joined_held (record w { line = line }) batch opened first held
 taken_held w None [] opened first held = held
 
 -- ---- the first phase
@@ -504,7 +504,7 @@ called_held w FailedSync may held =
     (failed_sync_held (in_phase w may.2.0 may.0.batches may.0.answers)
     (in_round IsHeld w (round_at (Writing may.2.0) may.0.batches may.0.answers) is held)))
 
-after_held : (w : World) (e : Event) → HasPlace w e → IsHeld w → IsHeld (after w e)
+pub after_held : (w : World) (e : Event) → HasPlace w e → IsHeld w → IsHeld (after w e)
 after_held w (event.Put seat asks) may held = held
 after_held w event.Takes may held = taken_held w w.kept w.line may.0 (may_take w.kept w.line w.round may.1) held
 after_held w (event.Opens segment) may held =

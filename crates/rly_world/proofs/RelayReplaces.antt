@@ -27,12 +27,12 @@ use Rattle.rly_world.proofs.RelayPhases.{Begins, IsPhaseImage, head_next, length
 use Rattle.rly_world.proofs.RelayStart.{holds}
 
 -- what a phase leaves standing
-abbrev StandsOn : Phase → Type 0
+abbrev pub StandsOn : Phase → Type 0
 StandsOn phase = (y : Standing) (commands : Commands) (old seen : List ℕ) → IsStanding old y
     → Begins phase y commands old → IsPhaseImage phase y commands old seen → IsDone phase y commands seen
     → IsStanding seen y
 
-stands_on : (w : World) (phase : Phase) (batches : List Batch) (answers : List Answer) (x : Standing) → StandsOn phase
+pub stands_on : (w : World) (phase : Phase) (batches : List Batch) (answers : List Answer) (x : Standing) → StandsOn phase
     → IsHeld (in_phase w phase batches answers) → IsStanding w.device.synced x → IsNeeded phase x (seen_of w.device)
     → IsStanding (seen_of (asked_of w.device (own_write phase x (logged w)))) x
 stands_on w phase batches answers x next_of held stands needed =
@@ -51,7 +51,7 @@ stands_on w phase batches answers x next_of held stands needed =
     (subst (λ y. IsDone phase y (logged w) seen) (sym same) done))
 
 -- the same where the gate read closed
-stands_closed : (w : World) (segment : ℕ) (batches : List Batch) (answers : List Answer) (x : Standing)
+pub stands_closed : (w : World) (segment : ℕ) (batches : List Batch) (answers : List Answer) (x : Standing)
     → IsHeld (in_phase w (Seal segment) batches answers) → IsStanding w.device.synced x
     → IsClosed (seen_of w.device) (segment_place x.geometry segment) → IsStanding (seen_of w.device) x
 stands_closed w segment batches answers x held stands closed =
@@ -62,7 +62,7 @@ stands_closed w segment batches answers x held stands closed =
     (now.images (seen_of w.device) held.seen)
     (subst (λ y. IsClosed (seen_of w.device) (segment_place y.geometry segment)) (sym same) closed)).0
 
-settling_some : (at : ℕ) (bytes : List ℕ) → 1 ≤ length bytes → settling at bytes ≡ Write at bytes ∷ Sync ∷ []
+pub settling_some : (at : ℕ) (bytes : List ℕ) → 1 ≤ length bytes → settling at bytes ≡ Write at bytes ∷ Sync ∷ []
 settling_some at [] some = absurd (omega (arith, some))
 settling_some at (byte ∷ bytes) some = refl
 
@@ -110,7 +110,7 @@ ReplacesOn v segment closed x batches answers = (new : World)
     (replacing (segment_place x.geometry segment) closed (head_of (x.generation + 1) (state_in x) ++ 0 ∷ []))) new
     × (new.round ≡ round_at Ready batches answers) × (new.device.since ≡ [])
 
-is_open : (place : ℕ) (seen : List ℕ) → (IsTrue false ↔ IsClosed seen place) → IsOpen seen place
+pub is_open : (place : ℕ) (seen : List ℕ) → (IsTrue false ↔ IsClosed seen place) → IsOpen seen place
 is_open place seen told = elim (cases_eq (get_or seen place 0) open_gate) [
   | inl opened ↦ opened
   | inr closed ↦ absurd (false≢true (told.1 closed))

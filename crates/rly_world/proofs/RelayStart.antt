@@ -50,7 +50,7 @@ prefix_accepted w held n =
     (accepted_parts length (new_state w.params) (take n w.accepted) (drop n w.accepted)
     (subst (AllAccepted length (new_state w.params)) (sym (take-append-drop n w.accepted)) held.accepted)).0
 
-prefix_counted : (w : World) → IsHeld w → (n : ℕ) → n ≤ length w.accepted
+pub prefix_counted : (w : World) → IsHeld w → (n : ℕ) → n ≤ length w.accepted
     → (state_from w.params (take n w.accepted)).seq ≡ n
 prefix_counted w held n most =
     omega (

@@ -16,7 +16,7 @@ pub record Asked : Type 0 where
   pub core : ℕ
   pub ask : Ask
 
--- a call that was made and waits for its answer: the reply, and how many commands were accepted by then
+-- a call that was made and waits for its answer: the reply, and how many accepted commands it tells of
 pub record Replied : Type 0 where
   pub call : Asked
   pub reply : Reply
@@ -72,6 +72,14 @@ harm_by Broken = 2
 harm_by DeviceRead = 0
 harm_by OutOfMemory = 0
 
+-- how many of so many accepted commands an answer tells of: a failure tells of none
+abbrev pub told_by : Outcome → ℕ → ℕ
+told_by Done count = count
+told_by (Unsure stands) count = 0
+told_by Broken count = 0
+told_by DeviceRead count = 0
+told_by OutOfMemory count = 0
+
 -- whether a call may go so: a device that failed never works again before the next crash
 abbrev pub may_go : End → Outcome → Bool
 may_go e outcome = nat_le e.harm (harm_by outcome)
@@ -109,7 +117,11 @@ with_made e outcome (call ∷ calls) =
     if may_go e outcome
     then record after {
       asked = calls;
-      replied = e.replied ++ (record { call = call; reply = reply; position = length after.accepted }) ∷ [];
+      replied = e.replied ++ (record {
+        call = call;
+        reply = reply;
+        position = told_by outcome (length after.accepted);
+      }) ∷ [];
     }
     else e
 

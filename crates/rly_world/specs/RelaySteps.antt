@@ -87,8 +87,8 @@ heard w seat = record w {
 -- ---- the flusher
 
 -- a batch is in the round, where it holds at most 64 calls with it, and else kept for the next one
-abbrev pub with_batch : World → Batch → World
-with_batch w batch =
+abbrev pub joined : World → Batch → World
+joined w batch =
     if nat_le (length (calls_of (batches_in w.round ++ batch ∷ []))) 64
     then record w {
       round = Some (record { stage = Taking; batches = batches_in w.round ++ batch ∷ []; answers = [] });
@@ -97,8 +97,8 @@ with_batch w batch =
 
 -- the batch that was kept comes first
 abbrev pub taken : World → Option Batch → List Batch → World
-taken w (Some batch) line = with_batch (record w { kept = None }) batch
-taken w None (batch ∷ line) = with_batch (record w { line = line }) batch
+taken w (Some batch) line = joined (record w { kept = None }) batch
+taken w None (batch ∷ line) = joined (record w { line = line }) batch
 taken w None [] = w
 
 abbrev pub staged : Stage → Option Round → Option Round

@@ -13,20 +13,20 @@ run_relay-requires-after_bounds g c κs within =
     let hops = c.requires.sound.hop_count in
     (omega (arith, count, peers.0, hops.0), omega (arith, count, peers.1, hops.1))
 
-pub returns-in_ok-outcome_of-in-Ok-clause-ends : goal.returns-in_ok-outcome_of-in-Ok-clause-ends
-returns-in_ok-outcome_of-in-Ok-clause-ends g c =
+pub returns-in_ok-told-in-Ok-clause-ends : goal.returns-in_ok-told-in-Ok-clause-ends
+returns-in_ok-told-in-Ok-clause-ends g c =
     let complete : c.in-Ok.relayed.complete ≡ true = search rules in
     let count = posts_count _ _ c.args.plan.now c.args.turns c.in_ok-posts.ensures in
     let some : 1 ≤ length c.in_ok-posts.posts.items = omega (arith, count, c.requires.sound.peer_count.0) in
     turns_end c.args.plan.now c.args.journal.state.params.window c.args.turns _ _ c.in_ok-posts.ensures some (c.in-Ok.ensures.worked complete)
 
-pub returns-in_ok-outcome_of-in-Ok-clause-worked : goal.returns-in_ok-outcome_of-in-Ok-clause-worked
-returns-in_ok-outcome_of-in-Ok-clause-worked g c =
+pub returns-in_ok-told-in-Ok-clause-worked : goal.returns-in_ok-told-in-Ok-clause-worked
+returns-in_ok-told-in-Ok-clause-worked g c =
     record { posts = c.in_ok-posts.posts.items; planned = c.in_ok-posts.ensures; worked = c.in-Ok.ensures.worked (search rules) }
 
 -- as many seats as workers
-pub returns-in_ok-outcome_of-in-Ok-clause-served : goal.returns-in_ok-outcome_of-in-Ok-clause-served
-returns-in_ok-outcome_of-in-Ok-clause-served g c =
+pub returns-in_ok-told-in-Ok-clause-served : goal.returns-in_ok-told-in-Ok-clause-served
+returns-in_ok-told-in-Ok-clause-served g c =
     let served = c.in-Ok.ensures.served in
     let count = posts_count _ _ c.args.plan.now c.args.turns c.in_ok-posts.ensures ∙ sym (workers_count c.args.plan.now) in
     (served.0, subst (λ seats. IsServed g.D.Disk.state (new_flusher c.args.journal (new_end served.0 seats)) c.in-Ok.relayed.finished.journal) count served.1)

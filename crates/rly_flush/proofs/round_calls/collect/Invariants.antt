@@ -1,16 +1,19 @@
-use Rattle.std.proofs.Common.{◌≡◌, ◌++◌, length, vec_capacity}
+use Rattle.std.proofs.Common.{◌≡◌, ◌≤◌, [], None, length}
 use Rattle.rly_core.specs.Bounds.{IsIn}
 use Rattle.rly_line.specs.Responding.{IsResponding}
-use Rattle.rly_flush.specs.HelpersFlushing.{said_of}
+use Rattle.rly_flush.specs.HelpersFlushing.{AreCollected, HasRoom, answers_said, calls_said}
 use Rattle.rly_flush.proofs.round_calls.collect.Given as goal
 
+-- the batches so far are those of the round, and none is kept yet
 abbrev pub invariant-loop-count : goal.invariant-loop-count
 invariant-loop-count g l = record {
-  taken : l.line ≡ record l.fn.line { taken = l.fn.line.taken ++ l.calls.items };
-  said : said_of l.said ≡ l.calls.items;
-  count : IsIn 1 l._count (length l.calls.items);
-  said_count : length l.said.items ≡ length l.calls.items;
-  calls_capacity : vec_capacity l.calls ≡ vec_capacity l.fn.calls;
-  said_capacity : vec_capacity l.said ≡ vec_capacity l.fn.said;
+  collected : AreCollected l.fn.line l.line l.fn.kept None l.lists.calls.items;
+  kept : l.kept ≡ None;
+  said : calls_said l.lists.said.items ≡ l.lists.calls.items;
+  wanted : l.lists.wanted.items ≡ answers_said l.lists.said.items;
+  count : IsIn 1 64 (length l.lists.calls.items);
+  batches : length l.lists.said.items ≤ l._count;
+  answers : l.lists.answers.items ≡ [];
+  room : HasRoom l.lists;
   holds : IsResponding l.line;
 }

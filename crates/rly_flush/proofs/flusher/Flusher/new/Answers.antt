@@ -1,4 +1,4 @@
-use Rattle.std.proofs.Common.{arith, subst, sym}
+use Rattle.std.proofs.Common.{None, subst, sym}
 use Rattle.rly_flush.specs.HelpersFlushing.{IsFlushing}
 use Rattle.rly_flush.specs.Flushing.{IsOneHistory}
 use Rattle.rly_flush.proofs.Crashing.{at_first, one_history}
@@ -6,20 +6,13 @@ use Rattle.rly_flush.proofs.flusher.Flusher.new.Goals as goal
 
 pub invariant_of-result : goal.invariant_of-result
 invariant_of-result g c = (
-  subst (λ s. IsFlushing g.D.Disk.state (record { first = s.journal; journal = c.args.journal; line = c.new-line.result })) (sym c.of-first.ensures)
+  subst (λ s. IsFlushing g.D.Disk.state (record { first = s.journal; journal = c.args.journal; kept = None; line = c.new-line.result })) (sym c.of-first.ensures)
       (at_first g.D.Disk.state g.met.D.Disk.consistent c.args.journal c.args.line_end.of c.new-line.result c.args.line_end.lines c.new-line.ensures.same c.new-line.ensures.holds c.law_counted.ensures c.law_durable.ensures),
-  record {
-    calls_empty = c.in-Ok.ensures.calls.0;
-    said_empty = c.in-Ok.ensures.said.0;
-    answers_empty = c.in-Ok.ensures.answers.0;
-    calls_room = omega (arith, c.in-Ok.ensures.calls.1);
-    said_room = omega (arith, c.in-Ok.ensures.said.1);
-    answers_room = omega (arith, c.in-Ok.ensures.answers.1);
-  },
+  c.in-Ok.ensures,
 )
 
 pub returns-clause-history : goal.returns-clause-history
 returns-clause-history g c =
-    subst (λ s. IsOneHistory g.D.Disk.state (record { first = s.journal; journal = c.args.journal; line = c.new-line.result })) (sym c.of-first.ensures)
-    (one_history g.D.Disk.state g.met.D.Disk.consistent (record { first = c.args.journal; journal = c.args.journal; line = c.new-line.result })
+    subst (λ s. IsOneHistory g.D.Disk.state (record { first = s.journal; journal = c.args.journal; kept = None; line = c.new-line.result })) (sym c.of-first.ensures)
+    (one_history g.D.Disk.state g.met.D.Disk.consistent (record { first = c.args.journal; journal = c.args.journal; kept = None; line = c.new-line.result })
     (at_first g.D.Disk.state g.met.D.Disk.consistent c.args.journal c.args.line_end.of c.new-line.result c.args.line_end.lines c.new-line.ensures.same c.new-line.ensures.holds c.law_counted.ensures c.law_durable.ensures))

@@ -1,58 +1,45 @@
-use Rattle.std.proofs.Common.{◌≡◌, false, arith, subst}
+use Rattle.std.proofs.Common.{◌≡◌, false, arith, refl, subst}
 use Rattle.rly_flush.specs.Flushing.{FlusherState, GrewInRound, IsCrashSafe}
 use Rattle.rly_flush.proofs.Crashing.{may_tell, stayed, went_on}
 use Rattle.rly_flush.proofs.flusher.Flusher.round.Goals as goal
 
-pub invariant_of-self : goal.invariant_of-self
-invariant_of-self g c = (
-  (stayed g.D.Disk.state g.met.D.Disk.consistent c.self.invariant.0 c.collect.ensures.taken c.if-not-collect.ensures.count.0).flushing,
-  record {
-    calls_empty = c.if-not-collect.ensures.count.0;
-    said_empty = c.if-not-collect.ensures.count.1;
-    answers_empty = c.self.invariant.1.answers_empty;
-    calls_room = omega (arith, c.collect.ensures.calls_capacity, c.self.invariant.1.calls_room);
-    said_room = omega (arith, c.collect.ensures.said_capacity, c.self.invariant.1.said_room);
-    answers_room = c.self.invariant.1.answers_room;
-  },
-)
-
 pub returns-then-not-collect-clause-history : goal.returns-then-not-collect-clause-history
 returns-then-not-collect-clause-history g c =
-    (stayed g.D.Disk.state g.met.D.Disk.consistent c.self.invariant.0 c.collect.ensures.taken c.if-not-collect.ensures.count.0).history
-
-pub returns-then-not-collect-clause-any_moment : goal.returns-then-not-collect-clause-any_moment
-returns-then-not-collect-clause-any_moment g c =
-    subst (λ (f : FlusherState g.row.D.Denot). (g.D.Disk.state f.journal.disk).honest → f.first.broken ≡ false → IsCrashSafe g.D.Disk.state f (record { first = c.self.inside.first.value.journal; journal = c.self.inside.owned.journal; line = c.collect.new.line }))
-    c.self.view_is (stayed g.D.Disk.state g.met.D.Disk.consistent c.self.invariant.0 c.collect.ensures.taken c.if-not-collect.ensures.count.0).safe
+    let same = c.if-not-collect.ensures.stayed refl in
+    (stayed g.D.Disk.state g.met.D.Disk.consistent c.self.invariant.0 same.0 same.1 same.2).history
 
 pub answer_all-requires-clause-legal : goal.answer_all-requires-clause-legal
 answer_all-requires-clause-legal g c =
-    may_tell g.D.Disk.state g.met.D.Disk.consistent c.self.invariant.0 c.collect.ensures.taken c.collect.ensures.said c.commit.ensures.round
+    may_tell g.D.Disk.state g.met.D.Disk.consistent c.self.invariant.0 c.collect.ensures.collected c.collect.ensures.said c.commit.ensures.round
 
 pub invariant_of-self-2 : goal.invariant_of-self-2
 invariant_of-self-2 g c = (
-  (went_on g.D.Disk.state g.met.D.Disk.consistent c.self.invariant.0 c.collect.ensures.taken c.collect.ensures.said c.commit.ensures.round c.answer_all.ensures.line c.answer_all.ensures.holds).flushing,
+  (went_on g.D.Disk.state g.met.D.Disk.consistent c.self.invariant.0 c.collect.ensures.collected c.collect.ensures.said c.commit.ensures.round c.answer_all.ensures.line c.answer_all.ensures.holds).flushing,
   record {
     calls_empty = c.commit.ensures.emptied;
     said_empty = c.answer_all.ensures.emptied.0;
-    answers_empty = c.answer_all.ensures.emptied.1;
-    calls_room = omega (arith, c.commit.ensures.calls_capacity, c.collect.ensures.calls_capacity, c.self.invariant.1.calls_room);
-    said_room = omega (arith, c.answer_all.ensures.said_capacity, c.collect.ensures.said_capacity, c.self.invariant.1.said_room);
-    answers_room = omega (arith, c.answer_all.ensures.answers_capacity, c.commit.ensures.answers_capacity, c.self.invariant.1.answers_room);
+    wanted_empty = c.answer_all.ensures.emptied.1;
+    answers_empty = c.answer_all.ensures.emptied.2;
+    room = record {
+      calls_room = omega (arith, c.commit.ensures.calls_capacity, c.collect.ensures.room.calls_room);
+      said_room = omega (arith, c.answer_all.ensures.said_capacity, c.collect.ensures.room.said_room);
+      wanted_room = omega (arith, c.answer_all.ensures.wanted_capacity, c.collect.ensures.room.wanted_room);
+      answers_room = omega (arith, c.answer_all.ensures.answers_capacity, c.commit.ensures.answers_capacity, c.collect.ensures.room.answers_room);
+    };
   },
 )
 
 pub returns-clause-history : goal.returns-clause-history
 returns-clause-history g c =
-    (went_on g.D.Disk.state g.met.D.Disk.consistent c.self.invariant.0 c.collect.ensures.taken c.collect.ensures.said c.commit.ensures.round c.answer_all.ensures.line c.answer_all.ensures.holds).history
+    (went_on g.D.Disk.state g.met.D.Disk.consistent c.self.invariant.0 c.collect.ensures.collected c.collect.ensures.said c.commit.ensures.round c.answer_all.ensures.line c.answer_all.ensures.holds).history
 
 pub returns-clause-failures : goal.returns-clause-failures
 returns-clause-failures g c =
-    subst (λ (f : FlusherState g.row.D.Denot). GrewInRound g.D.Disk.state f (record { first = c.self.inside.first.value.journal; journal = c.commit.new.journal; line = c.answer_all.new.line })) c.self.view_is
-    (went_on g.D.Disk.state g.met.D.Disk.consistent c.self.invariant.0 c.collect.ensures.taken c.collect.ensures.said c.commit.ensures.round c.answer_all.ensures.line c.answer_all.ensures.holds).grew
+    subst (λ (f : FlusherState g.row.D.Denot). GrewInRound g.D.Disk.state f (record { first = c.self.inside.first.value.journal; journal = c.commit.new.journal; kept = c.collect.new.kept; line = c.answer_all.new.line })) c.self.view_is
+    (went_on g.D.Disk.state g.met.D.Disk.consistent c.self.invariant.0 c.collect.ensures.collected c.collect.ensures.said c.commit.ensures.round c.answer_all.ensures.line c.answer_all.ensures.holds).grew
 
 pub returns-clause-any_moment : goal.returns-clause-any_moment
 returns-clause-any_moment g c =
-    subst (λ (f : FlusherState g.row.D.Denot). (g.D.Disk.state f.journal.disk).honest → f.first.broken ≡ false → IsCrashSafe g.D.Disk.state f (record { first = c.self.inside.first.value.journal; journal = c.commit.new.journal; line = c.answer_all.new.line }))
-    c.self.view_is
-    (went_on g.D.Disk.state g.met.D.Disk.consistent c.self.invariant.0 c.collect.ensures.taken c.collect.ensures.said c.commit.ensures.round c.answer_all.ensures.line c.answer_all.ensures.holds).safe
+    subst (λ (f : FlusherState g.row.D.Denot). (g.D.Disk.state f.journal.disk).honest → f.first.broken ≡ false
+    → IsCrashSafe g.D.Disk.state f (record { first = c.self.inside.first.value.journal; journal = c.commit.new.journal; kept = c.collect.new.kept; line = c.answer_all.new.line })) c.self.view_is
+    (went_on g.D.Disk.state g.met.D.Disk.consistent c.self.invariant.0 c.collect.ensures.collected c.collect.ensures.said c.commit.ensures.round c.answer_all.ensures.line c.answer_all.ensures.holds).safe

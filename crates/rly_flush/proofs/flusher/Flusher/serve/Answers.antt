@@ -1,5 +1,7 @@
-use Rattle.std.proofs.Common.{subst, sym}
-use Rattle.rly_flush.specs.Flushing.{IsContinued}
+use Rattle.std.proofs.Common.{Option, ◌∙◌, ap, refl, subst, sym}
+use Rattle.std.proofs.lemmas.Bool.{false≢true}
+use Rattle.rly_line.specs.Batches.{BatchView}
+use Rattle.rly_flush.specs.Flushing.{FlusherState, IsContinued}
 use Rattle.rly_flush.proofs.Serving.{continued_first, continued_next}
 use Rattle.rly_flush.proofs.flusher.Flusher.serve.Goals.{in-None, in-Some+then-not-round}
 use Rattle.rly_flush.proofs.flusher.Flusher.serve.Goals as goal
@@ -16,6 +18,12 @@ pub returns-clause-ends : goal.returns-clause-ends
 returns-clause-ends g c = (
   c.match-next.flusher,
   sym c.into_finished.ensures.journal,
+  (elim c.match-next.branch [
+    | in-None w ↦ absurd (false≢true w.in-None.ensures.steps)
+    | in-Some+then-not-round w ↦
+        let kept : FlusherState g.row.D.Denot → Option BatchView = λ f. f.kept in
+        ap kept w.flusher-is ∙ ap kept w.if-not-round.ensures.took ∙ w.if-not-round.ensures.none_kept refl
+  ]),
   (elim c.match-next.branch [
     | in-None w ↦ subst (IsContinued g.D.Disk.state c.args.self) (sym w.flusher-is) c.loop-count.invariant
     | in-Some+then-not-round w ↦

@@ -6,22 +6,26 @@ use Rattle.rly_journal.specs.HelpersJournal.{IsShaped}
 use Rattle.rly_journal.specs.Journal.{IsDueFor, IsRound, holds_command}
 use Rattle.rly_journal.specs.Log.{IsDurable, IsSameHead}
 use Rattle.rly_journal.specs.Rounds.{refusals}
-use Rattle.rly_journal.proofs.Rounding.{round_few_syncs, round_later, round_made, round_refused, round_safe, round_served, round_syncs, round_unmade}
+use Rattle.rly_journal.proofs.Rounding.{made_as, round_few_syncs, round_later, round_made, round_refused, round_safe, round_served, round_syncs, round_unmade}
 use Rattle.rly_journal.proofs.journal.Journal.round.Goals.{in-Ok, in-Err}
 use Rattle.rly_journal.proofs.journal.Journal.round.Goals as goal
 
 pub returns-clause-trace : goal.returns-clause-trace
 returns-clause-trace g c whole =
+    let counted : c.args.self.now.position ≡ c.args.self.now.state.seq =
+    sym (ap (λ j. j.position) c.self.view_is) ∙ c.self.invariant.0.counted c.if-self.false ∙ ap (λ j. j.state.seq) c.self.view_is in
     elim c.match-make_ready.branch [
       | in-Ok w ↦
-          subst (λ j. MakesRound g.D.Disk.state c.args.self.now j c.args.calls.now.items) (sym w.self-is)
+          made_as g.D.Disk.state c.args.self.now w.serve.new.self _ c.args.calls.now.items c.args.answers.now.items _ w.self-is c.reserve.ensures.items (ap (λ v. v.items) w.answers-is)
           (round_made g.D.Disk.state c.args.self.now c.make_ready.new.self c.args.calls.now.items c.make_ready.ensures.state w.serve.new.self
           (subst (IsReady g.D.Disk.state c.args.self.now c.make_ready.new.self) c.deref.ensures.value w.in-Ok.ensures.made.1)
           (subst (λ l. IsDueFor c.make_ready.new.self l → ⊥) c.deref.ensures.value w.in-Ok.ensures.ready) w.serve.ensures.trace)
       | in-Err w ↦
-          subst (λ j. MakesRound g.D.Disk.state c.args.self.now j c.args.calls.now.items) (sym w.self-is)
+          made_as g.D.Disk.state c.args.self.now c.make_ready.new.self _ c.args.calls.now.items c.args.answers.now.items _ w.self-is c.reserve.ensures.items (ap (λ v. v.items) w.answers-is)
           (round_unmade g.D.Disk.state c.args.self.now c.make_ready.new.self c.args.calls.now.items w.in-Err.refusal whole c.make_ready.ensures.state
-          (subst (λ l. IsUnready g.D.Disk.state c.args.self.now c.make_ready.new.self l w.in-Err.refusal) c.deref.ensures.value w.in-Err.ensures.made))
+          (subst (λ l. IsUnready g.D.Disk.state c.args.self.now c.make_ready.new.self l w.in-Err.refusal) c.deref.ensures.value w.in-Err.ensures.made)
+          c.reserve.new.self.items w.refuse_all-in-Err.new.answers.items w.self-in-Err.inside.position w.refuse_all-in-Err.ensures.answers
+          (ap (λ j. j.position) w.self-in-Err.view_is ∙ c.make_ready.ensures.position ∙ counted))
     ]
 
 pub returns-clause-answers : goal.returns-clause-answers
@@ -36,7 +40,7 @@ returns-clause-answers g c =
             ap (λ v. v.items) w.answers-is ∙ served.1 ∙ ap (λ l. l ++ served.0) c.reserve.ensures.items,
             subst (λ j. IsRound g.D.Disk.state c.args.self.now j c.args.calls.now.items served.0) (sym w.self-is)
                 (round_served g.D.Disk.state c.args.self.now c.make_ready.new.self w.serve.new.self c.args.calls.now.items served.0 whole c.make_ready.ensures.state
-                c.make_ready.ensures.position (subst (λ j. MakesRound g.D.Disk.state c.args.self.now j c.args.calls.now.items) w.self-is made) served.2),
+                c.make_ready.ensures.position (made_as g.D.Disk.state c.args.self.now _ w.serve.new.self c.args.calls.now.items c.args.answers.now.items _ (sym w.self-is) refl refl made) served.2),
           )
       | in-Err w ↦ (
         refusals w.in-Err.refusal w.self-in-Err.inside.position c.args.calls.now.items,

@@ -63,11 +63,11 @@ returns-then-is_empty-clause-trace g c =
     let whole : c.self.inside.broken ≡ false = ap (λ j. j.broken) c.self.view_is ∙ c.requires.broken in
     let none = logging_none g.D.Disk.state c.self.inside.disk c.self.inside.tail.gate c.answer_calls.new.group (accepted_of (zip c.args.calls.now.items answered.0))
     c.self.inside.machine.state c.answer_calls.new.machine.state answered.3 (sym c.is_empty.ensures ∙ c.if-is_empty.true) in
-    subst (λ j. MakesRound g.D.Disk.state j (record { disk = c.self.inside.disk; tail = c.self.inside.tail; state = c.answer_calls.new.machine.state; position = c.self.inside.position; broken = c.self.inside.broken }) c.args.calls.now.items) c.self.view_is
+    subst (λ j. MakesRound g.D.Disk.state j (record { disk = c.self.inside.disk; tail = c.self.inside.tail; state = c.answer_calls.new.machine.state; position = c.self.inside.position; broken = c.self.inside.broken }) c.args.calls.now.items c.args.answers.now.items c.answer_calls.new.answers.items) c.self.view_is
     (serve_made g.D.Disk.state (record { disk = c.self.inside.disk; tail = c.self.inside.tail; state = c.self.inside.machine.state; position = c.self.inside.position; broken = c.self.inside.broken })
     (record { disk = c.self.inside.disk; tail = c.self.inside.tail; state = c.answer_calls.new.machine.state; position = c.self.inside.position; broken = c.self.inside.broken }) c.args.calls.now.items answered.0 c.answer_calls.new.group answered.2 answered.3
     (λ due. c.requires.ready (subst (λ j. IsDueFor j c.args.calls.now.items) c.self.view_is due))
-    (subst (λ b. Makes g.D.Disk.state (logging c.self.inside.tail.gate (accepted_of (zip c.args.calls.now.items answered.0))) (not b) c.self.inside.disk c.self.inside.disk) (sym whole) none))
+    (subst (λ b. Makes g.D.Disk.state (logging c.self.inside.tail.gate (accepted_of (zip c.args.calls.now.items answered.0))) (not b) c.self.inside.disk c.self.inside.disk) (sym whole) none) c.args.answers.now.items c.answer_calls.new.answers.items (λ _. answered.1))
 
 pub returns-in-Ok-clause-trace : goal.returns-in-Ok-clause-trace
 returns-in-Ok-clause-trace g c =
@@ -75,11 +75,11 @@ returns-in-Ok-clause-trace g c =
     let whole : c.self.inside.broken ≡ false = ap (λ j. j.broken) c.self.view_is ∙ c.requires.broken in
     let made = logging_group g.D.Disk.state c.self.inside.tail.gate c.answer_calls.new.group (accepted_of (zip c.args.calls.now.items answered.0))
     c.self.inside.machine.state c.answer_calls.new.machine.state answered.3 (sym c.is_empty.ensures ∙ c.if-is_empty.false) c.in-Ok.ensures.trace in
-    subst (λ j. MakesRound g.D.Disk.state j (record { disk = c.append.new.disk; tail = c.append.new.tail; state = c.answer_calls.new.machine.state; position = c.seq-self-inside.result; broken = c.self.inside.broken }) c.args.calls.now.items) c.self.view_is
+    subst (λ j. MakesRound g.D.Disk.state j (record { disk = c.append.new.disk; tail = c.append.new.tail; state = c.answer_calls.new.machine.state; position = c.seq-self-inside.result; broken = c.self.inside.broken }) c.args.calls.now.items c.args.answers.now.items c.answer_calls.new.answers.items) c.self.view_is
     (serve_made g.D.Disk.state (record { disk = c.self.inside.disk; tail = c.self.inside.tail; state = c.self.inside.machine.state; position = c.self.inside.position; broken = c.self.inside.broken })
     (record { disk = c.append.new.disk; tail = c.append.new.tail; state = c.answer_calls.new.machine.state; position = c.seq-self-inside.result; broken = c.self.inside.broken }) c.args.calls.now.items answered.0 c.answer_calls.new.group answered.2 answered.3
     (λ due. c.requires.ready (subst (λ j. IsDueFor j c.args.calls.now.items) c.self.view_is due))
-    (subst (λ b. Makes g.D.Disk.state (logging c.self.inside.tail.gate (accepted_of (zip c.args.calls.now.items answered.0))) (not b) c.self.inside.disk c.append.new.disk) (sym whole) made))
+    (subst (λ b. Makes g.D.Disk.state (logging c.self.inside.tail.gate (accepted_of (zip c.args.calls.now.items answered.0))) (not b) c.self.inside.disk c.append.new.disk) (sym whole) made) c.args.answers.now.items c.answer_calls.new.answers.items (λ _. answered.1))
 
 pub returns-in-Err-clause-answers : goal.returns-in-Err-clause-answers
 returns-in-Err-clause-answers g c =
@@ -102,7 +102,8 @@ returns-in-Err-clause-trace g c =
     let answered = c.answer_calls.ensures.answers in
     let made = logging_group g.D.Disk.state c.self.inside.tail.gate c.answer_calls.new.group (accepted_of (zip c.args.calls.now.items answered.0))
     c.self.inside.machine.state c.answer_calls.new.machine.state answered.3 (sym c.is_empty.ensures ∙ c.if-is_empty.false) c.in-Err.ensures.trace in
-    subst (λ j. MakesRound g.D.Disk.state j (record { disk = c.append.new.disk; tail = c.append.new.tail; state = c.answer_calls.new.machine.state; position = c.self.inside.position; broken = true }) c.args.calls.now.items) c.self.view_is
+    subst (λ j. MakesRound g.D.Disk.state j (record { disk = c.append.new.disk; tail = c.append.new.tail; state = c.answer_calls.new.machine.state; position = c.self.inside.position; broken = true }) c.args.calls.now.items c.args.answers.now.items c.make_unsure.new.answers.items) c.self.view_is
     (serve_made g.D.Disk.state (record { disk = c.self.inside.disk; tail = c.self.inside.tail; state = c.self.inside.machine.state; position = c.self.inside.position; broken = c.self.inside.broken })
     (record { disk = c.append.new.disk; tail = c.append.new.tail; state = c.answer_calls.new.machine.state; position = c.self.inside.position; broken = true }) c.args.calls.now.items answered.0 c.answer_calls.new.group answered.2 answered.3
-    (λ due. c.requires.ready (subst (λ j. IsDueFor j c.args.calls.now.items) c.self.view_is due)) made)
+    (λ due. c.requires.ready (subst (λ j. IsDueFor j c.args.calls.now.items) c.self.view_is due)) made
+    c.args.answers.now.items c.make_unsure.new.answers.items (λ going. let e : true ≡ false = going in absurd cc))

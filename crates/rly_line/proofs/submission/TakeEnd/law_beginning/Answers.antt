@@ -1,6 +1,8 @@
-use Rattle.std.proofs.Common.{◌≡◌, ◌∙◌, ◌++◌, ap, subst}
+use Rattle.std.proofs.Common.{◌≡◌, ◌∙◌, ◌++◌, List, ap, subst}
 use Rattle.crossbeam_channel.specs.Claims.{view}
 use Rattle.rly_line.specs.declared.submission.LineView.{LineView}
+use Rattle.rly_machine.specs.declared.call.Call.{Call}
+use Rattle.rly_line.specs.Batches.{calls_in_batches}
 use Rattle.rly_line.specs.HelpersEnds.{Putter, Taker, together}
 use Rattle.rly_line.specs.Submission.{IsBeginning, calls_of}
 use Rattle.rly_line.proofs.Submitting.{beginning, learns, merges, parts}
@@ -20,7 +22,7 @@ another-pass-requires-clause-rule c =
 
 pub returns-clause-begins : goal.returns-clause-begins
 returns-clause-begins c =
-    let items = c.learn_as.ensures.rule.0 in
+    let items : List Call = calls_in_batches c.learn_as.ensures.rule.0 in
     let said = c.learn_as.ensures.rule.1 in
     let both : LineView = together (view c.self.inside.pass) (view c.end.inside.pass) in
     let told : calls_of both.seat (both.taken ++ items) ≡ both.put =

@@ -1,0 +1,18 @@
+use Rattle.rly_daemon.proofs.program.run_serve.Goals as goal
+
+pub returns : goal.returns
+returns g c = record {
+  served = record {
+    plan = c.in_ok-plan.plan;
+    opened = c.in_ok-journal.journal;
+    left = c.in_ok-_relayed._relayed.finished.journal;
+    room = c.in_ok-_relayed.ensures.room;
+    ends = c.in_ok-_relayed.ensures.ends;
+    begun = c.in_ok-journal.ensures.whole;
+    whole = c.in_ok-_relayed.ensures.whole;
+    line = c.in_ok-_relayed.ensures.served.0;
+    served = c.in_ok-_relayed.ensures.served.1;
+    begins = g.E.Write.contents c.serve.new.errors;
+    told = c.in_ok-tell_end.ensures;
+  };
+}

@@ -1,0 +1,5 @@
+mod StationCalls
+mod StationStanding
+mod StationSteps
+mod StationCrash
+mod PairRelays

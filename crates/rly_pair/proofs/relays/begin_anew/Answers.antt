@@ -1,0 +1,17 @@
+use Rattle.std.proofs.Common.{◌≡◌, ◌++◌, List, arith, drop, length, map, sym, ◌∙◌, ap, take}
+use Rattle.std.proofs.Math.Seq.{take-length}
+use Rattle.rly_hop.specs.Receiver.{Receiver}
+use Rattle.rly_hop.specs.Receiving.{receiver}
+use Rattle.rly_journal.proofs.Serving.{mark_next}
+use Rattle.rly_pair.proofs.PairRelays.{all_anew}
+use Rattle.rly_pair.proofs.relays.begin_anew.Goals as goal
+
+pub loop-core-preserved : goal.loop-core-preserved
+loop-core-preserved c =
+    mark_next (λ (_ : Receiver). receiver (record { 0 = 2 }) (record { 0 = 1 })) c.args.cores.now c.loop-core.cores c.loop-core.core-index c.core-item.result c.new.result
+    (omega (arith, c.loop-core-test.true)) c.loop-core.invariant c.new.ensures
+
+pub returns : goal.returns
+returns c =
+    c.loop-core.invariant
+    ∙ all_anew c.args.cores.now c.loop-core.core-index (receiver (record { 0 = 2 }) (record { 0 = 1 })) (omega (arith, c.loop-core-test.false, c.loop-core.auto.core-index-end))

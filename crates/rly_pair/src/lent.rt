@@ -1,0 +1,136 @@
+//! Messages and answers, lent to the cores with the bytes that they hold.
+
+ghost use Rattle.std.specs.Prelude.{◌≡◌, IfOk, List, ℕ};
+ghost use Rattle.rly_hop.specs.Payloads.{message_bytes, message_map, out_action_bytes, out_event_bytes};
+ghost use Rattle.rly_world.specs.PairCores.{sender_asks, sender_event, take_answer};
+ghost use Rattle.rly_pair.specs.HelpersStation.{asks_of};
+ghost use Rattle.std.specs.Prelude.{Some};
+
+use rly_core::HopId;
+use rly_hop::{Message, OutAction, OutEvent, StationId, TakeAnswer};
+use rly_machine::{Ask, Command, Payload, Query, Reply};
+use std::alloc::{AllocError, Global};
+
+/// The message, with the bytes of its payload lent.
+pub(crate) fn lent<'a>(message: &'a Message<Payload>) -> Message<&'a [u8]>
+    ensures { message_bytes result ≡ message.now }
+{
+    match message {
+        Message::Data {
+            from,
+            to,
+            number,
+            payload,
+        } => Message::Data {
+            from: *from,
+            to: *to,
+            number: *number,
+            payload: payload.as_slice(),
+        },
+        Message::Custody { from, to, last } => Message::Custody {
+            from: *from,
+            to: *to,
+            last: *last,
+        },
+        Message::Refused {
+            from,
+            to,
+            number,
+            refusal,
+        } => Message::Refused {
+            from: *from,
+            to: *to,
+            number: *number,
+            refusal: *refusal,
+        },
+    }
+}
+
+/// The message, with this payload in the place of its own.
+pub(crate) fn owned(message: Message<&[u8]>, payload: Payload) -> Message<Payload>
+    ensures { result ≡ message_map (λ _. payload) (message_bytes message.entry) }
+{
+    match message {
+        Message::Data {
+            from,
+            to,
+            number,
+            payload: _lent,
+        } => Message::Data {
+            from,
+            to,
+            number,
+            payload,
+        },
+        Message::Custody { from, to, last } => Message::Custody { from, to, last },
+        Message::Refused {
+            from,
+            to,
+            number,
+            refusal,
+        } => Message::Refused {
+            from,
+            to,
+            number,
+            refusal,
+        },
+    }
+}
+
+/// A copy of the payload of a message. It is empty where that has none.
+pub(crate) fn payload_of(alloc: Global, message: &Message<Payload>) -> Result<Payload, AllocError>
+    ensures { (from to : StationId) (number : ℕ) (payload : List ℕ) → message.now ≡ Message.Data from to number payload
+        → IfOk result (λ copy. copy ≡ payload) }
+{
+    match message {
+        Message::Data { payload, .. } => Payload::copy_of(alloc, payload.as_slice()),
+        Message::Custody { .. } | Message::Refused { .. } => Ok(Payload::new(Vec::new(alloc))),
+    }
+}
+
+/// What a sending core is told of the reply to its call.
+pub(crate) fn sender_event<'a>(ask: &Ask, reply: &'a Reply) -> OutEvent<&'a [u8]>
+    ensures { out_event_bytes result ≡ sender_event ask.now reply.now }
+{
+    match (reply, ask) {
+        (Reply::WindowIs { first, next }, _) => OutEvent::WindowIs {
+            first: *first,
+            next: *next,
+        },
+        (Reply::Picked { number, .. }, _) => OutEvent::Picked(*number),
+        (Reply::Nothing, _) => OutEvent::Nothing,
+        (Reply::Bytes(payload), Ask::Query(Query::Fetch { number, .. })) => OutEvent::Fetched {
+            number: *number,
+            payload: payload.as_slice(),
+        },
+        (Reply::Released(_), _) => OutEvent::Released,
+        (Reply::Unchanged, _) => OutEvent::Unchanged,
+        (Reply::Refused(refusal), _) => OutEvent::Refused(*refusal),
+        _ => OutEvent::Other,
+    }
+}
+
+/// What a receiving core is told of the reply to its Take.
+pub(crate) fn take_answer(reply: &Reply) -> TakeAnswer
+    ensures { result ≡ take_answer reply.now }
+{
+    match reply {
+        Reply::Taken(_) => TakeAnswer::Taken,
+        Reply::Already(last) => TakeAnswer::Already(*last),
+        Reply::Refused(refusal) => TakeAnswer::Refused(*refusal),
+        _ => TakeAnswer::Other,
+    }
+}
+
+/// The call that a sending core names to a hop, a Pick at this moment.
+pub(crate) fn named_ask(hop: HopId, moment: u64, action: OutAction<&[u8]>) -> Option<Ask>
+    ensures { asks_of result ≡ sender_asks hop moment (Some (out_action_bytes action.entry)) }
+{
+    match action {
+        OutAction::AskWindow => Some(Ask::Query(Query::Window { hop })),
+        OutAction::Release(number) => Some(Ask::Command(Command::Release { hop, number })),
+        OutAction::Fetch(number) => Some(Ask::Query(Query::Fetch { hop, number })),
+        OutAction::Pick => Some(Ask::Command(Command::Pick { hop, now: moment })),
+        OutAction::Send(_) => None,
+    }
+}

@@ -1,0 +1,121 @@
+//! The journal of an end of a link, on a device in memory.
+
+ghost use Rattle.std.specs.Prelude.{◌≡◌, OnErr, IfOk, List, ℕ};
+ghost use Rattle.rly_disk.specs.FaultDisk.{fault_state};
+ghost use Rattle.rly_disk.specs.MemDisk.{mem_state};
+ghost use Rattle.rly_pair.specs.HelpersStation.{IsCalled, IsDurableSpool, IsNewSpool, IsReopened, IsSpoolCalled, disk_of};
+
+use rly_core::{Geometry, Refusal};
+use rly_disk::{After, Disk, FaultDisk, MemDisk, Torn};
+use rly_journal::{Journal, law_formatted_stands, law_stands_for_one};
+use rly_machine::{Ask, Call, Reply, SeatId};
+use rly_segment::{FormatFault, format};
+use std::alloc::{AllocError, Global};
+
+/// The journal of an end, or its device where that didn't open.
+#[derive(Drop)]
+pub(crate) enum Spool {
+    Open(Journal<FaultDisk<MemDisk>>),
+    Shut(FaultDisk<MemDisk>),
+}
+
+/// Which call of a device fails once it was opened again, and how: `FaultDisk::new` says what each number means.
+#[derive(Clone, Copy, Debug, PartialEq, Eq)]
+pub struct Fault {
+    /// The number of the call that fails, counted from the opening's first, which is 1; 0 is none.
+    pub at: u64,
+    /// How many bytes a failing write puts.
+    pub torn: u64,
+    /// What comes after it.
+    pub after: After,
+}
+
+/// The journal of an end whose device is new. Refused as `format` and `Journal::open` refuse.
+pub(crate) fn make_spool(alloc: Global, geometry: &Geometry) -> Result<Spool, Refusal>
+    ensures { IfOk result (λ spool. IsNewSpool geometry.now.params spool) }
+{
+    let size = device_length(geometry).ok_or(Refusal::BadGeometry)?;
+    let Ok(bytes) = Vec::from_elem(alloc, 0, size) else {
+        return Err(Refusal::OutOfMemory);
+    };
+    let mut disk = FaultDisk::new(MemDisk::new(alloc, bytes), 0, 0, After::GoesOn);
+    match format(alloc, &mut disk, geometry) {
+        Ok(()) => {}
+        Err(FormatFault::OutOfMemory) => return Err(Refusal::OutOfMemory),
+        Err(FormatFault::BadGeometry) => return Err(Refusal::BadGeometry),
+        Err(FormatFault::Device) => return Err(Refusal::Device),
+    }
+    law_formatted_stands();
+    law_stands_for_one();
+    match Journal::open(alloc, disk) {
+        Ok(journal) => Ok(Spool::Open(journal)),
+        Err((fault, _)) => Err(fault.into()),
+    }
+}
+
+/// How many bytes a device of this geometry has, where they have a number.
+fn device_length(geometry: &Geometry) -> Option<usize> {
+    let bytes = geometry.segments.checked_mul(geometry.length)?;
+    Some(bytes.checked_add(64)? as usize)
+}
+
+/// The device of an end.
+pub(crate) fn disk_of(spool: Spool) -> FaultDisk<MemDisk>
+    ensures disk { result ≡ disk_of spool }
+    ensures durable { IsDurableSpool spool }
+{
+    match spool {
+        Spool::Open(journal) => {
+            journal.law_durable();
+            journal.into_disk()
+        }
+        Spool::Shut(disk) => disk,
+    }
+}
+
+/// Opens a device once a crash left this image of what is pending. It then fails as it is said.
+pub(crate) fn reopen(alloc: Global, disk: FaultDisk<MemDisk>, torn: Torn, fault: Fault) -> Spool
+    ensures { (image : List ℕ) × (fault_state mem_state disk).images image × IsReopened image result }
+{
+    let left = disk.into_inner().crash(torn);
+    let disk = FaultDisk::new(left, fault.at, fault.torn, fault.after);
+    match Journal::open(alloc, disk) {
+        Ok(journal) => Spool::Open(journal),
+        Err((_, disk)) => Spool::Shut(disk),
+    }
+}
+
+/// Makes one call of an end's journal. One that isn't open is broken.
+pub(crate) fn call_spool(
+    alloc: Global,
+    spool: &mut Option<Spool>,
+    ask: Ask,
+) -> Result<Reply, AllocError>
+    ensures err { OnErr result (spool.new ≡ spool.old) }
+    ensures called { IfOk result (λ reply. IsSpoolCalled spool.old spool.new ask reply) }
+{
+    match spool {
+        Some(Spool::Open(journal)) => call_journal(alloc, journal, ask),
+        Some(Spool::Shut(_)) | None => Ok(Reply::Refused(Refusal::Broken)),
+    }
+}
+
+/// Makes one call, in a round of its own.
+fn call_journal<D: Disk>(
+    alloc: Global,
+    journal: &mut Journal<D>,
+    ask: Ask,
+) -> Result<Reply, AllocError>
+    ensures err { OnErr result (journal.new ≡ journal.old) }
+    ensures called { IfOk result (λ reply. IsCalled D.state journal.old journal.new ask reply) }
+{
+    let mut calls = Vec::with_capacity(alloc, 1)?;
+    let mut answers = Vec::with_capacity(alloc, 1)?;
+    calls.push_reserved(Call {
+        seat: SeatId(0),
+        number: 0,
+        ask,
+    });
+    journal.round(alloc, &mut calls, &mut answers)?;
+    Ok(answers.remove(0).reply)
+}

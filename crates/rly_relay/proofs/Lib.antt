@@ -1,0 +1,10 @@
+mod RelayDisks
+mod RelayLogs
+mod RelayReplies
+mod RelayRounded
+mod RelayServed
+mod RelayServes
+mod RelayShows
+mod RelayTakes
+mod RelayTurns
+mod RelayWalks

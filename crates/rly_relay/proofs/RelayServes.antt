@@ -1,0 +1,192 @@
+-- The calls of a round, as a walk from the world that took its batches.
+use Rattle.std.proofs.Common.{ℕ, ◌≡◌, ◌↔◌, ◌+◌, ◌++◌, Bool, true, false, IsTrue, List, [], ◌∷◌, length, arith, refl, sym, subst, inl}
+use Rattle.rly_disk.specs.Trace.{Sync}
+use Rattle.rly_gate.specs.Calls.{appending, settling}
+use Rattle.rly_gate.specs.Group.{IsClosed, open_gate}
+use Rattle.rly_machine.specs.declared.call.Answer.{Answer}
+use Rattle.rly_record.specs.Spelling.{body_of}
+use Rattle.rly_segment.specs.Calls.{replacing}
+use Rattle.rly_segment.specs.Heads.{head_of, segment_place}
+use Rattle.rly_journal.specs.Standing.{Commands, IsStanding, Standing, gate_of, state_in}
+use Rattle.rly_world.specs.RelaySteps.{MayCall, after, called}
+use Rattle.rly_world.specs.RelaySteps as event
+use Rattle.rly_world.specs.RelayWorld.{Answering, Batch, Body, Device, Gate, Head, Ready, Seal, Stage, Switch, World, Writing, asked_of, logged, seen_of}
+use Rattle.rly_world.proofs.RelayAppends.{after_both, body_stands, both_run, may_finish, own_write}
+use Rattle.rly_world.proofs.RelayBegins.{one_standing}
+use Rattle.rly_world.proofs.RelayCalls.{in_phase, round_at}
+use Rattle.rly_world.proofs.RelayEvents.{run_held}
+use Rattle.rly_world.proofs.RelayGoesOn.{goes_on}
+use Rattle.rly_world.proofs.RelayHolds.{IsHeld}
+use Rattle.rly_world.proofs.RelayPhases.{head_next, length-behind, seal_next}
+use Rattle.rly_world.proofs.RelayReplaces.{is_open, settling_some, stands_closed, stands_on}
+use Rattle.rly_relay.proofs.RelayWalks.{Walks, between_none}
+
+-- a world with a round in hand, whose device and accepted commands may have gone on
+abbrev pub in_hand : World → Stage → List Batch → List Answer → Device → Commands → World
+in_hand base stage batches answers device accepted =
+    record base { round = round_at stage batches answers; device = device; accepted = accepted }
+
+pub record IsPart (base : World) (batches : List Batch) (v : World) : Type 0 where
+  pub stage : Stage
+  pub answers : List Answer
+  pub device : Device
+  pub accepted : Commands
+  pub is : v ≡ in_hand base stage batches answers device accepted
+
+part : (base : World) (stage : Stage) (batches : List Batch) (answers : List Answer) (device : Device) (accepted : Commands)
+    → IsPart base batches (in_hand base stage batches answers device accepted)
+part base stage batches answers device accepted =
+    record { stage = stage; answers = answers; device = device; accepted = accepted; is = refl }
+
+-- a group was appended
+pub record IsLaidDown (base : World) (batches : List Batch) (answers : List Answer) (accepted : Commands) (v : World) : Type 0 where
+  pub device : Device
+  pub is : v ≡ record (in_hand base Answering batches answers device accepted) { position = length accepted }
+  pub calm : v.device.since ≡ []
+
+pub appends_walk : (base : World) (batches : List Batch) (answers : List Answer) (device : Device) (accepted : Commands) (x : Standing)
+    → IsHeld (in_hand base (Writing Body) batches answers device accepted) → IsStanding device.synced x
+    → Walks (IsPart base batches) (in_hand base (Writing Body) batches answers device accepted)
+    (appending (gate_of x) (body_of (logged (in_hand base (Writing Body) batches answers device accepted)))) (IsLaidDown base batches answers accepted)
+appends_walk base batches answers device accepted x held stands =
+    let w : World = record base { device = device; accepted = accepted } in
+    let v : World = in_phase w Body batches answers in
+    let mid : World = called v (own_write Body x (logged w)) in
+    let next : World = after_both v Body x in
+    let more : World = called next (own_write Gate x (logged w)) in
+    let new : World = after_both next Gate x in
+    let first = may_finish v (record { stage = Writing Body; batches = batches; answers = answers }) Body x held refl refl stands in
+    let held_next : IsHeld next = run_held v next (event.Calls (own_write Body x (logged w)) ∷ event.Calls Sync ∷ [])
+    (both_run v Body x [] next first tt refl) held in
+    let second = may_finish next (record { stage = Writing Gate; batches = batches; answers = answers }) Gate x held_next refl refl
+    (body_stands w batches answers x held stands) in (
+      v,
+      between_none v,
+      part base (Writing Body) batches answers device accepted,
+      first.write tt,
+      (
+        mid,
+        between_none mid,
+        part base (Writing Body) batches answers mid.device accepted,
+        first.then_sync tt,
+        (
+          next,
+          between_none next,
+          part base (Writing Gate) batches answers next.device accepted,
+          second.write tt,
+          (
+            more,
+            between_none more,
+            part base (Writing Gate) batches answers more.device accepted,
+            second.then_sync tt,
+            (new, between_none new, record { device = new.device; is = refl; calm = refl }),
+          ),
+        ),
+      ),
+    )
+
+-- a segment was opened
+pub record IsReadied (base : World) (batches : List Batch) (answers : List Answer) (accepted : Commands) (v : World) : Type 0 where
+  pub device : Device
+  pub is : v ≡ in_hand base Ready batches answers device accepted
+  pub calm : v.device.since ≡ []
+
+head_walk : (base : World) (segment : ℕ) (batches : List Batch) (answers : List Answer) (device : Device) (accepted : Commands) (x : Standing)
+    → IsHeld (in_hand base (Writing (Head segment)) batches answers device accepted) → IsStanding device.synced x
+    → Walks (IsPart base batches) (in_hand base (Writing (Head segment)) batches answers device accepted)
+    (settling (segment_place x.geometry segment + 1) (head_of (x.generation + 1) (state_in x) ++ 0 ∷ [])
+    ++ settling (segment_place x.geometry segment) (open_gate ∷ [])) (IsReadied base batches answers accepted)
+head_walk base segment batches answers device accepted x held stands =
+    let w : World = record base { device = device; accepted = accepted } in
+    let v : World = in_phase w (Head segment) batches answers in
+    let mid : World = called v (own_write (Head segment) x (logged w)) in
+    let next : World = after_both v (Head segment) x in
+    let more : World = called next (own_write (Switch segment) x (logged w)) in
+    let new : World = after_both next (Switch segment) x in
+    let first = may_finish v (record { stage = Writing (Head segment); batches = batches; answers = answers })
+    (Head segment) x held refl refl stands in
+    let held_next : IsHeld next = run_held v next
+    (event.Calls (own_write (Head segment) x (logged w)) ∷ event.Calls Sync ∷ [])
+    (both_run v (Head segment) x [] next first tt refl) held in
+    let after_head = stands_on w (Head segment) batches answers x
+    (λ y commands old seen standing begins image done.
+    (head_next segment y commands old seen standing begins image done).0) held stands tt in
+    let second = may_finish next (record { stage = Writing (Switch segment); batches = batches; answers = answers })
+    (Switch segment) x held_next refl refl after_head in
+    let calls = settling_some (segment_place x.geometry segment + 1) (head_of (x.generation + 1) (state_in x) ++ 0 ∷ [])
+    (omega (arith, length-behind x)) in
+    subst (λ l. Walks (IsPart base batches) v (l ++ settling (segment_place x.geometry segment) (open_gate ∷ [])) (IsReadied base batches answers accepted)) (sym calls) (
+      v,
+      between_none v,
+      part base (Writing (Head segment)) batches answers device accepted,
+      first.write tt,
+      (
+        mid,
+        between_none mid,
+        part base (Writing (Head segment)) batches answers mid.device accepted,
+        first.then_sync tt,
+        (
+          next,
+          between_none next,
+          part base (Writing (Switch segment)) batches answers next.device accepted,
+          second.write tt,
+          (
+            more,
+            between_none more,
+            part base (Writing (Switch segment)) batches answers more.device accepted,
+            second.then_sync tt,
+            (new, between_none new, record { device = new.device; is = refl; calm = refl }),
+          ),
+        ),
+      ),
+    )
+
+pub replaces_walk : (base : World) (segment : ℕ) (closed : Bool) (batches : List Batch) (answers : List Answer) (device : Device) (accepted : Commands) (x : Standing)
+    → IsHeld (in_hand base (Writing (Seal segment)) batches answers device accepted) → IsStanding device.synced x
+    → (IsTrue closed ↔ IsClosed (seen_of device) (segment_place x.geometry segment))
+    → Walks (IsPart base batches) (in_hand base (Writing (Seal segment)) batches answers device accepted)
+    (replacing (segment_place x.geometry segment) closed (head_of (x.generation + 1) (state_in x) ++ 0 ∷ [])) (IsReadied base batches answers accepted)
+replaces_walk base segment true batches answers device accepted x held stands told =
+    let w : World = record base { device = device; accepted = accepted } in
+    let v : World = in_phase w (Seal segment) batches answers in
+    let shut = told.0 refl in
+    let goes = goes_on v (record { stage = Writing (Seal segment); batches = batches; answers = answers })
+    (Seal segment) held refl refl in
+    let same : goes.x ≡ x = one_standing goes.x x goes.stands stands in
+    let sync : MayCall v Sync = goes.sync
+    (subst (λ y. IsClosed (seen_of device) (segment_place y.geometry segment)) (sym same) shut) in
+    let next : World = after v (event.Calls Sync) in
+    let held_next : IsHeld next = run_held v next (event.Calls Sync ∷ []) (next, inl (sync, refl), refl) held in (
+      v,
+      between_none v,
+      part base (Writing (Seal segment)) batches answers device accepted,
+      sync,
+      head_walk base segment batches answers (asked_of device Sync) accepted x held_next
+          (stands_closed w segment batches answers x held stands shut),
+    )
+replaces_walk base segment false batches answers device accepted x held stands told =
+    let w : World = record base { device = device; accepted = accepted } in
+    let v : World = in_phase w (Seal segment) batches answers in
+    let mid : World = called v (own_write (Seal segment) x (logged w)) in
+    let opened = is_open (segment_place x.geometry segment) (seen_of device) told in
+    let next : World = after_both v (Seal segment) x in
+    let may = may_finish v (record { stage = Writing (Seal segment); batches = batches; answers = answers })
+    (Seal segment) x held refl refl stands in
+    let held_next : IsHeld next = run_held v next
+    (event.Calls (own_write (Seal segment) x (logged w)) ∷ event.Calls Sync ∷ [])
+    (both_run v (Seal segment) x [] next may opened refl) held in
+    let after_seal = stands_on w (Seal segment) batches answers x
+    (λ y commands old seen standing begins image done.
+    (seal_next segment y commands old seen standing begins image done).0) held stands opened in (
+      v,
+      between_none v,
+      part base (Writing (Seal segment)) batches answers device accepted,
+      may.write opened,
+      (
+        mid,
+        between_none mid,
+        part base (Writing (Seal segment)) batches answers mid.device accepted,
+        may.then_sync opened,
+        head_walk base segment batches answers next.device accepted x held_next after_seal,
+      ),
+    )

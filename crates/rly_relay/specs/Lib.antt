@@ -1,0 +1,5 @@
+pub mod HelpersRounds
+pub mod HelpersSeats
+pub mod Relay
+pub mod RelayRounds
+pub mod Steps

@@ -1,0 +1,8 @@
+//! A test of a relay that runs, step by step: three cycles of takes, picks, fetches and releases, a crash, and an opening.
+//!
+//! `Relay::step` may refuse any step for want of memory, and is proved then too. So one row runs with ample memory and
+//! compares every answer. The crate has no code but tests, so no crate may call it.
+#![tactic(auto)]
+
+#[cfg(test)]
+mod cycles;

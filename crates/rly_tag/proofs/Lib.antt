@@ -1,0 +1,3 @@
+mod Bits
+mod Lines
+pub mod Tags

@@ -1,0 +1,70 @@
+//! HMAC-SHA-256 (RFC 2104).
+
+ghost use Rattle.std.specs.Prelude.{◌≡◌, ◌-◌, ◌≤◌, ◌++◌, length, replicate};
+ghost use Rattle.sha2.specs.Sha256.{sha256};
+ghost use Rattle.rly_tag.specs.Hmac.{hmac_sha256, key_block, mixed};
+
+use sha2::{Digest, Sha256};
+
+/// The bytes of a block of SHA-256.
+const BLOCK: usize = 64;
+
+/// The bytes of a digest.
+const DIGEST: usize = 32;
+
+/// What the key is mixed with before the text, and before the inner digest.
+const INNER_PAD: u8 = 0x36;
+
+const OUTER_PAD: u8 = 0x5c;
+
+/// The HMAC-SHA-256 of a text under a key of any length (RFC 2104, section 2).
+#[tactic(auto, unfolding(crate::specs::Hmac::hmac_sha256))]
+pub fn hmac_sha256(key: &[u8], text: &[u8]) -> [u8; DIGEST]
+    ensures { result ≡ hmac_sha256 key.now text.now }
+{
+    let block = key_block(key);
+    let inner = digest_of(&mixed(INNER_PAD, &block), text);
+    digest_of(&mixed(OUTER_PAD, &block), &inner)
+}
+
+/// A key as a block.
+fn key_block(key: &[u8]) -> [u8; BLOCK]
+    ensures { result ≡ key_block key.now }
+{
+    if key.len() <= BLOCK {
+        padded(key)
+    } else {
+        padded(&Sha256::digest(key))
+    }
+}
+
+/// Bytes with zeros after them, up to a whole block.
+fn padded(bytes: &[u8]) -> [u8; BLOCK]
+    requires { length bytes.now ≤ BLOCK }
+    ensures { result ≡ bytes.now ++ replicate (64 - length bytes.now) 0 }
+{
+    let mut block = [0; BLOCK];
+    block[..bytes.len()].copy_from_slice(bytes);
+    block
+}
+
+/// A block, each of its bytes mixed with a byte.
+fn mixed(pad: u8, block: &[u8; BLOCK]) -> [u8; BLOCK]
+    ensures { result ≡ mixed pad block.now }
+{
+    let mut mixed = [0; BLOCK];
+    for (i, byte) in block.iter().enumerate() {
+        mixed[i] = byte ^ pad;
+    }
+    mixed
+}
+
+/// The digest of two pieces taken as one message.
+fn digest_of(first: &[u8], second: &[u8]) -> [u8; DIGEST]
+    ensures { result ≡ sha256 (first.now ++ second.now) }
+{
+    let mut hasher = Sha256::new();
+    hasher.update(first);
+    hasher.update(second);
+    hasher.finalize()
+}

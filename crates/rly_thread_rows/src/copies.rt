@@ -1,0 +1,255 @@
+//! How often a datagram goes out over a link with a long way.
+
+ghost use Rattle.std.specs.Prelude.{◌≤◌, IfSome, None, length};
+
+use crate::workers::{expect_counts_of, plan, take};
+use rly_core::{HopId, Params};
+use rly_hop::{MAX_MESSAGE, Message, StationId, read_message, write_message};
+use rly_machine::Machine;
+use rly_threads::{Ends, Link, LinkFault, MemDesk, MemTurn, sender_run};
+use std::alloc::Global;
+use std::process::Abort;
+use std::sync::Wait;
+
+/// Station 9 at the far end of a link. It takes Data in order, and answers each one with a Custody of what it has.
+#[derive(Drop)]
+struct Far {
+    /// How many receives after a Data went out its answer comes.
+    way: u64,
+    /// Which Data that goes out is lost, counted from 1: none where it is 0.
+    lost: usize,
+    /// What comes where no answer does.
+    stray: Option<&'static [u8]>,
+    /// The last number that it has.
+    last: u64,
+    /// How many receives there were, and how many of them waited.
+    receives: u64,
+    waits: u64,
+    /// In which receive which Custody comes.
+    answers: Vec<(u64, u64)>,
+    /// The numbers that went out, in order.
+    numbers: Vec<u64>,
+}
+
+impl Far {
+    /// A Data goes out. It is taken if it is the next one, and answered. (A row fails where memory is refused.)
+    fn carry(&mut self, number: u64) {
+        let _kept = self.numbers.push(number);
+        if self.numbers.len() == self.lost {
+            return;
+        }
+        if number == self.last.saturating_add(1) {
+            self.last = number;
+        }
+        let due = self.receives.saturating_add(self.way);
+        let _kept = self.answers.push((due, self.last));
+    }
+
+    /// The number of the Custody that comes in this receive.
+    fn answer(&self) -> Option<u64> {
+        for (receive, last) in &self.answers {
+            if *receive == self.receives {
+                return Some(*last);
+            }
+        }
+        None
+    }
+
+    /// What comes in the next receive.
+    fn receive(&mut self, buffer: &mut [u8]) -> Option<usize>
+        ensures bound { IfSome result (λ count. count ≤ length buffer.new) }
+    {
+        self.receives = self.receives.saturating_add(1);
+        match self.answer() {
+            Some(last) => custody_in(last, buffer),
+            None => copied(self.stray?, buffer),
+        }
+    }
+}
+
+impl Link for Far {
+    ghost heard = { λ _. None };
+
+    ghost sent = { λ _. None };
+
+    ghost failed = { λ _. 0 };
+
+    fn recv(&mut self, buffer: &mut [u8]) -> Result<Option<usize>, LinkFault> {
+        self.waits = self.waits.saturating_add(1);
+        Ok(self.receive(buffer))
+    }
+
+    fn try_recv(&mut self, buffer: &mut [u8]) -> Result<Option<usize>, LinkFault> {
+        Ok(self.receive(buffer))
+    }
+
+    fn send(&mut self, packet: &[u8]) -> Result<(), LinkFault> {
+        if let Ok(Message::Data { number, .. }) = read_message(packet) {
+            self.carry(number);
+        }
+        Ok(())
+    }
+
+    fn failures(&self) -> u64 {
+        0
+    }
+}
+
+/// Puts station 9's Custody at the front of a buffer.
+fn custody_in(last: u64, buffer: &mut [u8]) -> Option<usize>
+    ensures bound { IfSome result (λ count. count ≤ length buffer.new) }
+{
+    let custody = Message::Custody {
+        from: StationId(9),
+        to: StationId(7),
+        last,
+    };
+    let mut packet = [0; MAX_MESSAGE];
+    let length = write_message(custody, &mut packet).ok()?;
+    copied(packet.get(..length)?, buffer)
+}
+
+/// Puts a packet at the front of a buffer that has room for it.
+fn copied(packet: &[u8], buffer: &mut [u8]) -> Option<usize>
+    ensures bound { IfSome result (λ count. count ≤ length buffer.new) }
+{
+    let length = packet.len();
+    if length > buffer.len() {
+        return None;
+    }
+    buffer[..length].copy_from_slice(packet);
+    Some(length)
+}
+
+/// What a sender of hop 1 works with there.
+type FarEnds = Ends<Far, MemDesk, MemTurn>;
+
+/// The way there and back in turns, a turn in microseconds, how many datagrams wait and how many may be in flight.
+#[derive(Clone, Copy, Debug)]
+struct Way {
+    turns: u64,
+    step: u64,
+    datagrams: u64,
+    window: u64,
+}
+
+/// The sender of hop 1, whose `resend` is 40 ms, hands over what waits, in 1,500 turns.
+fn hand_over<R: Abort + Wait>(
+    rt: &R,
+    alloc: Global,
+    way: &Way,
+    lost: usize,
+    stray: Option<&'static [u8]>,
+) -> FarEnds {
+    let params = Params {
+        window: 64,
+        ..Params::DEFAULT
+    };
+    let mut machine = Machine::new(alloc, params).expect(rt, "memory");
+    for number in 1..=way.datagrams {
+        take(rt, alloc, &mut machine, 1, number);
+    }
+    let link = Far {
+        way: way.turns,
+        lost,
+        stray,
+        last: 0,
+        receives: 0,
+        waits: 0,
+        answers: Vec::new(alloc),
+        numbers: Vec::new(alloc),
+    };
+    let mut ends = Ends {
+        link,
+        desk: MemDesk::new(alloc, machine),
+        turn: MemTurn::new(1_000, way.step, 1_500),
+    };
+    sender_run(rt, &plan(rt, alloc), HopId(1), way.window, &mut ends);
+    expect_counts_of(rt, &ends.desk, HopId(1), (0, 0, way.datagrams));
+    ends
+}
+
+/// Packets that are no message for the sender of hop 1: a byte, its own Data, and a Custody of station 10.
+const STRAYS: [&[u8]; 3] = [
+    b"x",
+    b"\x52\x4c\x01\x01\x00\x07\x00\x09\x00\x00\x00\x00\x00\x00\x00\x01\x00\x03\x00\x0c\x41",
+    b"\x52\x4c\x01\x02\x00\x0a\x00\x07\x00\x00\x00\x00\x00\x00\x00\x01",
+];
+
+/// Checks that each datagram goes out so many times before the next one does, and that this is so and as many receives wait
+/// where a stray packet comes in each receive that has no answer.
+fn expect_copies<R: Abort + Wait>(rt: &R, alloc: Global, way: &Way, copies: u64) {
+    let alone = hand_over(rt, alloc, way, 0, None);
+    let mut numbers = alone.link.numbers.iter();
+    for number in 1..=way.datagrams {
+        for _copy in 0..copies {
+            expect!(rt; numbers.next() == Some(&number));
+        }
+    }
+    expect!(rt; numbers.next().is_none());
+    for stray in &STRAYS {
+        let ends = hand_over(rt, alloc, way, 0, Some(*stray));
+        expect!(rt; ends.link.numbers.as_slice() == alone.link.numbers.as_slice());
+        expect!(rt; ends.link.waits == alone.link.waits);
+    }
+}
+
+/// Ways there and back of at most 40 ms: in turns, and the microseconds of a turn. Beside them how many datagrams wait, and how
+/// many may be in flight.
+const SHORT: [(u64, u64, u64, u64); 7] = [
+    (1, 10_000, 20, 1),
+    (4, 10_000, 20, 1),
+    (3, 10_000, 20, 2),
+    (4, 10_000, 20, 8),
+    (4, 10_000, 70, 64),
+    (400, 100, 20, 8),
+    (400, 100, 70, 64),
+];
+
+/// Where the way there and back is at most `resend` and nothing is lost, each datagram goes out once, whatever else comes.
+#[test]
+fn each_goes_out_once(rt: HostRuntime) {
+    for (turns, step, datagrams, window) in &SHORT {
+        let way = Way {
+            turns: *turns,
+            step: *step,
+            datagrams: *datagrams,
+            window: *window,
+        };
+        expect_copies(&rt, rt.alloc(), &way, 1);
+    }
+}
+
+/// Longer ways with turns of 10 ms, and how often a datagram goes out if only one may be in flight: each fourth turn, until its
+/// custody is heard.
+const LONG: [(u64, u64); 5] = [(5, 2), (8, 2), (9, 3), (12, 3), (60, 15)];
+
+/// Where it is longer than `resend`, each datagram goes out once for each `resend` of it, whatever else comes.
+#[test]
+fn each_goes_out_for_each_resend(rt: HostRuntime) {
+    for (turns, copies) in &LONG {
+        let way = Way {
+            turns: *turns,
+            step: 10_000,
+            datagrams: 20,
+            window: 1,
+        };
+        expect_copies(&rt, rt.alloc(), &way, *copies);
+    }
+}
+
+/// The fourth Data that goes out is lost. The three that may be in flight go out again, once: station 9 takes in order alone.
+const AFTER_A_LOSS: [u64; 11] = [1, 2, 3, 4, 5, 6, 4, 5, 6, 7, 8];
+
+/// After a loss the window goes out again, once.
+#[test]
+fn a_loss_brings_the_window_again(rt: HostRuntime) {
+    let way = Way {
+        turns: 2,
+        step: 10_000,
+        datagrams: 8,
+        window: 3,
+    };
+    let ends = hand_over(&rt, rt.alloc(), &way, 4, None);
+    expect!(rt; ends.link.numbers.as_slice() == AFTER_A_LOSS.as_slice());
+}

@@ -1,0 +1,243 @@
+//! A link of which one call fails, for each of its calls in 64 turns. It counts its receives and sends together, from 1.
+//!
+//! What is expected follows from docs/PROTOCOL.md. A worker asks its link once in each turn, so 64 turns are 64 receives. What
+//! it sends in a turn comes after that turn's receive. A receive that fails is as nothing heard. A packet whose send fails is
+//! lost, and the worker goes on as if it had gone out.
+
+use crate::workers::{
+    MemEnds, expect_counts, expect_counts_of, expect_sent, link_with, plan, spool_with, take_for,
+};
+use crate::{receivers, senders};
+use rly_core::{HopId, PeerId};
+use rly_threads::{Ends, Link, MemDesk, MemLink, MemTurn, sender_run};
+use std::alloc::Global;
+use std::process::Abort;
+use std::sync::Wait;
+
+/// What a worker did.
+#[derive(Clone, Copy, Debug, Drop)]
+struct Done {
+    /// How many packets went out.
+    delivered: usize,
+    /// How many calls it made of its link.
+    calls: u64,
+    /// How many of them were receives that wait.
+    waits: u64,
+    /// How many calls it made of its desk.
+    asked: u64,
+}
+
+/// Checks what a worker did, and that each packet was this one.
+fn expect_done<R: Abort>(rt: &R, ends: &MemEnds, done: &Done, packet: &[u8]) {
+    expect_sent(rt, ends, done.delivered, packet);
+    expect!(rt; ends.link.calls() == done.calls);
+    expect!(rt; ends.link.waits() == done.waits);
+    expect!(rt; ends.desk.calls() == done.asked);
+}
+
+/// In which of its receives, counted from 0, a receiver's neighbour sends its datagram: in those of each fourth turn.
+const PLACES: [usize; 16] = [0, 4, 8, 12, 16, 20, 24, 28, 32, 36, 40, 44, 48, 52, 56, 60];
+
+/// The last call: four turns have the receive of the datagram, the send of its custody and three more receives, so 64 have 80.
+const LAST_RECEIVED: u64 = 80;
+
+/// What a receiver does over that link.
+fn received(fails_at: u64) -> Done {
+    // The first receive of four turns fails: then they have no call of the desk and no send.
+    if fails_at % 5 == 1 {
+        return Done {
+            delivered: 15,
+            calls: 79,
+            waits: 64,
+            asked: 15,
+        };
+    }
+    // The send of a custody fails.
+    let is_lost = fails_at % 5 == 2;
+    Done {
+        delivered: if is_lost { 15 } else { 16 },
+        calls: 80,
+        waits: 64,
+        asked: 16,
+    }
+}
+
+/// A receiver runs for 64 turns over that link.
+fn receive<R: Abort + Wait>(rt: &R, alloc: Global, fails_at: u64) -> MemEnds {
+    let link = link_with(rt, alloc, 64, &PLACES, receivers::DATA, fails_at);
+    receivers::receive(rt, alloc, receivers::empty(rt, alloc), link, 64)
+}
+
+/// Whichever call fails, the datagram is taken once, and each copy that was heard is acknowledged, unless that send failed.
+#[test]
+fn receiver_goes_on(rt: HostRuntime) {
+    let alloc = rt.alloc();
+    for fails_at in 0..=LAST_RECEIVED {
+        let ends = receive(&rt, alloc, fails_at);
+        expect_done(&rt, &ends, &received(fails_at), receivers::CUSTODY);
+        expect!(rt; ends.link.failures() == fails_at.min(1));
+        expect!(rt; matches!(ends.desk.machine().lasts().first(), Some(1)));
+        expect!(rt; ends.desk.machine().item_count() == 1);
+    }
+    expect!(rt; receive(&rt, alloc, LAST_RECEIVED + 1).link.failures() == 0);
+}
+
+/// The sender of hop 1 has one datagram, and so many turns of 10 ms.
+fn send<R: Abort + Wait>(rt: &R, alloc: Global, link: MemLink, turns: u64) -> MemEnds {
+    senders::send(rt, alloc, link, MemTurn::new(1_000, 10_000, turns))
+}
+
+/// The last call in silence: the datagram goes out in the third turn, and, since 40 ms are four turns, in each fourth one after
+/// it, 16 times in all. Its sends are calls 4, 9, 14 and so on up to 79.
+const LAST_UNHEARD: u64 = 80;
+
+/// What a sender does in silence: it asks for the window, picks, and fetches 16 times. Each of these 18 moves something, so the
+/// receive after it doesn't wait.
+fn unheard(fails_at: u64) -> Done {
+    let is_lost = fails_at % 5 == 4;
+    Done {
+        delivered: if is_lost { 15 } else { 16 },
+        calls: 80,
+        waits: 46,
+        asked: 18,
+    }
+}
+
+/// In silence the datagram stays in flight, and a send that fails changes nothing but that it doesn't go out.
+#[test]
+fn sender_goes_on_in_silence(rt: HostRuntime) {
+    let alloc = rt.alloc();
+    for fails_at in 0..=LAST_UNHEARD {
+        let link = senders::custody_at(&rt, alloc, &[], fails_at);
+        let ends = send(&rt, alloc, link, 64);
+        expect_done(&rt, &ends, &unheard(fails_at), senders::DATA);
+        expect!(rt; ends.link.failures() == fails_at.min(1));
+        expect_counts(&rt, &ends, 0, 1, 0);
+    }
+    let link = senders::custody_at(&rt, alloc, &[], LAST_UNHEARD + 1);
+    expect!(rt; send(&rt, alloc, link, 64).link.failures() == 0);
+}
+
+/// A send that fails leaves its datagram in flight, and it goes out four turns later, after a timeout.
+#[test]
+fn failed_send_is_made_again(rt: HostRuntime) {
+    let alloc = rt.alloc();
+    for sends in 0..16u64 {
+        let turn = 3 + 4 * sends;
+        for (turns, delivered) in [(turn, sends), (turn + 3, sends), (turn + 4, sends + 1)] {
+            let link = senders::custody_at(&rt, alloc, &[], turn + sends + 1);
+            let ends = send(&rt, alloc, link, turns);
+            expect!(rt; ends.link.failures() == 1);
+            expect!(rt; ends.link.delivered().len() as u64 == delivered);
+            expect_counts(&rt, &ends, 0, 1, 0);
+        }
+    }
+}
+
+/// In which of its receives, counted from 0, a sender's neighbour acknowledges the datagram.
+const ACKNOWLEDGED: [usize; 2] = [40, 56];
+
+/// The last call with that neighbour: the datagram goes out ten times, in turns 3, 7 and so on up to 39. The first custody is
+/// heard in turn 41, by call 51.
+const LAST_ACKNOWLEDGED: u64 = 74;
+
+/// What a sender does with that neighbour: it asks for the window, picks, fetches, releases, and then asks for the next datagram
+/// in each turn, without success.
+fn acknowledged(fails_at: u64) -> Done {
+    // The first custody isn't heard: the datagram goes out in turns 43, 47, 51 and 55 as well, and is released in turn 57.
+    if fails_at == 51 {
+        return Done {
+            delivered: 14,
+            calls: 78,
+            waits: 47,
+            asked: 24,
+        };
+    }
+    let is_lost = fails_at < 51 && fails_at % 5 == 4;
+    Done {
+        delivered: if is_lost { 9 } else { 10 },
+        calls: 74,
+        waits: 51,
+        asked: 36,
+    }
+}
+
+/// Whichever call fails, the datagram is released once its custody was heard, and doesn't go out after that.
+#[test]
+fn sender_goes_on_until_it_is_acknowledged(rt: HostRuntime) {
+    let alloc = rt.alloc();
+    for fails_at in 0..=LAST_ACKNOWLEDGED {
+        let link = senders::custody_at(&rt, alloc, &ACKNOWLEDGED, fails_at);
+        let ends = send(&rt, alloc, link, 64);
+        expect_done(&rt, &ends, &acknowledged(fails_at), senders::DATA);
+        expect!(rt; ends.link.failures() == fails_at.min(1));
+        expect_counts(&rt, &ends, 0, 0, 1);
+    }
+    let link = senders::custody_at(&rt, alloc, &ACKNOWLEDGED, LAST_ACKNOWLEDGED + 1);
+    expect!(rt; send(&rt, alloc, link, 64).link.failures() == 0);
+}
+
+/// Data from station 7 to station 10, number 1, payload `000e42`.
+const OTHER_DATA: &[u8] =
+    b"\x52\x4c\x01\x01\x00\x07\x00\x0a\x00\x00\x00\x00\x00\x00\x00\x01\x00\x03\x00\x0e\x42";
+
+/// Its custody.
+const OTHER_CUSTODY: &[u8] = b"\x52\x4c\x01\x02\x00\x0a\x00\x07\x00\x00\x00\x00\x00\x00\x00\x01";
+
+/// The sender of hop 2 runs for 64 turns of 10 ms. One datagram waits for each hop.
+fn send_to_the_other<R: Abort + Wait>(rt: &R, alloc: Global, link: MemLink) -> MemEnds {
+    let mut machine = spool_with(rt, alloc, 8, 1);
+    take_for(
+        rt,
+        alloc,
+        &mut machine,
+        (PeerId(1), 2),
+        HopId(2),
+        b"\x00\x0e\x42",
+    );
+    let mut ends = Ends {
+        link,
+        desk: MemDesk::new(alloc, machine),
+        turn: MemTurn::new(1_000, 10_000, 64),
+    };
+    sender_run(rt, &plan(rt, alloc), HopId(2), 1, &mut ends);
+    ends
+}
+
+/// The last call in silence at hop 2: its `resend` of 80 ms is eight turns, so the datagram goes out in turns 3, 11 and so on up
+/// to 59. Its sends are calls 4, 13, 22 and so on up to 67.
+const LAST_OF_THE_OTHER: u64 = 72;
+
+/// A second hop has a `resend`, a flight and a queue of its own. What waits for the first hop stays where it is.
+#[test]
+fn second_hop_goes_on_in_silence(rt: HostRuntime) {
+    let alloc = rt.alloc();
+    for fails_at in 0..=LAST_OF_THE_OTHER {
+        let link = link_with(&rt, alloc, 0, &[], OTHER_CUSTODY, fails_at);
+        let ends = send_to_the_other(&rt, alloc, link);
+        let is_lost = fails_at % 9 == 4;
+        let done = Done {
+            delivered: if is_lost { 7 } else { 8 },
+            calls: 72,
+            waits: 54,
+            asked: 10,
+        };
+        expect_done(&rt, &ends, &done, OTHER_DATA);
+        expect!(rt; ends.link.failures() == fails_at.min(1));
+        expect_counts_of(&rt, &ends.desk, HopId(1), (1, 0, 0));
+        expect_counts_of(&rt, &ends.desk, HopId(2), (0, 1, 0));
+    }
+}
+
+/// A custody of the second hop's station releases the second hop's datagram, and one of the first hop's station releases nothing.
+#[test]
+fn second_hop_is_acknowledged_by_its_own_station(rt: HostRuntime) {
+    let alloc = rt.alloc();
+    let first = senders::custody_at(&rt, alloc, &[40], 0);
+    let ends = send_to_the_other(&rt, alloc, first);
+    expect_counts_of(&rt, &ends.desk, HopId(2), (0, 1, 0));
+    let second = link_with(&rt, alloc, 64, &[40], OTHER_CUSTODY, 0);
+    let ends = send_to_the_other(&rt, alloc, second);
+    expect_counts_of(&rt, &ends.desk, HopId(1), (1, 0, 0));
+    expect_counts_of(&rt, &ends.desk, HopId(2), (0, 0, 1));
+}

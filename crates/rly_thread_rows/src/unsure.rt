@@ -1,0 +1,151 @@
+//! Two receivers of one peer, which hear copies of one datagram, over a flusher whose device fails.
+
+ghost use Rattle.std.specs.Prelude.{None};
+
+use crate::devices::device;
+use crate::receivers::{CUSTODY, DATA};
+use crate::workers::{link_with, plan};
+use rly_core::{PeerId, Refusal};
+use rly_disk::{After, FaultDisk, MemDisk};
+use rly_flush::Flusher;
+use rly_journal::Journal;
+use rly_line::{CallError, Seat, make};
+use rly_machine::{Answer, Ask, Reply};
+use rly_threads::{Desk, Ends, MemTurn, receiver_run};
+use std::alloc::Global;
+use std::process::Abort;
+use std::sync::Wait;
+use std::thread;
+use std::thread::Threads;
+use std::time::{Clock, Duration};
+
+/// How a take was answered.
+#[derive(Clone, Copy, Debug, PartialEq, Eq)]
+enum Told {
+    Nothing,
+    Kept,
+    Broken,
+    Unsure,
+    Other,
+}
+
+/// A seat that notes how its last call was answered.
+#[derive(Drop)]
+struct Noting {
+    seat: Seat,
+    told: Told,
+}
+
+impl Desk for Noting {
+    ghost asked = { λ _. None };
+
+    fn call<R: Wait>(&mut self, rt: &R, ask: Ask) -> Result<Answer, CallError> {
+        let outcome = self.seat.call(rt, ask);
+        self.told = match &outcome {
+            Ok(answer) => told_by(&answer.reply),
+            Err(_) => Told::Other,
+        };
+        outcome
+    }
+}
+
+/// How a reply answers a take.
+fn told_by(reply: &Reply) -> Told {
+    match reply {
+        Reply::Taken(_) | Reply::Already(1) => Told::Kept,
+        Reply::Refused(Refusal::Unsure) => Told::Unsure,
+        Reply::Refused(Refusal::Broken) => Told::Broken,
+        _ => Told::Other,
+    }
+}
+
+/// A receiver hears the datagram once and asks for it at a seat. How it was answered. It sends custody exactly if the datagram
+/// is kept.
+fn receive<R: Abort + Wait>(rt: &R, alloc: Global, seat: Seat) -> Told {
+    let mut ends = Ends {
+        link: link_with(rt, alloc, 1, &[0], DATA, 0),
+        desk: Noting {
+            seat,
+            told: Told::Nothing,
+        },
+        turn: MemTurn::new(150, 1, 1),
+    };
+    receiver_run(rt, alloc, &plan(rt, alloc), PeerId(1), &mut ends);
+    let delivered = ends.link.delivered();
+    match ends.desk.told {
+        Told::Kept => {
+            expect!(rt; delivered.len() == 1);
+            expect!(rt; delivered.iter().all(|packet| packet.as_slice() == CUSTODY));
+        }
+        _ => expect!(rt; delivered.is_empty()),
+    }
+    ends.desk.told
+}
+
+/// Two receivers, each in a thread of its own, over a journal. How each was answered.
+fn copies_over<R: Abort + Threads + Wait + Clock + Copy + Send + 'static>(
+    rt: R,
+    alloc: Global,
+    journal: Journal<FaultDisk<MemDisk>>,
+) -> (Told, Told) {
+    let Ok((mut seats, line)) = make(alloc, 2, 2) else {
+        panic!(rt; "memory");
+    };
+    let flusher = Flusher::new(alloc, journal, line).ok().expect(&rt, "memory");
+    let second = seats.pop().expect(&rt, "two seats");
+    let first = seats.pop().expect(&rt, "two seats");
+    let one = thread::spawn(&rt, move || receive(&rt, alloc, first))
+        .ok()
+        .expect(&rt, "a thread");
+    let other = thread::spawn(&rt, move || receive(&rt, alloc, second))
+        .ok()
+        .expect(&rt, "a thread");
+    // So both have asked when the flusher begins, nearly always.
+    thread::sleep(&rt, Duration::from_millis(10));
+    let finished = flusher.serve(&rt);
+    let told = (one.join(&rt), other.join(&rt));
+    expect!(rt; finished.broken == (told != (Told::Kept, Told::Kept)));
+    told
+}
+
+/// How both receivers were answered over a device whose call of this number fails: by one round, or without a failure. None
+/// where the journal doesn't open over it.
+fn copies_at<R: Abort + Threads + Wait + Clock + Copy + Send + 'static>(
+    rt: R,
+    alloc: Global,
+    fails_at: u64,
+) -> Option<Told> {
+    for _run in 0..100 {
+        let disk = FaultDisk::new(device(&rt, alloc), fails_at, 0, After::GoesOn);
+        let Ok(journal) = Journal::open(alloc, disk) else {
+            return None;
+        };
+        let (one, other) = copies_over(rt, alloc, journal);
+        if one == other {
+            return Some(one);
+        }
+        // The round of one of them failed before the other asked.
+        expect!(rt; one == Told::Broken || other == Told::Broken);
+        expect!(rt; one == Told::Unsure || other == Told::Unsure);
+    }
+    panic!(rt; "no run had both in one round")
+}
+
+/// A round has four calls of its device: the body and the gate are written, each with a sync. Whichever of them fails, both
+/// receivers are answered 12, and neither sends custody; without a failure both do.
+#[test]
+fn copies_share_a_failed_round(rt: HostRuntime) {
+    let mut unsure = 0u64;
+    for fails_at in 1..100 {
+        match copies_at(rt, rt.alloc(), fails_at) {
+            None => expect!(rt; unsure == 0),
+            Some(Told::Unsure) => unsure = unsure.saturating_add(1),
+            Some(told) => {
+                expect!(rt; told == Told::Kept);
+                expect!(rt; unsure == 4);
+                return;
+            }
+        }
+    }
+    panic!(rt; "each run failed")
+}
