@@ -91,7 +91,9 @@ fn copies_over<R: Abort + Threads + Wait + Clock + Copy + Send + 'static>(
     let Ok((mut seats, line)) = make(alloc, 2, 2) else {
         panic!(rt; "memory");
     };
-    let flusher = Flusher::new(alloc, journal, line).ok().expect(&rt, "memory");
+    let flusher = Flusher::new(alloc, journal, line)
+        .ok()
+        .expect(&rt, "memory");
     let second = seats.pop().expect(&rt, "two seats");
     let first = seats.pop().expect(&rt, "two seats");
     let one = thread::spawn(&rt, move || receive(&rt, alloc, first))
