@@ -1,0 +1,5 @@
+pub mod Weights
+pub mod Drawing
+pub mod Rooms
+pub mod Emptying
+pub mod Leaving
