@@ -86,8 +86,8 @@ one_lies_not g segment (Placed place) storable none = λ lies.
 pub none_lies : (g : Geometry) (segment : ℕ) (s : State Stored) → All IsStorable (payloads_of s)
     → live_in g segment s ≡ 0 → All (LiesNotIn g segment) (payloads_of s)
 none_lies g segment s storable none = λ k d below.
-  one_lies_not g segment (get_or (payloads_of s) k d) (storable k d below)
-      (none_each (bytes_in g segment) (payloads_of s) (payloads_sum (bytes_in g segment) s ∙ none) k d below)
+    one_lies_not g segment (get_or (payloads_of s) k d) (storable k d below)
+    (none_each (bytes_in g segment) (payloads_of s) (payloads_sum (bytes_in g segment) s ∙ none) k d below)
 
 pub may_open : (g : Geometry) (current segment : ℕ) (s : State Stored) → segment < g.segments → segment ≢ current
     → live_in g segment s ≡ 0 → MayOpen (live_by_segment g s) current segment

@@ -29,25 +29,25 @@ pub leaves_sum : {P : Type 0} (len w : P → ℕ) (s : State P) (command : Comma
     → live_bytes w (step len s command).0 + sum_by w (leaving len s command) ≡ live_bytes w s + sum_by w (payload_of command)
 leaves_sum {P} len w s (Take peer number hop stamp payload) accepted =
     unless_counts (take_refusal len s peer number hop stamp (len payload)) s _
-        (λ (t : State P). live_bytes w t + 0 ≡ live_bytes w s + sum_by w (payload ∷ []))
-        (counted len s (Take peer number hop stamp payload) accepted)
-        (λ none.
-          let may = may_take len s peer number hop stamp (len payload) none in
-          omega (arith, bytes_taken w s hop stamp payload may.hop_from may.hop_to, sum_by-cons w payload []))
+    (λ (t : State P). live_bytes w t + 0 ≡ live_bytes w s + sum_by w (payload ∷ []))
+    (counted len s (Take peer number hop stamp payload) accepted)
+    (λ none.
+    let may = may_take len s peer number hop stamp (len payload) none in
+    omega (arith, bytes_taken w s hop stamp payload may.hop_from may.hop_to, sum_by-cons w payload []))
 leaves_sum {P} len w s (Pick hop now) accepted =
     let outcome = outcome_of len s.params (hop_at s hop) now in
     let gone = take outcome.dropped (hop_at s hop).queue in
     unless_counts (pick_refusal s hop now) s _
-        (λ (t : State P). live_bytes w t + sum_by w (map (λ (item : Item P). item.payload) gone) ≡ live_bytes w s + 0)
-        (counted len s (Pick hop now) accepted)
-        (λ none.
-          let may = may_pick s hop now none in
-          omega (arith, bytes_picked w s hop now outcome may.hop_from may.hop_to, names_sum w gone))
+    (λ (t : State P). live_bytes w t + sum_by w (map (λ (item : Item P). item.payload) gone) ≡ live_bytes w s + 0)
+    (counted len s (Pick hop now) accepted)
+    (λ none.
+    let may = may_pick s hop now none in
+    omega (arith, bytes_picked w s hop now outcome may.hop_from may.hop_to, names_sum w gone))
 leaves_sum {P} len w s (Release hop number) accepted =
     let gone = take (covered_count (hop_at s hop) number) (hop_at s hop).flight in
     unless_counts (release_refusal s hop number) s _
-        (λ (t : State P). live_bytes w t + sum_by w (map (λ (item : Item P). item.payload) gone) ≡ live_bytes w s + 0)
-        (counted len s (Release hop number) accepted)
-        (λ none.
-          let may = may_release s hop number none in
-          omega (arith, bytes_released w s hop (covered_count (hop_at s hop) number) may.hop_from may.hop_to, names_sum w gone))
+    (λ (t : State P). live_bytes w t + sum_by w (map (λ (item : Item P). item.payload) gone) ≡ live_bytes w s + 0)
+    (counted len s (Release hop number) accepted)
+    (λ none.
+    let may = may_release s hop number none in
+    omega (arith, bytes_released w s hop (covered_count (hop_at s hop) number) may.hop_from may.hop_to, names_sum w gone))

@@ -35,11 +35,11 @@ counted_once : (k n a m : ℕ) → sum_by (count_at k n) (range_with_len a m) �
 counted_once k n a zero = omega arith
 counted_once k n a (suc m) = ⊎_elim
     (λ same.
-      let here : count_at k n a ≡ n = ap (λ (b : Bool). cond b n 0) (eq-eqb k a same) in
-      omega (arith, here, sum_by-cons (count_at k n) a (range_with_len (a + 1) m), counted_above k n (a + 1) m (omega (arith, same))))
+    let here : count_at k n a ≡ n = ap (λ (b : Bool). cond b n 0) (eq-eqb k a same) in
+    omega (arith, here, sum_by-cons (count_at k n) a (range_with_len (a + 1) m), counted_above k n (a + 1) m (omega (arith, same))))
     (λ apart.
-      let here : count_at k n a ≡ 0 = ap (λ (b : Bool). cond b n 0) (ne_eqb k a apart) in
-      omega (arith, here, sum_by-cons (count_at k n) a (range_with_len (a + 1) m), counted_once k n (a + 1) m))
+    let here : count_at k n a ≡ 0 = ap (λ (b : Bool). cond b n 0) (ne_eqb k a apart) in
+    omega (arith, here, sum_by-cons (count_at k n) a (range_with_len (a + 1) m), counted_once k n (a + 1) m))
     (cases_eq k a)
 
 -- a payload lies in one segment
@@ -99,13 +99,13 @@ pub has_room_for : (g : Geometry) (s : State Stored) (current free victim : ℕ)
 has_room_for g s current free victim within fits sound params free_is victim_is =
     let bytes : s.params.bytes ≡ g.params.bytes = ap (λ (p : Params). p.bytes) params in
     let room = has_room g (live_by_segment g s) current free victim within fits (live_length g s)
-        (omega (arith, bytes, live_sum g s, sound.bytes)) free_is victim_is in
+    (omega (arith, bytes, live_sum g s, sound.bytes)) free_is victim_is in
     let here : slice_index (live_by_segment g s) victim ≡ live_in g victim s = live_at g s victim (omega (arith, victim_is.there, live_length g s)) in
     record {
       few = omega (arith, here, room.few);
       head = λ t sound_t same few.
-        let peers : t.params.peers ≡ g.params.peers = ap (λ (p : Params). p.peers) same in
-        let hops : t.params.hops ≡ g.params.hops = ap (λ (p : Params). p.hops) same in
-        let items : t.params.items ≡ g.params.items = ap (λ (p : Params). p.items) same in
-        omega (arith, peers, hops, items, sound_t.items, spelled_bound t sound_t, few, here, room.few, fits);
+          let peers : t.params.peers ≡ g.params.peers = ap (λ (p : Params). p.peers) same in
+          let hops : t.params.hops ≡ g.params.hops = ap (λ (p : Params). p.hops) same in
+          let items : t.params.items ≡ g.params.items = ap (λ (p : Params). p.items) same in
+          omega (arith, peers, hops, items, sound_t.items, spelled_bound t sound_t, few, here, room.few, fits);
     }

@@ -35,7 +35,7 @@ sum_nine {X} (x ∷ xs) = omega (arith, sum_by-cons (λ (y : X). 9) x xs, sum_ni
 pub bytes_both : {P : Type 0} (v w : P → ℕ) (s : State P) → live_bytes (λ p. v p + w p) s ≡ live_bytes v s + live_bytes w s
 bytes_both {P} v w s =
     sum_same (λ (h : HopState P). bytes_of (λ p. v p + w p) (live_line h)) (λ h. bytes_of v (live_line h) + bytes_of w (live_line h))
-        (λ h. sum_both (λ (item : Item P). v item.payload) (λ item. w item.payload) (live_line h)) s.hops
+    (λ h. sum_both (λ (item : Item P). v item.payload) (λ item. w item.payload) (live_line h)) s.hops
     ∙ sum_both (λ (h : HopState P). bytes_of v (live_line h)) (λ h. bytes_of w (live_line h)) s.hops
 
 pub bytes_none : {P : Type 0} (w : P → ℕ) → ((p : P) → w p ≡ 0) → (s : State P) → live_bytes w s ≡ 0
