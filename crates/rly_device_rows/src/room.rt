@@ -1,6 +1,7 @@
 //! The room that a segment wants.
 use rly_core::{Geometry, Params};
 use rly_reclaim::{fits, free_segment, is_due, least_length, victim};
+use rly_segment::segment_end;
 
 /// One hop, one peer, 16 items and 4,096 bytes on two segments.
 const SMALL: Geometry = Geometry {
@@ -35,6 +36,47 @@ fn four_segments_of_the_default_parameters(rt: HostRuntime) {
         length: 0,
     };
     expect!(rt; least_length(&geometry) == 455_790);
+}
+
+/// One hop, one peer, a window of 64, 64 items and 76,800 bytes, on three segments of the least length.
+const THREE: Geometry = Geometry {
+    params: Params {
+        hops: 1,
+        peers: 1,
+        window: 64,
+        items: 64,
+        bytes: 76_800,
+        ..Params::DEFAULT
+    },
+    segments: 3,
+    length: 118_508,
+};
+
+#[test]
+fn the_least_length_of_three_segments(rt: HostRuntime) {
+    expect!(rt; least_length(&THREE) == 118_508);
+    expect!(rt; fits(&THREE));
+    expect!(rt; !fits(&Geometry {
+            length: 118_507,
+            ..THREE
+        }));
+}
+
+#[test]
+fn the_same_on_two_segments_and_on_256(rt: HostRuntime) {
+    expect!(rt; least_length(&Geometry {
+            segments: 2,
+            ..THREE
+        }) == 156_908);
+    expect!(rt; least_length(&Geometry {
+            segments: 256,
+            ..THREE
+        }) == 80_409);
+}
+
+#[test]
+fn three_segments_of_the_least_length_take_355588_bytes(rt: HostRuntime) {
+    expect!(rt; segment_end(&THREE, 2) == 355_588);
 }
 
 #[test]
