@@ -32,6 +32,10 @@ digit_at text i h within =
     let bytes = spelled (decode_of text) h in
     All-get_or (λ c. is_hex_digit c ≡ true) text i 0 within (decode_of-ok text bytes.0 bytes.1).1
 
+-- a text that isn't empty decodes to one byte at least
+pub some_byte : (text bytes : List ℕ) → 0 < length text → decode_of text ≡ Ok bytes → 0 < length bytes
+some_byte text bytes some e = let twice : length text ≡ 2 * length bytes = (decode_of-ok text bytes e).2 in omega arith
+
 pub even_length : (text : List ℕ) → is_ok (decode_of text) ≡ true → length text % 2 ≡ 0
 even_length text h = let bytes = spelled (decode_of text) h in (decode_of-ok text bytes.0 bytes.1).0
 

@@ -85,3 +85,8 @@ pub either_err : {T E P B Q S : Type 0} (outcome result : Result T E) → OnOk o
 either_err outcome (Ok ended) p b q f h = tt
 either_err (Ok done) (Err ended) p b q f h = h (f p) q
 either_err (Err fault) (Err ended) p b q f h = h b q
+
+-- a text that stays is a prefix of itself
+pub left_alone : {A E : Type 0} → (text : List ℕ) (r : Result A E) → OnErr r (LeavesBeginning text text)
+left_alone text (Ok x) = tt
+left_alone text (Err e) = ([], sym (append-nil text))

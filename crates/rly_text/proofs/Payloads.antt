@@ -1,5 +1,5 @@
 -- A payload is one word: what has a space in it is none.
-use Rattle.std.proofs.Common.{◌≡◌, ℕ, ◌+◌, ◌==◌, List, [], ◌∷◌, length, drop, slice_index, nat_lt, Bool, true, false, Option, Some, None, Result, Ok, Err, codes, refl, sym, ◌∙◌, ap, arith}
+use Rattle.std.proofs.Common.{◌≡◌, ℕ, ◌<◌, ◌+◌, ◌==◌, List, [], ◌∷◌, length, drop, slice_index, nat_lt, Bool, true, false, Option, Some, None, Result, Ok, Err, codes, refl, sym, ◌∙◌, ap, arith}
 use Rattle.std.specs.List.{position}
 use Rattle.std.specs.Result.{is_ok}
 use Rattle.std.specs.Str.{bytes_eq}
@@ -13,9 +13,9 @@ use Rattle.rly_core.specs.declared.ids.PeerId.{PeerId}
 use Rattle.rly_machine.specs.declared.command.Ask.{Ask}
 use Rattle.rly_machine.specs.declared.command.Ask.TheVariants as ask
 use Rattle.rly_machine.specs.declared.command.Command.TheVariants.{Take}
-use Rattle.rly_text.specs.Grammar.{◌>>=◌, hop_in, number_in, payload_in, peer_in, take_in, words_of}
+use Rattle.rly_text.specs.Grammar.{◌>>=◌, CarriesBytes, HasBytes, hop_in, number_in, payload_in, peer_in, take_in, words_of}
 use Rattle.rly_text.proofs.Cuts.{cut_none, cut_some, part_first}
-use Rattle.rly_text.proofs.HexDigits.{digit_at}
+use Rattle.rly_text.proofs.HexDigits.{digit_at, some_byte}
 
 no_digit : (c : ℕ) → c == 32 ≡ true → is_hex_digit c ≡ true → ⊥
 no_digit c space digit = grind (arith, common_steps)
@@ -61,3 +61,22 @@ take_words peer number hop stamp text = by (position (λ b. b == 32) text) refl 
       let none : take_in (peer ∷ number ∷ hop ∷ stamp ∷ text ∷ []) ≡ None =
       ap (take_from (peer_in peer) (number_in number) (hop_in hop) (number_in stamp)) (spaced text at e) ∙ no_payload (peer_in peer) (number_in number) (hop_in hop) (number_in stamp) in
       several ∙ sym none
+
+-- a word of hexadecimal digits spells a payload with bytes
+pub has_bytes : (text : List ℕ) → bytes_eq text (codes "-") ≡ false → 0 < length text → is_ok (decode_of text) ≡ true → HasBytes (payload_in text)
+has_bytes text dash some ok = by (decode_of text) refl where
+  is_some : nat_lt 0 (length text) ≡ true
+  is_some = grind (arith, common_steps)
+  by : (r : Result (List ℕ) FromHexError) → decode_of text ≡ r → HasBytes (payload_in text)
+  by (Ok bytes) e = rw (dash, is_some, e) (some_byte text bytes some e)
+  by (Err error) e = let no : ⊥ = cc in absurd no
+
+-- a Take of such a word carries bytes
+pub take_carries : (peer number hop stamp text : List ℕ) (p : PeerId) (n : ℕ) (h : HopId) (s : ℕ) → peer_in peer ≡ Some p → number_in number ≡ Some n
+    → hop_in hop ≡ Some h → number_in stamp ≡ Some s → HasBytes (payload_in text) → CarriesBytes (take_in (peer ∷ number ∷ hop ∷ stamp ∷ words_of text))
+take_carries peer number hop stamp text p n h s is_p is_n is_h is_s has = by (payload_in text) refl has where
+  by : (o : Option (List ℕ)) → payload_in text ≡ o → HasBytes o → CarriesBytes (take_in (peer ∷ number ∷ hop ∷ stamp ∷ words_of text))
+  by None e nothing = absurd nothing
+  by (Some bytes) e some =
+      let whole : take_in (peer ∷ number ∷ hop ∷ stamp ∷ text ∷ []) ≡ Some (ask.Command (Take p n h s bytes)) = rw (is_p, is_n, is_h, is_s, e) refl in
+      rw (take_words peer number hop stamp text, whole) some

@@ -1,5 +1,5 @@
 -- What the text of a line asks (docs/COMMANDS.md, "Lines").
-use Rattle.std.specs.Prelude.{ℕ, ◌^◌, List, [], ◌∷◌, length, slice_index, ◌==◌, nat_lt, nat_le, Bool, ◌&&◌, ◌||◌, not}
+use Rattle.std.specs.Prelude.{◌<◌, ℕ, ◌^◌, List, [], ◌∷◌, length, slice_index, ◌==◌, nat_lt, nat_le, Bool, ◌&&◌, ◌||◌, not}
 use Rattle.std.specs.Prelude.{if◌then◌else◌, Option, Some, None, codes}
 use Rattle.std.specs.Char.{is_ascii_digit}
 use Rattle.std.specs.List.{list_all, slice_split}
@@ -56,6 +56,11 @@ payload_in word =
     if bytes_eq word (codes "-") then Some []
     else if nat_lt 0 (length word) then result_ok (decode_of word)
     else None
+
+-- a payload of at least one byte
+abbrev pub HasBytes : Option (List ℕ) → Type 0
+HasBytes None = ⊥
+HasBytes (Some bytes) = 0 < length bytes
 
 -- take PEER NUMBER HOP STAMP PAYLOAD
 abbrev pub take_in : List (List ℕ) → Option Ask
@@ -123,3 +128,11 @@ ask_in_words (verb ∷ args) =
 -- what a line asks, if it is a command or a question; a line that is too long is none
 abbrev pub ask_in_line : List ℕ → Option Ask
 ask_in_line line = if nat_lt longest_line (length line) then None else ask_in_words (words_of line)
+
+-- a Take whose payload has bytes: to read it takes memory, and to read anything else takes none
+abbrev pub CarriesBytes : Option Ask → Type 0
+CarriesBytes (Some (ask.Command (Take peer number hop stamp payload))) = 0 < length payload
+CarriesBytes (Some (ask.Command (Pick hop now))) = ⊥
+CarriesBytes (Some (ask.Command (Release hop number))) = ⊥
+CarriesBytes (Some (ask.Query query)) = ⊥
+CarriesBytes None = ⊥

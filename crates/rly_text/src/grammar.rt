@@ -1,8 +1,8 @@
-ghost use Rattle.std.specs.Prelude.{◌≡◌, ◌∷◌, [], IfOk, MatchOption, true, false};
+ghost use Rattle.std.specs.Prelude.{◌≡◌, ◌∷◌, [], IfOk, MatchOption, OnErr, true, false};
 ghost use Rattle.std.specs.Char.{is_ascii_digit};
 ghost use Rattle.std.specs.List.{list_all};
 ghost use Rattle.rly_text.specs.HelpersReading.{HasTwo};
-ghost use Rattle.rly_text.specs.Grammar.{ask_in_line, done_in, fetch_in, hop_and_number_in, hop_in, id_in, is_numeral, number_in, payload_in, peer_in, pick_in, show_in, take_in, window_in, ask_in_words, words_of};
+ghost use Rattle.rly_text.specs.Grammar.{CarriesBytes, HasBytes, ask_in_line, done_in, fetch_in, hop_and_number_in, hop_in, id_in, is_numeral, number_in, payload_in, peer_in, pick_in, show_in, take_in, window_in, ask_in_words, words_of};
 
 use crate::bytes::{decode_hexadecimal, is_hexadecimal, position_of};
 use rly_core::{HopId, PeerId, limits};
@@ -12,7 +12,8 @@ use std::alloc::{AllocError, Global};
 /// What a line asks, without its newline (`docs/COMMANDS.md`, "Lines"): `None` where it is no
 /// command and no question. Only a payload takes memory.
 pub fn parse_line(alloc: Global, line: &[u8]) -> Result<Option<Ask>, AllocError>
-    ensures { IfOk result (λ ask. ask ≡ ask_in_line line.now) }
+    ensures asks { IfOk result (λ ask. ask ≡ ask_in_line line.now) }
+    ensures memory { OnErr result (CarriesBytes (ask_in_line line.now)) }
 {
     if line.len() as u64 > limits::MAX_LINE {
         return Ok(None);
@@ -25,7 +26,8 @@ pub fn parse_line(alloc: Global, line: &[u8]) -> Result<Option<Ask>, AllocError>
 
 /// What a verb and the words after it ask.
 fn parse_words(alloc: Global, verb: &[u8], args: &[u8]) -> Result<Option<Ask>, AllocError>
-    ensures { IfOk result (λ ask. ask ≡ ask_in_words (verb.now ∷ words_of args.now)) }
+    ensures asks { IfOk result (λ ask. ask ≡ ask_in_words (verb.now ∷ words_of args.now)) }
+    ensures memory { OnErr result (CarriesBytes (ask_in_words (verb.now ∷ words_of args.now))) }
 {
     if verb == b"take".as_slice() {
         parse_take(alloc, args)
@@ -46,7 +48,8 @@ fn parse_words(alloc: Global, verb: &[u8], args: &[u8]) -> Result<Option<Ask>, A
 
 /// `PEER NUMBER HOP STAMP PAYLOAD`.
 fn parse_take(alloc: Global, args: &[u8]) -> Result<Option<Ask>, AllocError>
-    ensures { IfOk result (λ ask. ask ≡ take_in (words_of args.now)) }
+    ensures asks { IfOk result (λ ask. ask ≡ take_in (words_of args.now)) }
+    ensures memory { OnErr result (CarriesBytes (take_in (words_of args.now))) }
 {
     let Some((peer, args)) = cut(args) else {
         return Ok(None);
@@ -74,7 +77,8 @@ fn take_ask(
     stamp: &[u8],
     payload: &[u8],
 ) -> Result<Option<Ask>, AllocError>
-    ensures { IfOk result (λ ask. ask ≡ take_in (peer.now ∷ number.now ∷ hop.now ∷ stamp.now ∷ words_of payload.now)) }
+    ensures asks { IfOk result (λ ask. ask ≡ take_in (peer.now ∷ number.now ∷ hop.now ∷ stamp.now ∷ words_of payload.now)) }
+    ensures memory { OnErr result (CarriesBytes (take_in (peer.now ∷ number.now ∷ hop.now ∷ stamp.now ∷ words_of payload.now))) }
 {
     let Some(peer) = parse_peer(peer) else {
         return Ok(None);
@@ -221,8 +225,10 @@ fn has_digits_alone(word: &[u8]) -> bool
 }
 
 /// The payload that a word spells.
+#[tactic(auto, using(crate::proofs::Payloads::has_bytes))]
 fn parse_payload(alloc: Global, word: &[u8]) -> Result<Option<Payload>, AllocError>
-    ensures { IfOk result (λ payload. payload ≡ payload_in word.now) }
+    ensures payload { IfOk result (λ payload. payload ≡ payload_in word.now) }
+    ensures memory { OnErr result (HasBytes (payload_in word.now)) }
 {
     if word == b"-".as_slice() {
         return Ok(Some(Payload::new(Vec::new(alloc))));
