@@ -1,0 +1,2 @@
+pub mod RateLaws
+pub mod WindowLaws
