@@ -9,7 +9,7 @@ use rly_core::{PeerId, Refusal};
 use rly_disk::{After, FaultDisk, MemDisk};
 use rly_flush::Flusher;
 use rly_journal::Journal;
-use rly_line::{CallError, Seat, make};
+use rly_line::{BatchError, CallError, Seat, make};
 use rly_machine::{Answer, Ask, Reply};
 use rly_threads::{Desk, Ends, MemTurn, receiver_run};
 use std::alloc::Global;
@@ -44,6 +44,20 @@ impl Desk for Noting {
         self.told = match &outcome {
             Ok(answer) => told_by(&answer.reply),
             Err(_) => Told::Other,
+        };
+        outcome
+    }
+
+    fn call_all<R: Wait>(
+        &mut self,
+        rt: &R,
+        asks: &mut Vec<Ask>,
+        answers: &mut Vec<Answer>,
+    ) -> Result<(), BatchError> {
+        let outcome = self.seat.call_all(rt, asks, answers);
+        self.told = match answers.last() {
+            Some(answer) => told_by(&answer.reply),
+            None => Told::Other,
         };
         outcome
     }

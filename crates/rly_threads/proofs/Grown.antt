@@ -7,10 +7,11 @@ use Rattle.rly_machine.specs.declared.command.Ask.{Ask}
 use Rattle.rly_threads.specs.declared.turn.Go.{Go}
 use Rattle.rly_threads.specs.declared.turn.Point.TheVariants.{Heard, Start}
 use Rattle.rly_threads.specs.declared.turn.Worker.{Worker}
+use Rattle.rly_threads.specs.Asking.{CallOutcome, call_asked}
 use Rattle.rly_threads.specs.Ends.{TellsMore, hearing}
 use Rattle.rly_threads.specs.HelpersTurns.{Did}
 use Rattle.rly_threads.specs.Runs.{EndsView}
-use Rattle.rly_threads.specs.Turns.{Done, Given, Made, Handed, CallOutcome, done_in, done_both, nothing_done, with_hearing, with_start}
+use Rattle.rly_threads.specs.Turns.{Done, Given, Made, Handed, done_in, done_both, nothing_done, with_hearing, with_start}
 
 pub tells_nothing : {A : Type 0} (told : Option (List A)) → TellsMore told told []
 tells_nothing None = tt
@@ -43,14 +44,14 @@ did_nothing told c = record {
 
 -- a call was made, and what was named then was sent
 pub did_ask : {C : Type 0} (old mid new : EndsView) (c d : C) (ask : Ask) (outcome : CallOutcome) (packets : List (List ℕ)) (handed : List Handed)
-    → c ≡ d → TellsMore old.asked mid.asked ((ask, outcome) ∷ []) → TellsMore old.handed mid.handed handed
+    → c ≡ d → TellsMore old.asked mid.asked (call_asked ask outcome ∷ []) → TellsMore old.handed mid.handed handed
     → mid ≡ record old { asked = mid.asked; handed = mid.handed } → TellsMore mid.sent new.sent packets → new ≡ record mid { sent = new.sent }
-    → Did old new c (record { core = d; heard = []; asked = (ask, outcome) ∷ []; sent = packets; handed = handed })
+    → Did old new c (record { core = d; heard = []; asked = call_asked ask outcome ∷ []; sent = packets; handed = handed })
 did_ask old mid new c d ask outcome packets handed left asked around quiet sent quiet_end = record {
   left = left;
   heard = subst (λ h. TellsMore old.heard h []) (sym (ap (λ t. t.heard) quiet_end ∙ ap (λ t. t.heard) quiet)) (tells_nothing old.heard);
   sent = subst (λ s. TellsMore s new.sent packets) (ap (λ t. t.sent) quiet) sent;
-  asked = subst (λ a. TellsMore old.asked a ((ask, outcome) ∷ [])) (sym (ap (λ t. t.asked) quiet_end)) asked;
+  asked = subst (λ a. TellsMore old.asked a (call_asked ask outcome ∷ [])) (sym (ap (λ t. t.asked) quiet_end)) asked;
   handed = subst (λ h. TellsMore old.handed h handed) (sym (ap (λ t. t.handed) quiet_end)) around;
 }
 

@@ -12,6 +12,7 @@ use Rattle.rly_hop.specs.Receiving.{receiving_step}
 use Rattle.rly_machine.specs.declared.command.Ask.{Ask}
 use Rattle.rly_threads.specs.declared.turn.Point.TheVariants.{Heard}
 use Rattle.rly_threads.specs.declared.turn.Worker.TheVariants as worker
+use Rattle.rly_threads.specs.Asking.{call_asked}
 use Rattle.rly_threads.specs.Ends.{TellsMore, hearing}
 use Rattle.rly_threads.specs.Intake.{Intake, datagram_in, intake_event, intake_done, lacks_memory, intake_on_action, intake_on_answer, intake_on_call, intake_on_hearing, intake_on_take, intake_packets, hop_of_payload, is_taken, take_ask}
 use Rattle.rly_threads.specs.HelpersTurns.{Did}
@@ -22,7 +23,7 @@ use Rattle.rly_threads.proofs.Grown.{did_ask, did_hear, did_nothing, no_call, re
 -- a Take was made, what was said of it, and what was named on its answer was sent
 pub asked : (w : Intake) (old called mid new : EndsView) (r left : Receiver) (made : Made) (hop : HopId) (ask : Ask) (event : InEvent (List ℕ)) (action : Option (InAction (List ℕ))) (was_taken : Bool)
     → event ≡ intake_event made.outcome → was_taken ≡ is_taken event → left ≡ (receiving_step r event).0 → action ≡ (receiving_step r event).1
-    → TellsMore old.asked called.asked ((ask, made.outcome) ∷ []) → TellsMore old.handed called.handed (around_call (worker.Receiver w.peer) made)
+    → TellsMore old.asked called.asked (call_asked ask made.outcome ∷ []) → TellsMore old.handed called.handed (around_call (worker.Receiver w.peer) made)
     → called ≡ record old { asked = called.asked; handed = called.handed }
     → TellsMore called.handed mid.handed (at_taking (worker.Receiver w.peer) hop was_taken made.taken) → mid ≡ record called { handed = mid.handed }
     → TellsMore mid.sent new.sent (intake_packets action) → new ≡ record mid { sent = new.sent }
@@ -34,8 +35,8 @@ asked w old called mid new r left made hop ask event action was_taken told taken
     let then = at_taking (worker.Receiver w.peer) hop (is_taken answer) made.taken in
     let said_is : TellsMore called.handed mid.handed then =
     subst (λ t. TellsMore called.handed mid.handed (at_taking (worker.Receiver w.peer) hop t made.taken)) (taken ∙ ap is_taken told) said in
-    let asked_is : TellsMore old.asked mid.asked ((ask, made.outcome) ∷ []) =
-    subst (λ a. TellsMore old.asked a ((ask, made.outcome) ∷ [])) (sym (ap (λ t. t.asked) quiet_said)) made_call in
+    let asked_is : TellsMore old.asked mid.asked (call_asked ask made.outcome ∷ []) =
+    subst (λ a. TellsMore old.asked a (call_asked ask made.outcome ∷ [])) (sym (ap (λ t. t.asked) quiet_said)) made_call in
     let quiet_is : mid ≡ record old { asked = mid.asked; handed = mid.handed } =
     quiet_said ∙ (λ i. record (quiet i) { handed = mid.handed }) ∙ (λ i. record old { asked = sym (ap (λ t. t.asked) quiet_said) i; handed = mid.handed }) in
     did_ask old mid new left step.0 ask made.outcome (intake_packets step.1) (before ++ then)

@@ -10,6 +10,7 @@ use Rattle.rly_machine.specs.declared.command.Ask.{Ask}
 use Rattle.rly_plan.specs.ContactPlan.{is_open}
 use Rattle.rly_threads.specs.declared.turn.Point.TheVariants.{Heard}
 use Rattle.rly_threads.specs.declared.turn.Worker.TheVariants as worker
+use Rattle.rly_threads.specs.Asking.{call_asked}
 use Rattle.rly_threads.specs.Ends.{TellsMore, hearing}
 use Rattle.rly_threads.specs.Outlet.{Outlet, Pacing, is_progress, named_ask, outlet_done, outlet_event, outlet_on_action, outlet_on_answer, outlet_on_call, outlet_on_hearing, outlet_packets, paced, pacing, timed}
 use Rattle.rly_threads.specs.HelpersTurns.{Did}
@@ -23,7 +24,7 @@ pub asked : (w : Outlet) (old mid new : EndsView) (s : Sender) (left : Pacing) (
     → event ≡ outlet_event named made.outcome → progress ≡ is_progress event → core ≡ (sending_step s event).0 → action ≡ (sending_step s event).1
     → in_contact ≡ is_open w.plan w.hop made.after.now → went ≡ has_some (outlet_packets in_contact action)
     → left ≡ paced core (progress || went) mark made.after.since
-    → TellsMore old.asked mid.asked ((ask, made.outcome) ∷ []) → TellsMore old.handed mid.handed (around_call (worker.Sender w.hop) made)
+    → TellsMore old.asked mid.asked (call_asked ask made.outcome ∷ []) → TellsMore old.handed mid.handed (around_call (worker.Sender w.hop) made)
     → mid ≡ record old { asked = mid.asked; handed = mid.handed } → TellsMore mid.sent new.sent (outlet_packets in_contact action) → new ≡ record mid { sent = new.sent }
     → Did old new left (outlet_on_answer w made mark ask (outlet_event named made.outcome) (sending_step s (outlet_event named made.outcome)))
 asked w old mid new s left made mark named ask event core action in_contact progress went told progressed after next opening gone pace made_call around quiet packets quiet_end =

@@ -22,7 +22,8 @@ use Rattle.rly_machine.specs.declared.reply.Reply.{Reply}
 use Rattle.rly_machine.specs.declared.reply.Reply.TheVariants as reply
 use Rattle.rly_plan.specs.ContactPlan.{ContactPlan, hop_for, link}
 use Rattle.rly_threads.specs.declared.turn.Worker.TheVariants as worker
-use Rattle.rly_threads.specs.Turns.{CallOutcome, Done, Given, Made, around_call, at_taking, message_in, nothing_done}
+use Rattle.rly_threads.specs.Asking.{CallOutcome, call_asked}
+use Rattle.rly_threads.specs.Turns.{Done, Given, Made, around_call, at_taking, message_in, nothing_done}
 use Rattle.rly_threads.specs.Turns.{packets_of, with_hearing, with_start}
 
 -- the peer that is received from, and the plan by which its datagrams are routed
@@ -87,7 +88,7 @@ abbrev pub intake_on_answer : Intake → Made → HopId → Ask → InEvent (Lis
 intake_on_answer w made hop ask told left = record {
   core = left.0;
   heard = [];
-  asked = (ask, made.outcome) ∷ [];
+  asked = call_asked ask made.outcome ∷ [];
   sent = intake_packets left.1;
   handed = around_call (worker.Receiver w.peer) made ++ at_taking (worker.Receiver w.peer) hop (is_taken told) made.taken;
 }

@@ -6,3 +6,4 @@ pub mod Runs
 pub mod Memory
 pub mod HelpersTurns
 pub mod Relay
+pub mod Asking

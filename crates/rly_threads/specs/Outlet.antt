@@ -19,7 +19,8 @@ use Rattle.rly_machine.specs.declared.reply.Reply.{Reply}
 use Rattle.rly_machine.specs.declared.reply.Reply.TheVariants as reply
 use Rattle.rly_plan.specs.ContactPlan.{ContactPlan, is_open, link, resend}
 use Rattle.rly_threads.specs.declared.turn.Worker.TheVariants as worker
-use Rattle.rly_threads.specs.Turns.{CallOutcome, Done, Given, Made, around_call, has_some, message_in, nothing_done}
+use Rattle.rly_threads.specs.Asking.{CallOutcome, call_asked}
+use Rattle.rly_threads.specs.Turns.{Done, Given, Made, around_call, has_some, message_in, nothing_done}
 use Rattle.rly_threads.specs.Turns.{packets_of, with_hearing, with_start}
 
 -- the hop that is sent to, and the plan that says when its link is open and when to send again
@@ -112,7 +113,7 @@ outlet_on_answer w made mark ask told left =
     let packets = outlet_packets (is_open w.plan w.hop made.after.now) left.1 in record {
       core = paced left.0 (is_progress told || has_some packets) mark made.after.since;
       heard = [];
-      asked = (ask, made.outcome) ∷ [];
+      asked = call_asked ask made.outcome ∷ [];
       sent = packets;
       handed = around_call (worker.Sender w.hop) made;
     }

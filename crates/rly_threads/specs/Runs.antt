@@ -1,17 +1,17 @@
 -- What the ends of a worker tell once it has ended.
 use Rattle.std.specs.Prelude.{◌≡◌, List, [], ◌∷◌, ◌++◌, false, Option, ℕ}
-use Rattle.rly_machine.specs.declared.command.Ask.{Ask}
 use Rattle.rly_threads.specs.declared.turn.Go.{Go}
 use Rattle.rly_threads.specs.declared.turn.Point.TheVariants.{Start}
 use Rattle.rly_threads.specs.declared.turn.Worker.{Worker}
+use Rattle.rly_threads.specs.Asking.{Asked}
 use Rattle.rly_threads.specs.Ends.{Hearing, TellsMore}
-use Rattle.rly_threads.specs.Turns.{Done, Handed, CallOutcome}
+use Rattle.rly_threads.specs.Turns.{Done, Handed}
 
 -- what the ends tell, each if it tells: what was heard and sent, what was asked, and who was handed what
 pub record EndsView : Type 0 where
   pub heard : Option (List Hearing)
   pub sent : Option (List (List ℕ))
-  pub asked : Option (List (Ask × CallOutcome))
+  pub asked : Option (List Asked)
   pub handed : Option (List Handed)
 
 -- what the ends tell grew by what the worker did, and then it was handed its end

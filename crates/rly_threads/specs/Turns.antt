@@ -1,23 +1,17 @@
 -- A worker over its turns: what it was given, and what it did.
-use Rattle.std.specs.Prelude.{ℕ, List, [], ◌∷◌, ◌++◌, Bool, true, false, Option, Some, None, Result}
+use Rattle.std.specs.Prelude.{ℕ, List, [], ◌∷◌, ◌++◌, Bool, true, false, Option, Some, None}
 use Rattle.std.specs.Result.{result_ok}
 use Rattle.rly_core.specs.declared.ids.HopId.{HopId}
 use Rattle.rly_core.specs.declared.refusal.Refusal.{Refusal}
 use Rattle.rly_hop.specs.declared.message.Message.{Message}
 use Rattle.rly_hop.specs.Reading.{reading}
 use Rattle.rly_hop.specs.Spelling.{spelling, unwritable}
-use Rattle.rly_line.specs.declared.call_error.CallError.{CallError}
-use Rattle.rly_machine.specs.declared.call.Answer.{Answer}
-use Rattle.rly_machine.specs.declared.command.Ask.{Ask}
 use Rattle.rly_threads.specs.declared.turn.Go.{Go}
 use Rattle.rly_threads.specs.declared.turn.Point.{Point}
 use Rattle.rly_threads.specs.declared.turn.Point.TheVariants as point
 use Rattle.rly_threads.specs.declared.turn.Worker.{Worker}
+use Rattle.rly_threads.specs.Asking.{Asked, CallOutcome}
 use Rattle.rly_threads.specs.Ends.{Hearing, hearing}
-
--- what became of a call
-abbrev pub CallOutcome : Type 0
-CallOutcome = Result Answer CallError
 
 -- what a worker was handed, where
 abbrev pub Handed : Type 0
@@ -45,7 +39,7 @@ pub record Given : Type 0 where
 pub record Done (C : Type 0) : Type 0 where
   pub core : C
   pub heard : List Hearing
-  pub asked : List (Ask × CallOutcome)
+  pub asked : List Asked
   pub sent : List (List ℕ)
   pub handed : List Handed
 

@@ -1,8 +1,10 @@
-ghost use Rattle.std.specs.Prelude.{◌≡◌, ◌≤◌, ◌∷◌, [], IfSome, length};
+ghost use Rattle.std.specs.Prelude.{◌≡◌, ◌≤◌, ◌∷◌, [], vec_capacity, IfErr, IfSome, OnOk, length};
+ghost use Rattle.rly_core.specs.Bounds.{IsIn};
 ghost use Rattle.std.specs.Option.{option_map};
 ghost use Rattle.rly_hop.specs.Payloads.{message_bytes};
 ghost use Rattle.rly_threads.specs.declared.turn.Go.{Go as AGo};
 ghost use Rattle.rly_threads.specs.declared.turn.Point.{Point as APoint};
+ghost use Rattle.rly_threads.specs.Asking.{batch_outcome, call_asked};
 ghost use Rattle.rly_threads.specs.Ends.{TellsMore, hearing, packet_in};
 ghost use Rattle.rly_threads.specs.Turns.{at_taking, has_some, message_in, packets_of};
 
@@ -11,7 +13,7 @@ use crate::link::Link;
 use crate::turn::{Go, Point, Turn, Worker};
 use rly_core::HopId;
 use rly_hop::{MAX_MESSAGE, Message, read_message, write_message};
-use rly_line::CallError;
+use rly_line::{BatchError, CallError};
 use rly_machine::{Answer, Ask};
 use std::marker::Model;
 use std::sync::Wait;
@@ -104,13 +106,39 @@ impl<L: Link, K: Desk, T: Turn> Ends<L, K, T> {
         worker: Worker,
         ask: Ask,
     ) -> (Result<Answer, CallError>, Go)
-        ensures asked { TellsMore self.old.asked self.new.asked ((ask, result.0) ∷ []) }
+        ensures asked { TellsMore self.old.asked self.new.asked (call_asked ask result.0 ∷ []) }
         ensures told { (before : AGo)
             × TellsMore self.old.handed self.new.handed ((worker, APoint.Call, before) ∷ (worker, APoint.Answered, result.1) ∷ []) }
         ensures same { self.new ≡ record self.old { asked = self.new.asked; handed = self.new.handed } }
     {
         self.between(rt, worker, Point::Call);
         let outcome = self.desk.call(rt, ask);
+        let go = self.between(rt, worker, Point::Answered);
+        (outcome, go)
+    }
+
+    /// Makes a worker's calls together. It answers what became of them, and what the worker was handed after that.
+    pub(crate) fn call_all<R: Wait>(
+        &mut self,
+        rt: &R,
+        worker: Worker,
+        asks: &mut Vec<Ask>,
+        answers: &mut Vec<Answer>,
+    ) -> (Result<(), BatchError>, Go)
+        requires count { IsIn 1 64 (length asks.old.items) }
+        requires empty { answers.old.items ≡ [] }
+        requires room { length asks.old.items ≤ vec_capacity answers.old }
+        ensures asked { TellsMore self.old.asked self.new.asked ((asks.old.items, batch_outcome result.0 answers.new.items) ∷ []) }
+        ensures each { OnOk result.0 (length answers.new.items ≡ length asks.old.items) }
+        ensures none_left { OnOk result.0 (asks.new.items ≡ []) }
+        ensures none_given { IfErr result.0 (λ _. answers.new.items ≡ []) }
+        ensures capacity { (vec_capacity asks.old ≤ vec_capacity asks.new) × (vec_capacity answers.old ≤ vec_capacity answers.new) }
+        ensures told { (before : AGo)
+            × TellsMore self.old.handed self.new.handed ((worker, APoint.Call, before) ∷ (worker, APoint.Answered, result.1) ∷ []) }
+        ensures same { self.new ≡ record self.old { asked = self.new.asked; handed = self.new.handed } }
+    {
+        self.between(rt, worker, Point::Call);
+        let outcome = self.desk.call_all(rt, asks, answers);
         let go = self.between(rt, worker, Point::Answered);
         (outcome, go)
     }

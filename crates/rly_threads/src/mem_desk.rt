@@ -6,11 +6,14 @@ ghost use Rattle.rly_threads.specs.HelpersTurns.{IsReply};
 use crate::desk::Desk;
 use http_server::Log;
 use rly_core::Refusal;
-use rly_line::CallError;
+use rly_line::{BatchError, CallError};
 use rly_machine::{Answer, Ask, Machine, Payload, Reply, SeatId};
 use std::alloc::Global;
 use std::snapshot::Snapshot;
 use std::sync::Wait;
+
+/// What was asked together and how each was answered, in proofs alone.
+type Exchanged = Log<Snapshot<Ask>, Snapshot<Answer>>;
 
 /// A desk in memory, which answers by a machine of its own.
 #[derive(Drop)]
@@ -18,7 +21,7 @@ pub struct MemDesk {
     alloc: Global,
     machine: Machine<Payload>,
     calls: u64,
-    asked: Log<Snapshot<Ask>, Snapshot<Result<Answer, CallError>>>,
+    asked: Log<Exchanged, ()>,
 }
 
 impl MemDesk {
@@ -48,26 +51,53 @@ impl MemDesk {
     {
         self.calls
     }
-}
 
-impl Desk for MemDesk {
-    ghost use Rattle.std.specs.Prelude.{Some, map};
-
-    ghost asked = { λ d. Some (map (λ e. (e.0.value, e.1.value)) d.asked.items) };
-
-    fn call<R: Wait>(&mut self, rt: &R, ask: Ask) -> Result<Answer, CallError> {
-        let _ = rt;
-        let said = Snapshot::of(&ask);
+    /// Answers an ask.
+    fn answer(&mut self, ask: Ask) -> Answer
+        ensures { self.new.asked ≡ self.old.asked }
+    {
         let reply = reply_to(self.alloc, &mut self.machine, ask);
         self.calls = self.calls.saturating_add(1);
-        let outcome = Ok(Answer {
+        Answer {
             seat: SeatId(0),
             number: self.calls,
             reply,
             position: self.machine.seq(),
-        });
-        self.asked = self.asked.and(&said, &Snapshot::of(&outcome));
-        outcome
+        }
+    }
+}
+
+impl Desk for MemDesk {
+    ghost use Rattle.std.specs.Prelude.{Some};
+    ghost use Rattle.rly_threads.specs.Memory.{asked_of};
+
+    ghost asked = { λ d. Some (asked_of d.asked) };
+
+    fn call<R: Wait>(&mut self, rt: &R, ask: Ask) -> Result<Answer, CallError> {
+        let _ = rt;
+        let said = Snapshot::of(&ask);
+        let answer = self.answer(ask);
+        let exchanged = Log::new().and(&said, &Snapshot::of(&answer));
+        self.asked = self.asked.and(&exchanged, &());
+        Ok(answer)
+    }
+
+    fn call_all<R: Wait>(
+        &mut self,
+        rt: &R,
+        asks: &mut Vec<Ask>,
+        answers: &mut Vec<Answer>,
+    ) -> Result<(), BatchError> {
+        let _ = rt;
+        let mut exchanged: Exchanged = Log::new();
+        for ask in asks.drain(..) {
+            let said = Snapshot::of(&ask);
+            let answer = self.answer(ask);
+            exchanged = exchanged.and(&said, &Snapshot::of(&answer));
+            answers.push_reserved(answer);
+        }
+        self.asked = self.asked.and(&exchanged, &());
+        Ok(())
     }
 }
 
