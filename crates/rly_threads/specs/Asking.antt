@@ -1,5 +1,5 @@
 -- What a desk tells: asks that were put together, and what became of them.
-use Rattle.std.specs.Prelude.{ℕ, List, [], ◌∷◌, Result, Ok, Err}
+use Rattle.std.specs.Prelude.{List, [], ◌∷◌, Result, Ok, Err}
 use Rattle.rly_line.specs.declared.call_error.BatchError.{BatchError}
 use Rattle.rly_line.specs.declared.call_error.BatchError.TheVariants as batch
 use Rattle.rly_line.specs.declared.call_error.CallError.{CallError}
