@@ -1,7 +1,8 @@
 -- What a crash leaves of a journal that a flusher owns, round by round.
 use Rattle.std.proofs.Common.{ℕ, ◌≡◌, ◌⊎◌, inl, inr, ⊎_elim, ◌++◌, ◌∷◌, [], List, Bool, Option, None, length, true, false, refl, sym, ap, subst, ◌∙◌, arith, append_assoc, append-nil}
 use Rattle.std.proofs.lemmas.Bool.{false≢true}
-use Rattle.std.specs.List.{zip}
+use Rattle.std.specs.List.{AllByRecursion, zip}
+use Rattle.std.proofs.lemmas.List.{length-map}
 use Rattle.rly_core.specs.Bounds.{IsIn}
 use Rattle.rly_core.specs.declared.refusal.Refusal.{Refusal}
 use Rattle.rly_core.specs.declared.refusal.Refusal.TheVariants.{Broken, Unsure}
@@ -9,7 +10,10 @@ use Rattle.rly_disk.specs.DiskModel.{Consistent, DiskState, LeavesOnly, Settled}
 use Rattle.rly_disk.proofs.Composition.{at_exit, later_again, started, started_settled}
 use Rattle.rly_machine.specs.declared.call.Answer.{Answer}
 use Rattle.rly_machine.specs.declared.call.Call.{Call}
-use Rattle.rly_machine.specs.History.{Entry, LegalBy, LegalButForBytes, harm_after, state_after, without_bytes}
+use Rattle.rly_machine.specs.declared.command.Command.{Command}
+use Rattle.rly_machine.specs.declared.reply.Reply.TheVariants.{Refused}
+use Rattle.rly_machine.specs.Fold.{fold}
+use Rattle.rly_machine.specs.History.{Entry, accepted_of, LegalBy, LegalButForBytes, harm_after, state_after, without_bytes}
 use Rattle.rly_machine.specs.State.{State}
 use Rattle.rly_machine.proofs.Histories.{folds, legal_append, legal_but_for_bytes}
 use Rattle.rly_journal.specs.Journal.{IsRound, JournalState}
@@ -20,9 +24,9 @@ use Rattle.rly_line.specs.Batches.{BatchView}
 use Rattle.rly_line.specs.Responding.{AreLeft, IsResponding, Responding, calls_in}
 use Rattle.rly_line.specs.Submission.{LineId}
 use Rattle.rly_flush.specs.HelpersFlushing.{AreCollected, IsFlushing, IsRounded}
-use Rattle.rly_flush.specs.Flushing.{FlusherState, GrewInRound, HoldsAnswered, IsCrashSafe, IsDoubtful, IsOneHistory, IsOneRound, answered_state, entries_since, kept_calls, state_reached}
+use Rattle.rly_flush.specs.Flushing.{FlusherState, GrewInRound, IsCrashSafe, IsLeftIn, IsDoubtful, IsOneHistory, IsOneRound, answered_state, entries_since, folded, kept_calls, state_reached}
 use Rattle.rly_flush.proofs.Joining.{GoesOn, goes_on}
-use Rattle.rly_flush.proofs.Refusing.{calls_in_append, calls_in_zip, grows, up_to}
+use Rattle.rly_flush.proofs.Refusing.{accepted_append, all_unsure, broken_accepts_none, calls_in_append, calls_in_zip, unsure_accepts_none}
 
 -- a flusher once these calls came, those of a round were answered, and this batch was kept
 abbrev pub next_of : {D : Type 0} → FlusherState D → JournalState D → Option BatchView → List Teller → List Call → List Call → List Answer → FlusherState D
@@ -31,6 +35,7 @@ next_of old journal left lines came calls given = record {
   journal = journal;
   kept = left;
   line = record { of = old.line.of; taken = old.line.taken ++ came; start = old.line.start; history = old.line.history ++ zip calls given; lines = lines };
+  over = old.over;
 }
 
 -- refusals after refusals
@@ -54,7 +59,7 @@ module _ {D : Type 0} (state : D → DiskState) (consistent : (disk : D) → (st
       → IsCrashSafe state f f
   at_rest f same whole stands = record {
     calls = [];
-    doubtful = inl (whole, sym (append-nil (calls_in f.line.history)));
+    doubtful = inl (whole, [], sym (append-nil f.line.history), refl, λ broke. absurd (false≢true (sym whole ∙ broke)));
     given = [];
     target = state_reached f;
     served = record { count = refl; legal = tt; only = tt; state = refl };
@@ -77,21 +82,84 @@ module _ {D : Type 0} (state : D → DiskState) (consistent : (disk : D) → (st
     running = λ whole. absurd (false≢true (sym whole ∙ broke));
   }
 
-  -- what a crash leaves of a round holds all that was answered before it
-  pub holds_answered : (old new : FlusherState D) (safe : IsCrashSafe state old new) → LegalButForBytes old.line.start old.line.history → (image : List ℕ)
-      → Stands image (state_reached old) ⊎ Stands image safe.target → HoldsAnswered old.line.history image
-  holds_answered old new safe legal image (inl stands) = record {
-    s = state_reached old;
-    stands = stands;
-    answered = up_to (state_reached old).seq 0 old.line.start old.line.history legal (omega arith);
-  }
-  holds_answered old new safe legal image (inr stands) =
-      let more = grows 0 (state_reached old) (zip safe.calls safe.given) (legal_but_for_bytes 0 (state_reached old) (zip safe.calls safe.given) safe.served.legal) in
-      record {
-        s = safe.target;
-        stands = stands;
-        answered = up_to safe.target.seq 0 old.line.start old.line.history legal (omega (arith, more, ap (λ (x : State (List ℕ)). x.seq) safe.served.state));
+  -- an image that stands for the history, or for that with the commands of a round, was left in that round
+  module _ (old new : FlusherState D) (safe : IsCrashSafe state old new) (was : LegalButForBytes old.line.start old.line.history)
+      (is : LegalButForBytes old.line.start new.line.history) (at : new.journal.broken ≡ false → new.journal.state ≡ folded old.line.start new.line.history)
+      (earlier : List Entry) (holds : (more : List (Command (List ℕ))) × (accepted_of old.line.history ≡ accepted_of earlier ++ more)) where
+    abbrev start : State (List ℕ)
+    start = old.line.start
+
+    same : state_reached old ≡ folded start old.line.history
+    same = (folds 0 start old.line.history was).0
+
+    -- in the round that was made now
+    left_now : (round : List Entry) → new.line.history ≡ old.line.history ++ round → calls_in round ≡ safe.calls
+        → (answered : (safe.target ≡ folded start (old.line.history ++ round)) ⊎ AllByRecursion (λ entry. entry.1.reply ≡ Refused Unsure) round)
+        → (image : List ℕ) → Stands image (state_reached old) ⊎ Stands image safe.target → IsLeftIn start earlier new.line.history image
+    left_now round whole calls answered image stands = record {
+      before = old.line.history;
+      round = round;
+      rest = [];
+      whole = whole ∙ ap (λ l. old.line.history ++ l) (sym (append-nil round));
+      holds = holds;
+      stands = ⊎_elim (λ held. inl (subst (Stands image) same held)) (λ held. inr (
+        safe.target,
+        record {
+          given = safe.given;
+          served = subst (λ (y : List Call × State (List ℕ)). AreServed y.0 safe.given y.1 safe.target) (λ i. (sym calls i, same i)) safe.served;
+          answered = answered;
+        },
+        held,
+      )) stands;
+    }
+
+    answered_now : (broken : Bool) → new.journal.broken ≡ broken → (round : List Entry) → new.line.history ≡ old.line.history ++ round
+        → (new.journal.broken ≡ true → round ≡ zip safe.calls (refusals Unsure old.journal.position safe.calls))
+        → (safe.target ≡ folded start (old.line.history ++ round)) ⊎ AllByRecursion (λ entry. entry.1.reply ≡ Refused Unsure) round
+    answered_now true broke round whole unsure =
+        inr (subst (AllByRecursion (λ entry. entry.1.reply ≡ Refused Unsure)) (sym (unsure broke)) (all_unsure old.journal.position safe.calls))
+    answered_now false goes round whole unsure = inl (safe.running goes ∙ at goes ∙ ap (folded start) whole)
+
+    -- or in an earlier one, which broke the journal
+    module _ (rest : List Entry) (grown : new.line.history ≡ old.line.history ++ rest) (before : List Entry) (behind : List Call) (whole : old.line.history ≡ before ++ entries_since old.journal.position safe.calls behind) where
+      abbrev broke : List Entry
+      broke = zip safe.calls (refusals Unsure old.journal.position safe.calls)
+
+      abbrev since : List Entry
+      since = zip behind (refusals Broken old.journal.position behind)
+
+      fewer : accepted_of old.line.history ≡ accepted_of before
+      fewer =
+          ap accepted_of whole ∙ accepted_append before (broke ++ since) ∙ ap (λ l. accepted_of before ++ l) (accepted_append broke since)
+          ∙ (λ i. accepted_of before ++ (unsure_accepts_none old.journal.position safe.calls i ++ broken_accepts_none old.journal.position behind i)) ∙ append-nil (accepted_of before)
+
+      at_before : folded start old.line.history ≡ folded start before
+      at_before = ap (fold length start) fewer
+
+      left_earlier : (image : List ℕ) → Stands image (state_reached old) ⊎ Stands image safe.target → IsLeftIn start earlier new.line.history image
+      left_earlier image stands = record {
+        before = before;
+        round = broke;
+        rest = since ++ rest;
+        whole = grown ∙ ap (λ l. l ++ rest) whole ∙ append_assoc before (broke ++ since) rest ∙ ap (λ l. before ++ l) (append_assoc broke since rest);
+        holds = (holds.0, sym fewer ∙ holds.1);
+        stands = ⊎_elim (λ held. inl (subst (Stands image) (same ∙ at_before) held)) (λ held. inr (
+          safe.target,
+          record {
+            given = safe.given;
+            served = subst (λ (y : List Call × State (List ℕ)). AreServed y.0 safe.given y.1 safe.target)
+                (λ i. (sym (calls_in_zip safe.calls (refusals Unsure old.journal.position safe.calls) (length-map safe.calls (refusal_of Unsure old.journal.position))) i, (same ∙ at_before) i)) safe.served;
+            answered = inr (all_unsure old.journal.position safe.calls);
+          },
+          held,
+        )) stands;
       }
+
+    pub left_in : (rest : List Entry) → new.line.history ≡ old.line.history ++ rest → (image : List ℕ) → Stands image (state_reached old) ⊎ Stands image safe.target
+        → IsLeftIn start earlier new.line.history image
+    left_in rest grown image stands =
+        ⊎_elim (λ now. left_now now.1 now.2 now.3 (answered_now new.journal.broken refl now.1 now.2 now.4) image stands)
+        (λ broken. left_earlier rest grown broken.1 broken.2 broken.3 image stands) safe.doubtful
 
   -- all that holds at an exit
   pub one_history : (f : FlusherState D) → IsFlushing state f → IsOneHistory state f
@@ -112,7 +180,7 @@ module _ {D : Type 0} (state : D → DiskState) (consistent : (disk : D) → (st
         told = is.responding.told;
         kept = λ honest sound image left.
             let safe = is.safe honest sound in
-            holds_answered f f safe bytes image (at_exit (λ c. Stands c (state_reached f) ⊎ Stands c safe.target) safe.leaves (consistent f.journal.disk honest) image left);
+            left_in f f safe bytes bytes (λ whole. is.running whole ∙ all.0) f.line.history ([], sym (append-nil (accepted_of f.line.history))) [] (sym (append-nil f.line.history)) image (at_exit (λ c. Stands c (state_reached f) ⊎ Stands c safe.target) safe.leaves (consistent f.journal.disk honest) image left);
       }
 
   module _ (old : FlusherState D) (kept : IsFlushing state old) where
@@ -140,13 +208,18 @@ module _ {D : Type 0} (state : D → DiskState) (consistent : (disk : D) → (st
           (ap (λ (j : JournalState D). j.broken) same ∙ broke) (⊎_elim (λ was. absurd (false≢true (sym was.0 ∙ broke))) (λ was. inr was) safe.doubtful)
 
       -- and of one that was not
+      unsure_by : IsRound state old.journal journal calls given → old.journal.broken ≡ false → journal.broken ≡ true → zip calls given ≡ zip calls (refusals Unsure old.journal.position calls)
+      unsure_by (inl was) whole broke = absurd (false≢true (sym whole ∙ was.0))
+      unsure_by (inr (inl went)) whole broke = absurd (false≢true (sym went.1.broken ∙ broke))
+      unsure_by (inr (inr breaks)) whole broke = ap (zip calls) breaks.1.unsure
+
       in_round : (state old.journal.disk).honest → old.journal.broken ≡ false → IsCrashSafe state old next
       in_round honest whole =
           let safe = now.any_moment honest whole in
           let same : old.journal.state ≡ state_reached old = kept.running whole in
           record {
             calls = calls;
-            doubtful = inl (whole, more);
+            doubtful = inl (whole, zip calls given, refl, calls_in_zip calls given on.count, λ broke. unsure_by now.round whole broke);
             given = safe.given;
             target = safe.target;
             served = subst (λ s. AreServed calls safe.given s safe.target) same safe.served;
@@ -222,12 +295,43 @@ pub record HasGone {D : Type 0} (state : D → DiskState) (old new : FlusherStat
   pub grew : GrewInRound state old new
   pub safe : (state old.journal.disk).honest → old.first.broken ≡ false → IsCrashSafe state old new
 
+-- whether it is over changes nothing else
+over_safe : {D : Type 0} (state : D → DiskState) (p q : Bool) {a b : FlusherState D} → IsCrashSafe state a b → IsCrashSafe state (record a { over = p }) (record b { over = q })
+over_safe state p q safe = record {
+  calls = safe.calls;
+  doubtful = safe.doubtful;
+  given = safe.given;
+  target = safe.target;
+  served = safe.served;
+  leaves = safe.leaves;
+  running = safe.running;
+}
+
+pub over_flushing : {D : Type 0} (state : D → DiskState) (p : Bool) {f : FlusherState D} → IsFlushing state f → IsFlushing state (record f { over = p })
+over_flushing state p is = record {
+  responding = is.responding;
+  start = is.start;
+  as_given = is.as_given;
+  answered = is.answered;
+  legal = is.legal;
+  position_is = is.position_is;
+  running = is.running;
+  unharmed = is.unharmed;
+  still = is.still;
+  later = is.later;
+  safe = λ honest sound. over_safe state p p (is.safe honest sound);
+}
+
 module _ {D : Type 0} (state : D → DiskState) (consistent : (disk : D) → (state disk).honest → Consistent (state disk)) {old : FlusherState D} (kept : IsFlushing state old) where
   -- without a round
-  pub stayed : {line : Responding} {left : Option BatchView} → old.kept ≡ None → left ≡ None → line ≡ old.line → HasGone state old (record old { kept = left; line = line })
-  stayed {line} {left} none none_left same =
-      subst (λ (y : Option BatchView × Responding). HasGone state old (record old { kept = y.0; line = y.1 })) (λ i. ((none ∙ sym none_left) i, sym same i))
-      (record { flushing = kept; history = one_history state consistent old kept; grew = record { added = []; history = sym (append-nil old.line.history); truthful = tt }; safe = kept.safe })
+  pub stayed : {line : Responding} {left : Option BatchView} (over : Bool) → old.kept ≡ None → left ≡ None → line ≡ old.line → HasGone state old (record old { kept = left; line = line; over = over })
+  stayed {line} {left} over none none_left same =
+      subst (λ (y : Option BatchView × Responding). HasGone state old (record old { kept = y.0; line = y.1; over = over })) (λ i. ((none ∙ sym none_left) i, sym same i)) (record {
+        flushing = over_flushing state over kept;
+        history = one_history state consistent (record old { over = over }) (over_flushing state over kept);
+        grew = record { added = []; history = sym (append-nil old.line.history); truthful = tt };
+        safe = λ honest sound. over_safe state old.over over (kept.safe honest sound);
+      })
 
   module _ {collected : Responding} {left : Option BatchView} {calls said : List Call} {given : List Answer} {journal : JournalState D} (taken : AreCollected old.line collected old.kept left calls) (same : said ≡ calls)
       (now : IsRounded state old.journal journal calls given) where
@@ -251,12 +355,12 @@ module _ {D : Type 0} (state : D → DiskState) (consistent : (disk : D) → (st
 
     -- once all were told
     pub went_on : {line : Responding} → line ≡ record collected { history = collected.history ++ zip said given; lines = line.lines } → IsResponding line
-        → HasGone state old (record { first = old.first; journal = journal; kept = left; line = line })
+        → HasGone state old (record { first = old.first; journal = journal; kept = left; line = line; over = old.over })
     went_on {line} told responding =
         let next : FlusherState D = next_of old journal left line.lines taken.came calls given in
         let is : line ≡ next.line = told ∙ ap (λ (y : Responding × List Call). record y.0 { history = y.0.history ++ zip y.1 given; lines = line.lines }) (λ i. (taken.line i, same i)) in
         let flushing = kept_next state consistent old kept journal left line.lines taken.came calls given now taken.in_turn (subst IsResponding is responding) in
-        subst (λ (l : Responding). HasGone state old (record { first = old.first; journal = journal; kept = left; line = l })) (sym is) (record {
+        subst (λ (l : Responding). HasGone state old (record { first = old.first; journal = journal; kept = left; line = l; over = old.over })) (sym is) (record {
           flushing = flushing;
           history = one_history state consistent next flushing;
           grew = grew state consistent old kept journal left line.lines taken.came calls given now;
@@ -265,7 +369,7 @@ module _ {D : Type 0} (state : D → DiskState) (consistent : (disk : D) → (st
 
     -- which was one round
     pub one_round : {line : Responding} → line ≡ record collected { history = collected.history ++ zip said given; lines = line.lines } → IsIn 1 64 (length calls)
-        → IsOneRound state old (record { first = old.first; journal = journal; kept = left; line = line })
+        → IsOneRound state old (record { first = old.first; journal = journal; kept = left; line = line; over = old.over })
     one_round {line} told count = record {
       calls = calls;
       given = given;
@@ -280,11 +384,11 @@ pub at_first : {D : Type 0} (state : D → DiskState) (consistent : (disk : D) �
     → line ≡ record { of = of; taken = []; start = answered_state journal; history = []; lines = lines } → IsResponding line
     → (journal.broken ≡ false → journal.position ≡ journal.state.seq)
     → ((state journal.disk).honest → journal.broken ≡ false → Settled (state journal.disk) × Stands (state journal.disk).seen journal.state)
-    → IsFlushing state (record { first = journal; journal = journal; kept = None; line = line })
+    → IsFlushing state (record { first = journal; journal = journal; kept = None; line = line; over = false })
 at_first {D} state consistent journal of line lines is responding counted durable =
     let same : journal.broken ≡ false → answered_state journal ≡ journal.state = λ whole. ap (λ n. record journal.state { seq = n }) (counted whole) in
     let at : Responding = record { of = of; taken = []; start = answered_state journal; history = []; lines = lines } in
-    subst (λ (l : Responding). IsFlushing state (record { first = journal; journal = journal; kept = None; line = l })) (sym is)
+    subst (λ (l : Responding). IsFlushing state (record { first = journal; journal = journal; kept = None; line = l; over = false })) (sym is)
     (record {
       responding = subst IsResponding is responding;
       start = refl;
@@ -296,5 +400,5 @@ at_first {D} state consistent journal of line lines is responding counted durabl
       unharmed = λ _. refl;
       still = λ _. refl;
       later = record { size = refl; honest = (λ h. h, λ h. h); calls = omega arith; failures = omega arith; syncs = omega arith; failed_reads = omega arith };
-      safe = λ honest whole. at_rest state consistent (record { first = journal; journal = journal; kept = None; line = at }) (sym (same whole)) whole (durable honest whole);
+      safe = λ honest whole. at_rest state consistent (record { first = journal; journal = journal; kept = None; line = at; over = false }) (sym (same whole)) whole (durable honest whole);
     })

@@ -1,5 +1,5 @@
 -- Answers that refuse all calls, and those of a served round, after a history.
-use Rattle.std.proofs.Common.{ℕ, ◌≡◌, ◌≤◌, ◌++◌, ◌∷◌, [], List, Bool, true, false, true≢false, cond, length, refl, sym, ap, subst, ◌∙◌, arith}
+use Rattle.std.proofs.Common.{ℕ, ◌≡◌, ◌≤◌, ◌++◌, ◌∷◌, [], List, Bool, true, false, true≢false, cond, length, refl, sym, ap, subst, ◌∙◌, arith, append_assoc}
 use Rattle.std.specs.List.{AllByRecursion, zip}
 use Rattle.std.proofs.lemmas.List.{map-append}
 use Rattle.std.proofs.lemmas.Slice.Zip.{firsts-zip}
@@ -10,7 +10,10 @@ use Rattle.rly_machine.specs.declared.call.Call.{Call}
 use Rattle.rly_machine.specs.declared.reply.Reply.{Reply}
 use Rattle.rly_machine.specs.declared.reply.Reply.TheVariants.{Refused}
 use Rattle.rly_machine.specs.Ask.{ask_step}
-use Rattle.rly_machine.specs.History.{Entry, IsAnswered, LegalBy, harm, harm_after, is_failure, next_state, state_after, without_bytes}
+use Rattle.rly_machine.specs.History.{Entry, IsAnswered, accepted_by, accepted_of, LegalBy, harm, harm_after, is_failure, next_state, state_after, without_bytes}
+use Rattle.rly_machine.specs.declared.command.Ask.{Ask}
+use Rattle.rly_machine.specs.declared.command.Ask.TheVariants as asked
+use Rattle.rly_machine.specs.declared.command.Command.{Command}
 use Rattle.rly_machine.specs.State.{State}
 use Rattle.rly_machine.proofs.Histories.{folds}
 use Rattle.rly_machine.proofs.RealReplies.{harmless}
@@ -136,3 +139,31 @@ up_to most harmed s (x ∷ xs) legal low =
 pub all_front : (P : Entry → Type 0) (xs ys : List Entry) → AllByRecursion P (xs ++ ys) → AllByRecursion P xs
 all_front P [] ys all = tt
 all_front P (x ∷ xs) ys all = (all.0, all_front P xs ys all.1)
+
+-- the accepted commands of a history that goes on
+pub accepted_append : (xs ys : List Entry) → accepted_of (xs ++ ys) ≡ accepted_of xs ++ accepted_of ys
+accepted_append [] ys = refl
+accepted_append (x ∷ xs) ys =
+    ap (λ l. accepted_by x.0.ask x.1.reply ++ l) (accepted_append xs ys) ∙ sym (append_assoc (accepted_by x.0.ask x.1.reply) (accepted_of xs) (accepted_of ys))
+
+-- none of a refused call
+none_unsure : (ask : Ask) → accepted_by ask (Refused Unsure) ≡ []
+none_unsure (asked.Command command) = refl
+none_unsure (asked.Query query) = refl
+
+none_broken : (ask : Ask) → accepted_by ask (Refused Broken) ≡ []
+none_broken (asked.Command command) = refl
+none_broken (asked.Query query) = refl
+
+pub accepts_none : (refusal : Refusal) (p : ℕ) → ((ask : Ask) → accepted_by ask (Refused refusal) ≡ []) → (calls : List Call) → accepted_of (zip calls (refusals refusal p calls)) ≡ []
+accepts_none refusal p none [] = refl
+accepts_none refusal p none (call ∷ calls) = (λ i. none call.ask i ++ accepts_none refusal p none calls i)
+
+pub unsure_accepts_none : (p : ℕ) (calls : List Call) → accepted_of (zip calls (refusals Unsure p calls)) ≡ []
+unsure_accepts_none p calls = accepts_none Unsure p none_unsure calls
+
+pub broken_accepts_none : (p : ℕ) (calls : List Call) → accepted_of (zip calls (refusals Broken p calls)) ≡ []
+broken_accepts_none p calls = accepts_none Broken p none_broken calls
+
+pub all_unsure : (p : ℕ) (calls : List Call) → AllByRecursion (λ (entry : Entry). entry.1.reply ≡ Refused Unsure) (zip calls (refusals Unsure p calls))
+all_unsure p calls = all_refused (λ (entry : Entry). entry.1.reply ≡ Refused Unsure) Unsure p (λ call. refl) calls

@@ -1,12 +1,13 @@
 -- The flusher: one history of all calls that it took, what the journal stands at, and what a crash leaves.
 use Rattle.std.specs.Prelude.{ℕ, ◌≡◌, ◌<◌, ◌≤◌, ◌⊎◌, ◌+◌, List, [], ◌++◌, length}
-use Rattle.std.specs.Prelude.{Option, None, Some, IfSome, true, false}
+use Rattle.std.specs.Prelude.{Bool, Option, None, Some, IfSome, true, false}
 use Rattle.std.specs.List.{AllByRecursion, zip}
 use Rattle.rly_core.specs.Bounds.{IsIn}
 use Rattle.rly_core.specs.declared.refusal.Refusal.TheVariants.{Broken, DeviceRead, Unsure}
 use Rattle.rly_disk.specs.DiskModel.{DiskState, Later, LeavesOnly, HasFailed}
 use Rattle.rly_machine.specs.declared.call.Answer.{Answer}
 use Rattle.rly_machine.specs.declared.call.Call.{Call}
+use Rattle.rly_machine.specs.declared.command.Command.{Command}
 use Rattle.rly_machine.specs.declared.reply.Reply.TheVariants.{Refused}
 use Rattle.rly_machine.specs.Fold.{AllAccepted, fold}
 use Rattle.rly_machine.specs.History.{Entry, Legal, LegalButForBytes, accepted_of, state_after}
@@ -19,12 +20,14 @@ use Rattle.rly_line.specs.EndViews.{EndView}
 use Rattle.rly_line.specs.Responding.{AreTold, Responding, calls_in}
 
 -- what contracts see of a flusher: the journal that it was given, that journal now, the batch that it keeps for its
--- next round, if one did not fit into the last, and what became of the calls
+-- next round, if one did not fit into the last, what became of the calls, and whether a round found that no batch was
+-- left and no seat
 pub record FlusherState (D : Type 0) : Type 0 where
   pub first : JournalState D
   pub journal : JournalState D
   pub kept : Option BatchView
   pub line : Responding
+  pub over : Bool
 
 -- the calls of the batch that is kept
 abbrev pub kept_calls : Option BatchView → List Call
@@ -43,6 +46,7 @@ new_flusher given end = record {
   journal = given;
   kept = None;
   line = record { of = end.of; taken = []; start = answered_state given; history = []; lines = end.lines };
+  over = false;
 }
 
 -- the state that the history led to
@@ -96,11 +100,12 @@ GrewInRounds state old new =
     ((old.journal.broken ≡ true) ⊎ HasFailed (state old.journal.disk) (state new.journal.disk))
     old.line.history new.line.history
 
--- the round whose commands may stand or not: that of these calls, which were answered now; where the journal was broken
--- before, the one that broke it
+-- the round whose commands may stand or not: that of these calls, which were answered now, and refused where the journal
+-- broke in it; where the journal was broken before, the one that broke it
 abbrev pub IsDoubtful : {D : Type 0} → FlusherState D → FlusherState D → List Call → Type 0
 IsDoubtful old new calls =
-    ((old.journal.broken ≡ false) × (calls_in new.line.history ≡ calls_in old.line.history ++ calls))
+    ((old.journal.broken ≡ false) × (round : List Entry) × (new.line.history ≡ old.line.history ++ round)
+    × (calls_in round ≡ calls) × (new.journal.broken ≡ true → round ≡ zip calls (refusals Unsure old.journal.position calls)))
     ⊎ ((old.journal.broken ≡ true) × (before : List Entry) × (behind : List Call)
     × (old.line.history ≡ before ++ entries_since old.journal.position calls behind))
 
@@ -116,15 +121,31 @@ pub record IsCrashSafe {D : Type 0} (state : D → DiskState) (old new : Flusher
       (λ image. Stands image (state_reached old) ⊎ Stands image target)
   pub running : new.journal.broken ≡ false → target ≡ new.journal.state
 
--- an image holds all that was answered: it stands for a state that no answer's position is above
-pub record HoldsAnswered (history : List Entry) (image : List ℕ) : Type 0 where
-  pub s : State (List ℕ)
-  pub stands : Stands image s
-  pub answered : AllByRecursion (λ entry. entry.1.position ≤ s.seq) history
+-- the state that the accepted commands of a history lead to
+abbrev pub folded : State (List ℕ) → List Entry → State (List ℕ)
+folded start history = fold length start (accepted_of history)
 
--- a crash now leaves all that was answered
-abbrev pub KeepsAnswered : DiskState → List Entry → Type 0
-KeepsAnswered disk history = (image : List ℕ) → disk.images image → HoldsAnswered history image
+-- the state after a round that was being written: that of its commands which the machine accepts after the history
+-- before it. It was answered so, or its calls were refused, each as unsure, since the journal broke in it
+pub record IsWritten (start : State (List ℕ)) (before round : List Entry) (s : State (List ℕ)) : Type 0 where
+  pub given : List Answer
+  pub served : AreServed (calls_in round) given (folded start before) s
+  pub answered : (s ≡ folded start (before ++ round)) ⊎ AllByRecursion (λ entry. entry.1.reply ≡ Refused Unsure) round
+
+-- An image was left in a round of a history: it stands for a prefix of the accepted commands, all those of the history
+-- before that round, with or without those of the round. So it holds each command that was accepted earlier
+pub record IsLeftIn (start : State (List ℕ)) (earlier history : List Entry) (image : List ℕ) : Type 0 where
+  pub before : List Entry
+  pub round : List Entry
+  pub rest : List Entry
+  pub whole : history ≡ before ++ (round ++ rest)
+  pub holds : (more : List (Command (List ℕ))) × (accepted_of before ≡ accepted_of earlier ++ more)
+  pub stands : Stands image (folded start before)
+      ⊎ ((s : State (List ℕ)) × IsWritten start before round s × Stands image s)
+
+-- a crash now leaves all that was accepted
+abbrev pub KeepsAccepted : DiskState → State (List ℕ) → List Entry → Type 0
+KeepsAccepted disk start history = (image : List ℕ) → disk.images image → IsLeftIn start history history image
 
 -- what holds at each exit: there is one history of the calls that were taken
 pub record IsOneHistory {D : Type 0} (state : D → DiskState) (f : FlusherState D) : Type 0 where
@@ -144,9 +165,9 @@ pub record IsOneHistory {D : Type 0} (state : D → DiskState) (f : FlusherState
   pub later : Later (state f.first.disk) (state f.journal.disk)
   -- each line was told that start and a prefix of it, with all calls of its seat, unless the seat is gone
   pub told : AreTold f.line.start f.line.history f.line.lines
-  -- a crash now leaves all that was answered
+  -- a crash now leaves all that was answered as accepted
   pub kept : (state f.journal.disk).honest → f.first.broken ≡ false
-      → KeepsAnswered (state f.journal.disk) f.line.history
+      → KeepsAccepted (state f.journal.disk) f.line.start f.line.history
 
 -- what rounds made of a flusher
 pub record IsContinued {D : Type 0} (state : D → DiskState) (old new : FlusherState D) : Type 0 where
@@ -158,11 +179,14 @@ pub record IsContinued {D : Type 0} (state : D → DiskState) (old new : Flusher
   pub broke : new.journal.broken ≡ true
       → (old.journal.broken ≡ true) ⊎ HasFailed (state old.journal.disk) (state new.journal.disk)
   pub later : Later (state old.journal.disk) (state new.journal.disk)
-  -- a crash at any moment of them leaves all that was answered before
+  -- a crash at any moment of them was in one of the rounds of the history. It leaves a prefix of the accepted commands:
+  -- all those before that round, with or without those of the round
   pub any_moment : (state old.journal.disk).honest → old.first.broken ≡ false
-      → LeavesOnly (state old.journal.disk) (state new.journal.disk) (HoldsAnswered old.line.history)
+      → LeavesOnly (state old.journal.disk) (state new.journal.disk)
+      (IsLeftIn old.line.start old.line.history new.line.history)
 
--- rounds were made until all seats were gone, and left this journal, with no batch kept
-abbrev pub IsServed : {D : Type 0} → (D → DiskState) → FlusherState D → JournalState D → Type 0
-IsServed {D} state old left =
-    (last : FlusherState D) × (last.journal ≡ left) × (last.kept ≡ None) × IsContinued state old last
+-- rounds were made until no batch was left and no seat, or until the journal was broken, and no batch is kept
+pub record IsServed {D : Type 0} (state : D → DiskState) (old last : FlusherState D) : Type 0 where
+  pub rounds : IsContinued state old last
+  pub none_kept : last.kept ≡ None
+  pub ended : (last.over ≡ true) ⊎ (last.journal.broken ≡ true)

@@ -1,4 +1,4 @@
-ghost use Rattle.std.specs.Prelude.{◌≡◌, ◌≤◌, ℕ, [], None, false, length, map, vec_capacity, IfErr, IfOk, MatchBool};
+ghost use Rattle.std.specs.Prelude.{◌≡◌, ◌≤◌, ◌↔◌, ℕ, [], None, false, true, length, map, vec_capacity, IfErr, IfOk, MatchBool};
 ghost use Rattle.std.specs.List.{range_with_len};
 ghost use Rattle.rly_core.specs.Bounds.{IsIn};
 ghost use Rattle.rly_disk.specs.DiskModel.{Later};
@@ -20,7 +20,8 @@ use std::snapshot::Snapshot;
 use std::sync::Wait;
 
 /// The one thread that owns the journal, at the end of all seats' lines. Contracts see the journal that it was given,
-/// that journal now, the batch that is kept for the next round, and what became of the calls.
+/// that journal now, the batch that is kept for the next round, what became of the calls, and whether a round found that
+/// no batch was left and no seat.
 #[derive(Drop)]
 pub struct Flusher<D: Disk> {
     alloc: Global,
@@ -29,6 +30,7 @@ pub struct Flusher<D: Disk> {
     line: Responder<OwnedJournal<D>>,
     kept: Option<Batch>,
     lists: Lists,
+    is_over: bool,
 }
 
 impl<D: Disk> Model for Flusher<D> {
@@ -37,18 +39,20 @@ impl<D: Disk> Model for Flusher<D> {
 
     ghost Value = { FlusherState D };
 
-    ghost view = { λ f. record { first = f.first.value.journal; journal = f.owned.journal; kept = f.kept; line = f.line } };
+    ghost view = { λ f. record { first = f.first.value.journal; journal = f.owned.journal; kept = f.kept; line = f.line; over = f.is_over } };
 
-    ghost invariant = { λ f. IsFlushing D.state (record { first = f.first.value.journal; journal = f.owned.journal; kept = f.kept; line = f.line })
+    ghost invariant = { λ f. IsFlushing D.state (record { first = f.first.value.journal; journal = f.owned.journal; kept = f.kept; line = f.line; over = f.is_over })
         × IsReady f.lists };
 }
 
-/// What a flusher leaves once all seats are gone.
+/// What a flusher leaves once it has ended.
 #[derive(Drop)]
 pub struct Finished<D: Disk> {
     /// Whether a write or a sync failed: the journal refuses every call until the device is opened again.
     pub broken: bool,
     pub journal: Journal<D>,
+    /// The flusher at its end, for proofs: its history, and the journal that was given. It takes no room.
+    pub last: Snapshot<Flusher<D>>,
 }
 
 impl<D: Disk> Flusher<D> {
@@ -79,16 +83,20 @@ impl<D: Disk> Flusher<D> {
             line,
             kept: None,
             lists,
+            is_over: false,
         })
     }
 
     /// Takes the batch that was kept, or else waits for one, takes more while there are any and they hold at most 64
     /// calls together, makes one round of the journal for them, and answers each batch in its seat's line. The batch
-    /// that did not fit is kept for the next round. False: no batch was left, and no seat.
+    /// that did not fit is kept for the next round. On a broken journal it takes no more than one. False: no batch was
+    /// left, and no seat.
     pub fn round<R: Wait>(&mut self, rt: &R) -> bool
         // It answers true exactly where it made one round of the journal, for the batch that was kept and those it took.
-        ensures took { MatchBool result (IsOneRound D.state self.old self.new) (self.new ≡ self.old) }
+        ensures took { MatchBool result (IsOneRound D.state self.old self.new) (self.new ≡ record self.old { over = true }) }
         ensures none_kept { result ≡ false → self.old.kept ≡ None }
+        // Where the journal was broken it takes one batch alone, and keeps none.
+        ensures alone { self.old.journal.broken ≡ true → self.new.kept ≡ None }
         ensures first { self.new.first ≡ self.old.first }
         ensures of { self.new.line.of ≡ self.old.line.of }
         ensures start { self.new.line.start ≡ self.old.line.start }
@@ -98,7 +106,9 @@ impl<D: Disk> Flusher<D> {
         ensures any_moment { (D.state self.old.journal.disk).honest → self.old.first.broken ≡ false → IsCrashSafe D.state self.old self.new }
         ensures later { Later (D.state self.old.journal.disk) (D.state self.new.journal.disk) }
     {
-        if !collect(rt, &mut self.line, &mut self.kept, &mut self.lists) {
+        let alone = self.owned.journal.is_broken();
+        if !collect(rt, &mut self.line, &mut self.kept, &mut self.lists, alone) {
+            self.is_over = true;
             return false;
         }
         commit(
@@ -117,19 +127,28 @@ impl<D: Disk> Flusher<D> {
         true
     }
 
-    /// Makes rounds until all seats are gone, and gives the journal back.
+    /// Makes rounds until all seats are gone, or until the journal is broken and each batch that was taken is answered, and
+    /// gives the journal back. What is left in the line is Lost to its seat, and each later call is Closed.
     pub fn serve<R: Wait>(self, rt: &R) -> Finished<D>
         ensures broken { result.broken ≡ result.journal.broken }
-        ensures ends { IsServed D.state self result.journal }
+        ensures journal { result.last.value.journal ≡ result.journal }
+        ensures ends { IsServed D.state self result.last.value }
     {
         let mut flusher = self;
         flusher.law_history();
         for _count in rt.forever() {
-            if !flusher.round(rt) {
+            if !flusher.round(rt) || flusher.has_ended() {
                 break;
             }
         }
         flusher.into_finished()
+    }
+
+    /// Whether the journal is broken and no batch is left to be answered.
+    fn has_ended(&self) -> bool
+        ensures { (result ≡ true) ↔ ((self.now.journal.broken ≡ true) × (self.now.kept ≡ None)) }
+    {
+        self.owned.journal.is_broken() && self.kept.is_none()
     }
 
     /// What is true of every flusher at each moment.
@@ -153,7 +172,9 @@ impl<D: Disk> Flusher<D> {
     fn into_finished(self) -> Finished<D>
         ensures broken { result.broken ≡ result.journal.broken }
         ensures journal { result.journal ≡ self.journal }
+        ensures last { result.last.value ≡ self }
     {
+        let last = Snapshot::of(&self);
         let Flusher {
             alloc: _alloc,
             first: _first,
@@ -161,11 +182,13 @@ impl<D: Disk> Flusher<D> {
             line: _line,
             kept: _kept,
             lists: _lists,
+            is_over: _is_over,
         } = self;
         let OwnedJournal { journal } = owned;
         Finished {
             broken: journal.is_broken(),
             journal,
+            last,
         }
     }
 }

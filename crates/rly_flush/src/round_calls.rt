@@ -1,6 +1,6 @@
 //! The batches of one round, and their answers.
 
-ghost use Rattle.std.specs.Prelude.{◌≡◌, ◌+◌, ◌<◌, ◌≤◌, ◌++◌, ◌∷◌, [], List, None, false, length, map, vec_capacity, IfNone, IfOk, IfSome, MatchBool};
+ghost use Rattle.std.specs.Prelude.{◌≡◌, ◌+◌, ◌<◌, ◌≤◌, ◌++◌, ◌∷◌, [], List, None, false, true, length, map, vec_capacity, IfNone, IfOk, IfSome, MatchBool};
 ghost use Rattle.std.specs.List.{zip};
 ghost use Rattle.rly_core.specs.Bounds.{IsIn};
 ghost use Rattle.rly_machine.specs.declared.call.Call.{Call as ACall};
@@ -92,17 +92,19 @@ fn first_batch<T: Standing, R: Wait>(
 
 /// Collects the batches of a round: the one that was kept or else the next of the line, which it waits for, and more
 /// while there are any and they hold at most 64 calls together. The one that doesn't fit is kept. False: no batch was
-/// left, and no seat.
+/// left, and no seat. A round that is to be of one batch alone takes no other.
 pub(crate) fn collect<T: Standing, R: Wait>(
     rt: &R,
     line: &mut Responder<T>,
     kept: &mut Option<Batch>,
     lists: &mut Lists,
+    alone: bool,
 ) -> bool
     requires holds { IsResponding line.old }
     requires ready { IsReady lists.old }
     ensures stayed { result ≡ false → (kept.old ≡ None) × (kept.new ≡ None) × (line.new ≡ line.old) × (lists.new ≡ lists.old) }
     ensures collected { AreCollected line.old line.new kept.old kept.new lists.new.calls.items }
+    ensures alone { alone ≡ true → kept.new ≡ None }
     ensures said { calls_said lists.new.said.items ≡ lists.new.calls.items }
     ensures wanted { lists.new.wanted.items ≡ answers_said lists.new.said.items }
     ensures count { MatchBool result (IsIn 1 64 (length lists.new.calls.items)) (lists.new.calls.items ≡ []) }
@@ -115,6 +117,9 @@ pub(crate) fn collect<T: Standing, R: Wait>(
     };
     let _count = first.len();
     lists.add(first);
+    if alone {
+        return true;
+    }
     for _count in 1..MAX_CALLS {
         let Some(batch) = line.more(rt) else {
             break;

@@ -64,3 +64,12 @@ pub returns-then-len-gt-MAX_CALLS-clause-collected :
 returns-then-len-gt-MAX_CALLS-clause-collected g c =
     collected_kept c.in-Some-more.batch c.loop-count.invariant.collected c.in-Some-more.ensures.taken
     (omega (arith, c.len-in-loop-count.ensures.count, c.len.ensures, c.if-len-gt-MAX_CALLS.true))
+
+-- a round of one batch
+pub returns-then-alone-clause-count : goal.returns-then-alone-clause-count
+returns-then-alone-clause-count g c =
+    let calls = c.add.ensures.calls ∙ ap (λ l. l ++ calls_in_batch c.in-Some.first) c.requires.ready.calls_empty in
+    let many = length_batch c.in-Some.first in (
+      omega (arith, ap length calls, many, c.len-count.ensures.count, c.len-count.ensures.some.0),
+      omega (arith, ap length calls, many, c.len-count.ensures.count, c.len-count.ensures.some.1),
+    )

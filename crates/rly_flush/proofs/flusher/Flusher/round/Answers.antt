@@ -1,12 +1,20 @@
-use Rattle.std.proofs.Common.{◌≡◌, false, arith, refl, subst}
+use Rattle.std.proofs.Common.{◌≡◌, false, true, arith, refl, subst, sym}
 use Rattle.rly_flush.specs.Flushing.{FlusherState, GrewInRound, IsCrashSafe}
+use Rattle.rly_flush.specs.HelpersFlushing.{IsReady}
 use Rattle.rly_flush.proofs.Crashing.{may_tell, stayed, went_on}
 use Rattle.rly_flush.proofs.flusher.Flusher.round.Goals as goal
 
 pub returns-then-not-collect-clause-history : goal.returns-then-not-collect-clause-history
 returns-then-not-collect-clause-history g c =
     let same = c.if-not-collect.ensures.stayed refl in
-    (stayed g.D.Disk.state g.met.D.Disk.consistent c.self.invariant.0 same.0 same.1 same.2).history
+    (stayed g.D.Disk.state g.met.D.Disk.consistent c.self.invariant.0 true same.0 same.1 same.2).history
+
+pub invariant_of-self : goal.invariant_of-self
+invariant_of-self g c =
+    let same = c.if-not-collect.ensures.stayed refl in (
+      (stayed g.D.Disk.state g.met.D.Disk.consistent c.self.invariant.0 true same.0 same.1 same.2).flushing,
+      subst IsReady (sym same.3) c.self.invariant.1,
+    )
 
 pub answer_all-requires-clause-legal : goal.answer_all-requires-clause-legal
 answer_all-requires-clause-legal g c =
@@ -35,11 +43,11 @@ returns-clause-history g c =
 
 pub returns-clause-failures : goal.returns-clause-failures
 returns-clause-failures g c =
-    subst (λ (f : FlusherState g.row.D.Denot). GrewInRound g.D.Disk.state f (record { first = c.self.inside.first.value.journal; journal = c.commit.new.journal; kept = c.collect.new.kept; line = c.answer_all.new.line })) c.self.view_is
+    subst (λ (f : FlusherState g.row.D.Denot). GrewInRound g.D.Disk.state f (record { first = c.self.inside.first.value.journal; journal = c.commit.new.journal; kept = c.collect.new.kept; line = c.answer_all.new.line; over = c.self.inside.is_over })) c.self.view_is
     (went_on g.D.Disk.state g.met.D.Disk.consistent c.self.invariant.0 c.collect.ensures.collected c.collect.ensures.said c.commit.ensures.round c.answer_all.ensures.line c.answer_all.ensures.holds).grew
 
 pub returns-clause-any_moment : goal.returns-clause-any_moment
 returns-clause-any_moment g c =
     subst (λ (f : FlusherState g.row.D.Denot). (g.D.Disk.state f.journal.disk).honest → f.first.broken ≡ false
-    → IsCrashSafe g.D.Disk.state f (record { first = c.self.inside.first.value.journal; journal = c.commit.new.journal; kept = c.collect.new.kept; line = c.answer_all.new.line })) c.self.view_is
+    → IsCrashSafe g.D.Disk.state f (record { first = c.self.inside.first.value.journal; journal = c.commit.new.journal; kept = c.collect.new.kept; line = c.answer_all.new.line; over = c.self.inside.is_over })) c.self.view_is
     (went_on g.D.Disk.state g.met.D.Disk.consistent c.self.invariant.0 c.collect.ensures.collected c.collect.ensures.said c.commit.ensures.round c.answer_all.ensures.line c.answer_all.ensures.holds).safe

@@ -1,9 +1,9 @@
-use Rattle.std.proofs.Common.{Option, ◌∙◌, ap, refl, subst, sym}
+use Rattle.std.proofs.Common.{Bool, Option, inl, inr, ◌∙◌, ap, refl, subst, sym}
 use Rattle.std.proofs.lemmas.Bool.{false≢true}
 use Rattle.rly_line.specs.Batches.{BatchView}
-use Rattle.rly_flush.specs.Flushing.{FlusherState, IsContinued}
+use Rattle.rly_flush.specs.Flushing.{FlusherState, IsContinued, IsServed}
 use Rattle.rly_flush.proofs.Serving.{continued_first, continued_next}
-use Rattle.rly_flush.proofs.flusher.Flusher.serve.Goals.{in-None, in-Some+then-not-round}
+use Rattle.rly_flush.proofs.flusher.Flusher.serve.Goals.{in-None, in-Some+then-not-round, then-not-round-via-then-not-round, then-not-round-via-else-not-round+then-has_ended}
 use Rattle.rly_flush.proofs.flusher.Flusher.serve.Goals as goal
 
 pub loop-count-init : goal.loop-count-init
@@ -15,20 +15,34 @@ loop-count-preserved g c =
     c.round.ensures.took c.round.ensures.first c.round.ensures.start c.round.ensures.history c.round.ensures.failures c.round.ensures.later c.round.ensures.any_moment
 
 pub returns-clause-ends : goal.returns-clause-ends
-returns-clause-ends g c = (
-  c.match-next.flusher,
-  sym c.into_finished.ensures.journal,
-  (elim c.match-next.branch [
-    | in-None w ↦ absurd (false≢true w.in-None.ensures.steps)
-    | in-Some+then-not-round w ↦
-        let kept : FlusherState g.row.D.Denot → Option BatchView = λ f. f.kept in
-        ap kept w.flusher-is ∙ ap kept w.if-not-round.ensures.took ∙ w.if-not-round.ensures.none_kept refl
-  ]),
-  (elim c.match-next.branch [
-    | in-None w ↦ subst (IsContinued g.D.Disk.state c.args.self) (sym w.flusher-is) c.loop-count.invariant
-    | in-Some+then-not-round w ↦
-        subst (IsContinued g.D.Disk.state c.args.self) (sym w.flusher-is)
-        (continued_next g.D.Disk.state g.met.D.Disk.consistent c.args.self c.loop-count.flusher w.round.new.self c.loop-count.invariant w.round.result
-        w.round.ensures.took w.round.ensures.first w.round.ensures.start w.round.ensures.history w.round.ensures.failures w.round.ensures.later w.round.ensures.any_moment)
-  ]),
-)
+returns-clause-ends g c =
+    let kept : FlusherState g.row.D.Denot → Option BatchView = λ f. f.kept in
+    let over : FlusherState g.row.D.Denot → Bool = λ f. f.over in
+    let broken : FlusherState g.row.D.Denot → Bool = λ f. f.journal.broken in
+    subst (IsServed g.D.Disk.state c.args.self) (sym c.into_finished.ensures.last) (record {
+      rounds =
+          (elim c.match-next.branch [
+            | in-None w ↦ absurd (false≢true w.in-None.ensures.steps)
+            | in-Some+then-not-round w ↦
+                subst (IsContinued g.D.Disk.state c.args.self) (sym w.flusher-is)
+                (continued_next g.D.Disk.state g.met.D.Disk.consistent c.args.self c.loop-count.flusher w.round.new.self c.loop-count.invariant w.round.result
+                w.round.ensures.took w.round.ensures.first w.round.ensures.start w.round.ensures.history w.round.ensures.failures w.round.ensures.later w.round.ensures.any_moment)
+          ]);
+      none_kept =
+          (elim c.match-next.branch [
+            | in-None w ↦ absurd (false≢true w.in-None.ensures.steps)
+            | in-Some+then-not-round w ↦
+                ap kept w.flusher-is ∙ (elim w.then-not-round.branch [
+                  | then-not-round-via-then-not-round w' ↦ ap kept w'.if-not-round.ensures.took ∙ w'.if-not-round.ensures.none_kept refl
+                  | then-not-round-via-else-not-round+then-has_ended w' ↦ (w'.if-has_ended.ensures.0 refl).1
+                ])
+          ]);
+      ended =
+          (elim c.match-next.branch [
+            | in-None w ↦ absurd (false≢true w.in-None.ensures.steps)
+            | in-Some+then-not-round w ↦ (elim w.then-not-round.branch [
+              | then-not-round-via-then-not-round w' ↦ inl (ap over w.flusher-is ∙ ap over w'.if-not-round.ensures.took)
+              | then-not-round-via-else-not-round+then-has_ended w' ↦ inr (ap broken w.flusher-is ∙ (w'.if-has_ended.ensures.0 refl).0)
+            ])
+          ]);
+    })
