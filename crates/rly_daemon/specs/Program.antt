@@ -5,7 +5,7 @@ use Rattle.std.specs.Io.KnownBytes.{Appends}
 use Rattle.rly_audit.specs.Report.{balances, books_of, report_of}
 use Rattle.rly_core.specs.Limits.{IsWithinLimits}
 use Rattle.rly_core.specs.declared.params.Geometry.{Geometry}
-use Rattle.rly_flush.specs.Flushing.{IsServed, new_flusher}
+use Rattle.rly_flush.specs.Flushing.{FlusherState, IsServed, new_flusher}
 use Rattle.rly_line.specs.Submission.{LineId}
 use Rattle.rly_plan.specs.ContactPlan.{ContactPlan}
 use Rattle.rly_threads.specs.Relay.{new_end}
@@ -53,11 +53,11 @@ pub record HasFormatted (geometry : Geometry) (force : Bool) (old new : Option (
 pub record HasServed (turns : ℕ) (new : Option (List ℕ)) : Type 0 where
   pub plan : ContactPlan
   pub opened : JournalState FileDisk
-  pub left : JournalState FileDisk
+  pub left : FlusherState FileDisk
   pub room : HasRoom plan opened.state.params
   pub ends : 1 ≤ turns
   pub begun : opened.broken ≡ false
-  pub whole : left.broken ≡ false
+  pub whole : left.journal.broken ≡ false
   pub line : LineId
   pub served : IsServed file_state (new_flusher opened (new_end line (length (workers_of plan)))) left
   pub begins : Option (List ℕ)

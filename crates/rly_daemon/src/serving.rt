@@ -79,7 +79,8 @@ pub fn serve<'a, H: AllocGlobal + Net + Threads + Wait + Clock + Sync, D: Disk +
     // Each worker of the plan did at its post what the plan says of it, as far as its link and its clock tell.
     ensures worked { IfOk result (λ relayed. HasRun plan.now journal.state.params.window turns relayed.ended.items) }
     // The journal is what its flusher's rounds made of it, and not broken.
-    ensures served { IfOk result (λ relayed. (line : LineId) × IsServed D.state (new_flusher journal (new_end line (length (workers_of plan.now)))) relayed.finished.journal) }
+    ensures served { IfOk result (λ relayed. (line : LineId) × IsServed D.state (new_flusher journal (new_end line (length (workers_of plan.now)))) relayed.finished.last.value) }
+    ensures left { IfOk result (λ relayed. relayed.finished.last.value.journal ≡ relayed.finished.journal) }
     ensures whole { IfOk result (λ relayed. relayed.finished.journal.broken ≡ false) }
 {
     check_room(plan, journal.params())?;

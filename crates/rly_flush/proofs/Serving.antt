@@ -53,8 +53,8 @@ module _ {D : Type 0} (state : D → DiskState) (consistent : (disk : D) → (st
     held : (round : IsCrashSafe state b e) (image : List ℕ) → Stands image (state_reached b) ⊎ Stands image round.target → IsLeftIn a.line.start a.line.history e.line.history image
     held round image stands =
         let left = left_in state consistent b e round so_far.history.legal_but_for_bytes (subst (λ s. LegalButForBytes s e.line.history) start history.legal_but_for_bytes)
-            (subst (λ s. e.journal.broken ≡ false → e.journal.state ≡ folded s e.line.history) start history.state_is) a.line.history
-            (accepted_of so_far.grew.added, ap accepted_of so_far.grew.history ∙ accepted_append a.line.history so_far.grew.added) grew.added grew.history image stands in
+        (subst (λ s. e.journal.broken ≡ false → e.journal.state ≡ folded s e.line.history) start history.state_is) a.line.history
+        (accepted_of so_far.grew.added, ap accepted_of so_far.grew.history ∙ accepted_append a.line.history so_far.grew.added) grew.added grew.history image stands in
         subst (λ s. IsLeftIn s a.line.history e.line.history image) so_far.start left
 
     -- an earlier round is one of the longer history

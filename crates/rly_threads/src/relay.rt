@@ -63,7 +63,8 @@ pub fn run_relay<
     requires { (1 ≤ length posts.items) × (length posts.items ≤ 256) }
     ensures broken { IfOk result (λ relayed. relayed.finished.broken ≡ relayed.finished.journal.broken) }
     // What its flusher leaves is what rounds make of the journal, at the end of a new line with a seat for each worker.
-    ensures served { IfOk result (λ relayed. (line : LineId) × IsServed D.state (new_flusher journal (new_end line (length posts.items))) relayed.finished.journal) }
+    ensures served { IfOk result (λ relayed. (line : LineId) × IsServed D.state (new_flusher journal (new_end line (length posts.items))) relayed.finished.last.value) }
+    ensures left { IfOk result (λ relayed. relayed.finished.last.value.journal ≡ relayed.finished.journal) }
     // Each worker did at its post what the plan says of it, with the journal's window.
     ensures worked { IfOk result (λ relayed. relayed.complete ≡ true →
         AllZip (HasEnded L.heard L.sent T.told plan.now journal.state.params.window) posts.items relayed.ended.items) }
@@ -93,7 +94,8 @@ pub fn run_relay<
             requires threads { (threads.items ≡ []) × (vec_capacity threads ≡ length posts.items) }
             requires ended { (ended.items ≡ []) × (vec_capacity ended ≡ length posts.items) }
             ensures broken { result.finished.broken ≡ result.finished.journal.broken }
-            ensures served { IsServed D.state flusher result.finished.journal }
+            ensures served { IsServed D.state flusher result.finished.last.value }
+            ensures left { result.finished.last.value.journal ≡ result.finished.journal }
             ensures worked { result.complete ≡ true → AllZip (HasEnded L.heard L.sent T.told plan.entry.now window) posts.items result.ended.items }
         {
             let mut threads = threads;

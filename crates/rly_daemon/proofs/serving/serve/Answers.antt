@@ -29,4 +29,4 @@ pub returns-in_ok-told-in-Ok-clause-served : goal.returns-in_ok-told-in-Ok-claus
 returns-in_ok-told-in-Ok-clause-served g c =
     let served = c.in-Ok.ensures.served in
     let count = posts_count _ _ c.args.plan.now c.args.turns c.in_ok-posts.ensures ∙ sym (workers_count c.args.plan.now) in
-    (served.0, subst (λ seats. IsServed g.D.Disk.state (new_flusher c.args.journal (new_end served.0 seats)) c.in-Ok.relayed.finished.journal) count served.1)
+    (served.0, subst (λ seats. IsServed g.D.Disk.state (new_flusher c.args.journal (new_end served.0 seats)) c.in-Ok.relayed.finished.last.value) count served.1)

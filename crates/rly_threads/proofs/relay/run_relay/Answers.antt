@@ -1,5 +1,7 @@
 use Rattle.std.proofs.Common.{◌≡◌, ◌∙◌, [], ap, length, rules, subst, sym, vec_capacity}
 use Rattle.std.proofs.lemmas.List.FromFn.{length-map-range_with_len}
+use Rattle.rly_disk.specs.DiskModel.{Later}
+use Rattle.rly_journal.specs.Journal.{JournalState}
 use Rattle.rly_flush.specs.Flushing.{IsServed, new_flusher}
 use Rattle.rly_threads.specs.Relay.{new_end}
 use Rattle.rly_threads.proofs.relay.run_relay.Goals as goal
@@ -25,8 +27,17 @@ returns-clause-served g c =
     c.in-Ok.ensures.end ∙ ap (λ capacity. record (new_end c.in-Ok.line_end.of c.len-workers.result) { capacity = capacity }) c.in-Ok.ensures.capacity in
     let begun : c.in-Ok.line_end ≡ new_end c.in-Ok.line_end.of (length c.args.posts.items) = room ∙ ap (new_end c.in-Ok.line_end.of) count in (
       c.in-Ok.line_end.of,
-      subst (λ f. IsServed g.D.Disk.state f c.scoped.result.finished.journal) (c.in-Ok-new.ensures.begins ∙ ap (new_flusher c.args.journal) begun) c.scoped.ensures.1.1.0,
+      subst (λ f. IsServed g.D.Disk.state f c.scoped.result.finished.last.value) (c.in-Ok-new.ensures.begins ∙ ap (new_flusher c.args.journal) begun) c.scoped.ensures.1.1.0,
     )
 
 pub returns-clause-worked : goal.returns-clause-worked
-returns-clause-worked g c = rw (sym c.params-window.ensures) c.scoped.ensures.1.1.1
+returns-clause-worked g c = rw (sym c.params-window.ensures) c.scoped.ensures.1.1.1.1
+
+pub returns-clause-left : goal.returns-clause-left
+returns-clause-left g c = c.scoped.ensures.1.1.1.0
+
+pub returns-clause-later : goal.returns-clause-later
+returns-clause-later g c =
+    let begun : Later (g.D.Disk.state c.in-Ok-new.flusher.journal.disk) (g.D.Disk.state c.scoped.result.finished.last.value.journal.disk) = c.scoped.ensures.1.1.0.rounds.later in
+    subst (λ (y : JournalState g.row.D.Denot × JournalState g.row.D.Denot). Later (g.D.Disk.state y.0.disk) (g.D.Disk.state y.1.disk))
+    (λ i. ((c.in-Ok-new.ensures.begins i).journal, c.scoped.ensures.1.1.1.0 i)) begun

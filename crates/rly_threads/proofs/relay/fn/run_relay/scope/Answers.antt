@@ -78,6 +78,7 @@ returns g c =
     record {
       broken = c.serve-finished.ensures.broken;
       served = c.serve-finished.ensures.ends;
+      left = c.serve-finished.ensures.journal;
       worked =
           λ all.
           subst (λ posts. AllZip (HasEnded g.L.Link.heard g.L.Link.sent g.T.Turn.told c.captures.plan.now c.captures.window) posts c.join_all.result.items) items
