@@ -72,7 +72,7 @@ fn head_of(
     alloc: Global,
     disk: &mut MemDisk,
     segment: u64,
-) -> Result<Head, HeadFault> {
+) -> Result<Head<Payload>, HeadFault> {
     match read_header(disk) {
         Ok(geometry) => {
             assert!(rt; segment < geometry.segments);

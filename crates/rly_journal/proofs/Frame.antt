@@ -6,7 +6,7 @@ use Rattle.rly_gate.specs.Group.{IsClosed, open_gate}
 use Rattle.rly_record.specs.Spelling.{body_of}
 use Rattle.rly_checkpoint.specs.Checkpoint.{checkpoint_of}
 use Rattle.rly_segment.specs.Device.{IsDevice, IsGeometry, device_mark, geometry_in}
-use Rattle.rly_segment.specs.Heads.{HoldsHead, IsNewest, IsPassedOver, generation_in, head_of, segment_place}
+use Rattle.rly_segment.specs.Heads.{HoldsHead, IsNewest, IsPassedOver, generation_in, head_of, head_spelled, segment_place}
 use Rattle.rly_journal.specs.Standing.{Commands, HoldGroups, IsScanned, IsStanding, Standing, next_gate, standing_end, first_of, gate_behind, gate_of}
 use Rattle.rly_journal.proofs.Agreeing.{SameBytes, number_still, stands_still}
 
@@ -23,7 +23,7 @@ gate_above at (commands ∷ groups) = omega (arith, gate_above (next_gate at com
 
 -- how long a head is after its gate
 pub length-head : (generation : ℕ) (s : State (List ℕ)) → length (head_of generation s) ≡ 12 + length (checkpoint_of s)
-unfolding head_of
+unfolding head_spelled
 length-head generation s = omega (arith, length-append (big_bytes 8 generation ++ big_bytes 4 (length (checkpoint_of s))) (checkpoint_of s), length-append (big_bytes 8 generation) (big_bytes 4 (length (checkpoint_of s))))
 
 -- how long a group is without the gate after it

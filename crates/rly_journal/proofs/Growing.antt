@@ -16,7 +16,7 @@ use Rattle.rly_checkpoint.specs.Checkpoint.{checkpoint_of}
 use Rattle.rly_gate.proofs.Frames.{length-frame}
 use Rattle.rly_segment.specs.Device.{IsGeometry, number_in}
 use Rattle.rly_segment.specs.Formatted.{IsFormatted}
-use Rattle.rly_segment.specs.Heads.{IsHead, IsOpening, IsPassedOver, first_gate, generation_in, head_of, opened_head, segment_end, segment_place}
+use Rattle.rly_segment.specs.Heads.{IsHead, IsOpening, IsPassedOver, first_gate, generation_in, head_of, head_spelled, opened_head, segment_end, segment_place}
 use Rattle.rly_segment.proofs.Standing.{stands_back, stands_front}
 use Rattle.rly_journal.specs.Standing.{AreAccepted, Commands, HoldGroups, IsScanned, IsStanding, Standing, next_gate, standing_end, first_of, gate_behind, gate_of, replayed, state_in}
 use Rattle.rly_journal.proofs.Agreeing.{SameBytes, apart, number_of_bytes, number_still, same_before, same_behind}
@@ -124,7 +124,7 @@ grown {old} x commands stands body accepted fits within image left =
 
 -- the generation of a head that stands
 pub generation_there : (image : List ℕ) (place generation : ℕ) (s : State (List ℕ)) → generation < 2 ^ 64 → StandsAt image place (head_of generation s) → number_in image place 8 ≡ generation
-unfolding head_of
+unfolding head_spelled
 generation_there image place generation s fits stands =
     number_of_bytes image place 8 generation refl fits
     (stands_front image place (big_bytes 8 generation) (big_bytes 4 (length (checkpoint_of s)) ++ checkpoint_of s)

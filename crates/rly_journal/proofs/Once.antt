@@ -12,7 +12,7 @@ use Rattle.rly_gate.proofs.Frames.{group_length}
 use Rattle.rly_record.specs.Spelling.{body_of}
 use Rattle.rly_record.proofs.Bodies.{body_once}
 use Rattle.rly_checkpoint.specs.Checkpoint.{checkpoint_of}
-use Rattle.rly_segment.specs.Heads.{HoldsHead, IsNewest, head_of, segment_place}
+use Rattle.rly_segment.specs.Heads.{HoldsHead, IsNewest, head_of, head_spelled, segment_place}
 use Rattle.rly_journal.specs.Standing.{Commands, HoldGroups, IsStanding, Standing, Stands, next_gate, standing_end, first_of, gate_behind, state_in}
 use Rattle.rly_segment.proofs.Standing.{stands_back, stands_front}
 use Rattle.rly_journal.proofs.Growing.{byte_there, generation_there}
@@ -35,7 +35,7 @@ newest_once {image} g s t first second =
 -- the parts of a head
 length_there : (image : List ℕ) (place generation : ℕ) (s : State (List ℕ)) → StandsAt image place (head_of generation s)
     → StandsAt image (place + 8) (big_bytes 4 (length (checkpoint_of s))) × StandsAt image (place + 12) (checkpoint_of s)
-unfolding head_of
+unfolding head_spelled
 length_there image place generation s stands =
     let regrouped : StandsAt image place (big_bytes 8 generation ++ (big_bytes 4 (length (checkpoint_of s)) ++ checkpoint_of s)) =
     subst (StandsAt image place) (append_assoc (big_bytes 8 generation) (big_bytes 4 (length (checkpoint_of s))) (checkpoint_of s)) stands in

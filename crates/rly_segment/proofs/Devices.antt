@@ -1,9 +1,9 @@
 -- What a crash leaves of a format.
-use Rattle.std.proofs.Common.{◌≡◌, ◌⊎◌, ◌↔◌, ◌≤◌, ◌<◌, ◌+◌, ◌++◌, ◌∙◌, ℕ, Bool, true, false, IsTrue, List, [], ◌∷◌, length, get_or, arith, ap, refl, sym, subst, inl, inr, ⊎_elim}
+use Rattle.std.proofs.Common.{◌≡◌, ◌↔◌, ◌≤◌, ◌<◌, ◌+◌, ◌++◌, ◌∙◌, ℕ, Bool, true, false, IsTrue, List, [], ◌∷◌, length, get_or, arith, ap, refl, sym, subst, inl, inr, ⊎_elim}
 use Rattle.std.proofs.lemmas.Bool.{cases_eq, false≢true}
 use Rattle.rly_core.specs.declared.params.Geometry.{Geometry}
 use Rattle.rly_disk.specs.DiskModel.{DiskState, LeavesOnly, SameOutside, Settled, overwritten}
-use Rattle.rly_disk.specs.Trace.{AllWrites, DeviceEvent, Makes, Read, images_within, seen_at_end}
+use Rattle.rly_disk.specs.Trace.{AllWrites, Makes, Read, images_within, seen_at_end}
 use Rattle.rly_disk.proofs.Making.{AreSynced, makes_leaves, makes_seen, synced_behind, synced_then}
 use Rattle.rly_disk.proofs.Overwritten.{overwritten_in, overwritten_outside}
 use Rattle.rly_disk.proofs.Ranges.{part}

@@ -7,24 +7,24 @@ use Rattle.rly_machine.specs.State.{HopState, State, new_hop, new_state}
 use Rattle.rly_checkpoint.specs.Checkpoint.{checkpoint_of, codel_of, hop_spelled, inline_form, state_spelled}
 use Rattle.rly_core.specs.declared.params.Geometry.{Geometry}
 use Rattle.rly_segment.specs.Device.{IsGeometry}
-use Rattle.rly_segment.specs.Heads.{IsHead, head_of}
+use Rattle.rly_segment.specs.Heads.{IsHeadOf, head_of, head_spelled}
 
 -- how long a head is
-pub length-head : (generation : ℕ) (s : State (List ℕ)) → length (head_of generation s ++ 0 ∷ []) ≡ 13 + length (checkpoint_of s)
-unfolding head_of
-length-head generation s =
+pub length-head : {P : Type 0} (len : P → ℕ) (form : P → List ℕ) (generation : ℕ) (s : State P) → length (head_spelled len form generation s ++ 0 ∷ []) ≡ 13 + length (state_spelled len form s)
+unfolding head_spelled
+length-head len form generation s =
     omega (
       arith,
-      length-append (head_of generation s) (0 ∷ []),
-      length-append (big_bytes 8 generation ++ big_bytes 4 (length (checkpoint_of s))) (checkpoint_of s),
-      length-append (big_bytes 8 generation) (big_bytes 4 (length (checkpoint_of s))),
+      length-append (head_spelled len form generation s) (0 ∷ []),
+      length-append (big_bytes 8 generation ++ big_bytes 4 (length (state_spelled len form s))) (state_spelled len form s),
+      length-append (big_bytes 8 generation) (big_bytes 4 (length (state_spelled len form s))),
     )
 
 -- a head from its parts
-pub head_parts : (generation n : ℕ) (s : State (List ℕ)) (body fields : List ℕ) → body ≡ checkpoint_of s → n ≡ length body → fields ≡ big_bytes 8 generation ++ big_bytes 4 n
-    → (fields ++ body) ++ 0 ∷ [] ≡ head_of generation s ++ 0 ∷ []
-unfolding head_of
-head_parts generation n s body fields is_body count is_fields =
+pub head_parts : {P : Type 0} (len : P → ℕ) (form : P → List ℕ) (generation n : ℕ) (s : State P) (body fields : List ℕ) → body ≡ state_spelled len form s → n ≡ length body → fields ≡ big_bytes 8 generation ++ big_bytes 4 n
+    → (fields ++ body) ++ 0 ∷ [] ≡ head_spelled len form generation s ++ 0 ∷ []
+unfolding head_spelled
+head_parts len form generation n s body fields is_body count is_fields =
     ap (λ l. (l ++ body) ++ 0 ∷ []) is_fields
     ∙ ap (λ k. ((big_bytes 8 generation ++ big_bytes 4 k) ++ body) ++ 0 ∷ []) count
     ∙ ap (λ l. ((big_bytes 8 generation ++ big_bytes 4 (length l)) ++ l) ++ 0 ∷ []) is_body
@@ -58,10 +58,10 @@ length-new p =
     )
 
 -- a head with the gates around it is no longer than its segment
-pub head_room : (g : Geometry) (segment generation : ℕ) (s : State (List ℕ)) (bytes : List ℕ) → IsHead g segment generation s → bytes ≡ head_of generation s ++ 0 ∷ []
-    → 1 + length bytes ≤ g.length
-head_room g segment generation s bytes head is = omega (arith, head.room, ap length is, length-head generation s)
+pub head_room : {P : Type 0} (len : P → ℕ) (form : P → List ℕ) (g : Geometry) (segment generation : ℕ) (s : State P) (bytes : List ℕ) → IsHeadOf len form g segment generation s
+    → bytes ≡ head_spelled len form generation s ++ 0 ∷ [] → 1 + length bytes ≤ g.length
+head_room len form g segment generation s bytes head is = omega (arith, head.room, ap length is, length-head len form generation s)
 
 -- nor is the first one
 pub new_head_room : (g : Geometry) (size : ℕ) (bytes : List ℕ) → IsGeometry g size → bytes ≡ head_of 1 (new_state g.params) ++ 0 ∷ [] → 1 + length bytes ≤ g.length
-new_head_room g size bytes geometry is = omega (arith, geometry.fits, ap length is, length-head 1 (new_state g.params), length-new g.params)
+new_head_room g size bytes geometry is = omega (arith, geometry.fits, ap length is, length-head length inline_form 1 (new_state g.params), length-new g.params)

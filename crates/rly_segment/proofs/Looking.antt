@@ -4,7 +4,7 @@ use Rattle.std.specs.Prelude.{Option, Some, None, if◌then◌else◌}
 use Rattle.std.proofs.lemmas.Bool.Decides.{nat_tests}
 use Rattle.rly_core.specs.declared.params.Geometry.{Geometry}
 use Rattle.rly_disk.specs.DiskModel.{DiskState}
-use Rattle.rly_disk.specs.Trace.{DeviceEvent, Makes, OnlyReads, Read, are_reads}
+use Rattle.rly_disk.specs.Trace.{Makes, OnlyReads, Read, are_reads}
 use Rattle.rly_disk.proofs.Making.{each_reads, reads_of}
 use Rattle.rly_disk.proofs.Traces.{makes_joined, makes_nothing}
 use Rattle.rly_segment.specs.Calls.{generation_reads, head_reads, header_reads}

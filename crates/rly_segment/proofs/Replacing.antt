@@ -1,11 +1,10 @@
 -- What a crash leaves while bytes after a gate are written.
 use Rattle.std.proofs.Common.{◌≡◌, ◌⊎◌, ◌↔◌, ◌≤◌, ◌<◌, ◌+◌, ◌++◌, Bool, true, false, IsTrue, ◌∙◌, ℕ, List, [], ◌∷◌, length, get_or, take, drop, arith, ap, refl, sym, subst, inl, inr, ⊎_elim}
-use Rattle.std.specs.Prelude.{Result, Ok, Err, OnOk}
 use Rattle.std.proofs.lemmas.Bool.{cases_eq, cases_lt, false≢true}
 use Rattle.std.proofs.lemmas.List.{ext_get_or}
-use Rattle.rly_disk.specs.DiskModel.{Consistent, DiskState, HasFailed, LeavesOnly, SameOutside, Settled, overwritten}
-use Rattle.rly_disk.specs.Trace.{DeviceEvent, Makes, count_of, images_within, is_sync_call, seen_at_end}
-use Rattle.rly_disk.proofs.Making.{AreSynced, is_read_call, makes_failed, makes_leaves, makes_seen, makes_settled, synced_behind}
+use Rattle.rly_disk.specs.DiskModel.{DiskState, LeavesOnly, SameOutside, Settled, overwritten}
+use Rattle.rly_disk.specs.Trace.{DeviceEvent, Makes, images_within, seen_at_end}
+use Rattle.rly_disk.proofs.Making.{AreSynced, makes_leaves, synced_behind}
 use Rattle.rly_disk.proofs.Overwritten.{overwritten_outside}
 use Rattle.rly_disk.proofs.Ranges.{behind, front, part-overwritten, same_outside_again, wider}
 use Rattle.rly_disk.proofs.Traces.{seen_joined}
@@ -16,11 +15,10 @@ use Rattle.rly_gate.specs.Calls.{settling}
 use Rattle.rly_gate.specs.Group.{IsClosed, IsOpen, StandsAt, open_gate}
 use Rattle.rly_core.specs.declared.params.Geometry.{Geometry}
 use Rattle.rly_machine.specs.State.{State}
-use Rattle.rly_segment.specs.Calls.{closing, opening_calls, opens, replacing}
-use Rattle.rly_segment.specs.declared.opening.OpeningFault.{OpeningFault}
-use Rattle.rly_segment.specs.declared.opening.OpeningFault.TheVariants.{OutOfMemory, Device}
+use Rattle.rly_checkpoint.specs.Checkpoint.{inline_form}
+use Rattle.rly_segment.specs.Calls.{closing, replacing}
 use Rattle.rly_segment.specs.Device.{IsGeometry}
-use Rattle.rly_segment.specs.Heads.{IsHead, IsOpening, generation_in, head_of, opened_head, segment_place}
+use Rattle.rly_segment.specs.Heads.{IsHead, IsHeadOf, IsOpening, IsOpeningOf, generation_in, head_of, head_spelled, opened_head, opened_spelled, segment_place}
 use Rattle.rly_segment.specs.HelpersWriting.{IsClosing, IsReplacing}
 use Rattle.rly_segment.proofs.Gates.{stays_closed, zero_closes}
 use Rattle.rly_segment.proofs.HeadWriting.{head_room}
@@ -135,9 +133,9 @@ replaced place bytes old mid then new within same second third =
     ∙ ap (λ l. (take place old ++ (open_gate ∷ bytes)) ++ l) (behind place 1 same (place + length (open_gate ∷ bytes)) (omega arith))
 
 -- the opening of a segment
-pub opening : (g : Geometry) (segment generation : ℕ) (s : State (List ℕ)) (bytes old image : List ℕ) → bytes ≡ head_of generation s ++ 0 ∷ [] → 1 + length bytes ≤ g.length
-    → IsReplacing (segment_place g segment) bytes old image → IsOpening g segment generation s old image
-opening g segment generation s bytes old image is room replacing = record {
+pub opening : {P : Type 0} (len : P → ℕ) (form : P → List ℕ) (g : Geometry) (segment generation : ℕ) (s : State P) (bytes old image : List ℕ) → bytes ≡ head_spelled len form generation s ++ 0 ∷ [] → 1 + length bytes ≤ g.length
+    → IsReplacing (segment_place g segment) bytes old image → IsOpeningOf len form g segment generation s old image
+opening len form g segment generation s bytes old image is room replacing = record {
   outside = wider (segment_place g segment) g.length (segment_place g segment) (length (open_gate ∷ bytes)) (omega arith) (omega arith) replacing.outside;
   whole = ⊎_elim
       (λ (kept : IsOpen image (segment_place g segment) → image ≡ old). inl (λ opened.
@@ -146,33 +144,43 @@ opening g segment generation s bytes old image is room replacing = record {
       replacing.whole;
 }
 
-module _ (g : Geometry) (segment generation : ℕ) (s : State (List ℕ)) (closed : Bool) where
-  pub opening_image : (old c : List ℕ) → IsGeometry g (length old) → segment < g.segments → IsHead g segment generation s → (IsTrue closed ↔ IsClosed old (segment_place g segment))
-      → images_within (replacing (segment_place g segment) closed (head_of generation s ++ 0 ∷ [])) old (λ d. d ≡ old) c → IsOpening g segment generation s old c
-  opening_image old c geometry there head told image =
-      let room = head_room g segment generation s (head_of generation s ++ 0 ∷ []) head refl in
-      let fits : segment_place g segment + 1 + length (head_of generation s ++ 0 ∷ []) ≤ length old = omega (arith, segment_within g segment (length old) geometry there, room) in
-      opening g segment generation s (head_of generation s ++ 0 ∷ []) old c refl room
-      (replacing_image (segment_place g segment) closed (head_of generation s ++ 0 ∷ []) old c fits told image)
+module _ {P : Type 0} (len : P → ℕ) (form : P → List ℕ) (g : Geometry) (segment generation : ℕ) (s : State P) (closed : Bool) where
+  pub image_of_opening : (old c : List ℕ) → IsGeometry g (length old) → segment < g.segments → IsHeadOf len form g segment generation s → (IsTrue closed ↔ IsClosed old (segment_place g segment))
+      → images_within (replacing (segment_place g segment) closed (head_spelled len form generation s ++ 0 ∷ [])) old (λ d. d ≡ old) c → IsOpeningOf len form g segment generation s old c
+  image_of_opening old c geometry there head told image =
+      let room = head_room len form g segment generation s (head_spelled len form generation s ++ 0 ∷ []) head refl in
+      let fits : segment_place g segment + 1 + length (head_spelled len form generation s ++ 0 ∷ []) ≤ length old = omega (arith, segment_within g segment (length old) geometry there, room) in
+      opening len form g segment generation s (head_spelled len form generation s ++ 0 ∷ []) old c refl room
+      (replacing_image (segment_place g segment) closed (head_spelled len form generation s ++ 0 ∷ []) old c fits told image)
 
-  pub opening_end : (old : List ℕ) → segment_place g segment + 1 ≤ length old
-      → seen_at_end (replacing (segment_place g segment) closed (head_of generation s ++ 0 ∷ [])) old ≡ overwritten (segment_place g segment) (opened_head generation s) old
-  opening_end old within =
+  pub end_of_opening : (old : List ℕ) → segment_place g segment + 1 ≤ length old
+      → seen_at_end (replacing (segment_place g segment) closed (head_spelled len form generation s ++ 0 ∷ [])) old ≡ overwritten (segment_place g segment) (opened_spelled len form generation s) old
+  end_of_opening old within =
       let place : ℕ = segment_place g segment in
-      let behind : List ℕ = head_of generation s ++ 0 ∷ [] in
+      let behind : List ℕ = head_spelled len form generation s ++ 0 ∷ [] in
       let mid : List ℕ = seen_at_end (closing place closed) old in
       replaced place behind old mid (overwritten (place + 1) behind mid) (seen_at_end (replacing place closed behind) old) within (closing_same place closed old within) refl
       (seen_joined (closing place closed) (settling (place + 1) behind ++ settling place (open_gate ∷ [])) old
       ∙ seen_joined (settling (place + 1) behind) (settling place (open_gate ∷ [])) mid
       ∙ ap (overwritten place (open_gate ∷ [])) (settling_seen (place + 1) behind mid))
 
-pub opening_leaves : {D : Type 0} (state : D → DiskState) {a b : D} (g : Geometry) (segment generation : ℕ) (s : State (List ℕ)) (closed : Bool) {whole : Bool}
-    → IsGeometry g (state a).size → segment < g.segments → IsHead g segment generation s → (IsTrue closed ↔ IsClosed (state a).seen (segment_place g segment))
-    → Settled (state a) → Makes state (replacing (segment_place g segment) closed (head_of generation s ++ 0 ∷ [])) whole a b
-    → LeavesOnly (state a) (state b) (IsOpening g segment generation s (state a).seen)
-opening_leaves state {a} g segment generation s closed geometry there head told settled made =
-    makes_leaves state (IsOpening g segment generation s (state a).seen) made settled
-    (λ c. opening_image g segment generation s closed (state a).seen c (subst (IsGeometry g) (sym settled.consistent.seen_size) geometry) there head told)
+pub opening_leaves : {P : Type 0} (len : P → ℕ) (form : P → List ℕ) {D : Type 0} (state : D → DiskState) {a b : D} (g : Geometry) (segment generation : ℕ) (s : State P) (closed : Bool) {whole : Bool}
+    → IsGeometry g (state a).size → segment < g.segments → IsHeadOf len form g segment generation s → (IsTrue closed ↔ IsClosed (state a).seen (segment_place g segment))
+    → Settled (state a) → Makes state (replacing (segment_place g segment) closed (head_spelled len form generation s ++ 0 ∷ [])) whole a b
+    → LeavesOnly (state a) (state b) (IsOpeningOf len form g segment generation s (state a).seen)
+opening_leaves len form state {a} g segment generation s closed geometry there head told settled made =
+    makes_leaves state (IsOpeningOf len form g segment generation s (state a).seen) made settled
+    (λ c. image_of_opening len form g segment generation s closed (state a).seen c (subst (IsGeometry g) (sym settled.consistent.seen_size) geometry) there head told)
+
+-- the same where every payload is inline
+module _ (g : Geometry) (segment generation : ℕ) (s : State (List ℕ)) (closed : Bool) where
+  pub opening_image : (old c : List ℕ) → IsGeometry g (length old) → segment < g.segments → IsHead g segment generation s → (IsTrue closed ↔ IsClosed old (segment_place g segment))
+      → images_within (replacing (segment_place g segment) closed (head_of generation s ++ 0 ∷ [])) old (λ d. d ≡ old) c → IsOpening g segment generation s old c
+  opening_image = image_of_opening length inline_form g segment generation s closed
+
+  pub opening_end : (old : List ℕ) → segment_place g segment + 1 ≤ length old
+      → seen_at_end (replacing (segment_place g segment) closed (head_of generation s ++ 0 ∷ [])) old ≡ overwritten (segment_place g segment) (opened_head generation s) old
+  opening_end = end_of_opening length inline_form g segment generation s closed
 
 -- ---- how many they are
 

@@ -1,7 +1,8 @@
 -- What is answered of a device's header, of its newest head, and of what a head holds.
-use Rattle.std.specs.Prelude.{◌≡◌, ◌↔◌, ℕ, ◌<◌, List, length, Bool, true, false, Result, Ok, Err, slice_index_or}
+use Rattle.std.specs.Prelude.{◌≡◌, ◌↔◌, ℕ, ◌<◌, List, length, Bool, true, false, All, Result, Ok, Err, slice_index_or}
 use Rattle.rly_core.specs.declared.params.Geometry.{Geometry}
 use Rattle.rly_machine.specs.State.{State}
+use Rattle.rly_checkpoint.specs.Forms.{HaveForms}
 use Rattle.rly_gate.specs.Group.{IsClosed}
 use Rattle.rly_segment.specs.declared.header.HeaderFault.{HeaderFault}
 use Rattle.rly_segment.specs.declared.header.HeaderFault.TheVariants as header
@@ -12,7 +13,7 @@ use Rattle.rly_segment.specs.declared.heads.Head.{Head}
 use Rattle.rly_segment.specs.declared.heads.HeadFault.{HeadFault}
 use Rattle.rly_segment.specs.declared.heads.HeadFault.TheVariants as head
 use Rattle.rly_segment.specs.Device.{IsDevice, IsGeometry, geometry_in}
-use Rattle.rly_segment.specs.Heads.{HoldsHead, IsAmbiguous, IsNewest, segment_place}
+use Rattle.rly_segment.specs.Heads.{HoldsHead, HoldsHeadOf, IsAmbiguous, IsNewest, segment_place}
 
 -- of a header: the geometry that it names, that there is none, or that no device of its size has that geometry
 abbrev pub IsReadHeader : List ℕ → Result Geometry HeaderFault → Type 0
@@ -36,8 +37,22 @@ IsReadNewest image g (Err newest.Device) = Unit {0}
 abbrev pub HoldsNoHead : List ℕ → Geometry → ℕ → Type 0
 HoldsNoHead image g segment = (generation : ℕ) (s : State (List ℕ)) → HoldsHead image g segment generation s → ⊥
 
--- of what a head holds: a state, or that there is none
-abbrev pub IsReadHead : List ℕ → Geometry → ℕ → Result Head HeadFault → Type 0
+-- nor one of content that has forms
+abbrev pub HoldsNoHeadOf : {P : Type 0} → (P → ℕ) → (P → List ℕ) → (P → Type 0) → List ℕ → Geometry → ℕ → Type 0
+HoldsNoHeadOf {P} len form HasForm image g segment =
+    (generation : ℕ) (s : State P) → All (HaveForms HasForm) s.hops → HoldsHeadOf len form image g segment generation s → ⊥
+
+-- of what a head holds: a state whose content has forms, or that there is none
+abbrev pub IsReadHeadOf : {P : Type 0} → (P → ℕ) → (P → List ℕ) → (P → Type 0)
+    → List ℕ → Geometry → ℕ → Result (Head P) HeadFault → Type 0
+IsReadHeadOf len form HasForm image g segment (Ok found) =
+    HoldsHeadOf len form image g segment found.generation found.machine.state
+IsReadHeadOf len form HasForm image g segment (Err head.Damaged) = HoldsNoHeadOf len form HasForm image g segment
+IsReadHeadOf len form HasForm image g segment (Err head.OutOfMemory) = Unit {0}
+IsReadHeadOf len form HasForm image g segment (Err head.Device) = Unit {0}
+
+-- the same where every payload is inline
+abbrev pub IsReadHead : List ℕ → Geometry → ℕ → Result (Head (List ℕ)) HeadFault → Type 0
 IsReadHead image g segment (Ok found) = HoldsHead image g segment found.generation found.machine.state
 IsReadHead image g segment (Err head.Damaged) = HoldsNoHead image g segment
 IsReadHead image g segment (Err head.OutOfMemory) = Unit {0}

@@ -18,7 +18,7 @@ use byteorder::{BigEndian, ByteOrder};
 use rly_core::{Geometry, Params};
 use rly_disk::{Disk, DiskFault};
 use rly_gate::{CLOSED_GATE, OPEN_GATE, is_open, settle};
-use rly_machine::Machine;
+use rly_machine::{Machine, Payload};
 use std::alloc::{AllocError, Global};
 
 /// The bytes of the header after its gate.
@@ -70,7 +70,7 @@ fn new_head(alloc: Global, geometry: &Geometry) -> Result<Vec<u8>, AllocError>
     requires { IsWithinLimits geometry.now.params }
     ensures { IfOk result (λ head. head.items ≡ head_of 1 (new_state geometry.now.params) ++ 0 ∷ []) }
 {
-    let machine = Machine::new(alloc, geometry.params)?;
+    let machine: Machine<Payload> = Machine::new(alloc, geometry.params)?;
     head_bytes(alloc, 1, &machine)
 }
 

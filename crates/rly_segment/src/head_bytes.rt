@@ -1,30 +1,42 @@
-ghost use Rattle.std.specs.Prelude.{◌≡◌, ◌++◌, ◌∷◌, [], ◌<◌, ◌^◌, IfOk, length};
+ghost use Rattle.std.specs.Prelude.{◌≡◌, ◌++◌, ◌∷◌, [], ◌<◌, ◌≤◌, ◌^◌, IfOk, drop, length, vec_len};
+ghost use Rattle.std.specs.Vec.{vec_capacity};
 ghost use Rattle.byteorder.specs.Endian.{big_bytes};
-ghost use Rattle.rly_checkpoint.specs.Checkpoint.{checkpoint_of};
-ghost use Rattle.rly_segment.specs.Heads.{head_of};
+ghost use Rattle.rly_checkpoint.specs.Checkpoint.{state_spelled};
+ghost use Rattle.rly_segment.specs.Heads.{head_spelled};
 
 use crate::heads::START_BYTES;
 use byteorder::{BigEndian, ByteOrder};
-use rly_checkpoint::{checkpoint_len, write_checkpoint};
+use rly_checkpoint::{Form, append_state, most_len};
 use rly_gate::CLOSED_GATE;
-use rly_machine::{Machine, Payload};
+use rly_machine::Machine;
 use std::alloc::{AllocError, Global};
 
 /// What stands after a segment's gate: a head that holds the machine's state, and the closed gate of the first group.
-pub(crate) fn head_bytes(
+pub(crate) fn head_bytes<C: Form>(
     alloc: Global,
     generation: u64,
-    machine: &Machine<Payload>,
+    machine: &Machine<C>,
 ) -> Result<Vec<u8>, AllocError>
-    requires { length (checkpoint_of machine.now.state) < 2 ^ 32 }
-    ensures { IfOk result (λ head. head.items ≡ head_of generation machine.now.state ++ 0 ∷ []) }
+    requires { length (state_spelled C.length_of C.form machine.now.state) < 2 ^ 32 }
+    ensures { IfOk result (λ head. head.items ≡ head_spelled C.length_of C.form generation machine.now.state ++ 0 ∷ []) }
 {
-    let length = checkpoint_len(machine);
-    let mut head = Vec::with_capacity(alloc, START_BYTES + length as usize + 1)?;
-    head.extend_from_slice(&head_fields(generation, length as u32))?;
-    write_checkpoint(machine, &mut head)?;
+    machine.law_sound();
+    let room = most_len(machine) as usize;
+    let mut head = Vec::with_capacity(alloc, START_BYTES + room + 1)?;
+    head.extend_from_slice(&[0; START_BYTES])?;
+    append_state(machine, &mut head);
+    let length = head.len() - START_BYTES;
+    write_start(&mut head, generation, length as u32);
     head.push(CLOSED_GATE)?;
     Ok(head)
+}
+
+/// Fills in a head up to its body, for which zeros stand.
+fn write_start(head: &mut [u8], generation: u64, count: u32)
+    requires { START_BYTES ≤ length head.old }
+    ensures { head.new ≡ (big_bytes 8 generation ++ big_bytes 4 count) ++ drop 12 head.old }
+{
+    head[..START_BYTES].copy_from_slice(&head_fields(generation, count));
 }
 
 /// A head up to its body.

@@ -1,20 +1,21 @@
-ghost use Rattle.std.specs.Prelude.{◌≡◌, ◌+◌, ◌<◌, ◌≤◌, ◌^◌, ◌++◌, ◌∷◌, [], ◌↔◌, IfOk, IsTrue, Option, Some, is_ok, length, ℕ};
+ghost use Rattle.std.specs.Prelude.{All, ◌≡◌, ◌+◌, ◌<◌, ◌≤◌, ◌^◌, ◌++◌, ◌∷◌, [], ◌↔◌, IfOk, IsTrue, Option, Some, is_ok, length, ℕ};
 ghost use Rattle.byteorder.specs.Endian.{big_bytes};
-ghost use Rattle.rly_checkpoint.specs.Checkpoint.{checkpoint_of};
+ghost use Rattle.rly_checkpoint.specs.Checkpoint.{checkpoint_of, state_spelled};
+ghost use Rattle.rly_checkpoint.specs.Forms.{HaveForms};
 ghost use Rattle.rly_core.specs.Bounds.{IsIn};
 ghost use Rattle.rly_disk.specs.Trace.{Makes, Read};
 ghost use Rattle.rly_gate.specs.Group.{StandsAt};
-ghost use Rattle.rly_segment.specs.Answers.{IsReadHead};
+ghost use Rattle.rly_segment.specs.Answers.{IsReadHead, IsReadHeadOf};
 ghost use Rattle.rly_segment.specs.Calls.{head_reads, reads_head};
 ghost use Rattle.rly_segment.specs.Device.{IsGeometry};
-ghost use Rattle.rly_segment.specs.Heads.{IsHead, first_gate, segment_place};
+ghost use Rattle.rly_segment.specs.Heads.{IsHead, IsHeadOf, first_gate, gate_after, segment_place};
 
 use crate::layout::{number_of_4, number_of_8, segment_place};
-use rly_checkpoint::{DecodeFault, read_checkpoint};
+use rly_checkpoint::{DecodeFault, Form, read_state};
 use rly_core::Geometry;
 use rly_disk::{Disk, DiskFault};
 use rly_gate::{ReadFault, fill, read_bytes};
-use rly_machine::{Machine, Payload};
+use rly_machine::{Content, Machine, Payload};
 use rly_reclaim::GROUP_ROOM;
 use std::alloc::Global;
 
@@ -26,11 +27,11 @@ const BODY_OFFSET: u64 = 13;
 
 /// What a head holds, and the gate after it.
 #[derive(Drop)]
-pub struct Head {
+pub struct Head<C: Content> {
     /// The number of the opening that wrote the head, counted from 1.
     pub generation: u64,
     /// The state, in a machine.
-    pub machine: Machine<Payload>,
+    pub machine: Machine<C>,
     /// The place of the gate of the first group.
     pub gate: u64,
 }
@@ -53,20 +54,41 @@ struct Start {
     length: u32,
 }
 
-/// Reads the state that the head of a segment holds. It takes no memory beyond the segment's length
+/// Reads the state that the head of a segment holds, with every payload inline. It takes no memory beyond the segment's length
 /// and what the state needs.
 pub fn read_head<D: Disk>(
     alloc: Global,
     disk: &mut D,
     geometry: &Geometry,
     segment: u64,
-) -> Result<Head, HeadFault>
+) -> Result<Head<Payload>, HeadFault>
     requires geometry { IsGeometry geometry.now (D.state disk.old).size }
     requires segment { segment < geometry.now.segments }
     ensures head { IfOk result (λ head. IsHead geometry.now segment head.generation head.machine.state) }
     ensures gate { IfOk result (λ head. head.gate ≡ first_gate geometry.now segment head.machine.state) }
     ensures read { (D.state disk.old).honest → IsReadHead (D.state disk.old).seen geometry.now segment result }
     ensures trace { (body : Option ℕ) × IfOk result (λ head. body ≡ Some (length (checkpoint_of head.machine.state)))
+        × Makes D.state (head_reads (segment_place geometry.now segment) body) (reads_head result) disk.old disk.new }
+{
+    read_head_of(alloc, disk, geometry, segment)
+}
+
+/// Reads the state that the head of a segment holds, whose content has forms. It takes no memory
+/// beyond the segment's length and what the state needs.
+pub fn read_head_of<D: Disk, C: Form>(
+    alloc: Global,
+    disk: &mut D,
+    geometry: &Geometry,
+    segment: u64,
+) -> Result<Head<C>, HeadFault>
+    requires geometry { IsGeometry geometry.now (D.state disk.old).size }
+    requires segment { segment < geometry.now.segments }
+    ensures head { IfOk result (λ head. IsHeadOf C.length_of C.form geometry.now segment head.generation head.machine.state) }
+    ensures gate { IfOk result (λ head. head.gate ≡ gate_after C.length_of C.form geometry.now segment head.machine.state) }
+    ensures forms { IfOk result (λ head. All (HaveForms C.has_form) head.machine.state.hops) }
+    ensures read { (D.state disk.old).honest
+        → IsReadHeadOf C.length_of C.form C.has_form (D.state disk.old).seen geometry.now segment result }
+    ensures trace { (body : Option ℕ) × IfOk result (λ head. body ≡ Some (length (state_spelled C.length_of C.form head.machine.state)))
         × Makes D.state (head_reads (segment_place geometry.now segment) body) (reads_head result) disk.old disk.new }
 {
     let place = segment_place(geometry, segment);
@@ -82,7 +104,7 @@ pub fn read_head<D: Disk>(
         Err(ReadFault::OutOfMemory) => return Err(HeadFault::OutOfMemory),
         Err(ReadFault::Device) => return Err(HeadFault::Device),
     };
-    let machine = match read_checkpoint(alloc, geometry.params, &body) {
+    let machine = match read_state(alloc, geometry.params, &body) {
         Ok(machine) => machine,
         Err(DecodeFault::Malformed) => return Err(HeadFault::Damaged),
         Err(DecodeFault::OutOfMemory) => return Err(HeadFault::OutOfMemory),

@@ -21,7 +21,7 @@ mod opening;
 pub use crate::formatting::{FormatFault, format};
 pub use crate::generations::{NewestFault, NewestHead, newest};
 pub use crate::header::{HeaderFault, read_header};
-pub use crate::heads::{Head, HeadFault, read_head};
+pub use crate::heads::{Head, HeadFault, read_head, read_head_of};
 pub use crate::laws::law_opening;
 pub use crate::layout::{segment_end, segment_place};
 pub use crate::opening::{OpeningFault, Target, open_segment};

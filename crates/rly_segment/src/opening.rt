@@ -2,14 +2,15 @@ ghost use Rattle.std.specs.Prelude.{◌^◌, ◌≡◌, ◌+◌, ◌<◌, ◌≤
 ghost use Rattle.rly_disk.specs.Trace.{Makes};
 ghost use Rattle.rly_segment.specs.Calls.{closing, opening_calls, opens, replacing};
 ghost use Rattle.rly_segment.specs.Device.{IsGeometry};
-ghost use Rattle.rly_segment.specs.Heads.{IsHead, first_gate, head_of, segment_place};
+ghost use Rattle.rly_segment.specs.Heads.{IsHeadOf, gate_after, head_spelled, segment_place};
 
 use crate::head_bytes::head_bytes;
 use crate::layout::segment_place;
+use rly_checkpoint::Form;
 use rly_core::Geometry;
 use rly_disk::{Disk, DiskFault};
 use rly_gate::{CLOSED_GATE, OPEN_GATE, settle};
-use rly_machine::{Machine, Payload};
+use rly_machine::Machine;
 use std::alloc::Global;
 
 /// A segment that is to be opened.
@@ -32,20 +33,20 @@ pub enum OpeningFault {
 
 /// Opens a segment: writes a head that holds the machine's state, with a closed gate after it, and
 /// answers that gate's place. What a crash at any moment of the call leaves is said by `law_opening`.
-pub fn open_segment<D: Disk>(
+pub fn open_segment<D: Disk, C: Form>(
     alloc: Global,
     disk: &mut D,
     geometry: &Geometry,
     target: Target,
     generation: u64,
-    machine: &Machine<Payload>,
+    machine: &Machine<C>,
 ) -> Result<u64, OpeningFault>
     requires geometry { IsGeometry geometry.now (D.state disk.old).size }
     requires target { target.segment < geometry.now.segments }
-    requires head { IsHead geometry.now target.segment generation machine.now.state }
-    ensures gate { IfOk result (λ gate. gate ≡ first_gate geometry.now target.segment machine.now.state) }
+    requires head { IsHeadOf C.length_of C.form geometry.now target.segment generation machine.now.state }
+    ensures gate { IfOk result (λ gate. gate ≡ gate_after C.length_of C.form geometry.now target.segment machine.now.state) }
     ensures trace { Makes D.state (opening_calls result (replacing (segment_place geometry.now target.segment) target.closed
-        (head_of generation machine.now.state ++ 0 ∷ []))) (opens result) disk.old disk.new }
+        (head_spelled C.length_of C.form generation machine.now.state ++ 0 ∷ []))) (opens result) disk.old disk.new }
 {
     let place = segment_place(geometry, target.segment);
     let Ok(behind) = head_bytes(alloc, generation, machine) else {

@@ -3,4 +3,4 @@ use Rattle.rly_segment.proofs.laws.law_opening.Goals as goal
 
 pub returns : goal.returns
 returns g c geometry segment generation s closed whole fits there head told settled made =
-    opening_leaves g.D.Disk.state geometry segment generation s closed fits there head told settled made
+    opening_leaves g.C.Content.length_of g.C.Form.form g.D.Disk.state geometry segment generation s closed fits there head told settled made
