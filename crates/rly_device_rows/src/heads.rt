@@ -3,6 +3,7 @@ ghost use Rattle.std.specs.Prelude.{◌+◌, ◌≤◌, length};
 
 use rly_core::{Geometry, Params};
 use rly_disk::{After, Disk, FaultDisk, MemDisk};
+use rly_machine::Payload;
 use rly_segment::{
     Head, HeadFault, HeaderFault, NewestFault, NewestHead, newest, read_head, read_header,
 };
