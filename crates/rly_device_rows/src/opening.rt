@@ -5,7 +5,7 @@ ghost use Rattle.rly_segment.specs.Device.{IsGeometry};
 use rly_core::limits::{SEGMENT_LENGTH_LIMIT, SEGMENTS};
 use rly_core::{Geometry, Params};
 use rly_disk::{After, Disk, FaultDisk, MemDisk, Torn};
-use rly_machine::Machine;
+use rly_machine::{Machine, Payload};
 use rly_reclaim::fits;
 use rly_segment::{FormatFault, OpeningFault, Target, format, open_segment};
 use std::alloc::{AllocError, Global};
@@ -205,7 +205,7 @@ fn open<D: Disk>(
     closed: bool,
 ) -> Result<u64, OpeningFault> {
     assert!(rt; may_have(&DEVICE_E, disk.size()));
-    let Ok(machine) = Machine::new(alloc, DEVICE_E.params) else {
+    let Ok(machine) = Machine::<Payload>::new(alloc, DEVICE_E.params) else {
         return Err(OpeningFault::OutOfMemory);
     };
     let target = Target { segment: 1, closed };
