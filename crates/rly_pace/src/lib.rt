@@ -1,8 +1,10 @@
-//! A link that isn't overrun, as pure types: when a Timeout is due, how much may be on its way, and how fast a hop sends.
+//! A link that isn't overrun, as pure types: when a Timeout is due, how much may be on its way,
+//! and how fast a hop sends.
 //!
-//! `Pace` is a hop's retransmission timer and congestion window (`specs/Pacing.antt`; RFC 6298, RFC 5681), and `Rate` its token bucket
-//! (`specs/Rates.antt`). `docs/PROTOCOL.md` has them as tables. They go by the microseconds of a clock that they are given, and take
-//! no memory. The workers don't use them yet.
+//! `Pace` is a hop's retransmission timer and congestion window (`specs/Pacing.antt`; RFC 6298,
+//! RFC 5681), and `Rate` its token bucket (`specs/Rates.antt`). `docs/PROTOCOL.md` has them as
+//! tables. They go by the microseconds of a clock that they are given, and take no memory. The
+//! workers don't use them yet.
 #![tactic(auto)]
 
 mod congestion;
