@@ -67,6 +67,7 @@ pub has_bytes : (text : List ℕ) → bytes_eq text (codes "-") ≡ false → 0 
 has_bytes text dash some ok = by (decode_of text) refl where
   is_some : nat_lt 0 (length text) ≡ true
   is_some = grind (arith, common_steps)
+
   by : (r : Result (List ℕ) FromHexError) → decode_of text ≡ r → HasBytes (payload_in text)
   by (Ok bytes) e = rw (dash, is_some, e) (some_byte text bytes some e)
   by (Err error) e = let no : ⊥ = cc in absurd no
