@@ -24,8 +24,8 @@ use std::time::{Clock, Duration};
 enum Told {
     Nothing,
     Kept,
-    Broken,
     Unsure,
+    Ended,
     Other,
 }
 
@@ -43,7 +43,7 @@ impl Desk for Noting {
         let outcome = self.seat.call(rt, ask);
         self.told = match &outcome {
             Ok(answer) => told_by(&answer.reply),
-            Err(_) => Told::Other,
+            Err(_) => Told::Ended,
         };
         outcome
     }
@@ -57,7 +57,7 @@ impl Desk for Noting {
         let outcome = self.seat.call_all(rt, asks, answers);
         self.told = match answers.last() {
             Some(answer) => told_by(&answer.reply),
-            None => Told::Other,
+            None => Told::Ended,
         };
         outcome
     }
@@ -68,7 +68,6 @@ fn told_by(reply: &Reply) -> Told {
     match reply {
         Reply::Taken(_) | Reply::Already(1) => Told::Kept,
         Reply::Refused(Refusal::Unsure) => Told::Unsure,
-        Reply::Refused(Refusal::Broken) => Told::Broken,
         _ => Told::Other,
     }
 }
@@ -140,8 +139,8 @@ fn copies_at<R: Abort + Threads + Wait + Clock + Copy + Send + 'static>(
         if one == other {
             return Some(one);
         }
-        // The round of one of them failed before the other asked.
-        expect!(rt; one == Told::Broken || other == Told::Broken);
+        // The round of one of them failed before the other asked, and the flusher ended.
+        expect!(rt; one == Told::Ended || other == Told::Ended);
         expect!(rt; one == Told::Unsure || other == Told::Unsure);
     }
     panic!(rt; "no run had both in one round")
