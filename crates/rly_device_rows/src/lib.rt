@@ -26,6 +26,8 @@ mod heads;
 #[cfg(test)]
 mod opening;
 #[cfg(test)]
+mod placed;
+#[cfg(test)]
 mod room;
 #[cfg(test)]
 mod streams;

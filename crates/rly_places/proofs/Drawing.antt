@@ -1,10 +1,9 @@
 -- The state that the next head has.
-use Rattle.std.proofs.Common.{ℕ, ◌≡◌, ◌≢◌, ◌+◌, ◌-◌, ◌/◌, ◌<◌, ◌≤◌, Bool, true, false, cond, eqb, List, length, arith, rules, refl, sym, ap, ◌∙◌, ⊎_elim}
+use Rattle.std.proofs.Common.{ℕ, ◌≡◌, ◌≢◌, ◌+◌, Bool, true, false, cond, eqb, List, length, arith, refl, sym, ap, ◌∙◌, ⊎_elim}
 use Rattle.std.proofs.lemmas.Bool.{cases_eq, eqb-true, ne_eqb}
 use Rattle.rly_core.specs.declared.params.Geometry.{Geometry}
-use Rattle.rly_machine.specs.Map.{map_state}
 use Rattle.rly_machine.specs.Sound.{IsSound}
-use Rattle.rly_machine.specs.State.{State, live_bytes}
+use Rattle.rly_machine.specs.State.{State}
 use Rattle.rly_machine.proofs.Alike.{sound_alike}
 use Rattle.rly_machine.proofs.Lifting.{state_twice}
 use Rattle.rly_machine.proofs.Mapping.{mapped_bytes}

@@ -1,5 +1,5 @@
 -- Segments without live bytes.
-use Rattle.std.proofs.Common.{ℕ, suc, ◌≡◌, ◌≢◌, ◌+◌, ◌*◌, ◌-◌, ◌/◌, ◌<◌, ◌≤◌, Bool, cond, List, [], ◌∷◌, ◌++◌, length, get_or, map, arith, rules, refl, sym, ap, subst, ◌∙◌, sum_by}
+use Rattle.std.proofs.Common.{ℕ, suc, ◌≡◌, ◌≢◌, ◌+◌, ◌*◌, ◌-◌, ◌/◌, ◌<◌, ◌≤◌, Bool, cond, List, [], ◌∷◌, get_or, map, arith, rules, refl, sym, ap, ◌∙◌, sum_by}
 use Rattle.std.specs.Prelude.{All}
 use Rattle.std.specs.List.{flat_map}
 use Rattle.std.proofs.lemmas.Bool.{eq-eqb}
@@ -18,7 +18,7 @@ use Rattle.rly_checkpoint.specs.Stored.{IsStorable, stored_length}
 use Rattle.rly_checkpoint.specs.declared.stored.Stored.{Stored}
 use Rattle.rly_checkpoint.specs.declared.stored.Stored.TheVariants.{Inline, Placed}
 use Rattle.rly_reclaim.specs.Reclaiming.{MayOpen}
-use Rattle.rly_places.specs.Places.{LiesIn, LiesNotIn, bytes_in, live_by_segment, live_in, segment_of}
+use Rattle.rly_places.specs.Places.{LiesNotIn, bytes_in, live_by_segment, live_in, segment_of}
 use Rattle.rly_places.proofs.Rooms.{live_at, live_length}
 
 -- a sum over a state's payloads is one over their list
@@ -38,14 +38,14 @@ hops_sum {P} w (h ∷ hops) =
       sum_by-cons (λ (x : HopState P). bytes_of w (live_line x)) h hops,
     )
 
-payloads_sum : {P : Type 0} (w : P → ℕ) (s : State P) → sum_by w (payloads_of s) ≡ live_bytes w s
+pub payloads_sum : {P : Type 0} (w : P → ℕ) (s : State P) → sum_by w (payloads_of s) ≡ live_bytes w s
 payloads_sum w s = hops_sum w s.hops
 
 -- a sum is nothing where each term is
-none_each : {X : Type 0} (w : X → ℕ) (xs : List X) → sum_by w xs ≡ 0 → All (λ x. w x ≡ 0) xs
+pub none_each : {X : Type 0} (w : X → ℕ) (xs : List X) → sum_by w xs ≡ 0 → All (λ x. w x ≡ 0) xs
 none_each w xs none = λ k d below. omega (arith, none, get_or-le-sum_by w xs k d below)
 
-each_none : {X : Type 0} (w : X → ℕ) (xs : List X) → All (λ x. w x ≡ 0) xs → sum_by w xs ≡ 0
+pub each_none : {X : Type 0} (w : X → ℕ) (xs : List X) → All (λ x. w x ≡ 0) xs → sum_by w xs ≡ 0
 each_none w [] all = refl
 each_none {X} w (x ∷ xs) all =
     let none : X → Type 0 = λ y. w y ≡ 0 in
@@ -69,7 +69,7 @@ suc_times : (n m : ℕ) → suc n * m ≡ m + n * m
 suc_times n m = search rules
 
 -- the segment in which a place lies
-in_segment : (g : Geometry) (segment start : ℕ) → segment * g.length ≤ start → start < segment * g.length + g.length → start / g.length ≡ segment
+pub in_segment : (g : Geometry) (segment start : ℕ) → segment * g.length ≤ start → start < segment * g.length + g.length → start / g.length ≡ segment
 in_segment g segment start from to =
     let some : 0 < g.length = omega (arith, from, to) in
     let below : start / g.length < suc segment = div_below start g.length (suc segment) some (omega (arith, to, suc_times segment g.length)) in

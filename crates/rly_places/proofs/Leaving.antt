@@ -1,5 +1,5 @@
 -- What a step leaves of a sum over all payloads.
-use Rattle.std.proofs.Common.{ℕ, ◌≡◌, ◌+◌, true, List, [], ◌∷◌, map, take, Option, Some, None, sum_by, arith, refl}
+use Rattle.std.proofs.Common.{ℕ, ◌≡◌, ◌+◌, true, [], ◌∷◌, map, take, Option, Some, None, sum_by, arith, refl}
 use Rattle.std.proofs.lemmas.List.Sums.{sum_by-cons}
 use Rattle.rly_machine.specs.declared.command.Command.{Command}
 use Rattle.rly_machine.specs.declared.command.Command.TheVariants.{Take, Pick, Release}
@@ -7,8 +7,8 @@ use Rattle.rly_machine.specs.declared.hop.Item.{Item}
 use Rattle.rly_machine.specs.declared.reply.Reply.{Reply}
 use Rattle.rly_machine.specs.Accepted.{is_accepted, unless}
 use Rattle.rly_machine.specs.Map.{payload_of}
-use Rattle.rly_machine.specs.Pick.{outcome_of, pick_refusal, pick_step}
-use Rattle.rly_machine.specs.Release.{covered_count, release_refusal, release_step}
+use Rattle.rly_machine.specs.Pick.{outcome_of, pick_refusal}
+use Rattle.rly_machine.specs.Release.{covered_count, release_refusal}
 use Rattle.rly_machine.specs.State.{State, hop_at, live_bytes}
 use Rattle.rly_machine.specs.Step.{step}
 use Rattle.rly_machine.specs.Take.{take_refusal}

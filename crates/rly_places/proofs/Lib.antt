@@ -3,3 +3,4 @@ pub mod Drawing
 pub mod Rooms
 pub mod Emptying
 pub mod Leaving
+pub mod Placing

@@ -1,3 +1,4 @@
 pub mod Leaving
+pub mod Placed
 pub mod Places
 pub mod Room

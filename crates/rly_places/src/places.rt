@@ -4,7 +4,7 @@ ghost use Rattle.rly_places.specs.Places.{segment_of};
 use rly_core::Geometry;
 
 /// The place of the first segment.
-const FIRST_SEGMENT: u64 = 64;
+pub(crate) const FIRST_SEGMENT: u64 = 64;
 
 /// The segment that a place of the device lies in.
 pub fn segment_of(geometry: &Geometry, start: u64) -> u64

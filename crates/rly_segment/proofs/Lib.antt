@@ -11,3 +11,5 @@ pub mod Replacing
 pub mod Segments
 pub mod Standing
 pub mod Looking
+pub mod PlacedHeads
+pub mod Settling

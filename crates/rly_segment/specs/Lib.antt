@@ -5,3 +5,5 @@ pub mod Formatted
 pub mod Heads
 pub mod HelpersNewest
 pub mod HelpersWriting
+pub mod PlacedHeads
+pub mod Settling

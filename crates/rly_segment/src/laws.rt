@@ -1,6 +1,7 @@
-//! What a crash leaves of the calls that open a segment, on a function without a body.
+//! What a crash leaves of the calls that open a segment, and that a head stands for one state, each on a function that does
+//! nothing.
 
-ghost use Rattle.std.specs.Prelude.{◌↔◌, ◌<◌, ◌∷◌, ◌++◌, [], Bool, IsTrue, ℕ};
+ghost use Rattle.std.specs.Prelude.{◌≡◌, ◌↔◌, ◌<◌, ◌∷◌, ◌++◌, [], Bool, IsTrue, List, length, ℕ};
 ghost use Rattle.rly_core.specs.declared.params.Geometry.{Geometry as AGeometry};
 ghost use Rattle.rly_disk.specs.DiskModel.{LeavesOnly, Settled};
 ghost use Rattle.rly_disk.specs.Trace.{Makes};
@@ -8,9 +9,15 @@ ghost use Rattle.rly_gate.specs.Group.{IsClosed};
 ghost use Rattle.rly_machine.specs.State.{State};
 ghost use Rattle.rly_segment.specs.Calls.{replacing};
 ghost use Rattle.rly_segment.specs.Device.{IsGeometry};
-ghost use Rattle.rly_segment.specs.Heads.{IsHeadOf, IsOpeningOf, head_spelled, segment_place};
+ghost use Rattle.rly_segment.specs.Heads.{HoldsHeadOf, IsHeadOf, IsOpeningOf, head_spelled, segment_place};
+ghost use Rattle.rly_segment.specs.PlacedHeads.{HeadStandsFor};
+ghost use Rattle.rly_segment.specs.Settling.{settled_state};
+ghost use Rattle.rly_checkpoint.specs.Stored.{state_in, stored_form, stored_length};
+ghost use Rattle.rly_checkpoint.specs.declared.stored.Stored.{Stored as AStored};
+ghost use Rattle.rly_machine.specs.Sound.{IsSound};
+ghost use Rattle.rly_places.specs.Room.{inline_bytes};
 
-use rly_checkpoint::Form;
+use rly_checkpoint::{Form, Stored, law_one_spelling};
 use rly_disk::Disk;
 
 /// A crash at any moment of the opening of a segment leaves the whole head, or none that is newer than the one that was
@@ -21,4 +28,23 @@ pub fn law_opening<D: Disk, C: Form>(old: &D, new: &D)
         → (IsTrue closed ↔ IsClosed (D.state old.now).seen (segment_place g segment)) → Settled (D.state old.now)
         → Makes D.state (replacing (segment_place g segment) closed (head_spelled C.length_of C.form generation s ++ 0 ∷ [])) whole old.now new.now
         → LeavesOnly (D.state old.now) (D.state new.now) (IsOpeningOf C.length_of C.form g segment generation s (D.state old.now).seen) }
+{}
+
+/// The head of a segment stands for one state, and has one generation, whatever of its payloads stands by place.
+pub fn law_one_head()
+    ensures { (image : List ℕ) (g : AGeometry) (segment n m : ℕ) (a b : State (List ℕ)) → IsGeometry g (length image)
+        → HeadStandsFor image g segment n a → HeadStandsFor image g segment m b → (n ≡ m) × (a ≡ b) }
+{
+    law_one_spelling::<Stored>();
+}
+
+/// Once a head stands, the payloads that it has inline lie in it: the state that has their places is sound, has no bytes inline, and
+/// stands for the same over every image in which the head stands.
+pub fn law_settled()
+    ensures same { (image : List ℕ) (g : AGeometry) (segment generation : ℕ) (s : State AStored)
+        → HoldsHeadOf stored_length stored_form image g segment generation s
+        → state_in image (settled_state g segment s) ≡ state_in image s }
+    ensures sound { (g : AGeometry) (segment : ℕ) (s : State AStored) → IsSound stored_length s
+        → IsSound stored_length (settled_state g segment s) }
+    ensures inline { (g : AGeometry) (segment : ℕ) (s : State AStored) → inline_bytes (settled_state g segment s) ≡ 0 }
 {}

@@ -1,0 +1,33 @@
+-- The head of a segment whose payloads stand inline or by place, and what it stands for (docs/FORMATS.md, "Heads").
+use Rattle.std.specs.Prelude.{◌≡◌, ℕ, List, Result, Ok, Err}
+use Rattle.rly_core.specs.declared.params.Geometry.{Geometry}
+use Rattle.rly_machine.specs.State.{State}
+use Rattle.rly_checkpoint.specs.Stored.{state_in, stored_form, stored_length}
+use Rattle.rly_checkpoint.specs.declared.stored.Stored.{Stored}
+use Rattle.rly_places.specs.Placed.{IsPlaced}
+use Rattle.rly_segment.specs.declared.heads.Head.{Head}
+use Rattle.rly_segment.specs.declared.heads.HeadFault.{HeadFault}
+use Rattle.rly_segment.specs.declared.heads.HeadFault.TheVariants as head
+use Rattle.rly_segment.specs.Heads.{HoldsHeadOf}
+
+-- the head of a segment holds a state, and its payloads by place lie where they may
+pub record HoldsPlaced (image : List ℕ) (g : Geometry) (segment generation : ℕ) (s : State Stored) : Type 0 where
+  pub head : HoldsHeadOf stored_length stored_form image g segment generation s
+  pub placed : IsPlaced g segment s
+
+-- it holds no such state
+abbrev pub HoldsNonePlaced : List ℕ → Geometry → ℕ → Type 0
+HoldsNonePlaced image g segment = (generation : ℕ) (s : State Stored) → HoldsPlaced image g segment generation s → ⊥
+
+-- the state with bytes that it stands for: its payloads by place are as the image has them
+pub record HeadStandsFor (image : List ℕ) (g : Geometry) (segment generation : ℕ) (state : State (List ℕ)) : Type 0 where
+  pub stored : State Stored
+  pub holds : HoldsPlaced image g segment generation stored
+  pub bytes : state_in image stored ≡ state
+
+-- what is read of such a head: the state that it holds, or that it holds none
+abbrev pub IsReadPlaced : List ℕ → Geometry → ℕ → Result (Head Stored) HeadFault → Type 0
+IsReadPlaced image g segment (Ok found) = HoldsPlaced image g segment found.generation found.machine.state
+IsReadPlaced image g segment (Err head.Damaged) = HoldsNonePlaced image g segment
+IsReadPlaced image g segment (Err head.OutOfMemory) = Unit {0}
+IsReadPlaced image g segment (Err head.Device) = Unit {0}
