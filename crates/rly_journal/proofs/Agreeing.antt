@@ -1,17 +1,16 @@
 -- Images that have the same bytes in a range.
-use Rattle.std.proofs.Common.{◌≡◌, ◌≤◌, ◌<◌, ◌+◌, ◌*◌, ◌^◌, [], ◌∙◌, ℕ, suc, List, length, take, drop, get_or, arith, sym, ap, inl, inr, length-take, length-drop}
+use Rattle.std.proofs.Common.{◌≡◌, ◌≢◌, ◌≤◌, ◌<◌, ◌+◌, ◌*◌, ◌^◌, [], ◌∙◌, ℕ, suc, List, length, take, drop, arith, sym, ap, inl, inr, length-take, length-drop}
 use Rattle.std.proofs.Math.Nat.{mul-le-mul_right}
+use Rattle.std.proofs.lemmas.Bool.{cases_lt}
 use Rattle.std.proofs.lemmas.List.{ext_get_or, get_or-take, get_or-drop, append-nil}
 use Rattle.byteorder.specs.Endian.{big_bytes, big_number}
 use Rattle.byteorder.specs.Numbers.{big_number-reads_back}
+use Rattle.rly_core.specs.declared.params.Geometry.{Geometry}
 use Rattle.rly_disk.specs.DiskModel.{SameOutside}
 use Rattle.rly_gate.specs.Group.{StandsAt}
 use Rattle.rly_segment.specs.Device.{number_in}
-
--- from one place up to another the bytes are the same
-pub record SameBytes (from end : ℕ) (old new : List ℕ) : Type 0 where
-  pub same_length : length new ≡ length old
-  pub each : (i : ℕ) → from ≤ i → i < end → get_or new i 0 ≡ get_or old i 0
+use Rattle.rly_segment.specs.Heads.{segment_end, segment_place}
+use Rattle.rly_journal.specs.Framing.{SameBytes}
 
 -- a part of the range
 pub part_of : {old new : List ℕ} (from end place k : ℕ) → from ≤ place → place + k ≤ end → SameBytes from end old new → take k (drop place new) ≡ take k (drop place old)
@@ -47,3 +46,13 @@ pub apart : (s t size : ℕ) → s < t → s * size + size ≤ t * size
 apart s t size below =
     let grown : suc s * size ≤ t * size = mul-le-mul_right size (omega arith) in
     omega (arith, grown)
+
+-- the bytes of one segment lie outside another
+pub other_bytes : {old new : List ℕ} (g : Geometry) (s t : ℕ) → t ≢ s → SameOutside (segment_place g t) g.length old new → SameBytes (segment_place g s) (segment_end g s) old new
+other_bytes g s t other same =
+    elim (cases_lt t s) [
+      | inl before ↦ let low = apart t s g.length before in same_behind (segment_place g t) g.length (segment_place g s) (segment_end g s) (omega (arith, low)) same
+      | inr after ↦
+          let high = apart s t g.length (omega (arith, after, other)) in
+          same_before (segment_place g t) g.length (segment_place g s) (segment_end g s) (omega (arith, high)) same
+    ]

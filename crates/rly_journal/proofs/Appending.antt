@@ -21,9 +21,9 @@ use Rattle.rly_journal.specs.HelpersGroups.{Gathers, GroupState, group_body}
 use Rattle.rly_journal.specs.Log.{EndsAt, IsFull, IsLogged, offset}
 use Rattle.rly_journal.specs.HelpersJournal.{IsShaped}
 use Rattle.rly_journal.specs.Standing.{Commands, Standing, Stands, standing_end, first_of, gate_of, state_in}
-use Rattle.rly_journal.proofs.Agreeing.{same_before}
+use Rattle.rly_journal.proofs.Agreeing.{other_bytes, same_before}
 use Rattle.rly_journal.proofs.Frame.{gate_above}
-use Rattle.rly_journal.proofs.Growing.{appended, gate_behind-more, grown, other_bytes, replayed-more, with_group}
+use Rattle.rly_journal.proofs.Growing.{appended, gate_behind-more, grown, replayed-more, with_group}
 
 -- the end after a group
 abbrev pub appended_tail : Tail → List ℕ → Tail

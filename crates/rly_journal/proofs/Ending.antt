@@ -29,7 +29,9 @@ use Rattle.rly_journal.specs.Log.{EndsAt, IsFull, IsLogged}
 use Rattle.rly_journal.specs.HelpersJournal.{IsShaped}
 use Rattle.rly_journal.specs.Standing.{Standing, Stands, state_in}
 use Rattle.rly_journal.proofs.Frame.{length-head}
-use Rattle.rly_journal.proofs.Growing.{byte_there, opened, other_bytes, renewed, with_segment}
+use Rattle.rly_journal.proofs.Inlining.{gate_inline}
+use Rattle.rly_journal.proofs.Agreeing.{other_bytes}
+use Rattle.rly_journal.proofs.Growing.{byte_there, opened, renewed, with_segment}
 
 -- a head that holds a state finds room in any segment
 pub head_for : (g : Geometry) (size t n : ℕ) (s : State (List ℕ)) → IsGeometry g size → IsSound length s → s.params ≡ g.params → n ≤ s.seq → IsHead g t (n + 1) s
@@ -154,7 +156,7 @@ renewed_logged tail s t gate old new logged sound below other head is count writ
         geometry = logged.ends.geometry;
         segment = refl;
         generation = ap (λ n. n + 1) logged.ends.generation;
-        gate = is ∙ ap (λ h. first_gate h t s) logged.ends.geometry ∙ ap (first_gate x.geometry t) logged.state;
+        gate = is ∙ ap (λ h. first_gate h t s) logged.ends.geometry ∙ ap (first_gate x.geometry t) logged.state ∙ sym (gate_inline x.geometry t (state_in x));
       };
       state = logged.state;
       gates = closed_again tail.geometry t tail.closed old new (omega (arith, count, fits.segments)) below (omega (arith, fits.fits)) logged.gates outside (λ shut. shut gate_open);

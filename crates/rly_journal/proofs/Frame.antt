@@ -4,17 +4,22 @@ use Rattle.byteorder.specs.Endian.{big_bytes}
 use Rattle.rly_machine.specs.State.{State}
 use Rattle.rly_gate.specs.Group.{IsClosed, open_gate}
 use Rattle.rly_record.specs.Spelling.{body_of}
-use Rattle.rly_checkpoint.specs.Checkpoint.{checkpoint_of}
+use Rattle.rly_checkpoint.specs.Checkpoint.{checkpoint_of, inline_form, state_spelled}
+use Rattle.rly_checkpoint.specs.Stored.{stored_form, stored_length}
+use Rattle.rly_checkpoint.specs.Stored.{state_in as state_over}
 use Rattle.rly_segment.specs.Device.{IsDevice, IsGeometry, device_mark, geometry_in}
-use Rattle.rly_segment.specs.Heads.{HoldsHead, IsNewest, IsPassedOver, generation_in, head_of, head_spelled, segment_place}
+use Rattle.rly_segment.specs.Heads.{IsNewest, IsPassedOver, generation_in, head_of, head_spelled, segment_place}
+use Rattle.rly_journal.specs.Placing.{HoldsStored}
 use Rattle.rly_journal.specs.Standing.{Commands, HoldGroups, IsScanned, IsStanding, Standing, next_gate, standing_end, first_of, gate_behind, gate_of}
-use Rattle.rly_journal.proofs.Agreeing.{SameBytes, number_still, stands_still}
+use Rattle.rly_journal.specs.Framing.{SameBytes}
+use Rattle.rly_journal.proofs.Agreeing.{number_still, stands_still}
 
--- all that the standing reads before the first closed gate is as it was
+-- all that the standing reads before the first closed gate is as it was, and what the head holds stands for the same
 pub record SameReads (x : Standing) (old new : List ℕ) : Type 0 where
   pub header : SameBytes 0 64 old new
   pub heads : (t : ℕ) → t < x.geometry.segments → t ≢ x.segment → IsPassedOver x.geometry t old new
   pub own : SameBytes (segment_place x.geometry x.segment) (gate_of x) old new
+  pub payloads : state_over new x.head ≡ state_over old x.head
 
 -- the gate after groups lies after the first one
 pub gate_above : (at : ℕ) (groups : List Commands) → at ≤ gate_behind at groups
@@ -22,9 +27,15 @@ gate_above at [] = omega arith
 gate_above at (commands ∷ groups) = omega (arith, gate_above (next_gate at commands) groups)
 
 -- how long a head is after its gate
-pub length-head : (generation : ℕ) (s : State (List ℕ)) → length (head_of generation s) ≡ 12 + length (checkpoint_of s)
+pub length-spelled : {P : Type 0} (len : P → ℕ) (form : P → List ℕ) (generation : ℕ) (s : State P)
+    → length (head_spelled len form generation s) ≡ 12 + length (state_spelled len form s)
 unfolding head_spelled
-length-head generation s = omega (arith, length-append (big_bytes 8 generation ++ big_bytes 4 (length (checkpoint_of s))) (checkpoint_of s), length-append (big_bytes 8 generation) (big_bytes 4 (length (checkpoint_of s))))
+length-spelled len form generation s =
+    let body : List ℕ = state_spelled len form s in
+    omega (arith, length-append (big_bytes 8 generation ++ big_bytes 4 (length body)) body, length-append (big_bytes 8 generation) (big_bytes 4 (length body)))
+
+pub length-head : (generation : ℕ) (s : State (List ℕ)) → length (head_of generation s) ≡ 12 + length (checkpoint_of s)
+length-head generation s = length-spelled length inline_form generation s
 
 -- how long a group is without the gate after it
 pub length-group : (body : List ℕ) → length (open_gate ∷ (big_bytes 4 (length body) ++ body)) ≡ 5 + length body
@@ -45,29 +56,35 @@ geometry_still {old} {new} same =
     let at8 : (place : ℕ) → place + 8 ≤ 64 → _ = λ place le. number_still {old = old} {new = new} 0 64 place 8 (omega arith) le same in
     rw (at2 11 (omega arith), at2 13 (omega arith), at2 15 (omega arith), at2 17 (omega arith), at4 19 (omega arith), at4 23 (omega arith), at4 27 (omega arith), at4 31 (omega arith), at8 35 (omega arith), at8 43 (omega arith)) refl
 
-pub newest_still : {old new : List ℕ} (x : Standing) → SameReads x old new → IsNewest old x.geometry x.segment → IsNewest new x.geometry x.segment
-newest_still {old} {new} x same newest =
+pub newest_still : {old new : List ℕ} (x : Standing) → ((t : ℕ) → t < x.geometry.segments → t ≢ x.segment → IsPassedOver x.geometry t old new)
+    → SameBytes (segment_place x.geometry x.segment) (gate_of x) old new → IsNewest old x.geometry x.segment → IsNewest new x.geometry x.segment
+newest_still {old} {new} x heads same newest =
     let above = gate_above (first_of x) x.groups in
     let place : ℕ = segment_place x.geometry x.segment in
-    let own : generation_in new x.geometry x.segment ≡ generation_in old x.geometry x.segment = number_still place (gate_of x) (place + 1) 8 (omega arith) (omega (arith, above)) same.own in
+    let own : generation_in new x.geometry x.segment ≡ generation_in old x.geometry x.segment = number_still place (gate_of x) (place + 1) 8 (omega arith) (omega (arith, above)) same in
     record {
       there = newest.there;
-      gate = same.own.each place (omega arith) (omega (arith, above)) ∙ newest.gate;
+      gate = same.each place (omega arith) (omega (arith, above)) ∙ newest.gate;
       newest = λ t below other opened.
-          let before = same.heads t below other opened in
+          let before = heads t below other opened in
           let less = newest.newest t below other before.0 in
           omega (arith, own, before.1, less);
     }
 
 pub head_still : {old new : List ℕ} (x : Standing) → SameBytes (segment_place x.geometry x.segment) (gate_of x) old new
-    → HoldsHead old x.geometry x.segment x.generation x.checkpoint → HoldsHead new x.geometry x.segment x.generation x.checkpoint
-head_still x same head =
+    → HoldsStored old x.geometry x.segment x.generation x.head → HoldsStored new x.geometry x.segment x.generation x.head
+head_still x same holds =
     let above = gate_above (first_of x) x.groups in
     let place : ℕ = segment_place x.geometry x.segment in
     record {
-      bytes = stands_still place (gate_of x) (place + 1) (head_of x.generation x.checkpoint) (omega arith) (omega (arith, above, length-head x.generation x.checkpoint)) same head.bytes;
-      sound = head.sound;
-      head = head.head;
+      head = record {
+        bytes = stands_still place (gate_of x) (place + 1) (head_spelled stored_length stored_form x.generation x.head) (omega arith)
+            (omega (arith, above, length-spelled stored_length stored_form x.generation x.head)) same holds.head.bytes;
+        sound = holds.head.sound;
+        head = holds.head.head;
+      };
+      forms = holds.forms;
+      placed = holds.placed;
     }
 
 pub groups_still : {old new : List ℕ} (end from at : ℕ) (groups : List Commands) → from ≤ at → SameBytes from (gate_behind at groups) old new
@@ -92,8 +109,9 @@ frame_scanned {old} {new} x same scanned = record {
   device = device_still same.header scanned.device;
   geometry = scanned.geometry ∙ sym (geometry_still same.header);
   fits = subst (IsGeometry x.geometry) (sym same.header.same_length) scanned.fits;
-  newest = newest_still x same scanned.newest;
+  newest = newest_still x same.heads same.own scanned.newest;
   head = head_still x same.own scanned.head;
+  payloads = scanned.payloads ∙ sym same.payloads;
   groups = groups_still (standing_end x) (segment_place x.geometry x.segment) (first_of x) x.groups (omega arith) same.own scanned.groups;
   accepted = scanned.accepted;
 }

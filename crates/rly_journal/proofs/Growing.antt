@@ -12,15 +12,26 @@ use Rattle.rly_gate.specs.Group.{IsAppended, IsClosed, StandsAt, frame_of, group
 use Rattle.rly_gate.specs.Reading.{HoldsGroup}
 use Rattle.rly_disk.proofs.Ranges.{wider}
 use Rattle.rly_record.specs.Spelling.{HaveBody, body_of}
-use Rattle.rly_checkpoint.specs.Checkpoint.{checkpoint_of}
+use Rattle.rly_machine.specs.Map.{map_state}
+use Rattle.rly_checkpoint.specs.Checkpoint.{state_spelled}
+use Rattle.std.specs.Prelude.{All}
+use Rattle.rly_checkpoint.specs.Forms.{HaveForms}
+use Rattle.rly_checkpoint.specs.Stored.{IsStorable, stored_form, stored_length}
+use Rattle.rly_checkpoint.specs.declared.stored.Stored.{Stored}
+use Rattle.rly_places.specs.Placed.{IsPlaced}
+use Rattle.rly_checkpoint.specs.Stored.{state_in as state_over}
+use Rattle.rly_checkpoint.specs.declared.stored.Stored.TheVariants.{Inline}
+use Rattle.rly_checkpoint.proofs.Inlined.{bytes_inline}
 use Rattle.rly_gate.proofs.Frames.{length-frame}
 use Rattle.rly_segment.specs.Device.{IsGeometry, number_in}
 use Rattle.rly_segment.specs.Formatted.{IsFormatted}
-use Rattle.rly_segment.specs.Heads.{IsHead, IsOpening, IsPassedOver, first_gate, generation_in, head_of, head_spelled, opened_head, segment_end, segment_place}
+use Rattle.rly_segment.specs.Heads.{IsHead, IsHeadOf, IsOpening, IsPassedOver, generation_in, head_of, head_spelled, opened_head, opened_spelled, segment_place}
 use Rattle.rly_segment.proofs.Standing.{stands_back, stands_front}
 use Rattle.rly_journal.specs.Standing.{AreAccepted, Commands, HoldGroups, IsScanned, IsStanding, Standing, next_gate, standing_end, first_of, gate_behind, gate_of, replayed, state_in}
-use Rattle.rly_journal.proofs.Agreeing.{SameBytes, apart, number_of_bytes, number_still, same_before, same_behind}
-use Rattle.rly_journal.proofs.Frame.{SameReads, device_still, frame, frame_scanned, gate_above, geometry_still, length-group, length-head}
+use Rattle.rly_journal.specs.Framing.{SameBytes}
+use Rattle.rly_journal.proofs.Agreeing.{apart, number_of_bytes, number_still, other_bytes, same_before, same_behind}
+use Rattle.rly_journal.proofs.Frame.{SameReads, device_still, frame, frame_scanned, gate_above, geometry_still, length-group, length-head, length-spelled}
+use Rattle.rly_journal.proofs.Inlining.{elsewhere_still, gate_inline, head_inline, inline_forms, inline_holds, inline_is_head, inline_payloads, inline_placed, inline_sound, payloads_still}
 
 -- the byte that stands at a place
 pub byte_there : (image : List ℕ) (place byte : ℕ) → StandsAt image place (byte ∷ []) → get_or image place 0 ≡ byte
@@ -55,11 +66,11 @@ abbrev pub with_group : Standing → Commands → Standing
 with_group x commands = record x { groups = x.groups ++ commands ∷ [] }
 
 -- the segments are long
-long_segments : {image : List ℕ} {x : Standing} → IsScanned image x → 78280 ≤ x.geometry.length
+pub long_segments : {image : List ℕ} {x : Standing} → IsScanned image x → 78280 ≤ x.geometry.length
 long_segments scanned = omega (arith, scanned.fits.fits)
 
 -- the head of another segment lies outside the segment
-other_heads : {old new : List ℕ} (g : Geometry) (s t : ℕ) → 9 ≤ g.length → t ≢ s → SameOutside (segment_place g s) g.length old new → IsPassedOver g t old new
+pub other_heads : {old new : List ℕ} (g : Geometry) (s t : ℕ) → 9 ≤ g.length → t ≢ s → SameOutside (segment_place g s) g.length old new → IsPassedOver g t old new
 other_heads g s t long other same opened =
     let place : ℕ = segment_place g t in
     elim (cases_lt t s) [
@@ -82,6 +93,7 @@ reads_before {old} {new} x n scanned within same =
       header = same_before (gate_of x) n 0 64 (omega (arith, above)) same;
       heads = λ t below other. other_heads x.geometry x.segment t (omega (arith, long_segments scanned)) other own;
       own = same_before (gate_of x) n (segment_place x.geometry x.segment) (gate_of x) (omega arith) same;
+      payloads = elsewhere_still x.geometry x.segment x.head scanned.head.placed.elsewhere own;
     }
 
 -- a whole group after the first closed gate
@@ -104,6 +116,7 @@ appended {old} {new} x commands stands body accepted fits within outside group =
         fits = before.fits;
         newest = before.newest;
         head = before.head;
+        payloads = before.payloads;
         groups = groups-more new (standing_end x) (first_of x) x.groups commands before.groups body (record { bytes = front; fits = fits; room = within });
         accepted = accepted-more x.checkpoint x.groups commands before.accepted accepted;
       };
@@ -123,35 +136,39 @@ grown {old} x commands stands body accepted fits within image left =
 -- ---- one segment more
 
 -- the generation of a head that stands
-pub generation_there : (image : List ℕ) (place generation : ℕ) (s : State (List ℕ)) → generation < 2 ^ 64 → StandsAt image place (head_of generation s) → number_in image place 8 ≡ generation
+pub generation_there : {P : Type 0} (len : P → ℕ) (form : P → List ℕ) (image : List ℕ) (place generation : ℕ) (s : State P) → generation < 2 ^ 64
+    → StandsAt image place (head_spelled len form generation s) → number_in image place 8 ≡ generation
 unfolding head_spelled
-generation_there image place generation s fits stands =
+generation_there len form image place generation s fits stands =
+    let body : List ℕ = state_spelled len form s in
     number_of_bytes image place 8 generation refl fits
-    (stands_front image place (big_bytes 8 generation) (big_bytes 4 (length (checkpoint_of s)) ++ checkpoint_of s)
-    (subst (StandsAt image place) (append_assoc (big_bytes 8 generation) (big_bytes 4 (length (checkpoint_of s))) (checkpoint_of s)) stands))
+    (stands_front image place (big_bytes 8 generation) (big_bytes 4 (length body) ++ body)
+    (subst (StandsAt image place) (append_assoc (big_bytes 8 generation) (big_bytes 4 (length body)) body) stands))
 
--- the standing with a new segment that holds its state
-abbrev pub with_segment : Standing → ℕ → Standing
-with_segment x t = record { geometry = x.geometry; segment = t; generation = x.generation + 1; checkpoint = state_in x; groups = [] }
+-- the standing with a new segment
+abbrev pub with_head : Standing → ℕ → State Stored → State (List ℕ) → Standing
+with_head x t s checkpoint = record { geometry = x.geometry; segment = t; generation = x.generation + 1; head = s; checkpoint = checkpoint; groups = [] }
 
 -- the whole head of another segment
-pub opened : {old new : List ℕ} (x : Standing) (t : ℕ) → IsStanding old x → t < x.geometry.segments → t ≢ x.segment
-    → IsSound length (state_in x) → IsHead x.geometry t (x.generation + 1) (state_in x) → x.generation + 1 < 2 ^ 64
-    → SameOutside (segment_place x.geometry t) x.geometry.length old new → StandsAt new (segment_place x.geometry t) (opened_head (x.generation + 1) (state_in x))
-    → IsStanding new (with_segment x t)
-opened {old} {new} x t stands below other sound head small outside whole =
+pub opened_with : {old new : List ℕ} (x : Standing) (t : ℕ) (s : State Stored) (checkpoint : State (List ℕ)) → IsStanding old x → t < x.geometry.segments → t ≢ x.segment
+    → IsSound stored_length s → IsHeadOf stored_length stored_form x.geometry t (x.generation + 1) s → All (HaveForms IsStorable) s.hops → IsPlaced x.geometry t s
+    → x.generation + 1 < 2 ^ 64 → checkpoint ≡ state_over new s
+    → SameOutside (segment_place x.geometry t) x.geometry.length old new
+    → StandsAt new (segment_place x.geometry t) (opened_spelled stored_length stored_form (x.generation + 1) s) → IsStanding new (with_head x t s checkpoint)
+opened_with {old} {new} x t s checkpoint stands below other sound head forms placed small is outside whole =
     let g : Geometry = x.geometry in
     let place : ℕ = segment_place x.geometry t in
     let long = long_segments stands.scanned in
-    let front : List ℕ = open_gate ∷ head_of (x.generation + 1) (state_in x) in
+    let text : List ℕ = head_spelled stored_length stored_form (x.generation + 1) s in
+    let front : List ℕ = open_gate ∷ text in
     let header : SameBytes 0 64 old new = same_before place g.length 0 64 (omega arith) outside in
-    let both : StandsAt new place (open_gate ∷ head_of (x.generation + 1) (state_in x)) = stands_front new place front (0 ∷ []) whole in
-    let gate : StandsAt new place (open_gate ∷ []) = stands_front new place (open_gate ∷ []) (head_of (x.generation + 1) (state_in x)) both in
-    let bytes : StandsAt new (place + 1) (head_of (x.generation + 1) (state_in x)) = stands_back new place (open_gate ∷ []) (head_of (x.generation + 1) (state_in x)) both in
-    let number : generation_in new g t ≡ x.generation + 1 = generation_there new (place + 1) (x.generation + 1) (state_in x) small bytes in
-    let before : generation_in old g x.segment ≡ x.generation = generation_there old (segment_place g x.segment + 1) x.generation x.checkpoint (omega (arith, small)) stands.scanned.head.bytes in
+    let both : StandsAt new place (open_gate ∷ text) = stands_front new place front (0 ∷ []) whole in
+    let gate : StandsAt new place (open_gate ∷ []) = stands_front new place (open_gate ∷ []) text both in
+    let bytes : StandsAt new (place + 1) text = stands_back new place (open_gate ∷ []) text both in
+    let number : generation_in new g t ≡ x.generation + 1 = generation_there stored_length stored_form new (place + 1) (x.generation + 1) s small bytes in
+    let before : generation_in old g x.segment ≡ x.generation = generation_there stored_length stored_form old (segment_place g x.segment + 1) x.generation x.head (omega (arith, small)) stands.scanned.head.head.bytes in
     let last : StandsAt new (place + length front) (0 ∷ []) = stands_back new place front (0 ∷ []) whole in
-    let ends : place + length front ≡ first_gate g t (state_in x) = omega (arith, length-head (x.generation + 1) (state_in x)) in
+    let ends : place + length front ≡ gate_of (with_head x t s checkpoint) = omega (arith, length-spelled stored_length stored_form (x.generation + 1) s) in
     record {
       scanned = record {
         device = device_still header stands.scanned.device;
@@ -167,12 +184,27 @@ opened {old} {new} x t stands below other sound head small outside whole =
                 | inr differs ↦ let less = stands.scanned.newest.newest u small_u differs kept.0 in omega (arith, number, before, less, kept.1)
               ];
         };
-        head = record { bytes = bytes; sound = sound; head = head };
+        head = record { head = record { bytes = bytes; sound = sound; head = head }; forms = forms; placed = placed };
+        payloads = is;
         groups = tt;
         accepted = tt;
       };
-      closed = closed_there new (first_gate g t (state_in x)) (subst (λ k. StandsAt new k (0 ∷ [])) ends last);
+      closed = closed_there new (gate_of (with_head x t s checkpoint)) (subst (λ k. StandsAt new k (0 ∷ [])) ends last);
     }
+
+-- the standing with a new segment that holds its state, with every payload inline
+abbrev pub with_segment : Standing → ℕ → Standing
+with_segment x t = with_head x t (map_state Inline (state_in x)) (state_in x)
+
+pub opened : {old new : List ℕ} (x : Standing) (t : ℕ) → IsStanding old x → t < x.geometry.segments → t ≢ x.segment
+    → IsSound length (state_in x) → IsHead x.geometry t (x.generation + 1) (state_in x) → x.generation + 1 < 2 ^ 64
+    → SameOutside (segment_place x.geometry t) x.geometry.length old new → StandsAt new (segment_place x.geometry t) (opened_head (x.generation + 1) (state_in x))
+    → IsStanding new (with_segment x t)
+opened {old} {new} x t stands below other sound head small outside whole =
+    let s : State (List ℕ) = state_in x in
+    opened_with x t (map_state Inline s) s stands below other (inline_sound s sound) (inline_is_head x.geometry t (x.generation + 1) s head) (inline_forms s)
+    (inline_placed x.geometry t s stands.scanned.fits.segments below) small (sym (bytes_inline new s)) outside
+    (subst (λ (text : List ℕ). StandsAt new (segment_place x.geometry t) (open_gate ∷ text ++ 0 ∷ [])) (sym (head_inline (x.generation + 1) s)) whole)
 
 -- the first closed gate lies in the segment
 pub gate_within : (image : List ℕ) (end at : ℕ) (groups : List Commands) → at < end → HoldGroups image end at groups → gate_behind at groups < end
@@ -181,17 +213,12 @@ gate_within image end at (commands ∷ groups) below holds =
     gate_within image end (next_gate at commands) groups (omega (arith, holds.1.room, length-frame (body_of commands))) holds.2
 
 pub gate_of-within : {image : List ℕ} (x : Standing) → IsScanned image x → gate_of x < standing_end x
-gate_of-within {image} x scanned = gate_within image (standing_end x) (first_of x) x.groups (omega (arith, scanned.head.head.room)) scanned.groups
+gate_of-within {image} x scanned = gate_within image (standing_end x) (first_of x) x.groups (omega (arith, scanned.head.head.head.room)) scanned.groups
 
--- the bytes of one segment lie outside another
-pub other_bytes : {old new : List ℕ} (g : Geometry) (s t : ℕ) → t ≢ s → SameOutside (segment_place g t) g.length old new → SameBytes (segment_place g s) (segment_end g s) old new
-other_bytes g s t other same =
-    elim (cases_lt t s) [
-      | inl before ↦ let low = apart t s g.length before in same_behind (segment_place g t) g.length (segment_place g s) (segment_end g s) (omega (arith, low)) same
-      | inr after ↦
-          let high = apart s t g.length (omega (arith, after, other)) in
-          same_before (segment_place g t) g.length (segment_place g s) (segment_end g s) (omega (arith, high)) same
-    ]
+-- the payloads of the head are as they were: on two segments all are inline
+same_payloads : {old : List ℕ} (new : List ℕ) (x : Standing) → IsScanned old x → state_over new x.head ≡ state_over old x.head
+same_payloads {old} new x scanned =
+    payloads_still old new x.head (inline_payloads x.geometry x.segment x.head scanned.fits.segments scanned.newest.there scanned.head.placed)
 
 -- a new head that isn't there, or not whole
 passed : {old new : List ℕ} (x : Standing) (t : ℕ) → IsStanding old x → t ≢ x.segment
@@ -208,6 +235,7 @@ passed {old} {new} x t stands other outside over =
         | inr differs ↦ other_heads x.geometry t u (omega (arith, long_segments stands.scanned)) differs outside
       ];
       own = record { same_length = own.same_length; each = λ i low high. own.each i low (omega (arith, high, within)) };
+      payloads = same_payloads new x stands.scanned;
     }) (λ now_open. stands.closed (sym gate ∙ now_open)) stands
 
 -- what a crash within the opening of a segment leaves: the standing as it was, or with the new segment
@@ -224,7 +252,7 @@ renewed x t stands below other sound head small image left =
 
 -- what is read of a device that was formatted
 abbrev pub new_standing : Geometry → Standing
-new_standing g = record { geometry = g; segment = 0; generation = 1; checkpoint = new_state g.params; groups = [] }
+new_standing g = record { geometry = g; segment = 0; generation = 1; head = map_state Inline (new_state g.params); checkpoint = new_state g.params; groups = [] }
 
 pub formatted : {image : List ℕ} (g : Geometry) → IsFormatted g image → IsHead g 0 1 (new_state g.params) → IsSound {P = List ℕ} length (new_state g.params) → IsStanding image (new_standing g)
 formatted {image} g is head sound =
@@ -234,7 +262,7 @@ formatted {image} g is head sound =
     let gate : StandsAt image place (open_gate ∷ []) = stands_front image place (open_gate ∷ []) (head_of 1 (new_state g.params)) both in
     let bytes : StandsAt image (place + 1) (head_of 1 (new_state g.params)) = stands_back image place (open_gate ∷ []) (head_of 1 (new_state g.params)) both in
     let last : StandsAt image (place + length front) (0 ∷ []) = stands_back image place front (0 ∷ []) is.head in
-    let ends : place + length front ≡ first_gate g 0 (new_state g.params) = omega (arith, length-head 1 (new_state g.params)) in
+    let ends : place + length front ≡ gate_of (new_standing g) = omega (arith, length-head 1 (new_state g.params), gate_inline g 0 (new_state g.params)) in
     record {
       scanned = record {
         device = is.device;
@@ -245,9 +273,10 @@ formatted {image} g is head sound =
           gate = byte_there image place open_gate gate;
           newest = λ u small_u apart_u opened_u. absurd (is.others u (omega (arith, apart_u)) small_u opened_u);
         };
-        head = record { bytes = bytes; sound = sound; head = head };
+        head = inline_holds image g 0 1 (new_state g.params) is.fits.segments (omega (arith, is.fits.segments)) (record { bytes = bytes; sound = sound; head = head });
+        payloads = sym (bytes_inline image (new_state g.params));
         groups = tt;
         accepted = tt;
       };
-      closed = closed_there image (first_gate g 0 (new_state g.params)) (subst (λ k. StandsAt image k (0 ∷ [])) ends last);
+      closed = closed_there image (gate_of (new_standing g)) (subst (λ k. StandsAt image k (0 ∷ [])) ends last);
     }

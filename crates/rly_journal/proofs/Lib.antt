@@ -1,6 +1,9 @@
 pub mod Agreeing
 pub mod Frame
 pub mod Growing
+pub mod Inlining
+pub mod Framing
+pub mod Lying
 pub mod Once
 pub mod Gathering
 pub mod Serving

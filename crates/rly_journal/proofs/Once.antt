@@ -3,7 +3,6 @@ use Rattle.std.proofs.Common.{◌≡◌, ◌<◌, ◌+◌, ◌^◌, ◌++◌, �
 use Rattle.std.proofs.lemmas.Bool.{cases_eq}
 use Rattle.byteorder.specs.Endian.{big_bytes}
 use Rattle.rly_core.specs.declared.params.Geometry.{Geometry}
-use Rattle.rly_machine.specs.Sound.{IsSound}
 use Rattle.rly_machine.specs.State.{State}
 use Rattle.rly_gate.specs.Group.{IsClosed, IsOpen, StandsAt, open_gate}
 use Rattle.rly_gate.specs.Reading.{HoldsGroup}
@@ -11,8 +10,14 @@ use Rattle.rly_gate.proofs.Holding.{number_once}
 use Rattle.rly_gate.proofs.Frames.{group_length}
 use Rattle.rly_record.specs.Spelling.{body_of}
 use Rattle.rly_record.proofs.Bodies.{body_once}
-use Rattle.rly_checkpoint.specs.Checkpoint.{checkpoint_of}
-use Rattle.rly_segment.specs.Heads.{HoldsHead, IsNewest, head_of, head_spelled, segment_place}
+use Rattle.rly_checkpoint.specs.Checkpoint.{state_spelled}
+use Rattle.rly_checkpoint.specs.Stored.{stored_form, stored_length}
+use Rattle.rly_checkpoint.specs.Stored.{state_in as state_over}
+use Rattle.rly_checkpoint.specs.declared.stored.Stored.{Stored}
+use Rattle.rly_checkpoint.proofs.Fitness.{one_spelled}
+use Rattle.rly_checkpoint.proofs.StoredForms.{stored_forms}
+use Rattle.rly_segment.specs.Heads.{IsNewest, head_spelled, segment_place}
+use Rattle.rly_journal.specs.Placing.{HoldsStored}
 use Rattle.rly_journal.specs.Standing.{Commands, HoldGroups, IsStanding, Standing, Stands, next_gate, standing_end, first_of, gate_behind, state_in}
 use Rattle.rly_segment.proofs.Standing.{stands_back, stands_front}
 use Rattle.rly_journal.proofs.Growing.{byte_there, generation_there}
@@ -33,33 +38,34 @@ newest_once {image} g s t first second =
     ]
 
 -- the parts of a head
-length_there : (image : List ℕ) (place generation : ℕ) (s : State (List ℕ)) → StandsAt image place (head_of generation s)
-    → StandsAt image (place + 8) (big_bytes 4 (length (checkpoint_of s))) × StandsAt image (place + 12) (checkpoint_of s)
+abbrev body_spelled : State Stored → List ℕ
+body_spelled s = state_spelled stored_length stored_form s
+
+length_there : (image : List ℕ) (place generation : ℕ) (s : State Stored) → StandsAt image place (head_spelled stored_length stored_form generation s)
+    → StandsAt image (place + 8) (big_bytes 4 (length (body_spelled s))) × StandsAt image (place + 12) (body_spelled s)
 unfolding head_spelled
 length_there image place generation s stands =
-    let regrouped : StandsAt image place (big_bytes 8 generation ++ (big_bytes 4 (length (checkpoint_of s)) ++ checkpoint_of s)) =
-    subst (StandsAt image place) (append_assoc (big_bytes 8 generation) (big_bytes 4 (length (checkpoint_of s))) (checkpoint_of s)) stands in
-    let rest : StandsAt image (place + 8) (big_bytes 4 (length (checkpoint_of s)) ++ checkpoint_of s) = stands_back image place (big_bytes 8 generation) (big_bytes 4 (length (checkpoint_of s)) ++ checkpoint_of s) regrouped in
-    let last : StandsAt image (place + 8 + 4) (checkpoint_of s) = stands_back image (place + 8) (big_bytes 4 (length (checkpoint_of s))) (checkpoint_of s) rest in (
-      stands_front image (place + 8) (big_bytes 4 (length (checkpoint_of s))) (checkpoint_of s) rest,
-      subst (λ k. StandsAt image k (checkpoint_of s)) (let e : place + 8 + 4 ≡ place + 12 = omega arith in e) last,
+    let regrouped : StandsAt image place (big_bytes 8 generation ++ (big_bytes 4 (length (body_spelled s)) ++ body_spelled s)) =
+    subst (StandsAt image place) (append_assoc (big_bytes 8 generation) (big_bytes 4 (length (body_spelled s))) (body_spelled s)) stands in
+    let rest : StandsAt image (place + 8) (big_bytes 4 (length (body_spelled s)) ++ body_spelled s) = stands_back image place (big_bytes 8 generation) (big_bytes 4 (length (body_spelled s)) ++ body_spelled s) regrouped in
+    let last : StandsAt image (place + 8 + 4) (body_spelled s) = stands_back image (place + 8) (big_bytes 4 (length (body_spelled s))) (body_spelled s) rest in (
+      stands_front image (place + 8) (big_bytes 4 (length (body_spelled s))) (body_spelled s) rest,
+      subst (λ k. StandsAt image k (body_spelled s)) (let e : place + 8 + 4 ≡ place + 12 = omega arith in e) last,
     )
 
--- one checkpoint is one state: the law of `rly_checkpoint`
-abbrev OneState : Type 0
-OneState = (a b : State (List ℕ)) → IsSound length a → IsSound length b → a.params ≡ b.params → checkpoint_of a ≡ checkpoint_of b → a ≡ b
-
 -- two heads of one segment
-pub head_once : OneState → {image : List ℕ} (g : Geometry) (segment n m : ℕ) (a b : State (List ℕ)) → g.length < 2 ^ 31 → n < 2 ^ 64 → m < 2 ^ 64
-    → HoldsHead image g segment n a → HoldsHead image g segment m b → (n ≡ m) × (a ≡ b)
-head_once one_state {image} g segment n m a b short small_n small_m first second =
+pub head_once : {image : List ℕ} (g : Geometry) (segment n m : ℕ) (a b : State Stored) → g.length < 2 ^ 31 → n < 2 ^ 64 → m < 2 ^ 64
+    → HoldsStored image g segment n a → HoldsStored image g segment m b → (n ≡ m) × (a ≡ b)
+head_once {image} g segment n m a b short small_n small_m one other =
+    let first = one.head in
+    let second = other.head in
     let place : ℕ = segment_place g segment + 1 in
-    let generation : n ≡ m = sym (generation_there image place n a small_n first.bytes) ∙ generation_there image place m b small_m second.bytes in
+    let generation : n ≡ m = sym (generation_there stored_length stored_form image place n a small_n first.bytes) ∙ generation_there stored_length stored_form image place m b small_m second.bytes in
     let parts_a = length_there image place n a first.bytes in
     let parts_b = length_there image place m b second.bytes in
-    let bytes : big_bytes 4 (length (checkpoint_of a)) ≡ big_bytes 4 (length (checkpoint_of b)) = same_bytes image (place + 8) (big_bytes 4 (length (checkpoint_of a))) (big_bytes 4 (length (checkpoint_of b))) refl parts_a.0 parts_b.0 in
-    let size : length (checkpoint_of a) ≡ length (checkpoint_of b) = number_once 4 (length (checkpoint_of a)) (length (checkpoint_of b)) (omega (arith, first.head.room, short)) (omega (arith, second.head.room, short)) bytes in
-    (generation, one_state a b first.sound second.sound (first.head.params ∙ sym second.head.params) (same_bytes image (place + 12) (checkpoint_of a) (checkpoint_of b) size parts_a.1 parts_b.1))
+    let bytes : big_bytes 4 (length (body_spelled a)) ≡ big_bytes 4 (length (body_spelled b)) = same_bytes image (place + 8) (big_bytes 4 (length (body_spelled a))) (big_bytes 4 (length (body_spelled b))) refl parts_a.0 parts_b.0 in
+    let size : length (body_spelled a) ≡ length (body_spelled b) = number_once 4 (length (body_spelled a)) (length (body_spelled b)) (omega (arith, first.head.room, short)) (omega (arith, second.head.room, short)) bytes in
+    (generation, one_spelled stored_forms a b first.sound second.sound one.forms other.forms (first.head.params ∙ sym second.head.params) (same_bytes image (place + 12) (body_spelled a) (body_spelled b) size parts_a.1 parts_b.1))
 
 -- two bodies after one gate
 pub body_there_once : {image : List ℕ} (at end : ℕ) (a b : List ℕ) → HoldsGroup image at end a → HoldsGroup image at end b → a ≡ b
@@ -92,11 +98,11 @@ groups_once image end at (one ∷ groups) (other ∷ others) first closed_a seco
 
 -- generations have 64 bits
 small : {image : List ℕ} {x : Standing} → IsStanding image x → x.generation < 2 ^ 64
-small stands = omega (arith, stands.scanned.head.head.most, stands.scanned.head.sound.seq)
+small stands = omega (arith, stands.scanned.head.head.head.most, stands.scanned.head.head.sound.seq)
 
 -- what is read of an image is one
-pub standing_once : OneState → {image : List ℕ} (x y : Standing) → IsStanding image x → IsStanding image y → x ≡ y
-standing_once one_state {image} x y first second =
+pub standing_once : {image : List ℕ} (x y : Standing) → IsStanding image x → IsStanding image y → x ≡ y
+standing_once {image} x y first second =
     let g : y.geometry ≡ x.geometry = second.scanned.geometry ∙ sym first.scanned.geometry in
     let y1 : Standing = record y { geometry = x.geometry } in
     let to_y1 : y ≡ y1 = ap (λ h. record y { geometry = h }) g in
@@ -105,13 +111,15 @@ standing_once one_state {image} x y first second =
     let y2 : Standing = record y1 { segment = x.segment } in
     let to_y2 : y1 ≡ y2 = ap (λ k. record y1 { segment = k }) s in
     let second2 : IsStanding image y2 = subst (IsStanding image) to_y2 second1 in
-    let heads = head_once one_state x.geometry x.segment y.generation x.generation y.checkpoint x.checkpoint first.scanned.fits.length (small second2) (small first) second2.scanned.head first.scanned.head in
-    let y3 : Standing = record y2 { generation = x.generation; checkpoint = x.checkpoint } in
-    let to_y3 : y2 ≡ y3 = ap (λ n. record y2 { generation = n }) heads.0 ∙ ap (λ c. record y2 { generation = x.generation; checkpoint = c }) heads.1 in
+    let heads = head_once x.geometry x.segment y.generation x.generation y.head x.head first.scanned.fits.length (small second2) (small first) second2.scanned.head first.scanned.head in
+    let payloads : y.checkpoint ≡ x.checkpoint = second2.scanned.payloads ∙ ap (state_over image) heads.1 ∙ sym first.scanned.payloads in
+    let y3 : Standing = record y2 { generation = x.generation; head = x.head; checkpoint = x.checkpoint } in
+    let to_y3 : y2 ≡ y3 = ap (λ n. record y2 { generation = n }) heads.0 ∙ ap (λ c. record y2 { generation = x.generation; head = c }) heads.1
+    ∙ ap (λ c. record y2 { generation = x.generation; head = x.head; checkpoint = c }) payloads in
     let second3 : IsStanding image y3 = subst (IsStanding image) to_y3 second2 in
     let groups : y.groups ≡ x.groups = groups_once image (standing_end x) (first_of x) y.groups x.groups second3.scanned.groups second3.closed first.scanned.groups first.closed in
     sym (to_y1 ∙ to_y2 ∙ to_y3 ∙ ap (λ l. record y3 { groups = l }) groups)
 
 -- no image stands for two states
-pub stands_for_one : OneState → (image : List ℕ) (a b : State (List ℕ)) → Stands image a → Stands image b → a ≡ b
-stands_for_one one_state image a b first second = first.2 ∙ ap state_in (standing_once one_state first.0 second.0 first.1 second.1) ∙ sym second.2
+pub stands_for_one : (image : List ℕ) (a b : State (List ℕ)) → Stands image a → Stands image b → a ≡ b
+stands_for_one image a b first second = first.2 ∙ ap state_in (standing_once first.0 second.0 first.1 second.1) ∙ sym second.2

@@ -14,6 +14,10 @@ use Rattle.rly_machine.specs.Step.{step}
 use Rattle.rly_machine.proofs.Folding.{accepted_parts, accepted_push, fold_push, params_fold, seq_fold}
 use Rattle.rly_machine.proofs.RealReplies.{unaccepted}
 use Rattle.rly_record.specs.Spelling.{HaveBody, body_of}
+use Rattle.rly_machine.specs.Map.{map_state}
+use Rattle.rly_checkpoint.specs.declared.stored.Stored.{Stored}
+use Rattle.rly_checkpoint.specs.declared.stored.Stored.TheVariants.{Inline}
+use Rattle.rly_checkpoint.proofs.Inlined.{bytes_inline}
 use Rattle.rly_segment.specs.Answers.{AreClosed, HoldsNoHead}
 use Rattle.rly_segment.specs.Device.{IsDevice, IsGeometry, geometry_in}
 use Rattle.rly_segment.specs.Heads.{HoldsHead, IsAmbiguous, IsNewest, first_gate, segment_end, segment_place}
@@ -22,8 +26,10 @@ use Rattle.rly_journal.specs.declared.tail.Tail.{Tail}
 use Rattle.rly_journal.specs.Faults.{IsRefused}
 use Rattle.rly_journal.specs.Log.{EndsAt}
 use Rattle.rly_journal.specs.HelpersJournal.{IsReplayed, IsShaped}
+use Rattle.rly_journal.specs.Placing.{HoldsStored}
 use Rattle.rly_journal.specs.Standing.{Commands, Standing, standing_end, first_of, gate_of}
 use Rattle.rly_journal.proofs.Growing.{accepted-more, gate_behind-more, groups-more, replayed-more, with_group}
+use Rattle.rly_journal.proofs.Inlining.{gate_inline, holds_none, inline_holds}
 use Rattle.rly_journal.proofs.Once.{body_there_once, gate_there}
 
 -- ---- commands that are made again
@@ -124,6 +130,7 @@ replayed_more image tail commands body s t gate so_far holds have spelled accept
         fits = before.fits;
         newest = before.newest;
         head = before.head;
+        payloads = before.payloads;
         groups = groups-more image (standing_end so_far.x) (first_of so_far.x) so_far.x.groups commands before.groups have group;
         accepted = accepted-more so_far.x.checkpoint so_far.x.groups commands before.accepted (subst (λ m. AllAccepted length m commands) so_far.state accepted);
       };
@@ -196,9 +203,18 @@ pub head_replayed : (image : List ℕ) (g : Geometry) (segment generation gate :
     → IsGeometry g (length image) → IsNewest image g segment → AreClosed image g g.segments closed → HoldsHead image g segment generation s → gate ≡ first_gate g segment s
     → IsReplayed image (head_tail g segment generation gate closed) s
 head_replayed image g segment generation gate closed s device named fits newest gates head is = record {
-  x = record { geometry = g; segment = segment; generation = generation; checkpoint = s; groups = [] };
-  scanned = record { device = device; geometry = named; fits = fits; newest = newest; head = head; groups = tt; accepted = tt };
-  ends = record { geometry = refl; segment = refl; generation = refl; gate = is };
+  x = record { geometry = g; segment = segment; generation = generation; head = map_state Inline s; checkpoint = s; groups = [] };
+  scanned = record {
+    device = device;
+    geometry = named;
+    fits = fits;
+    newest = newest;
+    head = inline_holds image g segment generation s fits.segments newest.there head;
+    payloads = sym (bytes_inline image s);
+    groups = tt;
+    accepted = tt;
+  };
+  ends = record { geometry = refl; segment = refl; generation = refl; gate = is ∙ sym (gate_inline g segment s) };
   state = refl;
   gates = gates;
 }
@@ -218,7 +234,8 @@ refused_head image g segment place device named fits newest none is = (
   inr (inl (record {
     segment = segment;
     newest = subst (λ h. IsNewest image h segment) named newest;
-    none = subst (λ h. HoldsNoHead image h segment) named none;
+    none = subst (λ h. (generation : ℕ) (s : State Stored) → HoldsStored image h segment generation s → ⊥) named
+        (holds_none image g segment fits.segments newest.there none);
     at = is ∙ ap (λ h. segment_place h segment) named;
   })),
 )

@@ -8,12 +8,13 @@ use Rattle.rly_machine.specs.Fold.{AllAccepted, fold}
 use Rattle.rly_machine.specs.State.{State}
 use Rattle.rly_record.specs.Spelling.{HaveBody, body_of}
 use Rattle.rly_record.proofs.Bodies.{body_once}
-use Rattle.rly_checkpoint.proofs.Fitness.{one_state}
+use Rattle.rly_checkpoint.specs.Stored.{state_in as state_over}
 use Rattle.rly_segment.specs.Device.{IsGeometry, geometry_in}
-use Rattle.rly_segment.specs.Heads.{HoldsHead, IsAmbiguous, IsLastOfTie, IsNewest, generation_in}
+use Rattle.rly_segment.specs.Heads.{IsAmbiguous, IsLastOfTie, IsNewest, generation_in}
 use Rattle.rly_journal.specs.declared.open_fault.OpenFault.{OpenFault}
 use Rattle.rly_journal.specs.declared.open_fault.OpenFault.TheVariants.{OutOfMemory, NotADevice, BadGeometry, Damaged, Device}
 use Rattle.rly_journal.specs.Faults.{IsDamagedAt, IsHeadless, IsOfImage, IsRefused}
+use Rattle.rly_journal.specs.Placing.{HoldsStored}
 use Rattle.rly_journal.specs.Standing.{AreAccepted, Commands, HoldGroups, IsScanned, IsStanding, Standing, Stands, next_gate, standing_end, first_of, gate_behind, gate_of, replayed, state_in}
 use Rattle.rly_journal.proofs.Once.{body_there_once, gate_there, head_once, newest_once}
 
@@ -56,7 +57,7 @@ not_broken image end at s (one ∷ groups) (other ∷ others) first opened none 
 
 -- generations have 64 bits
 small : {image : List ℕ} {x : Standing} → IsScanned image x → x.generation < 2 ^ 64
-small scanned = omega (arith, scanned.head.head.most, scanned.head.sound.seq)
+small scanned = omega (arith, scanned.head.head.head.most, scanned.head.head.sound.seq)
 
 -- what was scanned up to a gate that can't be passed, and what stands
 not_stuck : {image : List ℕ} (x y : Standing) → IsScanned image x → IsOpen image (gate_of x)
@@ -71,18 +72,20 @@ not_stuck {image} x y scanned opened none second =
     let y2 : Standing = record y1 { segment = x.segment } in
     let to_y2 : y1 ≡ y2 = ap (λ k. record y1 { segment = k }) s in
     let second2 : IsStanding image y2 = subst (IsStanding image) to_y2 second1 in
-    let heads = head_once one_state x.geometry x.segment y.generation x.generation y.checkpoint x.checkpoint scanned.fits.length (small second2.scanned) (small scanned) second2.scanned.head scanned.head in
-    let y3 : Standing = record y2 { generation = x.generation; checkpoint = x.checkpoint } in
-    let to_y3 : y2 ≡ y3 = ap (λ n. record y2 { generation = n }) heads.0 ∙ ap (λ c. record y2 { generation = x.generation; checkpoint = c }) heads.1 in
+    let heads = head_once x.geometry x.segment y.generation x.generation y.head x.head scanned.fits.length (small second2.scanned) (small scanned) second2.scanned.head scanned.head in
+    let payloads : y.checkpoint ≡ x.checkpoint = second2.scanned.payloads ∙ ap (state_over image) heads.1 ∙ sym scanned.payloads in
+    let y3 : Standing = record y2 { generation = x.generation; head = x.head; checkpoint = x.checkpoint } in
+    let to_y3 : y2 ≡ y3 = ap (λ n. record y2 { generation = n }) heads.0 ∙ ap (λ c. record y2 { generation = x.generation; head = c }) heads.1
+    ∙ ap (λ c. record y2 { generation = x.generation; head = x.head; checkpoint = c }) payloads in
     let second3 : IsStanding image y3 = subst (IsStanding image) to_y3 second2 in
     not_broken image (standing_end x) (first_of x) x.checkpoint x.groups y.groups scanned.groups opened none second3.scanned.groups second3.scanned.accepted second3.closed
 
 not_headless : {image : List ℕ} (g : Geometry) (place : ℕ) (y : Standing) → y.geometry ≡ g → IsHeadless image g place → IsStanding image y → ⊥
 not_headless {image} g place y same headless second =
     let newest : IsNewest image g y.segment = subst (λ h. IsNewest image h y.segment) same second.scanned.newest in
-    let head : HoldsHead image g y.segment y.generation y.checkpoint = subst (λ h. HoldsHead image h y.segment y.generation y.checkpoint) same second.scanned.head in
+    let head : HoldsStored image g y.segment y.generation y.head = subst (λ h. HoldsStored image h y.segment y.generation y.head) same second.scanned.head in
     let segment : y.segment ≡ headless.segment = newest_once g y.segment headless.segment newest headless.newest in
-    headless.none y.generation y.checkpoint (subst (λ k. HoldsHead image g k y.generation y.checkpoint) segment head)
+    headless.none y.generation y.head (subst (λ k. HoldsStored image g k y.generation y.head) segment head)
 
 not_damaged : {image : List ℕ} (place : ℕ) (y : Standing) → IsDamagedAt image (geometry_in image) place → IsStanding image y → ⊥
 not_damaged {image} place y damaged second =

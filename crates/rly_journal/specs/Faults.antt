@@ -5,21 +5,23 @@ use Rattle.rly_core.specs.declared.refusal.Refusal.{Refusal}
 use Rattle.rly_core.specs.declared.refusal.Refusal.TheVariants as refusal
 use Rattle.rly_machine.specs.Fold.{AllAccepted}
 use Rattle.rly_machine.specs.State.{State}
+use Rattle.rly_checkpoint.specs.declared.stored.Stored.{Stored}
 use Rattle.rly_gate.specs.Group.{IsOpen}
 use Rattle.rly_gate.specs.Reading.{HoldsGroup}
 use Rattle.rly_record.specs.Spelling.{HaveBody, body_of}
 use Rattle.rly_segment.specs.Device.{IsDevice, IsGeometry, geometry_in}
-use Rattle.rly_segment.specs.Heads.{HoldsHead, IsAmbiguous, IsNewest, segment_place}
+use Rattle.rly_segment.specs.Heads.{IsAmbiguous, IsNewest, segment_place}
 use Rattle.rly_journal.specs.declared.open_fault.OpenFault.{OpenFault}
 use Rattle.rly_journal.specs.declared.open_fault.OpenFault.TheVariants.{OutOfMemory, NotADevice}
 use Rattle.rly_journal.specs.declared.open_fault.OpenFault.TheVariants.{BadGeometry, Damaged, Device}
+use Rattle.rly_journal.specs.Placing.{HoldsStored}
 use Rattle.rly_journal.specs.Standing.{Commands, IsScanned, Standing, standing_end, gate_of, state_in}
 
 -- the newest segment has no head that holds a state
 pub record IsHeadless (image : List ℕ) (g : Geometry) (place : ℕ) : Type 0 where
   pub segment : ℕ
   pub newest : IsNewest image g segment
-  pub none : (generation : ℕ) (s : State (List ℕ)) → HoldsHead image g segment generation s → ⊥
+  pub none : (generation : ℕ) (s : State Stored) → HoldsStored image g segment generation s → ⊥
   pub at : place ≡ segment_place g segment
 
 -- after the newest head and whole groups a gate is open, and no group of accepted commands stands there

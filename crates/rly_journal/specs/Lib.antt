@@ -1,9 +1,12 @@
 pub mod Calls
 pub mod Faults
+pub mod Framing
 pub mod HelpersCalls
 pub mod HelpersGroups
 pub mod HelpersJournal
 pub mod Journal
 pub mod Log
+pub mod Lying
+pub mod Placing
 pub mod Rounds
 pub mod Standing

@@ -1,15 +1,21 @@
 -- When an image stands for a state (docs/DEFINITIONS.md, "What an image stands for"): the checkpoint of the newest
--- head, followed by the commands of the groups after it, up to the first closed gate.
-use Rattle.std.specs.Prelude.{◌≡◌, ℕ, ◌+◌, ⊤, List, [], ◌∷◌, length}
+-- head, its payloads as the image has them, followed by the commands of the groups after it, up to the first closed gate.
+use Rattle.std.specs.Prelude.{◌≡◌, ℕ, ◌+◌, ⊤, List, [], ◌∷◌, length, map}
 use Rattle.rly_core.specs.declared.params.Geometry.{Geometry}
 use Rattle.rly_machine.specs.declared.command.Command.{Command}
 use Rattle.rly_machine.specs.Fold.{fold, AllAccepted}
+use Rattle.rly_machine.specs.Map.{map_command}
 use Rattle.rly_machine.specs.State.{State}
 use Rattle.rly_gate.specs.Group.{IsClosed}
 use Rattle.rly_gate.specs.Reading.{HoldsGroup}
 use Rattle.rly_record.specs.Spelling.{HaveBody, body_of}
+use Rattle.rly_checkpoint.specs.Stored.{stored_form, stored_length}
+use Rattle.rly_checkpoint.specs.Stored.{state_in as state_over}
+use Rattle.rly_checkpoint.specs.declared.stored.Stored.{Stored}
+use Rattle.rly_checkpoint.specs.declared.stored.Stored.TheVariants.{Inline}
 use Rattle.rly_segment.specs.Device.{IsDevice, IsGeometry, geometry_in}
-use Rattle.rly_segment.specs.Heads.{HoldsHead, IsNewest, first_gate, segment_end}
+use Rattle.rly_segment.specs.Heads.{IsNewest, gate_after, segment_end}
+use Rattle.rly_journal.specs.Placing.{HoldsStored}
 
 -- the commands of one group
 abbrev pub Commands : Type 0
@@ -40,18 +46,19 @@ abbrev pub AreAccepted : State (List ℕ) → List Commands → Type 0
 AreAccepted s [] = ⊤
 AreAccepted s (commands ∷ groups) = AllAccepted length s commands × AreAccepted (fold length s commands) groups
 
--- what is read of an image: the geometry, the newest segment with the generation and the checkpoint of its head, and
--- the groups after it
+-- what is read of an image: the geometry, the newest segment with the generation of its head and the state that it
+-- holds, that state with its payloads as the image has them, and the groups after the head
 pub record Standing : Type 0 where
   pub geometry : Geometry
   pub segment : ℕ
   pub generation : ℕ
+  pub head : State Stored
   pub checkpoint : State (List ℕ)
   pub groups : List Commands
 
 -- the gate after the head
 abbrev pub first_of : Standing → ℕ
-first_of x = first_gate x.geometry x.segment x.checkpoint
+first_of x = gate_after stored_length stored_form x.geometry x.segment x.head
 
 -- the end of the segment
 abbrev pub standing_end : Standing → ℕ
@@ -65,13 +72,25 @@ gate_of x = gate_behind (first_of x) x.groups
 abbrev pub state_in : Standing → State (List ℕ)
 state_in x = replayed x.checkpoint x.groups
 
+-- the same with each payload where it is: those that the groups bring are inline
+abbrev pub stored_commands : Commands → List (Command Stored)
+stored_commands commands = map (map_command Inline) commands
+
+abbrev pub stored_after : State Stored → List Commands → State Stored
+stored_after s [] = s
+stored_after s (commands ∷ groups) = stored_after (fold stored_length s (stored_commands commands)) groups
+
+abbrev pub stored_in : Standing → State Stored
+stored_in x = stored_after x.head x.groups
+
 -- that is what is read of an image, up to the gate after the groups
 pub record IsScanned (image : List ℕ) (x : Standing) : Type 0 where
   pub device : IsDevice image
   pub geometry : x.geometry ≡ geometry_in image
   pub fits : IsGeometry x.geometry (length image)
   pub newest : IsNewest image x.geometry x.segment
-  pub head : HoldsHead image x.geometry x.segment x.generation x.checkpoint
+  pub head : HoldsStored image x.geometry x.segment x.generation x.head
+  pub payloads : x.checkpoint ≡ state_over image x.head
   pub groups : HoldGroups image (standing_end x) (first_of x) x.groups
   pub accepted : AreAccepted x.checkpoint x.groups
 

@@ -17,6 +17,9 @@ mod recovery;
 mod tail;
 
 pub use crate::journal::Journal;
-pub use crate::laws::{law_formatted_stands, law_refused_stands_for_none, law_stands_for_one};
+pub use crate::laws::{
+    law_formatted_stands, law_frame, law_group, law_inline_head, law_opened,
+    law_refused_stands_for_none, law_stands_for_one,
+};
 pub use crate::open_fault::OpenFault;
 pub use crate::tail::Tail;

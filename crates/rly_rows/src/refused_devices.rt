@@ -19,7 +19,7 @@ enum Base {
 
 /// Changes of device E, and of device E after its first take: how many bytes stay, which bytes are set, and why it isn't
 /// opened. `None` opens to the empty state.
-const ROWS: [(Base, usize, &[(usize, u8)], Option<OpenFault>); 15] = [
+const ROWS: [(Base, usize, &[(usize, u8)], Option<OpenFault>); 16] = [
     (Base::Formatted, SIZE, &[], None),
     (Base::Formatted, 63, &[], Some(OpenFault::NotADevice)),
     (
@@ -78,6 +78,25 @@ const ROWS: [(Base, usize, &[(usize, u8)], Option<OpenFault>); 15] = [
         SIZE,
         &[(164, 0xa5), (168, 0x02)],
         Some(OpenFault::Damaged(164)),
+    ),
+    // a head of one datagram that waits, whose one byte is by place in the other segment: of two segments none is left then
+    (
+        Base::Formatted,
+        SIZE,
+        &[
+            (76, 0x72),
+            (84, 1),
+            (92, 1),
+            (141, 1),
+            (163, 1),
+            (171, 1),
+            (181, 1),
+            (182, 1),
+            (188, 0x01),
+            (189, 0x44),
+            (190, 0x29),
+        ],
+        Some(OpenFault::Damaged(64)),
     ),
     (Base::Taken, SIZE, &[(164, 0xa4)], None),
     (

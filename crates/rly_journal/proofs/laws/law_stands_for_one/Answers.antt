@@ -1,6 +1,5 @@
-use Rattle.rly_checkpoint.proofs.Fitness.{one_state}
 use Rattle.rly_journal.proofs.Once.{stands_for_one}
 use Rattle.rly_journal.proofs.laws.law_stands_for_one.Goals as goal
 
 pub returns : goal.returns
-returns c = stands_for_one one_state
+returns c = stands_for_one

@@ -1,4 +1,4 @@
-use Rattle.std.proofs.Common.{◌≡◌, ap, length, refl, rules, subst, sym, ◌∙◌}
+use Rattle.std.proofs.Common.{◌≡◌, ap, length, refl, subst, sym, ◌∙◌}
 use Rattle.rly_journal.specs.HelpersJournal.{IsShaped}
 use Rattle.rly_journal.specs.Calls.{renewed}
 use Rattle.rly_journal.specs.Log.{IsDurable}

@@ -1,6 +1,5 @@
 use Rattle.std.proofs.Common.{◌≡◌, ◌∙◌, ◌++◌, false, true, ap, inl, inr, length, refl, rules, subst, sym}
 use Rattle.rly_core.specs.declared.refusal.Refusal.TheVariants.{OutOfMemory}
-use Rattle.rly_journal.specs.Calls.{MakesRound}
 use Rattle.rly_journal.specs.HelpersCalls.{IsReady, IsUnready}
 use Rattle.rly_journal.specs.HelpersJournal.{IsShaped}
 use Rattle.rly_journal.specs.Journal.{IsDueFor, IsRound, holds_command}

@@ -1,0 +1,9 @@
+use Rattle.rly_journal.proofs.Inlining.{bytes_hold, inline_holds, inline_payloads, inlined}
+use Rattle.rly_journal.proofs.laws.law_inline_head.Goals as goal
+
+pub returns-clause-inline : goal.returns-clause-inline
+returns-clause-inline c = inline_holds
+
+pub returns-clause-only : goal.returns-clause-only
+returns-clause-only c image g segment generation s two below holds =
+    (inlined image s (inline_payloads g segment s two below holds.placed), bytes_hold image g segment generation s two below holds)
