@@ -24,6 +24,8 @@ mod messages;
 #[cfg(test)]
 mod plan_faults;
 #[cfg(test)]
+mod plan_places;
+#[cfg(test)]
 mod plans;
 #[cfg(test)]
 mod receiving;

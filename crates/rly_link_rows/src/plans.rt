@@ -1,6 +1,6 @@
 //! What plans say of neighbours, routes and links.
 use rly_core::{HopId, PeerId};
-use rly_plan::Plan;
+use rly_plan::{Neighbour, Plan};
 use std::process::Abort;
 use std::test::Fail;
 
@@ -55,6 +55,36 @@ fn each_hop_has_its_resend(rt: HostRuntime) -> Result<(), Fail> {
     Ok(())
 }
 
+/// A peer and a hop with keys, and a peer and a hop without.
+const KEYS: &str = "station = 7
+peer = [
+  { id = 1, station = 3, listen = '', remote = '', key = 'three.key' },
+  { id = 2, station = 4, listen = '', remote = '' },
+]
+hop = [
+  { id = 1, station = 9, listen = '', remote = '', contacts = [] },
+  { id = 2, station = 10, key = '/etc/rly/ten.key', listen = '', remote = '', contacts = [] },
+]
+";
+
+/// The key file of a neighbour, if it is there and has one.
+fn key_of(neighbour: Option<&Neighbour>) -> Option<&str> {
+    Some(neighbour?.key.as_ref()?.path())
+}
+
+fn keys(rt: &impl Abort, plan: &Plan) {
+    expect!(rt; key_of(plan.peer(PeerId(1))) == Some("three.key"));
+    expect!(rt; key_of(plan.peer(PeerId(2))) == None);
+    expect!(rt; key_of(plan.hop(HopId(1))) == None);
+    expect!(rt; key_of(plan.hop(HopId(2))) == Some("/etc/rly/ten.key"));
+}
+
+#[test]
+fn a_neighbour_has_its_key_file(rt: HostRuntime) -> Result<(), Fail> {
+    keys(&rt, &Plan::from_toml(rt.alloc(), KEYS)?);
+    Ok(())
+}
+
 /// The ids of no neighbour of the whole plan.
 const ABSENT: [u16; 3] = [0, 2, 65_535];
 
@@ -64,6 +94,7 @@ fn neighbours(rt: &impl Abort, plan: &Plan) -> Result<(), Fail> {
     expect!(rt; peer.station == 3);
     expect!(rt; peer.addresses.listen() == "127.0.0.1:4001");
     expect!(rt; peer.addresses.remote() == "127.0.0.1:4002");
+    expect!(rt; peer.key.is_none());
     let hop = plan.hop(HopId(1)).ok_or("hop 1")?;
     expect!(rt; hop.station == 9);
     expect!(rt; hop.addresses.listen() == "127.0.0.1:4003");

@@ -1,5 +1,5 @@
 -- The passes over the numbers of a plan, and what they leave for the plan to be made of.
-use Rattle.std.proofs.Common.{◌≡◌, ℕ, zero, suc, ◌+◌, ◌-◌, ◌<◌, ◌≤◌, ◌==◌, nat_le, ℤ, pos, negsuc, Bool, true, false, ◌&&◌, ◌||◌, List, [], ◌∷◌, map, length, drop, take, get_or, set, inl, inr, get_or-set_same, get_or-set_other, refl, ◌∙◌, sym, arith, leb-true, le-leb, eq-eqb}
+use Rattle.std.proofs.Common.{◌≡◌, ℕ, zero, suc, ◌+◌, ◌-◌, ◌<◌, ◌≤◌, ◌==◌, nat_le, ℤ, pos, negsuc, Bool, true, false, ◌&&◌, ◌||◌, List, [], ◌∷◌, map, length, drop, take, get_or, set, Some, None, cond, inl, inr, get_or-set_same, get_or-set_other, refl, ◌∙◌, sym, arith, leb-true, le-leb, eq-eqb}
 use Rattle.std.specs.List.{list_all, list_any}
 use Rattle.std.proofs.lemmas.Bool.{and_parts, cases_eq, ne_eqb, false≢true}
 use Rattle.std.proofs.lemmas.List.{drop_more}
@@ -7,6 +7,7 @@ use Rattle.rly_core.specs.declared.limits.TheConstants.{MAX_CONTACTS, MAX_HOPS, 
 use Rattle.rly_plan.specs.declared.draft.ContactDraft.{ContactDraft}
 use Rattle.rly_plan.specs.HelpersContacts.{last_end}
 use Rattle.rly_plan.specs.Draft.{HopText, PlanText}
+use Rattle.rly_plan.specs.Places.{first_adjacent, first_repeat}
 use Rattle.rly_plan.specs.Passes.{all_numbered, hop_in_range, is_in_range, is_station, neighbour_in_range, resend_in_range, route_in_range, rows_in_range, is_between, number, contact_in_range, all_adjacent, are_apart, repeats, contact_from}
 
 -- two more neighbours
@@ -36,6 +37,17 @@ adjacent_end {A} test (x ∷ y ∷ xs) (suc k) past = adjacent_end test (y ∷ x
 
 pub adjacent_last : {A : Type 0} (test : A → A → Bool) (xs : List A) (i : ℕ) → length xs ≤ i → all_adjacent test (drop (i - 1) xs) ≡ true
 adjacent_last test xs i past = adjacent_end test xs (i - 1) (omega arith)
+
+-- the last has no neighbour after it whose place would be told
+none_adjacent : (test : ContactDraft → ContactDraft → Bool) (n : ℕ) (xs : List ContactDraft) (k : ℕ) → length xs ≤ k + 1 → first_adjacent test n (drop k xs) ≡ None
+none_adjacent test n [] k past = rw (drop_of_none {A = ContactDraft} k)
+none_adjacent test n (x ∷ []) zero past = refl
+none_adjacent test n (x ∷ []) (suc k) past = rw (drop_of_none {A = ContactDraft} k)
+none_adjacent test n (x ∷ y ∷ xs) zero past = absurd (omega arith)
+none_adjacent test n (x ∷ y ∷ xs) (suc k) past = none_adjacent test n (y ∷ xs) k (omega arith)
+
+pub none_adjacent_last : (test : ContactDraft → ContactDraft → Bool) (n : ℕ) (xs : List ContactDraft) (i : ℕ) → length xs ≤ i → first_adjacent test n (drop (i - 1) xs) ≡ None
+none_adjacent_last test n xs i past = none_adjacent test n xs (i - 1) (omega arith)
 
 -- what lies between two numbers
 pub between_bounds : (least most : ℕ) (z : ℤ) → is_between least most z ≡ true → (least ≤ number z) × (number z ≤ most)
@@ -132,6 +144,25 @@ repeats_step seen xs i b within inside read unset same =
     let off : is_marked seen x ≡ false = sym (rw unset at read) in
     let before = rw (drop_more xs i 0 within, off) at same in
     marked_more seen x (drop (i + 1) xs) inside ∙ before
+
+-- the front of what is left, whose number is there again later, or isn't
+repeat_front : {A : Type 0} (f : A → ℕ) (n : ℕ) (rest later : List A) (x : A) (b : Bool) → rest ≡ x ∷ later → list_any (λ y. y == f x) (map f later) ≡ b
+    → first_repeat n (map f rest) ≡ cond b (Some n) (first_repeat (n + 1) (map f later))
+repeat_front f n rest later x b split seen = rw (split, seen) refl
+
+pub repeat_at_front : {A : Type 0} (f : A → ℕ) (count : ℕ) (rest later : List A) (x : A) → rest ≡ x ∷ later → length rest ≤ count
+    → list_any (λ y. y == f x) (map f later) ≡ true → first_repeat (count - length rest + 1) (map f rest) ≡ Some (count - length later)
+repeat_at_front f count rest later x split within seen =
+    let less : length rest ≡ length later + 1 = rw split (omega arith) in
+    let number : count - length rest + 1 ≡ count - length later = omega (arith, less, within) in
+    rw number (repeat_front f (count - length later) rest later x true split seen)
+
+pub repeat_after_front : {A : Type 0} (f : A → ℕ) (count : ℕ) (rest later : List A) (x : A) → rest ≡ x ∷ later → length rest ≤ count
+    → list_any (λ y. y == f x) (map f later) ≡ false → first_repeat (count - length rest + 1) (map f rest) ≡ first_repeat (count - length later + 1) (map f later)
+repeat_after_front f count rest later x split within seen =
+    let less : length rest ≡ length later + 1 = rw split (omega arith) in
+    let number : count - length rest + 1 ≡ count - length later = omega (arith, less, within) in
+    rw number (repeat_front f (count - length later) rest later x false split seen)
 
 -- ---- contacts in range
 

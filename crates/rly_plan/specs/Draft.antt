@@ -53,13 +53,21 @@ pair_of _ = None
 abbrev pub contact_draft_of : Data → Option ContactDraft
 contact_draft_of value = as_array value >>= pair_of
 
+-- the file of a key, which may be left out
+abbrev pub key_at : Option Data → Option (Option (List ℕ))
+key_at None = Some None
+key_at (Some value) = do
+  path ← as_str value
+  Some (Some path)
+
 abbrev pub neighbour_of : Members → Option NeighbourDraft
 neighbour_of ms = do
   id ← integer_at (codes "id") ms
   station ← integer_at (codes "station") ms
   listen ← text_at (codes "listen") ms
   remote ← text_at (codes "remote") ms
-  Some (record { id = id; station = station; addresses = record { listen = listen; remote = remote } })
+  key ← key_at (get_member (codes "key") ms)
+  Some (record { id = id; station = station; addresses = record { listen = listen; remote = remote }; key = key })
 
 abbrev pub peer_draft_of : Data → Option NeighbourDraft
 peer_draft_of value = as_table value >>= neighbour_of

@@ -3,13 +3,14 @@ use Rattle.std.specs.Prelude.{ℕ, Bool, true, false, ◌&&◌, List, [], ◌∷
 use Rattle.std.specs.List.{list_any}
 use Rattle.std.specs.Str.{bytes_eq}
 use Rattle.toml.specs.Data.{Data, array, table, Items, no_items, item, Members, no_members, member}
-use Rattle.rly_plan.specs.declared.keys.Row.{Row}
-use Rattle.rly_plan.specs.declared.keys.Row.TheVariants.{Peer, Hop, Route}
+use Rattle.rly_plan.specs.declared.place.Row.{Row}
+use Rattle.rly_plan.specs.declared.place.Row.TheVariants.{Peer, Hop, Route}
 
 -- the keys of a table of each array
 abbrev pub keys_of : Row → List (List ℕ)
-keys_of Peer = codes "id" ∷ codes "station" ∷ codes "listen" ∷ codes "remote" ∷ []
-keys_of Hop = codes "id" ∷ codes "station" ∷ codes "listen" ∷ codes "remote" ∷ codes "resend" ∷ codes "contacts" ∷ []
+keys_of Peer = codes "id" ∷ codes "station" ∷ codes "listen" ∷ codes "remote" ∷ codes "key" ∷ []
+keys_of Hop = codes "id" ∷ codes "station" ∷ codes "listen" ∷ codes "remote" ∷ codes "key"
+    ∷ codes "resend" ∷ codes "contacts" ∷ []
 keys_of Route = codes "destination" ∷ codes "hop" ∷ []
 
 abbrev pub has_key : Row → List ℕ → Bool

@@ -6,3 +6,5 @@ pub mod Keys
 pub mod Draft
 pub mod Passes
 pub mod Sound
+pub mod PlaceText
+pub mod Places

@@ -119,7 +119,7 @@ leads_to_hops d = list_all (λ r. is_between 1 (length d.hops) r.hop) d.routes
 -- ---- the plan
 
 abbrev pub neighbour_from : NeighbourDraft → Neighbour
-neighbour_from n = record { station = number_16 n.station; addresses = n.addresses }
+neighbour_from n = record { station = number_16 n.station; addresses = n.addresses; key = n.key }
 
 abbrev pub contact_from : ContactDraft → Contact
 contact_from c = record { begin = number c.begin; end = number c.end }

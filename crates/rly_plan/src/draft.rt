@@ -1,10 +1,10 @@
 ghost use Rattle.std.specs.Prelude.{◌≡◌, ◌≢◌, None, codes, IfOk, OnErr, option_copied, option_map};
 ghost use Rattle.toml.specs.View.{array_view, table_view, view};
 ghost use Rattle.toml.specs.Data.{get_member};
-ghost use Rattle.rly_plan.specs.Draft.{draft_of, each_item, integer_at, items_at, neighbour_of, resend_at, routes_at, text_at};
+ghost use Rattle.rly_plan.specs.Draft.{contact_draft_of, draft_of, each_item, integer_at, items_at, key_at, neighbour_of, resend_at, routes_at, text_at};
 
 use crate::contacts::Contact;
-use crate::neighbour::Addresses;
+use crate::neighbour::{Addresses, KeyFile};
 use crate::passes::number;
 use rly_core::limits::DEFAULT_RESEND;
 use std::alloc::{AllocError, Global};
@@ -18,6 +18,7 @@ pub(crate) struct NeighbourDraft {
     pub id: i64,
     pub station: i64,
     pub addresses: Addresses,
+    pub key: Option<KeyFile>,
 }
 
 /// A contact as the text writes it.
@@ -84,7 +85,7 @@ impl Model for PlanDraft {
 }
 
 /// What an item of an array is read as.
-trait Item: Drop {
+pub(crate) trait Item: Drop {
     ghost use Rattle.std.specs.Prelude.{◌≡◌, IfOk, Option};
     ghost use Rattle.toml.specs.Data.{Data};
     ghost use Rattle.toml.specs.View.{view};
@@ -102,17 +103,21 @@ impl Item for ContactDraft {
     ghost shape = { contact_draft_of };
 
     fn read(_alloc: Global, value: &Value) -> Result<Option<ContactDraft>, AllocError> {
-        let Some(pair) = value.as_array() else {
-            return Ok(None);
-        };
-        if pair.len() != 2 {
-            return Ok(None);
-        }
-        let (Some(begin), Some(end)) = (pair[0].as_integer(), pair[1].as_integer()) else {
-            return Ok(None);
-        };
-        Ok(Some(ContactDraft { begin, end }))
+        Ok(read_contact(value))
     }
+}
+
+/// The contact that a value writes: `None` where it isn't two whole numbers.
+pub(crate) fn read_contact(value: &Value) -> Option<ContactDraft>
+    ensures { result ≡ contact_draft_of (view value.now) }
+{
+    let pair = value.as_array()?;
+    if pair.len() != 2 {
+        return None;
+    }
+    let begin = pair[0].as_integer()?;
+    let end = pair[1].as_integer()?;
+    Some(ContactDraft { begin, end })
 }
 
 impl Item for NeighbourDraft {
@@ -201,14 +206,14 @@ impl PlanDraft {
 }
 
 /// The value at a key.
-fn value_at<'a>(table: &'a Table, key: &str) -> Option<&'a Value>
+pub(crate) fn value_at<'a>(table: &'a Table, key: &str) -> Option<&'a Value>
     ensures { option_map (λ v. view v.now) result ≡ get_member key.now (table_view table.now) }
 {
     table.get(key)
 }
 
 /// The whole number at a key.
-fn integer(table: &Table, key: &str) -> Option<i64>
+pub(crate) fn integer(table: &Table, key: &str) -> Option<i64>
     ensures { result ≡ integer_at key.now (table_view table.now) }
 {
     match value_at(table, key) {
@@ -218,7 +223,7 @@ fn integer(table: &Table, key: &str) -> Option<i64>
 }
 
 /// The text at a key.
-fn text<'a>(table: &'a Table, key: &str) -> Option<&'a str>
+pub(crate) fn text<'a>(table: &'a Table, key: &str) -> Option<&'a str>
     ensures { option_copied result ≡ text_at key.now (table_view table.now) }
 {
     match value_at(table, key) {
@@ -228,7 +233,7 @@ fn text<'a>(table: &'a Table, key: &str) -> Option<&'a str>
 }
 
 /// The `resend` of a hop, which may be left out.
-fn read_resend(table: &Table) -> Option<i64>
+pub(crate) fn read_resend(table: &Table) -> Option<i64>
     ensures { result ≡ resend_at (get_member (codes "resend") (table_view table.now)) }
 {
     match value_at(table, "resend") {
@@ -252,12 +257,37 @@ fn read_neighbour(alloc: Global, table: &Table) -> Result<Option<NeighbourDraft>
     let Some(remote) = text(table, "remote") else {
         return Ok(None);
     };
+    let Some(path) = read_key(table) else {
+        return Ok(None);
+    };
     let addresses = Addresses::copy(alloc, listen, remote)?;
+    let key = key_file(alloc, path)?;
     Ok(Some(NeighbourDraft {
         id,
         station,
         addresses,
+        key,
     }))
+}
+
+/// The `key` of a neighbour, which may be left out.
+pub(crate) fn read_key(table: &Table) -> Option<Option<&str>>
+    ensures { option_map option_copied result ≡ key_at (get_member (codes "key") (table_view table.now)) }
+{
+    match value_at(table, "key") {
+        Some(value) => Some(Some(value.as_str()?)),
+        None => Some(None),
+    }
+}
+
+/// The file of a key, if there is one.
+fn key_file(alloc: Global, path: Option<&str>) -> Result<Option<KeyFile>, AllocError>
+    ensures { IfOk result (λ file. file ≡ option_copied path.entry) }
+{
+    match path {
+        Some(path) => Ok(Some(KeyFile::copy(alloc, path)?)),
+        None => Ok(None),
+    }
 }
 
 /// The items of an array: `None` where it is no array, or an item has another shape.

@@ -4,23 +4,16 @@ ghost use Rattle.std.specs.Prelude.{◌≡◌};
 ghost use Rattle.toml.specs.View.{array_view, table_view, view};
 ghost use Rattle.rly_plan.specs.Keys.{has_key, has_no_key, is_known, item_is_known, items_are_known, items_have_no_key, keys_are_known, row_is_known, rows_are_known};
 
+use crate::place::Row;
 use toml::value::Array;
 use toml::{Table, Value};
-
-/// The arrays of tables of a plan.
-#[derive(Clone, Copy, Debug)]
-pub(crate) enum Row {
-    Peer,
-    Hop,
-    Route,
-}
 
 impl Row {
     ghost use Rattle.std.specs.Prelude.{◌≡◌};
     ghost use Rattle.rly_plan.specs.Keys.{has_key};
 
     /// Whether a table of the array may have the key.
-    fn has_key(self, key: &str) -> bool
+    pub(crate) fn has_key(self, key: &str) -> bool
         ensures { result ≡ has_key self key.now }
     {
         match self {
@@ -34,7 +27,7 @@ impl Row {
 fn is_neighbour_key(key: &str) -> bool
     ensures { result ≡ has_key Row.Peer key.now }
 {
-    key == "id" || key == "station" || key == "listen" || key == "remote"
+    key == "id" || key == "station" || key == "listen" || key == "remote" || key == "key"
 }
 
 /// Whether each key of the document is known at its place.
@@ -102,7 +95,7 @@ fn row_is_known(row: Row, table: &Table) -> bool
 }
 
 /// Whether no key stands anywhere in the value.
-fn has_no_key(value: &Value) -> bool
+pub(crate) fn has_no_key(value: &Value) -> bool
     ensures { result ≡ has_no_key (view value.now) }
 {
     match value {

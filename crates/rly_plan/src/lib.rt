@@ -7,16 +7,22 @@
 #![tactic(auto)]
 
 mod contacts;
+mod document_places;
 mod draft;
 mod keys;
 mod laws;
 mod neighbour;
+mod number_places;
 mod passes;
+mod place;
 mod plan;
+mod plan_fault;
 
 pub use crate::laws::{
     law_link_grows_with_time, law_link_never_falls, law_link_runs_while_open,
     law_link_stands_while_closed, law_plan_is_sound,
 };
-pub use crate::neighbour::{Addresses, Neighbour};
+pub use crate::neighbour::{Addresses, KeyFile, Neighbour};
+pub use crate::place::{Key, Place, Position, Row, Spot};
 pub use crate::plan::Plan;
+pub use crate::plan_fault::PlanFault;

@@ -45,11 +45,48 @@ impl Addresses {
     }
 }
 
-/// A neighbour: its station number, 1 to 65,535, and the addresses of the link with it.
+/// The file that holds the key of a link, as the plan names it: a path that begins at the plan's folder, unless it is
+/// absolute. Only the system judges the text.
+#[derive(Debug, Drop)]
+pub struct KeyFile {
+    path: String,
+}
+
+impl Model for KeyFile {
+    ghost use Rattle.std.specs.Prelude.{ℕ, List, string_bytes};
+
+    ghost Value = { List ℕ };
+
+    ghost view = { λ f. string_bytes f.path };
+}
+
+impl KeyFile {
+    ghost use Rattle.std.specs.Prelude.{◌≡◌, IfOk};
+
+    pub(crate) fn copy(alloc: Global, path: &str) -> Result<KeyFile, AllocError>
+        ensures { IfOk result (λ file. file ≡ path.now) }
+    {
+        Ok(KeyFile {
+            path: String::from_str(alloc, path)?,
+        })
+    }
+
+    /// The path that the plan writes.
+    pub fn path(&self) -> &str
+        ensures { result.now ≡ self.now }
+    {
+        self.path.as_str()
+    }
+}
+
+/// A neighbour: its station number, 1 to 65,535, the addresses of the link with it, and the file of its key, if it
+/// has one.
 #[derive(Debug, Drop)]
 pub struct Neighbour {
     /// The neighbour's station number.
     pub station: u16,
     /// The addresses of the link.
     pub addresses: Addresses,
+    /// The file of the link's key: `None` where anyone can speak on it.
+    pub key: Option<KeyFile>,
 }

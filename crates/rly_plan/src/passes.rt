@@ -128,7 +128,7 @@ fn hop_in_range(id: u64, hop: &HopDraft) -> bool
         && contacts_in_range(&hop.contacts)
 }
 
-fn resend_in_range(resend: i64) -> bool
+pub(crate) fn resend_in_range(resend: i64) -> bool
     ensures { result ≡ resend_in_range resend }
 {
     is_between(resend, MIN_RESEND, MAX_RESEND)
@@ -140,7 +140,7 @@ fn contacts_in_range(contacts: &[ContactDraft]) -> bool
     contacts.iter().all(|contact| contact_in_range(contact))
 }
 
-fn contact_in_range(contact: &ContactDraft) -> bool
+pub(crate) fn contact_in_range(contact: &ContactDraft) -> bool
     ensures { result ≡ contact_in_range contact.now }
 {
     is_between(contact.begin, 0, MOMENT_LIMIT - 1)
@@ -159,7 +159,7 @@ fn route_in_range(route: &RouteDraft) -> bool
     is_station(route.destination) && is_between(route.hop, 1, MAX_HOPS)
 }
 
-fn is_station(station: i64) -> bool
+pub(crate) fn is_station(station: i64) -> bool
     ensures { result ≡ is_station station }
 {
     is_between(station, 1, 65_535)
@@ -213,7 +213,7 @@ fn unmarked(alloc: Global, count: usize) -> Result<Vec<bool>, AllocError>
 }
 
 /// Whether a whole number lies from `least` to `most`.
-fn is_between(value: i64, least: u64, most: u64) -> bool
+pub(crate) fn is_between(value: i64, least: u64, most: u64) -> bool
     ensures { result ≡ is_between least most value }
 {
     match u64::try_from(value) {

@@ -1,17 +1,23 @@
-ghost use Rattle.std.specs.Prelude.{◌≡◌, ◌≢◌, Err, IfErr, IfOk, map, Ok, option_copied, Some, true};
+ghost use Rattle.std.specs.Prelude.{◌≡◌, ◌≢◌, ◌↔◌, Err, IfErr, IfOk, map, None, Ok, option_copied, Some, true};
+ghost use Rattle.toml.specs.Errors.{IsMemory, IsWithin};
+ghost use Rattle.rly_plan.specs.Places.{IsFaultPlace, place_of_draft};
 ghost use Rattle.std.specs.List.{list_all};
 ghost use Rattle.rly_plan.specs.ContactPlan.{at_number};
 ghost use Rattle.rly_plan.specs.Passes.{all_adjacent, are_apart, contact_from, contact_in_range, hop_from, neighbour_from, plan_from, plan_of_draft, route_from};
 
 use crate::contacts::Contacts;
+use crate::document_places::{missing_place, unknown_place};
 use crate::draft::{ContactDraft, HopDraft, NeighbourDraft, PlanDraft, RouteDraft};
 use crate::keys::keys_are_known;
 use crate::neighbour::Neighbour;
 use crate::passes::{number_16, number_32};
+use crate::place::Place;
+use crate::plan_fault::{PlanFault, position_after};
 use rly_core::limits::DEFAULT_RESEND;
 use rly_core::{HopId, PeerId, Refusal};
 use std::alloc::{AllocError, Global};
 use std::marker::Model;
+use toml::de::Error;
 
 /// A next hop: the neighbour, how long what is in flight to it waits, and when its link is open.
 #[derive(Debug, Drop)]
@@ -52,32 +58,45 @@ impl Model for Plan {
 }
 
 impl Plan {
-    ghost use Rattle.std.specs.Prelude.{◌≡◌, ◌≢◌, length, IfErr, IfOk, Ok, Err, option_copied};
+    ghost use Rattle.std.specs.Prelude.{◌≡◌, ◌≢◌, length, IfErr, IfOk, None, Ok, Err, option_copied};
     ghost use Rattle.rly_plan.specs.ContactPlan.{next_hop_at, hop_for, is_open, link, peer_at, resend};
     ghost use Rattle.rly_plan.specs.Passes.{plan_of_text};
+    ghost use Rattle.rly_plan.specs.Places.{IsPlaceOf};
     ghost use Rattle.toml.specs.Errors.{IsBlank};
 
     /// The plan that a text writes (`docs/FORMATS.md`, "The plan"), or the first fault of its
     /// passes: 50 to 54. 14 is answered only where memory was refused, and never to a text that has only
     /// white space and comments.
-    #[tactic(auto, unfolding(crate::specs::Passes::plan_of_text))]
     pub fn from_toml(alloc: Global, text: &str) -> Result<Plan, Refusal>
         ensures plan { IfOk result (λ plan. plan_of_text text.now ≡ Ok plan) }
         ensures fault { IfErr result (λ fault. fault ≢ Refusal.OutOfMemory → plan_of_text text.now ≡ Err fault) }
         ensures memory { IfErr result (λ fault. fault ≡ Refusal.OutOfMemory → ¬ IsBlank text.now) }
     {
+        match Plan::read(alloc, text) {
+            Ok(plan) => Ok(plan),
+            Err(fault) => Err(fault.refusal),
+        }
+    }
+
+    /// As `from_toml`, and tells where the first fault is.
+    #[tactic(auto, unfolding(crate::specs::Passes::plan_of_text, crate::specs::Places::IsPlaceOf))]
+    pub fn read(alloc: Global, text: &str) -> Result<Plan, PlanFault>
+        ensures plan { IfOk result (λ plan. plan_of_text text.now ≡ Ok plan) }
+        ensures fault { IfErr result (λ fault. fault.refusal ≢ Refusal.OutOfMemory → plan_of_text text.now ≡ Err fault.refusal) }
+        ensures memory { IfErr result (λ fault. fault.refusal ≡ Refusal.OutOfMemory → (fault.place ≡ None) × (¬ IsBlank text.now)) }
+        ensures place { IfErr result (λ fault. fault.refusal ≢ Refusal.OutOfMemory → IsPlaceOf text.now fault.place) }
+    {
         let document = match toml::table_from_str(alloc, text) {
             Ok(document) => document,
-            Err(error) if error.is_memory() => return Err(Refusal::OutOfMemory),
-            Err(_) => return Err(Refusal::Syntax),
+            Err(error) => return Err(fault_of_text(text, &error)),
         };
         if !keys_are_known(&document) {
-            return Err(Refusal::Unknown);
+            return Err(PlanFault::at(Refusal::Unknown, unknown_place(&document)));
         }
         let draft = match PlanDraft::read(alloc, &document) {
             Ok(Some(draft)) => draft,
-            Ok(None) => return Err(Refusal::Syntax),
-            Err(_) => return Err(Refusal::OutOfMemory),
+            Ok(None) => return Err(PlanFault::at(Refusal::Syntax, missing_place(&document))),
+            Err(_) => return Err(PlanFault::memory()),
         };
         judged(alloc, draft)
     }
@@ -175,25 +194,44 @@ fn at_number<T>(items: &[T], number: u16) -> Option<&T>
     }
 }
 
+/// Why TOML refuses a text, and where.
+fn fault_of_text(text: &str, error: &Error) -> PlanFault
+    requires { IsWithin text.now error.now }
+    ensures memory { (result.refusal ≡ Refusal.OutOfMemory) ↔ IsMemory error.now }
+    ensures syntax { result.refusal ≢ Refusal.OutOfMemory → result.refusal ≡ Refusal.Syntax }
+    ensures none { result.refusal ≡ Refusal.OutOfMemory → result.place ≡ None }
+    ensures place { result.refusal ≢ Refusal.OutOfMemory → IsFaultPlace text.now None result.place }
+{
+    match error.span() {
+        Some(span) => {
+            let position = position_after(text, span.start);
+            PlanFault::at(Refusal::Syntax, Some(Place::Text(position)))
+        }
+        None => PlanFault::memory(),
+    }
+}
+
 /// The plan of a draft, or the first fault of the passes over its numbers.
-fn judged(alloc: Global, draft: PlanDraft) -> Result<Plan, Refusal>
+fn judged(alloc: Global, draft: PlanDraft) -> Result<Plan, PlanFault>
     ensures plan { IfOk result (λ plan. plan_of_draft (Some draft) ≡ Ok plan) }
-    ensures fault { IfErr result (λ fault. fault ≢ Refusal.OutOfMemory → plan_of_draft (Some draft) ≡ Err fault) }
+    ensures fault { IfErr result (λ fault. fault.refusal ≢ Refusal.OutOfMemory → plan_of_draft (Some draft) ≡ Err fault.refusal) }
+    ensures memory { IfErr result (λ fault. fault.refusal ≡ Refusal.OutOfMemory → fault.place ≡ None) }
+    ensures place { IfErr result (λ fault. fault.refusal ≢ Refusal.OutOfMemory → fault.place ≡ place_of_draft draft) }
 {
     if !draft.is_in_range() {
-        return Err(Refusal::Range);
+        return Err(PlanFault::at(Refusal::Range, draft.range_place()));
     }
     if !draft.is_sorted() {
-        return Err(Refusal::Unsorted);
+        return Err(PlanFault::at(Refusal::Unsorted, draft.sorted_place()));
     }
-    let overlaps = draft.overlaps(alloc).map_err(|_| Refusal::OutOfMemory)?;
+    let overlaps = draft.overlaps(alloc).map_err(|_| PlanFault::memory())?;
     if overlaps {
-        return Err(Refusal::Overlap);
+        return Err(PlanFault::at(Refusal::Overlap, draft.overlap_place()));
     }
     if !draft.leads_to_hops() {
-        return Err(Refusal::Unknown);
+        return Err(PlanFault::at(Refusal::Unknown, draft.lead_place()));
     }
-    settled(alloc, draft).map_err(|_| Refusal::OutOfMemory)
+    settled(alloc, draft).map_err(|_| PlanFault::memory())
 }
 
 /// The plan of a draft whose numbers are in range and whose contacts don't overlap.
@@ -232,10 +270,12 @@ fn settled_neighbour(draft: NeighbourDraft) -> Neighbour
         id: _,
         station,
         addresses,
+        key,
     } = draft;
     Neighbour {
         station: number_16(station),
         addresses,
+        key,
     }
 }
 

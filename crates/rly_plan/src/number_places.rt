@@ -1,0 +1,323 @@
+//! Where the numbers of a draft have their first fault, pass by pass.
+
+ghost use Rattle.std.specs.Prelude.{◌≡◌, ◌==◌, map};
+ghost use Rattle.std.specs.List.{list_any};
+ghost use Rattle.rly_plan.specs.Places.{first_adjacent, first_contact, first_row, lead_place, neighbour_range_fault, overlap_place, range_place, repeat_place, rows_range_fault, sorted_place};
+ghost use Rattle.rly_plan.specs.Passes.{contact_in_range};
+
+use crate::draft::{ContactDraft, HopDraft, NeighbourDraft, PlanDraft, RouteDraft};
+use crate::passes::{contact_in_range, is_between, is_station, number_16, resend_in_range};
+use crate::place::{Key, Place, Row, Spot};
+use rly_core::limits::{MAX_CONTACTS, MAX_HOPS, MAX_PEERS};
+
+/// What a pass asks of each table of an array.
+trait Test<T> {
+    ghost use Rattle.std.specs.Prelude.{◌≡◌, ℕ, Option};
+    ghost use Rattle.rly_plan.specs.declared.place.Spot.{Spot};
+
+    ghost fault: { Self → ℕ → T → Option Spot };
+
+    /// Where the table of this number isn't as the pass asks.
+    fn fault(&self, number: u64, row: &T) -> Option<Spot>
+        ensures { result ≡ fault self.now number row.now };
+}
+
+/// The first table of an array that isn't as a pass asks, and where in it.
+fn first_row<T, F: Test<T>>(test: &F, row: Row, rows: &[T]) -> Option<Place>
+    ensures { result ≡ first_row (F.fault test.now) row 1 rows.now }
+{
+    for (index, item) in rows.iter().enumerate() {
+        let number = index as u64 + 1;
+        if let Some(spot) = test.fault(number, item) {
+            return Some(Place::In(row, number, spot));
+        }
+    }
+    None
+}
+
+/// Pass 4: each number is in its range.
+#[derive(Drop)]
+struct InRange;
+
+/// Pass 5: no contact begins before the one before it begins.
+#[derive(Drop)]
+struct InOrder;
+
+/// Pass 6: no contact begins before the one before it ends.
+#[derive(Drop)]
+struct Apart;
+
+/// Pass 7: a route leads to one of so many hops.
+#[derive(Drop)]
+struct Leads {
+    hops: u64,
+}
+
+impl Test<NeighbourDraft> for InRange {
+    ghost use Rattle.rly_plan.specs.Places.{neighbour_range_fault};
+
+    ghost fault = { λ _. neighbour_range_fault };
+
+    fn fault(&self, number: u64, row: &NeighbourDraft) -> Option<Spot> {
+        neighbour_range_fault(number, row)
+    }
+}
+
+fn neighbour_range_fault(id: u64, neighbour: &NeighbourDraft) -> Option<Spot>
+    ensures { result ≡ neighbour_range_fault id neighbour.now }
+{
+    if !is_between(neighbour.id, id, id) {
+        return Some(Spot::At(Key::Id));
+    }
+    if !is_station(neighbour.station) {
+        return Some(Spot::At(Key::Station));
+    }
+    None
+}
+
+impl Test<HopDraft> for InRange {
+    ghost use Rattle.rly_plan.specs.Places.{hop_range_fault};
+
+    ghost fault = { λ _. hop_range_fault };
+
+    fn fault(&self, number: u64, row: &HopDraft) -> Option<Spot> {
+        if let Some(spot) = neighbour_range_fault(number, &row.neighbour) {
+            return Some(spot);
+        }
+        if !resend_in_range(row.resend) {
+            return Some(Spot::At(Key::Resend));
+        }
+        if row.contacts.len() as u64 > MAX_CONTACTS {
+            return Some(Spot::At(Key::Contacts));
+        }
+        first_contact(&row.contacts)
+    }
+}
+
+/// The first contact whose numbers aren't in their ranges.
+fn first_contact(contacts: &[ContactDraft]) -> Option<Spot>
+    ensures { result ≡ first_contact contact_in_range 1 contacts.now }
+{
+    for (index, contact) in contacts.iter().enumerate() {
+        if !contact_in_range(contact) {
+            return Some(Spot::Contact(index as u64 + 1));
+        }
+    }
+    None
+}
+
+impl Test<RouteDraft> for InRange {
+    ghost use Rattle.rly_plan.specs.Places.{route_range_fault};
+
+    ghost fault = { λ _. route_range_fault };
+
+    fn fault(&self, _number: u64, row: &RouteDraft) -> Option<Spot> {
+        if !is_station(row.destination) {
+            return Some(Spot::At(Key::Destination));
+        }
+        if !is_between(row.hop, 1, MAX_HOPS) {
+            return Some(Spot::At(Key::Hop));
+        }
+        None
+    }
+}
+
+/// What a pass asks of a contact and the one before it.
+trait Beside {
+    ghost use Rattle.std.specs.Prelude.{◌≡◌, Bool};
+    ghost use Rattle.rly_plan.specs.declared.draft.ContactDraft.{ContactDraft};
+
+    ghost test: { ContactDraft → ContactDraft → Bool };
+
+    /// Whether the contact may stand after the other.
+    fn passes(front: &ContactDraft, contact: &ContactDraft) -> bool
+        ensures { result ≡ test front.now contact.now };
+}
+
+impl Beside for InOrder {
+    ghost use Rattle.rly_plan.specs.Passes.{begin_in_order};
+
+    ghost test = { begin_in_order };
+
+    fn passes(front: &ContactDraft, contact: &ContactDraft) -> bool {
+        front.settled().begin <= contact.settled().begin
+    }
+}
+
+impl Beside for Apart {
+    ghost use Rattle.rly_plan.specs.Passes.{are_apart};
+
+    ghost test = { are_apart };
+
+    fn passes(front: &ContactDraft, contact: &ContactDraft) -> bool {
+        front.settled().end <= contact.settled().begin
+    }
+}
+
+/// The first contact that may not stand after the one before it.
+fn first_adjacent<B: Beside>(contacts: &[ContactDraft]) -> Option<Spot>
+    ensures { result ≡ first_adjacent B.test 1 contacts.now }
+{
+    for index in 1..contacts.len() {
+        if !B::passes(&contacts[index - 1], &contacts[index]) {
+            return Some(Spot::Contact(index as u64 + 1));
+        }
+    }
+    None
+}
+
+impl Test<HopDraft> for InOrder {
+    ghost use Rattle.rly_plan.specs.Places.{order_fault};
+
+    ghost fault = { λ _. order_fault };
+
+    fn fault(&self, _number: u64, row: &HopDraft) -> Option<Spot> {
+        first_adjacent::<InOrder>(&row.contacts)
+    }
+}
+
+impl Test<HopDraft> for Apart {
+    ghost use Rattle.rly_plan.specs.Places.{apart_fault};
+
+    ghost fault = { λ _. apart_fault };
+
+    fn fault(&self, _number: u64, row: &HopDraft) -> Option<Spot> {
+        first_adjacent::<Apart>(&row.contacts)
+    }
+}
+
+impl Test<RouteDraft> for Leads {
+    ghost use Rattle.rly_plan.specs.Places.{lead_fault};
+
+    ghost fault = { λ leads. lead_fault leads.hops };
+
+    fn fault(&self, _number: u64, row: &RouteDraft) -> Option<Spot> {
+        if is_between(row.hop, 1, self.hops) {
+            None
+        } else {
+            Some(Spot::At(Key::Hop))
+        }
+    }
+}
+
+impl PlanDraft {
+    /// Where pass 4 has its first fault.
+    pub(crate) fn range_place(&self) -> Option<Place>
+        ensures { result ≡ range_place self.now }
+    {
+        if !is_station(self.station) {
+            return Some(Place::Station);
+        }
+        let peers = rows_range_fault(&InRange, Row::Peer, MAX_PEERS, &self.peers);
+        let hops = rows_range_fault(&InRange, Row::Hop, MAX_HOPS, &self.hops);
+        let routes = first_row(&InRange, Row::Route, &self.routes);
+        peers.or(hops).or(routes)
+    }
+
+    /// Where pass 5 has its first fault.
+    pub(crate) fn sorted_place(&self) -> Option<Place>
+        ensures { result ≡ sorted_place self.now }
+    {
+        first_row(&InOrder, Row::Hop, &self.hops)
+    }
+
+    /// Where pass 6 has its first fault.
+    pub(crate) fn overlap_place(&self) -> Option<Place>
+        ensures { result ≡ overlap_place self.now }
+    {
+        let contacts = first_row(&Apart, Row::Hop, &self.hops);
+        let peers = first_repeat(Row::Peer, Key::Station, &self.peers);
+        let hops = first_repeat(Row::Hop, Key::Station, &self.hops);
+        let routes = first_repeat(Row::Route, Key::Destination, &self.routes);
+        contacts.or(peers).or(hops).or(routes)
+    }
+
+    /// Where pass 7 has its first fault.
+    pub(crate) fn lead_place(&self) -> Option<Place>
+        ensures { result ≡ lead_place self.now }
+    {
+        let test = Leads {
+            hops: self.hops.len() as u64,
+        };
+        first_row(&test, Row::Route, &self.routes)
+    }
+}
+
+/// The first fault of an array that has from 1 to `most` tables.
+fn rows_range_fault<T, F: Test<T>>(test: &F, row: Row, most: u64, rows: &[T]) -> Option<Place>
+    ensures { result ≡ rows_range_fault (F.fault test.now) row most rows.now }
+{
+    if rows.is_empty() || rows.len() as u64 > most {
+        return Some(Place::Array(row));
+    }
+    first_row(test, row, rows)
+}
+
+/// A table that has a number of its own among those of its array.
+trait Numbered {
+    ghost use Rattle.std.specs.Prelude.{◌≡◌, ℕ};
+
+    ghost number: { Self → ℕ };
+
+    /// The station or the destination.
+    fn number(&self) -> u16
+        ensures { result ≡ number self.now };
+}
+
+impl Numbered for NeighbourDraft {
+    ghost use Rattle.rly_plan.specs.Passes.{number_16};
+
+    ghost number = { λ p. number_16 p.station };
+
+    fn number(&self) -> u16 {
+        number_16(self.station)
+    }
+}
+
+impl Numbered for HopDraft {
+    ghost use Rattle.rly_plan.specs.Passes.{number_16};
+
+    ghost number = { λ h. number_16 h.neighbour.station };
+
+    fn number(&self) -> u16 {
+        number_16(self.neighbour.station)
+    }
+}
+
+impl Numbered for RouteDraft {
+    ghost use Rattle.rly_plan.specs.Passes.{number_16};
+
+    ghost number = { λ r. number_16 r.destination };
+
+    fn number(&self) -> u16 {
+        number_16(self.destination)
+    }
+}
+
+/// The key of the first table whose number is there again later. This takes no memory, and a time that grows with the square
+/// of the tables: it is called where a number is known to be there twice.
+fn first_repeat<N: Numbered>(row: Row, key: Key, rows: &[N]) -> Option<Place>
+    ensures { result ≡ repeat_place row key (map N.number rows.now) }
+{
+    let mut rest = rows;
+    while let Some((front, later)) = rest.split_first() {
+        if is_there(front.number(), later) {
+            let number = (rows.len() - later.len()) as u64;
+            return Some(Place::In(row, number, Spot::At(key)));
+        }
+        rest = later;
+    }
+    None
+}
+
+/// Whether a table has the number.
+fn is_there<N: Numbered>(number: u16, rows: &[N]) -> bool
+    ensures { result ≡ list_any (λ n. n == number) (map N.number rows.now) }
+{
+    for row in rows {
+        if row.number() == number {
+            return true;
+        }
+    }
+    false
+}
