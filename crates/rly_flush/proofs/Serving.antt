@@ -1,18 +1,65 @@
 -- Round follows round: what holds of each holds of them all.
-use Rattle.std.proofs.Common.{ℕ, ◌≡◌, ◌≤◌, ◌⊎◌, inl, inr, ⊎_elim, ◌++◌, [], List, Bool, true, false, refl, sym, ap, subst, ◌∙◌, arith, append_assoc, append-nil}
+use Rattle.std.proofs.Common.{ℕ, ◌≡◌, ◌≤◌, ◌⊎◌, inl, inr, ⊎_elim, ◌++◌, ◌∷◌, [], List, Bool, true, false, refl, sym, ap, subst, ◌∙◌, arith, append_assoc, append-nil}
 use Rattle.std.proofs.lemmas.Bool.{false≢true}
 use Rattle.std.specs.Prelude.{MatchBool}
 use Rattle.std.specs.List.{AllByRecursion}
-use Rattle.rly_disk.specs.DiskModel.{Consistent, DiskState, Later, HasFailed}
+use Rattle.rly_disk.specs.DiskModel.{Consistent, DiskState, Later, LeavesOnly, HasFailed}
 use Rattle.rly_disk.proofs.Composition.{joined, later_again, rose_earlier, rose_later, started, weaker}
 use Rattle.rly_machine.specs.declared.call.Answer.{Answer}
 use Rattle.rly_machine.specs.declared.call.Call.{Call}
 use Rattle.rly_machine.specs.History.{LegalButForBytes, accepted_of}
 use Rattle.rly_journal.specs.Journal.{IsRound, JournalState}
 use Rattle.rly_journal.specs.Standing.{Stands}
-use Rattle.rly_flush.specs.Flushing.{FlusherState, GrewInRound, IsContinued, IsCrashSafe, IsOneHistory, IsOneRound, IsLeftIn, IsTruthful, folded, state_reached}
+use Rattle.rly_flush.specs.Flushing.{AreRounds, FlusherState, GrewInRound, IsContinued, IsCrashSafe, IsKeptSince, IsMadeRound, IsOneHistory, IsOneRound, IsLeftIn, IsTruthful, MayFollow, MayGoOn, folded, state_reached}
 use Rattle.rly_flush.proofs.Crashing.{left_in}
 use Rattle.rly_flush.proofs.Refusing.{accepted_append, all_append, still_truthful}
+
+all_mapped : {A : Type 0} (P Q : A → Type 0) → ((x : A) → P x → Q x) → (xs : List A) → AllByRecursion P xs → AllByRecursion Q xs
+all_mapped P Q f [] all = tt
+all_mapped P Q f (x ∷ xs) all = (f x all.0, all_mapped P Q f xs all.1)
+
+all_and_last : {A : Type 0} (P : A → Type 0) (xs : List A) (x : A) → AllByRecursion P xs → P x → AllByRecursion P (xs ++ x ∷ [])
+all_and_last P [] x all last = (last, tt)
+all_and_last P (y ∷ xs) x all last = (all.0, all_and_last P xs x all.1 last)
+
+-- whatever rounds there were
+pub may_follow : {D : Type 0} (f : FlusherState D) (rounds : List (FlusherState D)) → MayGoOn f → MayFollow f rounds
+may_follow f [] may = tt
+may_follow f (g ∷ rounds) may = may
+
+module _ {D : Type 0} (state : D → DiskState) where
+  -- a round goes by all of a flusher but whether it is over
+  over_made : (a e : FlusherState D) (p : Bool) → IsMadeRound state (record a { over = p }) e → IsMadeRound state a e
+  over_made a e p made = record {
+    one = record {
+      calls = made.one.calls;
+      given = made.one.given;
+      count = made.one.count;
+      in_turn = record { came = made.one.in_turn.came; taken = made.one.in_turn.taken; in_turn = made.one.in_turn.in_turn; full = made.one.in_turn.full };
+      history = made.one.history;
+      round = made.one.round;
+    };
+    any_moment = λ honest sound.
+        let safe = made.any_moment honest sound in
+        record { calls = safe.calls; doubtful = safe.doubtful; given = safe.given; target = safe.target; served = safe.served; leaves = safe.leaves; running = safe.running };
+  }
+
+  -- the last of them may go on, and so may one before it
+  last_may : (f b : FlusherState D) (rounds : List (FlusherState D)) (e : FlusherState D) → AreRounds state f rounds b → MayFollow f rounds → MayGoOn b → MayFollow f (rounds ++ e ∷ [])
+  last_may f b [] e same may goes = λ broke none. goes (ap (λ (x : FlusherState D). x.journal.broken) same ∙ broke) (ap (λ (x : FlusherState D). x.kept) same ∙ none)
+  last_may f b (g ∷ rounds) e turn may goes = may
+
+  -- one round more
+  one_more : (a b e : FlusherState D) (rounds : List (FlusherState D)) → AreRounds state a rounds b → IsMadeRound state b e → MayFollow b rounds → AreRounds state a (rounds ++ e ∷ []) e
+  one_more a b e [] same made may = (over_made a e b.over (subst (λ f. IsMadeRound state f e) same made), tt, refl)
+  one_more a b e (f ∷ rounds) turn made may =
+      (turn.0, last_may f b rounds e turn.2 turn.1 may, one_more f b e rounds turn.2 made (may_follow b rounds may))
+
+  -- or none, and it is over
+  none_more : (a b e : FlusherState D) (rounds : List (FlusherState D)) → AreRounds state a rounds b → e ≡ record b { over = true } → AreRounds state a rounds e
+  none_more a b e [] same over =
+      over ∙ ap (λ (f : FlusherState D). record f { over = true }) same ∙ ap (λ (p : Bool). record a { over = p }) (sym (ap (λ (f : FlusherState D). f.over) over))
+  none_more a b e (f ∷ rounds) turn over = (turn.0, turn.1, none_more f b e rounds turn.2 over)
 
 module _ {D : Type 0} (state : D → DiskState) (consistent : (disk : D) → (state disk).honest → Consistent (state disk)) where
   -- no round was made
@@ -24,10 +71,22 @@ module _ {D : Type 0} (state : D → DiskState) (consistent : (disk : D) → (st
     grew = record { added = []; history = sym (append-nil f.line.history); truthful = tt };
     broke = λ broke. inl broke;
     later = record { size = refl; honest = (λ h. h, λ h. h); calls = omega arith; failures = omega arith; syncs = omega arith; failed_reads = omega arith };
-    any_moment = λ honest sound. started (state f.journal.disk) (IsLeftIn f.line.start f.line.history f.line.history) (consistent f.journal.disk honest) (history.kept honest sound);
+    rounds = [];
+    in_turn = refl;
+    any_moment = λ honest sound. (
+      record {
+        went_on = ([], sym (append-nil f.line.history));
+        leaves = started (state f.journal.disk) (IsLeftIn f.line.start f.line.history f.line.history) (consistent f.journal.disk honest) (history.kept honest sound);
+      },
+      tt,
+    );
   }
 
-  module _ (a b e : FlusherState D) (so_far : IsContinued state a b) (made : Bool) (took : MatchBool made (IsOneRound state b e) (e ≡ record b { over = true })) (first : e.first ≡ b.first) (start : e.line.start ≡ b.line.start)
+  pub first_may : (f : FlusherState D) (history : IsOneHistory state f) → MayFollow f (continued_first f history).rounds
+  unfolding continued_first
+  first_may f history = tt
+
+  module _ (a b e : FlusherState D) (so_far : IsContinued state a b) (may : MayFollow b so_far.rounds) (made : Bool) (took : MatchBool made (IsOneRound state b e) (e ≡ record b { over = true })) (first : e.first ≡ b.first) (start : e.line.start ≡ b.line.start)
       (history : IsOneHistory state e) (grew : GrewInRound state b e) (later : Later (state b.journal.disk) (state e.journal.disk))
       (safe : (state b.journal.disk).honest → b.first.broken ≡ false → IsCrashSafe state b e) where
     abbrev Failed : Type 0
@@ -49,17 +108,18 @@ module _ {D : Type 0} (state : D → DiskState) (consistent : (disk : D) → (st
     broke_by true one broke = broke_in one.calls one.given one.round broke
     broke_by false same broke = since (sym (ap (λ (f : FlusherState D). f.journal.broken) same) ∙ broke)
 
-    -- what was accepted at first was accepted before this round
-    held : (round : IsCrashSafe state b e) (image : List ℕ) → Stands image (state_reached b) ⊎ Stands image round.target → IsLeftIn a.line.start a.line.history e.line.history image
-    held round image stands =
+    -- what was accepted up to a moment was accepted before this round
+    held : (f : FlusherState D) → IsKeptSince state a.line.start b f → (round : IsCrashSafe state b e) (image : List ℕ) → Stands image (state_reached b) ⊎ Stands image round.target
+        → IsLeftIn a.line.start f.line.history e.line.history image
+    held f kept round image stands =
         let left = left_in state consistent b e round so_far.history.legal_but_for_bytes (subst (λ s. LegalButForBytes s e.line.history) start history.legal_but_for_bytes)
-        (subst (λ s. e.journal.broken ≡ false → e.journal.state ≡ folded s e.line.history) start history.state_is) a.line.history
-        (accepted_of so_far.grew.added, ap accepted_of so_far.grew.history ∙ accepted_append a.line.history so_far.grew.added) grew.added grew.history image stands in
-        subst (λ s. IsLeftIn s a.line.history e.line.history image) so_far.start left
+        (subst (λ s. e.journal.broken ≡ false → e.journal.state ≡ folded s e.line.history) start history.state_is) f.line.history
+        (accepted_of kept.went_on.0, ap accepted_of kept.went_on.1 ∙ accepted_append f.line.history kept.went_on.0) grew.added grew.history image stands in
+        subst (λ s. IsLeftIn s f.line.history e.line.history image) so_far.start left
 
     -- an earlier round is one of the longer history
-    longer : (image : List ℕ) → IsLeftIn a.line.start a.line.history b.line.history image → IsLeftIn a.line.start a.line.history e.line.history image
-    longer image left = record {
+    longer : (f : FlusherState D) (image : List ℕ) → IsLeftIn a.line.start f.line.history b.line.history image → IsLeftIn a.line.start f.line.history e.line.history image
+    longer f image left = record {
       before = left.before;
       round = left.round;
       rest = left.rest ++ grew.added;
@@ -67,6 +127,34 @@ module _ {D : Type 0} (state : D → DiskState) (consistent : (disk : D) → (st
       holds = left.holds;
       stands = left.stands;
     }
+
+    kept_on : IsCrashSafe state b e → (f : FlusherState D) → IsKeptSince state a.line.start b f → IsKeptSince state a.line.start e f
+    kept_on round f kept = record {
+      went_on = (kept.went_on.0 ++ grew.added, grew.history ∙ ap (λ h. h ++ grew.added) kept.went_on.1 ∙ append_assoc f.line.history kept.went_on.0 grew.added);
+      leaves = weaker _ (IsLeftIn a.line.start f.line.history e.line.history) (λ image. ⊎_elim (longer f image) (held f kept round image))
+          (joined (IsLeftIn a.line.start f.line.history b.line.history) (λ image. Stands image (state_reached b) ⊎ Stands image round.target) kept.leaves round.leaves);
+    }
+
+    -- from its end on
+    kept_now : (state e.journal.disk).honest → e.first.broken ≡ false → IsKeptSince state a.line.start e e
+    kept_now honest sound = record {
+      went_on = ([], sym (append-nil e.line.history));
+      leaves = subst (λ s. LeavesOnly (state e.journal.disk) (state e.journal.disk) (IsLeftIn s e.line.history e.line.history)) (start ∙ so_far.start)
+          (started (state e.journal.disk) (IsLeftIn e.line.start e.line.history e.line.history) (consistent e.journal.disk honest) (history.kept honest sound));
+    }
+
+    abbrev rounds_by : Bool → List (FlusherState D)
+    rounds_by true = so_far.rounds ++ e ∷ []
+    rounds_by false = so_far.rounds
+
+    turn_by : (made : Bool) → MatchBool made (IsOneRound state b e) (e ≡ record b { over = true }) → AreRounds state a (rounds_by made) e
+    turn_by true one = one_more state a b e so_far.rounds so_far.in_turn (record { one = one; any_moment = safe }) may
+    turn_by false same = none_more state a b e so_far.rounds so_far.in_turn same
+
+    all_kept : (made : Bool) → AllByRecursion (IsKeptSince state a.line.start e) (a ∷ so_far.rounds) → IsKeptSince state a.line.start e e
+        → AllByRecursion (IsKeptSince state a.line.start e) (a ∷ rounds_by made)
+    all_kept true all now = (all.0, all_and_last (IsKeptSince state a.line.start e) so_far.rounds e all.1 now)
+    all_kept false all now = all
 
     pub continued_next : IsContinued state a e
     continued_next = record {
@@ -83,8 +171,11 @@ module _ {D : Type 0} (state : D → DiskState) (consistent : (disk : D) → (st
       };
       broke = broke_by made took;
       later = later_again so_far.later later;
+      rounds = rounds_by made;
+      in_turn = turn_by made took;
       any_moment = λ honest sound.
-          let round = safe (so_far.later.honest.1 honest) (ap (λ (j : JournalState D). j.broken) so_far.first ∙ sound) in
-          weaker _ (IsLeftIn a.line.start a.line.history e.line.history) (λ image. ⊎_elim (longer image) (held round image))
-          (joined (IsLeftIn a.line.start a.line.history b.line.history) (λ image. Stands image (state_reached b) ⊎ Stands image round.target) (so_far.any_moment honest sound) round.leaves);
+          let still = so_far.later.honest.1 honest in
+          let whole = ap (λ (j : JournalState D). j.broken) so_far.first ∙ sound in
+          all_kept made (all_mapped (IsKeptSince state a.line.start b) (IsKeptSince state a.line.start e) (kept_on (safe still whole)) (a ∷ so_far.rounds) (so_far.any_moment honest sound))
+          (kept_now (later.honest.1 still) (ap (λ (j : JournalState D). j.broken) first ∙ whole));
     }

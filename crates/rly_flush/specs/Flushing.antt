@@ -1,5 +1,5 @@
 -- The flusher: one history of all calls that it took, what the journal stands at, and what a crash leaves.
-use Rattle.std.specs.Prelude.{ℕ, ◌≡◌, ◌<◌, ◌≤◌, ◌⊎◌, ◌+◌, List, [], ◌++◌, length}
+use Rattle.std.specs.Prelude.{ℕ, ◌≡◌, ◌<◌, ◌≤◌, ◌⊎◌, ◌+◌, List, [], ◌∷◌, ◌++◌, length, ⊤}
 use Rattle.std.specs.Prelude.{Bool, Option, None, Some, IfSome, true, false}
 use Rattle.std.specs.List.{AllByRecursion, zip}
 use Rattle.rly_core.specs.Bounds.{IsIn}
@@ -169,6 +169,32 @@ pub record IsOneHistory {D : Type 0} (state : D → DiskState) (f : FlusherState
   pub kept : (state f.journal.disk).honest → f.first.broken ≡ false
       → KeepsAccepted (state f.journal.disk) f.line.start f.line.history
 
+-- one round, and what a crash leaves at any moment of it
+pub record IsMadeRound {D : Type 0} (state : D → DiskState) (old new : FlusherState D) : Type 0 where
+  pub one : IsOneRound state old new
+  pub any_moment : (state old.journal.disk).honest → old.first.broken ≡ false → IsCrashSafe state old new
+
+-- a round may follow: the journal isn't broken, or a batch that was taken is left to be answered
+abbrev pub MayGoOn : {D : Type 0} → FlusherState D → Type 0
+MayGoOn f = f.journal.broken ≡ true → f.kept ≡ None → ⊥
+
+-- where there are later rounds, they may follow
+abbrev pub MayFollow : {D : Type 0} → FlusherState D → List (FlusherState D) → Type 0
+MayFollow f [] = ⊤
+MayFollow f (later ∷ rounds) = MayGoOn f
+
+-- one round after the other, from old to last, and nothing between them: what each left is in the list
+abbrev pub AreRounds : {D : Type 0} → (D → DiskState) → FlusherState D → List (FlusherState D) → FlusherState D → Type 0
+AreRounds state old [] last = last ≡ record old { over = last.over }
+AreRounds state old (next ∷ rounds) last = IsMadeRound state old next × MayFollow next rounds × AreRounds state next rounds last
+
+-- a crash at any moment since a flusher was at f, up to the last, was in a round of the history. It leaves a prefix of
+-- the accepted commands: all those that were accepted up to f and all those before that round, with or without those of
+-- the round
+pub record IsKeptSince {D : Type 0} (state : D → DiskState) (start : State (List ℕ)) (last f : FlusherState D) : Type 0 where
+  pub went_on : (more : List Entry) × (last.line.history ≡ f.line.history ++ more)
+  pub leaves : LeavesOnly (state f.journal.disk) (state last.journal.disk) (IsLeftIn start f.line.history last.line.history)
+
 -- what rounds made of a flusher
 pub record IsContinued {D : Type 0} (state : D → DiskState) (old new : FlusherState D) : Type 0 where
   pub first : new.first ≡ old.first
@@ -179,11 +205,13 @@ pub record IsContinued {D : Type 0} (state : D → DiskState) (old new : Flusher
   pub broke : new.journal.broken ≡ true
       → (old.journal.broken ≡ true) ⊎ HasFailed (state old.journal.disk) (state new.journal.disk)
   pub later : Later (state old.journal.disk) (state new.journal.disk)
-  -- a crash at any moment of them was in one of the rounds of the history. It leaves a prefix of the accepted commands:
-  -- all those before that round, with or without those of the round
+  -- they were made one after the other
+  pub rounds : List (FlusherState D)
+  pub in_turn : AreRounds state old rounds new
+  -- what a crash leaves since the first moment, and since the end of each of them: no later crash loses what was accepted
+  -- up to there
   pub any_moment : (state old.journal.disk).honest → old.first.broken ≡ false
-      → LeavesOnly (state old.journal.disk) (state new.journal.disk)
-      (IsLeftIn old.line.start old.line.history new.line.history)
+      → AllByRecursion (IsKeptSince state old.line.start new) (old ∷ rounds)
 
 -- rounds were made until no batch was left and no seat, or until the journal was broken, and no batch is kept
 pub record IsServed {D : Type 0} (state : D → DiskState) (old last : FlusherState D) : Type 0 where

@@ -1,8 +1,8 @@
 //! A link of which one call fails, for each of its calls in 64 turns. It counts its receives and sends together, from 1.
 //!
-//! What is expected follows from docs/PROTOCOL.md. A worker asks its link once in each turn, so 64 turns are 64 receives. What
-//! it sends in a turn comes after that turn's receive. A receive that fails is as nothing heard. A packet whose send fails is
-//! lost, and the worker goes on as if it had gone out.
+//! What is expected follows from docs/PROTOCOL.md. A sender asks its link once in each turn, so its 64 turns are 64 receives. A
+//! receiver asks until its link gives nothing. What either sends in a turn comes after that turn's receives. A receive that fails is
+//! as nothing heard. A packet whose send fails is lost, and the worker goes on as if it had gone out.
 
 use crate::workers::{
     MemEnds, expect_counts, expect_counts_of, expect_sent, link_with, plan, spool_with, take_for,
@@ -38,25 +38,26 @@ fn expect_done<R: Abort>(rt: &R, ends: &MemEnds, done: &Done, packet: &[u8]) {
 /// In which of its receives, counted from 0, a receiver's neighbour sends its datagram: in those of each fourth turn.
 const PLACES: [usize; 16] = [0, 4, 8, 12, 16, 20, 24, 28, 32, 36, 40, 44, 48, 52, 56, 60];
 
-/// The last call: four turns have the receive of the datagram, the send of its custody and three more receives, so 64 have 80.
+/// The last call that a datagram leads to: three turns have the receive of the datagram, one that finds no more, the send of its
+/// custody and two more receives, so 16 of them have 80. The other 16 of 64 turns have a receive each.
 const LAST_RECEIVED: u64 = 80;
 
 /// What a receiver does over that link.
 fn received(fails_at: u64) -> Done {
-    // The first receive of four turns fails: then they have no call of the desk and no send.
-    if fails_at % 5 == 1 {
+    // The receive of a datagram fails: then its turn has no other, and no call of the desk and no send.
+    if fails_at % 5 == 1 && fails_at <= LAST_RECEIVED {
         return Done {
             delivered: 15,
-            calls: 79,
+            calls: 94,
             waits: 64,
             asked: 15,
         };
     }
     // The send of a custody fails.
-    let is_lost = fails_at % 5 == 2;
+    let is_lost = fails_at % 5 == 3 && fails_at <= LAST_RECEIVED;
     Done {
         delivered: if is_lost { 15 } else { 16 },
-        calls: 80,
+        calls: 96,
         waits: 64,
         asked: 16,
     }
@@ -79,7 +80,7 @@ fn receiver_goes_on(rt: HostRuntime) {
         expect!(rt; matches!(ends.desk.machine().lasts().first(), Some(1)));
         expect!(rt; ends.desk.machine().item_count() == 1);
     }
-    expect!(rt; receive(&rt, alloc, LAST_RECEIVED + 1).link.failures() == 0);
+    expect!(rt; receive(&rt, alloc, 97).link.failures() == 0);
 }
 
 /// The sender of hop 1 has one datagram, and so many turns of 10 ms.

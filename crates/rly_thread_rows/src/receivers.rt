@@ -50,15 +50,66 @@ fn hear_one<R: Abort + Wait>(rt: &R, alloc: Global, packet: &[u8]) -> MemEnds {
     receive(rt, alloc, empty(rt, alloc), link, 2)
 }
 
-/// A datagram is taken, and its custody sent. The link is asked once a turn, by a receive that waits.
+/// A datagram is taken, and its custody sent. In each turn the link is asked until it gives nothing, first by a receive that
+/// waits.
 #[test]
 fn custody_is_sent(rt: HostRuntime) {
     let ends = hear_one(&rt, rt.alloc(), DATA);
     expect_sent(&rt, &ends, 1, CUSTODY);
-    expect!(rt; ends.link.calls() == 3);
+    expect!(rt; ends.link.calls() == 4);
     expect!(rt; ends.link.waits() == 2);
     expect!(rt; ends.desk.calls() == 1);
     expect!(rt; ends.desk.machine().item_count() == 1);
+}
+
+/// Data from station 3 to station 7 under this number, payload `000c41`, or `000d41`, to whose destination there is no route.
+fn numbered(number: u8, destination: u8) -> [u8; 21] {
+    let mut packet =
+        *b"\x52\x4c\x01\x01\x00\x03\x00\x07\x00\x00\x00\x00\x00\x00\x00\x01\x00\x03\x00\x0c\x41";
+    packet[15] = number;
+    packet[19] = destination;
+    packet
+}
+
+/// The receiver of an empty spool hears these, one after another, and has so many turns.
+fn hear_all<R: Abort + Wait>(rt: &R, alloc: Global, heard: &[(u8, u8)], turns: u64) -> MemEnds {
+    let mut coming = Vec::new(alloc);
+    for (number, destination) in heard {
+        let packet = numbered(*number, *destination);
+        let given = Some(packet.to_vec(alloc).expect(rt, "memory"));
+        coming.push(given).expect(rt, "memory");
+    }
+    let link = MemLink::new(alloc, coming, 0);
+    receive(rt, alloc, empty(rt, alloc), link, turns)
+}
+
+/// A window is taken in one turn, by one receive that waits, and one custody goes out: that of the greatest number.
+#[test]
+fn a_window_is_taken_in_one_turn(rt: HostRuntime) {
+    let alloc = rt.alloc();
+    let mut heard = Vec::new(alloc);
+    for number in 1..=70 {
+        heard.push((number, 12)).expect(&rt, "memory");
+    }
+    for (turns, taken) in &[(1u64, 64u8), (2, 70)] {
+        let ends = hear_all(&rt, alloc, &heard, *turns);
+        expect!(rt; ends.desk.calls() == u64::from(*taken));
+        expect!(rt; ends.link.waits() == *turns);
+        let delivered = ends.link.delivered();
+        expect!(rt; delivered.len() as u64 == *turns);
+        expect!(rt; delivered[delivered.len() - 1][15] == *taken);
+    }
+}
+
+/// A refused one among them is told of, and of those before it the custody goes out after that. A gap leads to a custody too.
+#[test]
+fn a_refused_one_among_them_is_told(rt: HostRuntime) {
+    let ends = hear_all(&rt, rt.alloc(), &[(1, 12), (2, 12), (3, 13), (4, 12)], 1);
+    let delivered = ends.link.delivered();
+    expect!(rt; delivered.len() == 2);
+    expect!(rt; delivered[0][3] == 3 && delivered[0][15] == 3);
+    expect!(rt; delivered[1][3] == 2 && delivered[1][15] == 2);
+    expect!(rt; ends.desk.machine().item_count() == 2);
 }
 
 /// A full spool is told of.

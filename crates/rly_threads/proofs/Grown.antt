@@ -27,11 +27,7 @@ nowhere = record { now = 0; since = 0; on = false }
 
 -- a worker made no call
 abbrev pub no_call : Made
-no_call = record { refused = false; outcome = Err Lost; before = nowhere; after = nowhere; taken = nowhere }
-
--- a worker made none, since memory was refused
-abbrev pub refused_call : Made
-refused_call = record { refused = true; outcome = Err Lost; before = nowhere; after = nowhere; taken = nowhere }
+no_call = record { outcome = Err Lost; before = nowhere; after = nowhere }
 
 pub did_nothing : {C : Type 0} (told : EndsView) (c : C) → Did told told c (nothing_done c)
 did_nothing told c = record {
@@ -68,15 +64,15 @@ did_hear old mid new c d worker waits given heard at quiet did = record {
 }
 
 -- before it a worker was handed the start of a turn
-pub did_start : {C : Type 0} (old mid new : EndsView) (c : C) (d : Done C) (worker : Worker) (given : Given)
-    → TellsMore old.handed mid.handed ((worker, Start, record given.start { on = true }) ∷ []) → mid ≡ record old { handed = mid.handed }
-    → Did mid new c d → Did old new c (with_start worker given d)
-did_start old mid new c d worker given start quiet did = record {
+pub did_start : {C : Type 0} (old mid new : EndsView) (c : C) (d : Done C) (worker : Worker) (start : Go)
+    → TellsMore old.handed mid.handed ((worker, Start, record start { on = true }) ∷ []) → mid ≡ record old { handed = mid.handed }
+    → Did mid new c d → Did old new c (with_start worker start d)
+did_start old mid new c d worker start began quiet did = record {
   left = did.left;
   heard = subst (λ h. TellsMore h new.heard d.heard) (ap (λ t. t.heard) quiet) did.heard;
   sent = subst (λ s. TellsMore s new.sent d.sent) (ap (λ t. t.sent) quiet) did.sent;
   asked = subst (λ a. TellsMore a new.asked d.asked) (ap (λ t. t.asked) quiet) did.asked;
-  handed = tells_more old.handed mid.handed new.handed ((worker, Start, record given.start { on = true }) ∷ []) d.handed start did.handed;
+  handed = tells_more old.handed mid.handed new.handed ((worker, Start, record start { on = true }) ∷ []) d.handed began did.handed;
 }
 
 -- it did one thing, and then another
@@ -90,7 +86,7 @@ did_both old mid new b c d e first then = record {
 }
 
 -- the last of several turns comes after those before it
-pub done_more : {C : Type 0} (act : C → Given → Done C) (c : C) (turns : List Given) (given : Given)
+pub done_more : {C G : Type 0} (act : C → G → Done C) (c : C) (turns : List G) (given : G)
     → done_in act c (turns ++ given ∷ []) ≡ done_both (done_in act c turns) (act (done_in act c turns).core given)
 done_more act c [] given = λ i. record {
   core = (act c given).core;
@@ -112,17 +108,17 @@ done_more act c (g ∷ turns) given =
     })
 
 -- so far: these turns were taken, and the worker is in this state
-pub record Ongoing {C : Type 0} (act : C → Given → Done C) (first now : C) (old new : EndsView) : Type 0 where
-  pub turns : List Given
+pub record Ongoing {C G : Type 0} (act : C → G → Done C) (first now : C) (old new : EndsView) : Type 0 where
+  pub turns : List G
   pub did : Did old new now (done_in act first turns)
 
-pub begun : {C : Type 0} (act : C → Given → Done C) (first : C) (told : EndsView) → Ongoing act first first told told
+pub begun : {C G : Type 0} (act : C → G → Done C) (first : C) (told : EndsView) → Ongoing act first first told told
 begun act first told = record { turns = []; did = did_nothing told first }
 
 -- one more turn
-pub gone_on : {C : Type 0} (act : C → Given → Done C) (first now next : C) (old mid new : EndsView) (given : Given)
+pub gone_on : {C G : Type 0} (act : C → G → Done C) (first now next : C) (old mid new : EndsView) (given : G)
     → Ongoing act first now old mid → Did mid new next (act now given) → Ongoing act first next old new
-gone_on {C} act first now next old mid new given before did =
+gone_on {C} {G} act first now next old mid new given before did =
     let done = done_in act first before.turns in
     let last : Did mid new next (act done.core given) = subst (λ c. Did mid new next (act c given)) before.did.left did in
     let whole : done_in act first (before.turns ++ given ∷ []) ≡ done_both done (act done.core given) = done_more act first before.turns given in

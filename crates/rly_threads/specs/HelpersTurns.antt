@@ -1,12 +1,19 @@
 -- Nothing is claimed here: what private functions did within a turn, and what a desk in memory replies.
-use Rattle.std.specs.Prelude.{◌≡◌, ◌⊎◌, ℕ, List}
+use Rattle.std.specs.Prelude.{◌≡◌, ◌⊎◌, ◌≤◌, ◌++◌, ℕ, List, [], length, map, max, vec_capacity, Option, Some, None}
+use Rattle.std.specs.List.{flat_map}
 use Rattle.rly_core.specs.declared.refusal.Refusal.TheVariants.{OutOfMemory}
 use Rattle.rly_machine.specs.Ask.{ask_step}
 use Rattle.rly_machine.specs.declared.command.Ask.{Ask}
 use Rattle.rly_machine.specs.declared.reply.Reply.{Reply}
 use Rattle.rly_machine.specs.declared.reply.Reply.TheVariants.{Refused}
 use Rattle.rly_machine.specs.State.{State}
+use Rattle.rly_hop.specs.Receiver.{Receiver}
+use Rattle.rly_threads.specs.declared.receiver.Takes.{Takes}
+use Rattle.rly_threads.specs.declared.turn.Go.{Go}
+use Rattle.rly_threads.specs.declared.turn.Point.TheVariants as point
+use Rattle.rly_threads.specs.declared.turn.Worker.TheVariants as worker
 use Rattle.rly_threads.specs.Ends.{TellsMore}
+use Rattle.rly_threads.specs.Intake.{Arrival, Intake, Told, Waiting, Wanted, answers_sent, hearings, receives, takings, waiting, wanted}
 use Rattle.rly_threads.specs.Runs.{EndsView}
 use Rattle.rly_threads.specs.Turns.{Done}
 
@@ -22,3 +29,50 @@ pub record Did {C : Type 0} (old new : EndsView) (core : C) (d : Done C) : Type 
 abbrev pub IsReply : State (List ℕ) → State (List ℕ) → Ask → Reply → Type 0
 IsReply old new ask reply =
     ((reply ≡ Refused OutOfMemory) × (new ≡ old)) ⊎ ((reply ≡ (ask_step old ask).1) × (new ≡ (ask_step old ask).0))
+
+-- there is room for the Takes of a turn, or room is made for its one Take
+abbrev pub HasRoom : Takes → Type 0
+HasRoom t =
+    ((t.most ≡ 64) × (64 ≤ vec_capacity t.asks) × (64 ≤ vec_capacity t.waiting) × (64 ≤ vec_capacity t.answers))
+    ⊎ (t.most ≡ 1)
+
+-- no Take is there
+pub record IsReady (t : Takes) : Type 0 where
+  pub room : HasRoom t
+  pub asks : t.asks.items ≡ []
+  pub waiting : t.waiting.items ≡ []
+  pub answers : t.answers.items ≡ []
+
+-- as many cores wait as Takes are there, none is answered, and there is room for their answers
+pub record AreWaiting (t : Takes) : Type 0 where
+  pub room : HasRoom t
+  pub each : length t.waiting.items ≡ length t.asks.items
+  pub none : t.answers.items ≡ []
+  pub place : length t.asks.items ≤ vec_capacity t.answers
+
+-- these Takes came to those that were there
+pub record HasMore (old new : Takes) (more : List Wanted) : Type 0 where
+  pub most : new.most ≡ old.most
+  pub asks : new.asks.items ≡ old.asks.items ++ map (λ x. x.ask) more
+  pub waits : new.waiting.items ≡ old.waiting.items ++ map waiting more
+
+-- a worker heard these packets, and then perhaps nothing, and has the Takes that they lead to
+pub record HasGathered (w : Intake) (r : Receiver) (old new : EndsView) (before after : Takes) (packets : List Arrival) (quiet : Go) : Type 0 where
+  pub few : length packets ≤ before.most
+  pub heard : TellsMore old.heard new.heard (hearings (receives before.most packets quiet))
+  pub handed : TellsMore old.handed new.handed
+      (map (λ x. (worker.Receiver w.peer, point.Heard, x.1)) (receives before.most packets quiet))
+  pub same : new ≡ record old { heard = new.heard; handed = new.handed }
+  pub more : HasMore before after (flat_map (wanted w before.most r) packets)
+
+-- a worker said and sent what its cores name on these answers
+pub record HasAnswered (w : Intake) (r : Receiver) (old new : EndsView) (taken : List (Waiting × Told)) : Type 0 where
+  pub sent : TellsMore old.sent new.sent (answers_sent r taken)
+  pub handed : TellsMore old.handed new.handed (takings w taken)
+  pub same : new ≡ record old { sent = new.sent; handed = new.handed }
+
+-- the greater of two numbers, as far as they are there
+abbrev pub greater : Option ℕ → Option ℕ → Option ℕ
+greater None number = number
+greater (Some last) None = Some last
+greater (Some last) (Some number) = Some (max last number)

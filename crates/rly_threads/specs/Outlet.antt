@@ -146,4 +146,4 @@ outlet_done w p given =
 
 -- one turn
 abbrev pub outlet_turn : Outlet → Pacing → Given → Done Pacing
-outlet_turn w p given = with_start (worker.Sender w.hop) given (outlet_done w p given)
+outlet_turn w p given = with_start (worker.Sender w.hop) given.start (outlet_done w p given)

@@ -1,5 +1,5 @@
 -- A relay: its lines, and what its workers did.
-use Rattle.std.specs.Prelude.{◌≡◌, ℕ, false, List, [], map, Option, None, IfSome}
+use Rattle.std.specs.Prelude.{◌≡◌, ◌⊎◌, ℕ, false, List, [], map, Option, None, IfSome}
 use Rattle.std.specs.List.{range_with_len}
 use Rattle.rly_core.specs.declared.ids.HopId.{HopId}
 use Rattle.rly_core.specs.declared.ids.PeerId.{PeerId}
@@ -12,7 +12,7 @@ use Rattle.rly_threads.specs.declared.relay.Post.{Post}
 use Rattle.rly_threads.specs.declared.turn.Worker.{Worker}
 use Rattle.rly_threads.specs.declared.turn.Worker.TheVariants as worker
 use Rattle.rly_threads.specs.Ends.{Hearing}
-use Rattle.rly_threads.specs.Intake.{intake, intake_turn}
+use Rattle.rly_threads.specs.Intake.{Arrivals, intake, intake_turn}
 use Rattle.rly_threads.specs.Outlet.{outlet, outlet_turn, pacing}
 use Rattle.rly_threads.specs.Runs.{Ran, EndsView}
 use Rattle.rly_threads.specs.Turns.{Given, Handed, done_in}
@@ -21,13 +21,14 @@ use Rattle.rly_threads.specs.Turns.{Given, Handed, done_in}
 abbrev pub new_end : LineId → ℕ → EndView
 new_end line seats = record { of = line; capacity = seats; taken = []; lines = map new_teller (range_with_len 0 seats) }
 
--- a receiver of a peer of the plan, from its start to its end: it waited, asked and sent as its core and its rules of
--- waiting name for what it was given, in order, and did nothing else
+-- A receiver of a peer of the plan, from its start to its end: it waited, asked and sent as its cores and its rules of waiting
+-- name for what it was given, in order, and did nothing else. It takes up to 64 packets a turn, or one where memory for the
+-- lists of their Takes was refused at its start.
 abbrev pub HasReceived : ContactPlan → PeerId → EndsView → EndsView → Type 0
 HasReceived plan peer old new =
-    IfSome (peer_at plan peer) (λ neighbour. (turns : List Given)
+    IfSome (peer_at plan peer) (λ neighbour. (most : ℕ) × ((most ≡ 64) ⊎ (most ≡ 1)) × (turns : List Arrivals)
     × Ran old new (worker.Receiver peer)
-    (done_in (intake_turn (intake plan peer))
+    (done_in (intake_turn (intake plan peer) most)
     (receiver (record { 0 = plan.station }) (record { 0 = neighbour.station })) turns))
 
 -- the same of a sender to a hop of the plan, which may have so many datagrams in flight

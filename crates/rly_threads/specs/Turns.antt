@@ -17,16 +17,13 @@ use Rattle.rly_threads.specs.Ends.{Hearing, hearing}
 abbrev pub Handed : Type 0
 Handed = Worker × Point × Go
 
--- What became of the call that a worker made in a turn, if it made one, what it was handed before it and after it, and what
--- where it said that a datagram was taken. Where memory was refused for the bytes of a payload the call was not made.
+-- what became of the call that a sending worker made in a turn, if it made one, and what it was handed before it and after it
 pub record Made : Type 0 where
-  pub refused : Bool
   pub outcome : CallOutcome
   pub before : Go
   pub after : Go
-  pub taken : Go
 
--- what a worker was given in a turn: what it was handed at its start, the packet that its link gave, if it gave one, what
+-- what a sending worker was given in a turn: what it was handed at its start, the packet that its link gave, if it gave one, what
 -- it was handed after that, which is the turn's moment, and what became of its call
 pub record Given : Type 0 where
   pub start : Go
@@ -58,7 +55,7 @@ done_both d e = record {
 }
 
 -- what it does in turn after turn, where it does so in one
-abbrev pub done_in : {C : Type 0} → (C → Given → Done C) → C → List Given → Done C
+abbrev pub done_in : {C G : Type 0} → (C → G → Done C) → C → List G → Done C
 done_in act c [] = nothing_done c
 done_in act c (given ∷ turns) = done_both (act c given) (done_in act (act c given).core turns)
 
@@ -93,13 +90,13 @@ with_hearing worker waits given d = record {
 }
 
 -- a worker is handed the start of a turn, at which it goes on, and does this
-abbrev pub with_start : {C : Type 0} → Worker → Given → Done C → Done C
-with_start worker given d = record {
+abbrev pub with_start : {C : Type 0} → Worker → Go → Done C → Done C
+with_start worker start d = record {
   core = d.core;
   heard = d.heard;
   asked = d.asked;
   sent = d.sent;
-  handed = (worker, point.Start, record given.start { on = true }) ∷ d.handed;
+  handed = (worker, point.Start, record start { on = true }) ∷ d.handed;
 }
 
 -- what a worker is handed before a call and after it

@@ -28,5 +28,5 @@ loop-turn-preserved g c =
       c.turn.ensures.plan ∙ before.0,
       c.turn.ensures.hop ∙ before.1,
       gone_on (outlet_turn (outlet c.args.plan.now c.args.hop)) (pacing c.new-core.result false 0) p next c.args.ends.now c.loop-turn.ends c.turn.new.ends given before.2
-          (did_start c.loop-turn.ends c.between-go.new.self c.turn.new.ends next _ (Sender c.args.hop) given start c.between-go.ensures.same did),
+          (did_start c.loop-turn.ends c.between-go.new.self c.turn.new.ends next _ (Sender c.args.hop) c.between-go.result start c.between-go.ensures.same did),
     )

@@ -2,17 +2,18 @@ use Rattle.std.proofs.Common.{Bool, Option, inl, inr, ◌∙◌, ap, refl, subst
 use Rattle.std.proofs.lemmas.Bool.{false≢true}
 use Rattle.rly_line.specs.Batches.{BatchView}
 use Rattle.rly_flush.specs.Flushing.{FlusherState, IsContinued, IsServed}
-use Rattle.rly_flush.proofs.Serving.{continued_first, continued_next}
+use Rattle.rly_flush.proofs.Serving.{continued_first, continued_next, first_may, may_follow}
 use Rattle.rly_flush.proofs.flusher.Flusher.serve.Goals.{in-None, in-Some+then-not-round, then-not-round-via-then-not-round, then-not-round-via-else-not-round+then-has_ended}
 use Rattle.rly_flush.proofs.flusher.Flusher.serve.Goals as goal
 
 pub loop-count-init : goal.loop-count-init
-loop-count-init g c = continued_first g.D.Disk.state g.met.D.Disk.consistent c.args.self c.law_history.ensures
+loop-count-init g c = (continued_first g.D.Disk.state g.met.D.Disk.consistent c.args.self c.law_history.ensures, first_may g.D.Disk.state g.met.D.Disk.consistent c.args.self c.law_history.ensures)
 
 pub loop-count-preserved : goal.loop-count-preserved
 loop-count-preserved g c =
-    continued_next g.D.Disk.state g.met.D.Disk.consistent c.args.self c.loop-count.flusher c.round.new.self c.loop-count.invariant c.round.result
-    c.round.ensures.took c.round.ensures.first c.round.ensures.start c.round.ensures.history c.round.ensures.failures c.round.ensures.later c.round.ensures.any_moment
+    let so_far = continued_next g.D.Disk.state g.met.D.Disk.consistent c.args.self c.loop-count.flusher c.round.new.self c.loop-count.invariant.0 c.loop-count.invariant.1 c.round.result
+    c.round.ensures.took c.round.ensures.first c.round.ensures.start c.round.ensures.history c.round.ensures.failures c.round.ensures.later c.round.ensures.any_moment in
+    (so_far, may_follow c.round.new.self so_far.rounds (λ broke none. absurd (false≢true (sym c.if-has_ended.false ∙ c.has_ended.ensures.1 (broke, none)))))
 
 pub returns-clause-ends : goal.returns-clause-ends
 returns-clause-ends g c =
@@ -25,7 +26,7 @@ returns-clause-ends g c =
             | in-None w ↦ absurd (false≢true w.in-None.ensures.steps)
             | in-Some+then-not-round w ↦
                 subst (IsContinued g.D.Disk.state c.args.self) (sym w.flusher-is)
-                (continued_next g.D.Disk.state g.met.D.Disk.consistent c.args.self c.loop-count.flusher w.round.new.self c.loop-count.invariant w.round.result
+                (continued_next g.D.Disk.state g.met.D.Disk.consistent c.args.self c.loop-count.flusher w.round.new.self c.loop-count.invariant.0 c.loop-count.invariant.1 w.round.result
                 w.round.ensures.took w.round.ensures.first w.round.ensures.start w.round.ensures.history w.round.ensures.failures w.round.ensures.later w.round.ensures.any_moment)
           ]);
       none_kept =

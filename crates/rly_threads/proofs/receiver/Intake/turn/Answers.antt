@@ -1,26 +1,32 @@
-use Rattle.std.proofs.Common.{◌∙◌, ap, subst}
-use Rattle.std.specs.Option.{option_map}
-use Rattle.rly_hop.specs.Payloads.{in_action_bytes}
-use Rattle.rly_threads.specs.Ends.{packet_in}
-use Rattle.rly_threads.specs.Intake.{Intake, intake, intake_on_action, intake_on_hearing}
-use Rattle.rly_threads.specs.HelpersTurns.{Did}
-use Rattle.rly_threads.specs.Turns.{Given}
-use Rattle.rly_threads.proofs.Grown.{nowhere}
-use Rattle.rly_threads.proofs.Receivers.{turned}
+use Rattle.std.proofs.Common.{◌≡◌, ◌<◌, arith, length, rules}
+use Rattle.std.proofs.lemmas.Bool.Decides.{nat_tests}
+use Rattle.rly_hop.specs.Receiving.{receiver}
+use Rattle.rly_threads.specs.Intake.{intake}
+use Rattle.rly_threads.proofs.Receivers.{few_asks, turned_asked, turned_none}
+use Rattle.rly_threads.proofs.Threads.{none_left}
 use Rattle.rly_threads.proofs.receiver.Intake.turn.Goals as goal
+
+pub returns-then-is_empty-clause-done : goal.returns-then-is_empty-clause-done
+returns-then-is_empty-clause-done g c =
+    let gathered = c.gather.ensures.gathered in
+    let none : length c.gather.new.takes.asks.items ≡ 0 = grind (arith, rules, nat_tests, c.if-is_empty.ensures) in
+    turned_none (intake c.args.self.now.plan.now c.args.self.now.peer) (receiver c.args.self.now.own c.args.self.now.station) c.args.ends.now c.gather.new.ends
+    c.args.takes.now c.gather.new.takes gathered.0 gathered.1 gathered.2 c.requires.ready.asks (none_left c.gather.new.takes.asks.items none)
+
+pub call_all-outcome-requires-clause-count : goal.call_all-outcome-requires-clause-count
+call_all-outcome-requires-clause-count g c =
+    let gathered = c.gather.ensures.gathered in (
+      grind (arith, rules, nat_tests, c.if-is_empty.ensures),
+      few_asks (intake c.args.self.now.plan.now c.args.self.now.peer) (receiver c.args.self.now.own c.args.self.now.station) c.args.ends.now c.gather.new.ends
+          c.args.takes.now c.gather.new.takes gathered.0 gathered.1 c.requires.ready.room c.requires.ready.asks gathered.2,
+    )
 
 pub returns-clause-done : goal.returns-clause-done
 returns-clause-done g c =
-    let acted = c.act.ensures.done in
-    let did : Did c.hear-found.new.self c.act.new.ends c.act.new.self.core (intake_on_action (intake c.args.self.now.plan.now c.args.self.now.peer) c.hear-found.result.1.now acted.0 c.hear-action.new.self.core (option_map in_action_bytes c.hear-action.result)) =
-    subst (λ (w : Intake). Did c.hear-found.new.self c.act.new.ends c.act.new.self.core (intake_on_action w c.hear-found.result.1.now acted.0 c.hear-action.new.self.core (option_map in_action_bytes c.hear-action.result)))
-    (λ i. intake (c.hear-action.ensures.plan i).now (c.hear-action.ensures.peer i)) acted.1 in
-    let given : Given = record { start = nowhere; packet = packet_in c.hear-found.result.0 c.hear-found.new.buffer; heard = c.hear-found.result.1; made = acted.0 } in (
-      given,
-      turned (intake c.args.self.now.plan.now c.args.self.now.peer) c.args.ends.now c.hear-found.new.self c.act.new.ends
-          c.args.self.now.core c.hear-action.new.self.core c.act.new.self.core given (option_map in_action_bytes c.hear-action.result)
-          c.hear-found.ensures.heard c.hear-found.ensures.told c.hear-found.ensures.same
-          (c.hear-action.ensures.core ∙ ap (λ m. (intake_on_hearing c.args.self.now.core m).0) c.message_in.ensures)
-          (c.hear-action.ensures.action ∙ ap (λ m. (intake_on_hearing c.args.self.now.core m).1) c.message_in.ensures)
-          did,
-    )
+    let gathered = c.gather.ensures.gathered in
+    let called = c.call_all-outcome.ensures in
+    let done = c.answer.ensures.done in
+    let some : 0 < length c.gather.new.takes.asks.items = grind (arith, rules, nat_tests, c.if-is_empty.ensures) in
+    turned_asked (intake c.args.self.now.plan.now c.args.self.now.peer) (receiver c.args.self.now.own c.args.self.now.station) c.args.ends.now c.gather.new.ends c.call_all-outcome.new.self c.answer.new.ends
+    c.args.takes.now c.gather.new.takes gathered.0 gathered.1 done.0 c.call_all-outcome.new.answers.items c.call_all-outcome.result.0 called.told.0 c.call_all-outcome.result.1
+    gathered.2 c.requires.ready.asks c.requires.ready.waiting some called.asked called.told.1 called.same called.none_given done.1 done.2

@@ -1,16 +1,14 @@
-use Rattle.std.proofs.Common.{false}
 use Rattle.std.specs.Option.{option_map}
 use Rattle.rly_hop.specs.Payloads.{out_action_bytes, out_event_bytes}
 use Rattle.rly_threads.specs.Outlet.{outlet, pacing}
 use Rattle.rly_threads.specs.Turns.{Made}
-use Rattle.rly_threads.proofs.Grown.{nowhere}
 use Rattle.rly_threads.proofs.Senders.{asked}
 use Rattle.rly_threads.proofs.sender.Outlet.ask.Goals as goal
 
 pub returns-clause-done : goal.returns-clause-done
 returns-clause-done g c =
     let around = c.call-outcome.ensures.told in
-    let made : Made = record { refused = false; outcome = c.call-outcome.result.0; before = around.0; after = c.call-outcome.result.1; taken = nowhere } in (
+    let made : Made = record { outcome = c.call-outcome.result.0; before = around.0; after = c.call-outcome.result.1 } in (
       made,
       asked (outlet c.args.self.now.plan.now c.args.self.now.hop) c.args.ends.now c.call-outcome.new.self c.send_named-sent.new.ends
           c.args.self.now.core (pacing c.pace.new.self.core c.pace.new.self.moved c.pace.new.self.mark) made c.args.self.now.mark (out_action_bytes c.args.action) c.args.ask
