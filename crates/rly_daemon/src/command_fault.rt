@@ -1,6 +1,7 @@
 use crate::address_fault::AddressFault;
 use crate::file_fault::{Cause, FileFault, SystemWord};
 use rly_core::Refusal;
+use rly_plan::PlanFault;
 use rly_text::TextFault;
 use std::alloc::AllocError;
 use thiserror::Error;
@@ -35,6 +36,21 @@ impl From<AllocError> for ServeFault {
 
     fn from(_refused: AllocError) -> ServeFault {
         ServeFault::Refused(Refusal::OutOfMemory, Cause::Told)
+    }
+}
+
+impl From<PlanFault> for ServeFault {
+    ghost use Rattle.std.specs.Prelude.{◌≡◌};
+    ghost use Rattle.rly_daemon.specs.Faults.{cause_at};
+    ghost use Rattle.rly_daemon.specs.declared.command_fault.ServeFault.TheVariants.{Refused};
+
+    ghost from_gives = { λ plan fault. fault ≡ Refused plan.refusal (cause_at plan.place) };
+
+    fn from(plan: PlanFault) -> ServeFault {
+        match plan.place {
+            Some(place) => ServeFault::Refused(plan.refusal, Cause::At(place)),
+            None => ServeFault::Refused(plan.refusal, Cause::Told),
+        }
     }
 }
 

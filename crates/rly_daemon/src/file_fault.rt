@@ -1,4 +1,5 @@
 use rly_core::Refusal;
+use rly_plan::Place;
 use std::io;
 use std::io::ErrorKind;
 use thiserror::Error;
@@ -88,6 +89,9 @@ pub enum Cause {
     /// A plan has more peers or hops than the device.
     #[error("\nrly: plan: it has more peers or hops than the device")]
     Plan,
+    /// A plan has its first fault there.
+    #[error("\nrly: plan: at {0}")]
+    At(Place),
     /// The values in a device's header are out of their limits, or its file is too short for them.
     #[error("\nrly: device: its header has a value out of its limits, or its file is too short")]
     Header,

@@ -1,15 +1,17 @@
 //! The running relay: what it needs of its device, its workers, and how it ends.
 
-ghost use Rattle.std.specs.Prelude.{◌≡◌, ◌≤◌, ◌⊎◌, ◌++◌, Err, IfErr, IfOk, IsOk, OnOk, false, length, map, option_copied, true};
+ghost use Rattle.std.specs.Prelude.{◌≡◌, ◌≤◌, ◌⊎◌, ◌++◌, Err, IfErr, IfOk, IsOk, OnOk, false, length, map, Option, option_copied, true};
 ghost use Rattle.rly_core.specs.declared.refusal.Refusal.{Refusal as ARefusal};
 ghost use Rattle.rly_core.specs.declared.refusal.Refusal.TheVariants as refusal;
 ghost use Rattle.rly_daemon.specs.declared.command_fault.ServeFault.TheVariants as fault;
 ghost use Rattle.rly_daemon.specs.declared.file_fault.Cause.TheVariants as cause;
+ghost use Rattle.rly_daemon.specs.Faults.{cause_at};
 ghost use Rattle.rly_daemon.specs.Serving.{HasRoom, HasRun, LacksRoom, addresses_of, duties, duty_at, duty_of, receivers, senders, workers_of};
 ghost use Rattle.rly_daemon.specs.declared.file_fault.SystemWord.{SystemWord as AWord};
 ghost use Rattle.rly_flush.specs.Flushing.{IsServed, new_flusher};
 ghost use Rattle.rly_line.specs.Submission.{LineId};
 ghost use Rattle.rly_plan.specs.Sound.{IsSoundPlan};
+ghost use Rattle.rly_plan.specs.declared.place.Place.{Place as APlace};
 ghost use Rattle.rly_threads.specs.Relay.{new_end};
 
 use crate::address_fault::{AddressFault, End, EndFault};
@@ -22,7 +24,7 @@ use crate::wall_clock::WallClock;
 use rly_core::{HopId, Params, PeerId, Refusal};
 use rly_disk::Disk;
 use rly_journal::Journal;
-use rly_plan::{Addresses, Plan, law_plan_is_sound};
+use rly_plan::{Addresses, Key, Place, Plan, Row, Spot, law_plan_is_sound};
 use rly_threads::{Post, Relayed, Worker, run_relay};
 use std::alloc::{AllocError, Global};
 use std::fs;
@@ -39,20 +41,21 @@ type UdpPost<'a, H> = Post<UdpLink<&'a H>, WallClock<&'a H>>;
 /// What a relay over UDP leaves.
 pub type UdpRelayed<'a, D, H> = Relayed<D, UdpLink<&'a H>, WallClock<&'a H>>;
 
-/// Reads a plan from a file. Where the file can't be read or isn't UTF-8, the answer is `Plan`.
+/// Reads a plan from a file. Where the file can't be read or isn't UTF-8, the answer is `Plan`; a plan that is refused is
+/// told with the place of its first fault.
 pub fn read_plan<H: AllocGlobal + Files<File = File>>(
     rt: &H,
     path: &str,
 ) -> Result<Plan, ServeFault>
     ensures sound { IfOk result (λ plan. IsSoundPlan plan) }
-    ensures fault { IfErr result (λ f. ((word : AWord) × (f ≡ fault.Plan word)) ⊎ ((refusal : ARefusal) × (f ≡ fault.Refused refusal cause.Told))) }
+    ensures fault { IfErr result (λ f. ((word : AWord) × (f ≡ fault.Plan word)) ⊎ ((refusal : ARefusal) × (place : Option APlace) × (f ≡ fault.Refused refusal (cause_at place)))) }
 {
     match fs::read_to_string(rt, path) {
         Ok(text) => {
             law_plan_is_sound();
-            match Plan::from_toml(rt.alloc(), text.as_str()) {
+            match Plan::read(rt.alloc(), text.as_str()) {
                 Ok(plan) => Ok(plan),
-                Err(refusal) => Err(ServeFault::Refused(refusal, Cause::Told)),
+                Err(fault) => Err(fault.into()),
             }
         }
         Err(error) if error.kind() == ErrorKind::OutOfMemory => Err(AllocError.into()),
@@ -184,6 +187,7 @@ fn post_of<'a, H: AllocGlobal + Net + Clock>(
     let Some(addresses) = addresses_of(plan, worker) else {
         return Err(ServeFault::Worker);
     };
+    refuse_key(plan, worker)?;
     let link = match UdpLink::open(rt, rt, addresses) {
         Ok(link) => link,
         Err(fault) => return Err(fault_of_link(rt.alloc(), worker, addresses, fault)),
@@ -194,6 +198,21 @@ fn post_of<'a, H: AllocGlobal + Net + Clock>(
     };
     let turn = WallClock::new(rt, turns).with_bells(bells.clone()?);
     Ok(Post { worker, link, turn })
+}
+
+/// Refuses a worker whose link has a key: no worker seals its packets yet, so anyone would be heard on that link.
+fn refuse_key(plan: &Plan, worker: Worker) -> Result<(), ServeFault> {
+    let (neighbour, row, number) = match worker {
+        Worker::Receiver(peer) => (plan.peer(peer), Row::Peer, peer.0),
+        Worker::Sender(hop) => (plan.hop(hop), Row::Hop, hop.0),
+    };
+    match neighbour {
+        Some(neighbour) if neighbour.key.is_some() => {
+            let place = Place::In(row, u64::from(number), Spot::At(Key::Key));
+            Err(ServeFault::Refused(Refusal::Unknown, Cause::At(place)))
+        }
+        _ => Ok(()),
+    }
 }
 
 /// Says whose link it was that the system refused, and at which address.

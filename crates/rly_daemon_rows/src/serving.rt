@@ -135,8 +135,8 @@ fn expect_end(rt: &(impl Abort + Host), device: &str, plan: &str, status: u8, er
 
 /// Plans that no relay is started for where its device can't be opened, and what is told.
 const PLANS: [(&str, &str); 3] = [
-    ("station = 7\n", "refused 50 plan\n"),
-    ("color = 7\n", "refused 54 plan\n"),
+    ("station = 7\n", "refused 50 plan\nrly: plan: at peer\n"),
+    ("color = 7\n", "refused 54 plan\nrly: plan: at the top\n"),
     (
         PLAN,
         "refused 23 device\nrly: device: No such file or directory (os error 2)\n",
@@ -237,6 +237,22 @@ fn a_relay_needs_room_and_links(rt: HostRuntime) -> Result<(), Fail> {
     let plan = path_of(&rt, "narrow-plan")?;
     make_small(&rt, device.as_str());
     expect_links(&rt, device.as_str(), plan.as_str())
+}
+
+/// A plan whose hop has a key isn't served as if it had none.
+#[test]
+fn a_key_is_not_left_out(rt: HostRuntime) -> Result<(), Fail> {
+    let device = path_of(&rt, "keyed")?;
+    let plan = path_of(&rt, "keyed-plan")?;
+    make_small(&rt, device.as_str());
+    let mut text = plan_with(rt.alloc(), 1, 1, "127.0.0.1:4049", "127.0.0.1:4049")?;
+    writeln!(text, "key = \"hop.key\"")?;
+    fs::write(&rt, plan.as_str(), text.as_str())?;
+    let told = "refused 54 plan\nrly: plan: at hop[1].key\n";
+    expect_end(&rt, device.as_str(), plan.as_str(), 1, told);
+    fs::remove_file(&rt, plan.as_str())?;
+    fs::remove_file(&rt, device.as_str())?;
+    Ok(())
 }
 
 /// A small device whose first write after its opening fails.

@@ -12,7 +12,6 @@ use Rattle.rly_disk.specs.declared.mem.Torn.{Torn}
 use Rattle.rly_disk.specs.Trace.{FailedSync}
 use Rattle.rly_machine.specs.declared.command.Ask.{Ask}
 use Rattle.rly_machine.specs.State.{State}
-use Rattle.rly_checkpoint.proofs.Fitness.{one_state}
 use Rattle.rly_gate.specs.Reading.{OnlyRead}
 use Rattle.rly_segment.specs.Formatted.{IsFormatted}
 use Rattle.rly_journal.specs.Journal.{JournalState}
@@ -207,7 +206,7 @@ crash_happened old torn disk left image settled w shows =
 found_state : (w : World) → IsHeld w → (s : State (List ℕ)) → Stands (seen_of w.device) s → s ≡ state_from w.params (take s.seq w.accepted)
 found_state w held s found =
     let kept = held.kept (seen_of w.device) held.seen in
-    let same : s ≡ state_from w.params (take kept.n w.accepted) = stands_for_one one_state (seen_of w.device) s (state_from w.params (take kept.n w.accepted)) found kept.stands in
+    let same : s ≡ state_from w.params (take kept.n w.accepted) = stands_for_one (seen_of w.device) s (state_from w.params (take kept.n w.accepted)) found kept.stands in
     let count : s.seq ≡ kept.n = ap (λ t. t.seq) same ∙ prefix_counted w held kept.n kept.most in
     same ∙ ap (λ n. state_from w.params (take n w.accepted)) (sym count)
 

@@ -6,7 +6,6 @@ use Rattle.rly_machine.specs.Fold.{AllAccepted, fold}
 use Rattle.rly_machine.specs.Sound.{IsSound}
 use Rattle.rly_machine.specs.State.{State}
 use Rattle.rly_machine.proofs.Folding.{params_fold, seq_fold}
-use Rattle.rly_checkpoint.proofs.Fitness.{one_state}
 use Rattle.rly_gate.proofs.Frames.{length-frame}
 use Rattle.rly_reclaim.specs.Room.{IsDue, group_room}
 use Rattle.rly_record.specs.Spelling.{body_of}
@@ -24,7 +23,7 @@ use Rattle.rly_world.proofs.RelayPhases.{IsGroup, IsTarget}
 use Rattle.rly_world.proofs.RelayRecords.{accepted_records}
 
 pub one_standing : {image : List ℕ} (x y : Standing) → IsStanding image x → IsStanding image y → x ≡ y
-one_standing {image} x y first second = standing_once one_state x y first second
+one_standing {image} x y first second = standing_once x y first second
 
 replayed_params : (s : State (List ℕ)) (groups : List Commands) → (replayed s groups).params ≡ s.params
 replayed_params s [] = refl
@@ -53,7 +52,7 @@ some_group {image} x stands due = by_groups x.groups refl
   where
     by_groups : (groups : List Commands) → x.groups ≡ groups → 1 ≤ length x.groups
     by_groups [] none =
-        absurd (omega (arith, due, stands.scanned.head.head.room, ap (λ l. gate_of (record x { groups = l })) none))
+        absurd (omega (arith, due, stands.scanned.head.head.head.room, ap (λ l. gate_of (record x { groups = l })) none))
     by_groups (commands ∷ groups) some = omega (arith, ap length some)
 
 pub due_target : {image : List ℕ} (x : Standing) (segment : ℕ) → IsStanding image x → IsSound length (state_in x)
@@ -67,8 +66,8 @@ due_target {image} x segment stands sound due there other =
       other = other;
       sound = sound;
       head = head_for x.geometry (length image) segment x.generation (state_in x) stands.scanned.fits sound
-          (replayed_params x.checkpoint x.groups ∙ stands.scanned.head.head.params)
-          (omega (arith, counted, some_group x stands due, stands.scanned.head.head.most));
+          (replayed_params x.checkpoint x.groups ∙ ap (λ (s : State (List ℕ)). s.params) stands.scanned.payloads ∙ stands.scanned.head.head.head.params)
+          (omega (arith, counted, some_group x stands due, stands.scanned.head.head.head.most, ap (λ (s : State (List ℕ)). s.seq) stands.scanned.payloads));
     }
 
 room_left : (x : Standing) → (IsDue x.geometry (offset_of x) → ⊥) → offset_of x + group_room ≤ x.geometry.length

@@ -17,7 +17,6 @@ use Rattle.rly_machine.specs.State.{State, new_state}
 use Rattle.rly_machine.proofs.Folding.{accepted_append, accepted_parts, seq_fold}
 use Rattle.rly_machine.proofs.Histories.{folds, legal_but_for_bytes}
 use Rattle.rly_machine.proofs.Runs.{sound_from_new}
-use Rattle.rly_checkpoint.proofs.Fitness.{one_state}
 use Rattle.rly_journal.specs.Journal.{holds_command}
 use Rattle.rly_journal.specs.Rounds.{AreServed, refusals}
 use Rattle.rly_journal.specs.Standing.{Commands, IsStanding, Standing, Stands, state_in}
@@ -151,7 +150,7 @@ opens_held w segment batches answers whole may due held =
     let x : Standing = due.0 in
     let other = subst (λ y. (segment < y.geometry.segments) × (segment ≡ y.segment → ⊥))
     (one_standing may.0 due.0 may.1 due.1) (may.2, may.3) in
-    let state : state_in due.0 ≡ whole_state (core_of w) = stands_for_one one_state w.device.synced (state_in due.0)
+    let state : state_in due.0 ≡ whole_state (core_of w) = stands_for_one w.device.synced (state_in due.0)
     (whole_state (core_of w)) (due.0, due.1, refl) calm.stands in
     let sound : IsSound length (state_in due.0) = subst (IsSound length) (sym state)
     (sound_of (core_of w) w.is_open w.is_broken (round_at Taking batches answers) held) in
@@ -450,7 +449,7 @@ unsynced_held w held =
 opening_held : (w : World) (s : State (List ℕ)) → Stands (seen_of w.device) s → IsHeld w → IsHeld (event.opened w s)
 opening_held w s found held =
     let kept = held.kept (seen_of w.device) held.seen in
-    let same : s ≡ state_from w.params (take kept.n w.accepted) = stands_for_one one_state (seen_of w.device) s
+    let same : s ≡ state_from w.params (take kept.n w.accepted) = stands_for_one (seen_of w.device) s
     (state_from w.params (take kept.n w.accepted)) found kept.stands in
     let parts = accepted_parts length (new_state w.params) (take kept.n w.accepted) (drop kept.n w.accepted)
     (subst (AllAccepted length (new_state w.params)) (sym (take-append-drop kept.n w.accepted)) held.accepted) in
