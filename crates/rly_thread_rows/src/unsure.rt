@@ -11,6 +11,7 @@ use rly_flush::Flusher;
 use rly_journal::Journal;
 use rly_line::{BatchError, CallError, Seat, make};
 use rly_machine::{Answer, Ask, Reply};
+use rly_plan::Plan;
 use rly_threads::{Desk, Ends, MemTurn, receiver_run};
 use std::alloc::Global;
 use std::process::Abort;
@@ -74,7 +75,7 @@ fn told_by(reply: &Reply) -> Told {
 
 /// A receiver hears the datagram once and asks for it at a seat. How it was answered. It sends custody exactly if the datagram
 /// is kept.
-fn receive<R: Abort + Wait>(rt: &R, alloc: Global, seat: Seat) -> Told {
+fn receive<R: Abort + Wait>(rt: &R, alloc: Global, plan: &Plan, seat: Seat) -> Told {
     let mut ends = Ends {
         link: link_with(rt, alloc, 1, &[0], DATA, 0),
         desk: Noting {
@@ -83,7 +84,7 @@ fn receive<R: Abort + Wait>(rt: &R, alloc: Global, seat: Seat) -> Told {
         },
         turn: MemTurn::new(150, 1, 1),
     };
-    receiver_run(rt, alloc, &plan(rt, alloc), PeerId(1), &mut ends);
+    receiver_run(rt, alloc, plan, PeerId(1), &mut ends);
     let delivered = ends.link.delivered();
     match ends.desk.told {
         Told::Kept => {
@@ -95,11 +96,13 @@ fn receive<R: Abort + Wait>(rt: &R, alloc: Global, seat: Seat) -> Told {
     ends.desk.told
 }
 
-/// Two receivers, each in a thread of its own, over a journal. How each was answered.
+/// Two receivers, each in a thread of its own, over a journal, whose flusher begins after so many milliseconds. How each was
+/// answered.
 fn copies_over<R: Abort + Threads + Wait + Clock + Copy + Send + 'static>(
     rt: R,
     alloc: Global,
     journal: Journal<FaultDisk<MemDisk>>,
+    begins_after: u64,
 ) -> (Told, Told) {
     let Ok((mut seats, line)) = make(alloc, 2, 2) else {
         panic!(rt; "memory");
@@ -109,14 +112,14 @@ fn copies_over<R: Abort + Threads + Wait + Clock + Copy + Send + 'static>(
         .expect(&rt, "memory");
     let second = seats.pop().expect(&rt, "two seats");
     let first = seats.pop().expect(&rt, "two seats");
-    let one = thread::spawn(&rt, move || receive(&rt, alloc, first))
+    let (one, other) = (plan(&rt, alloc), plan(&rt, alloc));
+    let one = thread::spawn(&rt, move || receive(&rt, alloc, &one, first))
         .ok()
         .expect(&rt, "a thread");
-    let other = thread::spawn(&rt, move || receive(&rt, alloc, second))
+    let other = thread::spawn(&rt, move || receive(&rt, alloc, &other, second))
         .ok()
         .expect(&rt, "a thread");
-    // So both have asked when the flusher begins, nearly always.
-    thread::sleep(&rt, Duration::from_millis(10));
+    thread::sleep(&rt, Duration::from_millis(begins_after));
     let finished = flusher.serve(&rt);
     let told = (one.join(&rt), other.join(&rt));
     expect!(rt; finished.broken == (told != (Told::Kept, Told::Kept)));
@@ -124,18 +127,19 @@ fn copies_over<R: Abort + Threads + Wait + Clock + Copy + Send + 'static>(
 }
 
 /// How both receivers were answered over a device whose call of this number fails: by one round, or without a failure. None
-/// where the journal doesn't open over it.
+/// where the journal doesn't open over it. Both have asked when the flusher begins where it begins late enough, so it begins
+/// later each time: on a busy machine a thread begins late too.
 fn copies_at<R: Abort + Threads + Wait + Clock + Copy + Send + 'static>(
     rt: R,
     alloc: Global,
     fails_at: u64,
 ) -> Option<Told> {
-    for _run in 0..100 {
+    for begins_after in &[10, 20, 40, 80, 160, 320, 640, 1_280, 2_560, 5_120] {
         let disk = FaultDisk::new(device(&rt, alloc), fails_at, 0, After::GoesOn);
         let Ok(journal) = Journal::open(alloc, disk) else {
             return None;
         };
-        let (one, other) = copies_over(rt, alloc, journal);
+        let (one, other) = copies_over(rt, alloc, journal, *begins_after);
         if one == other {
             return Some(one);
         }
