@@ -15,5 +15,5 @@ mod places;
 
 pub use crate::choosing::{Choice, choose};
 pub use crate::laws::{law_drawn, law_leaving, law_live_room, law_none_lies, law_stays_empty};
-pub use crate::placed::{is_placed, live_by_segment};
+pub use crate::placed::{is_placed, live_at, live_by_segment};
 pub use crate::places::segment_of;

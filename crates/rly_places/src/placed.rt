@@ -130,7 +130,7 @@ fn is_elsewhere(geometry: &Geometry, own: u64, place: &Place) -> bool
 }
 
 /// A live datagram of a hop, counted from the first in flight.
-fn live_at(hop: &Hop<Stored>, index: usize) -> &Item<Stored>
+pub fn live_at(hop: &Hop<Stored>, index: usize) -> &Item<Stored>
     requires { index < length (live_line (hop_state hop.now)) }
     ensures { result.now ≡ slice_index_or (live_line (hop_state hop.now)) index result.now }
 {

@@ -13,7 +13,7 @@ use Rattle.rly_checkpoint.specs.declared.stored.Stored.{Stored}
 use Rattle.rly_checkpoint.specs.declared.stored.Stored.TheVariants.{Inline, Placed}
 use Rattle.rly_places.specs.Placed.{IsPlaced, LiesElsewhere}
 use Rattle.rly_places.proofs.Placing.{of_items}
-use Rattle.rly_segment.specs.Device.{IsGeometry}
+use Rattle.rly_segment.specs.Device.{IsLayout}
 use Rattle.rly_segment.specs.Heads.{HoldsHeadOf, segment_place}
 use Rattle.rly_segment.specs.declared.heads.HeadFault.{HeadFault}
 use Rattle.rly_segment.specs.declared.heads.HeadFault.TheVariants as head
@@ -22,14 +22,14 @@ use Rattle.rly_segment.specs.PlacedHeads.{HeadStandsFor, HoldsNonePlaced, IsRead
 use Rattle.rly_segment.proofs.HeadBytes.{head_begins, head_body, start_once}
 
 -- what lies elsewhere has a form
-storable : (g : Geometry) (size own : ℕ) (p : Stored) → IsGeometry g size → LiesElsewhere g own p → IsStorable p
+storable : (g : Geometry) (size own : ℕ) (p : Stored) → IsLayout g size → LiesElsewhere g own p → IsStorable p
 storable g size own (Inline payload) geometry elsewhere = tt
 storable g size own (Placed place) geometry elsewhere =
     let lies = elsewhere.1.2 in
-    let few : elsewhere.1.0 ≤ 255 = omega (arith, lies.there, geometry.segments) in
+    let few : elsewhere.1.0 ≤ 255 = omega (arith, lies.there, geometry.segments.1) in
     (omega (arith, lies.to, geometry.length, mul-le-mul_right g.length few), elsewhere.0)
 
-pub forms_of : (g : Geometry) (size own : ℕ) (s : State Stored) → IsGeometry g size → IsPlaced g own s → All (HaveForms IsStorable) s.hops
+pub forms_of : (g : Geometry) (size own : ℕ) (s : State Stored) → IsLayout g size → IsPlaced g own s → All (HaveForms IsStorable) s.hops
 forms_of g size own s geometry placed = of_items IsStorable s.hops (λ k d lt. storable g size own (get_or (payloads_of s) k d) geometry (placed.elsewhere k d lt))
 
 -- one spelling is one state: the law of `rly_checkpoint`
@@ -54,7 +54,7 @@ stored_once one image g segment n m a b short first second forms_a forms_b =
     ∙ head_body stored_length stored_form image place m b second.bytes in
     (starts.0, one a b first.sound second.sound forms_a forms_b (first.head.params ∙ sym second.head.params) same)
 
-pub one_head : OneSpelling → (image : List ℕ) (g : Geometry) (segment n m : ℕ) (a b : State (List ℕ)) → IsGeometry g (length image)
+pub one_head : OneSpelling → (image : List ℕ) (g : Geometry) (segment n m : ℕ) (a b : State (List ℕ)) → IsLayout g (length image)
     → HeadStandsFor image g segment n a → HeadStandsFor image g segment m b → (n ≡ m) × (a ≡ b)
 one_head one image g segment n m a b geometry first second =
     let once = stored_once one image g segment n m first.stored second.stored geometry.length first.holds.head second.holds.head
@@ -62,7 +62,7 @@ one_head one image g segment n m a b geometry first second =
     (once.0, sym first.bytes ∙ ap (state_in image) once.1 ∙ second.bytes)
 
 -- a head that was read holds no other state
-pub not_placed : OneSpelling → (image : List ℕ) (g : Geometry) (size segment n : ℕ) (found : State Stored) → IsGeometry g size
+pub not_placed : OneSpelling → (image : List ℕ) (g : Geometry) (size segment n : ℕ) (found : State Stored) → IsLayout g size
     → HoldsHeadOf stored_length stored_form image g segment n found → All (HaveForms IsStorable) found.hops → (IsPlaced g segment found → ⊥)
     → HoldsNonePlaced image g segment
 not_placed one image g size segment n found geometry holds forms astray m s other =
@@ -70,11 +70,11 @@ not_placed one image g size segment n found geometry holds forms astray m s othe
     astray (subst (IsPlaced g segment) same other.placed)
 
 -- where no state is held, none is held that is placed
-pub none_placed : (image : List ℕ) (g : Geometry) (size segment : ℕ) → IsGeometry g size → HoldsNoHeadOf stored_length stored_form IsStorable image g segment
+pub none_placed : (image : List ℕ) (g : Geometry) (size segment : ℕ) → IsLayout g size → HoldsNoHeadOf stored_length stored_form IsStorable image g segment
     → HoldsNonePlaced image g segment
 none_placed image g size segment geometry none m s other = none m s (forms_of g size segment s geometry other.placed) other.head
 
-pub fault_placed : (image : List ℕ) (g : Geometry) (size segment : ℕ) (fault : HeadFault) → IsGeometry g size
+pub fault_placed : (image : List ℕ) (g : Geometry) (size segment : ℕ) (fault : HeadFault) → IsLayout g size
     → IsReadHeadOf stored_length stored_form IsStorable image g segment (Err fault) → IsReadPlaced image g segment (Err fault)
 fault_placed image g size segment head.Damaged geometry none = none_placed image g size segment geometry none
 fault_placed image g size segment head.OutOfMemory geometry none = tt

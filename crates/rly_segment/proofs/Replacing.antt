@@ -17,12 +17,12 @@ use Rattle.rly_core.specs.declared.params.Geometry.{Geometry}
 use Rattle.rly_machine.specs.State.{State}
 use Rattle.rly_checkpoint.specs.Checkpoint.{inline_form}
 use Rattle.rly_segment.specs.Calls.{closing, replacing}
-use Rattle.rly_segment.specs.Device.{IsGeometry}
+use Rattle.rly_segment.specs.Device.{IsGeometry, IsLayout}
 use Rattle.rly_segment.specs.Heads.{IsHead, IsHeadOf, IsOpening, IsOpeningOf, generation_in, head_of, head_spelled, opened_head, opened_spelled, segment_place}
 use Rattle.rly_segment.specs.HelpersWriting.{IsClosing, IsReplacing}
 use Rattle.rly_segment.proofs.Gates.{stays_closed, zero_closes}
 use Rattle.rly_segment.proofs.HeadWriting.{head_room}
-use Rattle.rly_segment.proofs.Segments.{segment_within}
+use Rattle.rly_segment.proofs.Segments.{layout_of, layout_within}
 
 module _ (place : ℕ) (bytes old : List ℕ) where
   -- while the gate is closed
@@ -145,11 +145,11 @@ opening len form g segment generation s bytes old image is room replacing = reco
 }
 
 module _ {P : Type 0} (len : P → ℕ) (form : P → List ℕ) (g : Geometry) (segment generation : ℕ) (s : State P) (closed : Bool) where
-  pub image_of_opening : (old c : List ℕ) → IsGeometry g (length old) → segment < g.segments → IsHeadOf len form g segment generation s → (IsTrue closed ↔ IsClosed old (segment_place g segment))
+  pub image_of_opening : (old c : List ℕ) → IsLayout g (length old) → segment < g.segments → IsHeadOf len form g segment generation s → (IsTrue closed ↔ IsClosed old (segment_place g segment))
       → images_within (replacing (segment_place g segment) closed (head_spelled len form generation s ++ 0 ∷ [])) old (λ d. d ≡ old) c → IsOpeningOf len form g segment generation s old c
   image_of_opening old c geometry there head told image =
       let room = head_room len form g segment generation s (head_spelled len form generation s ++ 0 ∷ []) head refl in
-      let fits : segment_place g segment + 1 + length (head_spelled len form generation s ++ 0 ∷ []) ≤ length old = omega (arith, segment_within g segment (length old) geometry there, room) in
+      let fits : segment_place g segment + 1 + length (head_spelled len form generation s ++ 0 ∷ []) ≤ length old = omega (arith, layout_within g segment (length old) geometry there, room) in
       opening len form g segment generation s (head_spelled len form generation s ++ 0 ∷ []) old c refl room
       (replacing_image (segment_place g segment) closed (head_spelled len form generation s ++ 0 ∷ []) old c fits told image)
 
@@ -165,18 +165,19 @@ module _ {P : Type 0} (len : P → ℕ) (form : P → List ℕ) (g : Geometry) (
       ∙ ap (overwritten place (open_gate ∷ [])) (settling_seen (place + 1) behind mid))
 
 pub opening_leaves : {P : Type 0} (len : P → ℕ) (form : P → List ℕ) {D : Type 0} (state : D → DiskState) {a b : D} (g : Geometry) (segment generation : ℕ) (s : State P) (closed : Bool) {whole : Bool}
-    → IsGeometry g (state a).size → segment < g.segments → IsHeadOf len form g segment generation s → (IsTrue closed ↔ IsClosed (state a).seen (segment_place g segment))
+    → IsLayout g (state a).size → segment < g.segments → IsHeadOf len form g segment generation s → (IsTrue closed ↔ IsClosed (state a).seen (segment_place g segment))
     → Settled (state a) → Makes state (replacing (segment_place g segment) closed (head_spelled len form generation s ++ 0 ∷ [])) whole a b
     → LeavesOnly (state a) (state b) (IsOpeningOf len form g segment generation s (state a).seen)
 opening_leaves len form state {a} g segment generation s closed geometry there head told settled made =
     makes_leaves state (IsOpeningOf len form g segment generation s (state a).seen) made settled
-    (λ c. image_of_opening len form g segment generation s closed (state a).seen c (subst (IsGeometry g) (sym settled.consistent.seen_size) geometry) there head told)
+    (λ c. image_of_opening len form g segment generation s closed (state a).seen c (subst (IsLayout g) (sym settled.consistent.seen_size) geometry) there head told)
 
 -- the same where every payload is inline
 module _ (g : Geometry) (segment generation : ℕ) (s : State (List ℕ)) (closed : Bool) where
   pub opening_image : (old c : List ℕ) → IsGeometry g (length old) → segment < g.segments → IsHead g segment generation s → (IsTrue closed ↔ IsClosed old (segment_place g segment))
       → images_within (replacing (segment_place g segment) closed (head_of generation s ++ 0 ∷ [])) old (λ d. d ≡ old) c → IsOpening g segment generation s old c
-  opening_image = image_of_opening length inline_form g segment generation s closed
+  opening_image old c geometry there head told image =
+      image_of_opening length inline_form g segment generation s closed old c (layout_of g (length old) geometry) there head told image
 
   pub opening_end : (old : List ℕ) → segment_place g segment + 1 ≤ length old
       → seen_at_end (replacing (segment_place g segment) closed (head_of generation s ++ 0 ∷ [])) old ≡ overwritten (segment_place g segment) (opened_head generation s) old

@@ -4,7 +4,7 @@ ghost use Rattle.rly_disk.specs.Trace.{Makes, Read};
 ghost use Rattle.rly_segment.specs.Answers.{IsReadNewest};
 ghost use Rattle.rly_segment.specs.Calls.{generation_reads, reads_newest};
 ghost use Rattle.rly_segment.specs.HelpersNewest.{IsFound, IsReadGate};
-ghost use Rattle.rly_segment.specs.Device.{IsGeometry};
+ghost use Rattle.rly_segment.specs.Device.{IsLayout};
 ghost use Rattle.rly_segment.specs.Heads.{segment_place};
 
 use crate::layout::{FIRST_SEGMENT, number_in, segment_place};
@@ -45,7 +45,7 @@ pub(crate) struct Greatest {
 
 /// Tells which head is the newest. It reads each segment's gate and generation, and takes no memory.
 pub fn newest<D: Disk>(disk: &mut D, geometry: &Geometry) -> Result<NewestHead, NewestFault>
-    requires { IsGeometry geometry.now (D.state disk.old).size }
+    requires { IsLayout geometry.now (D.state disk.old).size }
     ensures within { IfOk result (λ newest. newest.segment < geometry.now.segments) }
     ensures read { (D.state disk.old).honest → IsReadNewest (D.state disk.old).seen geometry.now result }
     ensures trace { Makes D.state (generation_reads geometry.now geometry.now.segments) (reads_newest result) disk.old disk.new }

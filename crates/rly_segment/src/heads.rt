@@ -7,7 +7,7 @@ ghost use Rattle.rly_disk.specs.Trace.{Makes, Read};
 ghost use Rattle.rly_gate.specs.Group.{StandsAt};
 ghost use Rattle.rly_segment.specs.Answers.{IsReadHead, IsReadHeadOf};
 ghost use Rattle.rly_segment.specs.Calls.{head_reads, reads_head};
-ghost use Rattle.rly_segment.specs.Device.{IsGeometry};
+ghost use Rattle.rly_segment.specs.Device.{IsLayout};
 ghost use Rattle.rly_segment.specs.Heads.{IsHead, IsHeadOf, first_gate, gate_after, segment_place};
 
 use crate::layout::{number_of_4, number_of_8, segment_place};
@@ -62,7 +62,7 @@ pub fn read_head<D: Disk>(
     geometry: &Geometry,
     segment: u64,
 ) -> Result<Head<Payload>, HeadFault>
-    requires geometry { IsGeometry geometry.now (D.state disk.old).size }
+    requires geometry { IsLayout geometry.now (D.state disk.old).size }
     requires segment { segment < geometry.now.segments }
     ensures head { IfOk result (λ head. IsHead geometry.now segment head.generation head.machine.state) }
     ensures gate { IfOk result (λ head. head.gate ≡ first_gate geometry.now segment head.machine.state) }
@@ -81,7 +81,7 @@ pub fn read_head_of<D: Disk, C: Form>(
     geometry: &Geometry,
     segment: u64,
 ) -> Result<Head<C>, HeadFault>
-    requires geometry { IsGeometry geometry.now (D.state disk.old).size }
+    requires geometry { IsLayout geometry.now (D.state disk.old).size }
     requires segment { segment < geometry.now.segments }
     ensures head { IfOk result (λ head. IsHeadOf C.length_of C.form geometry.now segment head.generation head.machine.state) }
     ensures gate { IfOk result (λ head. head.gate ≡ gate_after C.length_of C.form geometry.now segment head.machine.state) }

@@ -8,7 +8,7 @@ ghost use Rattle.rly_disk.specs.Trace.{Makes};
 ghost use Rattle.rly_gate.specs.Group.{IsClosed};
 ghost use Rattle.rly_machine.specs.State.{State};
 ghost use Rattle.rly_segment.specs.Calls.{replacing};
-ghost use Rattle.rly_segment.specs.Device.{IsGeometry};
+ghost use Rattle.rly_segment.specs.Device.{IsLayout};
 ghost use Rattle.rly_segment.specs.Heads.{HoldsHeadOf, IsHeadOf, IsOpeningOf, head_spelled, segment_place};
 ghost use Rattle.rly_segment.specs.PlacedHeads.{HeadStandsFor};
 ghost use Rattle.rly_segment.specs.Settling.{settled_state};
@@ -24,7 +24,7 @@ use rly_disk::Disk;
 /// there, and all bytes outside the segment as they were. Its gate is closed first where it reads open.
 pub fn law_opening<D: Disk, C: Form>(old: &D, new: &D)
     ensures { (g : AGeometry) (segment generation : ℕ) (s : State C) (closed whole : Bool)
-        → IsGeometry g (D.state old.now).size → segment < g.segments → IsHeadOf C.length_of C.form g segment generation s
+        → IsLayout g (D.state old.now).size → segment < g.segments → IsHeadOf C.length_of C.form g segment generation s
         → (IsTrue closed ↔ IsClosed (D.state old.now).seen (segment_place g segment)) → Settled (D.state old.now)
         → Makes D.state (replacing (segment_place g segment) closed (head_spelled C.length_of C.form generation s ++ 0 ∷ [])) whole old.now new.now
         → LeavesOnly (D.state old.now) (D.state new.now) (IsOpeningOf C.length_of C.form g segment generation s (D.state old.now).seen) }
@@ -32,7 +32,7 @@ pub fn law_opening<D: Disk, C: Form>(old: &D, new: &D)
 
 /// The head of a segment stands for one state, and has one generation, whatever of its payloads stands by place.
 pub fn law_one_head()
-    ensures { (image : List ℕ) (g : AGeometry) (segment n m : ℕ) (a b : State (List ℕ)) → IsGeometry g (length image)
+    ensures { (image : List ℕ) (g : AGeometry) (segment n m : ℕ) (a b : State (List ℕ)) → IsLayout g (length image)
         → HeadStandsFor image g segment n a → HeadStandsFor image g segment m b → (n ≡ m) × (a ≡ b) }
 {
     law_one_spelling::<Stored>();

@@ -1,7 +1,7 @@
 ghost use Rattle.std.specs.Prelude.{◌^◌, ◌≡◌, ◌+◌, ◌<◌, ◌≤◌, ◌∷◌, ◌++◌, [], IfOk, is_ok, length};
 ghost use Rattle.rly_disk.specs.Trace.{Makes};
 ghost use Rattle.rly_segment.specs.Calls.{closing, opening_calls, opens, replacing};
-ghost use Rattle.rly_segment.specs.Device.{IsGeometry};
+ghost use Rattle.rly_segment.specs.Device.{IsLayout};
 ghost use Rattle.rly_segment.specs.Heads.{IsHeadOf, gate_after, head_spelled, segment_place};
 
 use crate::head_bytes::head_bytes;
@@ -41,7 +41,7 @@ pub fn open_segment<D: Disk, C: Form>(
     generation: u64,
     machine: &Machine<C>,
 ) -> Result<u64, OpeningFault>
-    requires geometry { IsGeometry geometry.now (D.state disk.old).size }
+    requires geometry { IsLayout geometry.now (D.state disk.old).size }
     requires target { target.segment < geometry.now.segments }
     requires head { IsHeadOf C.length_of C.form geometry.now target.segment generation machine.now.state }
     ensures gate { IfOk result (λ gate. gate ≡ gate_after C.length_of C.form geometry.now target.segment machine.now.state) }

@@ -4,7 +4,7 @@ ghost use Rattle.rly_checkpoint.specs.Stored.{stored_form, stored_length};
 ghost use Rattle.rly_disk.specs.Trace.{Makes};
 ghost use Rattle.rly_places.specs.Placed.{IsPlaced};
 ghost use Rattle.rly_segment.specs.Calls.{head_reads, reads_head};
-ghost use Rattle.rly_segment.specs.Device.{IsGeometry};
+ghost use Rattle.rly_segment.specs.Device.{IsLayout};
 ghost use Rattle.rly_segment.specs.Heads.{IsHeadOf, gate_after, segment_place};
 ghost use Rattle.rly_segment.specs.PlacedHeads.{IsReadPlaced};
 
@@ -23,7 +23,7 @@ pub fn read_placed_head<D: Disk>(
     geometry: &Geometry,
     segment: u64,
 ) -> Result<Head<Stored>, HeadFault>
-    requires geometry { IsGeometry geometry.now (D.state disk.old).size }
+    requires geometry { IsLayout geometry.now (D.state disk.old).size }
     requires segment { segment < geometry.now.segments }
     ensures head { IfOk result (λ head. IsHeadOf stored_length stored_form geometry.now segment head.generation head.machine.state) }
     ensures placed { IfOk result (λ head. IsPlaced geometry.now segment head.machine.state) }
