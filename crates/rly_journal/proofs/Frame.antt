@@ -9,7 +9,7 @@ use Rattle.rly_checkpoint.specs.Stored.{stored_form, stored_length}
 use Rattle.rly_checkpoint.specs.Stored.{state_in as state_over}
 use Rattle.rly_segment.specs.Device.{IsDevice, IsGeometry, device_mark, geometry_in}
 use Rattle.rly_segment.specs.Heads.{IsNewest, IsPassedOver, generation_in, head_of, head_spelled, segment_place}
-use Rattle.rly_journal.specs.Placing.{HoldsStored}
+use Rattle.rly_segment.specs.PlacedHeads.{HoldsPlaced}
 use Rattle.rly_journal.specs.Standing.{Commands, HoldGroups, IsScanned, IsStanding, Standing, next_gate, standing_end, first_of, gate_behind, gate_of}
 use Rattle.rly_journal.specs.Framing.{SameBytes}
 use Rattle.rly_journal.proofs.Agreeing.{number_still, stands_still}
@@ -72,7 +72,7 @@ newest_still {old} {new} x heads same newest =
     }
 
 pub head_still : {old new : List ℕ} (x : Standing) → SameBytes (segment_place x.geometry x.segment) (gate_of x) old new
-    → HoldsStored old x.geometry x.segment x.generation x.head → HoldsStored new x.geometry x.segment x.generation x.head
+    → HoldsPlaced old x.geometry x.segment x.generation x.head → HoldsPlaced new x.geometry x.segment x.generation x.head
 head_still x same holds =
     let above = gate_above (first_of x) x.groups in
     let place : ℕ = segment_place x.geometry x.segment in
@@ -83,7 +83,6 @@ head_still x same holds =
         sound = holds.head.sound;
         head = holds.head.head;
       };
-      forms = holds.forms;
       placed = holds.placed;
     }
 

@@ -182,5 +182,5 @@ opening_law old image x t s stands for left =
       | inl over ↦ frame_law old image x stands (passed_by x t stands for.other for.free left.outside over)
       | inr whole ↦
           let same : state_over image s ≡ state_in x = elsewhere_still x.geometry t s for.placed.elsewhere left.outside ∙ for.same in
-          (with_head x t s (state_over image s), opened_with x t s (state_over image s) stands for.there for.other for.sound for.head for.forms for.placed for.small refl left.outside whole, sym same)
+          (with_head x t s (state_over image s), opened_with x t s (state_over image s) stands for.there for.other for.sound for.head for.placed for.small refl left.outside whole, sym same)
     ]

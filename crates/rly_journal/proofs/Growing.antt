@@ -31,7 +31,7 @@ use Rattle.rly_journal.specs.Standing.{AreAccepted, Commands, HoldGroups, IsScan
 use Rattle.rly_journal.specs.Framing.{SameBytes}
 use Rattle.rly_journal.proofs.Agreeing.{apart, number_of_bytes, number_still, other_bytes, same_before, same_behind}
 use Rattle.rly_journal.proofs.Frame.{SameReads, device_still, frame, frame_scanned, gate_above, geometry_still, length-group, length-head, length-spelled}
-use Rattle.rly_journal.proofs.Inlining.{elsewhere_still, gate_inline, head_inline, inline_forms, inline_holds, inline_is_head, inline_payloads, inline_placed, inline_sound, payloads_still}
+use Rattle.rly_journal.proofs.Inlining.{elsewhere_still, gate_inline, head_inline, inline_holds, inline_is_head, inline_payloads, inline_placed, inline_sound, payloads_still}
 
 -- the byte that stands at a place
 pub byte_there : (image : List ℕ) (place byte : ℕ) → StandsAt image place (byte ∷ []) → get_or image place 0 ≡ byte
@@ -151,11 +151,11 @@ with_head x t s checkpoint = record { geometry = x.geometry; segment = t; genera
 
 -- the whole head of another segment
 pub opened_with : {old new : List ℕ} (x : Standing) (t : ℕ) (s : State Stored) (checkpoint : State (List ℕ)) → IsStanding old x → t < x.geometry.segments → t ≢ x.segment
-    → IsSound stored_length s → IsHeadOf stored_length stored_form x.geometry t (x.generation + 1) s → All (HaveForms IsStorable) s.hops → IsPlaced x.geometry t s
+    → IsSound stored_length s → IsHeadOf stored_length stored_form x.geometry t (x.generation + 1) s → IsPlaced x.geometry t s
     → x.generation + 1 < 2 ^ 64 → checkpoint ≡ state_over new s
     → SameOutside (segment_place x.geometry t) x.geometry.length old new
     → StandsAt new (segment_place x.geometry t) (opened_spelled stored_length stored_form (x.generation + 1) s) → IsStanding new (with_head x t s checkpoint)
-opened_with {old} {new} x t s checkpoint stands below other sound head forms placed small is outside whole =
+opened_with {old} {new} x t s checkpoint stands below other sound head placed small is outside whole =
     let g : Geometry = x.geometry in
     let place : ℕ = segment_place x.geometry t in
     let long = long_segments stands.scanned in
@@ -184,7 +184,7 @@ opened_with {old} {new} x t s checkpoint stands below other sound head forms pla
                 | inr differs ↦ let less = stands.scanned.newest.newest u small_u differs kept.0 in omega (arith, number, before, less, kept.1)
               ];
         };
-        head = record { head = record { bytes = bytes; sound = sound; head = head }; forms = forms; placed = placed };
+        head = record { head = record { bytes = bytes; sound = sound; head = head }; placed = placed };
         payloads = is;
         groups = tt;
         accepted = tt;
@@ -202,7 +202,7 @@ pub opened : {old new : List ℕ} (x : Standing) (t : ℕ) → IsStanding old x 
     → IsStanding new (with_segment x t)
 opened {old} {new} x t stands below other sound head small outside whole =
     let s : State (List ℕ) = state_in x in
-    opened_with x t (map_state Inline s) s stands below other (inline_sound s sound) (inline_is_head x.geometry t (x.generation + 1) s head) (inline_forms s)
+    opened_with x t (map_state Inline s) s stands below other (inline_sound s sound) (inline_is_head x.geometry t (x.generation + 1) s head)
     (inline_placed x.geometry t s stands.scanned.fits.segments below) small (sym (bytes_inline new s)) outside
     (subst (λ (text : List ℕ). StandsAt new (segment_place x.geometry t) (open_gate ∷ text ++ 0 ∷ [])) (sym (head_inline (x.generation + 1) s)) whole)
 

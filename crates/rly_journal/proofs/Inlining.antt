@@ -25,7 +25,7 @@ use Rattle.rly_segment.specs.Answers.{HoldsNoHead}
 use Rattle.rly_segment.specs.Heads.{HoldsHead, HoldsHeadOf, IsHead, IsHeadOf, first_gate, gate_after, head_of, head_spelled, segment_end, segment_place}
 use Rattle.rly_places.specs.Placed.{IsPlaced, LiesElsewhere}
 use Rattle.rly_places.specs.Places.{LiesIn, LiesNotIn}
-use Rattle.rly_journal.specs.Placing.{HoldsStored}
+use Rattle.rly_segment.specs.PlacedHeads.{HoldsPlaced}
 use Rattle.rly_journal.proofs.Agreeing.{other_bytes, part_of}
 
 -- ---- parts of what holds of each element
@@ -211,36 +211,26 @@ bytes_head image g segment generation s head = record {
   };
 }
 
-pub inline_forms : (s : State (List ℕ)) → All (HaveForms IsStorable) (map_state Inline s).hops
-inline_forms s = All-map (HaveForms IsStorable) (map_hop Inline) s.hops (λ k d lt. hop_forms (get_or s.hops k d))
-  where
-    line_forms : (items : List (Item (List ℕ))) → All (λ item. IsStorable item.payload) (map (map_item Inline) items)
-    line_forms items = All-map (λ item. IsStorable item.payload) (map_item Inline) items (λ k d lt. tt)
-
-    hop_forms : (h : HopState (List ℕ)) → HaveForms IsStorable (map_hop Inline h)
-    hop_forms h = All-append (λ item. IsStorable item.payload) (map (map_item Inline) h.flight) (map (map_item Inline) h.queue) (line_forms h.flight) (line_forms h.queue)
-
 -- a head of bytes is one of payloads inline
 pub inline_holds : (image : List ℕ) (g : Geometry) (segment generation : ℕ) (s : State (List ℕ)) → g.segments ≡ 2 → segment < g.segments
-    → HoldsHead image g segment generation s → HoldsStored image g segment generation (map_state Inline s)
+    → HoldsHead image g segment generation s → HoldsPlaced image g segment generation (map_state Inline s)
 inline_holds image g segment generation s two below head = record {
   head = record {
     bytes = subst (StandsAt image (segment_place g segment + 1)) (sym (head_inline generation s)) head.bytes;
     sound = inline_sound s head.sound;
     head = inline_is_head g segment generation s head.head;
   };
-  forms = inline_forms s;
   placed = inline_placed g segment s two below;
 }
 
 -- and there is no other
 pub bytes_hold : (image : List ℕ) (g : Geometry) (segment generation : ℕ) (s : State Stored) → g.segments ≡ 2 → segment < g.segments
-    → HoldsStored image g segment generation s → HoldsHead image g segment generation (state_over image s)
+    → HoldsPlaced image g segment generation s → HoldsHead image g segment generation (state_over image s)
 bytes_hold image g segment generation s two below holds =
     let inline = inline_payloads g segment s two below holds.placed in
     bytes_head image g segment generation (state_over image s)
     (subst (HoldsHeadOf stored_length stored_form image g segment generation) (sym (inlined image s inline)) holds.head)
 
 pub holds_none : (image : List ℕ) (g : Geometry) (segment : ℕ) → g.segments ≡ 2 → segment < g.segments → HoldsNoHead image g segment
-    → (generation : ℕ) (s : State Stored) → HoldsStored image g segment generation s → ⊥
+    → (generation : ℕ) (s : State Stored) → HoldsPlaced image g segment generation s → ⊥
 holds_none image g segment two below none generation s holds = none generation (state_over image s) (bytes_hold image g segment generation s two below holds)

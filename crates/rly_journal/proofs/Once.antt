@@ -16,11 +16,14 @@ use Rattle.rly_checkpoint.specs.Stored.{state_in as state_over}
 use Rattle.rly_checkpoint.specs.declared.stored.Stored.{Stored}
 use Rattle.rly_checkpoint.proofs.Fitness.{one_spelled}
 use Rattle.rly_checkpoint.proofs.StoredForms.{stored_forms}
-use Rattle.rly_segment.specs.Heads.{IsNewest, head_spelled, segment_place}
-use Rattle.rly_journal.specs.Placing.{HoldsStored}
+use Rattle.rly_segment.specs.Heads.{IsNewest}
+use Rattle.rly_segment.specs.PlacedHeads.{HoldsPlaced}
+use Rattle.rly_segment.specs.Device.{IsGeometry}
+use Rattle.rly_segment.proofs.PlacedHeads.{forms_of, stored_once}
+use Rattle.rly_segment.proofs.Segments.{layout_of}
 use Rattle.rly_journal.specs.Standing.{Commands, HoldGroups, IsStanding, Standing, Stands, next_gate, standing_end, first_of, gate_behind, state_in}
 use Rattle.rly_segment.proofs.Standing.{stands_back, stands_front}
-use Rattle.rly_journal.proofs.Growing.{byte_there, generation_there}
+use Rattle.rly_journal.proofs.Growing.{byte_there}
 
 -- two lists of one length that stand at one place
 same_bytes : (image : List ℕ) (place : ℕ) (a b : List ℕ) → length a ≡ length b → StandsAt image place a → StandsAt image place b → a ≡ b
@@ -37,35 +40,13 @@ newest_once {image} g s t first second =
           omega (arith, one, other)
     ]
 
--- the parts of a head
-abbrev body_spelled : State Stored → List ℕ
-body_spelled s = state_spelled stored_length stored_form s
-
-length_there : (image : List ℕ) (place generation : ℕ) (s : State Stored) → StandsAt image place (head_spelled stored_length stored_form generation s)
-    → StandsAt image (place + 8) (big_bytes 4 (length (body_spelled s))) × StandsAt image (place + 12) (body_spelled s)
-unfolding head_spelled
-length_there image place generation s stands =
-    let regrouped : StandsAt image place (big_bytes 8 generation ++ (big_bytes 4 (length (body_spelled s)) ++ body_spelled s)) =
-    subst (StandsAt image place) (append_assoc (big_bytes 8 generation) (big_bytes 4 (length (body_spelled s))) (body_spelled s)) stands in
-    let rest : StandsAt image (place + 8) (big_bytes 4 (length (body_spelled s)) ++ body_spelled s) = stands_back image place (big_bytes 8 generation) (big_bytes 4 (length (body_spelled s)) ++ body_spelled s) regrouped in
-    let last : StandsAt image (place + 8 + 4) (body_spelled s) = stands_back image (place + 8) (big_bytes 4 (length (body_spelled s))) (body_spelled s) rest in (
-      stands_front image (place + 8) (big_bytes 4 (length (body_spelled s))) (body_spelled s) rest,
-      subst (λ k. StandsAt image k (body_spelled s)) (let e : place + 8 + 4 ≡ place + 12 = omega arith in e) last,
-    )
-
 -- two heads of one segment
-pub head_once : {image : List ℕ} (g : Geometry) (segment n m : ℕ) (a b : State Stored) → g.length < 2 ^ 31 → n < 2 ^ 64 → m < 2 ^ 64
-    → HoldsStored image g segment n a → HoldsStored image g segment m b → (n ≡ m) × (a ≡ b)
-head_once {image} g segment n m a b short small_n small_m one other =
-    let first = one.head in
-    let second = other.head in
-    let place : ℕ = segment_place g segment + 1 in
-    let generation : n ≡ m = sym (generation_there stored_length stored_form image place n a small_n first.bytes) ∙ generation_there stored_length stored_form image place m b small_m second.bytes in
-    let parts_a = length_there image place n a first.bytes in
-    let parts_b = length_there image place m b second.bytes in
-    let bytes : big_bytes 4 (length (body_spelled a)) ≡ big_bytes 4 (length (body_spelled b)) = same_bytes image (place + 8) (big_bytes 4 (length (body_spelled a))) (big_bytes 4 (length (body_spelled b))) refl parts_a.0 parts_b.0 in
-    let size : length (body_spelled a) ≡ length (body_spelled b) = number_once 4 (length (body_spelled a)) (length (body_spelled b)) (omega (arith, first.head.room, short)) (omega (arith, second.head.room, short)) bytes in
-    (generation, one_spelled stored_forms a b first.sound second.sound one.forms other.forms (first.head.params ∙ sym second.head.params) (same_bytes image (place + 12) (body_spelled a) (body_spelled b) size parts_a.1 parts_b.1))
+pub head_once : {image : List ℕ} (g : Geometry) (segment n m : ℕ) (a b : State Stored) → IsGeometry g (length image)
+    → HoldsPlaced image g segment n a → HoldsPlaced image g segment m b → (n ≡ m) × (a ≡ b)
+head_once {image} g segment n m a b geometry one other =
+    let layout = layout_of g (length image) geometry in
+    stored_once (one_spelled stored_forms) image g segment n m a b geometry.length one.head other.head
+    (forms_of g (length image) segment a layout one.placed) (forms_of g (length image) segment b layout other.placed)
 
 -- two bodies after one gate
 pub body_there_once : {image : List ℕ} (at end : ℕ) (a b : List ℕ) → HoldsGroup image at end a → HoldsGroup image at end b → a ≡ b
@@ -96,10 +77,6 @@ groups_once image end at (one ∷ groups) (other ∷ others) first closed_a seco
     let rest : groups ≡ others = groups_once image end (next_gate at one) groups others first.2 closed_a moved ends in
     ap (λ c. c ∷ groups) same ∙ ap (λ l. other ∷ l) rest
 
--- generations have 64 bits
-small : {image : List ℕ} {x : Standing} → IsStanding image x → x.generation < 2 ^ 64
-small stands = omega (arith, stands.scanned.head.head.head.most, stands.scanned.head.head.sound.seq)
-
 -- what is read of an image is one
 pub standing_once : {image : List ℕ} (x y : Standing) → IsStanding image x → IsStanding image y → x ≡ y
 standing_once {image} x y first second =
@@ -111,7 +88,7 @@ standing_once {image} x y first second =
     let y2 : Standing = record y1 { segment = x.segment } in
     let to_y2 : y1 ≡ y2 = ap (λ k. record y1 { segment = k }) s in
     let second2 : IsStanding image y2 = subst (IsStanding image) to_y2 second1 in
-    let heads = head_once x.geometry x.segment y.generation x.generation y.head x.head first.scanned.fits.length (small second2) (small first) second2.scanned.head first.scanned.head in
+    let heads = head_once x.geometry x.segment y.generation x.generation y.head x.head first.scanned.fits second2.scanned.head first.scanned.head in
     let payloads : y.checkpoint ≡ x.checkpoint = second2.scanned.payloads ∙ ap (state_over image) heads.1 ∙ sym first.scanned.payloads in
     let y3 : Standing = record y2 { generation = x.generation; head = x.head; checkpoint = x.checkpoint } in
     let to_y3 : y2 ≡ y3 = ap (λ n. record y2 { generation = n }) heads.0 ∙ ap (λ c. record y2 { generation = x.generation; head = c }) heads.1

@@ -26,7 +26,7 @@ use Rattle.rly_journal.specs.declared.tail.Tail.{Tail}
 use Rattle.rly_journal.specs.Faults.{IsRefused}
 use Rattle.rly_journal.specs.Log.{EndsAt}
 use Rattle.rly_journal.specs.HelpersJournal.{IsReplayed, IsShaped}
-use Rattle.rly_journal.specs.Placing.{HoldsStored}
+use Rattle.rly_segment.specs.PlacedHeads.{HoldsPlaced}
 use Rattle.rly_journal.specs.Standing.{Commands, Standing, standing_end, first_of, gate_of}
 use Rattle.rly_journal.proofs.Growing.{accepted-more, gate_behind-more, groups-more, replayed-more, with_group}
 use Rattle.rly_journal.proofs.Inlining.{gate_inline, holds_none, inline_holds}
@@ -234,7 +234,7 @@ refused_head image g segment place device named fits newest none is = (
   inr (inl (record {
     segment = segment;
     newest = subst (λ h. IsNewest image h segment) named newest;
-    none = subst (λ h. (generation : ℕ) (s : State Stored) → HoldsStored image h segment generation s → ⊥) named
+    none = subst (λ h. (generation : ℕ) (s : State Stored) → HoldsPlaced image h segment generation s → ⊥) named
         (holds_none image g segment fits.segments newest.there none);
     at = is ∙ ap (λ h. segment_place h segment) named;
   })),

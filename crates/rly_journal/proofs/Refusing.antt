@@ -14,7 +14,7 @@ use Rattle.rly_segment.specs.Heads.{IsAmbiguous, IsLastOfTie, IsNewest, generati
 use Rattle.rly_journal.specs.declared.open_fault.OpenFault.{OpenFault}
 use Rattle.rly_journal.specs.declared.open_fault.OpenFault.TheVariants.{OutOfMemory, NotADevice, BadGeometry, Damaged, Device}
 use Rattle.rly_journal.specs.Faults.{IsDamagedAt, IsHeadless, IsOfImage, IsRefused}
-use Rattle.rly_journal.specs.Placing.{HoldsStored}
+use Rattle.rly_segment.specs.PlacedHeads.{HoldsPlaced}
 use Rattle.rly_journal.specs.Standing.{AreAccepted, Commands, HoldGroups, IsScanned, IsStanding, Standing, Stands, next_gate, standing_end, first_of, gate_behind, gate_of, replayed, state_in}
 use Rattle.rly_journal.proofs.Once.{body_there_once, gate_there, head_once, newest_once}
 
@@ -55,10 +55,6 @@ not_broken image end at s (one ∷ groups) (other ∷ others) first opened none 
     (subst (λ c. AreAccepted (fold length s c) others) same accepted.1)
     (subst (λ c. IsClosed image (gate_behind (next_gate at c) others)) same closed)
 
--- generations have 64 bits
-small : {image : List ℕ} {x : Standing} → IsScanned image x → x.generation < 2 ^ 64
-small scanned = omega (arith, scanned.head.head.head.most, scanned.head.head.sound.seq)
-
 -- what was scanned up to a gate that can't be passed, and what stands
 not_stuck : {image : List ℕ} (x y : Standing) → IsScanned image x → IsOpen image (gate_of x)
     → ((commands : Commands) → HaveBody commands → HoldsGroup image (gate_of x) (standing_end x) (body_of commands) → AllAccepted length (state_in x) commands → ⊥)
@@ -72,7 +68,7 @@ not_stuck {image} x y scanned opened none second =
     let y2 : Standing = record y1 { segment = x.segment } in
     let to_y2 : y1 ≡ y2 = ap (λ k. record y1 { segment = k }) s in
     let second2 : IsStanding image y2 = subst (IsStanding image) to_y2 second1 in
-    let heads = head_once x.geometry x.segment y.generation x.generation y.head x.head scanned.fits.length (small second2.scanned) (small scanned) second2.scanned.head scanned.head in
+    let heads = head_once x.geometry x.segment y.generation x.generation y.head x.head scanned.fits second2.scanned.head scanned.head in
     let payloads : y.checkpoint ≡ x.checkpoint = second2.scanned.payloads ∙ ap (state_over image) heads.1 ∙ sym scanned.payloads in
     let y3 : Standing = record y2 { generation = x.generation; head = x.head; checkpoint = x.checkpoint } in
     let to_y3 : y2 ≡ y3 = ap (λ n. record y2 { generation = n }) heads.0 ∙ ap (λ c. record y2 { generation = x.generation; head = c }) heads.1
@@ -83,9 +79,9 @@ not_stuck {image} x y scanned opened none second =
 not_headless : {image : List ℕ} (g : Geometry) (place : ℕ) (y : Standing) → y.geometry ≡ g → IsHeadless image g place → IsStanding image y → ⊥
 not_headless {image} g place y same headless second =
     let newest : IsNewest image g y.segment = subst (λ h. IsNewest image h y.segment) same second.scanned.newest in
-    let head : HoldsStored image g y.segment y.generation y.head = subst (λ h. HoldsStored image h y.segment y.generation y.head) same second.scanned.head in
+    let head : HoldsPlaced image g y.segment y.generation y.head = subst (λ h. HoldsPlaced image h y.segment y.generation y.head) same second.scanned.head in
     let segment : y.segment ≡ headless.segment = newest_once g y.segment headless.segment newest headless.newest in
-    headless.none y.generation y.head (subst (λ k. HoldsStored image g k y.generation y.head) segment head)
+    headless.none y.generation y.head (subst (λ k. HoldsPlaced image g k y.generation y.head) segment head)
 
 not_damaged : {image : List ℕ} (place : ℕ) (y : Standing) → IsDamagedAt image (geometry_in image) place → IsStanding image y → ⊥
 not_damaged {image} place y damaged second =

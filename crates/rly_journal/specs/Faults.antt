@@ -14,14 +14,14 @@ use Rattle.rly_segment.specs.Heads.{IsAmbiguous, IsNewest, segment_place}
 use Rattle.rly_journal.specs.declared.open_fault.OpenFault.{OpenFault}
 use Rattle.rly_journal.specs.declared.open_fault.OpenFault.TheVariants.{OutOfMemory, NotADevice}
 use Rattle.rly_journal.specs.declared.open_fault.OpenFault.TheVariants.{BadGeometry, Damaged, Device}
-use Rattle.rly_journal.specs.Placing.{HoldsStored}
+use Rattle.rly_segment.specs.PlacedHeads.{HoldsNonePlaced}
 use Rattle.rly_journal.specs.Standing.{Commands, IsScanned, Standing, standing_end, gate_of, state_in}
 
 -- the newest segment has no head that holds a state
 pub record IsHeadless (image : List ℕ) (g : Geometry) (place : ℕ) : Type 0 where
   pub segment : ℕ
   pub newest : IsNewest image g segment
-  pub none : (generation : ℕ) (s : State Stored) → HoldsStored image g segment generation s → ⊥
+  pub none : HoldsNonePlaced image g segment
   pub at : place ≡ segment_place g segment
 
 -- after the newest head and whole groups a gate is open, and no group of accepted commands stands there

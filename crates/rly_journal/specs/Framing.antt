@@ -37,7 +37,6 @@ pub record IsHeadFor (old : List ℕ) (x : Standing) (segment : ℕ) (s : State 
   pub free : All (LiesElsewhere x.geometry segment) (payloads_of (stored_in x))
   pub sound : IsSound stored_length s
   pub head : IsHeadOf stored_length stored_form x.geometry segment (x.generation + 1) s
-  pub forms : All (HaveForms IsStorable) s.hops
   pub placed : IsPlaced x.geometry segment s
   pub small : x.generation + 1 < 2 ^ 64
   pub same : state_over old s ≡ state_in x

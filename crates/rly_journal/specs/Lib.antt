@@ -7,6 +7,5 @@ pub mod HelpersJournal
 pub mod Journal
 pub mod Log
 pub mod Lying
-pub mod Placing
 pub mod Rounds
 pub mod Standing

@@ -15,7 +15,7 @@ use Rattle.rly_checkpoint.specs.declared.stored.Stored.{Stored}
 use Rattle.rly_checkpoint.specs.declared.stored.Stored.TheVariants.{Inline}
 use Rattle.rly_segment.specs.Device.{IsDevice, IsGeometry, geometry_in}
 use Rattle.rly_segment.specs.Heads.{IsNewest, gate_after, segment_end}
-use Rattle.rly_journal.specs.Placing.{HoldsStored}
+use Rattle.rly_segment.specs.PlacedHeads.{HoldsPlaced}
 
 -- the commands of one group
 abbrev pub Commands : Type 0
@@ -89,7 +89,7 @@ pub record IsScanned (image : List ℕ) (x : Standing) : Type 0 where
   pub geometry : x.geometry ≡ geometry_in image
   pub fits : IsGeometry x.geometry (length image)
   pub newest : IsNewest image x.geometry x.segment
-  pub head : HoldsStored image x.geometry x.segment x.generation x.head
+  pub head : HoldsPlaced image x.geometry x.segment x.generation x.head
   pub payloads : x.checkpoint ≡ state_over image x.head
   pub groups : HoldGroups image (standing_end x) (first_of x) x.groups
   pub accepted : AreAccepted x.checkpoint x.groups

@@ -18,7 +18,7 @@ ghost use Rattle.rly_journal.specs.declared.open_fault.OpenFault.{OpenFault as A
 ghost use Rattle.rly_journal.specs.Faults.{IsOfImage, IsRefused};
 ghost use Rattle.rly_journal.specs.Framing.{IsHeadFor, IsUntouched};
 ghost use Rattle.rly_journal.specs.Lying.{placed_group};
-ghost use Rattle.rly_journal.specs.Placing.{HoldsStored};
+ghost use Rattle.rly_segment.specs.PlacedHeads.{HoldsPlaced};
 ghost use Rattle.rly_journal.specs.Standing.{Commands, IsStanding, Standing, Stands, state_in};
 
 /// No image stands for two states.
@@ -40,9 +40,9 @@ pub fn law_formatted_stands()
 /// that is what it stands for.
 pub fn law_inline_head()
     ensures inline { (image : List ℕ) (g : AGeometry) (segment generation : ℕ) (s : State (List ℕ)) → g.segments ≡ 2 → segment < g.segments
-        → HoldsHead image g segment generation s → HoldsStored image g segment generation (map_state Inline s) }
+        → HoldsHead image g segment generation s → HoldsPlaced image g segment generation (map_state Inline s) }
     ensures only { (image : List ℕ) (g : AGeometry) (segment generation : ℕ) (s : State Stored) → g.segments ≡ 2 → segment < g.segments
-        → HoldsStored image g segment generation s
+        → HoldsPlaced image g segment generation s
         → (map_state Inline (state_over image s) ≡ s) × HoldsHead image g segment generation (state_over image s) }
 {}
 
