@@ -14,9 +14,7 @@ use Rattle.rly_disk.proofs.Ranges.{wider}
 use Rattle.rly_record.specs.Spelling.{HaveBody, body_of}
 use Rattle.rly_machine.specs.Map.{map_state}
 use Rattle.rly_checkpoint.specs.Checkpoint.{state_spelled}
-use Rattle.std.specs.Prelude.{All}
-use Rattle.rly_checkpoint.specs.Forms.{HaveForms}
-use Rattle.rly_checkpoint.specs.Stored.{IsStorable, stored_form, stored_length}
+use Rattle.rly_checkpoint.specs.Stored.{stored_form, stored_length}
 use Rattle.rly_checkpoint.specs.declared.stored.Stored.{Stored}
 use Rattle.rly_places.specs.Placed.{IsPlaced}
 use Rattle.rly_checkpoint.specs.Stored.{state_in as state_over}

@@ -4,7 +4,7 @@ use Rattle.std.specs.Prelude.{All}
 use Rattle.std.specs.List.{flat_map}
 use Rattle.std.proofs.lemmas.List.{get_or_append_left, get_or-append-add, map-append, map-id}
 use Rattle.std.proofs.lemmas.List.Concat.{flat_map-cons}
-use Rattle.std.proofs.lemmas.List.Elements.{All-append, All-cons, All-head, All-map, All-nil, All-tail, All-weaker}
+use Rattle.std.proofs.lemmas.List.Elements.{All-append, All-cons, All-head, All-nil, All-tail, All-weaker}
 use Rattle.byteorder.specs.Endian.{big_bytes}
 use Rattle.rly_core.specs.declared.params.Geometry.{Geometry}
 use Rattle.rly_disk.specs.DiskModel.{SameOutside}
@@ -14,8 +14,7 @@ use Rattle.rly_machine.specs.Sound.{IsSound}
 use Rattle.rly_machine.specs.State.{State, HopState, live_line}
 use Rattle.rly_machine.proofs.Alike.{sound_alike}
 use Rattle.rly_machine.proofs.Lifting.{state_twice}
-use Rattle.rly_checkpoint.specs.Forms.{HaveForms}
-use Rattle.rly_checkpoint.specs.Stored.{IsStorable, payload_in, stored_form, stored_length}
+use Rattle.rly_checkpoint.specs.Stored.{payload_in, stored_form, stored_length}
 use Rattle.rly_checkpoint.specs.Stored.{state_in as state_over}
 use Rattle.rly_checkpoint.specs.declared.stored.Stored.{Stored}
 use Rattle.rly_checkpoint.specs.declared.stored.Stored.TheVariants.{Inline, Placed}

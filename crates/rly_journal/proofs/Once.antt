@@ -1,5 +1,5 @@
 -- What is read of an image is one standing: no image stands for two states.
-use Rattle.std.proofs.Common.{◌≡◌, ◌<◌, ◌+◌, ◌^◌, ◌++◌, ◌∷◌, [], ◌∙◌, ℕ, List, length, take, drop, arith, sym, ap, refl, subst, inl, inr, append_assoc}
+use Rattle.std.proofs.Common.{◌≡◌, ◌<◌, ◌+◌, ◌^◌, ◌++◌, ◌∷◌, [], ◌∙◌, ℕ, List, length, take, drop, arith, sym, ap, refl, subst, inl, inr}
 use Rattle.std.proofs.lemmas.Bool.{cases_eq}
 use Rattle.byteorder.specs.Endian.{big_bytes}
 use Rattle.rly_core.specs.declared.params.Geometry.{Geometry}
@@ -10,8 +10,6 @@ use Rattle.rly_gate.proofs.Holding.{number_once}
 use Rattle.rly_gate.proofs.Frames.{group_length}
 use Rattle.rly_record.specs.Spelling.{body_of}
 use Rattle.rly_record.proofs.Bodies.{body_once}
-use Rattle.rly_checkpoint.specs.Checkpoint.{state_spelled}
-use Rattle.rly_checkpoint.specs.Stored.{stored_form, stored_length}
 use Rattle.rly_checkpoint.specs.Stored.{state_in as state_over}
 use Rattle.rly_checkpoint.specs.declared.stored.Stored.{Stored}
 use Rattle.rly_checkpoint.proofs.Fitness.{one_spelled}

@@ -4,8 +4,6 @@ use Rattle.rly_core.specs.declared.params.Geometry.{Geometry}
 use Rattle.rly_core.specs.declared.refusal.Refusal.{Refusal}
 use Rattle.rly_core.specs.declared.refusal.Refusal.TheVariants as refusal
 use Rattle.rly_machine.specs.Fold.{AllAccepted}
-use Rattle.rly_machine.specs.State.{State}
-use Rattle.rly_checkpoint.specs.declared.stored.Stored.{Stored}
 use Rattle.rly_gate.specs.Group.{IsOpen}
 use Rattle.rly_gate.specs.Reading.{HoldsGroup}
 use Rattle.rly_record.specs.Spelling.{HaveBody, body_of}
