@@ -8,13 +8,12 @@ use Rattle.std.specs.List.{AllZip}
 use Rattle.std.specs.Option.{option_map, unwrap_or}
 use Rattle.std.specs.Prelude.{IfSome, None, Option, Some}
 use Rattle.http_server.specs.declared.log.Log.{Log}
-use Rattle.rly_daemon.specs.declared.udp_link.UdpLink.{UdpLink}
-use Rattle.rly_daemon.specs.declared.wall_clock.WallClock.{WallClock}
-use Rattle.rly_daemon.specs.Serving.{Duty, addresses_of, duties, duty_at, duty_of, workers_of}
+use Rattle.rly_daemon.specs.declared.plan_keys.KeyedWorker.{KeyedWorker}
+use Rattle.rly_daemon.specs.Serving.{Duty, StationPost, addresses_of, duties, duty_at, duty_of}
 use Rattle.rly_daemon.specs.WallClock.{all_on, endless_tells}
 use Rattle.rly_plan.specs.ContactPlan.{ContactPlan, next_hop_at, peer_at}
 use Rattle.rly_plan.specs.Endpoints.{Endpoints}
-use Rattle.rly_threads.specs.declared.relay.Post.{Post}
+use Rattle.rly_seal.specs.StationLink.{link_below, station_heard, station_sent}
 use Rattle.rly_threads.specs.declared.turn.Go.{Go}
 use Rattle.rly_threads.specs.declared.turn.Point.{Point}
 use Rattle.rly_threads.specs.declared.turn.Point.TheVariants.{Start}
@@ -57,27 +56,27 @@ last_on None log before h on said =
     let both : (all_on before && (h.2.on && true)) ≡ true = sym (list_all-append (λ (h : Handed). h.2.on) before (h ∷ [])) ∙ all in
     (and_parts h.2.on true (and_parts (all_on before) (h.2.on && true) both).1).0
 
-first_duty : (d : Duty) (ds : List Duty) (plan : ContactPlan) (turns : ℕ) (ws : List Worker) → d ∷ ds ≡ map (duty_of plan turns) ws → (w : Worker) × (d ≡ duty_of plan turns w)
+first_duty : (d : Duty) (ds : List Duty) (plan : ContactPlan) (turns : ℕ) (links : List KeyedWorker) → d ∷ ds ≡ map (duty_of plan turns) links → (link : KeyedWorker) × (d ≡ duty_of plan turns link)
 first_duty d ds plan turns [] e = absurd (omega (arith, ap length e))
-first_duty d ds plan turns (w ∷ ws) e = (w, ap (λ l. get_or l 0 d) e)
+first_duty d ds plan turns (link ∷ links) e = (link, ap (λ l. get_or l 0 d) e)
 
-endless_goes_on : {C : Type 0} (plan : ContactPlan) (window : ℕ) (posts ended : List (Post (UdpLink C) (WallClock C))) → map duty_at posts ≡ duties plan 0 → 1 ≤ length posts
-    → AllZip (HasEnded (λ _. None) (λ _. None) (λ clock. endless_tells clock.left clock.handed) plan window) posts ended → ⊥
-endless_goes_on plan window [] ended e some worked = absurd (omega (arith, some))
-endless_goes_on plan window (post ∷ posts) [] e some worked = absurd worked
-endless_goes_on plan window (post ∷ posts) (left ∷ ended) e some worked =
-    let first = first_duty _ _ plan 0 (workers_of plan) e in
-    let is : post.worker ≡ first.0 = ap (λ d. d.worker) first.1 in
-    let there : Some post.link.addresses.value ≡ addresses_of plan post.worker = ap (λ d. d.addresses) first.1 ∙ ap (addresses_of plan) (sym is) in
+endless_goes_on : {C : Type 0} (plan : ContactPlan) (links : List KeyedWorker) (window : ℕ) (posts ended : List (StationPost C)) → map duty_at posts ≡ duties plan links 0 → 1 ≤ length posts
+    → AllZip (HasEnded (station_heard (λ _. None)) (station_sent (λ _. None)) (λ clock. endless_tells clock.left clock.handed) plan window) posts ended → ⊥
+endless_goes_on plan links window [] ended e some worked = absurd (omega (arith, some))
+endless_goes_on plan links window (post ∷ posts) [] e some worked = absurd worked
+endless_goes_on plan links window (post ∷ posts) (left ∷ ended) e some worked =
+    let first = first_duty _ _ plan 0 links e in
+    let is : post.worker ≡ first.0.worker = ap (λ d. d.worker) first.1 in
+    let there : Some (link_below post.link).addresses.value ≡ addresses_of plan post.worker = ap (λ d. d.addresses) first.1 ∙ ap (addresses_of plan) (sym is) in
     let none : post.turn.left ≡ None = ap (λ d. d.left) first.1 in
-    let end = worked_ended plan window post.worker post.link.addresses.value _ _ there worked.0.1 in
+    let end = worked_ended plan window post.worker (link_below post.link).addresses.value _ _ there worked.0.1 in
     let said : endless_tells left.turn.left left.turn.handed ≡ Some (handed_of post.turn.handed ++ (end.before ++ (end.worker, Start, end.last) ∷ [])) =
     subst (λ l. TellsMore (endless_tells l post.turn.handed) (endless_tells left.turn.left left.turn.handed) (end.before ++ (end.worker, Start, end.last) ∷ [])) none end.handed in
     let grown = said ∙ ap (λ h. Some h) (sym (append_assoc (handed_of post.turn.handed) end.before ((end.worker, Start, end.last) ∷ []))) in
     true≢false (sym (last_on left.turn.left left.turn.handed _ _ left.turn.endless grown) ∙ end.off)
 
 -- where each worker of a plan ended, the turns have an end
-pub turns_end : {C : Type 0} (plan : ContactPlan) (window turns : ℕ) (posts ended : List (Post (UdpLink C) (WallClock C))) → map duty_at posts ≡ duties plan turns → 1 ≤ length posts
-    → AllZip (HasEnded (λ _. None) (λ _. None) (λ clock. endless_tells clock.left clock.handed) plan window) posts ended → 1 ≤ turns
-turns_end plan window zero posts ended e some worked = absurd (endless_goes_on plan window posts ended e some worked)
-turns_end plan window (suc n) posts ended e some worked = omega arith
+pub turns_end : {C : Type 0} (plan : ContactPlan) (links : List KeyedWorker) (window turns : ℕ) (posts ended : List (StationPost C)) → map duty_at posts ≡ duties plan links turns → 1 ≤ length posts
+    → AllZip (HasEnded (station_heard (λ _. None)) (station_sent (λ _. None)) (λ clock. endless_tells clock.left clock.handed) plan window) posts ended → 1 ≤ turns
+turns_end plan links window zero posts ended e some worked = absurd (endless_goes_on plan links window posts ended e some worked)
+turns_end plan links window (suc n) posts ended e some worked = omega arith

@@ -2,6 +2,8 @@
 use Rattle.std.proofs.Common.{◌≡◌, ℕ, ◌+◌, List, [], ◌∷◌, ◌++◌, length, map, ap, sym, ◌∙◌, arith}
 use Rattle.std.proofs.lemmas.List.{length-append, length-map}
 use Rattle.std.proofs.lemmas.List.FromFn.{length-map-range_with_len, map-range_with_len_more}
+use Rattle.rly_daemon.specs.declared.plan_keys.KeyedWorker.{KeyedWorker}
+use Rattle.rly_daemon.specs.Keys.{AreKeysOf, assigned, key_file_of}
 use Rattle.rly_daemon.specs.Serving.{Duty, duties, duty_of, receivers, senders, workers_of}
 use Rattle.rly_plan.specs.ContactPlan.{ContactPlan}
 use Rattle.rly_threads.specs.declared.turn.Worker.TheVariants as worker
@@ -21,7 +23,13 @@ workers_count plan =
     let second : length (senders (length plan.hops)) ≡ length plan.hops = length-map-range_with_len (λ id. worker.Sender (record { 0 = id })) 1 (length plan.hops) in
     grind (arith, length-append, first, second)
 
+-- and as many links, whose keys are those of the plan
+pub links_count : (plan : ContactPlan) (links : List KeyedWorker) → AreKeysOf plan links → length links ≡ length (workers_of plan)
+links_count plan links e =
+    sym (length-map links assigned) ∙ ap length e ∙ length-map (workers_of plan) (λ w. (w, key_file_of plan w))
+
 -- and as many posts
-pub posts_count : {A : Type 0} (f : A → Duty) (posts : List A) (plan : ContactPlan) (turns : ℕ) → map f posts ≡ duties plan turns → length posts ≡ length plan.peers + length plan.hops
-posts_count f posts plan turns e =
-    sym (length-map posts f) ∙ ap length e ∙ length-map (workers_of plan) (duty_of plan turns) ∙ workers_count plan
+pub posts_count : {A : Type 0} (f : A → Duty) (posts : List A) (plan : ContactPlan) (links : List KeyedWorker) (turns : ℕ) → AreKeysOf plan links → map f posts ≡ duties plan links turns
+    → length posts ≡ length plan.peers + length plan.hops
+posts_count f posts plan links turns keys e =
+    sym (length-map posts f) ∙ ap length e ∙ length-map links (duty_of plan turns) ∙ links_count plan links keys ∙ workers_count plan

@@ -4,11 +4,15 @@ use Rattle.std.specs.Fmt.{decimal}
 use Rattle.std.specs.List.{AllZip, range_with_len}
 use Rattle.std.specs.Option.{option_map}
 use Rattle.rly_core.specs.declared.params.Params.{Params}
+use Rattle.rly_daemon.specs.declared.plan_keys.KeyedWorker.{KeyedWorker}
 use Rattle.rly_daemon.specs.declared.udp_link.UdpLink.{UdpLink}
 use Rattle.rly_daemon.specs.declared.wall_clock.WallClock.{WallClock}
 use Rattle.rly_daemon.specs.WallClock.{endless_tells, turns_left}
 use Rattle.rly_plan.specs.ContactPlan.{ContactPlan, next_hop_at, peer_at}
 use Rattle.rly_plan.specs.Endpoints.{Endpoints}
+use Rattle.rly_seal.specs.declared.station_link.StationLink.{StationLink}
+use Rattle.rly_seal.specs.StationLink.{keys_over, link_below, station_heard, station_sent}
+use Rattle.rly_tag.specs.Keys.{Keys}
 use Rattle.rly_threads.specs.declared.relay.Post.{Post}
 use Rattle.rly_threads.specs.declared.turn.Worker.{Worker}
 use Rattle.rly_threads.specs.declared.turn.Worker.TheVariants as worker
@@ -44,31 +48,38 @@ addresses_of plan (worker.Sender hop) = option_map (λ n. n.addresses) (next_hop
 abbrev pub ended_line : ℕ → List ℕ
 ended_line turns = codes "rly: ended after " ++ decimal turns ++ codes " turns" ++ 10 ∷ []
 
--- a worker, the addresses of its link, and how many turns it has
+-- a worker, the addresses of its link, the keys over it, and how many turns it has
 pub record Duty : Type 0 where
   pub worker : Worker
   pub addresses : Option Endpoints
+  pub keys : Option Keys
   pub left : Option ℕ
 
-abbrev pub duty : Worker → Option Endpoints → Option ℕ → Duty
-duty w addresses left = record { worker = w; addresses = addresses; left = left }
+abbrev pub duty : Worker → Option Endpoints → Option Keys → Option ℕ → Duty
+duty w addresses keys left = record { worker = w; addresses = addresses; keys = keys; left = left }
+
+-- a worker at a socket, sealed where its link has a key
+abbrev pub StationPost : Type 0 → Type 0
+StationPost C = Post (StationLink (UdpLink C)) (WallClock C)
 
 -- what the worker of a post has to do
-abbrev pub duty_at : {C : Type 0} → Post (UdpLink C) (WallClock C) → Duty
-duty_at post = duty post.worker (Some post.link.addresses.value) post.turn.left
+abbrev pub duty_at : {C : Type 0} → StationPost C → Duty
+duty_at post = duty post.worker (Some (link_below post.link).addresses.value) (keys_over post.link) post.turn.left
 
--- what a plan says of a worker
-abbrev pub duty_of : ContactPlan → ℕ → Worker → Duty
-duty_of plan turns w = duty w (addresses_of plan w) (turns_left turns)
+-- what a plan and its keys say of a worker
+abbrev pub duty_of : ContactPlan → ℕ → KeyedWorker → Duty
+duty_of plan turns link =
+    duty link.worker (addresses_of plan link.worker) (option_map (λ k. k.keys) link.key) (turns_left turns)
 
--- what a plan says of all workers, in the order of their ids, the receivers first
-abbrev pub duties : ContactPlan → ℕ → List Duty
-duties plan turns = map (duty_of plan turns) (workers_of plan)
+-- what they say of all workers
+abbrev pub duties : ContactPlan → List KeyedWorker → ℕ → List Duty
+duties plan links turns = map (duty_of plan turns) links
 
--- each worker of a plan did at its post what the plan says of it, from its start to its end, and left that post
-pub record HasRun {C : Type 0} (plan : ContactPlan) (window turns : ℕ)
-    (ended : List (Post (UdpLink C) (WallClock C))) : Type 0 where
-  pub posts : List (Post (UdpLink C) (WallClock C))
-  pub planned : map duty_at posts ≡ duties plan turns
-  pub worked : AllZip (HasEnded (λ _. None) (λ _. None) (λ clock. endless_tells clock.left clock.handed) plan window)
-      posts ended
+-- Each worker of a plan did at its post what the plan says of it, from its start to its end, and left that post. Its link is
+-- sealed with the key that there is for it, and no other link is. A socket tells nothing of what it heard and sent.
+pub record HasRun {C : Type 0} (plan : ContactPlan) (links : List KeyedWorker) (window turns : ℕ)
+    (ended : List (StationPost C)) : Type 0 where
+  pub posts : List (StationPost C)
+  pub planned : map duty_at posts ≡ duties plan links turns
+  pub worked : AllZip (HasEnded (station_heard (λ _. None)) (station_sent (λ _. None))
+      (λ clock. endless_tells clock.left clock.handed) plan window) posts ended

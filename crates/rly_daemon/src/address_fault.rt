@@ -1,4 +1,5 @@
 use crate::file_fault::SystemWord;
+use crate::worker_name::WorkerName;
 use rly_threads::Worker;
 use std::fmt;
 use std::fmt::{Display, Formatter};
@@ -34,10 +35,13 @@ pub struct AddressFault {
 
 impl Display for AddressFault {
     fn fmt<W: fmt::Write>(&self, f: &mut Formatter<W>) -> fmt::Result {
-        match self.worker {
-            Worker::Receiver(peer) => write!(f, "peer {}", peer.0)?,
-            Worker::Sender(hop) => write!(f, "hop {}", hop.0)?,
-        }
-        write!(f, ": {} {}: {}", self.end, self.address.as_str(), self.word)
+        let name = WorkerName(self.worker);
+        write!(
+            f,
+            "{name}: {} {}: {}",
+            self.end,
+            self.address.as_str(),
+            self.word
+        )
     }
 }

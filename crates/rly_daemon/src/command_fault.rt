@@ -1,5 +1,6 @@
 use crate::address_fault::AddressFault;
 use crate::file_fault::{Cause, FileFault, SystemWord};
+use crate::key_fault::{KeyFault, NewKeyFault};
 use rly_core::Refusal;
 use rly_plan::PlanFault;
 use rly_text::TextFault;
@@ -15,6 +16,9 @@ pub enum ServeFault {
     /// A socket refused an address of a link.
     #[error("rly: link failed\nrly: {0}")]
     Link(AddressFault),
+    /// A file holds no key that a link may have.
+    #[error("rly: key failed\nrly: {0}")]
+    Key(KeyFault),
     /// There was no thread for a worker.
     #[error("rly: worker failed")]
     Worker,
@@ -63,6 +67,9 @@ pub(crate) enum CommandFault {
     /// The relay wasn't started, or didn't end well.
     #[error("{0}")]
     Serve(ServeFault),
+    /// No new key was written.
+    #[error("{0}")]
+    NewKey(NewKeyFault),
     /// A device to be formatted holds so many live datagrams.
     #[error("rly: format failed\nrly: device: live datagrams: {0}; --force formats it, and they are lost")]
     Live(u64),
@@ -90,6 +97,17 @@ impl From<ServeFault> for CommandFault {
 
     fn from(serve: ServeFault) -> CommandFault {
         CommandFault::Serve(serve)
+    }
+}
+
+impl From<NewKeyFault> for CommandFault {
+    ghost use Rattle.std.specs.Prelude.{◌≡◌};
+    ghost use Rattle.rly_daemon.specs.declared.command_fault.CommandFault.TheVariants.{NewKey};
+
+    ghost from_gives = { λ key fault. fault ≡ NewKey key };
+
+    fn from(key: NewKeyFault) -> CommandFault {
+        CommandFault::NewKey(key)
     }
 }
 

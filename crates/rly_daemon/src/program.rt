@@ -20,6 +20,8 @@ use crate::file_disk::FileDisk;
 use crate::file_fault::Cause;
 use crate::formatting::{UseFault, unused};
 use crate::geometry::{device_size, geometry_of};
+use crate::new_key::write_key;
+use crate::plan_keys::read_keys;
 use crate::serving::{read_plan, serve};
 use rly_audit::{AuditFault, audit};
 use rly_core::{Geometry, Params, Refusal};
@@ -34,15 +36,24 @@ use std::fmt::Display;
 use std::fs::{File, Files};
 use std::io::{Read, Write};
 use std::net::Net;
+use std::random::RandomSource;
 use std::sync::Wait;
 use std::thread::Threads;
 use std::time::Clock;
 
 /// What the whole program needs of its runtime. Only `rly serve` uses the network, and starts threads
-/// and waits for them.
-pub trait Host: AllocGlobal + Files<File = File> + Net + Threads + Wait + Clock + Sync {}
+/// and waits for them; only `rly key` uses randomness.
+pub trait Host: AllocGlobal
+    + Files<File = File>
+    + Net
+    + Threads
+    + Wait
+    + Clock
+    + RandomSource
+    + Sync {}
 
-impl<H: AllocGlobal + Files<File = File> + Net + Threads + Wait + Clock + Sync> Host for H {}
+impl<H: AllocGlobal + Files<File = File> + Net + Threads + Wait + Clock + RandomSource + Sync> Host
+    for H {}
 
 /// The most lines of a round.
 const MAX_BATCH: u64 = 64;
@@ -107,6 +118,10 @@ fn obey<H: Host, R: Read, W: Write, E: Write>(
         Settings::Play { file, batch } => run_play(rt, file, batch, reader, writer),
         Settings::Audit { file } => run_audit(rt, file, writer),
         Settings::Serve { file, plan, turns } => { run_serve(rt, file, plan, turns, errors) }
+        Settings::Key => {
+            write_key(rt, writer)?;
+            Ok(())
+        }
     }
 }
 
@@ -235,21 +250,22 @@ fn run_audit<H: AllocGlobal + Files<File = File>, W: Write>(
     }
 }
 
-/// Runs the relay of a plan on the device in a file. The plan is read before the file is touched.
+/// Runs the relay of a plan on the device in a file. The plan and its keys are read before the file is touched.
 fn run_serve<H: Host, E: Write>(
     rt: &H,
     file: &str,
-    plan: &str,
+    path: &str,
     turns: u64,
     errors: &mut E,
 ) -> Result<(), CommandFault>
     ensures served { OnOk result (HasServed turns (E.contents errors.new)) }
 {
-    let plan = read_plan(rt, plan)?;
+    let plan = read_plan(rt, path)?;
+    let keys = read_keys(rt, &plan, path)?;
     let disk = FileDisk::open(rt, file)?;
     let size = disk.size();
     let journal = open_journal(rt.alloc(), disk)?;
-    let _relayed = serve(rt, journal, &plan, turns, size, errors)?;
+    let _relayed = serve(rt, journal, &plan, keys, turns, size, errors)?;
     tell_end(turns, errors)?;
     Ok(())
 }

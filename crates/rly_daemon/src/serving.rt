@@ -6,6 +6,7 @@ ghost use Rattle.rly_core.specs.declared.refusal.Refusal.TheVariants as refusal;
 ghost use Rattle.rly_daemon.specs.declared.command_fault.ServeFault.TheVariants as fault;
 ghost use Rattle.rly_daemon.specs.declared.file_fault.Cause.TheVariants as cause;
 ghost use Rattle.rly_daemon.specs.Faults.{cause_at};
+ghost use Rattle.rly_daemon.specs.Keys.{AreKeysOf};
 ghost use Rattle.rly_daemon.specs.Serving.{HasRoom, HasRun, LacksRoom, addresses_of, duties, duty_at, duty_of, receivers, senders, workers_of};
 ghost use Rattle.rly_daemon.specs.declared.file_fault.SystemWord.{SystemWord as AWord};
 ghost use Rattle.rly_flush.specs.Flushing.{IsServed, new_flusher};
@@ -19,27 +20,30 @@ use crate::bells::Bells;
 use crate::command_fault::ServeFault;
 use crate::file_fault::{Cause, SystemWord};
 use crate::formatting::live_items;
+use crate::plan_keys::{KeyedWorker, PlanKeys};
 use crate::udp_link::UdpLink;
 use crate::wall_clock::WallClock;
+use crate::worker_name::WorkerName;
 use rly_core::{HopId, Params, PeerId, Refusal};
 use rly_disk::Disk;
 use rly_journal::Journal;
-use rly_plan::{Addresses, Key, Place, Plan, Row, Spot, law_plan_is_sound};
+use rly_plan::{Addresses, Plan, law_plan_is_sound};
+use rly_seal::StationLink;
 use rly_threads::{Post, Relayed, Worker, run_relay};
 use std::alloc::{AllocError, Global};
-use std::fs;
 use std::fs::{File, Files};
 use std::io::{ErrorKind, Write};
 use std::net::Net;
 use std::sync::{Arc, Wait};
 use std::thread::Threads;
 use std::time::Clock;
+use std::{fs, io};
 
 /// A worker of the relay, its link and its turns.
-type UdpPost<'a, H> = Post<UdpLink<&'a H>, WallClock<&'a H>>;
+type UdpPost<'a, H> = Post<StationLink<UdpLink<&'a H>>, WallClock<&'a H>>;
 
 /// What a relay over UDP leaves.
-pub type UdpRelayed<'a, D, H> = Relayed<D, UdpLink<&'a H>, WallClock<&'a H>>;
+pub type UdpRelayed<'a, D, H> = Relayed<D, StationLink<UdpLink<&'a H>>, WallClock<&'a H>>;
 
 /// Reads a plan from a file. Where the file can't be read or isn't UTF-8, the answer is `Plan`; a plan that is refused is
 /// told with the place of its first fault.
@@ -63,24 +67,26 @@ pub fn read_plan<H: AllocGlobal + Files<File = File>>(
     }
 }
 
-/// Runs the relay of a plan on a journal until each worker had its turns, and answers what it leaves. Where the turns are 0
+/// Runs the relay of a plan, with the keys of its links, on a journal until each worker had its turns, and answers what it leaves. Where the turns are 0
 /// they are without end. Once all that it needs is there it tells what it serves, on a device of `size` bytes; where that
 /// can't be told it serves all the same, and the answer is `Untold` at its end.
 pub fn serve<'a, H: AllocGlobal + Net + Threads + Wait + Clock + Sync, D: Disk + Drop, E: Write>(
     rt: &'a H,
     journal: Journal<D>,
     plan: &Plan,
+    keys: PlanKeys<'_>,
     turns: u64,
     size: u64,
     errors: &mut E,
 ) -> Result<UdpRelayed<'a, D, H>, ServeFault>
     requires sound { IsSoundPlan plan.now }
+    requires keys { AreKeysOf plan.now keys }
     ensures room { OnOk result (HasRoom plan.now journal.state.params) }
     ensures lacks { LacksRoom plan.now journal.state.params → (result ≡ Err (fault.Refused refusal.BadGeometry cause.Plan)) × (errors.new ≡ errors.old) }
     // A relay whose turns are without end never ends well.
     ensures ends { OnOk result (1 ≤ turns) }
     // Each worker of the plan did at its post what the plan says of it, as far as its link and its clock tell.
-    ensures worked { IfOk result (λ relayed. HasRun plan.now journal.state.params.window turns relayed.ended.items) }
+    ensures worked { IfOk result (λ relayed. HasRun plan.now keys.entry journal.state.params.window turns relayed.ended.items) }
     // The journal is what its flusher's rounds made of it, and not broken.
     ensures served { IfOk result (λ relayed. (line : LineId) × IsServed D.state (new_flusher journal (new_end line (length (workers_of plan.now)))) relayed.finished.last.value) }
     ensures left { IfOk result (λ relayed. relayed.finished.last.value.journal ≡ relayed.finished.journal) }
@@ -90,8 +96,8 @@ pub fn serve<'a, H: AllocGlobal + Net + Threads + Wait + Clock + Sync, D: Disk +
     if journal.is_broken() {
         return Err(ServeFault::Refused(Refusal::Broken, Cause::Told));
     }
-    let posts = posts_of(rt, plan, turns)?;
-    let told = tell_start(&journal, plan, size, errors);
+    let posts = posts_of(rt, plan, keys, turns)?;
+    let told = tell_start(&journal, plan, size, &posts, errors);
     match run_relay(rt, rt.alloc(), journal, plan, posts) {
         Ok(relayed) => {
             outcome_of(relayed.finished.broken, relayed.complete)?;
@@ -102,11 +108,12 @@ pub fn serve<'a, H: AllocGlobal + Net + Threads + Wait + Clock + Sync, D: Disk +
     }
 }
 
-/// Says what is served: the station, its neighbours, and how much of the device is taken.
-fn tell_start<D: Disk, E: Write>(
+/// Says what is served: the station, its neighbours, how much of the device is taken, and whose links anyone can speak on.
+fn tell_start<'a, H: Clock, D: Disk, E: Write>(
     journal: &Journal<D>,
     plan: &Plan,
     size: u64,
+    posts: &[UdpPost<'a, H>],
     errors: &mut E,
 ) -> Result<(), ServeFault>
     requires { journal.now.broken ≡ false }
@@ -120,7 +127,26 @@ fn tell_start<D: Disk, E: Write>(
         errors,
         "rly: serving station {station}, {peers} peers, {hops} hops, device {size} bytes, {live} of {items} live"
     );
-    told.map_err(|_| ServeFault::Untold)
+    told.map_err(|_| ServeFault::Untold)?;
+    tell_open(posts, errors).map_err(|_| ServeFault::Untold)
+}
+
+/// Says whose links have no key, if any have none.
+fn tell_open<'a, H: Clock, E: Write>(posts: &[UdpPost<'a, H>], errors: &mut E) -> io::Result<()> {
+    let mut before = "rly: anyone can speak on";
+    let mut is_any = false;
+    for post in posts {
+        if let StationLink::Open(_) = &post.link {
+            let name = WorkerName(post.worker);
+            write!(errors, "{before} {name}")?;
+            before = ",";
+            is_any = true;
+        }
+    }
+    if is_any {
+        writeln!(errors)?;
+    }
+    Ok(())
 }
 
 /// Refuses a plan that has more peers or hops than the device.
@@ -155,17 +181,18 @@ fn outcome_of(is_broken: bool, is_complete: bool) -> Result<(), ServeFault>
 fn posts_of<'a, H: AllocGlobal + Net + Clock>(
     rt: &'a H,
     plan: &Plan,
+    keys: PlanKeys<'_>,
     turns: u64,
 ) -> Result<Vec<UdpPost<'a, H>>, ServeFault>
     requires { IsSoundPlan plan.now }
-    ensures { IfOk result (λ posts. map duty_at posts.items ≡ duties plan.now turns) }
+    ensures { IfOk result (λ posts. map duty_at posts.items ≡ duties plan.now keys.entry turns) }
 {
     let Ok(bells) = Arc::new(rt.alloc(), Bells::open(rt, rt.alloc(), plan)?) else {
         return Err(AllocError.into());
     };
     let mut posts = Vec::new(rt.alloc());
-    for worker in workers_of(rt.alloc(), plan)? {
-        let post = post_of(rt, plan, worker, turns, &bells)?;
+    for link in keys.links {
+        let post = post_of(rt, plan, link, turns, &bells)?;
         if posts.push(post).is_err() {
             return Err(AllocError.into());
         }
@@ -173,46 +200,32 @@ fn posts_of<'a, H: AllocGlobal + Net + Clock>(
     Ok(posts)
 }
 
-/// A worker of a plan, with its link and its turns. Its turns tell the bells, and a sender's link has the bell of its hop. A
-/// worker whose neighbour isn't in the plan has no link.
+/// A worker of a plan, with its link and its turns. Its link is sealed where it has a key. Its turns tell the bells, and a
+/// sender's link has the bell of its hop. A worker whose neighbour isn't in the plan has no link.
 fn post_of<'a, H: AllocGlobal + Net + Clock>(
     rt: &'a H,
     plan: &Plan,
-    worker: Worker,
+    link: KeyedWorker<'_>,
     turns: u64,
     bells: &Arc<Bells, Global>,
 ) -> Result<UdpPost<'a, H>, ServeFault>
-    ensures { IfOk result (λ post. duty_at post ≡ duty_of plan.now turns worker) }
+    ensures { IfOk result (λ post. duty_at post ≡ duty_of plan.now turns link.entry) }
 {
+    let KeyedWorker { worker, key } = link;
     let Some(addresses) = addresses_of(plan, worker) else {
         return Err(ServeFault::Worker);
     };
-    refuse_key(plan, worker)?;
-    let link = match UdpLink::open(rt, rt, addresses) {
-        Ok(link) => link,
+    let socket = match UdpLink::open(rt, rt, addresses) {
+        Ok(socket) => socket,
         Err(fault) => return Err(fault_of_link(rt.alloc(), worker, addresses, fault)),
     };
-    let link = match worker {
-        Worker::Receiver(_) => link,
-        Worker::Sender(hop) => link.with_bell(bells.clone()?, hop),
+    let socket = match worker {
+        Worker::Receiver(_) => socket,
+        Worker::Sender(hop) => socket.with_bell(bells.clone()?, hop),
     };
+    let link = StationLink::new(socket, key.map(|key| key.into_key()));
     let turn = WallClock::new(rt, turns).with_bells(bells.clone()?);
     Ok(Post { worker, link, turn })
-}
-
-/// Refuses a worker whose link has a key: no worker seals its packets yet, so anyone would be heard on that link.
-fn refuse_key(plan: &Plan, worker: Worker) -> Result<(), ServeFault> {
-    let (neighbour, row, number) = match worker {
-        Worker::Receiver(peer) => (plan.peer(peer), Row::Peer, peer.0),
-        Worker::Sender(hop) => (plan.hop(hop), Row::Hop, hop.0),
-    };
-    match neighbour {
-        Some(neighbour) if neighbour.key.is_some() => {
-            let place = Place::In(row, u64::from(number), Spot::At(Key::Key));
-            Err(ServeFault::Refused(Refusal::Unknown, Cause::At(place)))
-        }
-        _ => Ok(()),
-    }
 }
 
 /// Says whose link it was that the system refused, and at which address.
@@ -249,7 +262,7 @@ fn addresses_of(plan: &Plan, worker: Worker) -> Option<&Addresses>
 }
 
 /// A receiver for each peer of a plan, and a sender for each hop.
-fn workers_of(alloc: Global, plan: &Plan) -> Result<Vec<Worker>, AllocError>
+pub(crate) fn workers_of(alloc: Global, plan: &Plan) -> Result<Vec<Worker>, AllocError>
     requires { IsSoundPlan plan.now }
     ensures { IfOk result (λ workers. workers.items ≡ workers_of plan.now) }
 {

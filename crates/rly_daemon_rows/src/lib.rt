@@ -21,6 +21,10 @@ mod devices;
 #[cfg(test)]
 mod expect;
 #[cfg(test)]
+mod keyed;
+#[cfg(test)]
+mod keys;
+#[cfg(test)]
 mod links;
 #[cfg(test)]
 mod programs;

@@ -7,7 +7,7 @@ use crate::devices::{make_small, path_of};
 use crate::programs::expect;
 use crate::spools::small_disk;
 use rly_core::Refusal;
-use rly_daemon::{Cause, Host, ServeFault, read_plan, serve};
+use rly_daemon::{Cause, Host, ServeFault, read_keys, read_plan, serve};
 use rly_disk::{After, Disk, FaultDisk, MemDisk};
 use rly_journal::Journal;
 use rly_plan::Plan;
@@ -37,11 +37,12 @@ hop = 1
 "#;
 
 /// Data from station 3 to station 7, number 1, payload `000c41`.
-const DATA: &[u8] =
+pub(super) const DATA: &[u8] =
     b"\x52\x4c\x01\x01\x00\x03\x00\x07\x00\x00\x00\x00\x00\x00\x00\x01\x00\x03\x00\x0c\x41";
 
 /// Its custody.
-const CUSTODY: &[u8] = b"\x52\x4c\x01\x02\x00\x07\x00\x03\x00\x00\x00\x00\x00\x00\x00\x01";
+pub(super) const CUSTODY: &[u8] =
+    b"\x52\x4c\x01\x02\x00\x07\x00\x03\x00\x00\x00\x00\x00\x00\x00\x01";
 
 /// A neighbour that sends a datagram every 10 ms, so many times at most, until it hears something. Whether
 /// that is the datagram's custody.
@@ -57,7 +58,7 @@ fn hears_custody(socket: &UdpSocket, relay: &str, times: u64) -> bool {
 }
 
 /// The socket of a neighbour, which waits 10 ms for a packet.
-fn socket_at(rt: &impl Host, address: &str) -> Result<UdpSocket, Fail> {
+pub(super) fn socket_at(rt: &impl Host, address: &str) -> Result<UdpSocket, Fail> {
     let socket = UdpSocket::bind(rt, address)?;
     socket.set_read_timeout(Some(Duration::from_millis(10)))?;
     Ok(socket)
@@ -78,6 +79,7 @@ fn expect_custody(rt: &(impl Abort + Host), device: &str, plan: &str) -> Result<
 /// What is told of a relay of 20 turns on a new small device.
 const SERVED: &[u8] =
     b"rly: serving station 7, 1 peers, 1 hops, device 165880 bytes, 0 of 16 live\n\
+rly: anyone can speak on peer 1, hop 1\n\
 rly: ended after 20 turns\n";
 
 /// The books of a small device with one datagram.
@@ -128,7 +130,13 @@ pub(super) fn plan_with(
 }
 
 /// Checks how a relay of one turn ends, and what is told.
-fn expect_end(rt: &(impl Abort + Host), device: &str, plan: &str, status: u8, errors: &str) {
+pub(super) fn expect_end(
+    rt: &(impl Abort + Host),
+    device: &str,
+    plan: &str,
+    status: u8,
+    errors: &str,
+) {
     let words = ["rly", "serve", device, plan, "--turns=1"];
     expect(rt, &words, b"", status, b"", errors.as_bytes());
 }
@@ -239,22 +247,6 @@ fn a_relay_needs_room_and_links(rt: HostRuntime) -> Result<(), Fail> {
     expect_links(&rt, device.as_str(), plan.as_str())
 }
 
-/// A plan whose hop has a key isn't served as if it had none.
-#[test]
-fn a_key_is_not_left_out(rt: HostRuntime) -> Result<(), Fail> {
-    let device = path_of(&rt, "keyed")?;
-    let plan = path_of(&rt, "keyed-plan")?;
-    make_small(&rt, device.as_str());
-    let mut text = plan_with(rt.alloc(), 1, 1, "127.0.0.1:4049", "127.0.0.1:4049")?;
-    writeln!(text, "key = \"hop.key\"")?;
-    fs::write(&rt, plan.as_str(), text.as_str())?;
-    let told = "refused 54 plan\nrly: plan: at hop[1].key\n";
-    expect_end(&rt, device.as_str(), plan.as_str(), 1, told);
-    fs::remove_file(&rt, plan.as_str())?;
-    fs::remove_file(&rt, device.as_str())?;
-    Ok(())
-}
-
 /// A small device whose first write after its opening fails.
 fn failing(rt: &(impl Abort + AllocGlobal)) -> Result<FaultDisk<MemDisk>, Fail> {
     let disk = small_disk(rt)?;
@@ -266,25 +258,26 @@ fn failing(rt: &(impl Abort + AllocGlobal)) -> Result<FaultDisk<MemDisk>, Fail> 
 }
 
 /// What is told once it is served.
-const BEGUN: &[u8] =
-    b"rly: serving station 7, 1 peers, 1 hops, device 165880 bytes, 0 of 16 live\n";
+const BEGUN: &[u8] = b"rly: serving station 7, 1 peers, 1 hops, device 165880 bytes, 0 of 16 live\n\
+rly: anyone can speak on peer 1, hop 1\n";
 
 /// The plan of a relay at other addresses, by a file.
-fn other_plan(rt: &HostRuntime) -> Result<Plan, Fail>
+fn other_plan(rt: &HostRuntime, path: &str) -> Result<Plan, Fail>
     ensures { IfOk result (λ plan. IsSoundPlan plan) }
 {
     let text = PLAN.replace(rt.alloc(), "127.0.0.1:400", "127.0.0.1:403")?;
-    let path = path_of(rt, "broken-plan")?;
-    fs::write(rt, path.as_str(), text.as_str())?;
-    let plan = read_plan(rt, path.as_str())?;
-    fs::remove_file(rt, path.as_str())?;
+    fs::write(rt, path, text.as_str())?;
+    let plan = read_plan(rt, path)?;
+    fs::remove_file(rt, path)?;
     Ok(plan)
 }
 
 /// Where a write of the device fails, nothing is acknowledged, and the relay ends broken.
 #[test]
 fn a_failed_write_ends_a_relay_broken(rt: HostRuntime) -> Result<(), Fail> {
-    let plan = other_plan(&rt)?;
+    let path = path_of(&rt, "broken-plan")?;
+    let plan = other_plan(&rt, path.as_str())?;
+    let keys = read_keys(&rt, &plan, path.as_str())?;
     let journal = Journal::open(rt.alloc(), failing(&rt)?)
         .ok()
         .ok_or("a journal")?;
@@ -293,7 +286,7 @@ fn a_failed_write_ends_a_relay_broken(rt: HostRuntime) -> Result<(), Fail> {
         .ok()
         .ok_or("a thread")?;
     let mut errors = Vec::new(rt.alloc());
-    let ended = serve(&rt, journal, &plan, 20, 165_880, &mut errors);
+    let ended = serve(&rt, journal, &plan, keys, 20, 165_880, &mut errors);
     assert!(rt;
         matches!(
             ended,

@@ -45,6 +45,8 @@ fn what_is_left_out_is_the_default(rt: HostRuntime) {
             plan,
             turns: 0
         }));
+    let key = settings_of(&rt, ["rly", "key"].as_slice());
+    expect!(rt; key == Some(Settings::Key));
 }
 
 #[test]
@@ -160,10 +162,23 @@ fn bad_words_behind_serve_are_refused(rt: HostRuntime) {
 }
 
 #[test]
+fn words_behind_key_are_refused(rt: HostRuntime) {
+    assert!(rt;
+        are_bad(&rt, ["rly", "key", "hop.key"].as_slice()),
+        "a file"
+    );
+    assert!(rt;
+        are_bad(&rt, ["rly", "key", "--turns=1"].as_slice()),
+        "an unknown option"
+    );
+    assert!(rt; are_bad(&rt, ["rly", "keys"].as_slice()), "another word");
+}
+
+#[test]
 fn help_and_the_version_are_questions(rt: HostRuntime) {
     expect!(rt; are_asked(&rt, ["rly", "--version"].as_slice()));
     expect!(rt; are_asked(&rt, ["rly", "--help"].as_slice()));
-    for command in ["sim", "format", "play", "audit", "serve"] {
+    for command in ["sim", "format", "play", "audit", "serve", "key"] {
         assert!(rt;
             are_asked(&rt, ["rly", command, "--help"].as_slice()),
             "{command}"

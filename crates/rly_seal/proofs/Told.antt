@@ -73,16 +73,17 @@ written_packet key packet rest =
     rw (← len) (take-append_seam (sealed key packet) rest)
 
 -- a link with a key that was given this, and gave this to the link below, tells one packet more
-pub sent_more_in : (view : SealedView) (keys : Keys) (given more : List (List ℕ)) (old new : Option (List (List ℕ))) (packet bytes : List ℕ)
-    → keys ≡ view.keys → given ≡ view.given → old ≡ view.sent → more ≡ given ++ packet ∷ [] → length packet ≤ 1300
+pub sent_more_in : {L : Type 0} (sent : L → Option (List (List ℕ))) (view : SealedView L) (keys : Keys) (given more : List (List ℕ))
+    (old new : Option (List (List ℕ))) (packet bytes : List ℕ)
+    → keys ≡ view.keys → given ≡ view.given → old ≡ sent view.link → more ≡ given ++ packet ∷ [] → length packet ≤ 1300
     → bytes ≡ sealed keys.first packet → TellsMore old new (bytes ∷ [])
-    → TellsMore (all_sent_with view.keys view.given view.sent) (all_sent_with keys more new) (packet ∷ [])
-sent_more_in view keys given more old new packet bytes of_keys of_given of_old of_more fits of_bytes told =
+    → TellsMore (all_sent_with view.keys view.given (sent view.link)) (all_sent_with keys more new) (packet ∷ [])
+sent_more_in sent view keys given more old new packet bytes of_keys of_given of_old of_more fits of_bytes told =
     let P : List ℕ → Type 0 = λ b. TellsMore old new (b ∷ []) in
     let grown = sent_more keys given old new packet (le-leb _ _ fits) (subst P of_bytes told) in
     let Q : List (List ℕ) → Type 0 = λ m. TellsMore (all_sent_with keys given old) (all_sent_with keys m new) (packet ∷ []) in
     let as_more = subst Q (sym of_more) grown in
-    let same : all_sent_with keys given old ≡ all_sent_with view.keys view.given view.sent =
+    let same : all_sent_with keys given old ≡ all_sent_with view.keys view.given (sent view.link) =
     ap (λ (k : Keys). all_sent_with k given old) of_keys
     ∙ ap (λ (g : List (List ℕ)). all_sent_with view.keys g old) of_given
     ∙ ap (λ (o : Option (List (List ℕ))). all_sent_with view.keys view.given o) of_old in

@@ -1,1 +1,2 @@
 pub mod SealedLink
+pub mod StationLink

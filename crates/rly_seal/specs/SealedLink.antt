@@ -1,6 +1,6 @@
 -- What a link with a key tells (docs/DEFINITIONS.md, "Keys").
 use Rattle.std.specs.Prelude.{ℕ, ◌+◌, ◌-◌, ◌^◌, min, nat_le, Bool, if◌then◌else◌, Option, Some, None, option_and_then}
-use Rattle.std.specs.Prelude.{List, length, map, filter}
+use Rattle.std.specs.Prelude.{List, [], length, map, filter}
 use Rattle.std.specs.Cmp.Lexicographic.{pointwise}
 use Rattle.std.specs.Option.{option_map}
 use Rattle.std.specs.Str.{bytes_eq}
@@ -8,16 +8,18 @@ use Rattle.rly_tag.specs.Keys.{Keys}
 use Rattle.rly_tag.specs.Seal.{sealed, unsealed}
 use Rattle.rly_threads.specs.Ends.{Hearing, hearing}
 
--- what the link below a key heard and sent, and how many of its calls failed; the keys; how many packets had no right tag;
--- what was given to be sent, and how much of that was too long
-pub record SealedView : Type 0 where
-  pub heard : Option (List Hearing)
-  pub sent : Option (List (List ℕ))
-  pub failed : ℕ
+-- the link below a key; the keys; how many packets had no right tag; what was given to be sent, and how much of that was
+-- too long
+pub record SealedView (L : Type 0) : Type 0 where
+  pub link : L
   pub keys : Keys
   pub wrong : ℕ
   pub given : List (List ℕ)
   pub long : ℕ
+
+-- a link with keys, before its first call
+abbrev pub new_sealed : {L : Type 0} → L → Keys → SealedView L
+new_sealed link keys = record { link = link; keys = keys; wrong = 0; given = []; long = 0 }
 
 -- what is heard with keys where the link below heard this: the packet before its tag, or nothing where that isn't right
 abbrev pub heard_with : Keys → Hearing → Hearing
@@ -48,6 +50,16 @@ counted count = min (count + 1) (2 ^ 64 - 1)
 -- two counts together
 abbrev pub counted_both : ℕ → ℕ → ℕ
 counted_both one other = min (one + other) (2 ^ 64 - 1)
+
+-- what a link with keys tells that it heard and sent, and how many of its calls failed, by what the link below tells
+abbrev pub sealed_heard : {L : Type 0} → (L → Option (List Hearing)) → SealedView L → Option (List Hearing)
+sealed_heard heard s = all_heard_with s.keys (heard s.link)
+
+abbrev pub sealed_sent : {L : Type 0} → (L → Option (List (List ℕ))) → SealedView L → Option (List (List ℕ))
+sealed_sent sent s = all_sent_with s.keys s.given (sent s.link)
+
+abbrev pub sealed_failed : {L : Type 0} → (L → ℕ) → SealedView L → ℕ
+sealed_failed failed s = counted_both (failed s.link) s.long
 
 -- the count of packets without a right tag, after a packet or none
 abbrev pub wrong_unless : Option (List ℕ) → ℕ → ℕ

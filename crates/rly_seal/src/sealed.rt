@@ -1,7 +1,7 @@
 //! A link with a key.
 
-ghost use Rattle.std.specs.Prelude.{◌≡◌, ◌≤◌, [], IfSome, length, option_and_then};
-ghost use Rattle.rly_seal.specs.SealedLink.{wrong_after};
+ghost use Rattle.std.specs.Prelude.{◌≡◌, ◌≤◌, IfSome, length, option_and_then};
+ghost use Rattle.rly_seal.specs.SealedLink.{new_sealed, wrong_after};
 ghost use Rattle.rly_tag.specs.Seal.{unsealed};
 ghost use Rattle.rly_threads.specs.Ends.{packet_in};
 ghost use Rattle.rly_threads.specs.Memory.{log_bytes};
@@ -17,7 +17,7 @@ const MAX_SEALED: usize = MAX_PACKET + TAG_BYTES;
 /// Bytes, in proofs alone.
 type Bytes = Log<u8, ()>;
 
-/// A link with a key over another link. Contracts see what the link below tells, the keys, and the count.
+/// A link with a key over another link. Contracts see the link below, the keys, and the count.
 #[derive(Drop)]
 pub struct Sealed<L: Link> {
     link: L,
@@ -31,12 +31,10 @@ impl<L: Link> Model for Sealed<L> {
     ghost use Rattle.rly_seal.specs.SealedLink.{SealedView};
     ghost use Rattle.rly_threads.specs.Memory.{sent_of};
 
-    ghost Value = { SealedView };
+    ghost Value = { SealedView L };
 
     ghost view = { λ s. record {
-      heard = L.heard s.link;
-      sent = L.sent s.link;
-      failed = L.failed s.link;
+      link = s.link;
       keys = s.key;
       wrong = s.wrong;
       given = sent_of s.given;
@@ -47,9 +45,7 @@ impl<L: Link> Model for Sealed<L> {
 impl<L: Link> Sealed<L> {
     /// A link that seals and unseals with a key what another carries.
     pub fn new(link: L, key: Key) -> Sealed<L>
-        ensures below { (result.heard ≡ L.heard link) × (result.sent ≡ L.sent link) × (result.failed ≡ L.failed link) }
-        ensures keys { result.keys ≡ key }
-        ensures none { (result.wrong ≡ 0) × (result.given ≡ []) × (result.long ≡ 0) }
+        ensures { result ≡ new_sealed link key }
     {
         Sealed {
             link,
@@ -62,7 +58,7 @@ impl<L: Link> Sealed<L> {
 
     /// The link below.
     pub fn into_link(self) -> L
-        ensures { (L.heard result ≡ self.heard) × (L.sent result ≡ self.sent) × (L.failed result ≡ self.failed) }
+        ensures { result ≡ self.link }
     {
         self.link
     }
@@ -95,13 +91,13 @@ impl<L: Link> Sealed<L> {
 }
 
 impl<L: Link> Link for Sealed<L> {
-    ghost use Rattle.rly_seal.specs.SealedLink.{all_heard_with, all_sent_with, counted_both};
+    ghost use Rattle.rly_seal.specs.SealedLink.{sealed_failed, sealed_heard, sealed_sent};
 
-    ghost heard = { λ s. all_heard_with s.keys s.heard };
+    ghost heard = { sealed_heard L.heard };
 
-    ghost sent = { λ s. all_sent_with s.keys s.given s.sent };
+    ghost sent = { sealed_sent L.sent };
 
-    ghost failed = { λ s. counted_both s.failed s.long };
+    ghost failed = { sealed_failed L.failed };
 
     fn recv(&mut self, buffer: &mut [u8]) -> Result<Option<usize>, LinkFault> {
         let found = self.link.recv(buffer)?;

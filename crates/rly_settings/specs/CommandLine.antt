@@ -10,7 +10,7 @@ use Rattle.clap.specs.declared.error.Error.{Error}
 use Rattle.clap.specs.declared.error.kind.ErrorKind.TheVariants as kind
 use Rattle.rly_core.specs.declared.params.Params.{Params}
 use Rattle.rly_settings.specs.declared.given.Settings.{Settings}
-use Rattle.rly_settings.specs.declared.given.Settings.TheVariants.{Sim, Format, Play, Audit, Serve}
+use Rattle.rly_settings.specs.declared.given.Settings.TheVariants.{Sim, Format, Play, Audit, Serve, Key}
 use Rattle.rly_settings.specs.declared.given.SettingsFault.{SettingsFault}
 use Rattle.rly_settings.specs.declared.given.SettingsFault.TheVariants.{Asked, CommandLine, OutOfMemory}
 
@@ -75,6 +75,9 @@ serve_app = with_rule (with_rule (with_rule (new_app (codes "serve"))
     (path_rule (codes "file"))) (path_rule (codes "plan")))
     (option_rule (codes "turns") (codes "0"))
 
+unfoldable pub key_app : App
+key_app = new_app (codes "key")
+
 -- the program: a version, and a command, which has to be there
 unfoldable pub rly_top : App
 rly_top = let new = new_app (codes "rly") in
@@ -83,8 +86,8 @@ rly_top = let new = new_app (codes "rly") in
     }
 
 unfoldable pub rly_app : App
-rly_app = with_subcommand (with_subcommand (with_subcommand (with_subcommand (with_subcommand rly_top
-    sim_app.top) format_app.top) play_app.top) audit_app.top) serve_app.top
+rly_app = with_subcommand (with_subcommand (with_subcommand (with_subcommand (with_subcommand (with_subcommand rly_top
+    sim_app.top) format_app.top) play_app.top) audit_app.top) serve_app.top) key_app.top
 
 -- ---- what its matches ask for
 
@@ -140,6 +143,7 @@ IsSettings (Some (command, rows)) (Serve file plan turns) = (command ≡ codes "
     × (file.now ≡ path_in (codes "file") rows)
     × (plan.now ≡ path_in (codes "plan") rows)
     × HasNumber rows (codes "turns") 0 turns
+IsSettings (Some (command, rows)) Key = command ≡ codes "key"
 
 -- ---- what its errors tell
 

@@ -70,6 +70,9 @@ fn settings_of<'a>(matches: &ArgMatches<'a>) -> Option<Settings<'a>>
             file: path_of(options, "file"),
         });
     }
+    if options_of(matches, "key").is_some() {
+        return Some(Settings::Key);
+    }
     let options = options_of(matches, "serve")?;
     Some(Settings::Serve {
         file: path_of(options, "file"),

@@ -1,6 +1,6 @@
 ghost use Rattle.std.specs.Prelude.{◌≡◌, IfOk, true};
 ghost use Rattle.clap.specs.Words.{app_of, new_app, with_subcommand};
-ghost use Rattle.rly_settings.specs.CommandLine.{audit_app, format_app, play_app, rly_app, rly_top, serve_app, sim_app};
+ghost use Rattle.rly_settings.specs.CommandLine.{audit_app, format_app, key_app, play_app, rly_app, rly_top, serve_app, sim_app};
 
 use crate::arguments::{batch, flag, number, with_arg, with_option, with_params, with_path};
 use clap::Command;
@@ -36,6 +36,11 @@ A datagram is acknowledged once the device holds it. SIGINT or SIGTERM may end t
 moment: nothing that was acknowledged is lost, and it goes on where it is started again. Where a
 write or a sync of the device fails, it answers no neighbour until it is started again.";
 
+/// The help on `key`.
+const KEYED: &str =
+    "Prints 64 hexadecimal digits and a line's end, of the system's randomness: the file of a key, which both
+ends of a link hold and a plan names. No one else is to read it, so make it under `umask 077`.";
+
 /// The help of a file that `play`, `audit` or `serve` works on.
 const MADE: &str = "The file of a device that `format` made";
 
@@ -48,12 +53,14 @@ pub(crate) fn program<'a>(alloc: Global) -> Result<Command<'a>, AllocError>
     let play_command = play(alloc)?;
     let audit_command = audit(alloc)?;
     let serve_command = serve(alloc)?;
+    let key_command = key(alloc);
     let with_sim = with_command(top(alloc), sim_command)?;
     let with_format = with_command(with_sim, format_command)?;
     let with_play = with_command(with_format, play_command)?;
     let with_audit = with_command(with_play, audit_command)?;
     let with_serve = with_command(with_audit, serve_command)?;
-    Ok(with_serve)
+    let with_key = with_command(with_serve, key_command)?;
+    Ok(with_key)
 }
 
 /// The program, without its commands.
@@ -171,6 +178,17 @@ fn serve<'a>(alloc: Global) -> Result<Command<'a>, AllocError>
         "Turns of each peer and each hop, in each of which it waits about 10 milliseconds for a packet; 0 is without end",
     )?;
     Ok(with_turns)
+}
+
+fn key<'a>(alloc: Global) -> Command<'a>
+    ensures { app_of result ≡ key_app }
+{
+    named(
+        alloc,
+        "key",
+        "Writes a new key of a link to standard output",
+        KEYED,
+    )
 }
 
 /// A command with its help texts.

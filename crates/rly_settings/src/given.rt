@@ -46,6 +46,8 @@ pub enum Settings<'a> {
         /// How many turns each worker takes: 0 for turns without end.
         turns: u64,
     },
+    /// A new key of a link.
+    Key,
 }
 
 /// Why the words of a command line are no settings.

@@ -12,7 +12,7 @@ use hex::FromHex;
 use std::marker::Model;
 
 /// The bytes of a key.
-const KEY_BYTES: usize = 32;
+pub const KEY_BYTES: usize = 32;
 
 /// The digits of a key's line.
 const DIGITS: usize = 64;

@@ -12,5 +12,5 @@ mod key;
 mod laws;
 
 pub use crate::hmac::hmac_sha256;
-pub use crate::key::{Key, LINE_BYTES, TAG_BYTES, key_line};
+pub use crate::key::{KEY_BYTES, Key, LINE_BYTES, TAG_BYTES, key_line};
 pub use crate::laws::law_seal;

@@ -4,7 +4,7 @@ use Rattle.rly_daemon.specs.Serving.{duties, duty_at, duty_of}
 use Rattle.rly_daemon.proofs.serving.posts_of.Given as goal
 
 -- the workers so far, before those that are left
-abbrev pub invariant-loop-worker : goal.invariant-loop-worker
-invariant-loop-worker g l =
-    map duty_at l.posts.items ++ map (duty_of l.fn.plan l.fn.turns) (into_iter_items l.worker-iterator)
-    ≡ duties l.fn.plan l.fn.turns
+abbrev pub invariant-loop-link : goal.invariant-loop-link
+invariant-loop-link g l =
+    map duty_at l.posts.items ++ map (duty_of l.fn.plan l.fn.turns) (into_iter_items l.link-iterator)
+    ≡ duties l.fn.plan l.fn.keys l.fn.turns

@@ -14,10 +14,10 @@ returns-clause-sent g c =
     ap (λ (n : ℕ). take n c.seal-count.new.out) c.seal-count.ensures.length
     ∙ ap (take (length packet + 16)) c.seal-count.ensures.written
     ∙ written_packet key packet _ in
-    sent_more_in c.args.self.now c.self.inside.key (sent_of c.self.inside.given) _ _ _ packet _
-    (ap (λ (v : SealedView). v.keys) c.self.view_is)
-    (ap (λ (v : SealedView). v.given) c.self.view_is)
-    (ap (λ (v : SealedView). v.sent) c.self.view_is)
+    sent_more_in g.L.Link.sent c.args.self.now c.self.inside.key (sent_of c.self.inside.given) _ _ _ packet _
+    (ap (λ (v : SealedView _). v.keys) c.self.view_is)
+    (ap (λ (v : SealedView _). v.given) c.self.view_is)
+    (ap (λ (v : SealedView _). g.L.Link.sent v.link) c.self.view_is)
     (ap (λ items. map (λ e. log_bytes e.0) items) c.and-self-inside.ensures
     ∙ map-append (λ e. log_bytes e.0) c.self.inside.given.items _
     ∙ ap (λ (b : List ℕ). sent_of c.self.inside.given ++ b ∷ []) c.bytes_in.ensures)
