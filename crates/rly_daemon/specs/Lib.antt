@@ -5,4 +5,5 @@ pub mod WallClock
 pub mod NamedKey
 pub mod Serving
 pub mod Keys
+pub mod Planning
 pub mod Program

@@ -13,10 +13,11 @@ use Rattle.rly_journal.specs.Journal.{JournalState}
 use Rattle.rly_machine.specs.State.{State, new_state}
 use Rattle.rly_segment.specs.Device.{IsGeometry, device_length}
 use Rattle.rly_settings.specs.declared.given.Settings.{Settings}
-use Rattle.rly_settings.specs.declared.given.Settings.TheVariants.{Sim, Format, Play, Audit, Serve, Key}
+use Rattle.rly_settings.specs.declared.given.Settings.TheVariants.{Sim, Format, Play, Audit, Serve, Key, Plan}
 use Rattle.rly_daemon.specs.FileDisk.{file_state}
 use Rattle.rly_daemon.specs.Formatting.{HasMade, wanted_geometry}
 use Rattle.rly_daemon.specs.Keys.{HasKey}
+use Rattle.rly_daemon.specs.Planning.{HasTold}
 use Rattle.rly_daemon.specs.Serving.{HasRoom, ended_line, workers_of}
 use Rattle.rly_text.specs.Playing.{PlaysAll}
 use Rattle.rly_text.specs.Text.{text_for}
@@ -80,6 +81,8 @@ IsDone (Serve file plan turns) before behind left old new told_old told_new =
     (behind ≡ before) × (new ≡ old) × HasServed turns told_new
 IsDone Key before behind left old new told_old told_new =
     (behind ≡ before) × HasKey old new × (told_new ≡ told_old)
+IsDone (Plan plan at) before behind left old new told_old told_new =
+    (behind ≡ before) × HasTold at old new × (told_new ≡ told_old)
 
 -- the values of a spool or of a device are out of their limits
 abbrev pub IsOutOfLimits : Settings → Type 0

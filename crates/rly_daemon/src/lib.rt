@@ -16,6 +16,7 @@ mod geometry;
 mod key_fault;
 mod new_key;
 mod plan_keys;
+mod planning;
 mod program;
 mod serving;
 mod udp_link;

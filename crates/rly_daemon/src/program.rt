@@ -22,6 +22,7 @@ use crate::formatting::{UseFault, unused};
 use crate::geometry::{device_size, geometry_of};
 use crate::new_key::write_key;
 use crate::plan_keys::read_keys;
+use crate::planning::run_plan;
 use crate::serving::{read_plan, serve};
 use rly_audit::{AuditFault, audit};
 use rly_core::{Geometry, Params, Refusal};
@@ -122,6 +123,7 @@ fn obey<H: Host, R: Read, W: Write, E: Write>(
             write_key(rt, writer)?;
             Ok(())
         }
+        Settings::Plan { plan, at } => run_plan(rt, plan, at, writer),
     }
 }
 

@@ -138,7 +138,7 @@ impl<C: Clock + Drop> Turn for WallClock<C> {
 
 /// A clock's time in microseconds: 0 where the clock can't be read or is before its start, and never above the last that
 /// has 64 bits.
-fn moment_of(time: Option<Duration>) -> u64
+pub(crate) fn moment_of(time: Option<Duration>) -> u64
     ensures { result ≡ moment_of time }
 {
     match time {

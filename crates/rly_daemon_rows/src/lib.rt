@@ -27,6 +27,8 @@ mod keys;
 #[cfg(test)]
 mod links;
 #[cfg(test)]
+mod planning;
+#[cfg(test)]
 mod programs;
 #[cfg(test)]
 mod serving;

@@ -47,6 +47,8 @@ fn what_is_left_out_is_the_default(rt: HostRuntime) {
         }));
     let key = settings_of(&rt, ["rly", "key"].as_slice());
     expect!(rt; key == Some(Settings::Key));
+    let told = settings_of(&rt, ["rly", "plan", "plan.toml"].as_slice());
+    expect!(rt; told == Some(Settings::Plan { plan, at: None }));
 }
 
 #[test]
@@ -95,6 +97,10 @@ fn what_is_given_is_read(rt: HostRuntime) {
             plan,
             turns: 20
         }));
+    let words = ["rly", "plan", "plan.toml", "--at", "4503599627370495"];
+    let told = settings_of(&rt, words.as_slice());
+    let at = Some(4_503_599_627_370_495);
+    expect!(rt; told == Some(Settings::Plan { plan, at }));
 }
 
 #[test]
@@ -175,10 +181,30 @@ fn words_behind_key_are_refused(rt: HostRuntime) {
 }
 
 #[test]
+fn bad_words_behind_plan_are_refused(rt: HostRuntime) {
+    assert!(rt; are_bad(&rt, ["rly", "plan"].as_slice()), "no plan");
+    let more = ["rly", "plan", "plan.toml", "more"];
+    assert!(rt; are_bad(&rt, more.as_slice()), "a word too many");
+    for at in [
+        "--at=x",
+        "--at=-1",
+        "--at=",
+        "--at=4503599627370496",
+        "--at=2026-11-25T04:38:17Z",
+        "--turns=1",
+    ] {
+        let words = ["rly", "plan", "plan.toml", at];
+        assert!(rt; are_bad(&rt, words.as_slice()), "{at}");
+    }
+    let twice = ["rly", "plan", "--at=1", "plan.toml", "--at=1"];
+    assert!(rt; are_bad(&rt, twice.as_slice()), "a repeated option");
+}
+
+#[test]
 fn help_and_the_version_are_questions(rt: HostRuntime) {
     expect!(rt; are_asked(&rt, ["rly", "--version"].as_slice()));
     expect!(rt; are_asked(&rt, ["rly", "--help"].as_slice()));
-    for command in ["sim", "format", "play", "audit", "serve", "key"] {
+    for command in ["sim", "format", "play", "audit", "serve", "key", "plan"] {
         assert!(rt;
             are_asked(&rt, ["rly", command, "--help"].as_slice()),
             "{command}"

@@ -26,6 +26,8 @@ mod plan_faults;
 #[cfg(test)]
 mod plan_places;
 #[cfg(test)]
+mod plan_texts;
+#[cfg(test)]
 mod plans;
 #[cfg(test)]
 mod receiving;

@@ -2,11 +2,12 @@
 use Rattle.std.specs.Prelude.{ℕ, zero, suc, ◌==◌, Bool, List, [], Option, None, option_map, unwrap_or, find, slice_get}
 use Rattle.rly_core.specs.declared.ids.HopId.{HopId}
 use Rattle.rly_core.specs.declared.ids.PeerId.{PeerId}
-use Rattle.rly_core.specs.declared.limits.TheConstants.{DEFAULT_RESEND}
+use Rattle.rly_core.specs.declared.limits.TheConstants.{DEFAULT_RESEND, MOMENT_LIMIT}
 use Rattle.rly_plan.specs.declared.contacts.Contact.{Contact}
 use Rattle.rly_plan.specs.declared.neighbour.Neighbour.{Neighbour}
 use Rattle.rly_plan.specs.declared.plan.Hop.{Hop}
 use Rattle.rly_plan.specs.declared.plan.Route.{Route}
+use Rattle.rly_plan.specs.Changes.{change_after}
 use Rattle.rly_plan.specs.LinkClock.{lies_in_any, open_moments}
 
 -- this station, its neighbours on both sides in the order of their ids, and the routes in the order of the file
@@ -43,6 +44,14 @@ is_open plan hop moment = lies_in_any (contacts_of plan hop) moment
 -- the hop's link clock
 abbrev pub link : ContactPlan → HopId → ℕ → ℕ
 link plan hop moment = open_moments (contacts_of plan hop) moment
+
+-- when the hop's link opens or closes next
+abbrev pub next_change : ContactPlan → HopId → ℕ → Option ℕ
+next_change plan hop moment = change_after (contacts_of plan hop) moment
+
+-- how long the hop's link is open in all its contacts: its clock after the last moment that a contact may have
+abbrev pub open_time : ContactPlan → HopId → ℕ
+open_time plan hop = link plan hop MOMENT_LIMIT
 
 -- the hop of the route that names the destination
 abbrev pub hop_for : ContactPlan → ℕ → Option HopId

@@ -1,4 +1,5 @@
 pub mod LinkClock
+pub mod Changes
 pub mod HelpersContacts
 pub mod Endpoints
 pub mod ContactPlan

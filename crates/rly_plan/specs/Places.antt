@@ -22,7 +22,7 @@ use Rattle.rly_plan.specs.declared.place.Spot.{Spot}
 use Rattle.rly_plan.specs.declared.place.Spot.TheVariants as spot
 use Rattle.rly_plan.specs.Draft.{HopText, PlanText, contact_draft_of, draft_of, integer_at, key_at, resend_at, text_at}
 use Rattle.rly_plan.specs.Keys.{has_key, has_no_key, keys_are_known}
-use Rattle.rly_plan.specs.Passes.{are_apart, begin_in_order, contact_in_range, is_between, is_in_range, is_sorted, is_station, leads_to_hops, number_16, overlaps, resend_in_range}
+use Rattle.rly_plan.specs.Passes.{are_apart, begin_in_order, contact_in_range, is_between, is_in_range, is_sorted, is_station, number_16, overlaps, resend_in_range}
 
 -- the place, unless the test is passed
 abbrev pub unless : {A : Type 0} → Bool → A → Option A

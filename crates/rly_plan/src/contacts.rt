@@ -1,5 +1,6 @@
-ghost use Rattle.std.specs.Prelude.{◌≡◌, ◌<◌, ◌≤◌, [], ◌∷◌, ◌++◌, IfSome, OnOk, OnErr};
-ghost use Rattle.rly_plan.specs.HelpersContacts.{AreSummed, HasBegun, last_end, latest};
+ghost use Rattle.std.specs.Prelude.{◌≡◌, ◌<◌, ◌≤◌, [], ◌∷◌, ◌++◌, IfSome, OnOk, OnErr, length};
+ghost use Rattle.rly_plan.specs.Changes.{change_after, closing_after};
+ghost use Rattle.rly_plan.specs.HelpersContacts.{AreSummed, HasBegun, contacts_in, last_end, latest};
 ghost use Rattle.rly_plan.specs.LinkClock.{lies_in_any, open_moments};
 
 use rly_core::limits::MOMENT_LIMIT;
@@ -91,6 +92,50 @@ impl Contacts {
             None => 0,
         }
     }
+
+    /// How many contacts there are.
+    pub(crate) fn len(&self) -> usize
+        ensures { result ≡ length self.now }
+    {
+        self.entries.len()
+    }
+
+    /// The first moment after this one at which the link opens or closes.
+    pub(crate) fn next_change(&self, moment: u64) -> Option<u64>
+        ensures change { result ≡ change_after self.now moment }
+        ensures bounded { IfSome result (λ change. change < MOMENT_LIMIT) }
+    {
+        change_after(&self.entries, moment)
+    }
+}
+
+/// The first moment after this one at which a link opens or closes.
+fn change_after(entries: &[Summed], moment: u64) -> Option<u64>
+    ensures { result ≡ change_after (contacts_in entries.now) moment }
+{
+    for (index, entry) in entries.iter().enumerate() {
+        if moment < entry.contact.begin {
+            return Some(entry.contact.begin);
+        }
+        if moment < entry.contact.end {
+            return Some(closing_after(entry.contact.end, &entries[index + 1..]));
+        }
+    }
+    None
+}
+
+/// When a link closes that is open up to an end, by the contacts behind it.
+fn closing_after(end: u64, entries: &[Summed]) -> u64
+    ensures { result ≡ closing_after end (contacts_in entries.now) }
+{
+    let mut close = end;
+    for entry in entries {
+        if entry.contact.begin != close {
+            return close;
+        }
+        close = entry.contact.end;
+    }
+    close
 }
 
 /// The last contact that has begun by a moment.

@@ -1,7 +1,9 @@
 //! Laws of plans and of the link clock, each on a function without a body.
 
 ghost use Rattle.std.specs.Prelude.{◌≡◌, ℕ, List, Ok, ◌+◌, ◌-◌, ◌<◌, ◌≤◌, false, true};
-ghost use Rattle.rly_plan.specs.ContactPlan.{ContactPlan, is_open, link};
+ghost use Rattle.rly_core.specs.declared.ids.HopId.{HopId as AHop};
+ghost use Rattle.rly_plan.specs.Changes.{IsNextChange};
+ghost use Rattle.rly_plan.specs.ContactPlan.{ContactPlan, is_open, link, next_change};
 ghost use Rattle.rly_plan.specs.Passes.{plan_of_text};
 ghost use Rattle.rly_plan.specs.Sound.{IsSoundPlan};
 
@@ -32,6 +34,12 @@ pub fn law_link_runs_while_open(plan: &Plan, hop: HopId, earlier: u64, later: u6
     requires order { earlier ≤ later }
     requires opened { (u : ℕ) → earlier ≤ u → u < later → is_open plan.now hop u ≡ true }
     ensures { link plan.now hop later ≡ link plan.now hop earlier + (later - earlier) }
+{}
+
+/// In a sound plan, a hop's link stays as it is up to its next change, and is otherwise then. Where there is no next change it
+/// stays as it is for good.
+pub fn law_next_change()
+    ensures { (plan : ContactPlan) (hop : AHop) (moment : ℕ) → IsSoundPlan plan → IsNextChange (is_open plan hop) moment (next_change plan hop moment) }
 {}
 
 /// Whatever its text, a plan is sound: its numbers are in range, its contacts in order and apart,

@@ -20,9 +20,9 @@ mod plan_fault;
 
 pub use crate::laws::{
     law_link_grows_with_time, law_link_never_falls, law_link_runs_while_open,
-    law_link_stands_while_closed, law_plan_is_sound,
+    law_link_stands_while_closed, law_next_change, law_plan_is_sound,
 };
 pub use crate::neighbour::{Addresses, KeyFile, Neighbour};
 pub use crate::place::{Key, Place, Position, Row, Spot};
-pub use crate::plan::Plan;
+pub use crate::plan::{Hop, Plan, Route};
 pub use crate::plan_fault::PlanFault;

@@ -13,7 +13,7 @@ use crate::neighbour::Neighbour;
 use crate::passes::{number_16, number_32};
 use crate::place::Place;
 use crate::plan_fault::{PlanFault, position_after};
-use rly_core::limits::DEFAULT_RESEND;
+use rly_core::limits::{DEFAULT_RESEND, MOMENT_LIMIT};
 use rly_core::{HopId, PeerId, Refusal};
 use std::alloc::{AllocError, Global};
 use std::marker::Model;
@@ -21,18 +21,53 @@ use toml::de::Error;
 
 /// A next hop: the neighbour, how long what is in flight to it waits, and when its link is open.
 #[derive(Debug, Drop)]
-pub(crate) struct Hop {
+pub struct Hop {
     /// The neighbour that the hop leads to.
     pub neighbour: Neighbour,
     /// How long nothing has to move before what is in flight is sent again, in milliseconds.
     pub resend: u32,
     /// When the link is open.
-    pub contacts: Contacts,
+    pub(crate) contacts: Contacts,
+}
+
+impl Hop {
+    ghost use Rattle.std.specs.Prelude.{◌≡◌, ◌<◌, IfSome, length};
+    ghost use Rattle.rly_plan.specs.Changes.{change_after};
+    ghost use Rattle.rly_plan.specs.LinkClock.{lies_in_any, open_moments};
+
+    /// How many contacts its link has.
+    pub fn contact_count(&self) -> usize
+        ensures { result ≡ length self.now.contacts }
+    {
+        self.contacts.len()
+    }
+
+    /// Whether its link is open at a moment.
+    pub fn is_open(&self, moment: u64) -> bool
+        ensures { result ≡ lies_in_any self.now.contacts moment }
+    {
+        self.contacts.is_open(moment)
+    }
+
+    /// The first moment after this one at which its link opens or closes: `None` after the last.
+    pub fn next_change(&self, moment: u64) -> Option<u64>
+        ensures change { result ≡ change_after self.now.contacts moment }
+        ensures bounded { IfSome result (λ change. change < MOMENT_LIMIT) }
+    {
+        self.contacts.next_change(moment)
+    }
+
+    /// How long its link is open in all its contacts, in microseconds.
+    pub fn open_time(&self) -> u64
+        ensures { result ≡ open_moments self.now.contacts MOMENT_LIMIT }
+    {
+        self.contacts.link(MOMENT_LIMIT)
+    }
 }
 
 /// Where the datagrams for a destination go.
 #[derive(Clone, Copy, Debug, PartialEq, Eq)]
-pub(crate) struct Route {
+pub struct Route {
     /// The destination's station number.
     pub destination: u16,
     /// The next hop on the way to it.
@@ -58,8 +93,8 @@ impl Model for Plan {
 }
 
 impl Plan {
-    ghost use Rattle.std.specs.Prelude.{◌≡◌, ◌≢◌, length, IfErr, IfOk, None, Ok, Err, option_copied};
-    ghost use Rattle.rly_plan.specs.ContactPlan.{next_hop_at, hop_for, is_open, link, peer_at, resend};
+    ghost use Rattle.std.specs.Prelude.{◌≡◌, ◌≢◌, ◌<◌, length, IfErr, IfOk, IfSome, None, Ok, Err, option_copied};
+    ghost use Rattle.rly_plan.specs.ContactPlan.{hop_for, is_open, link, next_change, next_hop_at, open_time, peer_at, resend};
     ghost use Rattle.rly_plan.specs.Passes.{plan_of_text};
     ghost use Rattle.rly_plan.specs.Places.{IsPlaceOf};
     ghost use Rattle.toml.specs.Errors.{IsBlank};
@@ -122,6 +157,27 @@ impl Plan {
         self.hops.len()
     }
 
+    /// The upstream neighbours, in the order of their ids.
+    pub fn peers(&self) -> &[Neighbour]
+        ensures { result.now ≡ self.now.peers }
+    {
+        &self.peers
+    }
+
+    /// The next hops, in the order of their ids.
+    pub fn hops(&self) -> &[Hop]
+        ensures { result.now ≡ self.now.hops }
+    {
+        &self.hops
+    }
+
+    /// The routes, in the order of the file.
+    pub fn routes(&self) -> &[Route]
+        ensures { result.now ≡ self.now.routes }
+    {
+        &self.routes
+    }
+
     /// The upstream neighbour of this id.
     pub fn peer(&self, peer: PeerId) -> Option<&Neighbour>
         ensures { option_copied result ≡ peer_at self.now peer }
@@ -181,6 +237,25 @@ impl Plan {
             Some(hop) => hop.contacts.link(moment),
             None => 0,
         }
+    }
+
+    /// The first moment after this one at which the link of a hop opens or closes: `None` after the last, and for a hop that
+    /// isn't there.
+    pub fn next_change(&self, hop: HopId, moment: u64) -> Option<u64>
+        ensures change { result ≡ next_change self.now hop moment }
+        ensures bounded { IfSome result (λ change. change < MOMENT_LIMIT) }
+    {
+        match at_number(&self.hops, hop.0) {
+            Some(hop) => hop.next_change(moment),
+            None => None,
+        }
+    }
+
+    /// How long the link of a hop is open in all its contacts, in microseconds: 0 for a hop that isn't there.
+    pub fn open_time(&self, hop: HopId) -> u64
+        ensures { result ≡ open_time self.now hop }
+    {
+        self.link(hop, MOMENT_LIMIT)
     }
 }
 

@@ -4,7 +4,7 @@ use Rattle.std.proofs.lemmas.Bool.{and_parts}
 use Rattle.clap.specs.Words.{AddsSubcommand, App, Rule, app_of, is_simple, is_simple_and_free, rule_of, with_rule, with_subcommand}
 use Rattle.clap.specs.declared.builder.arg.Arg.{Arg}
 use Rattle.clap.specs.declared.builder.command.Command.{Command}
-use Rattle.rly_settings.specs.CommandLine.{audit_app, format_app, key_app, play_app, rly_app, rly_top, serve_app, sim_app}
+use Rattle.rly_settings.specs.CommandLine.{audit_app, format_app, key_app, plan_app, play_app, rly_app, rly_top, serve_app, sim_app}
 
 not_true : (b : Bool) → not b ≡ true → b ≡ false
 not_true true h = let no : ⊥ = cc in absurd no
@@ -58,12 +58,16 @@ pub key_plain : key_app.top.is_plain ≡ true
 unfolding key_app
 key_plain = refl
 
+pub plan_plain : plan_app.top.is_plain ≡ true
+unfolding plan_app
+plan_plain = refl
+
 -- clap's matches of its words are known
 pub rly_simple : is_simple rly_app ≡ true
-unfolding rly_app rly_top sim_app format_app play_app audit_app serve_app key_app
+unfolding rly_app rly_top sim_app format_app play_app audit_app serve_app key_app plan_app
 rly_simple = refl
 
 -- so are the errors at them
 pub rly_free : is_simple_and_free rly_app ≡ true
-unfolding rly_app rly_top sim_app format_app play_app audit_app serve_app key_app
+unfolding rly_app rly_top sim_app format_app play_app audit_app serve_app key_app plan_app
 rly_free = refl

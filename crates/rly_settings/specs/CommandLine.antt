@@ -10,7 +10,7 @@ use Rattle.clap.specs.declared.error.Error.{Error}
 use Rattle.clap.specs.declared.error.kind.ErrorKind.TheVariants as kind
 use Rattle.rly_core.specs.declared.params.Params.{Params}
 use Rattle.rly_settings.specs.declared.given.Settings.{Settings}
-use Rattle.rly_settings.specs.declared.given.Settings.TheVariants.{Sim, Format, Play, Audit, Serve, Key}
+use Rattle.rly_settings.specs.declared.given.Settings.TheVariants.{Sim, Format, Play, Audit, Serve, Key, Plan}
 use Rattle.rly_settings.specs.declared.given.SettingsFault.{SettingsFault}
 use Rattle.rly_settings.specs.declared.given.SettingsFault.TheVariants.{Asked, CommandLine, OutOfMemory}
 
@@ -40,6 +40,10 @@ path_rule name = record (new_rule name) { action = Some Set; value_names = 1; re
 -- how many lines make a round, 1 to 64
 abbrev pub batch_rule : Rule
 batch_rule = record (option_rule (codes "batch") (codes "1")) { parser = Some (parser.Unsigned 1 64) }
+
+-- the moment at which a plan is told, below 2^52
+abbrev pub at_rule : Rule
+at_rule = record (number_rule (codes "at")) { parser = Some (parser.Unsigned 0 4503599627370495) }
 
 -- a command with the options for the payload bytes of a spool and for CoDel
 abbrev pub with_more_rules : App → App
@@ -78,6 +82,9 @@ serve_app = with_rule (with_rule (with_rule (new_app (codes "serve"))
 unfoldable pub key_app : App
 key_app = new_app (codes "key")
 
+unfoldable pub plan_app : App
+plan_app = with_rule (with_rule (new_app (codes "plan")) (path_rule (codes "plan"))) at_rule
+
 -- the program: a version, and a command, which has to be there
 unfoldable pub rly_top : App
 rly_top = let new = new_app (codes "rly") in
@@ -86,8 +93,8 @@ rly_top = let new = new_app (codes "rly") in
     }
 
 unfoldable pub rly_app : App
-rly_app = with_subcommand (with_subcommand (with_subcommand (with_subcommand (with_subcommand (with_subcommand rly_top
-    sim_app.top) format_app.top) play_app.top) audit_app.top) serve_app.top) key_app.top
+rly_app = with_subcommand (with_subcommand (with_subcommand (with_subcommand (with_subcommand (with_subcommand (with_subcommand rly_top
+    sim_app.top) format_app.top) play_app.top) audit_app.top) serve_app.top) key_app.top) plan_app.top
 
 -- ---- what its matches ask for
 
@@ -144,6 +151,9 @@ IsSettings (Some (command, rows)) (Serve file plan turns) = (command ≡ codes "
     × (plan.now ≡ path_in (codes "plan") rows)
     × HasNumber rows (codes "turns") 0 turns
 IsSettings (Some (command, rows)) Key = command ≡ codes "key"
+IsSettings (Some (command, rows)) (Plan plan at) = (command ≡ codes "plan")
+    × (plan.now ≡ path_in (codes "plan") rows)
+    × ReadsNumber (one_of (codes "at") rows) at
 
 -- ---- what its errors tell
 

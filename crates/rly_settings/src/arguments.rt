@@ -1,6 +1,6 @@
 ghost use Rattle.std.specs.Prelude.{◌≡◌, IfOk, false};
 ghost use Rattle.clap.specs.Words.{app_of, rule_of, with_rule};
-ghost use Rattle.rly_settings.specs.CommandLine.{batch_rule, flag_rule, number_rule, option_rule, path_rule, with_more_rules, with_param_rules};
+ghost use Rattle.rly_settings.specs.CommandLine.{at_rule, batch_rule, flag_rule, number_rule, option_rule, path_rule, with_more_rules, with_param_rules};
 
 use clap::{Arg, ArgAction, Command, value_parser};
 use rly_core::limits;
@@ -8,6 +8,9 @@ use std::alloc::{AllocError, Global};
 
 /// How many lines make a round at most.
 const MAX_BATCH: i64 = limits::MAX_ROUND as i64;
+
+/// The last moment that a plan may have.
+const LAST_MOMENT: i64 = limits::MOMENT_LIMIT as i64 - 1;
 
 /// A command with one argument more.
 pub(crate) fn with_arg<'a>(command: Command<'a>, arg: Arg<'a>) -> Result<Command<'a>, AllocError>
@@ -145,6 +148,19 @@ pub(crate) fn batch<'a>(alloc: Global) -> Arg<'a>
         "Lines of one round, which share its syncs and are answered together, 1 to 64",
     )
     .value_parser(value_parser!(u64).range(1..=MAX_BATCH))
+}
+
+/// The moment at which a plan is told.
+pub(crate) fn at<'a>(alloc: Global) -> Arg<'a>
+    ensures rule { rule_of result ≡ at_rule }
+    ensures own { result.global ≡ false }
+{
+    number(
+        alloc,
+        "at",
+        "The moment in microseconds since the Unix epoch, 0 to 4503599627370495; now where none is given",
+    )
+    .value_parser(value_parser!(u64).range(0..=LAST_MOMENT))
 }
 
 /// An option that takes a number, and has a default.

@@ -73,6 +73,12 @@ fn settings_of<'a>(matches: &ArgMatches<'a>) -> Option<Settings<'a>>
     if options_of(matches, "key").is_some() {
         return Some(Settings::Key);
     }
+    if let Some(options) = options_of(matches, "plan") {
+        return Some(Settings::Plan {
+            plan: path_of(options, "plan"),
+            at: given_number(options, "at"),
+        });
+    }
     let options = options_of(matches, "serve")?;
     Some(Settings::Serve {
         file: path_of(options, "file"),

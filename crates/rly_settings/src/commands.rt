@@ -1,8 +1,8 @@
 ghost use Rattle.std.specs.Prelude.{◌≡◌, IfOk, true};
 ghost use Rattle.clap.specs.Words.{app_of, new_app, with_subcommand};
-ghost use Rattle.rly_settings.specs.CommandLine.{audit_app, format_app, key_app, play_app, rly_app, rly_top, serve_app, sim_app};
+ghost use Rattle.rly_settings.specs.CommandLine.{audit_app, format_app, key_app, plan_app, play_app, rly_app, rly_top, serve_app, sim_app};
 
-use crate::arguments::{batch, flag, number, with_arg, with_option, with_params, with_path};
+use crate::arguments::{at, batch, flag, number, with_arg, with_option, with_params, with_path};
 use clap::Command;
 use std::alloc::{AllocError, Global};
 
@@ -41,6 +41,16 @@ const KEYED: &str =
     "Prints 64 hexadecimal digits and a line's end, of the system's randomness: the file of a key, which both
 ends of a link hold and a plan names. No one else is to read it, so make it under `umask 077`.";
 
+/// The help on the options of `plan`.
+const PLANNED: &str =
+    "Prints the moment, the station, each peer, each hop and each route of the plan. Of a hop it tells
+whether its contact is open at the moment, until when it stays so, and the microseconds that its
+contacts are open in all. A plan that is refused is told with the place of its first fault.";
+
+/// What a plan is.
+const PLAN: &str =
+    "The contact plan, a TOML file: the peers and hops, their addresses, contacts and routes";
+
 /// The help of a file that `play`, `audit` or `serve` works on.
 const MADE: &str = "The file of a device that `format` made";
 
@@ -54,13 +64,15 @@ pub(crate) fn program<'a>(alloc: Global) -> Result<Command<'a>, AllocError>
     let audit_command = audit(alloc)?;
     let serve_command = serve(alloc)?;
     let key_command = key(alloc);
+    let plan_command = plan(alloc)?;
     let with_sim = with_command(top(alloc), sim_command)?;
     let with_format = with_command(with_sim, format_command)?;
     let with_play = with_command(with_format, play_command)?;
     let with_audit = with_command(with_play, audit_command)?;
     let with_serve = with_command(with_audit, serve_command)?;
     let with_key = with_command(with_serve, key_command)?;
-    Ok(with_key)
+    let with_plan = with_command(with_key, plan_command)?;
+    Ok(with_plan)
 }
 
 /// The program, without its commands.
@@ -168,7 +180,7 @@ fn serve<'a>(alloc: Global) -> Result<Command<'a>, AllocError>
         with_file,
         "plan",
         "PLAN",
-        "The contact plan, a TOML file: the peers and hops, their addresses, contacts and routes",
+        PLAN,
     )?;
     let with_turns = with_option(
         alloc,
@@ -189,6 +201,20 @@ fn key<'a>(alloc: Global) -> Command<'a>
         "Writes a new key of a link to standard output",
         KEYED,
     )
+}
+
+fn plan<'a>(alloc: Global) -> Result<Command<'a>, AllocError>
+    ensures { IfOk result (λ command. app_of command ≡ plan_app) }
+{
+    let bare = named(
+        alloc,
+        "plan",
+        "Prints a plan as the program understands it at a moment",
+        PLANNED,
+    );
+    let with_file = with_path(alloc, bare, "plan", "PLAN", PLAN)?;
+    let with_moment = with_arg(with_file, at(alloc))?;
+    Ok(with_moment)
 }
 
 /// A command with its help texts.

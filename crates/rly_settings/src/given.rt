@@ -48,6 +48,13 @@ pub enum Settings<'a> {
     },
     /// A new key of a link.
     Key,
+    /// A plan as the program understands it at a moment.
+    Plan {
+        /// The path of the plan's file.
+        plan: &'a str,
+        /// The moment in microseconds since the Unix epoch, below 2^52: `None` for now.
+        at: Option<u64>,
+    },
 }
 
 /// Why the words of a command line are no settings.

@@ -1,4 +1,4 @@
-use Rattle.std.proofs.Common.{◌∙◌, ap, sym, arith, length, ◌+◌, ◌-◌}
+use Rattle.std.proofs.Common.{◌∙◌, ap, sym, arith, length}
 use Rattle.std.specs.Prelude.{option_map}
 use Rattle.rly_plan.specs.declared.place.Place.TheVariants.{In}
 use Rattle.rly_plan.specs.declared.place.Spot.TheVariants.{At}

@@ -1,0 +1,159 @@
+//! Plans as text, at moments before, in, between and after their contacts.
+use crate::plans::WHOLE;
+use rly_core::HopId;
+use rly_plan::Plan;
+use rly_plan_text::{Utc, text_of};
+use std::process::Abort;
+use std::test::Fail;
+
+/// Moments, and their dates as `date -u` and Python's `datetime` have them.
+const DATES: [(u64, &str); 10] = [
+    (0, "1970-01-01T00:00:00Z"),
+    (1, "1970-01-01T00:00:00.000001Z"),
+    (946_684_799_999_999, "1999-12-31T23:59:59.999999Z"),
+    (951_827_400_000_000, "2000-02-29T12:30:00Z"),
+    (1_709_251_199_250_000, "2024-02-29T23:59:59.25Z"),
+    (1_709_251_200_000_000, "2024-03-01T00:00:00Z"),
+    (1_795_581_497_000_000, "2026-11-25T04:38:17Z"),
+    (4_107_542_399_000_000, "2100-02-28T23:59:59Z"),
+    (4_107_542_400_000_000, "2100-03-01T00:00:00Z"),
+    (4_503_599_627_370_495, "2112-09-17T23:53:47.370495Z"),
+];
+
+#[test]
+fn moments_have_dates(rt: HostRuntime) -> Result<(), Fail> {
+    for (moment, date) in &DATES {
+        let moment = (*moment).min(4_503_599_627_370_495);
+        let text = format!(in rt.alloc(); "{}", Utc::of(moment))?;
+        expect!(rt; text.as_str() == *date, moment);
+    }
+    Ok(())
+}
+
+/// What the whole plan says before and after the state of its hop.
+const FRONT: &str = "station 7
+peer 1 station 3 listen 127.0.0.1:4001 remote 127.0.0.1:4002
+hop 1 station 9 listen 127.0.0.1:4003 remote 127.0.0.1:4004
+hop 1 resend 160 contacts 2 open 150
+hop 1 contact ";
+
+const BACK: &str = "route 12 hop 1\n";
+
+/// A moment, its line, and the state of the hop: contacts from 100 to 200 and from 300 to 350.
+const STATES: [(u64, &str, &str); 8] = [
+    (
+        0,
+        "at 1970-01-01T00:00:00Z 0\n",
+        "closed until 1970-01-01T00:00:00.0001Z 100\n",
+    ),
+    (
+        99,
+        "at 1970-01-01T00:00:00.000099Z 99\n",
+        "closed until 1970-01-01T00:00:00.0001Z 100\n",
+    ),
+    (
+        100,
+        "at 1970-01-01T00:00:00.0001Z 100\n",
+        "open until 1970-01-01T00:00:00.0002Z 200\n",
+    ),
+    (
+        199,
+        "at 1970-01-01T00:00:00.000199Z 199\n",
+        "open until 1970-01-01T00:00:00.0002Z 200\n",
+    ),
+    (
+        200,
+        "at 1970-01-01T00:00:00.0002Z 200\n",
+        "closed until 1970-01-01T00:00:00.0003Z 300\n",
+    ),
+    (
+        349,
+        "at 1970-01-01T00:00:00.000349Z 349\n",
+        "open until 1970-01-01T00:00:00.00035Z 350\n",
+    ),
+    (350, "at 1970-01-01T00:00:00.00035Z 350\n", "closed\n"),
+    (
+        4_503_599_627_370_495,
+        "at 2112-09-17T23:53:47.370495Z 4503599627370495\n",
+        "closed\n",
+    ),
+];
+
+#[test]
+fn a_plan_is_told_at_a_moment(rt: HostRuntime) -> Result<(), Fail> {
+    let plan = Plan::from_toml(rt.alloc(), WHOLE)?;
+    for (moment, line, state) in &STATES {
+        let moment = (*moment).min(4_503_599_627_370_495);
+        let wanted = format!(in rt.alloc(); "{line}{FRONT}{state}{BACK}")?;
+        let text = text_of(rt.alloc(), &plan, moment)?;
+        expect!(rt; text.as_str() == wanted.as_str(), moment);
+    }
+    Ok(())
+}
+
+/// Two peers and three hops: keys, no contact, contacts that touch, and the longest.
+const SEVERAL: &str = "station = 65_535
+peer = [
+  { id = 1, station = 3, listen = '127.0.0.1:1', remote = '127.0.0.1:2' },
+  { id = 2, station = 4, listen = '[::1]:3', remote = '[::1]:4', key = 'keys/four' },
+]
+hop = [
+  { id = 1, station = 9, listen = '', remote = '', contacts = [] },
+  { id = 2, station = 10, listen = 'a', remote = 'b', contacts = [[10, 20], [20, 30], [30, 31], [40, 41]], key = '/k' },
+  { id = 3, station = 11, listen = 'c', remote = 'd', resend = 10, contacts = [[0, 4_503_599_627_370_495]] },
+]
+route = [{ destination = 12, hop = 3 }, { destination = 5, hop = 1 }]
+";
+
+const TOLD: &str = "at 1970-01-01T00:00:00.000015Z 15
+station 65535
+peer 1 station 3 listen 127.0.0.1:1 remote 127.0.0.1:2
+peer 2 station 4 listen [::1]:3 remote [::1]:4 key keys/four
+hop 1 station 9 listen  remote 
+hop 1 resend 160 contacts 0 open 0
+hop 1 contact closed
+hop 2 station 10 listen a remote b key /k
+hop 2 resend 160 contacts 4 open 22
+hop 2 contact open until 1970-01-01T00:00:00.000031Z 31
+hop 3 station 11 listen c remote d
+hop 3 resend 10 contacts 1 open 4503599627370495
+hop 3 contact open until 2112-09-17T23:53:47.370495Z 4503599627370495
+route 12 hop 3
+route 5 hop 1
+";
+
+#[test]
+fn each_table_has_its_lines(rt: HostRuntime) -> Result<(), Fail> {
+    let plan = Plan::from_toml(rt.alloc(), SEVERAL)?;
+    let text = text_of(rt.alloc(), &plan, 15)?;
+    expect!(rt; text.as_str() == TOLD);
+    Ok(())
+}
+
+/// A hop of that plan, a moment, and when its link changes next.
+const CHANGES: [(u16, u64, Option<u64>); 12] = [
+    (0, 0, None),
+    (1, 0, None),
+    (2, 0, Some(10)),
+    (2, 9, Some(10)),
+    (2, 10, Some(31)),
+    (2, 30, Some(31)),
+    (2, 31, Some(40)),
+    (2, 40, Some(41)),
+    (2, 41, None),
+    (3, 0, Some(4_503_599_627_370_495)),
+    (3, u64::MAX, None),
+    (4, 0, None),
+];
+
+#[test]
+fn links_change_where_they_open_or_close(rt: HostRuntime) -> Result<(), Fail> {
+    let plan = Plan::from_toml(rt.alloc(), SEVERAL)?;
+    for (index, (hop, moment, change)) in CHANGES.iter().enumerate() {
+        expect!(rt; plan.next_change(HopId(*hop), *moment) == *change, index as u64);
+    }
+    for (hop, open) in &[(0, 0), (1, 0), (2, 22), (3, 4_503_599_627_370_495), (4, 0)] {
+        expect!(rt; plan.open_time(HopId(*hop)) == *open, *hop as u64);
+    }
+    Ok(())
+}

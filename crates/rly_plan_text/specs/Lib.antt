@@ -1,0 +1,2 @@
+pub mod Utc
+pub mod PlanText

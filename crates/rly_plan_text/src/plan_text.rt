@@ -1,0 +1,161 @@
+ghost use Rattle.std.specs.Prelude.{◌≡◌, ◌<◌, ◌++◌, IfOk, IfSome, OnOk, option_copied, string_bytes};
+ghost use Rattle.rly_plan_text.specs.PlanText.{at_line, hop_line, hop_lines, hops_text, neighbour_text, peer_line, peers_text, route_line, routes_text, state_line, state_text, station_line, text_for_plan, times_line, until_text};
+
+use crate::utc::Utc;
+use rly_core::limits::MOMENT_LIMIT;
+use rly_plan::{Hop, Neighbour, Plan, Route};
+use std::alloc::{AllocError, Global};
+
+/// The text of a plan at a moment, in microseconds since the Unix epoch.
+pub fn text_of(alloc: Global, plan: &Plan, moment: u64) -> Result<String, AllocError>
+    requires { moment < MOMENT_LIMIT }
+    ensures { IfOk result (λ text. string_bytes text ≡ text_for_plan plan.now moment) }
+{
+    let mut text = String::new(alloc);
+    write_head(&mut text, plan.station(), moment)?;
+    write_peers(&mut text, plan.peers())?;
+    write_hops(&mut text, plan.hops(), moment)?;
+    write_routes(&mut text, plan.routes())?;
+    Ok(text)
+}
+
+/// Adds the moment and the station.
+fn write_head(text: &mut String, station: u16, moment: u64) -> Result<(), AllocError>
+    requires { moment < MOMENT_LIMIT }
+    ensures { OnOk result (string_bytes text.new ≡ string_bytes text.old ++ at_line moment ++ station_line station) }
+{
+    writeln!(text, "at {} {moment}", Utc::of(moment))?;
+    writeln!(text, "station {station}")?;
+    Ok(())
+}
+
+/// Adds the peers' lines.
+fn write_peers(text: &mut String, peers: &[Neighbour]) -> Result<(), AllocError>
+    ensures { OnOk result (string_bytes text.new ≡ string_bytes text.old ++ peers_text peers.now) }
+{
+    let mut number: u64 = 0;
+    for peer in peers {
+        number += 1;
+        write_peer(text, number, peer)?;
+    }
+    Ok(())
+}
+
+/// Adds a peer's line.
+fn write_peer(text: &mut String, number: u64, peer: &Neighbour) -> Result<(), AllocError>
+    ensures { OnOk result (string_bytes text.new ≡ string_bytes text.old ++ peer_line (number, peer.now)) }
+{
+    write!(text, "peer {number}")?;
+    write_neighbour(text, peer)
+}
+
+/// Adds what a line tells of a neighbour.
+fn write_neighbour(text: &mut String, neighbour: &Neighbour) -> Result<(), AllocError>
+    ensures { OnOk result (string_bytes text.new ≡ string_bytes text.old ++ neighbour_text neighbour.now) }
+{
+    let station = neighbour.station;
+    let listen = neighbour.addresses.listen();
+    let remote = neighbour.addresses.remote();
+    write!(text, " station {station} listen {listen} remote {remote}")?;
+    if let Some(key) = &neighbour.key {
+        let path = key.path();
+        write!(text, " key {path}")?;
+    }
+    writeln!(text)?;
+    Ok(())
+}
+
+/// Adds the hops' lines.
+fn write_hops(text: &mut String, hops: &[Hop], moment: u64) -> Result<(), AllocError>
+    requires { moment < MOMENT_LIMIT }
+    ensures { OnOk result (string_bytes text.new ≡ string_bytes text.old ++ hops_text moment hops.now) }
+{
+    let mut number: u64 = 0;
+    for hop in hops {
+        number += 1;
+        write_hop(text, number, hop, moment)?;
+    }
+    Ok(())
+}
+
+/// Adds a hop's lines.
+fn write_hop(text: &mut String, number: u64, hop: &Hop, moment: u64) -> Result<(), AllocError>
+    requires { moment < MOMENT_LIMIT }
+    ensures { OnOk result (string_bytes text.new ≡ string_bytes text.old ++ hop_lines moment (number, hop.now)) }
+{
+    write_link(text, number, hop)?;
+    write_times(text, number, hop)?;
+    write_state(text, number, hop, moment)?;
+    Ok(())
+}
+
+/// Adds the neighbour that a hop leads to.
+fn write_link(text: &mut String, number: u64, hop: &Hop) -> Result<(), AllocError>
+    ensures { OnOk result (string_bytes text.new ≡ string_bytes text.old ++ hop_line (number, hop.now)) }
+{
+    write!(text, "hop {number}")?;
+    write_neighbour(text, &hop.neighbour)
+}
+
+/// Adds how long a hop's link is open in all, and the like.
+fn write_times(text: &mut String, number: u64, hop: &Hop) -> Result<(), AllocError>
+    ensures { OnOk result (string_bytes text.new ≡ string_bytes text.old ++ times_line (number, hop.now)) }
+{
+    let resend = hop.resend;
+    let contacts = hop.contact_count();
+    let open = hop.open_time();
+    writeln!(
+        text,
+        "hop {number} resend {resend} contacts {contacts} open {open}"
+    )?;
+    Ok(())
+}
+
+/// Adds whether a hop's link is open, and when that changes.
+fn write_state(text: &mut String, number: u64, hop: &Hop, moment: u64) -> Result<(), AllocError>
+    ensures { OnOk result (string_bytes text.new ≡ string_bytes text.old ++ state_line moment (number, hop.now)) }
+{
+    let state = state_text(hop.is_open(moment));
+    write!(text, "hop {number} contact {state}")?;
+    write_until(text, hop.next_change(moment))?;
+    writeln!(text)?;
+    Ok(())
+}
+
+/// Whether a link is open.
+fn state_text(is_open: bool) -> &'static str
+    ensures { result.now ≡ state_text is_open }
+{
+    if is_open { "open" } else { "closed" }
+}
+
+/// Adds when a link changes, if it does.
+fn write_until(text: &mut String, change: Option<u64>) -> Result<(), AllocError>
+    requires { IfSome change (λ moment. moment < MOMENT_LIMIT) }
+    ensures { OnOk result (string_bytes text.new ≡ string_bytes text.old ++ until_text change) }
+{
+    if let Some(moment) = change {
+        write!(text, " until {} {moment}", Utc::of(moment))?;
+    }
+    Ok(())
+}
+
+/// Adds the routes' lines.
+fn write_routes(text: &mut String, routes: &[Route]) -> Result<(), AllocError>
+    ensures { OnOk result (string_bytes text.new ≡ string_bytes text.old ++ routes_text routes.now) }
+{
+    for route in routes {
+        write_route(text, *route)?;
+    }
+    Ok(())
+}
+
+/// Adds a route's line.
+fn write_route(text: &mut String, route: Route) -> Result<(), AllocError>
+    ensures { OnOk result (string_bytes text.new ≡ string_bytes text.old ++ route_line route) }
+{
+    let destination = route.destination;
+    let hop = route.hop.0;
+    writeln!(text, "route {destination} hop {hop}")?;
+    Ok(())
+}
