@@ -116,7 +116,10 @@ fn a_plan_needs_its_keys(rt: HostRuntime) -> Result<(), Fail> {
 const REFUSED: [(&str, &str); 4] = [
     ("station = 7\n", "refused 50 plan\nrly: plan: at peer\n"),
     ("color = 7\n", "refused 54 plan\nrly: plan: at the top\n"),
-    ("station = \n", "refused 50 plan\nrly: plan: at line 1, column 11\n"),
+    (
+        "station = \n",
+        "refused 50 plan\nrly: plan: at line 1, column 11\n",
+    ),
     ("", "refused 50 plan\nrly: plan: at station\n"),
 ];
 

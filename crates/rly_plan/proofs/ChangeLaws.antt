@@ -105,11 +105,11 @@ change_is front (c ∷ cs) m kept =
               | inr after ↦ rw (behind_it c u (omega (arith, begun)) after) (rest.stays u after below)
             ] in
             rw (le-ltb m c.begin begun, lt-ltb m c.end inside)
-                (omega (arith, inside, rest.behind), closes ∙ ap not (sym here), λ u from below. stays u from below ∙ sym here)
+            (omega (arith, inside, rest.behind), closes ∙ ap not (sym here), λ u from below. stays u from below ∙ sym here)
         | inr after ↦
             let same : (u : ℕ) → m ≤ u → lies_in_any (c ∷ cs) u ≡ lies_in_any cs u = λ u from. rw (behind_it c u (omega (arith, begun)) (omega (arith, after))) in
             rw (le-ltb m c.begin begun, le-ltb m c.end after)
-                (same_change (lies_in_any (c ∷ cs)) (lies_in_any cs) m (change_after cs m) same (change_is c.end cs m kept.2))
+            (same_change (lies_in_any (c ∷ cs)) (lies_in_any cs) m (change_after cs m) same (change_is c.end cs m kept.2))
       ]
     ]
 

@@ -175,13 +175,7 @@ fn serve<'a>(alloc: Global) -> Result<Command<'a>, AllocError>
         SERVED,
     );
     let with_file = with_path(alloc, bare, "file", "FILE", MADE)?;
-    let with_plan = with_path(
-        alloc,
-        with_file,
-        "plan",
-        "PLAN",
-        PLAN,
-    )?;
+    let with_plan = with_path(alloc, with_file, "plan", "PLAN", PLAN)?;
     let with_turns = with_option(
         alloc,
         with_plan,
