@@ -44,7 +44,7 @@ worked_ended : (plan : ContactPlan) (window : ℕ) (w : Worker) (a : Endpoints) 
 worked_ended plan window (worker.Receiver peer) a old new there worked =
     if_there (peer_at plan peer) (λ n. n.addresses) a (Ended old new) there (IfSome_then (peer_at plan peer) worked (λ n did. ran_ended old new (worker.Receiver peer) _ did.3))
 worked_ended plan window (worker.Sender hop) a old new there worked =
-    if_there (next_hop_at plan hop) (λ n. n.addresses) a (Ended old new) there (IfSome_then (next_hop_at plan hop) worked (λ n did. ran_ended old new (worker.Sender hop) _ did.1))
+    if_there (next_hop_at plan hop) (λ n. n.addresses) a (Ended old new) there (IfSome_then (next_hop_at plan hop) worked (λ n did. ran_ended old new (worker.Sender hop) _ did.3))
 
 -- what it was handed last, by a clock that tells
 last_on : (left : Option ℕ) (log : Log (Worker × Point) Go) (before : List Handed) (h : Handed) → (left ≡ None → IsTrue (all_on (handed_of log)))

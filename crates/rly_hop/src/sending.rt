@@ -1,4 +1,4 @@
-ghost use Rattle.std.specs.Prelude.{◌≡◌, is_some, List, ℕ};
+ghost use Rattle.std.specs.Prelude.{◌≡◌, ◌-◌, is_some, List, ℕ};
 ghost use Rattle.std.specs.Option.{option_map};
 ghost use Rattle.rly_hop.specs.Payloads.{out_action_bytes, out_event_bytes};
 ghost use Rattle.rly_hop.specs.Sending.{after_custody, after_release, is_unsure, sender, sending_step, turn};
@@ -78,6 +78,20 @@ impl Sending {
         ensures { result ≡ is_some self.now.acked }
     {
         self.acked.is_some()
+    }
+
+    /// The number that the next datagram goes into flight under.
+    pub fn next(&self) -> u64
+        ensures { result ≡ self.now.next }
+    {
+        self.next
+    }
+
+    /// How many datagrams may be in flight beside those that are.
+    pub fn room(&self) -> u64
+        ensures { result ≡ self.now.window - (self.now.next - self.now.first) }
+    {
+        self.window.saturating_sub(self.next - self.first)
     }
 
     /// The call that a turn names, if it names one.

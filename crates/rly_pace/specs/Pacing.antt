@@ -5,7 +5,7 @@ use Rattle.rly_pace.specs.declared.timer.Timer.{Timer}
 use Rattle.rly_pace.specs.declared.congestion.Congestion.{Congestion}
 use Rattle.rly_pace.specs.Timers.{first_timer, is_due, timer_on_closed, timer_on_covered, timer_on_opened, timer_on_sent}
 use Rattle.rly_pace.specs.Timers.{timer_on_timeout, timer_on_window}
-use Rattle.rly_pace.specs.Windows.{begun, collapsed, grown, has_room}
+use Rattle.rly_pace.specs.Windows.{begun, collapsed, grown, room}
 
 -- whether a contact is open, what is on the way, and the timer and the congestion window that go by it
 pub record Pacer : Type 0 where
@@ -95,6 +95,6 @@ on_window p first next = record p {
   timer = timer_on_window p.timer (max p.flight.highest (next - 1));
 }
 
--- whether a turn may be given to the core as one with its contact open
-abbrev pub may_send : Pacer → Bool
-may_send p = p.is_open && has_room p.congestion p.flight
+-- how many further numbers may go on their way now: none while the contact is closed
+abbrev pub open_room : Pacer → ℕ
+open_room p = if p.is_open then room p.congestion p.flight else 0

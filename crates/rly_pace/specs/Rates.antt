@@ -1,5 +1,5 @@
 -- The rate of a hop: a token bucket (RFC 2697, section 3, has one bucket like it; the burst is this project's).
-use Rattle.std.specs.Prelude.{ℕ, ◌+◌, ◌-◌, ◌*◌, nat_le, Bool, if◌then◌else◌, max, min, List, [], ◌∷◌}
+use Rattle.std.specs.Prelude.{ℕ, ◌+◌, ◌-◌, ◌*◌, ◌/◌, nat_le, Bool, if◌then◌else◌, max, min, List, [], ◌∷◌}
 use Rattle.rly_pace.specs.declared.rate.Bucket.{Bucket}
 
 -- What a message takes, in millionths of a byte: its bytes, and 28 for the headers of IP and UDP. At a rate of bytes a second
@@ -27,6 +27,10 @@ refilled b at = record b { credit = min (b.credit + b.rate * (at - b.mark)) (bur
 -- whether a message of this many bytes may go out at a moment
 abbrev pub may_take : Bucket → ℕ → ℕ → Bool
 may_take b bytes at = nat_le (cost bytes) (refilled b at).credit
+
+-- how many of the longest messages may go out at a moment
+abbrev pub room_at : Bucket → ℕ → ℕ
+room_at b at = (refilled b at).credit / cost b.longest
 
 -- a message is to go out at a moment: what that leaves
 abbrev pub on_take : Bucket → ℕ → ℕ → Bucket

@@ -32,9 +32,7 @@ collapsed c flight = record c {
   recover = flight.highest;
 }
 
--- Whether a further number may go on its way. While a number that was sent before the last Timeout isn't covered, only the first
+-- How many further numbers may go on their way. While a number that was sent before the last Timeout isn't covered, only the first
 -- number that isn't covered may (RFC 6582, section 3.2, sends one for each acknowledgment that leaves some uncovered).
-abbrev pub has_room : Congestion → Flight → Bool
-has_room c flight =
-    if nat_lt flight.covered c.recover then nat_le flight.reached flight.covered
-    else nat_lt (flight.reached - flight.covered) c.allowed
+abbrev pub room : Congestion → Flight → ℕ
+room c flight = (if nat_lt flight.covered c.recover then 1 else c.allowed) - (flight.reached - flight.covered)

@@ -1,5 +1,5 @@
 ghost use Rattle.std.specs.Prelude.{◌≡◌, ◌-◌};
-ghost use Rattle.rly_pace.specs.Windows.{begun, collapsed, grown, grown_once, has_room};
+ghost use Rattle.rly_pace.specs.Windows.{begun, collapsed, grown, grown_once, room};
 
 use crate::flight::Flight;
 
@@ -71,14 +71,15 @@ impl Congestion {
         self.recover = flight.highest;
     }
 
-    /// Whether a further number may go on its way.
-    pub(crate) fn has_room(&self, flight: Flight) -> bool
-        ensures { result ≡ has_room self.now flight }
+    /// How many further numbers may go on their way.
+    pub(crate) fn room(&self, flight: Flight) -> u64
+        ensures { result ≡ room self.now flight }
     {
-        if flight.covered < self.recover {
-            flight.reached <= flight.covered
+        let most = if flight.covered < self.recover {
+            1
         } else {
-            flight.reached.saturating_sub(flight.covered) < self.allowed
-        }
+            self.allowed
+        };
+        most.saturating_sub(flight.reached.saturating_sub(flight.covered))
     }
 }

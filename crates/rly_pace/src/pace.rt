@@ -1,5 +1,5 @@
 ghost use Rattle.std.specs.Prelude.{◌≡◌};
-ghost use Rattle.rly_pace.specs.Pacing.{Pacer, first_pacer, is_opening, is_timeout, may_send, on_contact, on_covered, on_sent, on_time, on_window};
+ghost use Rattle.rly_pace.specs.Pacing.{Pacer, first_pacer, is_opening, is_timeout, on_contact, on_covered, on_sent, on_time, on_window, open_room};
 
 use crate::congestion::Congestion;
 use crate::flight::Flight;
@@ -78,11 +78,16 @@ impl Pace {
         true
     }
 
-    /// Whether a turn may be given to the core as one with its contact open: then what it fetches or picks may go out at once.
-    pub fn may_send(&self) -> bool
-        ensures { result ≡ may_send self.now }
+    /// How many further numbers may go on their way now. Where some may, a turn may be given to the core as one with its contact open,
+    /// and so many that it fetches or picks may go out at once. None may while the contact is closed.
+    pub fn room(&self) -> u64
+        ensures { result ≡ open_room self.now }
     {
-        self.is_open && self.congestion.has_room(self.flight)
+        if self.is_open {
+            self.congestion.room(self.flight)
+        } else {
+            0
+        }
     }
 
     /// The core has named the sending of a number, whatever became of the packet.

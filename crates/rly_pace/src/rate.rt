@@ -1,5 +1,5 @@
 ghost use Rattle.std.specs.Prelude.{◌≡◌, ℕ, ◌+◌, ◌-◌, ◌*◌, ◌≤◌, List, ◌∷◌, max};
-ghost use Rattle.rly_pace.specs.Rates.{Sending, burst, cost, first_bucket, latest, may_take, on_take, refilled, spent};
+ghost use Rattle.rly_pace.specs.Rates.{Sending, burst, cost, first_bucket, latest, may_take, on_take, refilled, room_at, spent};
 ghost use Rattle.rly_pace.specs.declared.rate.Bucket.{Bucket};
 
 use std::marker::Model;
@@ -74,11 +74,11 @@ impl Rate {
         Rate { bucket }
     }
 
-    /// Whether the longest message may go out at this moment; then every message may, from now on until one is taken.
-    pub fn may_send(&self, at: u64) -> bool
-        ensures { result ≡ may_take self.now self.now.longest at }
+    /// How many of the longest messages may go out at this moment; then so many of any length may, now or later.
+    pub fn room(&self, at: u64) -> u64
+        ensures { result ≡ room_at self.now at }
     {
-        self.bucket.refilled(at).credit >= cost(self.bucket.longest)
+        self.bucket.refilled(at).credit / cost(self.bucket.longest)
     }
 
     /// Takes what a message of this many bytes needs, if it may go out at this moment, and answers whether it may.

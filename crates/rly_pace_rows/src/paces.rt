@@ -6,7 +6,7 @@ use std::rt::HostRuntime;
 /// A pace with the default `resend` and a window of 64, in an open contact.
 fn opened<R: Abort>(rt: &R) -> Pace {
     let mut pace = Pace::new(160, 64);
-    expect!(rt; !pace.may_send(), 1);
+    expect!(rt; pace.room() == 0, 1);
     expect!(rt; pace.contact(true), 2);
     expect!(rt; !pace.contact(true), 3);
     pace
@@ -64,33 +64,32 @@ fn contacts(rt: HostRuntime) {
     pace.sent(1, 1_000_000);
     expect!(rt; !pace.contact(false), 41);
     expect!(rt; !pace.timeout(90_000_000), 42);
-    expect!(rt; !pace.may_send(), 43);
+    expect!(rt; pace.room() == 0, 43);
     expect!(rt; pace.contact(true), 44);
     pace.sent(1, 90_000_000);
     expect!(rt; !pace.timeout(90_999_999), 45);
     expect!(rt; pace.timeout(91_000_000), 46);
 }
 
-/// Sends the numbers from `from` on for as long as it may, up to `to`, and answers the first that it may not.
-fn fill(pace: &mut Pace, from: u64, to: u64, at: u64) -> u64 {
-    for number in from..to {
-        if !pace.may_send() {
-            return number;
-        }
+/// Sends as many numbers as it may, from `from` on, and answers the first that it may not.
+fn fill(pace: &mut Pace, from: u64, at: u64) -> u64 {
+    let next = from.saturating_add(pace.room());
+    for number in from..next {
         pace.sent(number, at);
     }
-    to
+    next
 }
 
 /// Ten at the start; five covered make fifteen. After a Timeout one, and only the first that isn't covered.
 #[test]
 fn windows(rt: HostRuntime) {
     let mut pace = opened(&rt);
-    expect!(rt; fill(&mut pace, 1, 100, 0) == 11, 50);
+    expect!(rt; fill(&mut pace, 1, 0) == 11, 50);
+    expect!(rt; pace.room() == 0, 55);
     pace.covered(5, 600_000);
-    expect!(rt; fill(&mut pace, 11, 100, 600_000) == 21, 51);
+    expect!(rt; fill(&mut pace, 11, 600_000) == 21, 51);
     expect!(rt; pace.timeout(2_400_000), 52);
-    expect!(rt; fill(&mut pace, 6, 100, 2_400_000) == 7, 53);
+    expect!(rt; fill(&mut pace, 6, 2_400_000) == 7, 53);
     pace.covered(8, 3_000_000);
-    expect!(rt; fill(&mut pace, 9, 100, 3_000_000) == 10, 54);
+    expect!(rt; fill(&mut pace, 9, 3_000_000) == 10, 54);
 }

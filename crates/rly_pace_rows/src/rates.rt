@@ -6,10 +6,12 @@ use std::rt::HostRuntime;
 #[test]
 fn slow_link(rt: HostRuntime) {
     let mut rate = Rate::new(1_200, 1_218, 0);
+    expect!(rt; rate.room(0) == 2, 7);
     expect!(rt; rate.take(1_218, 0), 1);
-    expect!(rt; rate.may_send(0), 2);
+    expect!(rt; rate.room(0) == 1, 2);
     expect!(rt; rate.take(1_218, 0), 3);
-    expect!(rt; !rate.may_send(1_038_333), 4);
+    expect!(rt; rate.room(1_038_333) == 0, 4);
+    expect!(rt; rate.room(1_038_334) == 1, 8);
     expect!(rt; !rate.take(1_218, 1_038_333), 5);
     expect!(rt; rate.take(1_218, 1_038_334), 6);
 }

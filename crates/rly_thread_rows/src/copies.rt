@@ -14,18 +14,20 @@ use std::sync::Wait;
 /// Station 9 at the far end of a link. It takes Data in order, and answers each one with a Custody of what it has.
 #[derive(Drop)]
 struct Far {
-    /// How many receives after a Data went out its answer comes.
+    /// How many turns after a Data went out its answer comes.
     way: u64,
     /// Which Data that goes out is lost, counted from 1: none where it is 0.
     lost: usize,
-    /// What comes where no answer does.
+    /// What comes in each turn beside the answers.
     stray: Option<&'static [u8]>,
     /// The last number that it has.
     last: u64,
-    /// How many receives there were, and how many of them waited.
-    receives: u64,
+    /// The turn, counted from 1, and how many packets came in it. A turn's receives end where nothing comes.
+    turn: u64,
+    came: u64,
+    /// How many receives waited.
     waits: u64,
-    /// In which receive which Custody comes.
+    /// In which turn which Custody comes.
     answers: Vec<(u64, u64)>,
     /// The numbers that went out, in order.
     numbers: Vec<u64>,
@@ -41,28 +43,51 @@ impl Far {
         if number == self.last.saturating_add(1) {
             self.last = number;
         }
-        let due = self.receives.saturating_add(self.way);
+        // The receives of this turn are over.
+        let due = self.turn.saturating_sub(1).saturating_add(self.way);
         let _kept = self.answers.push((due, self.last));
     }
 
-    /// The number of the Custody that comes in this receive.
+    /// The numbers of the Custodies of this turn, one after the other.
     fn answer(&self) -> Option<u64> {
-        for (receive, last) in &self.answers {
-            if *receive == self.receives {
-                return Some(*last);
+        let mut left = self.came;
+        for (turn, last) in &self.answers {
+            if *turn == self.turn {
+                if left == 0 {
+                    return Some(*last);
+                }
+                left -= 1;
             }
         }
         None
     }
 
-    /// What comes in the next receive.
+    /// How many Custodies come in this turn.
+    fn answer_count(&self) -> u64 {
+        let mut count = 0u64;
+        for (turn, _last) in &self.answers {
+            if *turn == self.turn {
+                count = count.saturating_add(1);
+            }
+        }
+        count
+    }
+
+    /// What comes in the next receive: the answers of this turn, then the stray packet, then nothing.
     fn receive(&mut self, buffer: &mut [u8]) -> Option<usize>
         ensures bound { IfSome result (λ count. count ≤ length buffer.new) }
     {
-        self.receives = self.receives.saturating_add(1);
-        match self.answer() {
-            Some(last) => custody_in(last, buffer),
-            None => copied(self.stray?, buffer),
+        let answer = self.answer();
+        let is_stray = self.came == self.answer_count();
+        self.came = self.came.saturating_add(1);
+        match (answer, self.stray) {
+            (Some(last), _) => custody_in(last, buffer),
+            (None, Some(stray)) if is_stray => copied(stray, buffer),
+            (None, _) => {
+                self.turn = self.turn.saturating_add(1);
+                self.came = 0;
+                None
+            }
         }
     }
 }
@@ -154,7 +179,8 @@ fn hand_over<R: Abort + Wait>(
         lost,
         stray,
         last: 0,
-        receives: 0,
+        turn: 1,
+        came: 0,
         waits: 0,
         answers: Vec::new(alloc),
         numbers: Vec::new(alloc),
@@ -164,7 +190,7 @@ fn hand_over<R: Abort + Wait>(
         desk: MemDesk::new(alloc, machine),
         turn: MemTurn::new(1_000, way.step, 1_500),
     };
-    sender_run(rt, &plan(rt, alloc), HopId(1), way.window, &mut ends);
+    sender_run(rt, alloc, &plan(rt, alloc), HopId(1), way.window, &mut ends);
     expect_counts_of(rt, &ends.desk, HopId(1), (0, 0, way.datagrams));
     ends
 }
@@ -177,7 +203,7 @@ const STRAYS: [&[u8]; 3] = [
 ];
 
 /// Checks that each datagram goes out so many times before the next one does, and that this is so and as many receives wait
-/// where a stray packet comes in each receive that has no answer.
+/// where a stray packet comes in each turn.
 fn expect_copies<R: Abort + Wait>(rt: &R, alloc: Global, way: &Way, copies: u64) {
     let alone = hand_over(rt, alloc, way, 0, None);
     let mut numbers = alone.link.numbers.iter();

@@ -33,6 +33,8 @@ mod overlap;
 #[cfg(test)]
 mod receivers;
 #[cfg(test)]
+mod refusals;
+#[cfg(test)]
 mod senders;
 #[cfg(test)]
 mod unsure;

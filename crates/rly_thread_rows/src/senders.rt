@@ -1,7 +1,7 @@
 //! A sending worker.
 
 use crate::workers::{MemEnds, expect_counts, expect_sent, link_with, plan, spool_with, take};
-use rly_core::HopId;
+use rly_core::{HopId, Params};
 use rly_machine::{Machine, Payload};
 use rly_threads::{Ends, MemDesk, MemLink, MemTurn, sender_run};
 use std::alloc::Global;
@@ -30,7 +30,7 @@ fn send_from<R: Abort + Wait>(
         desk: MemDesk::new(alloc, machine),
         turn,
     };
-    sender_run(rt, &plan(rt, alloc), HopId(1), window, &mut ends);
+    sender_run(rt, alloc, &plan(rt, alloc), HopId(1), window, &mut ends);
     ends
 }
 
@@ -42,6 +42,19 @@ pub(super) fn send<R: Abort + Wait>(
     turn: MemTurn,
 ) -> MemEnds {
     send_from(rt, alloc, spool_with(rt, alloc, 8, 1), 1, link, turn)
+}
+
+/// A spool where so many datagrams wait for hop 1, of which 64 may be in flight.
+pub(super) fn queue_of<R: Abort>(rt: &R, alloc: Global, datagrams: u64) -> Machine<Payload> {
+    let params = Params {
+        window: 64,
+        ..Params::DEFAULT
+    };
+    let mut machine = Machine::new(alloc, params).expect(rt, "memory");
+    for number in 1..=datagrams {
+        take(rt, alloc, &mut machine, 1, number);
+    }
+    machine
 }
 
 /// A link that gives the custody in these of 64 receives.
@@ -126,15 +139,16 @@ fn data_is_sent_again(rt: HostRuntime) {
     }
 }
 
-/// How many receives of the longest of those runs there are.
-const RECEIVES: usize = 403;
+/// How many turns the longest of those runs has.
+const TURNS_AT_MOST: usize = 403;
 
-/// A link that gives this packet in each receive.
+/// A link that gives this packet once in each turn.
 fn flood<R: Abort>(rt: &R, alloc: Global, packet: &[u8]) -> MemLink {
     let mut coming = Vec::new(alloc);
-    for _receive in 0..RECEIVES {
+    for _turn in 0..TURNS_AT_MOST {
         let given = Some(packet.to_vec(alloc).expect(rt, "memory"));
         coming.push(given).expect(rt, "memory");
+        coming.push(None).expect(rt, "memory");
     }
     MemLink::new(alloc, coming, 0)
 }
@@ -162,8 +176,36 @@ fn strays_draw_nothing(rt: HostRuntime) {
     }
 }
 
-/// After so many turns of 50 ms, how many packets were sent of two datagrams, of which both may be in flight.
-const MOVING: [(u64, usize); 4] = [(4, 1), (5, 2), (6, 2), (7, 3)];
+/// After so many turns, how many calls of its link were made, and how many datagrams are in flight and were released, where 70 copies
+/// of a custody come from the fourth turn on. Before it the link was asked three times and sent one datagram. The fourth turn hears
+/// 64 of the copies, the fifth the other six and then nothing.
+const COPIES: [(u64, u64, u64, u64); 4] = [
+    (3, 4, 1, 0),
+    (4, 68, 0, 1),
+    (5, 75, 0, 1),
+    (6, 76, 0, 1),
+];
+
+/// A turn hears what the link has, 64 packets at most, and makes one release for them.
+#[test]
+fn a_turn_hears_64_packets(rt: HostRuntime) {
+    let alloc = rt.alloc();
+    let mut places = Vec::new(alloc);
+    for place in 3..73 {
+        places.push(place).expect(&rt, "memory");
+    }
+    for (turns, calls, flight, released) in &COPIES {
+        let link = link_with(&rt, alloc, 73, &places, CUSTODY, 0);
+        let ends = send(&rt, alloc, link, MemTurn::new(1_000, 1, *turns));
+        expect!(rt; ends.link.calls() == *calls);
+        expect!(rt; ends.desk.calls() == *turns);
+        expect_counts(&rt, &ends, 0, *flight, *released);
+    }
+}
+
+/// After so many turns of 50 ms, how many packets were sent of two datagrams, of which both may be in flight. The seventh turn sends
+/// both again, together.
+const MOVING: [(u64, usize); 4] = [(4, 1), (5, 2), (6, 2), (7, 4)];
 
 /// While datagrams move there is no timeout, though more than 40 ms go by from turn to turn.
 #[test]
@@ -174,6 +216,81 @@ fn no_timeout_comes_while_datagrams_move(rt: HostRuntime) {
         take(&rt, alloc, &mut machine, 1, 2);
         let turn = MemTurn::new(1_000, 50_000, *turns);
         let ends = send_from(&rt, alloc, machine, 2, silence(&rt, alloc), turn);
+        expect!(rt; ends.link.delivered().len() == *sent);
+    }
+}
+
+/// After so many turns, how many calls were made and how many packets were sent of 70 datagrams, of which 64 may be in flight. The
+/// first turn asks for the window. Then Picks and the Fetches of what they picked take turns: 1, 2, 4, 8, 16 and 32 of each, and 1 as
+/// soon as 63 are in flight.
+const WINDOW: [(u64, u64, usize); 12] = [
+    (1, 1, 0),
+    (2, 2, 0),
+    (3, 3, 1),
+    (4, 5, 1),
+    (5, 7, 3),
+    (6, 11, 3),
+    (7, 15, 7),
+    (13, 127, 63),
+    (14, 128, 63),
+    (15, 129, 64),
+    (16, 129, 64),
+    (40, 129, 64),
+];
+
+/// A long queue is asked for by ever more Picks together, and what they picked goes out together.
+#[test]
+fn a_window_goes_out_in_batches(rt: HostRuntime) {
+    let alloc = rt.alloc();
+    for (turns, calls, sent) in &WINDOW {
+        let turn = MemTurn::new(1_000, 1, *turns);
+        let machine = queue_of(&rt, alloc, 70);
+        let ends = send_from(&rt, alloc, machine, 64, silence(&rt, alloc), turn);
+        expect!(rt; ends.desk.calls() == *calls);
+        expect!(rt; ends.link.delivered().len() == *sent);
+        let flight = (*calls).saturating_sub(1).saturating_sub(*sent as u64);
+        expect_counts(&rt, &ends, 70u64.saturating_sub(flight), flight, 0);
+    }
+}
+
+/// After so many turns, how many calls were made and how many packets were sent of two datagrams, of which 64 may be in flight. Of the
+/// two Picks of the fourth turn one finds nothing, so that one is made a turn from there on.
+const IDLE: [(u64, u64, usize); 6] = [
+    (3, 3, 1),
+    (4, 5, 1),
+    (5, 6, 2),
+    (6, 7, 2),
+    (7, 8, 2),
+    (20, 21, 2),
+];
+
+/// A hop for which nothing waits is asked for by one Pick a turn.
+#[test]
+fn an_idle_hop_makes_one_pick_a_turn(rt: HostRuntime) {
+    let alloc = rt.alloc();
+    for (turns, calls, sent) in &IDLE {
+        let turn = MemTurn::new(1_000, 1, *turns);
+        let machine = queue_of(&rt, alloc, 2);
+        let ends = send_from(&rt, alloc, machine, 64, silence(&rt, alloc), turn);
+        expect!(rt; ends.desk.calls() == *calls);
+        expect!(rt; ends.link.delivered().len() == *sent);
+        // The first turn waits, and so does each one after a turn whose Pick found nothing.
+        expect!(rt; ends.link.waits() == 1 + (*turns).saturating_sub(6));
+    }
+}
+
+/// After so many turns of 10 ms, how many packets were sent of seven datagrams. The seventh turn sends the last four of them. Four
+/// turns later all seven go out again, together, and again four turns later.
+const AGAIN: [(u64, usize); 6] = [(7, 7), (8, 7), (10, 7), (11, 14), (14, 14), (15, 21)];
+
+/// A window that isn't acknowledged goes out again in one turn, once for each `resend`.
+#[test]
+fn a_window_goes_out_again(rt: HostRuntime) {
+    let alloc = rt.alloc();
+    for (turns, sent) in &AGAIN {
+        let turn = MemTurn::new(1_000, 10_000, *turns);
+        let machine = queue_of(&rt, alloc, 7);
+        let ends = send_from(&rt, alloc, machine, 7, silence(&rt, alloc), turn);
         expect!(rt; ends.link.delivered().len() == *sent);
     }
 }

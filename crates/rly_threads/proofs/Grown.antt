@@ -2,16 +2,15 @@
 use Rattle.std.proofs.Common.{◌≡◌, ◌∙◌, ℕ, List, [], ◌∷◌, ◌++◌, not, Bool, true, false, refl, ap, sym, subst}
 use Rattle.std.specs.Prelude.{Option, Some, None, Err}
 use Rattle.std.proofs.lemmas.List.{append-nil, append_assoc}
-use Rattle.rly_line.specs.declared.call_error.CallError.TheVariants.{Lost}
-use Rattle.rly_machine.specs.declared.command.Ask.{Ask}
+use Rattle.rly_line.specs.declared.call_error.BatchError.TheVariants.{Lost}
 use Rattle.rly_threads.specs.declared.turn.Go.{Go}
 use Rattle.rly_threads.specs.declared.turn.Point.TheVariants.{Heard, Start}
 use Rattle.rly_threads.specs.declared.turn.Worker.{Worker}
-use Rattle.rly_threads.specs.Asking.{CallOutcome, call_asked}
-use Rattle.rly_threads.specs.Ends.{TellsMore, hearing}
+use Rattle.rly_threads.specs.Asking.{Asked}
+use Rattle.rly_threads.specs.Ends.{TellsMore}
 use Rattle.rly_threads.specs.HelpersTurns.{Did}
 use Rattle.rly_threads.specs.Runs.{EndsView}
-use Rattle.rly_threads.specs.Turns.{Done, Given, Made, Handed, done_in, done_both, nothing_done, with_hearing, with_start}
+use Rattle.rly_threads.specs.Turns.{Done, Made, Handed, done_in, done_both, hearings_from, nothing_done, receives_of, with_hearings, with_start}
 
 pub tells_nothing : {A : Type 0} (told : Option (List A)) → TellsMore told told []
 tells_nothing None = tt
@@ -25,7 +24,7 @@ tells_more (Some told) mid new a b x y = (subst (λ m. TellsMore m new b) x y) �
 abbrev pub nowhere : Go
 nowhere = record { now = 0; since = 0; on = false }
 
--- a worker made no call
+-- a worker made no calls
 abbrev pub no_call : Made
 no_call = record { outcome = Err Lost; before = nowhere; after = nowhere }
 
@@ -38,29 +37,29 @@ did_nothing told c = record {
   handed = tells_nothing told.handed;
 }
 
--- a call was made, and what was named then was sent
-pub did_ask : {C : Type 0} (old mid new : EndsView) (c d : C) (ask : Ask) (outcome : CallOutcome) (packets : List (List ℕ)) (handed : List Handed)
-    → c ≡ d → TellsMore old.asked mid.asked (call_asked ask outcome ∷ []) → TellsMore old.handed mid.handed handed
+-- calls were made together, and what was named then was sent
+pub did_ask : {C : Type 0} (old mid new : EndsView) (c d : C) (calls : Asked) (packets : List (List ℕ)) (handed : List Handed)
+    → c ≡ d → TellsMore old.asked mid.asked (calls ∷ []) → TellsMore old.handed mid.handed handed
     → mid ≡ record old { asked = mid.asked; handed = mid.handed } → TellsMore mid.sent new.sent packets → new ≡ record mid { sent = new.sent }
-    → Did old new c (record { core = d; heard = []; asked = call_asked ask outcome ∷ []; sent = packets; handed = handed })
-did_ask old mid new c d ask outcome packets handed left asked around quiet sent quiet_end = record {
+    → Did old new c (record { core = d; heard = []; asked = calls ∷ []; sent = packets; handed = handed })
+did_ask old mid new c d calls packets handed left asked around quiet sent quiet_end = record {
   left = left;
   heard = subst (λ h. TellsMore old.heard h []) (sym (ap (λ t. t.heard) quiet_end ∙ ap (λ t. t.heard) quiet)) (tells_nothing old.heard);
   sent = subst (λ s. TellsMore s new.sent packets) (ap (λ t. t.sent) quiet) sent;
-  asked = subst (λ a. TellsMore old.asked a (call_asked ask outcome ∷ [])) (sym (ap (λ t. t.asked) quiet_end)) asked;
+  asked = subst (λ a. TellsMore old.asked a (calls ∷ [])) (sym (ap (λ t. t.asked) quiet_end)) asked;
   handed = subst (λ h. TellsMore old.handed h handed) (sym (ap (λ t. t.handed) quiet_end)) around;
 }
 
--- before it the link was asked for a packet, and the turn's moment was handed out
-pub did_hear : {C : Type 0} (old mid new : EndsView) (c : C) (d : Done C) (worker : Worker) (waits : Bool) (given : Given)
-    → TellsMore old.heard mid.heard (hearing waits given.packet ∷ []) → TellsMore old.handed mid.handed ((worker, Heard, given.heard) ∷ [])
-    → mid ≡ record old { heard = mid.heard; handed = mid.handed } → Did mid new c d → Did old new c (with_hearing worker waits given d)
-did_hear old mid new c d worker waits given heard at quiet did = record {
+-- before it the link was asked for packets, and the turn's moment was handed out
+pub did_hear : {C : Type 0} (old mid new : EndsView) (c : C) (d : Done C) (worker : Worker) (waits : Bool) (packets : List (List ℕ)) (at : Go)
+    → TellsMore old.heard mid.heard (hearings_from waits (receives_of packets)) → TellsMore old.handed mid.handed ((worker, Heard, at) ∷ [])
+    → mid ≡ record old { heard = mid.heard; handed = mid.handed } → Did mid new c d → Did old new c (with_hearings worker waits packets at d)
+did_hear old mid new c d worker waits packets at heard moment quiet did = record {
   left = did.left;
-  heard = tells_more old.heard mid.heard new.heard (hearing waits given.packet ∷ []) d.heard heard did.heard;
+  heard = tells_more old.heard mid.heard new.heard (hearings_from waits (receives_of packets)) d.heard heard did.heard;
   sent = subst (λ s. TellsMore s new.sent d.sent) (ap (λ t. t.sent) quiet) did.sent;
   asked = subst (λ a. TellsMore a new.asked d.asked) (ap (λ t. t.asked) quiet) did.asked;
-  handed = tells_more old.handed mid.handed new.handed ((worker, Heard, given.heard) ∷ []) d.handed at did.handed;
+  handed = tells_more old.handed mid.handed new.handed ((worker, Heard, at) ∷ []) d.handed moment did.handed;
 }
 
 -- before it a worker was handed the start of a turn

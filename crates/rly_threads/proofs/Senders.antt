@@ -1,64 +1,454 @@
 -- A sending worker within a turn.
-use Rattle.std.proofs.Common.{◌≡◌, ◌∙◌, ◌||◌, ℕ, Bool, List, [], ◌∷◌, ap, false, not, subst}
-use Rattle.std.specs.Prelude.{Option, Some, None}
+use Rattle.std.proofs.Common.{◌≡◌, ◌∙◌, ◌<◌, ◌≤◌, ◌+◌, ◌-◌, ◌^◌, ◌++◌, ◌&&◌, ◌||◌, ℕ, Bool, List, [], ◌∷◌, ap, arith, false, inl, inr, length, map, not, refl, reverse, subst, suc, sym, true, zero}
+use Rattle.std.specs.Prelude.{◌==◌, ◌⊎◌, fold, min, nat_lt, take, ⊤, if◌then◌else◌, Option, Some, None, Ok, Err}
+use Rattle.std.proofs.lemmas.Bool.Decides.{nat_tests}
+use Rattle.std.specs.List.{cons_option, filter_map, list_any, range_with_len, zip}
+use Rattle.std.proofs.lemmas.List.{append-nil, append_assoc, length-append, map-append, take_all}
+use Rattle.std.proofs.lemmas.List.Elements.{filter_map-append}
+use Rattle.std.proofs.lemmas.List.Folds.{list_any-append}
+use Rattle.std.proofs.lemmas.Option.{none-some}
+use Rattle.std.proofs.lemmas.List.FromFn.{length-map-range_with_len, map-range_with_len_more}
 use Rattle.rly_hop.specs.declared.sending.event.OutAction.{OutAction}
+use Rattle.rly_hop.specs.declared.sending.event.OutAction.TheVariants as action
 use Rattle.rly_hop.specs.declared.sending.event.OutEvent.{OutEvent}
 use Rattle.rly_hop.specs.declared.sending.event.OutEvent.TheVariants.{Turn}
 use Rattle.rly_hop.specs.Sender.{Sender}
 use Rattle.rly_hop.specs.Sending.{sending_step}
+use Rattle.rly_hop.specs.SendingRuns.{sender_after}
+use Rattle.rly_line.specs.declared.call_error.BatchError.TheVariants as batch
+use Rattle.rly_line.specs.declared.call_error.CallError.TheVariants.{Closed, Lost}
+use Rattle.rly_machine.specs.declared.call.Answer.{Answer}
 use Rattle.rly_machine.specs.declared.command.Ask.{Ask}
 use Rattle.rly_plan.specs.ContactPlan.{is_open}
+use Rattle.rly_threads.specs.declared.turn.Go.{Go}
 use Rattle.rly_threads.specs.declared.turn.Point.TheVariants.{Heard}
 use Rattle.rly_threads.specs.declared.turn.Worker.TheVariants as worker
-use Rattle.rly_threads.specs.Asking.{call_asked}
+use Rattle.rly_threads.specs.Asking.{BatchOutcome, CallOutcome, call_asked}
 use Rattle.rly_threads.specs.Ends.{TellsMore, hearing}
-use Rattle.rly_threads.specs.Outlet.{Outlet, Pacing, is_progress, named_ask, outlet_done, outlet_event, outlet_on_action, outlet_on_answer, outlet_on_call, outlet_on_hearing, outlet_packets, paced, pacing, timed}
-use Rattle.rly_threads.specs.HelpersTurns.{Did}
+use Rattle.rly_threads.specs.Outlet.{Outlet, Pacing, call_at, call_count, calls_from, event_in, is_progress, named_ask, outlet_done, outlet_events, outlet_on_action, outlet_on_calls, outlet_on_packet, outlet_packets, outlet_sent, outlet_told, paced, pacing, picks_after, timed}
+use Rattle.rly_threads.specs.HelpersTurns.{Did, HasHeard, HasNumbers, HasTold, IsCall, call_event}
 use Rattle.rly_threads.specs.Runs.{EndsView}
-use Rattle.rly_threads.specs.Turns.{Given, Made, around_call, has_some, message_in}
-use Rattle.rly_threads.proofs.Grown.{did_ask, did_hear, did_nothing, no_call}
+use Rattle.rly_threads.specs.Turns.{Given, Made, around_call, has_some, hearings_from, receives_of}
+use Rattle.rly_threads.proofs.Grown.{did_ask, did_hear, tells_more, tells_nothing}
 
--- a call was made, and what was named on its answer was sent or held back
-pub asked : (w : Outlet) (old mid new : EndsView) (s : Sender) (left : Pacing) (made : Made) (mark : ℕ) (named : OutAction (List ℕ)) (ask : Ask)
-    (event : OutEvent (List ℕ)) (core : Sender) (action : Option (OutAction (List ℕ))) (in_contact progress went : Bool)
-    → event ≡ outlet_event named made.outcome → progress ≡ is_progress event → core ≡ (sending_step s event).0 → action ≡ (sending_step s event).1
-    → in_contact ≡ is_open w.plan w.hop made.after.now → went ≡ has_some (outlet_packets in_contact action)
-    → left ≡ paced core (progress || went) mark made.after.since
-    → TellsMore old.asked mid.asked (call_asked ask made.outcome ∷ []) → TellsMore old.handed mid.handed (around_call (worker.Sender w.hop) made)
-    → mid ≡ record old { asked = mid.asked; handed = mid.handed } → TellsMore mid.sent new.sent (outlet_packets in_contact action) → new ≡ record mid { sent = new.sent }
-    → Did old new left (outlet_on_answer w made mark ask (outlet_event named made.outcome) (sending_step s (outlet_event named made.outcome)))
-asked w old mid new s left made mark named ask event core action in_contact progress went told progressed after next opening gone pace made_call around quiet packets quiet_end =
-    let answer = outlet_event named made.outcome in
-    let step = sending_step s answer in
-    let out = outlet_packets (is_open w.plan w.hop made.after.now) step.1 in
-    let action_is : action ≡ step.1 = next ∙ ap (λ e. (sending_step s e).1) told in
-    let out_is : outlet_packets in_contact action ≡ out = λ i. outlet_packets (opening i) (action_is i) in
-    let core_is : core ≡ step.0 = after ∙ ap (λ e. (sending_step s e).0) told in
-    let progress_is : progress ≡ is_progress answer = progressed ∙ ap is_progress told in
-    let went_is : went ≡ has_some out = gone ∙ ap has_some out_is in
-    let left_is : left ≡ paced step.0 (is_progress answer || has_some out) mark made.after.since = pace ∙ (λ i. paced (core_is i) (progress_is i || went_is i) mark made.after.since) in
-    did_ask old mid new left _ ask made.outcome out (around_call (worker.Sender w.hop) made) left_is made_call around quiet (subst (TellsMore mid.sent new.sent) out_is packets) quiet_end
+-- a core that was told nothing
+pub told_none : (in_contact : Bool) (ends : EndsView) (s : Sender) (picks : ℕ) → HasTold in_contact ends ends s s picks picks false []
+told_none in_contact ends s picks = record {
+  core = refl;
+  counted = refl;
+  sent = tells_nothing ends.sent;
+  same = refl;
+  went = refl;
+}
 
--- the core named no call
-pub nothing_asked : (w : Outlet) (told : EndsView) (now mark : ℕ) (s : Sender) (named : OutAction (List ℕ)) → None ≡ named_ask w now named
-    → Did told told (pacing s false mark) (outlet_on_action w now no_call mark s (Some named))
-nothing_asked w told now mark s named none =
-    subst (λ ask. Did told told (pacing s false mark) (outlet_on_call w no_call mark s named ask)) none (did_nothing told (pacing s false mark))
+after_more : (s : Sender) (done : List (OutEvent (List ℕ))) (e : OutEvent (List ℕ)) → sender_after s (done ++ e ∷ []) ≡ (sending_step (sender_after s done) e).0
+after_more s [] e = refl
+after_more s (d ∷ done) e = after_more (sending_step s d).0 done e
+
+sent_more : (in_contact : Bool) (s : Sender) (done : List (OutEvent (List ℕ))) (e : OutEvent (List ℕ))
+    → outlet_sent in_contact s (done ++ e ∷ []) ≡ outlet_sent in_contact s done ++ outlet_packets in_contact (sending_step (sender_after s done) e).1
+sent_more in_contact s [] e = append-nil (outlet_packets in_contact (sending_step s e).1)
+sent_more in_contact s (d ∷ done) e =
+    let first = outlet_packets in_contact (sending_step s d).1 in
+    let next = (sending_step s d).0 in
+    ap (λ l. first ++ l) (sent_more in_contact next done e)
+    ∙ sym (append_assoc first (outlet_sent in_contact next done) (outlet_packets in_contact (sending_step (sender_after next done) e).1))
+
+picks_more : (picks : ℕ) (done : List (OutEvent (List ℕ))) (e : OutEvent (List ℕ)) → fold picks_after picks (done ++ e ∷ []) ≡ picks_after (fold picks_after picks done) e
+picks_more picks [] e = refl
+picks_more picks (d ∷ done) e = picks_more (picks_after picks d) done e
+
+some_append : {A : Type 0} (xs ys : List A) → has_some (xs ++ ys) ≡ (has_some xs || has_some ys)
+some_append [] ys = refl
+some_append (x ∷ xs) ys = refl
+
+-- one of four, in another order
+four : (a b c d : Bool) → ((a || b) || (c || d)) ≡ ((a || (c || false)) || (b || d))
+four true b c d = refl
+four false true true d = refl
+four false true false d = refl
+four false false true d = refl
+four false false false d = refl
+
+-- a core was told one more
+pub told_more : (in_contact : Bool) (old mid new : EndsView) (s t u : Sender) (picks more last : ℕ) (moved went after : Bool) (done : List (OutEvent (List ℕ))) (e : OutEvent (List ℕ))
+    → HasTold in_contact old mid s t picks more moved done
+    → u ≡ (sending_step t e).0 → last ≡ picks_after more e
+    → TellsMore mid.sent new.sent (outlet_packets in_contact (sending_step t e).1) → new ≡ record mid { sent = new.sent }
+    → went ≡ (is_progress e || has_some (outlet_packets in_contact (sending_step t e).1)) → after ≡ (moved || went)
+    → HasTold in_contact old new s u picks last after (done ++ e ∷ [])
+told_more in_contact old mid new s t u picks more last moved went after done e h core picked sent same goes whether =
+    let packets = λ (x : Sender). outlet_packets in_contact (sending_step x e).1 in
+    let sends = outlet_sent in_contact s done in
+    let out = packets (sender_after s done) in
+    let sent_is : TellsMore mid.sent new.sent out = subst (TellsMore mid.sent new.sent) (ap packets h.core) sent in
+    let went_is : went ≡ (is_progress e || has_some out) = goes ∙ ap (λ x. is_progress e || has_some (packets x)) h.core in
+    record {
+      core = core ∙ ap (λ x. (sending_step x e).0) h.core ∙ sym (after_more s done e);
+      counted = picked ∙ ap (λ n. picks_after n e) h.counted ∙ sym (picks_more picks done e);
+      sent = subst (TellsMore old.sent new.sent) (sym (sent_more in_contact s done e)) (tells_more old.sent mid.sent new.sent sends out h.sent sent_is);
+      same = same ∙ (λ i. record (h.same i) { sent = new.sent });
+      went =
+          whether ∙ (λ i. h.went i || went_is i) ∙ four (list_any is_progress done) (has_some sends) (is_progress e) (has_some out)
+          ∙ (λ i. sym (list_any-append is_progress done (e ∷ [])) i || sym (some_append sends out) i)
+          ∙ ap (λ l. list_any is_progress (done ++ e ∷ []) || has_some l) (sym (sent_more in_contact s done e));
+    }
+
+zip_more : {A B : Type 0} (xs : List A) (ys : List B) (x : A) (y : B) → length ys ≡ length xs → zip (xs ++ x ∷ []) (ys ++ y ∷ []) ≡ zip xs ys ++ (x, y) ∷ []
+zip_more [] [] x y same = refl
+zip_more [] (z ∷ ys) x y same = absurd (omega (arith, same))
+zip_more (w ∷ xs) [] x y same = absurd (omega (arith, same))
+zip_more (w ∷ xs) (z ∷ ys) x y same = ap (λ l. (w, z) ∷ l) (zip_more xs ys x y (omega (arith, same)))
+
+-- one more call
+pub calls_more : (first : OutAction (List ℕ)) (count : ℕ) → calls_from first (count + 1) ≡ calls_from first count ++ call_at first count ∷ []
+calls_more first count = map-range_with_len_more (call_at first) 0 count count (omega arith)
+
+pub length_calls : (first : OutAction (List ℕ)) (count : ℕ) → length (calls_from first count) ≡ count
+length_calls first count = length-map-range_with_len (call_at first) 0 count
+
+-- one more answer
+pub events_more : (first : OutAction (List ℕ)) (count : ℕ) (answers : List Answer) (answer : Answer) → length answers ≡ count
+    → outlet_events (calls_from first (count + 1)) (Ok (answers ++ answer ∷ []))
+    ≡ outlet_events (calls_from first count) (Ok answers) ++ event_in (call_at first count) answer.reply ∷ []
+events_more first count answers answer each =
+    let told : (OutAction (List ℕ) × Answer) → OutEvent (List ℕ) = λ x. event_in x.0 x.1.reply in
+    let calls = calls_from first count in
+    let last = call_at first count in
+    ap (λ l. map told (zip l (answers ++ answer ∷ []))) (calls_more first count)
+    ∙ ap (map told) (zip_more calls answers last answer (each ∙ sym (length_calls first count)))
+    ∙ map-append told (zip calls answers) ((last, answer) ∷ [])
+
+-- so far: these were answered
+pub record Telling (first : OutAction (List ℕ)) (in_contact : Bool) (old now : EndsView) (before after : Sender) (picks more : ℕ) (moved : Bool) (all left : List Answer) (place : ℕ) : Type 0 where
+  pub done : List Answer
+  pub parts : all ≡ done ++ left
+  pub count : length done ≡ place
+  pub told : HasTold in_contact old now before after picks more moved (outlet_events (calls_from first place) (Ok done))
+
+pub telling_none : (first : OutAction (List ℕ)) (in_contact : Bool) (ends : EndsView) (s : Sender) (picks : ℕ) (all left : List Answer) → all ≡ left
+    → Telling first in_contact ends ends s s picks picks false all left 0
+telling_none first in_contact ends s picks all left same = record { done = []; parts = same; count = refl; told = told_none in_contact ends s picks }
+
+pub telling_more : (first : OutAction (List ℕ)) (in_contact : Bool) (old mid new : EndsView) (s t u : Sender) (picks more last : ℕ) (moved went after : Bool) (all left rest : List Answer) (place : ℕ)
+    (answer : Answer) (e : OutEvent (List ℕ))
+    → Telling first in_contact old mid s t picks more moved all left place → left ≡ answer ∷ rest → e ≡ event_in (call_at first place) answer.reply
+    → u ≡ (sending_step t e).0 → last ≡ picks_after more e
+    → TellsMore mid.sent new.sent (outlet_packets in_contact (sending_step t e).1) → new ≡ record mid { sent = new.sent }
+    → went ≡ (is_progress e || has_some (outlet_packets in_contact (sending_step t e).1)) → after ≡ (moved || went)
+    → Telling first in_contact old new s u picks last after all rest (place + 1)
+telling_more first in_contact old mid new s t u picks more last moved went after all left rest place answer e h lefts is core picked sent same goes whether =
+    let told = told_more in_contact old mid new s t u picks more last moved went after (outlet_events (calls_from first place) (Ok h.done)) e h.told core picked sent same goes whether in
+    let events : outlet_events (calls_from first place) (Ok h.done) ++ e ∷ [] ≡ outlet_events (calls_from first (place + 1)) (Ok (h.done ++ answer ∷ [])) =
+    ap (λ x. outlet_events (calls_from first place) (Ok h.done) ++ x ∷ []) is ∙ sym (events_more first place h.done answer h.count) in
+    record {
+      done = h.done ++ answer ∷ [];
+      parts = h.parts ∙ ap (λ l. h.done ++ l) lefts ∙ sym (append_assoc h.done (answer ∷ []) rest);
+      count = omega (arith, length-append h.done (answer ∷ []), h.count);
+      told = subst (HasTold in_contact old new s u picks last after) events told;
+    }
+
+pub telling_all : (first : OutAction (List ℕ)) (in_contact : Bool) (old new : EndsView) (s t : Sender) (picks more : ℕ) (moved : Bool) (all left : List Answer) (place : ℕ)
+    → Telling first in_contact old new s t picks more moved all left place → left ≡ [] → place ≡ length all
+    → HasTold in_contact old new s t picks more moved (outlet_events (calls_from first (length all)) (Ok all))
+telling_all first in_contact old new s t picks more moved all left place h none end =
+    let whole : h.done ≡ all = sym (h.parts ∙ ap (λ l. h.done ++ l) none ∙ append-nil h.done) in
+    subst (HasTold in_contact old new s t picks more moved) (λ i. outlet_events (calls_from first (end i)) (Ok (whole i))) h.told
+
+-- what is asked by a call that is none but to be asked
+ask_at : (w : Outlet) (now : ℕ) (first : OutAction (List ℕ)) (place : ℕ) → IsCall first → (ask : Ask) × (named_ask w now (call_at first place) ≡ Some ask)
+ask_at w now action.AskWindow place is = (_, refl)
+ask_at w now (action.Release number) place is = (_, refl)
+ask_at w now (action.Fetch number) place is = (_, refl)
+ask_at w now action.Pick place is = (_, refl)
+ask_at w now (action.Send m) place is = absurd is
+
+cons_some : {A : Type 0} (x : Option A) (a : A) (xs : List A) → x ≡ Some a → length (cons_option x xs) ≡ suc (length xs)
+cons_some x a xs e = ap (λ y. length (cons_option y xs)) e
+
+each_asks : (w : Outlet) (now : ℕ) (first : OutAction (List ℕ)) (from count : ℕ) → IsCall first → length (filter_map (named_ask w now) (map (call_at first) (range_with_len from count))) ≡ count
+each_asks w now first from zero is = refl
+each_asks w now first from (suc count) is =
+    let one = ask_at w now first from is in
+    cons_some (named_ask w now (call_at first from)) one.0 (filter_map (named_ask w now) (map (call_at first) (range_with_len (from + 1) count))) one.1
+    ∙ ap suc (each_asks w now first (from + 1) count is)
+
+-- there is an ask for each call
+pub length_asks : (w : Outlet) (now : ℕ) (first : OutAction (List ℕ)) (count : ℕ) → IsCall first → length (filter_map (named_ask w now) (calls_from first count)) ≡ count
+length_asks w now first count is = each_asks w now first 0 count is
+
+-- one more is listed
+pub asks_more : (w : Outlet) (now : ℕ) (first : OutAction (List ℕ)) (count : ℕ)
+    → filter_map (named_ask w now) (calls_from first (count + 1)) ≡ filter_map (named_ask w now) (calls_from first count) ++ cons_option (named_ask w now (call_at first count)) []
+asks_more w now first count =
+    ap (filter_map (named_ask w now)) (calls_more first count) ∙ filter_map-append (named_ask w now) (calls_from first count) (call_at first count ∷ [])
+
+cons_few : {A : Type 0} (x : Option A) → length (cons_option x []) ≤ 1
+cons_few None = omega arith
+cons_few (Some a) = omega arith
+
+-- no more asks than calls
+pub few_asks : (w : Outlet) (now : ℕ) (first : OutAction (List ℕ)) (count : ℕ) → length (filter_map (named_ask w now) (calls_from first count)) ≤ count
+few_asks w now first zero = omega arith
+few_asks w now first (suc count) =
+    let some = filter_map (named_ask w now) (calls_from first count) in
+    let one = cons_option (named_ask w now (call_at first count)) [] in
+    let next : suc count ≡ count + 1 = omega arith in
+    omega (
+      arith,
+      ap (λ n. length (filter_map (named_ask w now) (calls_from first n))) next,
+      ap length (asks_more w now first count),
+      length-append some one,
+      cons_few (named_ask w now (call_at first count)),
+      few_asks w now first count,
+    )
+
+-- calls were made together, and what was named on their answers was sent or held back
+pub called : (w : Outlet) (old mid new : EndsView) (now : ℕ) (made : Made) (p left : Pacing) (calls : List (OutAction (List ℕ))) (asks : List Ask) (in_contact moved : Bool) (core : Sender) (picks : ℕ)
+    → 0 < length calls → asks ≡ filter_map (named_ask w now) calls
+    → TellsMore old.asked mid.asked ((asks, made.outcome) ∷ []) → TellsMore old.handed mid.handed (around_call (worker.Sender w.hop) made)
+    → mid ≡ record old { asked = mid.asked; handed = mid.handed } → in_contact ≡ is_open w.plan w.hop made.after.now
+    → HasTold in_contact mid new p.core core p.picks picks moved (outlet_events calls made.outcome)
+    → left ≡ paced core moved p.mark made.after.since picks
+    → Did old new left (outlet_on_calls w now made p calls)
+called w old mid new now made p left [] asks in_contact moved core picks some list asked around quiet opening told pace = absurd (omega (arith, some))
+called w old mid new now made p left (first ∷ others) asks in_contact moved core picks some list asked around quiet opening told pace =
+    let calls = first ∷ others in
+    let events = outlet_events calls made.outcome in
+    let t : HasTold (is_open w.plan w.hop made.after.now) mid new p.core core p.picks picks moved events =
+    subst (λ b. HasTold b mid new p.core core p.picks picks moved events) opening told in
+    let packets = outlet_sent (is_open w.plan w.hop made.after.now) p.core events in
+    let left_is : left ≡ outlet_told p events packets made.after.since = pace ∙ (λ i. paced (t.core i) (t.went i) p.mark made.after.since (t.counted i)) in
+    did_ask old mid new left (outlet_told p events packets made.after.since) (filter_map (named_ask w now) calls, made.outcome) packets (around_call (worker.Sender w.hop) made)
+    left_is (subst (λ l. TellsMore old.asked mid.asked ((l, made.outcome) ∷ [])) list asked) around quiet t.sent t.same
+
+-- what became of one call, as a batch of one
+abbrev pub one_outcome : CallOutcome → BatchOutcome
+one_outcome (Ok answer) = Ok (answer ∷ [])
+one_outcome (Err (Closed back)) = Err batch.Closed
+one_outcome (Err Lost) = Err batch.Lost
+
+pub one_asked : (ask : Ask) (outcome : CallOutcome) → call_asked ask outcome ≡ (ask ∷ [], one_outcome outcome)
+one_asked ask (Ok answer) = refl
+one_asked ask (Err (Closed back)) = refl
+one_asked ask (Err Lost) = refl
+
+one_event : (named : OutAction (List ℕ)) (outcome : CallOutcome) → outlet_events (named ∷ []) (one_outcome outcome) ≡ call_event named outcome ∷ []
+one_event named (Ok answer) = refl
+one_event named (Err (Closed back)) = refl
+one_event named (Err Lost) = refl
+
+-- the first call is the one that was named
+first_call : (named : OutAction (List ℕ)) → call_at named 0 ≡ named
+first_call action.AskWindow = refl
+first_call (action.Release number) = refl
+first_call (action.Fetch number) = ap action.Fetch (omega arith)
+first_call action.Pick = refl
+first_call (action.Send m) = refl
+
+one_call : (named : OutAction (List ℕ)) → calls_from named 1 ≡ named ∷ []
+one_call named = ap (λ x. x ∷ []) (first_call named)
+
+one_ask : (w : Outlet) (now : ℕ) (named : OutAction (List ℕ)) (ask : Ask) → Some ask ≡ named_ask w now named → ask ∷ [] ≡ filter_map (named_ask w now) (calls_from named 1)
+one_ask w now named ask is = ap (λ x. cons_option x []) is ∙ ap (filter_map (named_ask w now)) (sym (one_call named))
+
+-- one call was made
+pub called_one : (w : Outlet) (old mid new : EndsView) (now : ℕ) (before after : Go) (p left : Pacing) (named : OutAction (List ℕ)) (ask : Ask) (outcome : CallOutcome) (e : OutEvent (List ℕ)) (in_contact moved : Bool) (core : Sender) (picks : ℕ)
+    → Some ask ≡ named_ask w now named → TellsMore old.asked mid.asked (call_asked ask outcome ∷ [])
+    → TellsMore old.handed mid.handed (around_call (worker.Sender w.hop) (record { outcome = one_outcome outcome; before = before; after = after }))
+    → mid ≡ record old { asked = mid.asked; handed = mid.handed } → in_contact ≡ is_open w.plan w.hop after.now
+    → e ≡ call_event named outcome
+    → core ≡ (sending_step p.core e).0 → picks ≡ picks_after p.picks e
+    → TellsMore mid.sent new.sent (outlet_packets in_contact (sending_step p.core e).1) → new ≡ record mid { sent = new.sent }
+    → moved ≡ (is_progress e || has_some (outlet_packets in_contact (sending_step p.core e).1))
+    → left ≡ paced core moved p.mark after.since picks
+    → Did old new left (outlet_on_calls w now (record { outcome = one_outcome outcome; before = before; after = after }) p (calls_from named 1))
+called_one w old mid new now before after p left named ask outcome e in_contact moved core picks is asked around quiet opening event core_is picked sent same goes pace =
+    let made : Made = record { outcome = one_outcome outcome; before = before; after = after } in
+    let told = told_more in_contact mid mid new p.core p.core core p.picks p.picks picks false moved moved [] e (told_none in_contact mid p.core p.picks) core_is picked sent same goes refl in
+    let events : e ∷ [] ≡ outlet_events (calls_from named 1) made.outcome =
+    ap (λ x. x ∷ []) event ∙ sym (one_event named outcome) ∙ ap (λ l. outlet_events l made.outcome) (sym (one_call named)) in
+    called w old mid new now made p left (calls_from named 1) (ask ∷ []) in_contact moved core picks
+    (omega (arith, length_calls named 1)) (one_ask w now named ask is) (subst (λ x. TellsMore old.asked mid.asked (x ∷ [])) (one_asked ask outcome) asked) around quiet opening
+    (subst (HasTold in_contact mid new p.core core p.picks picks moved) events told) pace
+
+-- a call has something to ask
+pub call_asks : (w : Outlet) (now : ℕ) (named : OutAction (List ℕ)) → IsCall named → None ≡ named_ask w now named → ⊥
+call_asks w now named is none =
+    let one = ask_at w now named 0 is in
+    none-some one.0 (none ∙ ap (named_ask w now) (sym (first_call named)) ∙ one.1)
+
+-- several calls are 64 at most, and there is room for their answers
+pub several_fit : (most asks answers count : ℕ) → ((most ≡ 64) × (64 ≤ asks) × (64 ≤ answers)) ⊎ (most ≡ 1) → 1 < count → count ≤ most → (count ≤ 64) × (count ≤ answers)
+several_fit most asks answers count (inl room) several few = (omega (arith, room.0, few), omega (arith, room.0, room.2, few))
+several_fit most asks answers count (inr one) several few = absurd (omega (arith, one, several, few))
+
+-- the same under other names
+pub told_as : (in_contact : Bool) (old new end : EndsView) (s t u : Sender) (picks more last : ℕ) (moved went : Bool) (done told : List (OutEvent (List ℕ)))
+    → HasTold in_contact old new s t picks more moved done → end ≡ new → u ≡ t → last ≡ more → went ≡ moved → done ≡ told
+    → HasTold in_contact old end s u picks last went told
+told_as in_contact old new end s t u picks more last moved went done told h ends core picked goes is =
+    subst (λ x. HasTold in_contact old x s u picks last went told) (sym ends)
+    (subst (λ x. HasTold in_contact old new s x picks last went told) (sym core)
+    (subst (λ x. HasTold in_contact old new s t picks x went told) (sym picked)
+    (subst (λ x. HasTold in_contact old new s t picks more x told) (sym goes)
+    (subst (HasTold in_contact old new s t picks more moved) is h))))
+
+-- what is made at least once is a call
+pub counted_call : (most count : ℕ) (p : Pacing) (named : OutAction (List ℕ)) → count ≡ call_count most p named → 0 < count → IsCall named
+counted_call most count p action.AskWindow is some = tt
+counted_call most count p (action.Release number) is some = tt
+counted_call most count p (action.Fetch number) is some = tt
+counted_call most count p action.Pick is some = tt
+counted_call most count p (action.Send m) is some = absurd (omega (arith, is, some))
+
+-- several are made where several may be
+pub counted_few : (most count : ℕ) (p : Pacing) (named : OutAction (List ℕ)) → count ≡ call_count most p named → 1 < count → count ≤ most
+counted_few most count p action.AskWindow is several = absurd (omega (arith, is, several))
+counted_few most count p (action.Release number) is several = absurd (omega (arith, is, several))
+counted_few most count p (action.Fetch number) is several = omega (arith, is)
+counted_few most count p action.Pick is several = omega (arith, is)
+counted_few most count p (action.Send m) is several = absurd (omega (arith, is, several))
+
+-- fewer numbers are numbers too
+pub fewer_numbers : (named : OutAction (List ℕ)) (few many : ℕ) → HasNumbers named many → few ≤ many → HasNumbers named few
+fewer_numbers action.AskWindow few many has less = tt
+fewer_numbers (action.Release number) few many has less = tt
+fewer_numbers (action.Fetch number) few many has less = omega (arith, has, less)
+fewer_numbers action.Pick few many has less = tt
+fewer_numbers (action.Send m) few many has less = tt
+
+-- so far: these packets were heard
+pub record Hearing (waits : Bool) (old now : EndsView) (before after : Sender) (place : ℕ) : Type 0 where
+  pub packets : List (List ℕ)
+  pub count : length packets ≡ place
+  pub heard : TellsMore old.heard now.heard (hearings_from waits (map (λ packet. Some packet) packets))
+  pub same : now ≡ record old { heard = now.heard }
+  pub core : after ≡ fold outlet_on_packet before packets
+
+pub hearing_none : (waits : Bool) (told : EndsView) (s : Sender) → Hearing waits told told s s 0
+hearing_none waits told s = record { packets = []; count = refl; heard = tells_nothing told.heard; same = refl; core = refl }
+
+abbrev some_of : List (List ℕ) → List (Option (List ℕ))
+some_of packets = map (λ packet. Some packet) packets
+
+length_some : (packets : List (List ℕ)) → length (some_of packets) ≡ length packets
+length_some [] = refl
+length_some (p ∷ packets) = ap suc (length_some packets)
+
+is_later : (n : ℕ) → (suc n == 0) ≡ false
+is_later n = grind (arith, nat_tests)
+
+-- a receive after others doesn't wait
+pub later_waits : (place : ℕ) (waits : Bool) → false ≡ ((place + 1 == 0) && waits)
+later_waits place waits =
+    let next : place + 1 ≡ suc place = omega arith in
+    sym (ap (λ n. (n == 0) && waits) next ∙ ap (λ b. b && waits) (is_later place))
+
+-- the first receive waits or doesn't, and one after others doesn't
+hearings_more : (waits : Bool) (xs : List (Option (List ℕ))) (x : Option (List ℕ)) → hearings_from waits (xs ++ x ∷ []) ≡ hearings_from waits xs ++ hearing ((length xs == 0) && waits) x ∷ []
+hearings_more waits [] x = refl
+hearings_more waits (y ∷ ys) x =
+    let rest : map (λ (found : Option (List ℕ)). hearing false found) (ys ++ x ∷ []) ≡ map (λ (found : Option (List ℕ)). hearing false found) ys ++ hearing false x ∷ [] =
+    map-append (λ (found : Option (List ℕ)). hearing false found) ys (x ∷ []) in
+    let no : ((length (y ∷ ys) == 0) && waits) ≡ false = ap (λ b. b && waits) (is_later (length ys)) in
+    ap (λ l. hearing waits y ∷ l) rest
+    ∙ ap (λ b. hearing waits y ∷ (map (λ (found : Option (List ℕ)). hearing false found) ys ++ hearing b x ∷ [])) (sym no)
+
+packet_last : (s : Sender) (packets : List (List ℕ)) (packet : List ℕ) → fold outlet_on_packet s (packets ++ packet ∷ []) ≡ outlet_on_packet (fold outlet_on_packet s packets) packet
+packet_last s [] packet = refl
+packet_last s (p ∷ packets) packet = packet_last (outlet_on_packet s p) packets packet
+
+first_at : (waits : Bool) (packets : List (List ℕ)) (place : ℕ) (now : Bool) → length packets ≡ place → now ≡ ((place == 0) && waits)
+    → now ≡ ((length (some_of packets) == 0) && waits)
+first_at waits packets place now count is = is ∙ ap (λ n. (n == 0) && waits) (sym (length_some packets ∙ count))
+
+-- one more packet was heard
+pub hearing_more : (waits : Bool) (old mid new : EndsView) (s t u : Sender) (place : ℕ) (packet : List ℕ) (now : Bool)
+    → Hearing waits old mid s t place → now ≡ ((place == 0) && waits)
+    → TellsMore mid.heard new.heard (hearing now (Some packet) ∷ []) → new ≡ record mid { heard = new.heard } → u ≡ outlet_on_packet t packet
+    → Hearing waits old new s u (place + 1)
+hearing_more waits old mid new s t u place packet now h first heard same core =
+    let all : some_of (h.packets ++ packet ∷ []) ≡ some_of h.packets ++ Some packet ∷ [] = map-append (λ (x : List ℕ). Some x) h.packets (packet ∷ []) in
+    let hears : hearings_from waits (some_of (h.packets ++ packet ∷ [])) ≡ hearings_from waits (some_of h.packets) ++ hearing now (Some packet) ∷ [] =
+    ap (hearings_from waits) all ∙ hearings_more waits (some_of h.packets) (Some packet)
+    ∙ ap (λ b. hearings_from waits (some_of h.packets) ++ hearing b (Some packet) ∷ []) (sym (first_at waits h.packets place now h.count first)) in
+    record {
+      packets = h.packets ++ packet ∷ [];
+      count = omega (arith, length-append h.packets (packet ∷ []), h.count);
+      heard = subst (TellsMore old.heard new.heard) (sym hears) (tells_more old.heard mid.heard new.heard _ _ h.heard heard);
+      same = same ∙ (λ i. record (h.same i) { heard = new.heard });
+      core = core ∙ ap (λ x. outlet_on_packet x packet) h.core ∙ sym (packet_last s h.packets packet);
+    }
+
+lt_true : (a b : ℕ) → a < b → nat_lt a b ≡ true
+lt_true a b h = grind (arith, nat_tests)
+
+lt_false : (a b : ℕ) → b ≤ a → nat_lt a b ≡ false
+lt_false a b h = grind (arith, nat_tests)
+
+-- a receive gave nothing
+pub hearing_quiet : (waits : Bool) (old mid new : EndsView) (s t : Sender) (place : ℕ) (now : Bool)
+    → Hearing waits old mid s t place → place < 64 → now ≡ ((place == 0) && waits)
+    → TellsMore mid.heard new.heard (hearing now None ∷ []) → new ≡ record mid { heard = new.heard }
+    → (packets : List (List ℕ)) × HasHeard waits old new s t packets
+hearing_quiet waits old mid new s t place now h below first heard same =
+    let fewer : length h.packets < 64 = omega (arith, h.count, below) in
+    let all : receives_of h.packets ≡ some_of h.packets ++ None ∷ [] =
+    ap (λ b. some_of h.packets ++ (if b then None ∷ [] else [])) (lt_true (length h.packets) 64 fewer) in
+    let hears : hearings_from waits (receives_of h.packets) ≡ hearings_from waits (some_of h.packets) ++ hearing now None ∷ [] =
+    ap (hearings_from waits) all ∙ hearings_more waits (some_of h.packets) None
+    ∙ ap (λ b. hearings_from waits (some_of h.packets) ++ hearing b None ∷ []) (sym (first_at waits h.packets place now h.count first)) in (
+      h.packets,
+      record {
+        few = omega (arith, fewer);
+        heard = subst (TellsMore old.heard new.heard) (sym hears) (tells_more old.heard mid.heard new.heard _ _ h.heard heard);
+        same = same ∙ (λ i. record (h.same i) { heard = new.heard });
+        core = h.core;
+      },
+    )
+
+-- 64 packets were heard
+pub hearing_full : (waits : Bool) (old now : EndsView) (s t : Sender) (place : ℕ) → Hearing waits old now s t place → place ≡ 64
+    → (packets : List (List ℕ)) × HasHeard waits old now s t packets
+hearing_full waits old now s t place h end =
+    let full : length h.packets ≡ 64 = h.count ∙ end in
+    let all : receives_of h.packets ≡ some_of h.packets =
+    ap (λ b. some_of h.packets ++ (if b then None ∷ [] else [])) (lt_false (length h.packets) 64 (omega (arith, full))) ∙ append-nil (some_of h.packets) in (
+      h.packets,
+      record {
+        few = omega (arith, full);
+        heard = subst (TellsMore old.heard now.heard) (sym (ap (hearings_from waits) all)) h.heard;
+        same = h.same;
+        core = h.core;
+      },
+    )
 
 -- a turn, after its start
-pub turned : (w : Outlet) (old mid new : EndsView) (p : Pacing) (heard core : Sender) (due left : Pacing) (given : Given) (in_contact : Bool) (action : Option (OutAction (List ℕ)))
-    → TellsMore old.heard mid.heard (hearing (not p.moved) given.packet ∷ []) → TellsMore old.handed mid.handed ((worker.Sender w.hop, Heard, given.heard) ∷ [])
-    → mid ≡ record old { heard = mid.heard; handed = mid.handed }
-    → heard ≡ outlet_on_hearing p.core (message_in given.packet) → due ≡ timed w given.heard.since (pacing heard p.moved p.mark)
+pub turned : (w : Outlet) (most : ℕ) (old told mid new : EndsView) (p : Pacing) (heard core : Sender) (due left : Pacing) (given : Given) (in_contact : Bool) (action : Option (OutAction (List ℕ)))
+    → HasHeard (not p.moved) old told p.core heard given.packets → TellsMore told.handed mid.handed ((worker.Sender w.hop, Heard, given.heard) ∷ [])
+    → mid ≡ record told { handed = mid.handed }
+    → due ≡ timed w given.heard.since (pacing heard p.moved p.mark p.picks)
     → in_contact ≡ is_open w.plan w.hop given.heard.now → core ≡ (sending_step due.core (Turn in_contact)).0 → action ≡ (sending_step due.core (Turn in_contact)).1
-    → Did mid new left (outlet_on_action w given.heard.now given.made due.mark core action) → Did old new left (outlet_done w p given)
-turned w old mid new p heard core due left given in_contact action packet at quiet hearing_is timing opening after named did =
-    let then = timed w given.heard.since (pacing (outlet_on_hearing p.core (message_in given.packet)) p.moved p.mark) in
-    let due_is : due ≡ then = timing ∙ ap (λ s. timed w given.heard.since (pacing s p.moved p.mark)) hearing_is in
-    let step = sending_step then.core (Turn (is_open w.plan w.hop given.heard.now)) in
+    → Did mid new left (outlet_on_action w most given.heard.now given.made (pacing core false due.mark due.picks) action) → Did old new left (outlet_done w most p given)
+turned w most old told mid new p heard core due left given in_contact action hears at quiet timing opening after named did =
+    let packets = take 64 given.packets in
+    let whole : given.packets ≡ packets = sym (take_all 64 given.packets (omega (arith, hears.few))) in
+    let ready = timed w given.heard.since (pacing (fold outlet_on_packet p.core packets) p.moved p.mark p.picks) in
+    let heard_is : heard ≡ fold outlet_on_packet p.core packets = hears.core ∙ ap (fold outlet_on_packet p.core) whole in
+    let due_is : due ≡ ready = timing ∙ ap (λ s. timed w given.heard.since (pacing s p.moved p.mark p.picks)) heard_is in
+    let step = sending_step ready.core (Turn (is_open w.plan w.hop given.heard.now)) in
     let step_is : sending_step due.core (Turn in_contact) ≡ step = λ i. sending_step (due_is i).core (Turn (opening i)) in
     let core_is : core ≡ step.0 = after ∙ ap (λ r. r.0) step_is in
     let action_is : action ≡ step.1 = named ∙ ap (λ r. r.1) step_is in
-    let rest : Did mid new left (outlet_on_action w given.heard.now given.made then.mark step.0 step.1) =
-    subst (Did mid new left) (λ i. outlet_on_action w given.heard.now given.made (due_is i).mark (core_is i) (action_is i)) did in
-    did_hear old mid new left _ (worker.Sender w.hop) (not p.moved) given packet at quiet rest
+    let rest : Did mid new left (outlet_on_action w most given.heard.now given.made (pacing step.0 false ready.mark ready.picks) step.1) =
+    subst (Did mid new left) (λ i. outlet_on_action w most given.heard.now given.made (pacing (core_is i) false (due_is i).mark (due_is i).picks) (action_is i)) did in
+    let same : mid.heard ≡ told.heard = ap (λ t. t.heard) quiet in
+    let hearing_is : TellsMore old.heard mid.heard (hearings_from (not p.moved) (receives_of packets)) =
+    subst (λ x. TellsMore old.heard x (hearings_from (not p.moved) (receives_of packets))) (sym same)
+    (subst (λ l. TellsMore old.heard told.heard (hearings_from (not p.moved) (receives_of l))) whole hears.heard) in
+    let moment : TellsMore old.handed mid.handed ((worker.Sender w.hop, Heard, given.heard) ∷ []) =
+    subst (λ x. TellsMore x mid.handed ((worker.Sender w.hop, Heard, given.heard) ∷ [])) (ap (λ t. t.handed) hears.same) at in
+    let both : mid ≡ record old { heard = mid.heard; handed = mid.handed } =
+    quiet ∙ (λ i. record (hears.same i) { handed = mid.handed }) ∙ (λ i. record old { heard = sym same i; handed = mid.handed }) in
+    did_hear old mid new left _ (worker.Sender w.hop) (not p.moved) packets given.heard hearing_is moment both rest

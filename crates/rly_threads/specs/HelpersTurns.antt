@@ -1,21 +1,33 @@
 -- Nothing is claimed here: what private functions did within a turn, and what a desk in memory replies.
-use Rattle.std.specs.Prelude.{◌≡◌, ◌⊎◌, ◌≤◌, ◌++◌, ℕ, List, [], length, map, max, vec_capacity, Option, Some, None}
-use Rattle.std.specs.List.{flat_map}
+use Rattle.std.specs.Prelude.{◌≡◌, ◌⊎◌, ◌≤◌, ◌<◌, ◌+◌, ◌^◌, ◌++◌, ◌||◌, ℕ, Bool, List, [], fold, length, map, max, vec_capacity}
+use Rattle.std.specs.Prelude.{Option, Some, None, Ok, Err, ⊤}
+use Rattle.std.specs.List.{flat_map, list_any}
+use Rattle.rly_core.specs.declared.refusal.Refusal.TheVariants as refusal
 use Rattle.rly_core.specs.declared.refusal.Refusal.TheVariants.{OutOfMemory}
+use Rattle.rly_line.specs.declared.call_error.CallError.TheVariants as error
 use Rattle.rly_machine.specs.Ask.{ask_step}
 use Rattle.rly_machine.specs.declared.command.Ask.{Ask}
 use Rattle.rly_machine.specs.declared.reply.Reply.{Reply}
 use Rattle.rly_machine.specs.declared.reply.Reply.TheVariants.{Refused}
 use Rattle.rly_machine.specs.State.{State}
+use Rattle.rly_hop.specs.declared.sending.event.OutAction.{OutAction}
+use Rattle.rly_hop.specs.declared.sending.event.OutAction.TheVariants as action
+use Rattle.rly_hop.specs.declared.sending.event.OutEvent.{OutEvent}
+use Rattle.rly_hop.specs.declared.sending.event.OutEvent.TheVariants as event
 use Rattle.rly_hop.specs.Receiver.{Receiver}
+use Rattle.rly_hop.specs.Sender.{Sender}
+use Rattle.rly_hop.specs.SendingRuns.{sender_after}
 use Rattle.rly_threads.specs.declared.receiver.Takes.{Takes}
+use Rattle.rly_threads.specs.declared.sender.Calls.{Calls}
 use Rattle.rly_threads.specs.declared.turn.Go.{Go}
 use Rattle.rly_threads.specs.declared.turn.Point.TheVariants as point
 use Rattle.rly_threads.specs.declared.turn.Worker.TheVariants as worker
+use Rattle.rly_threads.specs.Asking.{CallOutcome}
 use Rattle.rly_threads.specs.Ends.{TellsMore}
 use Rattle.rly_threads.specs.Intake.{Arrival, Intake, Told, Waiting, Wanted, answers_sent, hearings, receives, takings, waiting, wanted}
+use Rattle.rly_threads.specs.Outlet.{event_in, is_progress, outlet_on_packet, outlet_sent, picks_after}
 use Rattle.rly_threads.specs.Runs.{EndsView}
-use Rattle.rly_threads.specs.Turns.{Done}
+use Rattle.rly_threads.specs.Turns.{Done, has_some, hearings_from, receives_of}
 
 -- a worker did this, and is left in this state
 pub record Did {C : Type 0} (old new : EndsView) (core : C) (d : Done C) : Type 0 where
@@ -70,6 +82,49 @@ pub record HasAnswered (w : Intake) (r : Receiver) (old new : EndsView) (taken :
   pub sent : TellsMore old.sent new.sent (answers_sent r taken)
   pub handed : TellsMore old.handed new.handed (takings w taken)
   pub same : new ≡ record old { sent = new.sent; handed = new.handed }
+
+-- a worker heard these packets, and then perhaps nothing, and its core the messages in them
+pub record HasHeard (waits : Bool) (old new : EndsView) (before after : Sender) (packets : List (List ℕ)) : Type 0 where
+  pub few : length packets ≤ 64
+  pub heard : TellsMore old.heard new.heard (hearings_from waits (receives_of packets))
+  pub same : new ≡ record old { heard = new.heard }
+  pub core : after ≡ fold outlet_on_packet before packets
+
+-- there is room for 64 calls that are made together, or one is made at a time; and none is there
+pub record IsIdle (c : Calls) : Type 0 where
+  pub room : ((c.most ≡ 64) × (64 ≤ vec_capacity c.asks) × (64 ≤ vec_capacity c.answers)) ⊎ (c.most ≡ 1)
+  pub asks : c.asks.items ≡ []
+  pub answers : c.answers.items ≡ []
+
+-- an action is a call
+abbrev pub IsCall : OutAction (List ℕ) → Type 0
+IsCall action.AskWindow = ⊤
+IsCall (action.Release number) = ⊤
+IsCall (action.Fetch number) = ⊤
+IsCall action.Pick = ⊤
+IsCall (action.Send m) = ⊥
+
+-- so many numbers from that of a Fetch on are numbers of the code
+abbrev pub HasNumbers : OutAction (List ℕ) → ℕ → Type 0
+HasNumbers action.AskWindow count = ⊤
+HasNumbers (action.Release number) count = ⊤
+HasNumbers (action.Fetch number) count = number + count < 2 ^ 64
+HasNumbers action.Pick count = ⊤
+HasNumbers (action.Send m) count = ⊤
+
+-- what the core is told of one call
+abbrev pub call_event : OutAction (List ℕ) → CallOutcome → OutEvent (List ℕ)
+call_event named (Ok a) = event_in named a.reply
+call_event named (Err (error.Closed back)) = event.Refused refusal.Closed
+call_event named (Err error.Lost) = event.Refused refusal.Lost
+
+-- a core was told this, one after the other, and what it named then was sent
+pub record HasTold (in_contact : Bool) (old new : EndsView) (before after : Sender) (picks more : ℕ) (moved : Bool) (told : List (OutEvent (List ℕ))) : Type 0 where
+  pub core : after ≡ sender_after before told
+  pub counted : more ≡ fold picks_after picks told
+  pub sent : TellsMore old.sent new.sent (outlet_sent in_contact before told)
+  pub same : new ≡ record old { sent = new.sent }
+  pub went : moved ≡ (list_any is_progress told || has_some (outlet_sent in_contact before told))
 
 -- the greater of two numbers, as far as they are there
 abbrev pub greater : Option ℕ → Option ℕ → Option ℕ

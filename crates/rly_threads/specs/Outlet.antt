@@ -1,6 +1,7 @@
 -- A sending worker, turn by turn (docs/PROTOCOL.md, "The sending core").
-use Rattle.std.specs.Prelude.{ℕ, ◌-◌, ◌/◌, nat_le, List, [], ◌∷◌, Bool, true, false, not, ◌&&◌, ◌||◌, if◌then◌else◌}
-use Rattle.std.specs.Prelude.{Option, Some, None, is_some, Ok, Err}
+use Rattle.std.specs.Prelude.{ℕ, ◌+◌, ◌-◌, ◌/◌, min, nat_le, List, [], ◌∷◌, ◌++◌, map, take, Bool, true, false, not, ◌&&◌, ◌||◌}
+use Rattle.std.specs.Prelude.{if◌then◌else◌, fold, Option, Some, None, is_some, Ok, Err}
+use Rattle.std.specs.List.{filter_map, list_any, range_with_len, zip}
 use Rattle.rly_core.specs.declared.ids.HopId.{HopId}
 use Rattle.rly_core.specs.declared.refusal.Refusal.TheVariants as refusal
 use Rattle.rly_hop.specs.declared.message.Message.{Message}
@@ -9,8 +10,10 @@ use Rattle.rly_hop.specs.declared.sending.event.OutAction.TheVariants as action
 use Rattle.rly_hop.specs.declared.sending.event.OutEvent.{OutEvent}
 use Rattle.rly_hop.specs.declared.sending.event.OutEvent.TheVariants as event
 use Rattle.rly_hop.specs.Sender.{Sender}
-use Rattle.rly_hop.specs.Sending.{SendingResult, sending_step}
-use Rattle.rly_line.specs.declared.call_error.CallError.TheVariants as error
+use Rattle.rly_hop.specs.Sending.{sending_step}
+use Rattle.rly_hop.specs.SendingRuns.{sender_after}
+use Rattle.rly_line.specs.declared.call_error.BatchError.{BatchError}
+use Rattle.rly_line.specs.declared.call_error.BatchError.TheVariants as error
 use Rattle.rly_machine.specs.declared.command.Ask.{Ask}
 use Rattle.rly_machine.specs.declared.command.Ask.TheVariants.{Command, Query}
 use Rattle.rly_machine.specs.declared.command.Command.TheVariants as command
@@ -19,9 +22,9 @@ use Rattle.rly_machine.specs.declared.reply.Reply.{Reply}
 use Rattle.rly_machine.specs.declared.reply.Reply.TheVariants as reply
 use Rattle.rly_plan.specs.ContactPlan.{ContactPlan, is_open, link, resend}
 use Rattle.rly_threads.specs.declared.turn.Worker.TheVariants as worker
-use Rattle.rly_threads.specs.Asking.{CallOutcome, call_asked}
+use Rattle.rly_threads.specs.Asking.{BatchOutcome}
 use Rattle.rly_threads.specs.Turns.{Done, Given, Made, around_call, has_some, message_in, nothing_done}
-use Rattle.rly_threads.specs.Turns.{packets_of, with_hearing, with_start}
+use Rattle.rly_threads.specs.Turns.{packets_of, with_hearings, with_start}
 
 -- the hop that is sent to, and the plan that says when its link is open and when to send again
 pub record Outlet : Type 0 where
@@ -31,22 +34,48 @@ pub record Outlet : Type 0 where
 abbrev pub outlet : ContactPlan → HopId → Outlet
 outlet plan hop = record { plan = plan; hop = hop }
 
--- The core, whether the last turn moved something, and the microseconds at the last turn that did or at the last timeout,
--- whichever was later: 0 before both.
+-- The core, whether the last turn moved something, the microseconds at the last turn that did or at the last timeout,
+-- whichever was later: 0 before both, and how many Picks may be asked together.
 pub record Pacing : Type 0 where
   pub core : Sender
   pub moved : Bool
   pub mark : ℕ
+  pub picks : ℕ
 
-abbrev pub pacing : Sender → Bool → ℕ → Pacing
-pacing core moved mark = record { core = core; moved = moved; mark = mark }
+abbrev pub pacing : Sender → Bool → ℕ → ℕ → Pacing
+pacing core moved mark picks = record { core = core; moved = moved; mark = mark; picks = picks }
 
 -- what hearing a message leaves, or nothing
 abbrev pub outlet_on_hearing : Sender → Option (Message (List ℕ)) → Sender
 outlet_on_hearing s None = s
 outlet_on_hearing s (Some m) = (sending_step s (event.Heard m)).0
 
--- the call that the core names on its turn
+-- what hearing a packet leaves
+abbrev pub outlet_on_packet : Sender → List ℕ → Sender
+outlet_on_packet s packet = outlet_on_hearing s (message_in (Some packet))
+
+-- How many calls are made together where the core names this one, of so many at most: the Fetches of all that is in flight from
+-- this number on, and as many Picks as may be in flight beside what is.
+abbrev pub call_count : ℕ → Pacing → OutAction (List ℕ) → ℕ
+call_count most p action.AskWindow = 1
+call_count most p (action.Release number) = 1
+call_count most p (action.Fetch number) = min most (p.core.next - number)
+call_count most p action.Pick = min (min most p.picks) (p.core.window - (p.core.next - p.core.first))
+call_count most p (action.Send m) = 0
+
+-- the one at a place among calls that are made together: the Fetch of a later number, or the same call again
+abbrev pub call_at : OutAction (List ℕ) → ℕ → OutAction (List ℕ)
+call_at action.AskWindow place = action.AskWindow
+call_at (action.Release number) place = action.Release number
+call_at (action.Fetch number) place = action.Fetch (number + place)
+call_at action.Pick place = action.Pick
+call_at (action.Send m) place = action.Send m
+
+-- so many calls that are made together, in order
+abbrev pub calls_from : OutAction (List ℕ) → ℕ → List (OutAction (List ℕ))
+calls_from first count = map (call_at first) (range_with_len 0 count)
+
+-- what is asked by a call
 abbrev pub named_ask : Outlet → ℕ → OutAction (List ℕ) → Option Ask
 named_ask w now action.AskWindow = Some (Query (query.Window w.hop))
 named_ask w now (action.Release number) = Some (Command (command.Release w.hop number))
@@ -74,10 +103,15 @@ event_in named (reply.Taken id) = event.Other
 event_in named (reply.Already last) = event.Other
 event_in named (reply.Shown status) = event.Other
 
-abbrev pub outlet_event : OutAction (List ℕ) → CallOutcome → OutEvent (List ℕ)
-outlet_event named (Ok a) = event_in named a.reply
-outlet_event named (Err (error.Closed back)) = event.Refused refusal.Closed
-outlet_event named (Err error.Lost) = event.Refused refusal.Lost
+-- what the core is told where there are no answers
+abbrev pub error_event : BatchError → OutEvent (List ℕ)
+error_event error.Closed = event.Refused refusal.Closed
+error_event error.Lost = event.Refused refusal.Lost
+
+-- what the core is told of calls that were made together: of each answer, in order, or once that there are none
+abbrev pub outlet_events : List (OutAction (List ℕ)) → BatchOutcome → List (OutEvent (List ℕ))
+outlet_events calls (Ok answers) = map (λ x. event_in x.0 x.1.reply) (zip calls answers)
+outlet_events calls (Err error) = error_event error ∷ []
 
 -- whether an answer by itself moves something: a window, or a datagram that was picked or released
 abbrev pub is_progress : OutEvent (List ℕ) → Bool
@@ -103,47 +137,71 @@ outlet_packets in_contact (Some (action.Fetch number)) = []
 outlet_packets in_contact (Some action.Pick) = []
 outlet_packets in_contact None = []
 
--- a call moved something or not, at these microseconds
-abbrev pub paced : Sender → Bool → ℕ → ℕ → Pacing
-paced s moved mark since = pacing s moved (if moved then since else mark)
+-- what is sent as a core is told this, one after the other
+abbrev pub outlet_sent : Bool → Sender → List (OutEvent (List ℕ)) → List (List ℕ)
+outlet_sent in_contact s [] = []
+outlet_sent in_contact s (told ∷ others) =
+    outlet_packets in_contact (sending_step s told).1 ++ outlet_sent in_contact (sending_step s told).0 others
 
--- the answer is given to the core, and what it names then is sent, if a contact is open by then
-abbrev pub outlet_on_answer : Outlet → Made → ℕ → Ask → OutEvent (List ℕ) → SendingResult → Done Pacing
-outlet_on_answer w made mark ask told left =
-    let packets = outlet_packets (is_open w.plan w.hop made.after.now) left.1 in record {
-      core = paced left.0 (is_progress told || has_some packets) mark made.after.since;
+-- How many Picks may be asked together after an answer: where a datagram was picked one more, 64 at most, and where there was none or
+-- a call was refused one alone.
+abbrev pub picks_after : ℕ → OutEvent (List ℕ) → ℕ
+picks_after picks (event.Picked number) = min 64 (picks + 1)
+picks_after picks event.Nothing = 1
+picks_after picks (event.Refused refusal) = 1
+picks_after picks (event.WindowIs first next) = picks
+picks_after picks (event.Fetched number payload) = picks
+picks_after picks event.Released = picks
+picks_after picks event.Unchanged = picks
+picks_after picks event.Other = picks
+picks_after picks event.Timeout = picks
+picks_after picks (event.Heard m) = picks
+picks_after picks (event.Turn in_contact) = picks
+
+-- calls moved something or not, at these microseconds
+abbrev pub paced : Sender → Bool → ℕ → ℕ → ℕ → Pacing
+paced s moved mark since picks = pacing s moved (if moved then since else mark) picks
+
+-- the core was told this, and what it named then was sent
+abbrev pub outlet_told : Pacing → List (OutEvent (List ℕ)) → List (List ℕ) → ℕ → Pacing
+outlet_told p told packets since =
+    paced (sender_after p.core told) (list_any is_progress told || has_some packets) p.mark since (fold picks_after p.picks told)
+
+-- The calls are made together. The core is told of the answers, in order, and what it names then is sent, if a contact is open by then.
+abbrev pub outlet_on_calls : Outlet → ℕ → Made → Pacing → List (OutAction (List ℕ)) → Done Pacing
+outlet_on_calls w now made p [] = nothing_done p
+outlet_on_calls w now made p (first ∷ others) =
+    let told = outlet_events (first ∷ others) made.outcome in
+    let packets = outlet_sent (is_open w.plan w.hop made.after.now) p.core told in record {
+      core = outlet_told p told packets made.after.since;
       heard = [];
-      asked = call_asked ask made.outcome ∷ [];
+      asked = (filter_map (named_ask w now) (first ∷ others), made.outcome) ∷ [];
       sent = packets;
       handed = around_call (worker.Sender w.hop) made;
     }
 
--- the call is made
-abbrev pub outlet_on_call : Outlet → Made → ℕ → Sender → OutAction (List ℕ) → Option Ask → Done Pacing
-outlet_on_call w made mark s named None = nothing_done (pacing s false mark)
-outlet_on_call w made mark s named (Some ask) =
-    let told = outlet_event named made.outcome in outlet_on_answer w made mark ask told (sending_step s told)
-
-abbrev pub outlet_on_action : Outlet → ℕ → Made → ℕ → Sender → Option (OutAction (List ℕ)) → Done Pacing
-outlet_on_action w now made mark s None = nothing_done (pacing s false mark)
-outlet_on_action w now made mark s (Some named) = outlet_on_call w made mark s named (named_ask w now named)
+abbrev pub outlet_on_action : Outlet → ℕ → ℕ → Made → Pacing → Option (OutAction (List ℕ)) → Done Pacing
+outlet_on_action w most now made p None = nothing_done p
+outlet_on_action w most now made p (Some named) = outlet_on_calls w now made p (calls_from named (call_count most p named))
 
 -- The core is told to send again, at these microseconds, if the turn before moved nothing, nothing that was acknowledged
 -- waits to be released, and at least the hop's `resend`, in milliseconds, has passed since the mark.
 abbrev pub timed : Outlet → ℕ → Pacing → Pacing
 timed w since p =
     if not p.moved && not (is_some p.core.acked) && nat_le (resend w.plan w.hop) ((since - p.mark) / 1000)
-    then pacing (sending_step p.core event.Timeout).0 false since else p
+    then pacing (sending_step p.core event.Timeout).0 false since p.picks else p
 
--- one turn, after its start: the receive waits unless the turn before moved something, and a timeout comes after it
-abbrev pub outlet_done : Outlet → Pacing → Given → Done Pacing
-outlet_done w p given =
-    let heard = pacing (outlet_on_hearing p.core (message_in given.packet)) p.moved p.mark in
+-- One turn, after its start, of so many calls at most. It hears what its link has, 64 packets at most, of which the first is waited
+-- for unless the turn before moved something. A timeout comes after that.
+abbrev pub outlet_done : Outlet → ℕ → Pacing → Given → Done Pacing
+outlet_done w most p given =
+    let packets = take 64 given.packets in
+    let heard = pacing (fold outlet_on_packet p.core packets) p.moved p.mark p.picks in
     let timed = timed w given.heard.since heard in
     let left = sending_step timed.core (event.Turn (is_open w.plan w.hop given.heard.now)) in
-    with_hearing (worker.Sender w.hop) (not p.moved) given
-    (outlet_on_action w given.heard.now given.made timed.mark left.0 left.1)
+    with_hearings (worker.Sender w.hop) (not p.moved) packets given.heard
+    (outlet_on_action w most given.heard.now given.made (pacing left.0 false timed.mark timed.picks) left.1)
 
 -- one turn
-abbrev pub outlet_turn : Outlet → Pacing → Given → Done Pacing
-outlet_turn w p given = with_start (worker.Sender w.hop) given.start (outlet_done w p given)
+abbrev pub outlet_turn : Outlet → ℕ → Pacing → Given → Done Pacing
+outlet_turn w most p given = with_start (worker.Sender w.hop) given.start (outlet_done w most p given)

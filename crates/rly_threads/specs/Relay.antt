@@ -31,13 +31,14 @@ HasReceived plan peer old new =
     (done_in (intake_turn (intake plan peer) most)
     (receiver (record { 0 = plan.station }) (record { 0 = neighbour.station })) turns))
 
--- the same of a sender to a hop of the plan, which may have so many datagrams in flight
+-- The same of a sender to a hop of the plan, which may have so many datagrams in flight. It makes up to 64 calls together, or one at
+-- a time where memory for their lists was refused at its start.
 abbrev pub HasSent : ContactPlan → ℕ → HopId → EndsView → EndsView → Type 0
 HasSent plan window hop old new =
-    IfSome (next_hop_at plan hop) (λ neighbour. (turns : List Given)
+    IfSome (next_hop_at plan hop) (λ neighbour. (most : ℕ) × ((most ≡ 64) ⊎ (most ≡ 1)) × (turns : List Given)
     × Ran old new (worker.Sender hop)
-    (done_in (outlet_turn (outlet plan hop))
-    (pacing (sender (record { 0 = plan.station }) (record { 0 = neighbour.station }) window) false 0) turns))
+    (done_in (outlet_turn (outlet plan hop) most)
+    (pacing (sender (record { 0 = plan.station }) (record { 0 = neighbour.station }) window) false 0 1) turns))
 
 abbrev pub HasWorked : ContactPlan → ℕ → Worker → EndsView → EndsView → Type 0
 HasWorked plan window (worker.Receiver peer) old new = HasReceived plan peer old new

@@ -1,5 +1,5 @@
 -- A worker over its turns: what it was given, and what it did.
-use Rattle.std.specs.Prelude.{ℕ, List, [], ◌∷◌, ◌++◌, Bool, true, false, Option, Some, None}
+use Rattle.std.specs.Prelude.{ℕ, nat_lt, List, [], ◌∷◌, ◌++◌, length, map, Bool, true, false, if◌then◌else◌, Option, Some, None}
 use Rattle.std.specs.Result.{result_ok}
 use Rattle.rly_core.specs.declared.ids.HopId.{HopId}
 use Rattle.rly_core.specs.declared.refusal.Refusal.{Refusal}
@@ -10,24 +10,25 @@ use Rattle.rly_threads.specs.declared.turn.Go.{Go}
 use Rattle.rly_threads.specs.declared.turn.Point.{Point}
 use Rattle.rly_threads.specs.declared.turn.Point.TheVariants as point
 use Rattle.rly_threads.specs.declared.turn.Worker.{Worker}
-use Rattle.rly_threads.specs.Asking.{Asked, CallOutcome}
+use Rattle.rly_threads.specs.Asking.{Asked, BatchOutcome}
 use Rattle.rly_threads.specs.Ends.{Hearing, hearing}
 
 -- what a worker was handed, where
 abbrev pub Handed : Type 0
 Handed = Worker × Point × Go
 
--- what became of the call that a sending worker made in a turn, if it made one, and what it was handed before it and after it
+-- what became of the calls that a sending worker made together in a turn, if it made any, and what it was handed before them
+-- and after them
 pub record Made : Type 0 where
-  pub outcome : CallOutcome
+  pub outcome : BatchOutcome
   pub before : Go
   pub after : Go
 
--- what a sending worker was given in a turn: what it was handed at its start, the packet that its link gave, if it gave one, what
--- it was handed after that, which is the turn's moment, and what became of its call
+-- what a sending worker was given in a turn: what it was handed at its start, the packets that its link gave, in order, what it
+-- was handed after its receives, which is the turn's moment, and what became of its calls
 pub record Given : Type 0 where
   pub start : Go
-  pub packet : Option (List ℕ)
+  pub packets : List (List ℕ)
   pub heard : Go
   pub made : Made
 
@@ -78,15 +79,23 @@ abbrev pub has_some : {A : Type 0} → List A → Bool
 has_some [] = false
 has_some (first ∷ others) = true
 
--- a worker asks its link for a packet, by a receive that waits or by one that doesn't, is handed the turn's moment, and
--- does this
-abbrev pub with_hearing : {C : Type 0} → Worker → Bool → Given → Done C → Done C
-with_hearing worker waits given d = record {
+-- what each receive of a turn gave: a worker asks for packets until there is none, or until it has 64
+abbrev pub receives_of : List (List ℕ) → List (Option (List ℕ))
+receives_of packets = map (λ packet. Some packet) packets ++ (if nat_lt (length packets) 64 then None ∷ [] else [])
+
+-- the first receive waits or doesn't, as this says, and the others don't
+abbrev pub hearings_from : Bool → List (Option (List ℕ)) → List Hearing
+hearings_from waits [] = []
+hearings_from waits (first ∷ others) = hearing waits first ∷ map (λ found. hearing false found) others
+
+-- a worker asks its link for these packets, is handed the turn's moment, and does this
+abbrev pub with_hearings : {C : Type 0} → Worker → Bool → List (List ℕ) → Go → Done C → Done C
+with_hearings worker waits packets heard d = record {
   core = d.core;
-  heard = hearing waits given.packet ∷ d.heard;
+  heard = hearings_from waits (receives_of packets) ++ d.heard;
   asked = d.asked;
   sent = d.sent;
-  handed = (worker, point.Heard, given.heard) ∷ d.handed;
+  handed = (worker, point.Heard, heard) ∷ d.handed;
 }
 
 -- a worker is handed the start of a turn, at which it goes on, and does this
@@ -99,7 +108,7 @@ with_start worker start d = record {
   handed = (worker, point.Start, record start { on = true }) ∷ d.handed;
 }
 
--- what a worker is handed before a call and after it
+-- what a worker is handed before its calls and after them
 abbrev pub around_call : Worker → Made → List Handed
 around_call worker made = (worker, point.Call, made.before) ∷ (worker, point.Answered, made.after) ∷ []
 

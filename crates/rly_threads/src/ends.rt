@@ -69,7 +69,7 @@ impl<L: Link, K: Desk, T: Turn> Ends<L, K, T> {
     }
 
     /// Asks the link once for a packet. A link that fails gave nothing.
-    fn receive(&mut self, waits: bool, buffer: &mut [u8]) -> Option<usize>
+    pub(crate) fn receive(&mut self, waits: bool, buffer: &mut [u8]) -> Option<usize>
         ensures bound { IfSome result (λ count. count ≤ length buffer.new) }
         ensures heard { TellsMore self.old.heard self.new.heard (hearing waits (packet_in result buffer.new) ∷ []) }
         ensures same { self.new ≡ record self.old { heard = self.new.heard } }

@@ -1,7 +1,7 @@
 //! The workers: a receiving one for each upstream neighbour and a sending one for each next hop.
-//! In each turn a sending worker asks its link once, gives its core what it heard, makes the call
-//! that the core names, and sends what it says. A receiving one takes up to 64 packets, with a core
-//! for each, and makes their calls together.
+//! In each turn a worker hears what its link has, up to 64 packets: a receiving one with a core for
+//! each, a sending one with one core. It makes the calls that this leads to together, and sends what
+//! the cores name on the answers.
 //!
 //! `receiver_run` and `sender_run` take any `Link`, `Desk` and `Turn`. If these tell what they
 //! gave and were given, a worker asks and sends what `specs/Intake.antt` and `specs/Outlet.antt`

@@ -171,7 +171,7 @@ fn work<R: Wait, L: Link + Drop, T: Turn + Drop>(
     };
     match worker {
         Worker::Receiver(peer) => receiver_run(rt, alloc, plan, peer, &mut ends),
-        Worker::Sender(hop) => sender_run(rt, plan, hop, window, &mut ends),
+        Worker::Sender(hop) => sender_run(rt, alloc, plan, hop, window, &mut ends),
     }
     let Ends {
         link,

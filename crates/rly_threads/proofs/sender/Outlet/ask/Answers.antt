@@ -1,21 +1,26 @@
-use Rattle.std.specs.Option.{option_map}
+use Rattle.std.proofs.Common.{◌∙◌, ap, sym}
 use Rattle.rly_hop.specs.Payloads.{out_action_bytes, out_event_bytes}
-use Rattle.rly_threads.specs.Outlet.{outlet, pacing}
+use Rattle.rly_threads.specs.declared.sender.Outlet.{Outlet as Worker}
+use Rattle.rly_threads.specs.Outlet.{outlet, paced, pacing}
 use Rattle.rly_threads.specs.Turns.{Made}
-use Rattle.rly_threads.proofs.Senders.{asked}
+use Rattle.rly_threads.proofs.Senders.{call_asks, called_one, one_outcome}
 use Rattle.rly_threads.proofs.sender.Outlet.ask.Goals as goal
+
+pub returns-in_default-clause-done : goal.returns-in_default-clause-done
+returns-in_default-clause-done g c =
+    absurd (call_asks (outlet c.args.self.now.plan.now c.args.self.now.hop) c.args.now (out_action_bytes c.args.action) c.requires.call (sym c.in_default.is ∙ c.named_ask.ensures))
 
 pub returns-clause-done : goal.returns-clause-done
 returns-clause-done g c =
     let around = c.call-outcome.ensures.told in
-    let made : Made = record { outcome = c.call-outcome.result.0; before = around.0; after = c.call-outcome.result.1 } in (
+    let was = c.args.self.now in
+    let now = c.pace.new.self in
+    let made : Made = record { outcome = one_outcome c.call-outcome.result.0; before = around.0; after = c.call-outcome.result.1 } in (
       made,
-      asked (outlet c.args.self.now.plan.now c.args.self.now.hop) c.args.ends.now c.call-outcome.new.self c.send_named-sent.new.ends
-          c.args.self.now.core (pacing c.pace.new.self.core c.pace.new.self.moved c.pace.new.self.mark) made c.args.self.now.mark (out_action_bytes c.args.action) c.args.ask
-          (out_event_bytes c.outlet_event-event.result) c.step-named.new.self (option_map out_action_bytes c.step-named.result)
-          c.is_open-is_open.result c.is_progress-progress.result c.send_named-sent.result
-          c.outlet_event-event.ensures c.is_progress-progress.ensures c.step-named.ensures.state c.step-named.ensures.action
-          c.is_open-is_open.ensures c.send_named-sent.ensures.whether c.pace.ensures.pacing
-          c.call-outcome.ensures.asked around.1 c.call-outcome.ensures.same
-          c.send_named-sent.ensures.told c.send_named-sent.ensures.same,
+      called_one (outlet was.plan.now was.hop) c.args.ends.now c.call-outcome.new.self c.tell-moved.new.ends c.args.now around.0 c.call-outcome.result.1
+          (pacing was.core was.moved was.mark was.picks) (pacing now.core now.moved now.mark now.picks) (out_action_bytes c.args.action) c.in-Some.ask c.call-outcome.result.0
+          (out_event_bytes c.call_event.result) c.is_open-is_open.result c.tell-moved.result c.tell-moved.new.self.core c.tell-moved.new.self.picks
+          (sym c.in-Some.is ∙ c.named_ask.ensures) c.call-outcome.ensures.asked around.1 c.call-outcome.ensures.same c.is_open-is_open.ensures c.call_event.ensures
+          c.tell-moved.ensures.core c.tell-moved.ensures.picks c.tell-moved.ensures.sent c.tell-moved.ensures.ends c.tell-moved.ensures.moved
+          (c.pace.ensures.pacing ∙ ap (λ (o : Worker). paced c.tell-moved.new.self.core c.tell-moved.result o.mark c.call-outcome.result.1.since c.tell-moved.new.self.picks) c.tell-moved.ensures.same),
     )

@@ -1,0 +1,112 @@
+//! A sender of whose calls one is refused, among others that are made together.
+//!
+//! What is expected follows from docs/PROTOCOL.md, "The sending core".
+
+ghost use Rattle.std.specs.Prelude.{None};
+
+use crate::senders::queue_of;
+use crate::workers::{link_with, plan};
+use rly_core::{HopId, Refusal};
+use rly_hop::{Message, read_message};
+use rly_line::{BatchError, CallError};
+use rly_machine::{Answer, Ask, Reply};
+use rly_threads::{Desk, Ends, MemDesk, MemLink, MemTurn, sender_run};
+use std::alloc::Global;
+use std::process::Abort;
+use std::sync::Wait;
+
+/// A desk in memory of whose answers one is lost: that to the ask of this number, counted from 1, is told as this refusal.
+#[derive(Drop)]
+struct Refusing {
+    desk: MemDesk,
+    at: u64,
+    refusal: Refusal,
+}
+
+impl Desk for Refusing {
+    ghost asked = { λ _. None };
+
+    fn call<R: Wait>(&mut self, rt: &R, ask: Ask) -> Result<Answer, CallError> {
+        let mut answer = self.desk.call(rt, ask)?;
+        if self.desk.calls() == self.at {
+            answer.reply = Reply::Refused(self.refusal);
+        }
+        Ok(answer)
+    }
+
+    fn call_all<R: Wait>(
+        &mut self,
+        rt: &R,
+        asks: &mut Vec<Ask>,
+        answers: &mut Vec<Answer>,
+    ) -> Result<(), BatchError> {
+        let before = self.desk.calls();
+        self.desk.call_all(rt, asks, answers)?;
+        let place = self.at.wrapping_sub(before).wrapping_sub(1);
+        if let Some(answer) = answers.get_mut(place as usize) {
+            answer.reply = Reply::Refused(self.refusal);
+        }
+        Ok(())
+    }
+}
+
+/// The sender of hop 1 runs for so many turns. Seven datagrams wait, all of which may be in flight. Its asks are the window's; a Pick
+/// and its Fetch; two Picks and their Fetches; four Picks, which are asks 8 to 11; and their Fetches, which are asks 12 to 15.
+fn send<R: Abort + Wait>(
+    rt: &R,
+    alloc: Global,
+    at: u64,
+    refusal: Refusal,
+    turns: u64,
+) -> Ends<MemLink, Refusing, MemTurn> {
+    let desk = Refusing {
+        desk: MemDesk::new(alloc, queue_of(rt, alloc, 7)),
+        at,
+        refusal,
+    };
+    let mut ends = Ends {
+        link: link_with(rt, alloc, 0, &[], b"", 0),
+        desk,
+        turn: MemTurn::new(1_000, 1, turns),
+    };
+    sender_run(rt, alloc, &plan(rt, alloc), HopId(1), 7, &mut ends);
+    ends
+}
+
+/// Checks which datagrams went out, in order.
+fn expect_numbers<R: Abort>(rt: &R, link: &MemLink, numbers: &[u64]) {
+    let delivered = link.delivered();
+    expect!(rt; delivered.len() == numbers.len());
+    for (packet, expected) in delivered.iter().zip(numbers) {
+        let is_it = match read_message(packet) {
+            Ok(Message::Data { number, .. }) => number == *expected,
+            Ok(_) | Err(_) => false,
+        };
+        expect!(rt; is_it);
+    }
+}
+
+/// Fetch 5 of four is refused. What was fetched after it doesn't go out, and is fetched again with it in the next turn.
+#[test]
+fn a_refused_fetch_sends_nothing(rt: HostRuntime) {
+    let alloc = rt.alloc();
+    let short = send(&rt, alloc, 13, Refusal::OutOfMemory, 7);
+    expect!(rt; short.desk.desk.calls() == 15);
+    expect_numbers(&rt, &short.link, &[1, 2, 3, 4]);
+    let ends = send(&rt, alloc, 13, Refusal::OutOfMemory, 64);
+    expect!(rt; ends.desk.desk.calls() == 18);
+    expect_numbers(&rt, &ends.link, &[1, 2, 3, 4, 5, 6, 7]);
+}
+
+/// Of four Picks the second is answered that it may stand or not. So the window is asked for, which has what all four picked, and all
+/// that is in flight goes out.
+#[test]
+fn a_pick_that_is_unsure_is_found(rt: HostRuntime) {
+    let alloc = rt.alloc();
+    let short = send(&rt, alloc, 9, Refusal::Unsure, 7);
+    expect!(rt; short.desk.desk.calls() == 12);
+    expect_numbers(&rt, &short.link, &[1, 2, 3]);
+    let ends = send(&rt, alloc, 9, Refusal::Unsure, 64);
+    expect!(rt; ends.desk.desk.calls() == 19);
+    expect_numbers(&rt, &ends.link, &[1, 2, 3, 1, 2, 3, 4, 5, 6, 7]);
+}

@@ -1,0 +1,12 @@
+use Rattle.std.proofs.Common.{◌≡◌, ◌&&◌, not}
+use Rattle.std.specs.Prelude.{◌==◌}
+use Rattle.rly_threads.proofs.Senders.{Hearing}
+use Rattle.rly_threads.proofs.sender.Outlet.gather.Given as goal
+
+-- each receive so far gave a packet
+abbrev pub invariant-loop-place : goal.invariant-loop-place
+invariant-loop-place g l = record {
+  same : l.self ≡ record l.fn.self { core = l.self.core };
+  waits : l.waits ≡ ((l._place == 0) && not l.fn.self.moved);
+  heard : Hearing (not l.fn.self.moved) l.fn.ends l.ends l.fn.self.core l.self.core l._place;
+}
