@@ -23,11 +23,11 @@ use Rattle.rly_segment.specs.Device.{IsDevice, IsGeometry, geometry_in}
 use Rattle.rly_segment.specs.Heads.{HoldsHead, IsAmbiguous, IsNewest, first_gate, segment_end, segment_place}
 use Rattle.rly_journal.specs.declared.open_fault.OpenFault.TheVariants.{Damaged}
 use Rattle.rly_journal.specs.declared.tail.Tail.{Tail}
-use Rattle.rly_journal.specs.Faults.{IsRefused}
+use Rattle.rly_journal.specs.Faults.{HasNewestHead, IsRefused}
 use Rattle.rly_journal.specs.Log.{EndsAt}
 use Rattle.rly_journal.specs.HelpersJournal.{IsReplayed, IsShaped}
 use Rattle.rly_segment.specs.PlacedHeads.{HoldsPlaced}
-use Rattle.rly_journal.specs.Standing.{Commands, Standing, standing_end, first_of, gate_of}
+use Rattle.rly_journal.specs.Standing.{Commands, IsScanned, Standing, standing_end, first_of, gate_of}
 use Rattle.rly_journal.proofs.Growing.{accepted-more, gate_behind-more, groups-more, replayed-more, with_group}
 use Rattle.rly_journal.proofs.Inlining.{gate_inline, holds_none, inline_holds}
 use Rattle.rly_journal.proofs.Once.{body_there_once, gate_there}
@@ -224,6 +224,19 @@ pub refused_newest : (image : List ℕ) (g : Geometry) (place : ℕ) → IsDevic
     → IsAmbiguous image g place → IsRefused image (Damaged place)
 refused_newest image g place device named fits ambiguous =
     (device, subst (λ h. IsGeometry h (length image)) named fits, inl (subst (λ h. IsAmbiguous image h place) named ambiguous))
+
+-- a head is the newest: from there on memory may be refused
+pub has_newest : (image : List ℕ) (g : Geometry) (segment : ℕ) → IsDevice image → g ≡ geometry_in image → IsGeometry g (length image)
+    → IsNewest image g segment → HasNewestHead image
+has_newest image g segment device named fits newest = record {
+  device = device;
+  fits = subst (λ h. IsGeometry h (length image)) named fits;
+  segment = segment;
+  newest = subst (λ h. IsNewest image h segment) named newest;
+}
+
+pub scanned_newest : (image : List ℕ) (x : Standing) → IsScanned image x → HasNewestHead image
+scanned_newest image x scanned = has_newest image x.geometry x.segment scanned.device scanned.geometry scanned.fits scanned.newest
 
 -- the newest segment has no head that holds a state
 pub refused_head : (image : List ℕ) (g : Geometry) (segment place : ℕ) → IsDevice image → g ≡ geometry_in image → IsGeometry g (length image)

@@ -4,6 +4,7 @@ use Rattle.std.specs.Prelude.{if◌then◌else◌}
 use Rattle.std.specs.List.{AllByRecursion, zip}
 use Rattle.std.proofs.lemmas.Bool.{false≢true}
 use Rattle.std.proofs.lemmas.List.{append-nil, drop_more, get_or_at, length-map, length-take, map_more, set_at}
+use Rattle.rly_core.specs.declared.refusal.Refusal.{Refusal}
 use Rattle.rly_core.specs.declared.refusal.Refusal.TheVariants.{Broken, Unsure, OutOfMemory}
 use Rattle.rly_machine.specs.declared.call.Answer.{Answer}
 use Rattle.rly_machine.specs.declared.call.Call.{Call}
@@ -18,15 +19,15 @@ use Rattle.rly_machine.specs.Accepted.{is_accepted, unless}
 use Rattle.rly_machine.specs.Ask.{ask_step}
 use Rattle.rly_machine.specs.History.{Entry, IsAnswered, Legal, LegalBy, accepted_by, accepted_of, harm, is_failure, next_state, state_after, harm_after}
 use Rattle.rly_machine.specs.Query.{query_reply}
-use Rattle.rly_machine.specs.State.{State}
-use Rattle.rly_machine.specs.Step.{step}
+use Rattle.rly_machine.specs.State.{Spool, State}
+use Rattle.rly_machine.specs.Step.{NeedsRoom, step}
 use Rattle.rly_machine.specs.Take.{take_refusal}
 use Rattle.rly_machine.proofs.Histories.{legal_push, state_after-append}
 use Rattle.rly_machine.proofs.RealReplies.{counted, real_query, real_step, unaccepted}
 use Rattle.rly_machine.proofs.Refusals.{may_take}
 use Rattle.rly_record.specs.Spelling.{IsShort, record_of}
 use Rattle.rly_journal.specs.HelpersGroups.{Gathers, GroupState, IsTaken}
-use Rattle.rly_journal.specs.Rounds.{AreServed, OnlyMemory, refusal_of, refusals}
+use Rattle.rly_journal.specs.Rounds.{AreServed, IsRefusedWhereWanted, MayWantMemory, MayWantRoom, OnlyMemory, refusal_of, refusals}
 use Rattle.rly_journal.specs.HelpersGroups.{IsOutcome, unsure_at}
 use Rattle.rly_journal.specs.Standing.{Commands}
 use Rattle.rly_journal.proofs.Gathering.{all_push, gathers_push, gathers_still}
@@ -35,6 +36,7 @@ use Rattle.rly_journal.proofs.Gathering.{all_push, gathers_push, gathers_still}
 pub record IsServed (call : Call) (answer : Answer) (old new : GroupState) (s t : State (List ℕ)) : Type 0 where
   pub answered : IsAnswered (λ reply. reply) 0 s (call, answer)
   pub only : OnlyMemory (call, answer)
+  pub wanted : answer.reply ≡ Refused OutOfMemory → MayWantMemory s call.ask
   pub state : t ≡ next_state s (call, answer)
   pub group : ((command : Command (List ℕ)) × (accepted_by call.ask answer.reply ≡ command ∷ []) × IsTaken command old new s t)
       ⊎ ((accepted_by call.ask answer.reply ≡ []) × (new ≡ old) × (t ≡ s))
@@ -54,19 +56,21 @@ real_served call answer old new s t seat number real reply state position group 
     record {
       answered = record { seat = seat; number = number; reply = λ _. reply; position = position ∙ ap (λ m. m.seq) (state ∙ sym next); harm = omega arith };
       only = λ fails. absurd (false≢true (sym real ∙ fails));
+      wanted = λ starved. absurd (false≢true (sym real ∙ ap is_failure starved));
       state = state ∙ sym next;
       group = group;
     }
 
 -- for want of memory
 pub starved_served : (call : Call) (answer : Answer) (old new : GroupState) (s t : State (List ℕ)) → answer.seat ≡ call.seat → answer.number ≡ call.number
-    → answer.reply ≡ Refused OutOfMemory → t ≡ s → new ≡ old → answer.position ≡ t.seq → IsServed call answer old new s t
-starved_served call answer old new s t seat number reply state group position =
+    → answer.reply ≡ Refused OutOfMemory → MayWantMemory s call.ask → t ≡ s → new ≡ old → answer.position ≡ t.seq → IsServed call answer old new s t
+starved_served call answer old new s t seat number reply wanted state group position =
     let fails : is_failure answer.reply ≡ true = ap is_failure reply in
     let next : next_state s (call, answer) ≡ s = ap (λ b. cond b s (ask_step s call.ask).0) fails in
     record {
       answered = record { seat = seat; number = number; reply = λ real. absurd (false≢true (sym real ∙ fails)); position = position ∙ ap (λ m. m.seq) (state ∙ sym next); harm = omega arith };
       only = λ _. reply;
+      wanted = λ _. wanted;
       state = state ∙ sym next;
       group = inr (none_by call.ask answer.reply (ap is_accepted reply), group, state);
     }
@@ -83,7 +87,7 @@ command_served call command answer old new s t asks seat number done position =
       | inr (inl left) ↦ real_served call answer old new s t seat number (ap is_failure left.reply ∙ real_step length s command) (left.reply ∙ sym (ap (λ r. r.1) by_step))
           (left.state ∙ sym (unaccepted length s command left.leaves) ∙ sym (ap (λ r. r.0) by_step)) position
           (inr (none_by call.ask answer.reply (ap is_accepted left.reply ∙ left.leaves), left.group, left.state))
-      | inr (inr starved) ↦ starved_served call answer old new s t seat number starved.reply starved.state starved.group position
+      | inr (inr starved) ↦ starved_served call answer old new s t seat number starved.reply (subst (MayWantMemory s) (sym asks) starved.wanted) starved.state starved.group position
     ]
 
 -- a question
@@ -92,6 +96,30 @@ pub query_served : (call : Call) (query : Query) (answer : Answer) (group : Grou
 query_served call query answer group s asks seat number reply position =
     let by_step : ask_step s call.ask ≡ (s, query_reply s query) = ap (ask_step s) asks in
     real_served call answer group group s s seat number (ap is_failure reply ∙ real_query s query) (reply ∙ sym (ap (λ r. r.1) by_step)) (sym (ap (λ r. r.0) by_step)) position (inr (ap (λ a. accepted_by a answer.reply) asks, refl, refl))
+
+-- a command that needs room may want it
+pub may_want : (spool : Spool (List ℕ)) (command : Command (List ℕ)) → NeedsRoom length spool command → MayWantRoom spool.state command
+may_want spool (Take peer number hop stamp payload) needs = needs.0
+may_want spool (Pick hop now) needs = needs.0
+may_want spool (Release hop number) needs = needs
+
+pub starved_done : (spool : Spool (List ℕ)) (command : Command (List ℕ)) (reply : Reply) (group : GroupState) (t : State (List ℕ)) → NeedsRoom length spool command
+    → reply ≡ Refused OutOfMemory → t ≡ spool.state → IsOutcome command reply group group spool.state t
+starved_done spool command reply group t needs told state =
+    inr (inr (record { wanted = may_want spool command needs; reply = told; state = state; group = refl }))
+
+-- one more call, to which memory was refused only if it may want it
+wanted_push : (s : State (List ℕ)) (entries : List Entry) (last : Entry) → IsRefusedWhereWanted s entries
+    → (last.1.reply ≡ Refused OutOfMemory → MayWantMemory (state_after s entries) last.0.ask) → IsRefusedWhereWanted s (entries ++ last ∷ [])
+wanted_push s [] last all one = (one, tt)
+wanted_push s (entry ∷ entries) last all one = (all.0, wanted_push (next_state s entry) entries last all.1 one)
+
+-- where all are refused for another reason, memory is refused to none
+pub refused_where_wanted : (refusal : Refusal) (position : ℕ) (s : State (List ℕ)) (calls : List Call) → (Refused refusal ≡ Refused OutOfMemory → ⊥)
+    → IsRefusedWhereWanted s (zip calls (refusals refusal position calls))
+refused_where_wanted refusal position s [] other = tt
+refused_where_wanted refusal position s (call ∷ calls) other =
+    ((λ same. absurd (other same)), refused_where_wanted refusal position (next_state s (call, refusal_of refusal position call)) calls other)
 
 -- want of memory is no harm to the device
 harmless : (reply : Reply) → (is_failure reply ≡ true → reply ≡ Refused OutOfMemory) → harm reply ≡ 0
@@ -160,6 +188,7 @@ pub record IsServing (all rest : List Call) (before now : List Answer) (group : 
   pub answers : now ≡ before ++ given
   pub are_served : AreServed served given s t
   pub gathers : Gathers (accepted_of (zip served given)) group s t
+  pub wanted : IsRefusedWhereWanted s (zip served given)
 
 -- the group holds fewer than 64 before another is answered
 pub serving_room : (all rest more : List Call) (call : Call) (before now : List Answer) (group : GroupState) (s t : State (List ℕ)) → IsServing all rest before now group s t
@@ -176,6 +205,11 @@ serving_next all rest more call before now next answer group new s t u serving c
     let answers : next ≡ before ++ (serving.given ++ answer ∷ []) = pushed ∙ ap (λ l. l ++ answer ∷ []) serving.answers ∙ append_assoc before serving.given (answer ∷ []) in
     let are : AreServed (serving.served ++ call ∷ []) (serving.given ++ answer ∷ []) s u =
     served_push serving.served serving.given call answer group new s t u serving.are_served last in
+    let pairs = zip_push serving.served serving.given call answer serving.are_served.count in
+    let wanted : IsRefusedWhereWanted s (zip (serving.served ++ call ∷ []) (serving.given ++ answer ∷ [])) =
+    subst (IsRefusedWhereWanted s) (sym pairs)
+    (wanted_push s (zip serving.served serving.given) (call, answer) serving.wanted
+    (λ starved. subst (λ m. MayWantMemory m call.ask) serving.are_served.state (last.wanted starved))) in
     let commands : Commands = accepted_of (zip serving.served serving.given) in
     let named : accepted_of (zip (serving.served ++ call ∷ []) (serving.given ++ answer ∷ [])) ≡ commands ++ accepted_by call.ask answer.reply =
     ap accepted_of (zip_push serving.served serving.given call answer serving.are_served.count) ∙ accepted_push (zip serving.served serving.given) (call, answer) in
@@ -188,6 +222,7 @@ serving_next all rest more call before now next answer group new s t u serving c
         are_served = are;
         gathers = subst (λ cs. Gathers cs new s u) (sym (named ∙ ap (λ l. commands ++ l) taken.1))
             (gathers_push commands taken.0 group new s t u serving.gathers taken.2);
+        wanted = wanted;
       }
       | inr same ↦ record {
         served = serving.served ++ call ∷ [];
@@ -197,6 +232,7 @@ serving_next all rest more call before now next answer group new s t u serving c
         are_served = are;
         gathers = subst (λ cs. Gathers cs new s u) (sym (named ∙ ap (λ l. commands ++ l) same.0 ∙ append-nil commands))
             (gathers_still commands group new s t u serving.gathers same.1 same.2);
+        wanted = wanted;
       }
     ]
 
@@ -209,17 +245,20 @@ serving_none all before group s gathers = record {
   answers = sym (append-nil before);
   are_served = served_none s;
   gathers = gathers;
+  wanted = tt;
 }
 
 -- all were answered
 pub serving_done : (all rest : List Call) (before now : List Answer) (group : GroupState) (s t : State (List ℕ)) → IsServing all rest before now group s t → rest ≡ []
     → (given : List Answer) × (now ≡ before ++ given) × AreServed all given s t × Gathers (accepted_of (zip all given)) group s t
+    × IsRefusedWhereWanted s (zip all given)
 serving_done all rest before now group s t serving none =
     let same : serving.served ≡ all = sym (append-nil serving.served) ∙ ap (λ l. serving.served ++ l) (sym none) ∙ sym serving.calls in (
       serving.given,
       serving.answers,
       subst (λ calls. AreServed calls serving.given s t) same serving.are_served,
       subst (λ calls. Gathers (accepted_of (zip calls serving.given)) group s t) same serving.gathers,
+      subst (λ calls. IsRefusedWhereWanted s (zip calls serving.given)) same serving.wanted,
     )
 
 -- of answers it is said that it is unsure whether they stand: they say nothing else than what was asked

@@ -35,13 +35,20 @@ pub record IsBroken (image : List ℕ) (place : ℕ) : Type 0 where
 abbrev pub IsDamagedAt : List ℕ → Geometry → ℕ → Type 0
 IsDamagedAt image g place = IsAmbiguous image g place ⊎ IsHeadless image g place ⊎ IsBroken image place
 
--- the first check that an image fails
+-- a device of some geometry, of whose open heads one is the newest: memory is wanted only then
+pub record HasNewestHead (image : List ℕ) : Type 0 where
+  pub device : IsDevice image
+  pub fits : IsGeometry (geometry_in image) (length image)
+  pub segment : ℕ
+  pub newest : IsNewest image (geometry_in image) segment
+
+-- the first check that an image fails; memory is refused only once no check before the newest head's does
 abbrev pub IsRefused : List ℕ → OpenFault → Type 0
 IsRefused image NotADevice = IsDevice image → ⊥
 IsRefused image BadGeometry = IsDevice image × (IsGeometry (geometry_in image) (length image) → ⊥)
 IsRefused image (Damaged place) =
     IsDevice image × IsGeometry (geometry_in image) (length image) × IsDamagedAt image (geometry_in image) place
-IsRefused image OutOfMemory = Unit {0}
+IsRefused image OutOfMemory = HasNewestHead image
 IsRefused image Device = Unit {0}
 
 -- the refusals that say something of the image

@@ -23,7 +23,7 @@ IsReady state old new calls =
 -- one was due, and memory was refused for it, or the device failed
 abbrev pub IsUnready : {D : Type 0} → (D → DiskState) → JournalState D → JournalState D → List Call → Refusal → Type 0
 IsUnready state old new calls refusal =
-    ((refusal ≡ OutOfMemory) × (new ≡ old))
+    ((refusal ≡ OutOfMemory) × (new ≡ old) × IsDueFor old calls)
     ⊎ ((refusal ≡ Unsure) × (new.broken ≡ true) × IsDueFor old calls
     × Makes state (renewing old.tail old.state) false old.disk new.disk)
 

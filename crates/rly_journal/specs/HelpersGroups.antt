@@ -13,6 +13,7 @@ use Rattle.rly_machine.specs.Fold.{AllAccepted, fold}
 use Rattle.rly_machine.specs.State.{State}
 use Rattle.rly_machine.specs.Step.{step}
 use Rattle.rly_record.specs.Spelling.{HasRecord, record_of}
+use Rattle.rly_journal.specs.Rounds.{MayWantRoom}
 use Rattle.rly_journal.specs.Standing.{Commands}
 
 -- the records that the group holds, how many they are, and one more that isn't part of it yet
@@ -50,8 +51,10 @@ pub record Gathers (commands : Commands) (group : GroupState) (s t : State (List
   pub count : group.count ≡ length commands
   pub staged : group.staged ≡ []
 
--- memory was refused, and nothing changed
-pub record IsStarved (told : Reply) (old new : GroupState) (s t : State (List ℕ)) : Type 0 where
+-- memory was refused to a command that may want it, and nothing changed
+pub record IsStarved (command : Command (List ℕ)) (told : Reply) (old new : GroupState) (s t : State (List ℕ))
+    : Type 0 where
+  pub wanted : MayWantRoom s command
   pub reply : told ≡ Refused OutOfMemory
   pub state : t ≡ s
   pub group : new ≡ old
@@ -68,7 +71,7 @@ pub record IsTurnedDown (command : Command (List ℕ)) (told : Reply) (old new :
 abbrev pub IsOutcome : Command (List ℕ) → Reply → GroupState → GroupState → State (List ℕ) → State (List ℕ) → Type 0
 IsOutcome command reply old new s t =
     ((reply ≡ (step length s command).1) × IsTaken command old new s t)
-    ⊎ IsTurnedDown command reply old new s t ⊎ IsStarved reply old new s t
+    ⊎ IsTurnedDown command reply old new s t ⊎ IsStarved command reply old new s t
 
 -- an answer in whose place it is said that it is unsure whether it stands
 abbrev pub unsure_at : ℕ → Answer → Answer

@@ -2,10 +2,11 @@ ghost use Rattle.std.specs.Prelude.{◌≡◌, ◌⊎◌, ◌+◌, ◌<◌, ◌�
 ghost use Rattle.std.specs.List.{zip};
 ghost use Rattle.rly_machine.specs.declared.command.Command.{Command as ACommand};
 ghost use Rattle.rly_machine.specs.declared.call.Answer.{Answer as AnAnswer};
+ghost use Rattle.rly_machine.specs.declared.reply.Reply.{Reply as AReply};
 ghost use Rattle.rly_machine.specs.History.{IsAnswered, accepted_by, accepted_of, next_state};
 ghost use Rattle.rly_record.specs.Spelling.{IsShort};
 ghost use Rattle.rly_journal.specs.HelpersGroups.{Gathers, IsTaken, empty_group};
-ghost use Rattle.rly_journal.specs.Rounds.{AreServed, OnlyMemory, refusals};
+ghost use Rattle.rly_journal.specs.Rounds.{AreServed, IsRefusedWhereWanted, MayWantMemory, OnlyMemory, refusals};
 ghost use Rattle.rly_journal.specs.HelpersGroups.{IsOutcome, unsure_at};
 
 use crate::group::Group;
@@ -31,7 +32,8 @@ pub(crate) fn answer_calls(
     ensures answers_capacity { vec_capacity answers.new ≡ vec_capacity answers.old }
     ensures answers { (given : List AnAnswer) × (answers.new.items ≡ answers.old.items ++ given)
         × AreServed calls.old.items given machine.old.state machine.new.state
-        × Gathers (accepted_of (zip calls.old.items given)) group.new machine.old.state machine.new.state }
+        × Gathers (accepted_of (zip calls.old.items given)) group.new machine.old.state machine.new.state
+        × IsRefusedWhereWanted machine.old.state (zip calls.old.items given) }
 {
     for call in calls.drain(..) {
         let answer = answer_call(alloc, machine, group, call);
@@ -92,6 +94,7 @@ fn answer_call(
     requires nothing_staged { group.old.staged ≡ [] }
     ensures answered { IsAnswered (λ reply. reply) 0 machine.old.state (call, result) }
     ensures only { OnlyMemory (call, result) }
+    ensures wanted { result.reply ≡ AReply.Refused Refusal.OutOfMemory → MayWantMemory machine.old.state call.ask }
     ensures state { machine.new.state ≡ next_state machine.old.state (call, result) }
     ensures group { ((command : ACommand (List ℕ)) × (accepted_by call.ask result.reply ≡ command ∷ [])
         × IsTaken command group.old group.new machine.old.state machine.new.state)

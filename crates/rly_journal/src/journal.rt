@@ -1,4 +1,5 @@
 ghost use Rattle.std.specs.Prelude.{◌≡◌, ◌≢◌, ◌⊎◌, ◌+◌, ◌≤◌, ◌++◌, [], Err, IfErr, IfOk, IsOk, List, MatchResult, Ok, OnErr, OnOk, length, vec_capacity, true, false, if◌then◌else◌};
+ghost use Rattle.std.specs.List.{zip};
 ghost use Rattle.rly_core.specs.Bounds.{IsIn};
 ghost use Rattle.rly_disk.specs.DiskModel.{Later, Settled};
 ghost use Rattle.rly_disk.specs.Trace.{Makes, seen_at_end};
@@ -7,7 +8,7 @@ ghost use Rattle.rly_machine.specs.declared.call.Answer.{Answer as AnAnswer};
 ghost use Rattle.rly_machine.specs.declared.reply.Reply.{Reply as AReply};
 ghost use Rattle.rly_machine.specs.Sound.{IsSound};
 ghost use Rattle.rly_machine.specs.State.{has_peer, last_at};
-ghost use Rattle.rly_machine.specs.Query.{fetch_reply, item_of, show_reply};
+ghost use Rattle.rly_machine.specs.Query.{HasBytes, fetch_reply, item_of, show_reply};
 ghost use Rattle.rly_journal.specs.Calls.{BreaksOpening, MakesOpening, MakesRound, fetching, renewed, renewing, tells};
 ghost use Rattle.rly_journal.specs.Faults.{IsRefused};
 ghost use Rattle.rly_journal.specs.HelpersCalls.{IsReadied};
@@ -15,7 +16,7 @@ ghost use Rattle.rly_journal.specs.Journal.{Breaks, Goes, IsDueFor, IsRound, IsS
 ghost use Rattle.rly_journal.specs.HelpersGroups.{empty_group};
 ghost use Rattle.rly_journal.specs.Log.{IsDurable, IsFull, IsLogged, IsSameHead};
 ghost use Rattle.rly_journal.specs.HelpersJournal.{IsShaped};
-ghost use Rattle.rly_journal.specs.Rounds.{refusals};
+ghost use Rattle.rly_journal.specs.Rounds.{IsRefusedWhereWanted, refusals};
 ghost use Rattle.rly_journal.specs.Standing.{Stands};
 
 use crate::answering::{answer_calls, make_unsure, refuse_all};
@@ -110,6 +111,11 @@ impl<D: Disk> Journal<D> {
         ensures emptied { OnOk result (calls.new.items ≡ []) }
         ensures answers { OnOk result ((given : List AnAnswer) × (answers.new.items ≡ answers.old.items ++ given)
             × IsRound D.state self.old self.new calls.old.items given) }
+        // Memory is refused only to a Take or a Pick that no check refuses and to a Fetch of bytes; or to all calls, where a
+        // segment is due and there is none for its head.
+        ensures memory { OnOk result ((given : List AnAnswer) × (answers.new.items ≡ answers.old.items ++ given)
+            × (IsRefusedWhereWanted self.old.state (zip calls.old.items given)
+            ⊎ (IsDueFor self.old calls.old.items × (given ≡ refusals Refusal.OutOfMemory self.old.position calls.old.items)))) }
         // What it asks of the device: a segment is opened or not, and the commands that its answers accepted are appended as
         // one group.
         ensures trace { self.old.broken ≡ false → OnOk result (MakesRound D.state self.old self.new calls.old.items answers.old.items answers.new.items) }
@@ -148,6 +154,8 @@ impl<D: Disk> Journal<D> {
         ensures found { IfOk result (λ bytes. (self.old.broken ≡ false) × (fetch_reply (item_of self.old.state hop number) ≡ AReply.Bytes bytes.items)) }
         ensures refused { IfErr result (λ refusal. ((self.old.broken ≡ true) × (refusal ≡ Refusal.Broken)) ⊎ ((self.old.broken ≡ false)
             × ((fetch_reply (item_of self.old.state hop number) ≡ AReply.Refused refusal) ⊎ (refusal ≡ Refusal.OutOfMemory)))) }
+        // Memory is refused only for a payload that has bytes.
+        ensures memory { result ≡ Err Refusal.OutOfMemory → HasBytes (fetch_reply (item_of self.old.state hop number)) }
         ensures same { self.new ≡ self.old }
         ensures trace { Makes D.state fetching true self.old.disk self.new.disk }
     {
@@ -155,8 +163,8 @@ impl<D: Disk> Journal<D> {
             return Err(Refusal::Broken);
         }
         let item = self.machine.item(hop, number)?;
-        match Vec::from_slice(alloc, item.payload.as_slice()) {
-            Ok(bytes) => Ok(bytes),
+        match Payload::copy_of(alloc, item.payload.as_slice()) {
+            Ok(copy) => Ok(copy.into_bytes()),
             Err(_) => Err(Refusal::OutOfMemory),
         }
     }
@@ -292,6 +300,8 @@ impl<D: Disk> Journal<D> {
         ensures emptied { calls.new.items ≡ [] }
         ensures answers { (given : List AnAnswer) × (answers.new.items ≡ answers.old.items ++ given)
             × (Goes self.old self.new calls.old.items given ⊎ Breaks self.old self.new calls.old.items given) }
+        ensures wanted { (given : List AnAnswer) × (answers.new.items ≡ answers.old.items ++ given)
+            × IsRefusedWhereWanted self.old.state (zip calls.old.items given) }
         ensures trace { MakesRound D.state self.old self.new calls.old.items answers.old.items answers.new.items }
         ensures head { IsSameHead self.old.tail self.new.tail }
         ensures calls_capacity { vec_capacity calls.new ≡ vec_capacity calls.old }

@@ -1,6 +1,7 @@
 use Rattle.std.proofs.Common.{◌∙◌, refl, sym, ap, subst}
 use Rattle.rly_machine.specs.declared.call.Answer.{Answer}
 use Rattle.rly_journal.specs.HelpersGroups.{IsOutcome}
+use Rattle.rly_journal.specs.Rounds.{MayWantMemory}
 use Rattle.rly_journal.proofs.Serving.{IsServed, command_served, query_served, starved_served}
 use Rattle.rly_journal.proofs.answering.answer_call.Goals.{in-Command, in-Query+in-Ok, in-Query+in-Err}
 use Rattle.rly_journal.proofs.answering.answer_call.Goals as goal
@@ -25,7 +26,7 @@ served c = elim c.match-ask.branch [
       (w.reply-is ∙ w.in-Ok.ensures.reply) (c.seq.ensures ∙ ap (λ m. m.state.seq) w.machine-is)))
   | in-Query+in-Err w ↦
       starved_served c.args.call (answer_of c) c.args.group.now c.match-ask.group c.args.machine.now.state c.match-ask.machine.state
-      refl refl w.reply-is (ap (λ m. m.state) w.machine-is) w.group-is c.seq.ensures
+      refl refl w.reply-is (subst (MayWantMemory c.args.machine.now.state) (sym w.in-Query.is) w.in-Err.ensures.memory) (ap (λ m. m.state) w.machine-is) w.group-is c.seq.ensures
 ]
 
 pub returns-clause-answered : goal.returns-clause-answered
@@ -33,6 +34,9 @@ returns-clause-answered c = (served c).answered
 
 pub returns-clause-only : goal.returns-clause-only
 returns-clause-only c = (served c).only
+
+pub returns-clause-wanted : goal.returns-clause-wanted
+returns-clause-wanted c = (served c).wanted
 
 pub returns-clause-state : goal.returns-clause-state
 returns-clause-state c = (served c).state

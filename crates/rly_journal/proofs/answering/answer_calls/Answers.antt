@@ -28,6 +28,7 @@ loop-call-preserved c =
     let served : IsServed c.in-Some.call c.answer_call-answer.result c.loop-call.group c.answer_call-answer.new.group c.loop-call.machine.state c.answer_call-answer.new.machine.state = record {
       answered = c.answer_call-answer.ensures.answered;
       only = c.answer_call-answer.ensures.only;
+      wanted = c.answer_call-answer.ensures.wanted;
       state = c.answer_call-answer.ensures.state;
       group = c.answer_call-answer.ensures.group;
     } in (

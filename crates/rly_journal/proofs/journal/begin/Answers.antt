@@ -1,10 +1,11 @@
 use Rattle.std.proofs.Common.{refl, rules, subst, sym}
 use Rattle.rly_disk.proofs.Making.{makes_later, quiet_new}
-use Rattle.rly_journal.specs.Faults.{IsRefused}
+use Rattle.rly_journal.specs.Faults.{HasNewestHead, IsRefused}
 use Rattle.rly_journal.specs.HelpersJournal.{IsShaped}
 use Rattle.rly_journal.specs.Log.{IsLogged}
 use Rattle.rly_journal.specs.Standing.{Stands}
 use Rattle.rly_journal.proofs.Following.{only_made, opening_broken, opening_settled, read_all, read_broken, scan_quiet, sync_broken}
+use Rattle.rly_journal.proofs.Recovering.{scanned_newest}
 use Rattle.rly_journal.proofs.journal.begin.Goals as goal
 
 pub returns-in_default-clause-trace : goal.returns-in_default-clause-trace
@@ -14,6 +15,12 @@ pub returns-in-Err-clause-refused : goal.returns-in-Err-clause-refused
 returns-in-Err-clause-refused g c honest =
     let synced = quiet_new g.D.Disk.state c.in-Ok.ensures.trace refl honest (g.met.D.Disk.consistent c.args.disk.now honest) in
     subst (λ image. IsRefused image c.in-Err.fault) synced.seen (c.in-Err.ensures.refused synced.honest)
+
+pub returns-in-Err-new-clause-refused : goal.returns-in-Err-new-clause-refused
+returns-in-Err-new-clause-refused g c honest =
+    let synced = quiet_new g.D.Disk.state c.in-Ok.ensures.trace refl honest (g.met.D.Disk.consistent c.args.disk.now honest) in
+    let logged = c.in-Ok-recover.ensures.logged synced.honest in
+    subst HasNewestHead synced.seen (scanned_newest _ logged.x logged.stands.scanned)
 
 pub returns-in-Err-clause-trace : goal.returns-in-Err-clause-trace
 returns-in-Err-clause-trace g c = read_broken g.D.Disk.state c.in-Ok.ensures.trace c.in-Err.ensures.trace

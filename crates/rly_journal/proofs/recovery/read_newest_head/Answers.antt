@@ -5,7 +5,7 @@ use Rattle.rly_segment.specs.Answers.{HoldsNoHead, IsReadHead, IsReadNewest}
 use Rattle.rly_segment.specs.Heads.{IsAmbiguous}
 use Rattle.rly_segment.proofs.Looking.{generations_only, header_only}
 use Rattle.rly_journal.proofs.Following.{head_unread, head_whole, header_broken, newest_broken, only_again}
-use Rattle.rly_journal.proofs.Recovering.{head_replayed, read_again, refused_head, refused_newest}
+use Rattle.rly_journal.proofs.Recovering.{has_newest, head_replayed, read_again, refused_head, refused_newest}
 use Rattle.rly_journal.proofs.recovery.read_newest_head.Goals as goal
 
 pub returns-in-Err-NotADevice-clause-trace : goal.returns-in-Err-NotADevice-clause-trace
@@ -56,6 +56,13 @@ returns-in-Err-Damaged-read_head-clause-trace g c =
     let read = rw c.in-Err-Damaged-read_head.field-0-is at c.in-Err-Damaged-read_head.ensures.trace in
     head_unread g.D.Disk.state c.in-Ok.geometry c.in-Ok-newest.newest.segment (g.D.Disk.state c.args.disk.now).size read.0 c.in-Ok.ensures.geometry
     c.in-Ok.ensures.trace c.in-Ok-newest.ensures.trace read.2
+
+pub returns-in-Err-OutOfMemory-clause-refused : goal.returns-in-Err-OutOfMemory-clause-refused
+returns-in-Err-OutOfMemory-clause-refused g c honest =
+    let only = only_read g.D.Disk.state g.met.D.Disk.consistent (header_only g.D.Disk.state (g.D.Disk.state c.args.disk.now).size c.in-Ok.ensures.trace) in
+    let header = c.in-Ok.ensures.read honest in
+    let newest = read_again (λ image. IsReadNewest image c.in-Ok.geometry (Ok c.in-Ok-newest.newest)) only c.in-Ok-newest.ensures.read honest in
+    has_newest (g.D.Disk.state c.args.disk.now).seen c.in-Ok.geometry c.in-Ok-newest.newest.segment header.0 header.1 header.2 newest.0
 
 pub returns-in-Err-OutOfMemory-clause-trace : goal.returns-in-Err-OutOfMemory-clause-trace
 returns-in-Err-OutOfMemory-clause-trace g c =

@@ -7,9 +7,22 @@ use Rattle.rly_gate.specs.Reading.{HoldsGroup, HoldsNone}
 use Rattle.rly_machine.specs.Fold.{AllAccepted}
 use Rattle.rly_journal.specs.Calls.{group_scan}
 use Rattle.rly_journal.specs.HelpersJournal.{IsShaped}
+use Rattle.rly_journal.specs.declared.open_fault.OpenFault.TheVariants as fault
 use Rattle.rly_journal.proofs.Following.{front_all, group_broken, past_body, refused_tells}
-use Rattle.rly_journal.proofs.Recovering.{refused_body, refused_commands, replayed_more, shape_more, with_gate}
+use Rattle.rly_journal.proofs.Recovering.{refused_body, refused_commands, replayed_more, scanned_newest, shape_more, with_gate}
 use Rattle.rly_journal.proofs.recovery.replay_group.Goals as goal
+
+pub returns-in-Err-OutOfMemory-clause-refused : goal.returns-in-Err-OutOfMemory-clause-refused
+returns-in-Err-OutOfMemory-clause-refused g c honest so_far = scanned_newest (g.D.Disk.state c.args.disk.now).seen so_far.x so_far.scanned
+
+pub returns-in-Err-OutOfMemory-read_body-clause-refused : goal.returns-in-Err-OutOfMemory-read_body-clause-refused
+returns-in-Err-OutOfMemory-read_body-clause-refused g c honest so_far = scanned_newest (g.D.Disk.state c.args.disk.now).seen so_far.x so_far.scanned
+
+pub returns-in_err-is_redone-clause-refused : goal.returns-in_err-is_redone-clause-refused
+returns-in_err-is_redone-clause-refused g c honest so_far =
+    let told = err_from_is_err_and c.from_residual.result c.from_residual.ensures.1 in
+    let starved : c.in_err-is_redone.field-0.0 ≡ fault.OutOfMemory = search rules in
+    rw (told.1, told.2, starved) (scanned_newest (g.D.Disk.state c.args.disk.now).seen so_far.x so_far.scanned)
 
 pub returns-in-Err-Damaged-clause-refused : goal.returns-in-Err-Damaged-clause-refused
 returns-in-Err-Damaged-clause-refused g c honest so_far =

@@ -1,11 +1,14 @@
 use Rattle.std.proofs.Common.{◌≡◌, ◌∙◌, ◌++◌, false, true, ap, inl, inr, length, refl, rules, subst, sym}
-use Rattle.rly_core.specs.declared.refusal.Refusal.TheVariants.{OutOfMemory}
+use Rattle.std.specs.List.{zip}
+use Rattle.rly_core.specs.declared.refusal.Refusal.TheVariants.{Broken, OutOfMemory, Unsure}
+use Rattle.rly_machine.specs.declared.reply.Reply.TheVariants.{Refused}
 use Rattle.rly_journal.specs.HelpersCalls.{IsReady, IsUnready}
 use Rattle.rly_journal.specs.HelpersJournal.{IsShaped}
 use Rattle.rly_journal.specs.Journal.{IsDueFor, IsRound, holds_command}
 use Rattle.rly_journal.specs.Log.{IsDurable, IsSameHead}
-use Rattle.rly_journal.specs.Rounds.{refusals}
+use Rattle.rly_journal.specs.Rounds.{IsRefusedWhereWanted, refusals}
 use Rattle.rly_journal.proofs.Rounding.{made_as, round_few_syncs, round_later, round_made, round_refused, round_safe, round_served, round_syncs, round_unmade}
+use Rattle.rly_journal.proofs.Serving.{refused_where_wanted}
 use Rattle.rly_journal.proofs.journal.Journal.round.Goals.{in-Ok, in-Err}
 use Rattle.rly_journal.proofs.journal.Journal.round.Goals as goal
 
@@ -111,3 +114,37 @@ returns-clause-stays g c none =
             | inr failed ↦ absurd (none (ap holds_command (sym c.deref.ensures.value) ∙ failed.2.0, failed.2.1))
           ])
     ]
+
+pub returns-clause-memory : goal.returns-clause-memory
+returns-clause-memory g c =
+    elim c.match-make_ready.branch [
+      | in-Ok w ↦
+          let served = w.serve.ensures.wanted in (
+            served.0,
+            ap (λ v. v.items) w.answers-is ∙ served.1 ∙ ap (λ l. l ++ served.0) c.reserve.ensures.items,
+            inl (subst (λ s. IsRefusedWhereWanted s (zip c.args.calls.now.items served.0)) c.make_ready.ensures.state served.2),
+          )
+      | in-Err w ↦ (
+        refusals w.in-Err.refusal w.self-in-Err.inside.position c.args.calls.now.items,
+        ap (λ v. v.items) w.answers-is ∙ w.refuse_all-in-Err.ensures.answers
+            ∙ ap (λ l. l ++ refusals w.in-Err.refusal w.self-in-Err.inside.position c.args.calls.now.items) c.reserve.ensures.items,
+        elim w.in-Err.ensures.made [
+          | inl starved ↦
+              inr (
+                (ap holds_command (sym c.deref.ensures.value) ∙ starved.2.0, starved.2.1),
+                ap (λ r. refusals r w.self-in-Err.inside.position c.args.calls.now.items) starved.0
+                    ∙ ap (λ n. refusals OutOfMemory n c.args.calls.now.items) (ap (λ j. j.position) w.self-in-Err.view_is ∙ c.make_ready.ensures.position),
+              )
+          | inr failed ↦
+              inl (refused_where_wanted w.in-Err.refusal w.self-in-Err.inside.position c.args.self.now.state c.args.calls.now.items
+              (λ same. let e : Refused Unsure ≡ Refused OutOfMemory = ap Refused (sym failed.0) ∙ same in cc))
+        ],
+      )
+    ]
+
+pub returns-then-self-clause-memory : goal.returns-then-self-clause-memory
+returns-then-self-clause-memory g c = (
+  refusals Broken c.self.inside.position c.args.calls.now.items,
+  c.refuse_all.ensures.answers ∙ ap (λ l. l ++ refusals Broken c.self.inside.position c.args.calls.now.items) c.reserve.ensures.items,
+  inl (refused_where_wanted Broken c.self.inside.position c.args.self.now.state c.args.calls.now.items (λ same. cc)),
+)

@@ -1,4 +1,4 @@
-use Rattle.std.proofs.Common.{◌≡◌, ◌∙◌, true, false, ap, arith, inr, refl, subst, sym, map}
+use Rattle.std.proofs.Common.{◌≡◌, ◌++◌, ◌∙◌, true, false, ap, arith, inr, refl, subst, sym, map}
 use Rattle.std.specs.Prelude.{not}
 use Rattle.std.specs.List.{zip}
 use Rattle.rly_disk.specs.Trace.{Makes}
@@ -10,7 +10,9 @@ use Rattle.rly_journal.specs.Log.{IsFull}
 use Rattle.rly_journal.specs.HelpersGroups.{unsure_at}
 use Rattle.rly_journal.proofs.Gathering.{body_most}
 use Rattle.rly_journal.proofs.Rounding.{logging_group, logging_none, positive, serve_made, unsure_answers, was_asked}
-use Rattle.rly_journal.proofs.Serving.{few_accepted, made_unsure}
+use Rattle.rly_journal.specs.Rounds.{IsRefusedWhereWanted, refusals}
+use Rattle.rly_core.specs.declared.refusal.Refusal.TheVariants.{Unsure}
+use Rattle.rly_journal.proofs.Serving.{few_accepted, made_unsure, refused_where_wanted}
 use Rattle.rly_journal.proofs.journal.Journal.serve.Goals as goal
 
 pub append-requires-clause-something : goal.append-requires-clause-something
@@ -107,3 +109,25 @@ returns-in-Err-clause-trace g c =
     (record { disk = c.append.new.disk; tail = c.append.new.tail; state = c.answer_calls.new.machine.state; position = c.self.inside.position; broken = true }) c.args.calls.now.items answered.0 c.answer_calls.new.group answered.2 answered.3
     (λ due. c.requires.ready (subst (λ j. IsDueFor j c.args.calls.now.items) c.self.view_is due)) made
     c.args.answers.now.items c.make_unsure.new.answers.items (λ going. let e : true ≡ false = going in absurd cc))
+
+pub returns-then-is_empty-clause-wanted : goal.returns-then-is_empty-clause-wanted
+returns-then-is_empty-clause-wanted g c =
+    let answered = c.answer_calls.ensures.answers in
+    (answered.0, answered.1, subst (λ j. IsRefusedWhereWanted j.state (zip c.args.calls.now.items answered.0)) c.self.view_is answered.4)
+
+pub returns-in-Ok-clause-wanted : goal.returns-in-Ok-clause-wanted
+returns-in-Ok-clause-wanted g c =
+    let answered = c.answer_calls.ensures.answers in
+    (answered.0, answered.1, subst (λ j. IsRefusedWhereWanted j.state (zip c.args.calls.now.items answered.0)) c.self.view_is answered.4)
+
+pub returns-in-Err-clause-wanted : goal.returns-in-Err-clause-wanted
+returns-in-Err-clause-wanted g c =
+    let answered = c.answer_calls.ensures.answers in (
+      refusals Unsure c.self.inside.position c.args.calls.now.items,
+      c.make_unsure.ensures.answers
+          ∙ unsure_answers c.args.answers.now.items c.answer_calls.new.answers.items answered.0 c.len-from.result c.self.inside.position answered.1
+          (omega (arith, c.len-from.ensures, c.args.answers.now.ok.0))
+          ∙ ap (λ l. c.args.answers.now.items ++ l)
+          (made_unsure c.args.calls.now.items answered.0 c.self.inside.machine.state c.answer_calls.new.machine.state c.self.inside.position answered.2),
+      refused_where_wanted Unsure c.self.inside.position c.args.self.now.state c.args.calls.now.items (λ same. cc),
+    )
