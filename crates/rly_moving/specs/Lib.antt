@@ -1,0 +1,2 @@
+pub mod HelpersSettling
+pub mod Moving

@@ -1,0 +1,38 @@
+-- What moves where a segment is opened: the victim's payloads stand inline in the new head, and lie there from then on
+-- (docs/DEFINITIONS.md, "Moving").
+use Rattle.std.specs.Prelude.{◌≡◌, ◌≢◌, ℕ, ◌+◌, ◌<◌, ◌≤◌, List, length, replicate, All}
+use Rattle.rly_core.specs.declared.params.Geometry.{Geometry}
+use Rattle.rly_machine.specs.Map.{payloads_of}
+use Rattle.rly_machine.specs.State.{State}
+use Rattle.rly_checkpoint.specs.Checkpoint.{state_spelled}
+use Rattle.rly_checkpoint.specs.Stored.{stored_form, stored_length}
+use Rattle.rly_checkpoint.specs.declared.stored.Place.{Place}
+use Rattle.rly_checkpoint.specs.declared.stored.Stored.{Stored}
+use Rattle.rly_checkpoint.specs.declared.stored.Stored.TheVariants.{Inline, Placed}
+use Rattle.rly_places.specs.Places.{LiesIn, live_in}
+use Rattle.rly_places.specs.Room.{drawn_state, inline_bytes}
+use Rattle.rly_segment.specs.Settling.{settled_state}
+
+-- a payload by place has bytes, and lies wholly in a segment of the device
+abbrev pub LiesThere : Geometry → Stored → Type 0
+LiesThere g (Inline payload) = Unit {0}
+LiesThere g (Placed place) = (1 ≤ place.length) × ((segment : ℕ) × LiesIn g segment place)
+
+-- zeros in the place of bytes that aren't looked at
+abbrev pub unread : Place → List ℕ
+unread place = replicate place.length 0
+
+-- where the payloads lie once the victim's have moved into the head of the target, whatever their bytes are
+abbrev pub moved_state : Geometry → ℕ → ℕ → State Stored → State Stored
+moved_state g target victim s = settled_state g target (drawn_state g victim unread s)
+
+-- the victim's payloads can move into a head that the target gets: the target has no live bytes, nothing is inline, each payload
+-- lies in a segment, and the head has room
+pub record MayMove (g : Geometry) (target victim : ℕ) (s : State Stored) : Type 0 where
+  pub some : 1 ≤ g.length
+  pub there : target < g.segments
+  pub other : victim ≢ target
+  pub empty : live_in g target s ≡ 0
+  pub inline : inline_bytes s ≡ 0
+  pub room : 13 + length (state_spelled stored_length stored_form (drawn_state g victim unread s)) ≤ g.length
+  pub lies : All (LiesThere g) (payloads_of s)
