@@ -1,6 +1,5 @@
 -- The geometry of a new device, and what is looked at before a device is formatted.
 use Rattle.std.specs.Prelude.{◌≡◌, ◌⊎◌, ℕ, ◌<◌, ◌≤◌, Bool, true, false, List, Option, Some, None}
-use Rattle.std.specs.Io.KnownBytes.{Appends}
 use Rattle.rly_core.specs.declared.params.Geometry.{Geometry}
 use Rattle.rly_core.specs.declared.params.Params.{Params}
 use Rattle.rly_disk.specs.DiskModel.{DiskState}

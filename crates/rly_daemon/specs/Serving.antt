@@ -1,7 +1,7 @@
 -- What a relay needs of its device, and the workers that it starts.
-use Rattle.std.specs.Prelude.{◌≡◌, ◌⊎◌, ℕ, ◌<◌, ◌≤◌, List, [], ◌∷◌, ◌++◌, codes, map, length, Option, None, Some}
+use Rattle.std.specs.Prelude.{◌≡◌, ◌⊎◌, ℕ, ◌<◌, ◌≤◌, List, [], ◌∷◌, ◌++◌, codes, map, length, true, IfSome, Option, None, Some}
 use Rattle.std.specs.Fmt.{decimal}
-use Rattle.std.specs.List.{AllZip, range_with_len}
+use Rattle.std.specs.List.{AllZip, list_all, range_with_len}
 use Rattle.std.specs.Option.{option_map}
 use Rattle.rly_core.specs.declared.params.Params.{Params}
 use Rattle.rly_daemon.specs.declared.plan_keys.KeyedWorker.{KeyedWorker}
@@ -13,10 +13,11 @@ use Rattle.rly_plan.specs.Endpoints.{Endpoints}
 use Rattle.rly_seal.specs.declared.station_link.StationLink.{StationLink}
 use Rattle.rly_seal.specs.StationLink.{keys_over, link_below, station_heard, station_sent}
 use Rattle.rly_tag.specs.Keys.{Keys}
+use Rattle.rly_threads.specs.declared.relay.Ended.{Ended}
 use Rattle.rly_threads.specs.declared.relay.Post.{Post}
 use Rattle.rly_threads.specs.declared.turn.Worker.{Worker}
 use Rattle.rly_threads.specs.declared.turn.Worker.TheVariants as worker
-use Rattle.rly_threads.specs.Relay.{HasEnded}
+use Rattle.rly_threads.specs.Relay.{HasEnded, has_run_out}
 
 -- a device has each peer and each hop of a plan
 pub record HasRoom (plan : ContactPlan) (params : Params) : Type 0 where
@@ -75,11 +76,13 @@ duty_of plan turns link =
 abbrev pub duties : ContactPlan → List KeyedWorker → ℕ → List Duty
 duties plan links turns = map (duty_of plan turns) links
 
--- Each worker of a plan did at its post what the plan says of it, from its start to its end, and left that post. Its link is
--- sealed with the key that there is for it, and no other link is. A socket tells nothing of what it heard and sent.
+-- Each worker of a plan had a thread, did at its post what the plan says of it, from its start to the end of its turns, and left
+-- that post. Its link is sealed with the key that there is for it, and no other link is. A socket tells nothing of what it heard
+-- and sent.
 pub record HasRun {C : Type 0} (plan : ContactPlan) (links : List KeyedWorker) (window turns : ℕ)
-    (ended : List (StationPost C)) : Type 0 where
+    (ended : List (Option (Ended (StationLink (UdpLink C)) (WallClock C)))) : Type 0 where
   pub posts : List (StationPost C)
   pub planned : map duty_at posts ≡ duties plan links turns
-  pub worked : AllZip (HasEnded (station_heard (λ _. None)) (station_sent (λ _. None))
-      (λ clock. endless_tells clock.left clock.handed) plan window) posts ended
+  pub worked : AllZip (λ post left. IfSome left (λ worker. HasEnded (station_heard (λ _. None)) (station_sent (λ _. None))
+      (λ clock. endless_tells clock.left clock.handed) plan window post worker.post worker.was_cut)) posts ended
+  pub complete : list_all has_run_out ended ≡ true

@@ -267,9 +267,17 @@ fn run_serve<H: Host, E: Write>(
     let disk = FileDisk::open(rt, file)?;
     let size = disk.size();
     let journal = open_journal(rt.alloc(), disk)?;
-    let _relayed = serve(rt, journal, &plan, keys, turns, size, errors)?;
-    tell_end(turns, errors)?;
-    Ok(())
+    match serve(rt, journal, &plan, keys, turns, size, errors) {
+        Ok(_relayed) => {
+            tell_end(turns, errors)?;
+            Ok(())
+        }
+        Err((ServeFault::Refused(Refusal::Broken, _), disk)) => Err(refused(
+            Refusal::Broken,
+            &disk,
+        )),
+        Err((fault, _disk)) => Err(CommandFault::Serve(fault)),
+    }
 }
 
 /// Says what ended a relay.

@@ -69,7 +69,8 @@ pub fn read_plan<H: AllocGlobal + Files<File = File>>(
 
 /// Runs the relay of a plan, with the keys of its links, on a journal until each worker had its turns, and answers what it leaves. Where the turns are 0
 /// they are without end. Once all that it needs is there it tells what it serves, on a device of `size` bytes; where that
-/// can't be told it serves all the same, and the answer is `Untold` at its end.
+/// can't be told it serves all the same, and the answer is `Untold` at its end. Once the journal is broken each worker ends
+/// at its next turn, and the answer is `Broken`. A fault gives the disk back.
 pub fn serve<'a, H: AllocGlobal + Net + Threads + Wait + Clock + Sync, D: Disk + Drop, E: Write>(
     rt: &'a H,
     journal: Journal<D>,
@@ -78,11 +79,11 @@ pub fn serve<'a, H: AllocGlobal + Net + Threads + Wait + Clock + Sync, D: Disk +
     turns: u64,
     size: u64,
     errors: &mut E,
-) -> Result<UdpRelayed<'a, D, H>, ServeFault>
+) -> Result<UdpRelayed<'a, D, H>, (ServeFault, D)>
     requires sound { IsSoundPlan plan.now }
     requires keys { AreKeysOf plan.now keys }
     ensures room { OnOk result (HasRoom plan.now journal.state.params) }
-    ensures lacks { LacksRoom plan.now journal.state.params → (result ≡ Err (fault.Refused refusal.BadGeometry cause.Plan)) × (errors.new ≡ errors.old) }
+    ensures lacks { LacksRoom plan.now journal.state.params → (result ≡ Err (fault.Refused refusal.BadGeometry cause.Plan, journal.disk)) × (errors.new ≡ errors.old) }
     // A relay whose turns are without end never ends well.
     ensures ends { OnOk result (1 ≤ turns) }
     // Each worker of the plan did at its post what the plan says of it, as far as its link and its clock tell.
@@ -92,19 +93,24 @@ pub fn serve<'a, H: AllocGlobal + Net + Threads + Wait + Clock + Sync, D: Disk +
     ensures left { IfOk result (λ relayed. relayed.finished.last.value.journal ≡ relayed.finished.journal) }
     ensures whole { IfOk result (λ relayed. relayed.finished.journal.broken ≡ false) }
 {
-    check_room(plan, journal.params())?;
-    if journal.is_broken() {
-        return Err(ServeFault::Refused(Refusal::Broken, Cause::Told));
+    if let Err(fault) = check_room(plan, journal.params()) {
+        return Err((fault, journal.into_disk()));
     }
-    let posts = posts_of(rt, plan, keys, turns)?;
+    if journal.is_broken() {
+        let fault = ServeFault::Refused(Refusal::Broken, Cause::Told);
+        return Err((fault, journal.into_disk()));
+    }
+    let posts = match posts_of(rt, plan, keys, turns) {
+        Ok(posts) => posts,
+        Err(fault) => return Err((fault, journal.into_disk())),
+    };
     let told = tell_start(&journal, plan, size, &posts, errors);
     match run_relay(rt, rt.alloc(), journal, plan, posts) {
-        Ok(relayed) => {
-            outcome_of(relayed.finished.broken, relayed.complete)?;
-            told?;
-            Ok(relayed)
-        }
-        Err(_journal) => Err(AllocError.into()),
+        Ok(relayed) => match outcome_of(relayed.finished.broken, relayed.complete, told) {
+            Ok(()) => Ok(relayed),
+            Err(fault) => Err((fault, relayed.finished.journal.into_disk())),
+        },
+        Err(journal) => Err((AllocError.into(), journal.into_disk())),
     }
 }
 
@@ -162,11 +168,15 @@ fn check_room(plan: &Plan, params: Params) -> Result<(), ServeFault>
     Ok(())
 }
 
-/// How a relay ended that was started.
-fn outcome_of(is_broken: bool, is_complete: bool) -> Result<(), ServeFault>
+/// How a relay ended that was started. `told` is whether what it serves could be told.
+fn outcome_of(
+    is_broken: bool,
+    is_complete: bool,
+    told: Result<(), ServeFault>,
+) -> Result<(), ServeFault>
     ensures broken { is_broken ≡ true → result ≡ Err (fault.Refused refusal.Broken cause.Told) }
     ensures worker { is_broken ≡ false → is_complete ≡ false → result ≡ Err fault.Worker }
-    ensures ok { is_broken ≡ false → is_complete ≡ true → IsOk result }
+    ensures ok { is_broken ≡ false → is_complete ≡ true → result ≡ told }
 {
     if is_broken {
         return Err(ServeFault::Refused(Refusal::Broken, Cause::Told));
@@ -174,7 +184,7 @@ fn outcome_of(is_broken: bool, is_complete: bool) -> Result<(), ServeFault>
     if !is_complete {
         return Err(ServeFault::Worker);
     }
-    Ok(())
+    told
 }
 
 /// The workers of a plan, each with its link and its turns.

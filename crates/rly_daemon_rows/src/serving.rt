@@ -272,7 +272,8 @@ fn other_plan(rt: &HostRuntime, path: &str) -> Result<Plan, Fail>
     Ok(plan)
 }
 
-/// Where a write of the device fails, nothing is acknowledged, and the relay ends broken.
+/// Where a write of the device fails, nothing is acknowledged, and the relay ends broken by itself: its turns are without
+/// end, and the sender never has anything to ask that is written.
 #[test]
 fn a_failed_write_ends_a_relay_broken(rt: HostRuntime) -> Result<(), Fail> {
     let path = path_of(&rt, "broken-plan")?;
@@ -286,11 +287,11 @@ fn a_failed_write_ends_a_relay_broken(rt: HostRuntime) -> Result<(), Fail> {
         .ok()
         .ok_or("a thread")?;
     let mut errors = Vec::new(rt.alloc());
-    let ended = serve(&rt, journal, &plan, keys, 20, 165_880, &mut errors);
+    let ended = serve(&rt, journal, &plan, keys, 0, 165_880, &mut errors);
     assert!(rt;
         matches!(
             ended,
-            Err(ServeFault::Refused(Refusal::Broken, Cause::Told))
+            Err((ServeFault::Refused(Refusal::Broken, Cause::Told), _))
         )
     );
     expect!(rt; errors.as_slice() == BEGUN);

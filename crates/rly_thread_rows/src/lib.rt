@@ -17,6 +17,8 @@ macro_rules! expect {
 #[cfg(test)]
 mod asks;
 #[cfg(test)]
+mod broken;
+#[cfg(test)]
 mod copies;
 #[cfg(test)]
 mod devices;

@@ -17,7 +17,7 @@ use std::thread;
 use std::time::{Clock, Duration};
 
 /// Station 7, with stations 3 and 4 upstream and station 9 as the next hop.
-const PLAN: &str = r#"
+pub(super) const PLAN: &str = r#"
 station = 7
 [[peer]]
 id = 1
@@ -40,14 +40,14 @@ destination = 12
 hop = 1
 "#;
 
-const WORKERS: [Worker; 3] = [
+pub(super) const WORKERS: [Worker; 3] = [
     Worker::Receiver(PeerId(1)),
     Worker::Receiver(PeerId(2)),
     Worker::Sender(HopId(1)),
 ];
 
 /// Data number 1 with payload `000c41` to station 7, from station 3 and from station 4.
-const DATA: [&[u8]; 2] = [
+pub(super) const DATA: [&[u8]; 2] = [
     b"\x52\x4c\x01\x01\x00\x03\x00\x07\x00\x00\x00\x00\x00\x00\x00\x01\x00\x03\x00\x0c\x41",
     b"\x52\x4c\x01\x01\x00\x04\x00\x07\x00\x00\x00\x00\x00\x00\x00\x01\x00\x03\x00\x0c\x41",
 ];

@@ -3,4 +3,4 @@ pub mod Grown
 pub mod Receivers
 pub mod Senders
 pub mod Threads
-pub mod Ended
+pub mod Kept

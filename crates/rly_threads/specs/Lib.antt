@@ -5,5 +5,7 @@ pub mod Outlet
 pub mod Runs
 pub mod Memory
 pub mod HelpersTurns
+pub mod Cut
 pub mod Relay
+pub mod HelpersCut
 pub mod Asking

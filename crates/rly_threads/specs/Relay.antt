@@ -1,5 +1,5 @@
 -- A relay: its lines, and what its workers did.
-use Rattle.std.specs.Prelude.{◌≡◌, ◌⊎◌, ℕ, false, List, [], map, Option, None, IfSome}
+use Rattle.std.specs.Prelude.{◌≡◌, ◌⊎◌, ℕ, not, Bool, false, true, List, [], map, Option, None, Some, IfSome}
 use Rattle.std.specs.List.{range_with_len}
 use Rattle.rly_core.specs.declared.ids.HopId.{HopId}
 use Rattle.rly_core.specs.declared.ids.PeerId.{PeerId}
@@ -8,10 +8,12 @@ use Rattle.rly_hop.specs.Sending.{sender}
 use Rattle.rly_line.specs.EndViews.{EndView, new_teller}
 use Rattle.rly_line.specs.Submission.{LineId}
 use Rattle.rly_plan.specs.ContactPlan.{ContactPlan, next_hop_at, peer_at}
+use Rattle.rly_threads.specs.declared.relay.Ended.{Ended}
 use Rattle.rly_threads.specs.declared.relay.Post.{Post}
 use Rattle.rly_threads.specs.declared.turn.Worker.{Worker}
 use Rattle.rly_threads.specs.declared.turn.Worker.TheVariants as worker
-use Rattle.rly_threads.specs.Ends.{Hearing}
+use Rattle.rly_threads.specs.Cut.{Look, cut_early, handed_at, was_cut}
+use Rattle.rly_threads.specs.Ends.{Hearing, TellsMore}
 use Rattle.rly_threads.specs.Intake.{Arrivals, intake, intake_turn}
 use Rattle.rly_threads.specs.Outlet.{outlet, outlet_turn, pacing}
 use Rattle.rly_threads.specs.Runs.{Ran, EndsView}
@@ -48,12 +50,20 @@ HasWorked plan window (worker.Sender hop) old new = HasSent plan window hop old 
 abbrev pub told_at : Option (List Hearing) → Option (List (List ℕ)) → Option (List Handed) → EndsView
 told_at heard sent handed = record { heard = heard; sent = sent; asked = None; handed = handed }
 
--- a post of a worker that ended, beside what it was
-abbrev pub HasEnded : {L T : Type 0}
-    → (L → Option (List Hearing)) → (L → Option (List (List ℕ))) → (T → Option (List Handed))
-    → ContactPlan → ℕ → Post L T → Post L T → Type 0
-HasEnded heard sent handed plan window post ended =
-    (ended.worker ≡ post.worker)
-    × HasWorked plan window post.worker
-    (told_at (heard post.link) (sent post.link) (handed post.turn))
-    (told_at (heard ended.link) (sent ended.link) (handed ended.turn))
+-- A worker that ended, beside its post before. It did what the plan says for what it was handed, from its start to its end. That
+-- is what its turns handed out, but for its end where it was cut: its turns would have had it go on.
+pub record HasEnded {L T : Type 0} (heard : L → Option (List Hearing)) (sent : L → Option (List (List ℕ)))
+    (handed : T → Option (List Handed)) (plan : ContactPlan) (window : ℕ) (post left : Post L T) (cut : Bool) : Type 0 where
+  pub worker : left.worker ≡ post.worker
+  pub looks : List Look
+  pub turns : TellsMore (handed post.turn) (handed left.turn) (map (λ l. l.handed) looks)
+  pub worked : HasWorked plan window post.worker
+      (told_at (heard post.link) (sent post.link) (Some []))
+      (told_at (heard left.link) (sent left.link) (Some (map handed_at looks)))
+  pub was_cut : cut ≡ was_cut looks
+  pub early : cut_early looks ≡ true
+
+-- whether a worker had a thread, and ran until its turns were ended
+abbrev pub has_run_out : {L T : Type 0} → Option (Ended L T) → Bool
+has_run_out None = false
+has_run_out (Some worker) = not worker.was_cut

@@ -10,6 +10,7 @@
 //! `rly_daemon`.
 #![tactic(auto)]
 
+mod cut;
 mod desk;
 mod ends;
 mod link;
@@ -28,6 +29,6 @@ pub use crate::mem_desk::MemDesk;
 pub use crate::mem_link::MemLink;
 pub use crate::mem_turn::MemTurn;
 pub use crate::receiver::receiver_run;
-pub use crate::relay::{Post, Relayed, run_relay};
+pub use crate::relay::{Ended, Post, Relayed, run_relay};
 pub use crate::sender::sender_run;
 pub use crate::turn::{Go, Point, Turn, Worker};

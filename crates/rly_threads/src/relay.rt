@@ -1,12 +1,15 @@
 //! The relay: the flusher and the workers, each in a thread of its own.
 
-ghost use Rattle.std.specs.Prelude.{◌≡◌, ◌≤◌, [], IfErr, IfOk, length, true, vec_capacity};
-ghost use Rattle.std.specs.List.{AllZip};
-ghost use Rattle.rly_disk.specs.DiskModel.{Later};
+ghost use Rattle.std.specs.Prelude.{◌≡◌, ◌≤◌, ◌⊎◌, [], IfErr, IfOk, IfSome, length, true, vec_capacity};
+ghost use Rattle.std.specs.List.{AllByRecursion, AllZip, list_all};
+ghost use Rattle.std.specs.Option.{is_some};
+ghost use Rattle.rly_disk.specs.DiskModel.{HasFailed, Later};
 ghost use Rattle.rly_flush.specs.Flushing.{IsServed, new_flusher};
 ghost use Rattle.rly_line.specs.Submission.{LineId};
-ghost use Rattle.rly_threads.specs.Relay.{HasEnded, new_end};
+ghost use Rattle.rly_threads.specs.HelpersCut.{GivesBack, IsFor, IsHeard, IsJoined, IsRelayed};
+ghost use Rattle.rly_threads.specs.Relay.{HasEnded, has_run_out, new_end};
 
+use crate::cut::{CutTurn, Whose, tell_workers};
 use crate::ends::Ends;
 use crate::link::Link;
 use crate::receiver::receiver_run;
@@ -18,10 +21,11 @@ use rly_journal::Journal;
 use rly_line::{Seat, make};
 use rly_plan::Plan;
 use std::alloc::Global;
+use std::marker::Brand;
 use std::snapshot::Snapshot;
-use std::sync::Wait;
+use std::sync::{OnceLock, OnceToken, Wait};
 use std::thread;
-use std::thread::{Promise, PromisedHandle, Threads};
+use std::thread::{Promise, PromisedHandle, Scope, Threads};
 
 /// A worker of a relay.
 #[derive(Drop)]
@@ -34,20 +38,31 @@ pub struct Post<L: Link, T: Turn> {
     pub turn: T,
 }
 
+/// A worker that had a thread, at its end.
+#[derive(Drop)]
+pub struct Ended<L: Link, T: Turn> {
+    /// Its post.
+    pub post: Post<L, T>,
+    /// Whether it was cut: the journal broke, and its turns would have had it go on.
+    pub was_cut: bool,
+}
+
 /// What a relay leaves once all workers have ended.
 #[derive(Drop)]
 pub struct Relayed<D: Disk, L: Link, T: Turn> {
     /// What its flusher leaves.
     pub finished: Finished<D>,
-    /// The posts of the workers that ran, in order.
-    pub ended: Vec<Post<L, T>>,
-    /// Whether there was a thread for each worker. One for which there was none did nothing.
+    /// Its workers, in the order of their posts. None: there was no thread for it, and it did nothing.
+    pub ended: Vec<Option<Ended<L, T>>>,
+    /// Whether its workers were told to end at their next turns.
+    pub is_cut: bool,
+    /// Whether each worker had a thread and ran until its turns were ended.
     pub complete: bool,
 }
 
 /// Starts each worker in a thread of its own, and waits until all have ended. Their calls are answered meanwhile: the
-/// flusher has the calling thread. Where memory is refused for the lines, the flusher or what the threads give back,
-/// nothing is started, and the journal is handed back.
+/// flusher has the calling thread. Once the journal is broken each worker ends at its next turn. Where memory is refused for
+/// the lines, the flusher or what the threads give back, nothing is started, and the journal is handed back.
 pub fn run_relay<
     R: Threads + Wait + Sync,
     D: Disk + Drop,
@@ -62,13 +77,55 @@ pub fn run_relay<
 ) -> Result<Relayed<D, L, T>, Journal<D>>
     requires { (1 ≤ length posts.items) × (length posts.items ≤ 256) }
     ensures broken { IfOk result (λ relayed. relayed.finished.broken ≡ relayed.finished.journal.broken) }
+    // The journal ends broken only where it was, or where a call of its device failed.
+    ensures broke { IfOk result (λ relayed. relayed.finished.broken ≡ true →
+        (journal.broken ≡ true) ⊎ HasFailed (D.state journal.disk) (D.state relayed.finished.journal.disk)) }
     // What its flusher leaves is what rounds make of the journal, at the end of a new line with a seat for each worker.
     ensures served { IfOk result (λ relayed. (line : LineId) × IsServed D.state (new_flusher journal (new_end line (length posts.items))) relayed.finished.last.value) }
     ensures left { IfOk result (λ relayed. relayed.finished.last.value.journal ≡ relayed.finished.journal) }
-    // Each worker did at its post what the plan says of it, with the journal's window.
-    ensures worked { IfOk result (λ relayed. relayed.complete ≡ true →
-        AllZip (HasEnded L.heard L.sent T.told plan.now journal.state.params.window) posts.items relayed.ended.items) }
+    // Each worker that had a thread did at its post what the plan says of it, with the journal's window.
+    ensures worked { IfOk result (λ relayed. AllZip (λ post ended. IfSome ended (λ worker.
+        HasEnded L.heard L.sent T.told plan.now journal.state.params.window post worker.post worker.was_cut)) posts.items relayed.ended.items) }
+    // The workers are told to end exactly where the journal broke, and none is cut elsewhere.
+    ensures told { IfOk result (λ relayed. relayed.is_cut ≡ relayed.finished.broken) }
+    ensures cut { IfOk result (λ relayed. AllByRecursion (λ ended. IfSome ended (λ worker. worker.was_cut ≡ true → relayed.is_cut ≡ true)) relayed.ended.items) }
+    ensures complete { IfOk result (λ relayed. relayed.complete ≡ list_all has_run_out relayed.ended.items) }
     ensures later { IfOk result (λ relayed. Later (D.state journal.disk) (D.state relayed.finished.journal.disk)) }
+    ensures refused { IfErr result (λ back. back ≡ journal) }
+{
+    let word = OnceLock::new();
+    let word = &word;
+    thread::scope(
+        thread::scope_env(),
+        rt,
+        move |scope| -> Result<Relayed<D, L, T>, Journal<D>>
+            requires count { (1 ≤ length posts.items) × (length posts.items ≤ 256) }
+            ensures done { IfOk result (λ relayed. IsRelayed D.state L.heard L.sent T.told plan.entry.now journal posts.items relayed) }
+            ensures refused { IfErr result (λ back. back ≡ journal) }
+        { relay_in(scope, rt, alloc, journal, plan, posts, word) },
+    )
+}
+
+/// Reserves what a relay needs, and runs it in threads of a scope. Where memory is refused, nothing is started.
+fn relay_in<
+    's,
+    'a: 's,
+    E,
+    R: Threads + Wait + Sync,
+    D: Disk + Drop,
+    L: Link + Drop + Send + 's,
+    T: Turn + Drop + Send + 's,
+>(
+    scope: &Scope<'s, E>,
+    rt: &'s R,
+    alloc: Global,
+    journal: Journal<D>,
+    plan: &'s Plan,
+    posts: Vec<Post<L, T>>,
+    word: &'a OnceLock<bool>,
+) -> Result<Relayed<D, L, T>, Journal<D>>
+    requires count { (1 ≤ length posts.items) × (length posts.items ≤ 256) }
+    ensures done { IfOk result (λ relayed. IsRelayed D.state L.heard L.sent T.told plan.now journal posts.items relayed) }
     ensures refused { IfErr result (λ back. back ≡ journal) }
 {
     let window = journal.params().window;
@@ -86,88 +143,217 @@ pub fn run_relay<
         Ok(flusher) => flusher,
         Err((journal, _)) => return Err(journal),
     };
-    Ok(thread::scope(
-        thread::scope_env(),
-        rt,
-        move |scope| -> Relayed<D, L, T>
-            requires seats { length seats.items ≡ length posts.items }
-            requires threads { (threads.items ≡ []) × (vec_capacity threads ≡ length posts.items) }
-            requires ended { (ended.items ≡ []) × (vec_capacity ended ≡ length posts.items) }
-            ensures broken { result.finished.broken ≡ result.finished.journal.broken }
-            ensures served { IsServed D.state flusher result.finished.last.value }
-            ensures left { result.finished.last.value.journal ≡ result.finished.journal }
-            ensures worked { result.complete ≡ true → AllZip (HasEnded L.heard L.sent T.told plan.entry.now window) posts.items result.ended.items }
-        {
-            let mut threads = threads;
-            let mut complete = true;
-            for (seat, post) in seats.into_iter().zip(posts) {
-                let duty = Duty {
-                    plan: Snapshot::of(plan),
-                    window,
-                    post: Snapshot::of(&post),
-                };
-                match scope.spawn_with(duty, move || work(rt, alloc, plan, window, post, seat)) {
-                    Ok(thread) => threads.push_reserved(thread),
-                    Err(_refused) => complete = false,
-                }
-            }
-            let finished = flusher.serve(rt);
-            Relayed {
-                finished,
-                ended: join_all(rt, threads, ended),
-                complete,
-            }
-        },
-    ))
+    let threads = start_all(scope, rt, alloc, plan, window, posts, seats, word, threads);
+    Ok(serve_to_end(rt, flusher, threads, word, ended))
 }
 
-/// What the thread of a worker gives back: the worker's post, once it did what the plan says of it.
+/// Starts the thread of each worker for which there is one, and puts them into an empty list with room for them.
+fn start_all<'s, 'a: 's, E, R: Wait + Sync, L: Link + Drop + Send + 's, T: Turn + Drop + Send + 's>(
+    scope: &Scope<'s, E>,
+    rt: &'s R,
+    alloc: Global,
+    plan: &'s Plan,
+    window: u64,
+    posts: Vec<Post<L, T>>,
+    seats: Vec<Seat>,
+    word: &'a OnceLock<bool>,
+    empty: Vec<Thread<'a, L, T>>,
+) -> Vec<Thread<'a, L, T>>
+    requires seats { length seats.items ≡ length posts.items }
+    requires empty { (empty.items ≡ []) × (vec_capacity empty ≡ length posts.items) }
+    ensures { AllZip (IsFor plan.now window word.now.id) posts.items result.items }
+{
+    let mut threads = empty;
+    for (seat, post) in seats.into_iter().zip(posts) {
+        let thread = start(scope, rt, alloc, plan, window, post, seat, word);
+        threads.push_reserved(thread);
+    }
+    threads
+}
+
+/// Serves the calls of these workers until the flusher has ended, says to the workers whether they are to end, and waits until
+/// they have.
+fn serve_to_end<'a, R: Threads + Wait, D: Disk + Drop, L: Link + Drop, T: Turn + Drop>(
+    rt: &R,
+    flusher: Flusher<D>,
+    threads: Vec<Thread<'a, L, T>>,
+    word: &'a OnceLock<bool>,
+    empty: Vec<Option<Ended<L, T>>>,
+) -> Relayed<D, L, T>
+    requires empty { (empty.items ≡ []) × (length threads.items ≤ vec_capacity empty) }
+    requires word { AllByRecursion (λ thread. IfSome thread (λ t. t.promise.word.value.id ≡ word.now.id)) threads.items }
+    ensures broken { result.finished.broken ≡ result.finished.journal.broken }
+    ensures served { IsServed D.state flusher result.finished.last.value }
+    ensures left { result.finished.last.value.journal ≡ result.finished.journal }
+    ensures joined { AllZip (GivesBack (IsJoined L.heard L.sent T.told result.finished.broken)) threads.entry.items result.ended.items }
+    ensures told { result.is_cut ≡ result.finished.broken }
+    ensures complete { result.complete ≡ list_all has_run_out result.ended.items }
+{
+    let finished = flusher.serve(rt);
+    let said = tell_workers(rt, word, finished.broken);
+    let ended = join_all(rt, threads, &said, empty);
+    Relayed {
+        complete: have_run_out(&ended),
+        is_cut: *word.value(&said),
+        finished,
+        ended,
+    }
+}
+
+/// What the thread of a worker gives back: the worker's post, once it did what the plan says of it, and what it heard where
+/// it was cut.
 #[derive(Drop)]
 struct Duty<L: Link + Drop, T: Turn + Drop> {
     plan: Snapshot<Plan>,
     window: u64,
     post: Snapshot<Post<L, T>>,
+    word: Snapshot<OnceLock<bool>>,
 }
 
-impl<L: Link + Drop, T: Turn + Drop> Promise<Post<L, T>> for Duty<L, T> {
+impl<'a, L: Link + Drop, T: Turn + Drop> Promise<Left<'a, L, T>> for Duty<L, T> {
+    ghost use Rattle.std.specs.Option.{is_some};
+    ghost use Rattle.rly_threads.specs.HelpersCut.{IsHeard};
     ghost use Rattle.rly_threads.specs.Relay.{HasEnded};
 
-    ghost kept_by = { λ duty ended. HasEnded L.heard L.sent T.told duty.plan.value duty.window duty.post.value ended };
+    ghost kept_by = { λ duty left. HasEnded L.heard L.sent T.told duty.plan.value duty.window duty.post.value left.post (is_some left.heard)
+        × IsHeard duty.word.value.id left.heard };
 }
 
-/// Waits until all these threads have ended, and puts the posts that they give back into an empty list with room for them.
-fn join_all<R: Threads + Wait, L: Link + Drop, T: Turn + Drop>(
+/// What a worker leaves.
+#[derive(Drop)]
+struct Left<'a, L: Link, T: Turn> {
+    post: Post<L, T>,
+    /// What it heard where it was cut.
+    heard: Option<OnceToken<'a, bool>>,
+}
+
+/// The thread of a worker, if there was one for it.
+type Thread<'a, L, T> = Option<PromisedHandle<Left<'a, L, T>, Duty<L, T>>>;
+
+/// Starts the thread of a worker, if there is one for it.
+fn start<'s, 'a: 's, E, R: Wait + Sync, L: Link + Drop + Send + 's, T: Turn + Drop + Send + 's>(
+    scope: &Scope<'s, E>,
+    rt: &'s R,
+    alloc: Global,
+    plan: &'s Plan,
+    window: u64,
+    post: Post<L, T>,
+    seat: Seat,
+    word: &'a OnceLock<bool>,
+) -> Thread<'a, L, T>
+    ensures { IsFor plan.now window word.now.id post result }
+{
+    let duty = Duty {
+        plan: Snapshot::of(plan),
+        window,
+        post: Snapshot::of(&post),
+        word: Snapshot::of(word),
+    };
+    let started = scope.spawn_with(
+        duty,
+        move || work(rt, alloc, plan, window, post, seat, word),
+    );
+    match started {
+        Ok(thread) => Some(thread),
+        Err(_refused) => None,
+    }
+}
+
+/// Waits until all these threads have ended, and puts what they give back into an empty list with room for it. The workers
+/// were told what was said.
+fn join_all<'a, R: Threads + Wait, L: Link + Drop, T: Turn + Drop>(
     rt: &R,
-    threads: Vec<PromisedHandle<Post<L, T>, Duty<L, T>>>,
-    empty: Vec<Post<L, T>>,
-) -> Vec<Post<L, T>>
+    threads: Vec<Thread<'a, L, T>>,
+    said: &OnceToken<'a, bool>,
+    empty: Vec<Option<Ended<L, T>>>,
+) -> Vec<Option<Ended<L, T>>>
     requires empty { empty.items ≡ [] }
     requires room { length threads.items ≤ vec_capacity empty }
-    ensures { AllZip (λ thread ended. HasEnded L.heard L.sent T.told thread.promise.plan.value thread.promise.window thread.promise.post.value ended) threads.items result.items }
+    requires word { AllByRecursion (λ thread. IfSome thread (λ t. t.promise.word.value.id ≡ said.now.of)) threads.items }
+    ensures { AllZip (GivesBack (IsJoined L.heard L.sent T.told said.now.value)) threads.entry.items result.items }
 {
     let mut ended = empty;
     for thread in threads {
-        ended.push_reserved(thread.join(rt));
+        ended.push_reserved(join(rt, thread, said));
     }
     ended
 }
 
+/// Waits until this thread has ended.
+fn join<'a, R: Threads + Wait, L: Link + Drop, T: Turn + Drop>(
+    rt: &R,
+    thread: Thread<'a, L, T>,
+    said: &OnceToken<'a, bool>,
+) -> Option<Ended<L, T>>
+    requires { IfSome thread (λ t. t.promise.word.value.id ≡ said.now.of) }
+    ensures { GivesBack (IsJoined L.heard L.sent T.told said.now.value) thread.entry result }
+{
+    let left = thread?.join(rt);
+    let was_cut = match &left.heard {
+        Some(heard) => {
+            heard.agrees(said);
+            true
+        }
+        None => false,
+    };
+    Some(Ended {
+        post: left.post,
+        was_cut,
+    })
+}
+
+/// Whether each of these had a thread, and ran until its turns were ended.
+fn have_run_out<L: Link, T: Turn>(ended: &[Option<Ended<L, T>>]) -> bool
+    ensures { result ≡ list_all has_run_out ended.now }
+{
+    ended.iter().all(has_run_out)
+}
+
+/// Whether this one had a thread, and ran until its turns were ended.
+fn has_run_out<L: Link, T: Turn>(ended: &Option<Ended<L, T>>) -> bool
+    ensures { result ≡ has_run_out ended.now }
+{
+    match ended {
+        Some(worker) => !worker.was_cut,
+        None => false,
+    }
+}
+
 /// A worker at its post, from its start to its end. `window` is how many datagrams a sender may have in flight.
-fn work<R: Wait, L: Link + Drop, T: Turn + Drop>(
+fn work<'a, R: Wait, L: Link + Drop, T: Turn + Drop>(
     rt: &R,
     alloc: Global,
     plan: &Plan,
     window: u64,
     post: Post<L, T>,
     seat: Seat,
-) -> Post<L, T>
-    ensures { HasEnded L.heard L.sent T.told plan.now window post result }
+    word: &'a OnceLock<bool>,
+) -> Left<'a, L, T>
+    ensures ended { HasEnded L.heard L.sent T.told plan.now window post result.post (is_some result.heard) }
+    ensures heard { IsHeard word.now.id result.heard }
+{
+    work_as::<Brand, R, L, T>(rt, alloc, plan, window, post, seat, word)
+}
+
+fn work_as<'a, W: Whose, R: Wait, L: Link + Drop, T: Turn + Drop>(
+    rt: &R,
+    alloc: Global,
+    plan: &Plan,
+    window: u64,
+    post: Post<L, T>,
+    seat: Seat,
+    word: &'a OnceLock<bool>,
+) -> Left<'a, L, T>
+    requires first { T.told post.turn ≡ W.first }
+    requires lock { word.now.id ≡ W.lock }
+    ensures ended { HasEnded L.heard L.sent T.told plan.now window post result.post (is_some result.heard) }
+    ensures heard { IsHeard word.now.id result.heard }
 {
     let Post { worker, link, turn } = post;
     let mut ends = Ends {
         link,
         desk: seat,
-        turn,
+        turn: CutTurn::<'_, T, W>::new(turn, word),
     };
     match worker {
         Worker::Receiver(peer) => receiver_run(rt, alloc, plan, peer, &mut ends),
@@ -178,5 +364,9 @@ fn work<R: Wait, L: Link + Drop, T: Turn + Drop>(
         desk: _seat,
         turn,
     } = ends;
-    Post { worker, link, turn }
+    let (turn, heard) = turn.into_parts();
+    Left {
+        post: Post { worker, link, turn },
+        heard,
+    }
 }

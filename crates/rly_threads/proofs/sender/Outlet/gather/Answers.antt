@@ -1,4 +1,4 @@
-use Rattle.std.proofs.Common.{◌≡◌, ◌∙◌, ◌∷◌, [], arith, not, refl, subst, take}
+use Rattle.std.proofs.Common.{◌∙◌, ◌∷◌, [], arith, not, refl, subst, take}
 use Rattle.rly_threads.specs.Ends.{TellsMore, hearing, packet_in}
 use Rattle.rly_threads.specs.Outlet.{outlet_on_hearing}
 use Rattle.rly_threads.proofs.Senders.{hearing_full, hearing_more, hearing_none, hearing_quiet, later_waits}

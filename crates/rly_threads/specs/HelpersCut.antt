@@ -1,0 +1,81 @@
+-- Nothing is claimed here: what a worker's turns keep of what they handed out, and what the thread of a worker gives back.
+use Rattle.std.specs.Prelude.{◌≡◌, ℕ, Bool, true, List, length, map, Option, None, Some, IfSome}
+use Rattle.std.specs.List.{AllByRecursion, AllZip, list_all}
+use Rattle.std.specs.declared.thread.PromisedHandle.{PromisedHandle}
+use Rattle.std.specs.Option.{is_some}
+use Rattle.std.specs.declared.sync.OnceToken.{OnceToken}
+use Rattle.rly_disk.specs.DiskModel.{DiskState}
+use Rattle.rly_flush.specs.Flushing.{IsServed, new_flusher}
+use Rattle.rly_journal.specs.Journal.{JournalState}
+use Rattle.rly_line.specs.Submission.{LineId}
+use Rattle.rly_plan.specs.ContactPlan.{ContactPlan}
+use Rattle.http_server.specs.declared.log.Log.{Log}
+use Rattle.rly_threads.specs.declared.relay.Duty.{Duty}
+use Rattle.rly_threads.specs.declared.relay.Ended.{Ended}
+use Rattle.rly_threads.specs.declared.relay.Left.{Left}
+use Rattle.rly_threads.specs.declared.relay.Post.{Post}
+use Rattle.rly_threads.specs.declared.relay.Relayed.{Relayed}
+use Rattle.rly_threads.specs.declared.turn.Go.{Go}
+use Rattle.rly_threads.specs.declared.turn.Point.{Point}
+use Rattle.rly_threads.specs.declared.turn.Worker.{Worker}
+use Rattle.rly_threads.specs.Cut.{Look, cut_early, was_cut}
+use Rattle.rly_threads.specs.Ends.{Hearing, TellsMore}
+use Rattle.rly_threads.specs.Relay.{HasEnded, has_run_out, new_end}
+use Rattle.rly_threads.specs.Turns.{Handed}
+
+-- what a log has
+abbrev pub looks_in : Log (Worker × Point) (Go × Bool) → List Look
+looks_in log = map (λ e. record { handed = (e.0.0, e.0.1, e.1.0); cut = e.1.1 }) log.items
+
+-- what was heard, if anything was, is the word of that lock, and it is that the relay is cut
+abbrev pub IsHeard : ℕ → Option (OnceToken Bool) → Type 0
+IsHeard lock heard = IfSome heard (λ said. (said.of ≡ lock) × (said.value ≡ true))
+
+-- what its crate sees of the turns of a worker that may be cut: those turns, the lock of the word, what was heard where the
+-- worker was cut, and what they handed out
+pub record CutView (T : Type 0) : Type 0 where
+  pub turn : T
+  pub lock : ℕ
+  pub heard : Option (OnceToken Bool)
+  pub looks : List Look
+
+-- what holds of them at each moment, beside what they told at first and the lock of the word
+pub record IsCutting {T : Type 0} (told : T → Option (List Handed)) (first : Option (List Handed)) (lock : ℕ) (c : CutView T)
+    : Type 0 where
+  pub turns : TellsMore first (told c.turn) (map (λ l. l.handed) c.looks)
+  pub cut : is_some c.heard ≡ was_cut c.looks
+  pub early : cut_early c.looks ≡ true
+  pub of : c.lock ≡ lock
+  pub hears : IsHeard lock c.heard
+
+-- what the thread of a post was started for, if there is one
+abbrev pub IsFor : {L T : Type 0} → ContactPlan → ℕ → ℕ → Post L T → Option (PromisedHandle (Left L T) (Duty L T)) → Type 0
+IsFor plan window lock post thread =
+    IfSome thread (λ t. (t.promise.plan.value ≡ plan) × (t.promise.window ≡ window) × (t.promise.post.value ≡ post)
+    × (t.promise.word.value.id ≡ lock))
+
+-- what came of a worker that had a thread, if it had one
+abbrev pub GivesBack : {H R : Type 0} → (H → R → Type 0) → Option H → Option R → Type 0
+GivesBack Gives None result = result ≡ None
+GivesBack Gives (Some thread) result = IfSome result (Gives thread)
+
+-- the thread of a worker at its end: its worker did at its post what was promised, and was cut only where that was said
+abbrev pub IsJoined : {L T : Type 0} → (L → Option (List Hearing)) → (L → Option (List (List ℕ))) → (T → Option (List Handed))
+    → Bool → PromisedHandle (Left L T) (Duty L T) → Ended L T → Type 0
+IsJoined heard sent handed said thread ended =
+    HasEnded heard sent handed thread.promise.plan.value thread.promise.window thread.promise.post.value ended.post ended.was_cut
+    × (ended.was_cut ≡ true → said ≡ true)
+
+-- what a relay leaves of its journal and its posts, each as `run_relay` says it
+pub record IsRelayed {D L T : Type 0} (state : D → DiskState) (heard : L → Option (List Hearing)) (sent : L → Option (List (List ℕ)))
+    (handed : T → Option (List Handed)) (plan : ContactPlan) (journal : JournalState D) (posts : List (Post L T))
+    (relayed : Relayed D L T) : Type 0 where
+  pub broken : relayed.finished.broken ≡ relayed.finished.journal.broken
+  pub line : LineId
+  pub served : IsServed state (new_flusher journal (new_end line (length posts))) relayed.finished.last.value
+  pub left : relayed.finished.last.value.journal ≡ relayed.finished.journal
+  pub worked : AllZip (λ post ended. IfSome ended (λ worker.
+      HasEnded heard sent handed plan journal.state.params.window post worker.post worker.was_cut)) posts relayed.ended.items
+  pub told : relayed.is_cut ≡ relayed.finished.broken
+  pub cut : AllByRecursion (λ ended. IfSome ended (λ worker. worker.was_cut ≡ true → relayed.is_cut ≡ true)) relayed.ended.items
+  pub complete : relayed.complete ≡ list_all has_run_out relayed.ended.items

@@ -1,0 +1,141 @@
+//! How the workers of a relay end before their turns do.
+
+ghost use Rattle.std.specs.Prelude.{◌≡◌, ◌≤◌, ◌∷◌, [], None, Some, map};
+ghost use Rattle.rly_threads.specs.Cut.{handed_at};
+ghost use Rattle.rly_threads.specs.Ends.{TellsMore};
+ghost use Rattle.rly_threads.specs.HelpersCut.{IsCutting, IsHeard};
+
+use crate::turn::{Go, Point, Turn, Worker};
+use http_server::Log;
+use std::marker::{Brand, Model, PhantomData};
+use std::sync::{OnceLock, OnceToken, Wait};
+
+/// Says to the workers of a relay whether they are to end at their next turns. It is said once, for all of them.
+pub(crate) fn tell_workers<'a, R: Wait>(
+    rt: &R,
+    word: &'a OnceLock<bool>,
+    cut: bool,
+) -> OnceToken<'a, bool>
+    ensures of { result.of ≡ word.now.id }
+    ensures value { result.value ≡ cut }
+{
+    for _try in rt.forever() {
+        // Nobody else says it, so the first try is the last.
+        if let Ok(said) = word.set(rt, cut) {
+            return said;
+        }
+    }
+    unreachable!()
+}
+
+/// Whose turns they are, for the proof alone.
+pub(crate) trait Whose {
+    ghost use Rattle.std.specs.Prelude.{ℕ, List, Option};
+    ghost use Rattle.rly_threads.specs.Turns.{Handed};
+
+    /// What they told at first.
+    ghost first: { Option (List Handed) };
+
+    /// The lock of the word.
+    ghost lock: { ℕ };
+}
+
+impl Whose for Brand {
+    ghost use Rattle.std.specs.Prelude.{None};
+
+    ghost first = { None };
+
+    ghost lock = { 0 };
+}
+
+/// The turns of a worker, which end early once it hears that its relay is cut.
+#[derive(Drop)]
+pub(crate) struct CutTurn<'a, T: Turn, W: Whose> {
+    turn: T,
+    word: &'a OnceLock<bool>,
+    /// What it heard where it ended the worker.
+    heard: Option<OnceToken<'a, bool>>,
+    whose: PhantomData<W>,
+    /// What the turns handed out, and where the worker was cut. It takes no memory.
+    looks: Log<(Worker, Point), (Go, bool)>,
+}
+
+impl<'a, T: Turn, W: Whose> Model for CutTurn<'a, T, W> {
+    ghost use Rattle.rly_threads.specs.HelpersCut.{CutView, IsCutting, looks_in};
+
+    ghost Value = { CutView T };
+
+    ghost view = { λ c. record { turn = c.turn; lock = c.word.now.id; heard = c.heard; looks = looks_in c.looks } };
+
+    ghost invariant = { λ c. IsCutting T.told W.first W.lock (record { turn = c.turn; lock = c.word.now.id; heard = c.heard; looks = looks_in c.looks }) };
+}
+
+impl<'a, T: Turn + Drop, W: Whose> CutTurn<'a, T, W> {
+    /// These turns, which end once the word is that the relay is cut.
+    pub(crate) fn new(turn: T, word: &'a OnceLock<bool>) -> CutTurn<'a, T, W>
+        requires first { T.told turn ≡ W.first }
+        requires lock { word.now.id ≡ W.lock }
+        ensures { result ≡ record { turn = turn; lock = word.now.id; heard = None; looks = [] } }
+    {
+        CutTurn {
+            turn,
+            word,
+            heard: None,
+            whose: PhantomData,
+            looks: Log::new(),
+        }
+    }
+
+    /// The turns, given back, and what was heard where the worker was cut.
+    pub(crate) fn into_parts(self) -> (T, Option<OnceToken<'a, bool>>)
+        ensures turn { result.0 ≡ self.entry.turn }
+        ensures heard { result.1 ≡ self.entry.heard }
+        ensures cutting { IsCutting T.told W.first W.lock self.entry }
+    {
+        let CutTurn {
+            turn,
+            word: _word,
+            heard,
+            whose: _whose,
+            looks: _looks,
+        } = self;
+        (turn, heard)
+    }
+}
+
+impl<'a, T: Turn + Drop, W: Whose> Turn for CutTurn<'a, T, W> {
+    ghost use Rattle.std.specs.Prelude.{Some, map};
+    ghost use Rattle.rly_threads.specs.Cut.{handed_at};
+
+    ghost told = { λ c. Some (map handed_at c.looks) };
+
+    ghost latest = { λ c. T.latest c.turn };
+
+    fn between<R: Wait>(&mut self, rt: &R, worker: Worker, point: Point) -> Go
+        ensures told { TellsMore (Some (map handed_at self.old.looks)) (Some (map handed_at self.new.looks)) ((worker, point, result) ∷ []) }
+        ensures since { (T.latest self.old.turn ≤ result.since) × (T.latest self.new.turn ≡ result.since) }
+    {
+        let go = self.turn.between(rt, worker, point);
+        let heard = match (point, go.on) {
+            (Point::Start, true) => heard_end(self.word),
+            _ => None,
+        };
+        let is_cut = heard.is_some();
+        self.looks = self.looks.and(&(worker, point), &(go, is_cut));
+        if is_cut {
+            self.heard = heard;
+        }
+        Go {
+            on: go.on && !is_cut,
+            ..go
+        }
+    }
+}
+
+/// The word, if it is that the relay is cut.
+fn heard_end<'a>(word: &'a OnceLock<bool>) -> Option<OnceToken<'a, bool>>
+    ensures { IsHeard word.now.id result }
+{
+    let said = word.witness()?;
+    if *word.value(&said) { Some(said) } else { None }
+}
