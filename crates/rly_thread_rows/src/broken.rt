@@ -32,7 +32,8 @@ impl<C: Clock + Drop> Turn for Long<C> {
     ghost latest = { λ _. 0 };
 
     fn between<R: Wait>(&mut self, rt: &R, worker: Worker, point: Point) -> Go {
-        let _ = (rt, worker);
+        let _ = rt;
+        let _ = worker;
         let on = self.left > 0;
         if point == Point::Start {
             thread::sleep(&self.clock, Duration::from_millis(1));
