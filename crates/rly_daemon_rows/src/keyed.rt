@@ -150,43 +150,14 @@ fn remove_station(rt: &impl Host, device: &str) -> Result<(), Fail> {
     Ok(())
 }
 
-/// Runs two stations on these devices, the lower one with this key, and beside them a neighbour that has the upper one's. Checks
-/// the books of both.
-fn expect_books<R: Abort + Host + Copy + Send + Drop + 'static>(
-    rt: R,
-    upper: &str,
-    lower: &str,
-    lower_key: &str,
-    upper_books: &[u8],
-    lower_books: &[u8],
-) -> Result<(), Fail> {
-    let upper_plan = make_station(&rt, upper, UPPER, LINE)?;
-    let lower_plan = make_station(&rt, lower, LOWER, lower_key)?;
+/// Checks that a neighbour's sealed datagram is acknowledged, and that forgeries of it before it aren't.
+fn expect_heard(rt: &(impl Abort + Host)) -> Result<(), Fail> {
     let key = Key::read(LINE.as_bytes()).ok_or("a key")?;
     let other = Key::read(OTHER.as_bytes()).ok_or("another key")?;
-    let socket = socket_at(&rt, "127.0.0.1:4052")?;
-    let upper_device = String::from_str(rt.alloc(), upper)?;
-    let lower_device = String::from_str(rt.alloc(), lower)?;
-    let below = thread::spawn(&rt, move || {
-        serve_turns(&rt, lower_device.as_str(), lower_plan.as_str())
-    })
-    .ok()
-    .ok_or("a thread")?;
-    let above = thread::spawn(&rt, move || {
-        serve_turns(&rt, upper_device.as_str(), upper_plan.as_str())
-    })
-    .ok()
-    .ok_or("a thread")?;
-    expect_deaf(&rt, &socket, &other)?;
+    let socket = socket_at(rt, "127.0.0.1:4052")?;
+    expect_deaf(rt, &socket, &other)?;
     expect!(rt; hears_sealed_custody(&socket, &key, 100));
-    let above = above.join(&rt);
-    let below = below.join(&rt);
-    expect!(rt; above.status == 0 && above.errors.as_slice() == UPPER_TOLD);
-    expect!(rt; below.status == 0 && below.errors.as_slice() == LOWER_TOLD);
-    expect(&rt, &["rly", "audit", upper], b"", 0, upper_books, b"");
-    expect(&rt, &["rly", "audit", lower], b"", 0, lower_books, b"");
-    remove_station(&rt, upper)?;
-    remove_station(&rt, lower)
+    Ok(())
 }
 
 /// The books of the upper station, which keeps what no one with its key took.
@@ -199,6 +170,44 @@ peer 1 last 1\nseq 2\nbalance ok\n";
 fn stations_with_keys_hand_over(rt: HostRuntime) -> Result<(), Fail> {
     let upper = path_of(&rt, "keyed-upper")?;
     let lower = path_of(&rt, "keyed-lower")?;
-    expect_books(rt, upper.as_str(), lower.as_str(), LINE, HANDED, HELD)?;
-    expect_books(rt, upper.as_str(), lower.as_str(), OTHER, KEPT, NOTHING)
+    for (lower_key, upper_books, lower_books) in [(LINE, HANDED, HELD), (OTHER, KEPT, NOTHING)] {
+        let upper_plan = make_station(&rt, upper.as_str(), UPPER, LINE)?;
+        let lower_plan = make_station(&rt, lower.as_str(), LOWER, lower_key)?;
+        let upper_device = String::from_str(rt.alloc(), upper.as_str())?;
+        let lower_device = String::from_str(rt.alloc(), lower.as_str())?;
+        let below = thread::spawn(&rt, move || {
+            serve_turns(&rt, lower_device.as_str(), lower_plan.as_str())
+        })
+        .ok()
+        .ok_or("a thread")?;
+        let above = thread::spawn(&rt, move || {
+            serve_turns(&rt, upper_device.as_str(), upper_plan.as_str())
+        })
+        .ok()
+        .ok_or("a thread")?;
+        expect_heard(&rt)?;
+        let above = above.join(&rt);
+        let below = below.join(&rt);
+        expect!(rt; above.status == 0 && above.errors.as_slice() == UPPER_TOLD);
+        expect!(rt; below.status == 0 && below.errors.as_slice() == LOWER_TOLD);
+        expect(
+            &rt,
+            &["rly", "audit", upper.as_str()],
+            b"",
+            0,
+            upper_books,
+            b"",
+        );
+        expect(
+            &rt,
+            &["rly", "audit", lower.as_str()],
+            b"",
+            0,
+            lower_books,
+            b"",
+        );
+        remove_station(&rt, upper.as_str())?;
+        remove_station(&rt, lower.as_str())?;
+    }
+    Ok(())
 }
