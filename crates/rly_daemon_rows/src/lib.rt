@@ -21,7 +21,6 @@ mod devices;
 #[cfg(test)]
 mod expect;
 #[cfg(test)]
-mod keyed;
 #[cfg(test)]
 mod keys;
 #[cfg(test)]
