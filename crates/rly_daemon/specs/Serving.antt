@@ -1,13 +1,14 @@
 -- What a relay needs of its device, and the workers that it starts.
-use Rattle.std.specs.Prelude.{◌≡◌, ◌⊎◌, ℕ, ◌<◌, ◌≤◌, List, [], ◌∷◌, ◌++◌, codes, map, length, true, IfSome, Option, None, Some}
+use Rattle.std.specs.Prelude.{◌≡◌, ◌⊎◌, ℕ, ◌<◌, ◌≤◌, List, [], ◌∷◌, ◌++◌, codes, map, length, Bool, true, Option, None, Some}
 use Rattle.std.specs.Fmt.{decimal}
 use Rattle.std.specs.List.{AllZip, list_all, range_with_len}
-use Rattle.std.specs.Option.{option_map}
+use Rattle.std.specs.Option.{is_none, option_map}
 use Rattle.rly_core.specs.declared.params.Params.{Params}
 use Rattle.rly_daemon.specs.declared.plan_keys.KeyedWorker.{KeyedWorker}
 use Rattle.rly_daemon.specs.declared.udp_link.UdpLink.{UdpLink}
 use Rattle.rly_daemon.specs.declared.wall_clock.WallClock.{WallClock}
-use Rattle.rly_daemon.specs.WallClock.{endless_tells, turns_left}
+use Rattle.rly_daemon.specs.WallClock.{turns_left}
+use Rattle.rly_line.specs.Submission.{LineId}
 use Rattle.rly_plan.specs.ContactPlan.{ContactPlan, next_hop_at, peer_at}
 use Rattle.rly_plan.specs.Endpoints.{Endpoints}
 use Rattle.rly_seal.specs.declared.station_link.StationLink.{StationLink}
@@ -17,7 +18,9 @@ use Rattle.rly_threads.specs.declared.relay.Ended.{Ended}
 use Rattle.rly_threads.specs.declared.relay.Post.{Post}
 use Rattle.rly_threads.specs.declared.turn.Worker.{Worker}
 use Rattle.rly_threads.specs.declared.turn.Worker.TheVariants as worker
-use Rattle.rly_threads.specs.Relay.{HasEnded, has_run_out}
+use Rattle.rly_threads.specs.Memory.{handed_of}
+use Rattle.rly_threads.specs.Relay.{HaveEnded, has_run_out, seated}
+use Rattle.rly_threads.specs.Turns.{Handed}
 
 -- a device has each peer and each hop of a plan
 pub record HasRoom (plan : ContactPlan) (params : Params) : Type 0 where
@@ -59,6 +62,13 @@ pub record Duty : Type 0 where
 abbrev pub duty : Worker → Option Endpoints → Option Keys → Option ℕ → Duty
 duty w addresses keys left = record { worker = w; addresses = addresses; keys = keys; left = left }
 
+-- what a clock tells, and whether its turns are without end
+abbrev pub clock_told : {C : Type 0} → WallClock C → Option (List Handed)
+clock_told clock = Some (handed_of clock.handed)
+
+abbrev pub clock_endless : {C : Type 0} → WallClock C → Bool
+clock_endless clock = is_none clock.left
+
 -- a worker at a socket, sealed where its link has a key
 abbrev pub StationPost : Type 0 → Type 0
 StationPost C = Post (StationLink (UdpLink C)) (WallClock C)
@@ -76,13 +86,13 @@ duty_of plan turns link =
 abbrev pub duties : ContactPlan → List KeyedWorker → ℕ → List Duty
 duties plan links turns = map (duty_of plan turns) links
 
--- Each worker of a plan had a thread, did at its post what the plan says of it, from its start to the end of its turns, and left
--- that post. Its link is sealed with the key that there is for it, and no other link is. A socket tells nothing of what it heard
--- and sent.
-pub record HasRun {C : Type 0} (plan : ContactPlan) (links : List KeyedWorker) (window turns : ℕ)
+-- Each worker of a plan had a thread, did at its post and its seat of a line what the plan says of it, from its start to the end of
+-- its turns, and left that post. Its link is sealed with the key that there is for it, and no other link is. A socket tells
+-- nothing of what it heard and sent; a seat and a clock tell all.
+pub record HasRun {C : Type 0} (plan : ContactPlan) (links : List KeyedWorker) (window turns : ℕ) (line : LineId)
     (ended : List (Option (Ended (StationLink (UdpLink C)) (WallClock C)))) : Type 0 where
   pub posts : List (StationPost C)
   pub planned : map duty_at posts ≡ duties plan links turns
-  pub worked : AllZip (λ post left. IfSome left (λ worker. HasEnded (station_heard (λ _. None)) (station_sent (λ _. None))
-      (λ clock. endless_tells clock.left clock.handed) plan window post worker.post worker.was_cut)) posts ended
+  pub worked : AllZip (HaveEnded (station_heard (λ _. None)) (station_sent (λ _. None)) clock_told clock_endless plan window)
+      (seated line posts) ended
   pub complete : list_all has_run_out ended ≡ true

@@ -2,15 +2,9 @@
 use Rattle.std.specs.Prelude.{ℕ, zero, suc, ◌+◌, ◌-◌, ◌/◌, ◌^◌, List, [], ◌∷◌, min}
 use Rattle.std.specs.Prelude.{Bool, true, false, Option, Some, None}
 use Rattle.std.specs.Duration.{as_nanos}
-use Rattle.std.specs.List.{list_all}
 use Rattle.std.specs.declared.time.Duration.{Duration}
-use Rattle.http_server.specs.declared.log.Log.{Log}
-use Rattle.rly_threads.specs.declared.turn.Go.{Go}
 use Rattle.rly_threads.specs.declared.turn.Point.{Point}
 use Rattle.rly_threads.specs.declared.turn.Point.TheVariants.{Answered, Call, Heard, Start, Taken}
-use Rattle.rly_threads.specs.declared.turn.Worker.{Worker}
-use Rattle.rly_threads.specs.Memory.{handed_of}
-use Rattle.rly_threads.specs.Turns.{Handed}
 
 -- how many turns are left of so many: None where they are without end, for which 0 stands
 abbrev pub turns_left : ℕ → Option ℕ
@@ -71,16 +65,6 @@ turns_had left (point ∷ points) = turn_at point (goes_on point left) + turns_h
 abbrev pub turns_of : Option ℕ → ℕ → ℕ
 turns_of None count = count
 turns_of (Some left) count = min left count
-
--- whether a worker was to go on wherever it was handed something
-abbrev pub all_on : List Handed → Bool
-all_on handed = list_all (λ h. h.2.on) handed
-
--- What a wall clock tells: what it handed out, where its turns are without end. So the one that its worker leaves is
--- without end too.
-abbrev pub endless_tells : Option ℕ → Log (Worker × Point) Go → Option (List Handed)
-endless_tells None log = Some (handed_of log)
-endless_tells (Some left) log = None
 
 -- a time in microseconds: 0 for none, and never above the last that has 64 bits
 abbrev pub moment_of : Option Duration → ℕ

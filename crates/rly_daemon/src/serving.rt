@@ -86,8 +86,8 @@ pub fn serve<'a, H: AllocGlobal + Net + Threads + Wait + Clock + Sync, D: Disk +
     ensures lacks { LacksRoom plan.now journal.state.params → (result ≡ Err (fault.Refused refusal.BadGeometry cause.Plan, journal.disk)) × (errors.new ≡ errors.old) }
     // A relay whose turns are without end never ends well.
     ensures ends { OnOk result (1 ≤ turns) }
-    // Each worker of the plan did at its post what the plan says of it, as far as its link and its clock tell.
-    ensures worked { IfOk result (λ relayed. HasRun plan.now keys.entry journal.state.params.window turns relayed.ended.items) }
+    // Each worker of the plan did at its post and its seat what the plan says of it, as far as its link tells.
+    ensures worked { IfOk result (λ relayed. HasRun plan.now keys.entry journal.state.params.window turns relayed.finished.last.value.line.of relayed.ended.items) }
     // The journal is what its flusher's rounds made of it, and not broken.
     ensures served { IfOk result (λ relayed. (line : LineId) × IsServed D.state (new_flusher journal (new_end line (length (workers_of plan.now)))) relayed.finished.last.value) }
     ensures left { IfOk result (λ relayed. relayed.finished.last.value.journal ≡ relayed.finished.journal) }

@@ -1,7 +1,6 @@
-ghost use Rattle.std.specs.Prelude.{◌≡◌, ◌≤◌, false, IsTrue, List, None, Option, ℕ};
-ghost use Rattle.rly_daemon.specs.WallClock.{all_on, goes_on, is_read_at, left_at, moment_of, start_count, turns_had, turns_left, turns_of};
+ghost use Rattle.std.specs.Prelude.{◌≡◌, ◌≤◌, false, List, Option, ℕ};
+ghost use Rattle.rly_daemon.specs.WallClock.{goes_on, is_read_at, left_at, moment_of, start_count, turns_had, turns_left, turns_of};
 ghost use Rattle.rly_threads.specs.declared.turn.Point.{Point as APoint};
-ghost use Rattle.rly_threads.specs.Memory.{handed_of};
 
 use crate::bells::Bells;
 use http_server::Log;
@@ -21,8 +20,6 @@ pub struct WallClock<C: Clock + Drop> {
     bells: Option<Arc<Bells, Global>>,
     // What it handed out, which takes no memory.
     handed: Log<(Worker, Point), Go>,
-    // Where its turns are without end it hands out no end.
-    ghost endless: { left ≡ None → IsTrue (all_on (handed_of handed)) },
 }
 
 impl<C: Clock + Drop> WallClock<C> {
@@ -111,11 +108,15 @@ impl<C: Clock + Drop> WallClock<C> {
 }
 
 impl<C: Clock + Drop> Turn for WallClock<C> {
-    ghost use Rattle.std.specs.Prelude.{◌≡◌, ◌≤◌, ◌∷◌, [], false};
-    ghost use Rattle.rly_daemon.specs.WallClock.{endless_tells, goes_on, is_read_at, left_at};
+    ghost use Rattle.std.specs.Prelude.{◌≡◌, ◌≤◌, ◌∷◌, [], Some, false, true};
+    ghost use Rattle.std.specs.Option.{is_none};
+    ghost use Rattle.rly_daemon.specs.WallClock.{goes_on, is_read_at, left_at};
     ghost use Rattle.rly_threads.specs.Ends.{TellsMore};
+    ghost use Rattle.rly_threads.specs.Memory.{handed_of};
 
-    ghost told = { λ clock. endless_tells clock.left clock.handed };
+    ghost told = { λ clock. Some (handed_of clock.handed) };
+
+    ghost endless = { λ clock. is_none clock.left };
 
     ghost latest = { λ clock. clock.since };
 
@@ -126,7 +127,8 @@ impl<C: Clock + Drop> Turn for WallClock<C> {
         // Within a turn it hands out the moment at which the packet was waited for, up to the answer of the call.
         ensures held { is_read_at point ≡ false → (self.new.now ≡ self.old.now) × (self.new.since ≡ self.old.since) }
         ensures left { self.new.left ≡ left_at point self.old.left }
-        ensures tells { TellsMore (endless_tells self.old.left self.old.handed) (endless_tells self.new.left self.new.handed) ((worker, point, result) ∷ []) }
+        ensures tells { TellsMore (Some (handed_of self.old.handed)) (Some (handed_of self.new.handed)) ((worker, point, result) ∷ []) }
+        ensures endless { (is_none self.new.left ≡ is_none self.old.left) × (is_none self.old.left ≡ true → result.on ≡ true) }
     {
         let _ = rt;
         self.tell_bells(worker, point);

@@ -1,5 +1,5 @@
 -- What a crash leaves of a journal that a flusher owns, round by round.
-use Rattle.std.proofs.Common.{ℕ, ◌≡◌, ◌⊎◌, inl, inr, ⊎_elim, ◌++◌, ◌∷◌, [], List, Bool, Option, None, length, true, false, refl, sym, ap, subst, ◌∙◌, arith, append_assoc, append-nil}
+use Rattle.std.proofs.Common.{ℕ, ◌≡◌, ◌≤◌, ◌⊎◌, inl, inr, ⊎_elim, ◌++◌, ◌∷◌, [], List, Bool, Option, None, length, true, false, refl, sym, ap, subst, ◌∙◌, arith, append_assoc, append-nil}
 use Rattle.std.proofs.lemmas.Bool.{false≢true}
 use Rattle.std.specs.List.{AllByRecursion, zip}
 use Rattle.std.proofs.lemmas.List.{length-map}
@@ -23,10 +23,11 @@ use Rattle.rly_line.specs.Replies.{Teller}
 use Rattle.rly_line.specs.Batches.{BatchView}
 use Rattle.rly_line.specs.Responding.{AreLeft, IsResponding, Responding, calls_in}
 use Rattle.rly_line.specs.Submission.{LineId}
+use Rattle.rly_line.proofs.Telling.{with_over}
 use Rattle.rly_flush.specs.HelpersFlushing.{AreCollected, IsFlushing, IsRounded}
-use Rattle.rly_flush.specs.Flushing.{FlusherState, GrewInRound, IsCrashSafe, IsLeftIn, IsDoubtful, IsOneHistory, IsOneRound, answered_state, entries_since, folded, kept_calls, state_reached}
+use Rattle.rly_flush.specs.Flushing.{AreHarmless, FlusherState, GrewInRound, IsBreaking, IsCrashSafe, IsLeftIn, IsDoubtful, IsOneHistory, IsOneRound, answered_state, entries_since, folded, kept_calls, over_now, state_reached}
 use Rattle.rly_flush.proofs.Joining.{GoesOn, goes_on}
-use Rattle.rly_flush.proofs.Refusing.{accepted_append, all_unsure, broken_accepts_none, calls_in_append, calls_in_zip, unsure_accepts_none}
+use Rattle.rly_flush.proofs.Refusing.{accepted_append, all_append, all_broken, all_harmless, all_unsure, broken_accepts_none, calls_in_append, calls_in_zip, unsure_accepts_none}
 
 -- a flusher once these calls came, those of a round were answered, and this batch was kept
 abbrev pub next_of : {D : Type 0} → FlusherState D → JournalState D → Option BatchView → List Teller → List Call → List Call → List Answer → FlusherState D
@@ -34,9 +35,13 @@ next_of old journal left lines came calls given = record {
   first = old.first;
   journal = journal;
   kept = left;
-  line = record { of = old.line.of; taken = old.line.taken ++ came; start = old.line.start; history = old.line.history ++ zip calls given; lines = lines };
-  over = old.over;
+  line = record { of = old.line.of; taken = old.line.taken ++ came; start = old.line.start; history = old.line.history ++ zip calls given; lines = lines; over = old.line.over };
 }
+
+-- there is a refusal for each call
+as_many_calls : (p : ℕ) (calls : List Call) → 1 ≤ length calls → 1 ≤ length (zip calls (refusals Unsure p calls))
+as_many_calls p [] some = absurd (omega (arith, some))
+as_many_calls p (call ∷ calls) some = omega arith
 
 -- refusals after refusals
 pub refusals_append : (refusal : Refusal) (p : ℕ) (front back : List Call)
@@ -85,7 +90,7 @@ module _ {D : Type 0} (state : D → DiskState) (consistent : (disk : D) → (st
   -- an image that stands for the history, or for that with the commands of a round, was left in that round
   module _ (old new : FlusherState D) (safe : IsCrashSafe state old new) (was : LegalButForBytes old.line.start old.line.history)
       (is : LegalButForBytes old.line.start new.line.history) (at : new.journal.broken ≡ false → new.journal.state ≡ folded old.line.start new.line.history)
-      (earlier : List Entry) (holds : (more : List (Command (List ℕ))) × (accepted_of old.line.history ≡ accepted_of earlier ++ more)) where
+      (earlier : List Entry) (holds : (more : List (Command (List ℕ))) × (accepted_of old.line.history ≡ accepted_of earlier ++ more)) (none : old.journal.broken ≡ false → AreHarmless old.line.history) where
     abbrev start : State (List ℕ)
     start = old.line.start
 
@@ -94,7 +99,7 @@ module _ {D : Type 0} (state : D → DiskState) (consistent : (disk : D) → (st
 
     -- in the round that was made now
     left_now : (round : List Entry) → new.line.history ≡ old.line.history ++ round → calls_in round ≡ safe.calls
-        → (answered : (safe.target ≡ folded start (old.line.history ++ round)) ⊎ AllByRecursion (λ entry. entry.1.reply ≡ Refused Unsure) round)
+        → (answered : (safe.target ≡ folded start (old.line.history ++ round)) ⊎ IsBreaking old.line.history round [])
         → (image : List ℕ) → Stands image (state_reached old) ⊎ Stands image safe.target → IsLeftIn start earlier new.line.history image
     left_now round whole calls answered image stands = record {
       before = old.line.history;
@@ -113,15 +118,20 @@ module _ {D : Type 0} (state : D → DiskState) (consistent : (disk : D) → (st
       )) stands;
     }
 
-    answered_now : (broken : Bool) → new.journal.broken ≡ broken → (round : List Entry) → new.line.history ≡ old.line.history ++ round
-        → (new.journal.broken ≡ true → round ≡ zip safe.calls (refusals Unsure old.journal.position safe.calls))
-        → (safe.target ≡ folded start (old.line.history ++ round)) ⊎ AllByRecursion (λ entry. entry.1.reply ≡ Refused Unsure) round
-    answered_now true broke round whole unsure =
-        inr (subst (AllByRecursion (λ entry. entry.1.reply ≡ Refused Unsure)) (sym (unsure broke)) (all_unsure old.journal.position safe.calls))
-    answered_now false goes round whole unsure = inl (safe.running goes ∙ at goes ∙ ap (folded start) whole)
+    answered_now : (broken : Bool) → new.journal.broken ≡ broken → old.journal.broken ≡ false → (round : List Entry) → new.line.history ≡ old.line.history ++ round
+        → (new.journal.broken ≡ true → (1 ≤ length safe.calls) × (round ≡ zip safe.calls (refusals Unsure old.journal.position safe.calls)))
+        → (safe.target ≡ folded start (old.line.history ++ round)) ⊎ IsBreaking old.line.history round []
+    answered_now true broke was_whole round whole unsure = inr (record {
+      some = subst (λ l. 1 ≤ length l) (sym (unsure broke).1) (as_many_calls old.journal.position safe.calls (unsure broke).0);
+      unsure = subst (AllByRecursion (λ entry. entry.1.reply ≡ Refused Unsure)) (sym (unsure broke).1) (all_unsure old.journal.position safe.calls);
+      harmless = none was_whole;
+      broken = tt;
+    })
+    answered_now false goes was_whole round whole unsure = inl (safe.running goes ∙ at goes ∙ ap (folded start) whole)
 
     -- or in an earlier one, which broke the journal
-    module _ (rest : List Entry) (grown : new.line.history ≡ old.line.history ++ rest) (before : List Entry) (behind : List Call) (whole : old.line.history ≡ before ++ entries_since old.journal.position safe.calls behind) where
+    module _ (rest : List Entry) (grown : new.line.history ≡ old.line.history ++ rest) (refused : AllByRecursion (λ entry. entry.1.reply ≡ Refused Broken) rest)
+        (before : List Entry) (behind : List Call) (whole : old.line.history ≡ before ++ entries_since old.journal.position safe.calls behind) (some : 1 ≤ length safe.calls) (harmless : AreHarmless before) where
       abbrev broke : List Entry
       broke = zip safe.calls (refusals Unsure old.journal.position safe.calls)
 
@@ -149,23 +159,29 @@ module _ {D : Type 0} (state : D → DiskState) (consistent : (disk : D) → (st
             given = safe.given;
             served = subst (λ (y : List Call × State (List ℕ)). AreServed y.0 safe.given y.1 safe.target)
                 (λ i. (sym (calls_in_zip safe.calls (refusals Unsure old.journal.position safe.calls) (length-map safe.calls (refusal_of Unsure old.journal.position))) i, (same ∙ at_before) i)) safe.served;
-            answered = inr (all_unsure old.journal.position safe.calls);
+            answered = inr (record {
+              some = as_many_calls old.journal.position safe.calls some;
+              unsure = all_unsure old.journal.position safe.calls;
+              harmless = harmless;
+              broken = all_append (λ entry. entry.1.reply ≡ Refused Broken) since rest (all_broken old.journal.position behind) refused;
+            });
           },
           held,
         )) stands;
       }
 
-    pub left_in : (rest : List Entry) → new.line.history ≡ old.line.history ++ rest → (image : List ℕ) → Stands image (state_reached old) ⊎ Stands image safe.target
-        → IsLeftIn start earlier new.line.history image
-    left_in rest grown image stands =
-        ⊎_elim (λ now. left_now now.1 now.2 now.3 (answered_now new.journal.broken refl now.1 now.2 now.4) image stands)
-        (λ broken. left_earlier rest grown broken.1 broken.2 broken.3 image stands) safe.doubtful
+    pub left_in : (rest : List Entry) → new.line.history ≡ old.line.history ++ rest → (old.journal.broken ≡ true → AllByRecursion (λ entry. entry.1.reply ≡ Refused Broken) rest)
+        → (image : List ℕ) → Stands image (state_reached old) ⊎ Stands image safe.target → IsLeftIn start earlier new.line.history image
+    left_in rest grown refused image stands =
+        ⊎_elim (λ now. left_now now.1 now.2 now.3 (answered_now new.journal.broken refl now.0 now.1 now.2 now.4) image stands)
+        (λ broken. left_earlier rest grown (refused broken.0) broken.1 broken.2 broken.3 broken.4 broken.5 image stands) safe.doubtful
 
   -- all that holds at an exit
   pub one_history : (f : FlusherState D) → IsFlushing state f → IsOneHistory state f
   one_history f is =
       let bytes = legal_but_for_bytes 0 f.line.start f.line.history is.legal in
       let all = folds 0 f.line.start f.line.history bytes in
+      let none : f.journal.broken ≡ false → AreHarmless f.line.history = λ whole. all_harmless (λ reply. reply) 0 f.line.start f.line.history is.legal (is.unharmed whole) in
       record {
         calls = is.answered;
         start = is.start;
@@ -174,17 +190,18 @@ module _ {D : Type 0} (state : D → DiskState) (consistent : (disk : D) → (st
         legal_but_for_bytes = bytes;
         position_is = is.position_is ∙ all.2;
         state_is = λ whole. is.running whole ∙ all.0;
+        harmless = none;
         accepted = all.1;
         still = is.still;
         later = is.later;
         told = is.responding.told;
         kept = λ honest sound image left.
             let safe = is.safe honest sound in
-            left_in f f safe bytes bytes (λ whole. is.running whole ∙ all.0) f.line.history ([], sym (append-nil (accepted_of f.line.history))) [] (sym (append-nil f.line.history)) image (at_exit (λ c. Stands c (state_reached f) ⊎ Stands c safe.target) safe.leaves (consistent f.journal.disk honest) image left);
+            left_in f f safe bytes bytes (λ whole. is.running whole ∙ all.0) f.line.history ([], sym (append-nil (accepted_of f.line.history))) none [] (sym (append-nil f.line.history)) (λ _. tt) image (at_exit (λ c. Stands c (state_reached f) ⊎ Stands c safe.target) safe.leaves (consistent f.journal.disk honest) image left);
       }
 
   module _ (old : FlusherState D) (kept : IsFlushing state old) where
-    module _ (journal : JournalState D) (left : Option BatchView) (lines : List Teller) (came calls : List Call) (given : List Answer) (now : IsRounded state old.journal journal calls given) where
+    module _ (journal : JournalState D) (left : Option BatchView) (lines : List Teller) (came calls : List Call) (given : List Answer) (now : IsRounded state old.journal journal calls given) (some : 1 ≤ length calls) where
       abbrev next : FlusherState D
       next = next_of old journal left lines came calls given
 
@@ -219,7 +236,7 @@ module _ {D : Type 0} (state : D → DiskState) (consistent : (disk : D) → (st
           let same : old.journal.state ≡ state_reached old = kept.running whole in
           record {
             calls = calls;
-            doubtful = inl (whole, zip calls given, refl, calls_in_zip calls given on.count, λ broke. unsure_by now.round whole broke);
+            doubtful = inl (whole, zip calls given, refl, calls_in_zip calls given on.count, λ broke. (some, unsure_by now.round whole broke));
             given = safe.given;
             target = safe.target;
             served = subst (λ s. AreServed calls safe.given s safe.target) same safe.served;
@@ -246,13 +263,16 @@ module _ {D : Type 0} (state : D → DiskState) (consistent : (disk : D) → (st
       unfolding after_broken in_round broken_safe
       rest_by (inl was) honest sound broke =
           let first = now.later.honest.0 honest in
-          let doubt = ⊎_elim {C = (before : List Entry) × (behind : List Call) × (old.line.history ≡ before ++ entries_since old.journal.position (kept.safe first sound).calls behind)}
-          (λ w. absurd (false≢true (sym w.0 ∙ was.0))) (λ w. (w.1, w.2, w.3)) (kept.safe first sound).doubtful in
+          let doubt = ⊎_elim {C = (before : List Entry) × (behind : List Call) × (old.line.history ≡ before ++ entries_since old.journal.position (kept.safe first sound).calls behind)
+          × (1 ≤ length (kept.safe first sound).calls) × AreHarmless before}
+          (λ w. absurd (false≢true (sym w.0 ∙ was.0))) (λ w. (w.1, w.2, w.3, w.4, w.5)) (kept.safe first sound).doubtful in
           broken_rest (after_broken was.2 first sound was.0) honest broke (inr (
             broke,
             doubt.0,
             doubt.1 ++ calls,
             refused_again doubt.0 (kept.safe first sound).calls doubt.1 calls doubt.2 was.1 (ap (λ (j : JournalState D). j.position) was.2),
+            doubt.3,
+            doubt.4,
           ))
       rest_by (inr (inl went)) honest sound broke = absurd (false≢true (sym went.1.broken ∙ broke))
       rest_by (inr (inr breaks)) honest sound broke = broken_rest (in_round (now.later.honest.0 honest) breaks.0) honest broke (inr (
@@ -260,6 +280,8 @@ module _ {D : Type 0} (state : D → DiskState) (consistent : (disk : D) → (st
         old.line.history,
         [],
         refused_first old.line.history calls breaks.1.unsure breaks.1.position,
+        some,
+        all_harmless (λ reply. reply) 0 old.line.start old.line.history kept.legal (kept.unharmed breaks.0),
       ))
 
       rest : (broken : Bool) → journal.broken ≡ broken → (state journal.disk).honest → old.first.broken ≡ false → IsCrashSafe state next next
@@ -295,9 +317,13 @@ pub record HasGone {D : Type 0} (state : D → DiskState) (old new : FlusherStat
   pub grew : GrewInRound state old new
   pub safe : (state old.journal.disk).honest → old.first.broken ≡ false → IsCrashSafe state old new
 
--- whether it is over changes nothing else
-over_safe : {D : Type 0} (state : D → DiskState) (p q : Bool) {a b : FlusherState D} → IsCrashSafe state a b → IsCrashSafe state (record a { over = p }) (record b { over = q })
-over_safe state p q safe = record {
+-- a flusher whose line is over, or not
+abbrev pub with_end : {D : Type 0} → Bool → FlusherState D → FlusherState D
+with_end over f = record f { line = record f.line { over = over } }
+
+-- that changes nothing else
+with_end_safe : {D : Type 0} (state : D → DiskState) (p q : Bool) {a b : FlusherState D} → IsCrashSafe state a b → IsCrashSafe state (with_end p a) (with_end q b)
+with_end_safe state p q safe = record {
   calls = safe.calls;
   doubtful = safe.doubtful;
   given = safe.given;
@@ -307,9 +333,9 @@ over_safe state p q safe = record {
   running = safe.running;
 }
 
-pub over_flushing : {D : Type 0} (state : D → DiskState) (p : Bool) {f : FlusherState D} → IsFlushing state f → IsFlushing state (record f { over = p })
-over_flushing state p is = record {
-  responding = is.responding;
+with_end_flushing : {D : Type 0} (state : D → DiskState) (p : Bool) {f : FlusherState D} → IsFlushing state f → IsFlushing state (with_end p f)
+with_end_flushing state p {f} is = record {
+  responding = with_over p f.line is.responding;
   start = is.start;
   as_given = is.as_given;
   answered = is.answered;
@@ -319,22 +345,22 @@ over_flushing state p is = record {
   unharmed = is.unharmed;
   still = is.still;
   later = is.later;
-  safe = λ honest sound. over_safe state p p (is.safe honest sound);
+  safe = λ honest sound. with_end_safe state p p (is.safe honest sound);
 }
 
 module _ {D : Type 0} (state : D → DiskState) (consistent : (disk : D) → (state disk).honest → Consistent (state disk)) {old : FlusherState D} (kept : IsFlushing state old) where
   -- without a round
-  pub stayed : {line : Responding} {left : Option BatchView} (over : Bool) → old.kept ≡ None → left ≡ None → line ≡ old.line → HasGone state old (record old { kept = left; line = line; over = over })
-  stayed {line} {left} over none none_left same =
-      subst (λ (y : Option BatchView × Responding). HasGone state old (record old { kept = y.0; line = y.1; over = over })) (λ i. ((none ∙ sym none_left) i, sym same i)) (record {
-        flushing = over_flushing state over kept;
-        history = one_history state consistent (record old { over = over }) (over_flushing state over kept);
+  pub stayed : {line : Responding} {left : Option BatchView} → old.kept ≡ None → left ≡ None → line ≡ record old.line { over = true } → HasGone state old (record old { kept = left; line = line })
+  stayed {line} {left} none none_left same =
+      subst (λ (y : Option BatchView × Responding). HasGone state old (record old { kept = y.0; line = y.1 })) (λ i. ((none ∙ sym none_left) i, sym same i)) (record {
+        flushing = with_end_flushing state true kept;
+        history = one_history state consistent (over_now old) (with_end_flushing state true kept);
         grew = record { added = []; history = sym (append-nil old.line.history); truthful = tt };
-        safe = λ honest sound. over_safe state old.over over (kept.safe honest sound);
+        safe = λ honest sound. with_end_safe state old.line.over true (kept.safe honest sound);
       })
 
   module _ {collected : Responding} {left : Option BatchView} {calls said : List Call} {given : List Answer} {journal : JournalState D} (taken : AreCollected old.line collected old.kept left calls) (same : said ≡ calls)
-      (now : IsRounded state old.journal journal calls given) where
+      (now : IsRounded state old.journal journal calls given) (some : 1 ≤ length calls) where
     -- the calls were taken and are not answered yet
     pub left_to_tell : (rest : List Call) × AreLeft collected (said ++ rest)
     left_to_tell = (
@@ -345,31 +371,31 @@ module _ {D : Type 0} (state : D → DiskState) (consistent : (disk : D) → (st
 
     -- there are as many answers
     pub as_many : length given ≡ length said
-    as_many = (on state consistent old kept journal left old.line.lines taken.came calls given now).count ∙ ap length (sym same)
+    as_many = (on state consistent old kept journal left old.line.lines taken.came calls given now some).count ∙ ap length (sym same)
 
     -- and they may be told
     pub may_tell : LegalBy without_bytes (harm_after 0 collected.history) (state_after collected.start collected.history) (zip said given)
     may_tell =
         subst (λ (y : Responding × List Call). LegalBy without_bytes (harm_after 0 y.0.history) (state_after y.0.start y.0.history) (zip y.1 given)) (λ i. (sym taken.line i, sym same i))
-        (legal_but_for_bytes (harm_after 0 old.line.history) (state_after old.line.start old.line.history) (zip calls given) (on state consistent old kept journal left old.line.lines taken.came calls given now).legal)
+        (legal_but_for_bytes (harm_after 0 old.line.history) (state_after old.line.start old.line.history) (zip calls given) (on state consistent old kept journal left old.line.lines taken.came calls given now some).legal)
 
     -- once all were told
     pub went_on : {line : Responding} → line ≡ record collected { history = collected.history ++ zip said given; lines = line.lines } → IsResponding line
-        → HasGone state old (record { first = old.first; journal = journal; kept = left; line = line; over = old.over })
+        → HasGone state old (record { first = old.first; journal = journal; kept = left; line = line })
     went_on {line} told responding =
         let next : FlusherState D = next_of old journal left line.lines taken.came calls given in
         let is : line ≡ next.line = told ∙ ap (λ (y : Responding × List Call). record y.0 { history = y.0.history ++ zip y.1 given; lines = line.lines }) (λ i. (taken.line i, same i)) in
-        let flushing = kept_next state consistent old kept journal left line.lines taken.came calls given now taken.in_turn (subst IsResponding is responding) in
-        subst (λ (l : Responding). HasGone state old (record { first = old.first; journal = journal; kept = left; line = l; over = old.over })) (sym is) (record {
+        let flushing = kept_next state consistent old kept journal left line.lines taken.came calls given now some taken.in_turn (subst IsResponding is responding) in
+        subst (λ (l : Responding). HasGone state old (record { first = old.first; journal = journal; kept = left; line = l })) (sym is) (record {
           flushing = flushing;
           history = one_history state consistent next flushing;
-          grew = grew state consistent old kept journal left line.lines taken.came calls given now;
-          safe = round_safe state consistent old kept journal left line.lines taken.came calls given now;
+          grew = grew state consistent old kept journal left line.lines taken.came calls given now some;
+          safe = round_safe state consistent old kept journal left line.lines taken.came calls given now some;
         })
 
     -- which was one round
     pub one_round : {line : Responding} → line ≡ record collected { history = collected.history ++ zip said given; lines = line.lines } → IsIn 1 64 (length calls)
-        → IsOneRound state old (record { first = old.first; journal = journal; kept = left; line = line; over = old.over })
+        → IsOneRound state old (record { first = old.first; journal = journal; kept = left; line = line })
     one_round {line} told count = record {
       calls = calls;
       given = given;
@@ -380,15 +406,15 @@ module _ {D : Type 0} (state : D → DiskState) (consistent : (disk : D) → (st
     }
 
 -- nothing was taken yet
-pub at_first : {D : Type 0} (state : D → DiskState) (consistent : (disk : D) → (state disk).honest → Consistent (state disk)) (journal : JournalState D) (of : LineId) (line : Responding) (lines : List Teller)
-    → line ≡ record { of = of; taken = []; start = answered_state journal; history = []; lines = lines } → IsResponding line
+pub at_first : {D : Type 0} (state : D → DiskState) (consistent : (disk : D) → (state disk).honest → Consistent (state disk)) (journal : JournalState D) (of : LineId) (line : Responding) (lines : List Teller) (over : Bool)
+    → line ≡ record { of = of; taken = []; start = answered_state journal; history = []; lines = lines; over = over } → IsResponding line
     → (journal.broken ≡ false → journal.position ≡ journal.state.seq)
     → ((state journal.disk).honest → journal.broken ≡ false → Settled (state journal.disk) × Stands (state journal.disk).seen journal.state)
-    → IsFlushing state (record { first = journal; journal = journal; kept = None; line = line; over = false })
-at_first {D} state consistent journal of line lines is responding counted durable =
+    → IsFlushing state (record { first = journal; journal = journal; kept = None; line = line })
+at_first {D} state consistent journal of line lines over is responding counted durable =
     let same : journal.broken ≡ false → answered_state journal ≡ journal.state = λ whole. ap (λ n. record journal.state { seq = n }) (counted whole) in
-    let at : Responding = record { of = of; taken = []; start = answered_state journal; history = []; lines = lines } in
-    subst (λ (l : Responding). IsFlushing state (record { first = journal; journal = journal; kept = None; line = l; over = false })) (sym is)
+    let at : Responding = record { of = of; taken = []; start = answered_state journal; history = []; lines = lines; over = over } in
+    subst (λ (l : Responding). IsFlushing state (record { first = journal; journal = journal; kept = None; line = l })) (sym is)
     (record {
       responding = subst IsResponding is responding;
       start = refl;
@@ -400,5 +426,5 @@ at_first {D} state consistent journal of line lines is responding counted durabl
       unharmed = λ _. refl;
       still = λ _. refl;
       later = record { size = refl; honest = (λ h. h, λ h. h); calls = omega arith; failures = omega arith; syncs = omega arith; failed_reads = omega arith };
-      safe = λ honest whole. at_rest state consistent (record { first = journal; journal = journal; kept = None; line = at; over = false }) (sym (same whole)) whole (durable honest whole);
+      safe = λ honest whole. at_rest state consistent (record { first = journal; journal = journal; kept = None; line = at }) (sym (same whole)) whole (durable honest whole);
     })

@@ -13,13 +13,12 @@ use Rattle.rly_machine.specs.Ask.{ask_step}
 use Rattle.rly_machine.specs.History.{Entry, IsAnswered, accepted_by, accepted_of, LegalBy, harm, harm_after, is_failure, next_state, state_after, without_bytes}
 use Rattle.rly_machine.specs.declared.command.Ask.{Ask}
 use Rattle.rly_machine.specs.declared.command.Ask.TheVariants as asked
-use Rattle.rly_machine.specs.declared.command.Command.{Command}
 use Rattle.rly_machine.specs.State.{State}
 use Rattle.rly_machine.proofs.Histories.{folds}
 use Rattle.rly_machine.proofs.RealReplies.{harmless}
 use Rattle.rly_journal.specs.Rounds.{OnlyMemory, refusal_of, refusals}
 use Rattle.rly_line.specs.Responding.{calls_in}
-use Rattle.rly_flush.specs.Flushing.{IsTruthful}
+use Rattle.rly_flush.specs.Flushing.{AreHarmless, IsTruthful}
 
 -- the calls of a history that goes on
 pub calls_in_append : (xs ys : List Entry) → calls_in (xs ++ ys) ≡ calls_in xs ++ calls_in ys
@@ -123,6 +122,25 @@ pub most_after : (harmed : ℕ) (xs : List Entry) → harmed ≤ harm (Refused B
 most_after harmed [] low = low
 most_after harmed (x ∷ xs) low = most_after (harm x.1.reply) xs (most x.1.reply)
 
+-- harm never falls, so where none was told last, none was told before
+lowest : (shown : Reply → Reply) (harmed : ℕ) (s : State (List ℕ)) (xs : List Entry) → LegalBy shown harmed s xs → harmed ≤ harm_after harmed xs
+lowest shown harmed s [] legal = omega arith
+lowest shown harmed s (x ∷ xs) legal = let rest = lowest shown (harm x.1.reply) (next_state s x) xs legal.1 in omega (arith, legal.0.harm, rest)
+
+pub all_harmless : (shown : Reply → Reply) (harmed : ℕ) (s : State (List ℕ)) (xs : List Entry) → LegalBy shown harmed s xs → harm_after harmed xs ≡ 0 → AreHarmless xs
+all_harmless shown harmed s [] legal none = tt
+all_harmless shown harmed s (x ∷ xs) legal none = (
+  (let rest = lowest shown (harm x.1.reply) (next_state s x) xs legal.1 in omega (arith, rest, none)),
+  all_harmless shown (harm x.1.reply) (next_state s x) xs legal.1 none,
+)
+
+-- so a round that broke the journal isn't in a history without harm
+pub harmful : (before round rest : List Entry) → 1 ≤ length round → AllByRecursion (λ (entry : Entry). entry.1.reply ≡ Refused Unsure) round
+    → AreHarmless (before ++ (round ++ rest)) → {A : Type 0} → A
+harmful (x ∷ before) round rest some unsure none = harmful before round rest some unsure none.1
+harmful [] [] rest some unsure none = absurd (omega (arith, some))
+harmful [] (x ∷ round) rest some unsure none = absurd (omega (arith, ap harm unsure.0, none.0))
+
 -- a history leads to no lower position
 pub grows : (harmed : ℕ) (s : State (List ℕ)) (history : List Entry) → LegalBy without_bytes harmed s history → s.seq ≤ (state_after s history).seq
 grows harmed s history legal = let rest = (folds harmed s history legal).2 in omega (arith, rest)
@@ -164,6 +182,9 @@ unsure_accepts_none p calls = accepts_none Unsure p none_unsure calls
 
 pub broken_accepts_none : (p : ℕ) (calls : List Call) → accepted_of (zip calls (refusals Broken p calls)) ≡ []
 broken_accepts_none p calls = accepts_none Broken p none_broken calls
+
+pub all_broken : (p : ℕ) (calls : List Call) → AllByRecursion (λ (entry : Entry). entry.1.reply ≡ Refused Broken) (zip calls (refusals Broken p calls))
+all_broken p calls = all_refused (λ (entry : Entry). entry.1.reply ≡ Refused Broken) Broken p (λ call. refl) calls
 
 pub all_unsure : (p : ℕ) (calls : List Call) → AllByRecursion (λ (entry : Entry). entry.1.reply ≡ Refused Unsure) (zip calls (refusals Unsure p calls))
 all_unsure p calls = all_refused (λ (entry : Entry). entry.1.reply ≡ Refused Unsure) Unsure p (λ call. refl) calls

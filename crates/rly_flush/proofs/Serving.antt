@@ -1,18 +1,22 @@
 -- Round follows round: what holds of each holds of them all.
-use Rattle.std.proofs.Common.{ℕ, ◌≡◌, ◌≤◌, ◌⊎◌, inl, inr, ⊎_elim, ◌++◌, ◌∷◌, [], List, Bool, true, false, refl, sym, ap, subst, ◌∙◌, arith, append_assoc, append-nil}
+use Rattle.std.proofs.Common.{ℕ, ◌≡◌, ◌⊎◌, inl, inr, ⊎_elim, ◌++◌, ◌∷◌, [], List, Bool, true, false, refl, sym, ap, subst, ◌∙◌, arith, append_assoc, append-nil}
 use Rattle.std.proofs.lemmas.Bool.{false≢true}
 use Rattle.std.specs.Prelude.{MatchBool}
-use Rattle.std.specs.List.{AllByRecursion}
+use Rattle.std.specs.List.{AllByRecursion, zip}
+use Rattle.std.proofs.lemmas.List.{append_cancel_left}
+use Rattle.rly_core.specs.declared.refusal.Refusal.TheVariants as refusal
 use Rattle.rly_disk.specs.DiskModel.{Consistent, DiskState, Later, LeavesOnly, HasFailed}
 use Rattle.rly_disk.proofs.Composition.{joined, later_again, rose_earlier, rose_later, started, weaker}
 use Rattle.rly_machine.specs.declared.call.Answer.{Answer}
 use Rattle.rly_machine.specs.declared.call.Call.{Call}
-use Rattle.rly_machine.specs.History.{LegalButForBytes, accepted_of}
+use Rattle.rly_machine.specs.declared.reply.Reply.TheVariants.{Refused}
+use Rattle.rly_machine.specs.History.{Entry, LegalButForBytes, accepted_of}
+use Rattle.rly_machine.specs.State.{State}
 use Rattle.rly_journal.specs.Journal.{IsRound, JournalState}
 use Rattle.rly_journal.specs.Standing.{Stands}
-use Rattle.rly_flush.specs.Flushing.{AreRounds, FlusherState, GrewInRound, IsContinued, IsCrashSafe, IsKeptSince, IsMadeRound, IsOneHistory, IsOneRound, IsLeftIn, IsTruthful, MayFollow, MayGoOn, folded, state_reached}
-use Rattle.rly_flush.proofs.Crashing.{left_in}
-use Rattle.rly_flush.proofs.Refusing.{accepted_append, all_append, still_truthful}
+use Rattle.rly_flush.specs.Flushing.{AreHarmless, AreRounds, FlusherState, GrewInRound, IsBreaking, IsContinued, IsCrashSafe, IsKeptSince, IsMadeRound, IsOneHistory, IsOneRound, IsLeftIn, IsTruthful, IsWritten, MayFollow, MayGoOn, folded, over_now, state_reached}
+use Rattle.rly_flush.proofs.Crashing.{left_in, with_end}
+use Rattle.rly_flush.proofs.Refusing.{accepted_append, all_append, all_broken, harmful, still_truthful}
 
 all_mapped : {A : Type 0} (P Q : A → Type 0) → ((x : A) → P x → Q x) → (xs : List A) → AllByRecursion P xs → AllByRecursion Q xs
 all_mapped P Q f [] all = tt
@@ -22,6 +26,10 @@ all_and_last : {A : Type 0} (P : A → Type 0) (xs : List A) (x : A) → AllByRe
 all_and_last P [] x all last = (last, tt)
 all_and_last P (y ∷ xs) x all last = (all.0, all_and_last P xs x all.1 last)
 
+-- a call was refused, since the journal was broken
+abbrev AsBroken : Entry → Type 0
+AsBroken entry = entry.1.reply ≡ Refused refusal.Broken
+
 -- whatever rounds there were
 pub may_follow : {D : Type 0} (f : FlusherState D) (rounds : List (FlusherState D)) → MayGoOn f → MayFollow f rounds
 may_follow f [] may = tt
@@ -29,7 +37,7 @@ may_follow f (g ∷ rounds) may = may
 
 module _ {D : Type 0} (state : D → DiskState) where
   -- a round goes by all of a flusher but whether it is over
-  over_made : (a e : FlusherState D) (p : Bool) → IsMadeRound state (record a { over = p }) e → IsMadeRound state a e
+  over_made : (a e : FlusherState D) (p : Bool) → IsMadeRound state (with_end p a) e → IsMadeRound state a e
   over_made a e p made = record {
     one = record {
       calls = made.one.calls;
@@ -51,14 +59,14 @@ module _ {D : Type 0} (state : D → DiskState) where
 
   -- one round more
   one_more : (a b e : FlusherState D) (rounds : List (FlusherState D)) → AreRounds state a rounds b → IsMadeRound state b e → MayFollow b rounds → AreRounds state a (rounds ++ e ∷ []) e
-  one_more a b e [] same made may = (over_made a e b.over (subst (λ f. IsMadeRound state f e) same made), tt, refl)
+  one_more a b e [] same made may = (over_made a e b.line.over (subst (λ f. IsMadeRound state f e) same made), tt, refl)
   one_more a b e (f ∷ rounds) turn made may =
       (turn.0, last_may f b rounds e turn.2 turn.1 may, one_more f b e rounds turn.2 made (may_follow b rounds may))
 
   -- or none, and it is over
-  none_more : (a b e : FlusherState D) (rounds : List (FlusherState D)) → AreRounds state a rounds b → e ≡ record b { over = true } → AreRounds state a rounds e
+  none_more : (a b e : FlusherState D) (rounds : List (FlusherState D)) → AreRounds state a rounds b → e ≡ over_now b → AreRounds state a rounds e
   none_more a b e [] same over =
-      over ∙ ap (λ (f : FlusherState D). record f { over = true }) same ∙ ap (λ (p : Bool). record a { over = p }) (sym (ap (λ (f : FlusherState D). f.over) over))
+      over ∙ ap (λ (f : FlusherState D). over_now f) same ∙ ap (λ (p : Bool). with_end p a) (sym (ap (λ (f : FlusherState D). f.line.over) over))
   none_more a b e (f ∷ rounds) turn over = (turn.0, turn.1, none_more f b e rounds turn.2 over)
 
 module _ {D : Type 0} (state : D → DiskState) (consistent : (disk : D) → (state disk).honest → Consistent (state disk)) where
@@ -66,6 +74,7 @@ module _ {D : Type 0} (state : D → DiskState) (consistent : (disk : D) → (st
   pub continued_first : (f : FlusherState D) → IsOneHistory state f → IsContinued state f f
   continued_first f history = record {
     first = refl;
+    of = refl;
     start = refl;
     history = history;
     grew = record { added = []; history = sym (append-nil f.line.history); truthful = tt };
@@ -86,7 +95,7 @@ module _ {D : Type 0} (state : D → DiskState) (consistent : (disk : D) → (st
   unfolding continued_first
   first_may f history = tt
 
-  module _ (a b e : FlusherState D) (so_far : IsContinued state a b) (may : MayFollow b so_far.rounds) (made : Bool) (took : MatchBool made (IsOneRound state b e) (e ≡ record b { over = true })) (first : e.first ≡ b.first) (start : e.line.start ≡ b.line.start)
+  module _ (a b e : FlusherState D) (so_far : IsContinued state a b) (may : MayFollow b so_far.rounds) (made : Bool) (took : MatchBool made (IsOneRound state b e) (e ≡ over_now b)) (first : e.first ≡ b.first) (of : e.line.of ≡ b.line.of) (start : e.line.start ≡ b.line.start)
       (history : IsOneHistory state e) (grew : GrewInRound state b e) (later : Later (state b.journal.disk) (state e.journal.disk))
       (safe : (state b.journal.disk).honest → b.first.broken ≡ false → IsCrashSafe state b e) where
     abbrev Failed : Type 0
@@ -104,9 +113,21 @@ module _ {D : Type 0} (state : D → DiskState) (consistent : (disk : D) → (st
     broke_in calls given (inr (inl went)) broke = absurd (false≢true (sym went.1.broken ∙ broke))
     broke_in calls given (inr (inr breaks)) broke = inr (rose_earlier (state e.journal.disk) so_far.later breaks.2)
 
-    broke_by : (made : Bool) → MatchBool made (IsOneRound state b e) (e ≡ record b { over = true }) → e.journal.broken ≡ true → Broken
+    broke_by : (made : Bool) → MatchBool made (IsOneRound state b e) (e ≡ over_now b) → e.journal.broken ≡ true → Broken
     broke_by true one broke = broke_in one.calls one.given one.round broke
     broke_by false same broke = since (sym (ap (λ (f : FlusherState D). f.journal.broken) same) ∙ broke)
+
+    -- while a journal is broken, each call is refused so
+    answered_broken : (calls : List Call) (given : List Answer) → IsRound state b.journal e.journal calls given → b.journal.broken ≡ true → AllByRecursion AsBroken (zip calls given)
+    answered_broken calls given (inl was) broke = subst (λ g. AllByRecursion AsBroken (zip calls g)) (sym was.1) (all_broken b.journal.position calls)
+    answered_broken calls given (inr (inl went)) broke = absurd (false≢true (sym went.0 ∙ broke))
+    answered_broken calls given (inr (inr breaks)) broke = absurd (false≢true (sym breaks.0 ∙ broke))
+
+    added_broken : (made : Bool) → MatchBool made (IsOneRound state b e) (e ≡ over_now b) → b.journal.broken ≡ true → AllByRecursion AsBroken grew.added
+    added_broken true one broke = subst (AllByRecursion AsBroken) (append_cancel_left b.line.history (zip one.calls one.given) grew.added (sym one.history ∙ grew.history))
+        (answered_broken one.calls one.given one.round broke)
+    added_broken false same broke = subst (AllByRecursion AsBroken)
+        (append_cancel_left b.line.history [] grew.added (append-nil b.line.history ∙ sym (ap (λ (f : FlusherState D). f.line.history) same) ∙ grew.history)) tt
 
     -- what was accepted up to a moment was accepted before this round
     held : (f : FlusherState D) → IsKeptSince state a.line.start b f → (round : IsCrashSafe state b e) (image : List ℕ) → Stands image (state_reached b) ⊎ Stands image round.target
@@ -114,8 +135,26 @@ module _ {D : Type 0} (state : D → DiskState) (consistent : (disk : D) → (st
     held f kept round image stands =
         let left = left_in state consistent b e round so_far.history.legal_but_for_bytes (subst (λ s. LegalButForBytes s e.line.history) start history.legal_but_for_bytes)
         (subst (λ s. e.journal.broken ≡ false → e.journal.state ≡ folded s e.line.history) start history.state_is) f.line.history
-        (accepted_of kept.went_on.0, ap accepted_of kept.went_on.1 ∙ accepted_append f.line.history kept.went_on.0) grew.added grew.history image stands in
+        (accepted_of kept.went_on.0, ap accepted_of kept.went_on.1 ∙ accepted_append f.line.history kept.went_on.0) so_far.history.harmless grew.added grew.history (added_broken made took) image stands in
         subst (λ s. IsLeftIn s f.line.history e.line.history image) so_far.start left
+
+    -- where a round before broke the journal, it is broken
+    was_broken : (broken : Bool) → b.journal.broken ≡ broken → (before round rest : List Entry) → b.line.history ≡ before ++ (round ++ rest) → IsBreaking before round rest → b.journal.broken ≡ true
+    was_broken true broke before round rest whole breaks = broke
+    was_broken false goes before round rest whole breaks = harmful before round rest breaks.some breaks.unsure (subst AreHarmless whole (so_far.history.harmless goes))
+
+    still_written : (before round rest : List Entry) (s : State (List ℕ)) → b.line.history ≡ before ++ (round ++ rest) → IsWritten a.line.start before round rest s
+        → IsWritten a.line.start before round (rest ++ grew.added) s
+    still_written before round rest s whole written = record {
+      given = written.given;
+      served = written.served;
+      answered = ⊎_elim (λ same. inl same) (λ breaks. inr (record {
+        some = breaks.some;
+        unsure = breaks.unsure;
+        harmless = breaks.harmless;
+        broken = all_append AsBroken rest grew.added breaks.broken (added_broken made took (was_broken b.journal.broken refl before round rest whole breaks));
+      })) written.answered;
+    }
 
     -- an earlier round is one of the longer history
     longer : (f : FlusherState D) (image : List ℕ) → IsLeftIn a.line.start f.line.history b.line.history image → IsLeftIn a.line.start f.line.history e.line.history image
@@ -125,7 +164,7 @@ module _ {D : Type 0} (state : D → DiskState) (consistent : (disk : D) → (st
       rest = left.rest ++ grew.added;
       whole = grew.history ∙ ap (λ h. h ++ grew.added) left.whole ∙ append_assoc left.before (left.round ++ left.rest) grew.added ∙ ap (λ h. left.before ++ h) (append_assoc left.round left.rest grew.added);
       holds = left.holds;
-      stands = left.stands;
+      stands = ⊎_elim (λ held. inl held) (λ held. inr (held.0, still_written left.before left.round left.rest held.0 left.whole held.1, held.2)) left.stands;
     }
 
     kept_on : IsCrashSafe state b e → (f : FlusherState D) → IsKeptSince state a.line.start b f → IsKeptSince state a.line.start e f
@@ -147,7 +186,7 @@ module _ {D : Type 0} (state : D → DiskState) (consistent : (disk : D) → (st
     rounds_by true = so_far.rounds ++ e ∷ []
     rounds_by false = so_far.rounds
 
-    turn_by : (made : Bool) → MatchBool made (IsOneRound state b e) (e ≡ record b { over = true }) → AreRounds state a (rounds_by made) e
+    turn_by : (made : Bool) → MatchBool made (IsOneRound state b e) (e ≡ over_now b) → AreRounds state a (rounds_by made) e
     turn_by true one = one_more state a b e so_far.rounds so_far.in_turn (record { one = one; any_moment = safe }) may
     turn_by false same = none_more state a b e so_far.rounds so_far.in_turn same
 
@@ -159,6 +198,7 @@ module _ {D : Type 0} (state : D → DiskState) (consistent : (disk : D) → (st
     pub continued_next : IsContinued state a e
     continued_next = record {
       first = first ∙ so_far.first;
+      of = of ∙ so_far.of;
       start = start ∙ so_far.start;
       history = history;
       grew = record {

@@ -1,6 +1,6 @@
 -- The flusher: one history of all calls that it took, what the journal stands at, and what a crash leaves.
 use Rattle.std.specs.Prelude.{ℕ, ◌≡◌, ◌<◌, ◌≤◌, ◌⊎◌, ◌+◌, List, [], ◌∷◌, ◌++◌, length, ⊤}
-use Rattle.std.specs.Prelude.{Bool, Option, None, Some, IfSome, true, false}
+use Rattle.std.specs.Prelude.{Option, None, Some, IfSome, true, false}
 use Rattle.std.specs.List.{AllByRecursion, zip}
 use Rattle.rly_core.specs.Bounds.{IsIn}
 use Rattle.rly_core.specs.declared.refusal.Refusal.TheVariants.{Broken, DeviceRead, Unsure}
@@ -10,7 +10,7 @@ use Rattle.rly_machine.specs.declared.call.Call.{Call}
 use Rattle.rly_machine.specs.declared.command.Command.{Command}
 use Rattle.rly_machine.specs.declared.reply.Reply.TheVariants.{Refused}
 use Rattle.rly_machine.specs.Fold.{AllAccepted, fold}
-use Rattle.rly_machine.specs.History.{Entry, Legal, LegalButForBytes, accepted_of, state_after}
+use Rattle.rly_machine.specs.History.{Entry, Legal, LegalButForBytes, accepted_of, harm, state_after}
 use Rattle.rly_machine.specs.State.{State}
 use Rattle.rly_journal.specs.Journal.{IsRound, JournalState}
 use Rattle.rly_journal.specs.Rounds.{AreServed, refusals}
@@ -20,14 +20,12 @@ use Rattle.rly_line.specs.EndViews.{EndView}
 use Rattle.rly_line.specs.Responding.{AreTold, Responding, calls_in}
 
 -- what contracts see of a flusher: the journal that it was given, that journal now, the batch that it keeps for its
--- next round, if one did not fit into the last, what became of the calls, and whether a round found that no batch was
--- left and no seat
+-- next round, if one did not fit into the last, and what became of the calls
 pub record FlusherState (D : Type 0) : Type 0 where
   pub first : JournalState D
   pub journal : JournalState D
   pub kept : Option BatchView
   pub line : Responding
-  pub over : Bool
 
 -- the calls of the batch that is kept
 abbrev pub kept_calls : Option BatchView → List Call
@@ -45,9 +43,12 @@ new_flusher given end = record {
   first = given;
   journal = given;
   kept = None;
-  line = record { of = end.of; taken = []; start = answered_state given; history = []; lines = end.lines };
-  over = false;
+  line = record { of = end.of; taken = []; start = answered_state given; history = []; lines = end.lines; over = end.over };
 }
+
+-- a flusher of which a wait found that no batch was left and no seat
+abbrev pub over_now : {D : Type 0} → FlusherState D → FlusherState D
+over_now f = record f { line = record f.line { over = true } }
 
 -- the state that the history led to
 abbrev pub state_reached : {D : Type 0} → FlusherState D → State (List ℕ)
@@ -100,14 +101,20 @@ GrewInRounds state old new =
     ((old.journal.broken ≡ true) ⊎ HasFailed (state old.journal.disk) (state new.journal.disk))
     old.line.history new.line.history
 
--- the round whose commands may stand or not: that of these calls, which were answered now, and refused where the journal
--- broke in it; where the journal was broken before, the one that broke it
+-- none of them was refused since the journal broke, or in the round in which it did
+abbrev pub AreHarmless : List Entry → Type 0
+AreHarmless entries = AllByRecursion (λ entry. harm entry.1.reply ≡ 0) entries
+
+-- the round whose commands may stand or not: that of these calls, which were answered now, and where the journal broke in
+-- it are some, each refused; where the journal was broken before, the one that broke it, which is the first that was
+-- refused so
 abbrev pub IsDoubtful : {D : Type 0} → FlusherState D → FlusherState D → List Call → Type 0
 IsDoubtful old new calls =
     ((old.journal.broken ≡ false) × (round : List Entry) × (new.line.history ≡ old.line.history ++ round)
-    × (calls_in round ≡ calls) × (new.journal.broken ≡ true → round ≡ zip calls (refusals Unsure old.journal.position calls)))
+    × (calls_in round ≡ calls)
+    × (new.journal.broken ≡ true → (1 ≤ length calls) × (round ≡ zip calls (refusals Unsure old.journal.position calls))))
     ⊎ ((old.journal.broken ≡ true) × (before : List Entry) × (behind : List Call)
-    × (old.line.history ≡ before ++ entries_since old.journal.position calls behind))
+    × (old.line.history ≡ before ++ entries_since old.journal.position calls behind) × (1 ≤ length calls) × AreHarmless before)
 
 -- what a crash leaves at any moment from old to new: the state that the history led to before, or that with the
 -- commands of one round
@@ -125,12 +132,20 @@ pub record IsCrashSafe {D : Type 0} (state : D → DiskState) (old new : Flusher
 abbrev pub folded : State (List ℕ) → List Entry → State (List ℕ)
 folded start history = fold length start (accepted_of history)
 
+-- the journal broke in a round: its calls were refused, each as unsure, none before them was refused so, and each after
+-- them was refused, since the journal was broken
+pub record IsBreaking (before round rest : List Entry) : Type 0 where
+  pub some : 1 ≤ length round
+  pub unsure : AllByRecursion (λ entry. entry.1.reply ≡ Refused Unsure) round
+  pub harmless : AreHarmless before
+  pub broken : AllByRecursion (λ entry. entry.1.reply ≡ Refused Broken) rest
+
 -- the state after a round that was being written: that of its commands which the machine accepts after the history
--- before it. It was answered so, or its calls were refused, each as unsure, since the journal broke in it
-pub record IsWritten (start : State (List ℕ)) (before round : List Entry) (s : State (List ℕ)) : Type 0 where
+-- before it. It was answered so, or the journal broke in it
+pub record IsWritten (start : State (List ℕ)) (before round rest : List Entry) (s : State (List ℕ)) : Type 0 where
   pub given : List Answer
   pub served : AreServed (calls_in round) given (folded start before) s
-  pub answered : (s ≡ folded start (before ++ round)) ⊎ AllByRecursion (λ entry. entry.1.reply ≡ Refused Unsure) round
+  pub answered : (s ≡ folded start (before ++ round)) ⊎ IsBreaking before round rest
 
 -- An image was left in a round of a history: it stands for a prefix of the accepted commands, all those of the history
 -- before that round, with or without those of the round. So it holds each command that was accepted earlier
@@ -141,7 +156,7 @@ pub record IsLeftIn (start : State (List ℕ)) (earlier history : List Entry) (i
   pub whole : history ≡ before ++ (round ++ rest)
   pub holds : (more : List (Command (List ℕ))) × (accepted_of before ≡ accepted_of earlier ++ more)
   pub stands : Stands image (folded start before)
-      ⊎ ((s : State (List ℕ)) × IsWritten start before round s × Stands image s)
+      ⊎ ((s : State (List ℕ)) × IsWritten start before round rest s × Stands image s)
 
 -- a crash now leaves all that was accepted
 abbrev pub KeepsAccepted : DiskState → State (List ℕ) → List Entry → Type 0
@@ -159,6 +174,8 @@ pub record IsOneHistory {D : Type 0} (state : D → DiskState) (f : FlusherState
   -- the journal is where its accepted commands led to
   pub position_is : f.journal.position ≡ f.line.start.seq + length (accepted_of f.line.history)
   pub state_is : f.journal.broken ≡ false → f.journal.state ≡ fold length f.line.start (accepted_of f.line.history)
+  -- while the journal isn't broken, no call was refused as unsure or broken
+  pub harmless : f.journal.broken ≡ false → AreHarmless f.line.history
   pub accepted : AllAccepted length f.line.start (accepted_of f.line.history)
   -- one that was given broken stays as it was
   pub still : f.first.broken ≡ true → f.journal ≡ f.first
@@ -185,7 +202,7 @@ MayFollow f (later ∷ rounds) = MayGoOn f
 
 -- one round after the other, from old to last, and nothing between them: what each left is in the list
 abbrev pub AreRounds : {D : Type 0} → (D → DiskState) → FlusherState D → List (FlusherState D) → FlusherState D → Type 0
-AreRounds state old [] last = last ≡ record old { over = last.over }
+AreRounds state old [] last = last ≡ record old { line = record old.line { over = last.line.over } }
 AreRounds state old (next ∷ rounds) last = IsMadeRound state old next × MayFollow next rounds × AreRounds state next rounds last
 
 -- a crash at any moment since a flusher was at f, up to the last, was in a round of the history. It leaves a prefix of
@@ -198,6 +215,7 @@ pub record IsKeptSince {D : Type 0} (state : D → DiskState) (start : State (Li
 -- what rounds made of a flusher
 pub record IsContinued {D : Type 0} (state : D → DiskState) (old new : FlusherState D) : Type 0 where
   pub first : new.first ≡ old.first
+  pub of : new.line.of ≡ old.line.of
   pub start : new.line.start ≡ old.line.start
   pub history : IsOneHistory state new
   -- the history went on, and tells of a failure only where there was one
@@ -217,4 +235,4 @@ pub record IsContinued {D : Type 0} (state : D → DiskState) (old new : Flusher
 pub record IsServed {D : Type 0} (state : D → DiskState) (old last : FlusherState D) : Type 0 where
   pub rounds : IsContinued state old last
   pub none_kept : last.kept ≡ None
-  pub ended : (last.over ≡ true) ⊎ (last.journal.broken ≡ true)
+  pub ended : (last.line.over ≡ true) ⊎ (last.journal.broken ≡ true)

@@ -5,7 +5,7 @@ ghost use Rattle.rly_disk.specs.DiskModel.{Later};
 ghost use Rattle.rly_line.specs.EndViews.{new_teller};
 ghost use Rattle.rly_line.specs.Responding.{calls_in};
 ghost use Rattle.rly_line.specs.Submission.{IsBeginning};
-ghost use Rattle.rly_flush.specs.Flushing.{GrewInRound, IsCrashSafe, IsOneHistory, IsOneRound, IsServed, new_flusher};
+ghost use Rattle.rly_flush.specs.Flushing.{GrewInRound, IsCrashSafe, IsOneHistory, IsOneRound, IsServed, new_flusher, over_now};
 ghost use Rattle.rly_flush.specs.HelpersFlushing.{IsRounded};
 
 use crate::owned_journal::OwnedJournal;
@@ -20,8 +20,7 @@ use std::snapshot::Snapshot;
 use std::sync::Wait;
 
 /// The one thread that owns the journal, at the end of all seats' lines. Contracts see the journal that it was given,
-/// that journal now, the batch that is kept for the next round, what became of the calls, and whether a round found that
-/// no batch was left and no seat.
+/// that journal now, the batch that is kept for the next round, and what became of the calls.
 #[derive(Drop)]
 pub struct Flusher<D: Disk> {
     alloc: Global,
@@ -30,7 +29,6 @@ pub struct Flusher<D: Disk> {
     line: Responder<OwnedJournal<D>>,
     kept: Option<Batch>,
     lists: Lists,
-    is_over: bool,
 }
 
 impl<D: Disk> Model for Flusher<D> {
@@ -39,9 +37,9 @@ impl<D: Disk> Model for Flusher<D> {
 
     ghost Value = { FlusherState D };
 
-    ghost view = { λ f. record { first = f.first.value.journal; journal = f.owned.journal; kept = f.kept; line = f.line; over = f.is_over } };
+    ghost view = { λ f. record { first = f.first.value.journal; journal = f.owned.journal; kept = f.kept; line = f.line } };
 
-    ghost invariant = { λ f. IsFlushing D.state (record { first = f.first.value.journal; journal = f.owned.journal; kept = f.kept; line = f.line; over = f.is_over })
+    ghost invariant = { λ f. IsFlushing D.state (record { first = f.first.value.journal; journal = f.owned.journal; kept = f.kept; line = f.line })
         × IsReady f.lists };
 }
 
@@ -83,7 +81,6 @@ impl<D: Disk> Flusher<D> {
             line,
             kept: None,
             lists,
-            is_over: false,
         })
     }
 
@@ -93,7 +90,7 @@ impl<D: Disk> Flusher<D> {
     /// left, and no seat.
     pub fn round<R: Wait>(&mut self, rt: &R) -> bool
         // It answers true exactly where it made one round of the journal, for the batch that was kept and those it took.
-        ensures took { MatchBool result (IsOneRound D.state self.old self.new) (self.new ≡ record self.old { over = true }) }
+        ensures took { MatchBool result (IsOneRound D.state self.old self.new) (self.new ≡ over_now self.old) }
         ensures none_kept { result ≡ false → self.old.kept ≡ None }
         // Where the journal was broken it takes one batch alone, and keeps none.
         ensures alone { self.old.journal.broken ≡ true → self.new.kept ≡ None }
@@ -108,7 +105,6 @@ impl<D: Disk> Flusher<D> {
     {
         let alone = self.owned.journal.is_broken();
         if !collect(rt, &mut self.line, &mut self.kept, &mut self.lists, alone) {
-            self.is_over = true;
             return false;
         }
         commit(
@@ -182,7 +178,6 @@ impl<D: Disk> Flusher<D> {
             line: _line,
             kept: _kept,
             lists: _lists,
-            is_over: _is_over,
         } = self;
         let OwnedJournal { journal } = owned;
         Finished {

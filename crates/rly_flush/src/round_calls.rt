@@ -81,7 +81,7 @@ fn first_batch<T: Standing, R: Wait>(
     requires holds { IsResponding line.old }
     ensures emptied { kept.new ≡ None }
     ensures some { IfSome result (λ batch. AreCollected line.old line.new kept.old None (calls_in_batch batch)) }
-    ensures none { IfNone result ((kept.old ≡ None) × (line.new ≡ line.old)) }
+    ensures none { IfNone result ((kept.old ≡ None) × (line.new ≡ record line.old { over = true })) }
     ensures holds { IsResponding line.new }
 {
     match kept.take() {
@@ -102,8 +102,8 @@ pub(crate) fn collect<T: Standing, R: Wait>(
 ) -> bool
     requires holds { IsResponding line.old }
     requires ready { IsReady lists.old }
-    ensures stayed { result ≡ false → (kept.old ≡ None) × (kept.new ≡ None) × (line.new ≡ line.old) × (lists.new ≡ lists.old) }
-    ensures collected { AreCollected line.old line.new kept.old kept.new lists.new.calls.items }
+    ensures stayed { result ≡ false → (kept.old ≡ None) × (kept.new ≡ None) × (line.new ≡ record line.old { over = true }) × (lists.new ≡ lists.old) }
+    ensures collected { result ≡ true → AreCollected line.old line.new kept.old kept.new lists.new.calls.items }
     ensures alone { alone ≡ true → kept.new ≡ None }
     ensures said { calls_said lists.new.said.items ≡ lists.new.calls.items }
     ensures wanted { lists.new.wanted.items ≡ answers_said lists.new.said.items }

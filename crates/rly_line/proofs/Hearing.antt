@@ -17,7 +17,7 @@ use Rattle.rly_line.proofs.Telling.{entries_after_own}
 
 -- what contracts see of a seat at these ends
 abbrev pub caller : SeatId → Putter → Hearer → Bool → Caller
-caller seat p h shut = record { of = p.of; seat = seat; put = p.put; base = h.base; known = h.known; shut = shut }
+caller seat p h shut = record { of = p.of; seat = seat; put = p.put; base = h.base; known = h.known; shut = shut; refused = p.refused }
 
 -- calls of a seat's number are of that seat
 of_seat : (seat : SeatId) (calls : List Call) → AreOf seat.0 calls → AllByRecursion (λ (c : Call). c.seat ≡ seat) calls
@@ -97,6 +97,7 @@ module _ (seat : SeatId) (p q : Putter) (h now : Hearer) (calls more : ℕ) (shu
       of = ap (λ (x : Putter). x.of) put;
       seat = refl;
       open_still = open_is;
+      refused = ap (λ (x : Putter). x.refused) put;
       put = ap (λ (x : Putter). x.put) put ∙ ap (λ l. p.put ++ l) asked_is;
       count = as_many ∙ count;
       between = on.between;
@@ -124,6 +125,7 @@ one_by before after ask answer (x ∷ []) all is =
       of = all.of;
       seat = all.seat;
       open_still = all.open_still;
+      refused = all.refused;
       put = all.put;
       between = all.between;
       call = x;

@@ -1,5 +1,5 @@
 -- Lines that are made one after another, one for each seat.
-use Rattle.std.proofs.Common.{ℕ, ◌≡◌, ◌+◌, ◌<◌, List, [], ◌∷◌, ◌++◌, map, length, get_or, refl, ap, sym, ◌∙◌, subst, arith}
+use Rattle.std.proofs.Common.{ℕ, ◌≡◌, ◌+◌, ◌<◌, List, [], ◌∷◌, ◌++◌, false, map, length, get_or, refl, ap, sym, ◌∙◌, subst, arith}
 use Rattle.std.specs.List.{range_with_len}
 use Rattle.std.proofs.lemmas.List.FromFn.{get_or-map-range_with_len, length-map-range_with_len, map-range_with_len_more}
 use Rattle.rly_line.specs.EndViews.{AreInPlace, teller_at, new_teller}
@@ -23,7 +23,7 @@ between [] x behind d = refl
 between (c ∷ front) x behind d = between front x behind d
 
 -- so they are the lines of an end that takes the calls of so many seats
-pub is_new_end : (of : LineId) (capacity : ℕ) (taker : Taker) (lines : List Teller) (count : ℕ) → taker ≡ record { of = of; capacity = capacity; seats = count; taken = [] } → lines ≡ map new_teller (range_with_len 0 count)
+pub is_new_end : (of : LineId) (capacity : ℕ) (taker : Taker) (lines : List Teller) (count : ℕ) → taker ≡ record { of = of; capacity = capacity; seats = count; taken = []; over = false } → lines ≡ map new_teller (range_with_len 0 count)
     → (taker.seats ≡ length lines) × AreInPlace lines
 is_new_end of capacity taker lines count counts made = (
   ap (λ (t : Taker). t.seats) counts ∙ sym (ap length made ∙ length-map-range_with_len new_teller 0 count),
@@ -37,8 +37,8 @@ one_more make before after x count made more is =
     more ∙ ap (λ l. l ++ x ∷ []) made ∙ ap (λ y. map make (range_with_len 0 count) ++ y ∷ []) is ∙ sym (map-range_with_len_more make 0 count count (omega arith))
 
 -- a line with one more seat
-pub next_line : (old new : Taker) (capacity number : ℕ) → new ≡ record old { seats = old.seats + 1 } → old ≡ record old { capacity = capacity; seats = number; taken = [] }
-    → new ≡ record new { capacity = capacity; seats = number + 1; taken = [] }
+pub next_line : (old new : Taker) (capacity number : ℕ) → new ≡ record old { seats = old.seats + 1 } → old ≡ record old { capacity = capacity; seats = number; taken = []; over = false }
+    → new ≡ record new { capacity = capacity; seats = number + 1; taken = []; over = false }
 next_line old new capacity number more is =
-    more ∙ ap (λ (t : Taker). record old { capacity = t.capacity; seats = t.seats + 1; taken = t.taken }) is
-    ∙ (λ i. record { of = sym (ap (λ (t : Taker). t.of) more) i; capacity = capacity; seats = number + 1; taken = [] })
+    more ∙ ap (λ (t : Taker). record old { capacity = t.capacity; seats = t.seats + 1; taken = t.taken; over = t.over }) is
+    ∙ (λ i. record { of = sym (ap (λ (t : Taker). t.of) more) i; capacity = capacity; seats = number + 1; taken = []; over = false })

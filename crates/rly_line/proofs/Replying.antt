@@ -1,12 +1,13 @@
 -- Each step keeps the rule of a line that answers come out of.
-use Rattle.std.proofs.Common.{◌≡◌, ◌⊎◌, inl, inr, ⊎_elim, ℕ, true, true≢false, Option, Some, None, List, [], ◌∷◌, ◌++◌, length, set, sym, refl, ap, ◌∙◌, subst}
+use Rattle.std.proofs.Common.{◌≡◌, ◌⊎◌, inl, inr, ⊎_elim, ℕ, true, true≢false, Option, Some, None, List, [], ◌∷◌, ◌++◌, append_assoc, append-nil, length, set, sym, refl, ap, ◌∙◌, subst}
+use Rattle.std.specs.List.{zip}
 use Rattle.crossbeam_channel.specs.Fifo.{Pushes, Pops, Forks}
 use Rattle.rly_machine.specs.History.{Entry, LegalButForBytes}
 use Rattle.rly_machine.specs.State.{State}
 use Rattle.rly_line.specs.declared.replies.ReplyView.{ReplyView}
 use Rattle.rly_line.specs.Batches.{AnswersView}
-use Rattle.rly_line.specs.HelpersEnds.{Tells, AreReplied, Teaches, both_ends, telling, hearing}
-use Rattle.rly_line.specs.Replies.{ExtendsHistory}
+use Rattle.rly_line.specs.HelpersEnds.{Teaches, both_ends, telling, hearing}
+use Rattle.rly_line.specs.Replies.{AreBesideReplies, AreReplied, ExtendsHistory, IsPrefixOf, Tells}
 use Rattle.rly_line.proofs.Views.{each_set, each_push, alone}
 
 abbrev Base : Type 0
@@ -149,3 +150,28 @@ takes pass v may given items views rule at =
       ),
       (refl, record { start = start; same_base = was; base_is = refl; legal = line.chain.3; goes_on = its }),
     )
+
+-- what was told last begins with what is known
+told_begins : (seat : ℕ) (base : Base) (known : List Entry) (items : List AnswersView) (told : List Entry) → Tells seat base known items told
+    → (rest : List Entry) × (told ≡ known ++ rest)
+told_begins seat base known [] told chain = ([], sym chain ∙ sym (append-nil known))
+told_begins seat base known (x ∷ items) told chain =
+    let later = told_begins seat base chain.1 items told chain.5 in
+    let own : List Entry = zip chain.4.calls x.answers in
+    let more : List Entry = chain.4.between ++ own in (
+      more ++ later.0,
+      later.1 ∙ ap (λ l. l ++ later.0) (chain.4.made ∙ append_assoc known chain.4.between own) ∙ append_assoc known more later.0,
+    )
+
+pub reply_law : (answers : List AnswersView) (views : List ReplyView) (teller hearer : ReplyView) → AreReplied answers views → AreBesideReplies views teller hearer
+    → IsPrefixOf hearer.base teller.base hearer.known teller.told
+reply_law answers views teller hearer rule beside =
+    let seat : ℕ = rule.2 in let base : Base = rule.3 in let line = rule.6 in
+    let t = line.tells beside.tells_at teller beside.teller_is beside.tells in
+    let h = line.hears beside.hears_at hearer beside.hearer_is beside.hears in
+    let begins = told_begins seat base rule.4 answers rule.5 line.chain in
+    record {
+      same_base = ⊎_elim {C = (hearer.base ≡ None) ⊎ (hearer.base ≡ teller.base)} (λ none. inl none) (λ same. inr (same ∙ sym t.2)) h.3;
+      rest = begins.0;
+      whole = t.3 ∙ begins.1 ∙ ap (λ l. l ++ begins.0) (sym h.2);
+    }

@@ -173,7 +173,7 @@ module _ (r : Responding) (b : BatchView) (answers : List Answer) (left : List C
 
   -- with one line told or found gone, all goes on
   pub goes_on : (now : Teller) → IsTold r.start History now → now.seat ≡ its_line.seat → LegalBy without_bytes (harm_after 0 r.history) (state_after r.start r.history) (zip calls answers)
-      → IsResponding (record { of = r.of; taken = r.taken; start = r.start; history = History; lines = set r.lines b.seat.0 now })
+      → IsResponding (record { of = r.of; taken = r.taken; start = r.start; history = History; lines = set r.lines b.seat.0 now; over = r.over })
   goes_on now told mine answered = record {
     legal = legal_append without_bytes 0 r.start r.history (zip calls answers) holds.legal answered;
     waiting = (
@@ -207,8 +207,8 @@ took r b holds next =
     }
 
 -- nothing was taken or told yet
-pub none_yet : (of : LineId) (start : State (List ℕ)) (count : ℕ) → IsResponding (record { of = of; taken = []; start = start; history = []; lines = map new_teller (range_with_len 0 count) })
-none_yet of start count = record {
+pub none_yet : (of : LineId) (start : State (List ℕ)) (count : ℕ) (over : Bool) → IsResponding (record { of = of; taken = []; start = start; history = []; lines = map new_teller (range_with_len 0 count); over = over })
+none_yet of start count over = record {
   legal = tt;
   waiting = ([], refl);
   seated = λ k d lt. absurd (omega arith);
@@ -221,15 +221,27 @@ none_yet of start count = record {
 pub at_first : (line : EndView) (story : StoryView) (start : State (List ℕ)) → (count : ℕ) × (line ≡ record line { taken = []; lines = map new_teller (range_with_len 0 count) })
     → story ≡ record { start = start; history = [] } → IsResponding (responding line story)
 at_first line story start made begun =
-    subst (λ (y : EndView × StoryView). IsResponding (responding y.0 y.1)) (λ i. (sym made.1 i, sym begun i)) (none_yet line.of start made.0)
+    subst (λ (y : EndView × StoryView). IsResponding (responding y.0 y.1)) (λ i. (sym made.1 i, sym begun i)) (none_yet line.of start made.0 line.over)
+
+-- whether a wait found an end is beside all that
+pub with_over : (over : Bool) (r : Responding) → IsResponding r → IsResponding (record r { over = over })
+with_over over r is = record {
+  legal = is.legal;
+  waiting = is.waiting;
+  seated = is.seated;
+  numbered = is.numbered;
+  in_place = is.in_place;
+  told = is.told;
+}
 
 -- a batch was taken, if there was one
-pub took_any : (line now : EndView) (story : StoryView) (result : Option BatchView) → IsResponding (responding line story)
+pub took_any : (over : Bool) (line now : EndView) (story : StoryView) (result : Option BatchView) → IsResponding (responding line story)
     → IfSome result (λ b. (now ≡ record line { taken = line.taken ++ calls_in_batch b }) × IsNext (length line.lines) line.taken b)
-    → IfNone result (now ≡ line) → IsResponding (responding now story)
-took_any line now story (Some b) holds taken none =
+    → IfNone result (now ≡ record line { over = over }) → IsResponding (responding now story)
+took_any over line now story (Some b) holds taken none =
     subst (λ (e : EndView). IsResponding (responding e story)) (sym taken.0) (took (responding line story) b holds taken.1)
-took_any line now story None holds taken none = subst (λ (e : EndView). IsResponding (responding e story)) (sym none) holds
+took_any over line now story None holds taken none =
+    subst (λ (e : EndView). IsResponding (responding e story)) (sym none) (with_over over (responding line story) holds)
 
 module _ (line : EndView) (story pushed : StoryView) (b : BatchView) (given : AnswersView) (holds : IsResponding (responding line story))
     (has : 1 ≤ given.wanted) (whose : given ≡ record (no_answers b) { answers = given.answers }) (count : length given.answers ≡ given.wanted)
@@ -258,20 +270,20 @@ module _ (line : EndView) (story pushed : StoryView) (b : BatchView) (given : An
   may_ok = subst (λ (y : SeatId × StoryView). (teller_at line.lines y.0.0).gone ≡ false → MayTell (teller_at line.lines y.0.0) y.1.start given.answers y.1.history)
       (λ i. (sym seat_is i, sym is i)) (may_tell (responding line story) b given.answers next.0 holds asks as_many next.1 answered)
 
-  put_back : (of : LineId) (taken : List Call) (lines : List Teller) (now : Teller) → of ≡ line.of → taken ≡ line.taken → lines ≡ set line.lines b.seat.0 now
+  put_back : (of : LineId) (taken : List Call) (lines : List Teller) (over : Bool) (now : Teller) → of ≡ line.of → taken ≡ line.taken → lines ≡ set line.lines b.seat.0 now
       → IsTold story.start Longer.history now → now.seat ≡ (teller_at line.lines b.seat.0).seat
-      → IsResponding (record { of = of; taken = taken; start = pushed.start; history = pushed.history; lines = lines })
-  put_back of taken lines now at same lines_are told mine =
-      subst (λ (y : LineId × List Call × StoryView × List Teller). IsResponding (record { of = y.0; taken = y.1; start = y.2.start; history = y.2.history; lines = y.3 }))
-      (λ i. (sym at i, sym same i, sym is i, sym lines_are i)) (goes_on (responding line story) b given.answers next.0 holds asks as_many next.1 now told mine answered)
+      → IsResponding (record { of = of; taken = taken; start = pushed.start; history = pushed.history; lines = lines; over = over })
+  put_back of taken lines over now at same lines_are told mine =
+      subst (λ (y : LineId × List Call × StoryView × List Teller). IsResponding (record { of = y.0; taken = y.1; start = y.2.start; history = y.2.history; lines = y.3; over = over }))
+      (λ i. (sym at i, sym same i, sym is i, sym lines_are i)) (with_over over _ (goes_on (responding line story) b given.answers next.0 holds asks as_many next.1 now told mine answered))
 
   pub after_ok : (after : EndView) (told : Bool) → after.of ≡ line.of → after.taken ≡ line.taken
       → MatchBool told (after.lines ≡ set line.lines given.seat.0 (with_told (teller_at line.lines given.seat.0) pushed))
       (after.lines ≡ set line.lines given.seat.0 (with_gone (teller_at line.lines given.seat.0)))
       → IsResponding (responding after pushed)
-  after_ok after true at taken lines = put_back after.of after.taken after.lines (with_told (teller_at line.lines b.seat.0) Longer) at taken
+  after_ok after true at taken lines = put_back after.of after.taken after.lines after.over (with_told (teller_at line.lines b.seat.0) Longer) at taken
       (lines ∙ ap (λ (y : SeatId × StoryView). set line.lines y.0.0 (with_told (teller_at line.lines y.0.0) y.1)) (λ i. (seat_is i, is i)))
       (told_now (responding line story) b given.answers next.0 holds asks as_many next.1) refl
-  after_ok after false at taken lines = put_back after.of after.taken after.lines (with_gone (teller_at line.lines b.seat.0)) at taken
+  after_ok after false at taken lines = put_back after.of after.taken after.lines after.over (with_gone (teller_at line.lines b.seat.0)) at taken
       (lines ∙ ap (λ (s : SeatId). set line.lines s.0 (with_gone (teller_at line.lines s.0))) seat_is)
       (gone_now (responding line story) b given.answers next.0 holds asks as_many next.1) refl

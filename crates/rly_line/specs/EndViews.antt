@@ -1,17 +1,18 @@
 -- The answering thread's end of all lines.
-use Rattle.std.specs.Prelude.{ℕ, ◌≡◌, ◌<◌, List, [], length, slice_index_or, true, false, Some, None}
+use Rattle.std.specs.Prelude.{ℕ, ◌≡◌, ◌<◌, Bool, List, [], length, slice_index_or, true, false, Some, None}
 use Rattle.rly_machine.specs.declared.call.Call.{Call}
 use Rattle.rly_line.specs.Replies.{Teller}
 use Rattle.rly_line.specs.Story.{StoryView}
 use Rattle.rly_line.specs.Submission.{LineId}
 
 -- what contracts see of it: which line it takes calls from and how many batches that holds, the calls that were taken,
--- and what each seat's line was told
+-- what each seat's line was told, and whether a wait found that no batch was left and no seat
 pub record EndView : Type 0 where
   pub of : LineId
   pub capacity : ℕ
   pub taken : List Call
   pub lines : List Teller
+  pub over : Bool
 
 -- a line in which nothing was told. It holds one batch of answers
 abbrev pub new_teller : ℕ → Teller

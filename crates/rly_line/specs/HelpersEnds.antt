@@ -1,11 +1,8 @@
 -- Nothing is claimed here: the two lines as their channels keep them, and the ends of a seat, which only private
--- functions speak of. The rule of a line of answers is that it was told histories, each of which goes on from the one
--- before, and that what the seat knows is the last one that it took.
+-- functions speak of.
 use Rattle.std.specs.Prelude.{ℕ, ◌≡◌, ◌≤◌, ◌⊎◌, List, [], ◌∷◌, length, vec_capacity}
 use Rattle.std.specs.Prelude.{Bool, true, false, Option, Some, None}
 use Rattle.std.specs.Global.{Vec}
-use mathlib.Core.Option.{some}
-use lib.ListN.{get_elem?}
 use Rattle.crossbeam_channel.specs.Claims.{Pass}
 use Rattle.rly_machine.specs.declared.call.Answer.{Answer}
 use Rattle.rly_machine.specs.declared.call.Call.{Call}
@@ -44,6 +41,8 @@ pub record Putter : Type 0 where
   pub of : LineId
   pub seat : ℕ
   pub put : List Call
+  -- the line refused a batch
+  pub refused : Bool
 
 pub record Taker : Type 0 where
   pub of : LineId
@@ -51,31 +50,10 @@ pub record Taker : Type 0 where
   pub capacity : ℕ
   pub seats : ℕ
   pub taken : List Call
+  -- a wait found no batch and no seat
+  pub over : Bool
 
 -- ---- a line that answers come out of
-
--- the batches of answers in a line, each of which tells a history that goes on from the one before: from what is known
--- to what was told last
-abbrev pub Tells : ℕ → Option (State (List ℕ)) → List Entry → List AnswersView → List Entry → Type 0
-Tells seat base known [] told = known ≡ told
-Tells seat base known (given ∷ more) told =
-    (start : State (List ℕ)) × (history : List Entry) × (base ≡ Some start) × LegalButForBytes start history
-    × ExtendsHistory seat known given.answers history × Tells seat base history more told
-
--- what holds of the answers in the line and of what each pass knows, where these passes tell and hear
-pub record IsReplyLine (teller hearer seat : ℕ) (base : Option (State (List ℕ))) (known told : List Entry)
-    (items : List AnswersView) (views : List ReplyView) : Type 0 where
-  pub chain : Tells seat base known items told
-  pub tells : (pass : ℕ) (v : ReplyView) → get_elem? views pass ≡ some v → v.tells ≡ true
-      → (pass ≡ teller) × (v.seat ≡ seat) × (v.base ≡ base) × (v.told ≡ told)
-  pub hears : (pass : ℕ) (v : ReplyView) → get_elem? views pass ≡ some v → v.hears ≡ true
-      → (pass ≡ hearer) × (v.seat ≡ seat) × (v.known ≡ known) × ((v.base ≡ None) ⊎ (v.base ≡ base))
-
--- the rule
-abbrev pub AreReplied : List AnswersView → List ReplyView → Type 0
-AreReplied items views =
-    (teller : ℕ) × (hearer : ℕ) × (seat : ℕ) × (base : Option (State (List ℕ)))
-    × (known : List Entry) × (told : List Entry) × IsReplyLine teller hearer seat base known told items views
 
 -- the view of the first pass, which is cut into those of the two ends
 abbrev pub both_ends : ReplyView

@@ -1,12 +1,16 @@
--- A line that one seat's answers come out of, batch by batch: it was told a base state and histories, each made of the
--- one before, of calls of other seats and then the calls of its seat's next batch. What the seat knows is the last one
--- that it took.
-use Rattle.std.specs.Prelude.{ℕ, ◌≡◌, ◌⊎◌, ◌==◌, List, [], ◌++◌, Bool, Option, Some, None, filter, length}
+-- A line that one seat's answers come out of, batch by batch, under one rule: it was told a base state and histories,
+-- each made of the one before, of calls of other seats and then the calls of its seat's next batch. What the seat knows
+-- is the last one that it took.
+use Rattle.std.specs.Prelude.{ℕ, ◌≡◌, ◌⊎◌, ◌==◌, List, [], ◌∷◌, ◌++◌, Bool, true, Option, Some, None, filter, length}
 use Rattle.std.specs.List.{AllByRecursion, zip}
+use mathlib.Core.Option.{some}
+use lib.ListN.{get_elem?}
 use Rattle.rly_machine.specs.declared.call.Answer.{Answer}
 use Rattle.rly_machine.specs.declared.call.Call.{Call}
 use Rattle.rly_machine.specs.History.{Entry, LegalButForBytes}
 use Rattle.rly_machine.specs.State.{State}
+use Rattle.rly_line.specs.declared.replies.ReplyView.{ReplyView}
+use Rattle.rly_line.specs.Batches.{AnswersView}
 use Rattle.rly_line.specs.Submission.{AreNumbered}
 
 -- the calls of one seat in a history, each with its answer
@@ -37,3 +41,41 @@ pub record MayTell (t : Teller) (start : State (List ℕ)) (answers : List Answe
   pub base : (t.base ≡ None) ⊎ (t.base ≡ Some start)
   pub legal : LegalButForBytes start history
   pub goes_on : ExtendsHistory t.seat t.told answers history
+
+-- the batches of answers in a line, each of which tells a history that goes on from the one before: from what is known
+-- to what was told last
+abbrev pub Tells : ℕ → Option (State (List ℕ)) → List Entry → List AnswersView → List Entry → Type 0
+Tells seat base known [] told = known ≡ told
+Tells seat base known (given ∷ more) told =
+    (start : State (List ℕ)) × (history : List Entry) × (base ≡ Some start) × LegalButForBytes start history
+    × ExtendsHistory seat known given.answers history × Tells seat base history more told
+
+-- what holds of the answers in the line and of what each pass knows, where these passes tell and hear
+pub record IsReplyLine (teller hearer seat : ℕ) (base : Option (State (List ℕ))) (known told : List Entry)
+    (items : List AnswersView) (views : List ReplyView) : Type 0 where
+  pub chain : Tells seat base known items told
+  pub tells : (pass : ℕ) (v : ReplyView) → get_elem? views pass ≡ some v → v.tells ≡ true
+      → (pass ≡ teller) × (v.seat ≡ seat) × (v.base ≡ base) × (v.told ≡ told)
+  pub hears : (pass : ℕ) (v : ReplyView) → get_elem? views pass ≡ some v → v.hears ≡ true
+      → (pass ≡ hearer) × (v.seat ≡ seat) × (v.known ≡ known) × ((v.base ≡ None) ⊎ (v.base ≡ base))
+
+-- the rule
+abbrev pub AreReplied : List AnswersView → List ReplyView → Type 0
+AreReplied items views =
+    (teller : ℕ) × (hearer : ℕ) × (seat : ℕ) × (base : Option (State (List ℕ)))
+    × (known : List Entry) × (told : List Entry) × IsReplyLine teller hearer seat base known told items views
+
+-- the views of one line at one moment: that of the pass that tells, and that of the seat's pass
+pub record AreBesideReplies (views : List ReplyView) (teller hearer : ReplyView) : Type 0 where
+  pub tells_at : ℕ
+  pub hears_at : ℕ
+  pub teller_is : get_elem? views tells_at ≡ some teller
+  pub hearer_is : get_elem? views hears_at ≡ some hearer
+  pub tells : teller.tells ≡ true
+  pub hears : hearer.hears ≡ true
+
+-- what a seat knows is a prefix of a history, from a base that is the same where it knows one
+pub record IsPrefixOf (known_base base : Option (State (List ℕ))) (known history : List Entry) : Type 0 where
+  pub same_base : (known_base ≡ None) ⊎ (known_base ≡ base)
+  pub rest : List Entry
+  pub whole : history ≡ known ++ rest

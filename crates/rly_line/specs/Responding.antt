@@ -1,5 +1,5 @@
 -- The thread that answers: what it told each seat is a prefix of one legal history, of the calls that it took.
-use Rattle.std.specs.Prelude.{ℕ, ◌≡◌, ◌<◌, ◌⊎◌, List, [], ◌++◌, All, false, Some, None, length, map}
+use Rattle.std.specs.Prelude.{ℕ, ◌≡◌, ◌<◌, ◌⊎◌, Bool, List, [], ◌++◌, All, false, Some, None, length, map}
 use Rattle.rly_machine.specs.declared.call.Call.{Call}
 use Rattle.rly_machine.specs.History.{Entry, LegalButForBytes}
 use Rattle.rly_machine.specs.State.{State}
@@ -9,13 +9,14 @@ use Rattle.rly_line.specs.Story.{StoryView}
 use Rattle.rly_line.specs.Submission.{AreNumbered, LineId, calls_of}
 
 -- what contracts see of it: which line it takes calls from, the calls that were taken, the state that it began in, the
--- history that it made, and what each seat's line was told
+-- history that it made, what each seat's line was told, and whether a wait found that no batch was left and no seat
 pub record Responding : Type 0 where
   pub of : LineId
   pub taken : List Call
   pub start : State (List ℕ)
   pub history : List Entry
   pub lines : List Teller
+  pub over : Bool
 
 -- its end of all lines and its history, as one value
 abbrev pub responding : EndView → StoryView → Responding
@@ -25,6 +26,7 @@ responding line story = record {
   start = story.start;
   history = story.history;
   lines = line.lines;
+  over = line.over;
 }
 
 -- the calls of a history

@@ -1,5 +1,5 @@
 -- A caller's seat: what it put, and what it knows.
-use Rattle.std.specs.Prelude.{ℕ, ◌≡◌, ◌+◌, ◌⊎◌, List, [], ◌∷◌, ◌++◌, length}
+use Rattle.std.specs.Prelude.{ℕ, ◌≡◌, ◌+◌, ◌<◌, ◌^◌, ◌⊎◌, List, [], ◌∷◌, ◌++◌, length}
 use Rattle.std.specs.Prelude.{Bool, true, false, Option, Some, None, Result, Ok, Err}
 use Rattle.std.specs.List.{AllByRecursion, zip}
 use Rattle.rly_machine.specs.declared.call.Answer.{Answer}
@@ -17,7 +17,7 @@ use Rattle.rly_line.specs.Replies.{entries_of}
 use Rattle.rly_line.specs.Submission.{AreNumbered, LineId}
 
 -- what contracts see of a seat: which line it puts calls into, the calls that it put, the base state and the history
--- that it knows, and whether it is shut
+-- that it knows, whether it is shut, and whether its line refused a batch, since its other end was gone
 pub record Caller : Type 0 where
   pub of : LineId
   pub seat : SeatId
@@ -25,10 +25,11 @@ pub record Caller : Type 0 where
   pub base : Option (State (List ℕ))
   pub known : List Entry
   pub shut : Bool
+  pub refused : Bool
 
 -- a seat that nothing was asked from
 abbrev pub new_caller : LineId → ℕ → Caller
-new_caller of number = record { of = of; seat = record { 0 = number }; put = []; base = None; known = []; shut = false }
+new_caller of number = record { of = of; seat = record { 0 = number }; put = []; base = None; known = []; shut = false; refused = false }
 
 -- the call that puts an ask under the seat's next number
 abbrev pub next_call : Caller → Ask → Call
@@ -39,6 +40,7 @@ pub record IsAnsweredWith (before : Caller) (ask : Ask) (answer : Answer) (after
   pub of : after.of ≡ before.of
   pub seat : after.seat ≡ before.seat
   pub open_still : after.shut ≡ false
+  pub refused : after.refused ≡ before.refused
   -- the calls that it put grew by this ask, under the next number
   pub put : after.put ≡ before.put ++ next_call before ask ∷ []
   -- what it knows begins with all that it knew, and ends with its call of that number and this answer; between them
@@ -66,6 +68,7 @@ pub record AreAnsweredWith (before : Caller) (asks : List Ask) (answers : List A
   pub of : after.of ≡ before.of
   pub seat : after.seat ≡ before.seat
   pub open_still : after.shut ≡ false
+  pub refused : after.refused ≡ before.refused
   -- the calls that it put grew by these asks, in order, under the next numbers
   pub put : after.put ≡ before.put ++ next_calls before asks
   -- there are as many answers
@@ -87,16 +90,25 @@ pub record AreAnsweredWith (before : Caller) (asks : List Ask) (answers : List A
   pub same_base : (before.base ≡ None) ⊎ (before.base ≡ Some start)
   pub legal : LegalButForBytes start after.known
 
+-- a seat that may put so many calls no more: it is shut, or would make more than 2^52 calls in its life
+abbrev pub MayPutNoMore : Caller → ℕ → Type 0
+MayPutNoMore c count = (c.shut ≡ true) ⊎ (2 ^ 52 < length c.put + count)
+
+-- a seat after asks were not put: it may put so many no more and is as it was, or its line refused them
+abbrev pub IsClosed : Caller → ℕ → Caller → Type 0
+IsClosed before count after =
+    (MayPutNoMore before count × (after ≡ before)) ⊎ (after ≡ record before { refused = true })
+
 -- a seat after its ask was not answered: it was handed back and not put, or it was put and no answer came
 abbrev pub IsUnanswered : Caller → Ask → CallError → Caller → Type 0
-IsUnanswered before ask (Closed back) after = (back ≡ ask) × (after ≡ before)
+IsUnanswered before ask (Closed back) after = (back ≡ ask) × IsClosed before 1 after
 IsUnanswered before ask Lost after =
     after ≡ record before { put = before.put ++ next_call before ask ∷ []; shut = true }
 
 -- a seat after none of these asks was answered, with the asks that are left: they were not put and all are left, or
 -- they were put, none is left, and no answers came
 abbrev pub AreUnanswered : Caller → List Ask → BatchError → List Ask → Caller → Type 0
-AreUnanswered before asks batch.Closed left after = (left ≡ asks) × (after ≡ before)
+AreUnanswered before asks batch.Closed left after = (left ≡ asks) × IsClosed before (length asks) after
 AreUnanswered before asks batch.Lost left after =
     (left ≡ []) × (after ≡ record before { put = before.put ++ next_calls before asks; shut = true })
 

@@ -21,7 +21,7 @@ mod submission;
 
 pub use crate::batch::{Answers, Batch};
 pub use crate::call_error::{BatchError, CallError};
-pub use crate::laws::law_line;
+pub use crate::laws::{law_line, law_reply_line};
 pub use crate::line_end::LineEnd;
 pub use crate::responder::Responder;
 pub use crate::seat::Seat;

@@ -1,4 +1,4 @@
-ghost use Rattle.std.specs.Prelude.{◌≡◌, ◌++◌, ◌<◌, false, length, slice_set, IfNone, IfSome, MatchBool};
+ghost use Rattle.std.specs.Prelude.{◌≡◌, ◌++◌, ◌<◌, false, length, slice_set, true, IfNone, IfSome, MatchBool};
 ghost use Rattle.rly_line.specs.Batches.{calls_in_batch};
 ghost use Rattle.rly_line.specs.Replies.{MayTell};
 ghost use Rattle.rly_line.specs.Submission.{IsBeginning, IsNext};
@@ -12,8 +12,9 @@ use std::marker::Model;
 use std::sync::Wait;
 
 /// The other end of all seats' lines, for the one thread that answers. Contracts see which line it takes
-/// calls from and how many batches that holds, the calls that were taken and, for each seat, how many batches of
-/// answers its line holds, the base and the history that it was told last, and whether the seat was found gone.
+/// calls from and how many batches that holds, the calls that were taken, whether a wait found that no batch was left and
+/// no seat, and, for each seat, how many batches of answers its line holds, the base and the history that it was told last,
+/// and whether the seat was found gone.
 #[derive(Drop)]
 pub struct LineEnd {
     calls: TakeEnd,
@@ -26,7 +27,7 @@ impl Model for LineEnd {
 
     ghost Value = { EndView };
 
-    ghost view = { λ e. record { of = e.calls.of; capacity = e.calls.capacity; taken = e.calls.taken; lines = e.replies.items } };
+    ghost view = { λ e. record { of = e.calls.of; capacity = e.calls.capacity; taken = e.calls.taken; lines = e.replies.items; over = e.calls.over } };
 
     ghost invariant = { λ e. (e.calls.seats ≡ length e.replies.items) × AreInPlace e.replies.items };
 }
@@ -37,7 +38,7 @@ impl LineEnd {
     /// The end of these lines.
     pub(crate) fn new(calls: TakeEnd, replies: Vec<TellEnd>) -> LineEnd
         requires { (calls.seats ≡ length replies.items) × AreInPlace replies.items }
-        ensures { result ≡ record { of = calls.of; capacity = calls.capacity; taken = calls.taken; lines = replies.items } }
+        ensures { result ≡ record { of = calls.of; capacity = calls.capacity; taken = calls.taken; lines = replies.items; over = calls.over } }
     {
         LineEnd { calls, replies }
     }
@@ -46,7 +47,7 @@ impl LineEnd {
     pub fn wait<R: Wait>(&mut self, rt: &R) -> Option<Batch>
         ensures taken { IfSome result (λ batch. (self.new ≡ record self.old { taken = self.old.taken ++ calls_in_batch batch })
             × IsNext (length self.old.lines) self.old.taken batch) }
-        ensures none { IfNone result (self.new ≡ self.old) }
+        ensures none { IfNone result (self.new ≡ record self.old { over = true }) }
     {
         self.calls.wait(rt)
     }
@@ -68,6 +69,7 @@ impl LineEnd {
             → MayTell (teller_at self.old.lines answers.seat.0) story.now.start answers.answers story.now.history }
         ensures of { self.new.of ≡ self.old.of }
         ensures taken { self.new.taken ≡ self.old.taken }
+        ensures over { self.new.over ≡ self.old.over }
         ensures told { MatchBool result
             (self.new.lines ≡ slice_set self.old.lines answers.seat.0 (with_told (teller_at self.old.lines answers.seat.0) story.now))
             (self.new.lines ≡ slice_set self.old.lines answers.seat.0 (with_gone (teller_at self.old.lines answers.seat.0))) }

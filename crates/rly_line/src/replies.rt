@@ -55,8 +55,9 @@ pub struct Replied;
 
 impl Protocol<Answers, ReplyView> for Replied {
     ghost use Rattle.rly_line.specs.HelpersEnds as helpers;
+    ghost use Rattle.rly_line.specs.Replies as replies;
 
-    ghost holds = { helpers.AreReplied };
+    ghost holds = { replies.AreReplied };
 
     ghost first = { helpers.both_ends };
 }

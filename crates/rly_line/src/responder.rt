@@ -1,4 +1,4 @@
-ghost use Rattle.std.specs.Prelude.{◌≡◌, ℕ, ◌++◌, [], List, length, map, IfNone, IfSome};
+ghost use Rattle.std.specs.Prelude.{◌≡◌, ℕ, ◌++◌, [], List, length, map, true, IfNone, IfSome};
 ghost use Rattle.std.specs.List.{range_with_len, zip};
 ghost use Rattle.rly_machine.specs.History.{LegalBy, harm_after, state_after, without_bytes};
 ghost use Rattle.rly_machine.specs.declared.call.Call.{Call};
@@ -16,8 +16,8 @@ use std::snapshot::Snapshot;
 use std::sync::Wait;
 
 /// The one thread that answers: its end of all lines, and the history that it made. Contracts see which
-/// line it takes calls from, the calls that were taken, the state that it began in, the history, and
-/// what each seat was told.
+/// line it takes calls from, the calls that were taken, the state that it began in, the history, what each seat was told,
+/// and whether a wait found that no batch was left and no seat.
 #[derive(Drop)]
 pub struct Responder<T: Standing> {
     line: LineEnd,
@@ -38,7 +38,7 @@ impl<T: Standing> Responder<T> {
     /// At the end of new lines, in the state that something stands for.
     pub fn new(line: LineEnd, at: &T) -> Responder<T>
         requires { (count : ℕ) × (line ≡ record line { taken = []; lines = map new_teller (range_with_len 0 count) }) }
-        ensures same { result ≡ record { of = line.of; taken = []; start = T.state at.now; history = []; lines = line.lines } }
+        ensures same { result ≡ record { of = line.of; taken = []; start = T.state at.now; history = []; lines = line.lines; over = line.over } }
         ensures holds { IsResponding result }
     {
         let story = Story::begin(at);
@@ -48,7 +48,7 @@ impl<T: Standing> Responder<T> {
     /// Waits for a batch. None: no batch was left, and no seat.
     pub fn wait<R: Wait>(&mut self, rt: &R) -> Option<Batch>
         ensures taken { IfSome result (λ batch. self.new ≡ record self.old { taken = self.old.taken ++ calls_in_batch batch }) }
-        ensures none { IfNone result (self.new ≡ self.old) }
+        ensures none { IfNone result (self.new ≡ record self.old { over = true }) }
         ensures holds { IsResponding self.new }
     {
         self.line.wait(rt)
@@ -73,6 +73,7 @@ impl<T: Standing> Responder<T> {
         ensures of { self.new.of ≡ self.old.of }
         ensures taken { self.new.taken ≡ self.old.taken }
         ensures start { self.new.start ≡ self.old.start }
+        ensures over { self.new.over ≡ self.old.over }
         ensures history { self.new.history ≡ self.old.history ++ zip (calls_in_batch batch.now.value) answers.answers }
         ensures holds { IsResponding self.new }
     {

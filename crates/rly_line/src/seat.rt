@@ -1,4 +1,4 @@
-ghost use Rattle.std.specs.Prelude.{◌≡◌, ◌+◌, ◌++◌, ◌^◌, ◌<◌, ◌≤◌, ◌⊎◌, [], Err, true, vec_capacity, IfErr, IfOk, OnOk, length};
+ghost use Rattle.std.specs.Prelude.{◌≡◌, ◌+◌, ◌++◌, ◌^◌, ◌<◌, ◌≤◌, ◌⊎◌, [], Err, false, true, vec_capacity, IfErr, IfOk, OnOk, length};
 ghost use Rattle.rly_core.specs.Bounds.{IsIn};
 ghost use Rattle.rly_line.specs.declared.call_error.BatchError.TheVariants.{Closed};
 ghost use Rattle.rly_line.specs.HelpersEnds.{new_hearer};
@@ -19,8 +19,8 @@ use std::sync::Wait;
 /// So many asks a batch has at most.
 const MAX_ASKS: usize = limits::MAX_ROUND as usize;
 
-/// The place of one caller at the line. Contracts see which line it is, its number, the calls that it
-/// put, the base state and the history that it knows, and whether it is shut.
+/// The place of one caller at the line. Contracts see which line it is, its number, the calls that it put, the base state
+/// and the history that it knows, whether it is shut, and whether its line refused a batch.
 #[derive(Drop)]
 pub struct Seat {
     alloc: Global,
@@ -49,7 +49,7 @@ impl Seat {
         line: SubmitEnd,
         replies: HearEnd,
     ) -> Result<Seat, AllocError>
-        requires line { line ≡ record line { seat = seat.0; put = [] } }
+        requires line { line ≡ record line { seat = seat.0; put = []; refused = false } }
         requires replies { replies ≡ new_hearer seat.0 }
         ensures { IfOk result (λ made. made ≡ new_caller line.of seat.0) }
     {
@@ -92,8 +92,8 @@ impl Seat {
         self.ends.id()
     }
 
-    /// Asks, and waits for the answer. Closed: the call was not put, and is handed back. Lost: it was
-    /// put, no answer came, and each later call is Closed; so it is after 2^52 calls.
+    /// Asks, and waits for the answer. Closed: the call was not put, and is handed back; the line refused it, or the seat
+    /// is shut, or made 2^52 calls. Lost: it was put, no answer came, and the seat is shut.
     pub fn call<R: Wait>(&mut self, rt: &R, ask: Ask) -> Result<Answer, CallError>
         ensures ok { IfOk result (λ answer. IsAnsweredWith self.old ask answer self.new) }
         ensures err { IfErr result (λ error. IsUnanswered self.old ask error self.new) }
@@ -126,7 +126,7 @@ impl Seat {
 
     /// Asks all of these together, and waits for their answers, which come together, in order, into an empty list with
     /// room for them. No memory is asked for. Closed: none was put, and they stay where they are. Lost: they were put,
-    /// no answers came, and each later call is Closed; so it is where the seat would make more than 2^52 calls.
+    /// no answers came, and the seat is shut. A seat that is shut, or would make more than 2^52 calls, is Closed.
     pub fn call_all<R: Wait>(
         &mut self,
         rt: &R,

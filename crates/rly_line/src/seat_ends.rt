@@ -32,7 +32,7 @@ impl Model for SeatEnds {
 
     ghost Value = { Caller };
 
-    ghost view = { λ s. record { of = s.line.of; seat = s.seat; put = s.line.put; base = s.replies.base; known = s.replies.known; shut = s.is_shut } };
+    ghost view = { λ s. record { of = s.line.of; seat = s.seat; put = s.line.put; base = s.replies.base; known = s.replies.known; shut = s.is_shut; refused = s.line.refused } };
 
     ghost invariant = { λ s. IsSeated s.seat s.line s.replies s.calls s.is_shut };
 }
@@ -40,7 +40,7 @@ impl Model for SeatEnds {
 impl SeatEnds {
     /// A seat's two ends, of which nothing was asked.
     pub fn new(seat: SeatId, line: SubmitEnd, replies: HearEnd) -> SeatEnds
-        requires line { line ≡ record line { seat = seat.0; put = [] } }
+        requires line { line ≡ record line { seat = seat.0; put = []; refused = false } }
         requires replies { replies ≡ new_hearer seat.0 }
         ensures { result ≡ new_caller line.of seat.0 }
     {
@@ -78,7 +78,7 @@ impl SeatEnds {
         Batch::new(self.seat, self.calls, asks, answers)
     }
 
-    /// Puts the seat's next batch and waits for its answers. Where it isn't put, it is handed back. Where it is and no
+    /// Puts the seat's next batch and waits for its answers. Where the line refuses it, it is handed back. Where it is and no
     /// answers come, nothing is handed back, and the seat is shut.
     pub fn exchange<R: Wait>(&mut self, rt: &R, batch: Batch) -> Result<Answers, Option<Batch>>
         requires open { self.old.shut ≡ false }
@@ -88,7 +88,7 @@ impl SeatEnds {
         ensures ok { IfOk result (λ given. AreAnsweredWith self.old batch.asks given.answers self.new) }
         ensures err { IfErr result (λ back. MatchOption back
             (self.new ≡ record self.old { put = self.old.put ++ calls_in_batch batch; shut = true })
-            (λ same. (same ≡ batch) × (self.new ≡ self.old))) }
+            (λ same. (same ≡ batch) × (self.new ≡ record self.old { refused = true }))) }
     {
         let count = batch.len();
         if let Err(back) = self.line.put(rt, batch) {

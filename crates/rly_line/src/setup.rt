@@ -1,4 +1,4 @@
-ghost use Rattle.std.specs.Prelude.{◌≡◌, ◌<◌, ◌≤◌, [], map, IfOk};
+ghost use Rattle.std.specs.Prelude.{◌≡◌, ◌<◌, ◌≤◌, [], false, map, IfOk};
 ghost use Rattle.std.specs.List.{range_with_len};
 ghost use Rattle.rly_line.specs.EndViews.{new_teller};
 ghost use Rattle.rly_line.specs.Seats.{new_caller};
@@ -18,7 +18,7 @@ pub fn make(alloc: Global, capacity: u16, seats: u16) -> Result<(Vec<Seat>, Line
     requires seats { (1 ≤ seats) × (seats ≤ MAX_SEATS) }
     ensures seats { IfOk result (λ made. made.0.items ≡ map (new_caller made.1.of) (range_with_len 0 seats)) }
     ensures capacity { IfOk result (λ made. made.1.capacity ≡ capacity) }
-    ensures end { IfOk result (λ made. made.1 ≡ record made.1 { taken = []; lines = map new_teller (range_with_len 0 seats) }) }
+    ensures end { IfOk result (λ made. made.1 ≡ record made.1 { taken = []; lines = map new_teller (range_with_len 0 seats); over = false }) }
 {
     let mut line = Line::new(alloc, capacity as usize)?;
     let mut made = Vec::with_capacity(alloc, seats as usize)?;

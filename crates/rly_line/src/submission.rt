@@ -1,6 +1,6 @@
 //! The line that batches go into.
 
-ghost use Rattle.std.specs.Prelude.{◌≡◌, ◌+◌, ◌++◌, ◌<◌, [], length, IfErr, IfNone, IfOk, IfSome, OnErr, OnOk};
+ghost use Rattle.std.specs.Prelude.{◌≡◌, ◌+◌, ◌++◌, ◌<◌, [], false, length, true, IfErr, IfNone, IfOk, IfSome, OnErr, OnOk};
 ghost use Rattle.crossbeam_channel.specs.Claims.{view, IsSeatAt};
 ghost use Rattle.crossbeam_channel.specs.Ends.{sends_on, receives_on};
 ghost use Rattle.rly_line.specs.Batches.{calls_in_batch};
@@ -121,14 +121,14 @@ pub struct Line {
 }
 
 impl Model for Line {
-    ghost use Rattle.std.specs.Prelude.{◌≡◌, true};
+    ghost use Rattle.std.specs.Prelude.{◌≡◌, false, true};
     ghost use Rattle.crossbeam_channel.specs.Claims.{view as pass_view, IsSeatAt};
     ghost use Rattle.crossbeam_channel.specs.Ends.{receives_on, ruled_capacity, sends_on};
     ghost use Rattle.rly_line.specs.HelpersEnds.{Taker, line_of};
 
     ghost Value = { Taker };
 
-    ghost view = { λ l. record { of = line_of l.pass; capacity = ruled_capacity (sends_on l.puts); seats = (pass_view l.pass).seats; taken = (pass_view l.pass).taken } };
+    ghost view = { λ l. record { of = line_of l.pass; capacity = ruled_capacity (sends_on l.puts); seats = (pass_view l.pass).seats; taken = (pass_view l.pass).taken; over = false } };
 
     ghost invariant = { λ l. IsSeatAt (sends_on l.puts) l.pass × ((pass_view l.pass).takes ≡ true) × (receives_on l.takes ≡ sends_on l.puts) };
 }
@@ -137,7 +137,7 @@ impl Line {
     /// A line with no seat.
     pub fn new(alloc: Global, capacity: usize) -> Result<Line, AllocError>
         requires { 0 < capacity }
-        ensures { IfOk result (λ line. line ≡ record line { capacity = capacity; seats = 0; taken = [] }) }
+        ensures { IfOk result (λ line. line ≡ record line { capacity = capacity; seats = 0; taken = []; over = false }) }
     {
         let (puts, takes, pass) = bounded_with::<Batch, LineView, Lined, Global>(alloc, capacity)?;
         Ok(Line { puts, takes, pass })
@@ -145,12 +145,16 @@ impl Line {
 
     /// One more seat's end.
     pub fn seat(&mut self) -> Result<SubmitEnd, AllocError>
-        ensures ok { IfOk result (λ end. (end ≡ record { of = self.old.of; seat = self.old.seats; put = [] }) × (self.new ≡ record self.old { seats = self.old.seats + 1 })) }
+        ensures ok { IfOk result (λ end. (end ≡ record { of = self.old.of; seat = self.old.seats; put = []; refused = false }) × (self.new ≡ record self.old { seats = self.old.seats + 1 })) }
         ensures err { OnErr result (self.new ≡ self.old) }
     {
         let line = self.puts.try_clone()?;
         let pass = line.another::<Seats>(&mut self.pass);
-        Ok(SubmitEnd { line, pass })
+        Ok(SubmitEnd {
+            line,
+            pass,
+            is_refused: false,
+        })
     }
 
     /// The end that takes calls. No seat is given out any more.
@@ -160,15 +164,18 @@ impl Line {
         TakeEnd {
             line: self.takes,
             pass: self.pass,
+            is_over: false,
         }
     }
 }
 
-/// A seat's end of the line. Contracts see the seat's number and the calls that it put.
+/// A seat's end of the line. Contracts see the seat's number, the calls that it put, and whether the line refused a batch,
+/// since the other end was gone.
 #[derive(Drop)]
 pub struct SubmitEnd {
     line: RuledSender<Batch, LineView, Lined>,
     pass: Pass<Batch, LineView>,
+    is_refused: bool,
 }
 
 impl Model for SubmitEnd {
@@ -179,7 +186,7 @@ impl Model for SubmitEnd {
 
     ghost Value = { Putter };
 
-    ghost view = { λ e. record { of = line_of e.pass; seat = (pass_view e.pass).seat; put = (pass_view e.pass).put } };
+    ghost view = { λ e. record { of = line_of e.pass; seat = (pass_view e.pass).seat; put = (pass_view e.pass).put; refused = e.is_refused } };
 
     ghost invariant = { λ e. IsSeatAt (sends_on e.line) e.pass × ((pass_view e.pass).puts ≡ true) };
 }
@@ -190,22 +197,26 @@ impl SubmitEnd {
         requires seat { batch.seat.0 ≡ self.old.seat }
         requires before { batch.before ≡ length self.old.put }
         ensures put { OnOk result (self.new ≡ record self.old { put = self.old.put ++ calls_in_batch batch }) }
-        ensures back { IfErr result (λ back. (back ≡ batch) × (self.new ≡ self.old)) }
+        ensures back { IfErr result (λ back. (back ≡ batch) × (self.new ≡ record self.old { refused = true })) }
     {
         let _count = batch.len();
         match self.line.send_as::<Puts, R>(rt, &mut self.pass, batch) {
             Ok(()) => Ok(()),
-            Err(error) => Err(error.into_inner()),
+            Err(error) => {
+                self.is_refused = true;
+                Err(error.into_inner())
+            }
         }
     }
 }
 
-/// The end of the line that takes batches. Contracts see how many batches the line holds, how
-/// many seats there are, and the calls taken.
+/// The end of the line that takes batches. Contracts see how many batches the line holds, how many seats there are, the
+/// calls taken, and whether a wait found that no batch was left and no seat.
 #[derive(Drop)]
 pub struct TakeEnd {
     line: RuledReceiver<Batch, LineView, Lined>,
     pass: Pass<Batch, LineView>,
+    is_over: bool,
 }
 
 impl Model for TakeEnd {
@@ -216,7 +227,7 @@ impl Model for TakeEnd {
 
     ghost Value = { Taker };
 
-    ghost view = { λ e. record { of = line_of e.pass; capacity = ruled_capacity (receives_on e.line); seats = (pass_view e.pass).seats; taken = (pass_view e.pass).taken } };
+    ghost view = { λ e. record { of = line_of e.pass; capacity = ruled_capacity (receives_on e.line); seats = (pass_view e.pass).seats; taken = (pass_view e.pass).taken; over = e.is_over } };
 
     ghost invariant = { λ e. IsSeatAt (receives_on e.line) e.pass × ((pass_view e.pass).takes ≡ true) };
 }
@@ -225,11 +236,14 @@ impl TakeEnd {
     /// Waits for a batch. None: no batch was left, and no seat.
     pub fn wait<R: Wait>(&mut self, rt: &R) -> Option<Batch>
         ensures taken { IfSome result (λ batch. (self.new ≡ record self.old { taken = self.old.taken ++ calls_in_batch batch }) × IsNext self.old.seats self.old.taken batch) }
-        ensures none { IfNone result (self.new ≡ self.old) }
+        ensures none { IfNone result (self.new ≡ record self.old { over = true }) }
     {
         match self.line.recv_as::<Takes, R>(rt, &mut self.pass) {
             Ok(batch) => Some(batch),
-            Err(_) => None,
+            Err(_) => {
+                self.is_over = true;
+                None
+            }
         }
     }
 
@@ -250,10 +264,18 @@ impl TakeEnd {
         ensures same { (self.new ≡ self.old) × (result ≡ end) }
         ensures begins { IsBeginning end.seat self.old.taken end.put }
     {
-        let SubmitEnd { line, pass } = end;
+        let SubmitEnd {
+            line,
+            pass,
+            is_refused,
+        } = end;
         line.absorb::<Together>(&mut self.pass, pass);
         line.learn_as::<Together>(&mut self.pass);
         let pass = line.another::<Together>(&mut self.pass);
-        SubmitEnd { line, pass }
+        SubmitEnd {
+            line,
+            pass,
+            is_refused,
+        }
     }
 }

@@ -1,6 +1,6 @@
 //! A relay in threads whose journal breaks.
 
-ghost use Rattle.std.specs.Prelude.{None};
+ghost use Rattle.std.specs.Prelude.{None, false};
 
 use crate::devices::device;
 use crate::overlap::{DATA, PLAN, WORKERS};
@@ -28,6 +28,8 @@ struct Long<C: Clock + Drop> {
 
 impl<C: Clock + Drop> Turn for Long<C> {
     ghost told = { λ _. None };
+
+    ghost endless = { λ _. false };
 
     ghost latest = { λ _. 0 };
 

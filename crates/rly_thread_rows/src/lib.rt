@@ -37,6 +37,8 @@ mod receivers;
 #[cfg(test)]
 mod refusals;
 #[cfg(test)]
+mod rounds;
+#[cfg(test)]
 mod senders;
 #[cfg(test)]
 mod unsure;

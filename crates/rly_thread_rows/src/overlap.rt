@@ -1,6 +1,6 @@
 //! A relay in threads.
 
-ghost use Rattle.std.specs.Prelude.{None};
+ghost use Rattle.std.specs.Prelude.{None, false};
 
 use crate::devices::device;
 use crate::workers::link_with;
@@ -80,6 +80,8 @@ impl<'a, C: Clock + Drop> Held<'a, C> {
 
 impl<'a, C: Clock + Drop> Turn for Held<'a, C> {
     ghost told = { λ _. None };
+
+    ghost endless = { λ _. false };
 
     ghost latest = { λ _. 0 };
 

@@ -1,6 +1,6 @@
 //! A receiving worker.
 
-ghost use Rattle.std.specs.Prelude.{None};
+ghost use Rattle.std.specs.Prelude.{None, false};
 
 use crate::workers::{MemEnds, expect_sent, link_with, plan, spool_with};
 use rly_core::{HopId, Params, PeerId};
@@ -140,6 +140,8 @@ struct Listening {
 
 impl Turn for Listening {
     ghost told = { λ _. None };
+
+    ghost endless = { λ _. false };
 
     ghost latest = { λ _. 0 };
 

@@ -4,3 +4,5 @@ pub mod Receivers
 pub mod Senders
 pub mod Threads
 pub mod Kept
+pub mod Seating
+pub mod Leaving

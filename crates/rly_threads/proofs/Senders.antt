@@ -1,5 +1,5 @@
 -- A sending worker within a turn.
-use Rattle.std.proofs.Common.{◌≡◌, ◌∙◌, ◌<◌, ◌≤◌, ◌+◌, ◌-◌, ◌++◌, ◌&&◌, ◌||◌, ℕ, Bool, List, [], ◌∷◌, ap, arith, false, inl, inr, length, map, not, refl, subst, suc, sym, true, zero}
+use Rattle.std.proofs.Common.{◌≡◌, ◌∙◌, ◌<◌, ◌≤◌, ◌+◌, ◌++◌, ◌&&◌, ◌||◌, ℕ, Bool, List, [], ◌∷◌, ap, arith, false, inl, inr, length, map, not, refl, subst, suc, sym, true, zero}
 use Rattle.std.specs.Prelude.{◌==◌, ◌⊎◌, fold, nat_lt, take, if◌then◌else◌, Option, Some, None, Ok, Err}
 use Rattle.std.proofs.lemmas.Bool.Decides.{nat_tests}
 use Rattle.std.specs.List.{cons_option, filter_map, list_any, range_with_len, zip}

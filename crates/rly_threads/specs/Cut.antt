@@ -16,6 +16,10 @@ handed_at l = (l.handed.0, l.handed.1, record l.handed.2 { on = l.handed.2.on &&
 abbrev pub was_cut : List Look → Bool
 was_cut looks = list_any (λ l. l.cut) looks
 
+-- whether its turns had it go on at each of them
+abbrev pub all_on : List Look → Bool
+all_on looks = list_all (λ l. l.handed.2.on) looks
+
 -- whether its turns would have had it go on wherever it was cut
 abbrev pub cut_early : List Look → Bool
 cut_early looks = list_all (λ l. not l.cut || l.handed.2.on) looks

@@ -1,18 +1,20 @@
 -- A relay: its lines, and what its workers did.
-use Rattle.std.specs.Prelude.{◌≡◌, ◌⊎◌, ℕ, not, Bool, false, true, List, [], map, Option, None, Some, IfSome}
-use Rattle.std.specs.List.{range_with_len}
+use Rattle.std.specs.Prelude.{◌≡◌, ◌⊎◌, ℕ, not, Bool, false, true, List, [], length, map, Option, None, Some, IfNone, IfSome}
+use Rattle.std.specs.List.{range_with_len, zip}
 use Rattle.rly_core.specs.declared.ids.HopId.{HopId}
 use Rattle.rly_core.specs.declared.ids.PeerId.{PeerId}
 use Rattle.rly_hop.specs.Receiving.{receiver}
 use Rattle.rly_hop.specs.Sending.{sender}
 use Rattle.rly_line.specs.EndViews.{EndView, new_teller}
+use Rattle.rly_line.specs.Seats.{Caller, new_caller}
 use Rattle.rly_line.specs.Submission.{LineId}
 use Rattle.rly_plan.specs.ContactPlan.{ContactPlan, next_hop_at, peer_at}
 use Rattle.rly_threads.specs.declared.relay.Ended.{Ended}
 use Rattle.rly_threads.specs.declared.relay.Post.{Post}
 use Rattle.rly_threads.specs.declared.turn.Worker.{Worker}
 use Rattle.rly_threads.specs.declared.turn.Worker.TheVariants as worker
-use Rattle.rly_threads.specs.Cut.{Look, cut_early, handed_at, was_cut}
+use Rattle.rly_threads.specs.Asking.{Asked, HasPut}
+use Rattle.rly_threads.specs.Cut.{Look, all_on, cut_early, handed_at, was_cut}
 use Rattle.rly_threads.specs.Ends.{Hearing, TellsMore}
 use Rattle.rly_threads.specs.Intake.{Arrivals, intake, intake_turn}
 use Rattle.rly_threads.specs.Outlet.{outlet, outlet_turn, pacing}
@@ -21,14 +23,14 @@ use Rattle.rly_threads.specs.Turns.{Given, Handed, done_in}
 
 -- the end of a new line of so many seats, which has room for a call of each
 abbrev pub new_end : LineId → ℕ → EndView
-new_end line seats = record { of = line; capacity = seats; taken = []; lines = map new_teller (range_with_len 0 seats) }
+new_end line seats = record { of = line; capacity = seats; taken = []; lines = map new_teller (range_with_len 0 seats); over = false }
 
 -- A receiver of a peer of the plan, from its start to its end: it waited, asked and sent as its cores and its rules of waiting
 -- name for what it was given, in order, and did nothing else. It takes up to 64 packets a turn, or one where memory for the
--- lists of their Takes was refused at its start.
+-- lists of their Takes was refused at its start. A receiver of a peer that isn't in the plan did nothing at all.
 abbrev pub HasReceived : ContactPlan → PeerId → EndsView → EndsView → Type 0
 HasReceived plan peer old new =
-    IfSome (peer_at plan peer) (λ neighbour. (most : ℕ) × ((most ≡ 64) ⊎ (most ≡ 1)) × (turns : List Arrivals)
+    IfNone (peer_at plan peer) (new ≡ old) × IfSome (peer_at plan peer) (λ neighbour. (most : ℕ) × ((most ≡ 64) ⊎ (most ≡ 1)) × (turns : List Arrivals)
     × Ran old new (worker.Receiver peer)
     (done_in (intake_turn (intake plan peer) most)
     (receiver (record { 0 = plan.station }) (record { 0 = neighbour.station })) turns))
@@ -37,7 +39,7 @@ HasReceived plan peer old new =
 -- a time where memory for their lists was refused at its start.
 abbrev pub HasSent : ContactPlan → ℕ → HopId → EndsView → EndsView → Type 0
 HasSent plan window hop old new =
-    IfSome (next_hop_at plan hop) (λ neighbour. (most : ℕ) × ((most ≡ 64) ⊎ (most ≡ 1)) × (turns : List Given)
+    IfNone (next_hop_at plan hop) (new ≡ old) × IfSome (next_hop_at plan hop) (λ neighbour. (most : ℕ) × ((most ≡ 64) ⊎ (most ≡ 1)) × (turns : List Given)
     × Ran old new (worker.Sender hop)
     (done_in (outlet_turn (outlet plan hop) most)
     (pacing (sender (record { 0 = plan.station }) (record { 0 = neighbour.station }) window) false 0 1) turns))
@@ -46,22 +48,37 @@ abbrev pub HasWorked : ContactPlan → ℕ → Worker → EndsView → EndsView 
 HasWorked plan window (worker.Receiver peer) old new = HasReceived plan peer old new
 HasWorked plan window (worker.Sender hop) old new = HasSent plan window hop old new
 
--- what the link and the turns at a post tell; a seat tells nothing
-abbrev pub told_at : Option (List Hearing) → Option (List (List ℕ)) → Option (List Handed) → EndsView
-told_at heard sent handed = record { heard = heard; sent = sent; asked = None; handed = handed }
+-- what the link at a post tells, what was asked of its seat, and what its worker was handed
+abbrev pub told_at : Option (List Hearing) → Option (List (List ℕ)) → List Asked → List Handed → EndsView
+told_at heard sent asked handed = record { heard = heard; sent = sent; asked = Some asked; handed = Some handed }
 
--- A worker that ended, beside its post before. It did what the plan says for what it was handed, from its start to its end. That
--- is what its turns handed out, but for its end where it was cut: its turns would have had it go on.
+-- A worker that ended, beside its post and its seat before. It did what the plan says for what it was handed and answered, from
+-- its start to its end, and its seat put what it asked and nothing else. What it was handed is what its turns handed out, but for
+-- its end where it was cut: its turns would have had it go on. Turns without end hand out no end.
 pub record HasEnded {L T : Type 0} (heard : L → Option (List Hearing)) (sent : L → Option (List (List ℕ)))
-    (handed : T → Option (List Handed)) (plan : ContactPlan) (window : ℕ) (post left : Post L T) (cut : Bool) : Type 0 where
-  pub worker : left.worker ≡ post.worker
+    (handed : T → Option (List Handed)) (endless : T → Bool) (plan : ContactPlan) (window : ℕ) (given : Post L T × Caller)
+    (ended : Ended L T) : Type 0 where
+  pub worker : ended.post.worker ≡ given.0.worker
   pub looks : List Look
-  pub turns : TellsMore (handed post.turn) (handed left.turn) (map (λ l. l.handed) looks)
-  pub worked : HasWorked plan window post.worker
-      (told_at (heard post.link) (sent post.link) (Some []))
-      (told_at (heard left.link) (sent left.link) (Some (map handed_at looks)))
-  pub was_cut : cut ≡ was_cut looks
+  pub turns : TellsMore (handed given.0.turn) (handed ended.post.turn) (map (λ l. l.handed) looks)
+  pub on : endless given.0.turn ≡ true → all_on looks ≡ true
+  pub asked : List Asked
+  pub put : HasPut given.1 asked ended.seat.value
+  pub worked : HasWorked plan window given.0.worker
+      (told_at (heard given.0.link) (sent given.0.link) [] [])
+      (told_at (heard ended.post.link) (sent ended.post.link) asked (map handed_at looks))
+  pub was_cut : ended.was_cut ≡ was_cut looks
   pub early : cut_early looks ≡ true
+
+-- the same where it had a thread
+abbrev pub HaveEnded : {L T : Type 0} → (L → Option (List Hearing)) → (L → Option (List (List ℕ))) → (T → Option (List Handed))
+    → (T → Bool) → ContactPlan → ℕ → Post L T × Caller → Option (Ended L T) → Type 0
+HaveEnded heard sent handed endless plan window given ended =
+    IfSome ended (HasEnded heard sent handed endless plan window given)
+
+-- posts, each with the seat of its number at a line, of which nothing was asked
+abbrev pub seated : {L T : Type 0} → LineId → List (Post L T) → List (Post L T × Caller)
+seated line posts = zip posts (map (new_caller line) (range_with_len 0 (length posts)))
 
 -- whether a worker had a thread, and ran until its turns were ended
 abbrev pub has_run_out : {L T : Type 0} → Option (Ended L T) → Bool

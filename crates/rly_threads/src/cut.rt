@@ -1,6 +1,6 @@
 //! How the workers of a relay end before their turns do.
 
-ghost use Rattle.std.specs.Prelude.{◌≡◌, ◌≤◌, ◌∷◌, [], None, Some, map};
+ghost use Rattle.std.specs.Prelude.{◌≡◌, ◌≤◌, ◌∷◌, [], None, Some, false, map, true};
 ghost use Rattle.rly_threads.specs.Cut.{handed_at};
 ghost use Rattle.rly_threads.specs.Ends.{TellsMore};
 ghost use Rattle.rly_threads.specs.HelpersCut.{IsCutting, IsHeard};
@@ -28,22 +28,33 @@ pub(crate) fn tell_workers<'a, R: Wait>(
     unreachable!()
 }
 
-/// Whose turns they are, for the proof alone.
+/// Whose turns and whose seat they are, for the proof alone.
 pub(crate) trait Whose {
-    ghost use Rattle.std.specs.Prelude.{ℕ, List, Option};
+    ghost use Rattle.std.specs.Prelude.{ℕ, Bool, List, Option};
+    ghost use Rattle.rly_line.specs.Seats.{Caller};
     ghost use Rattle.rly_threads.specs.Turns.{Handed};
 
-    /// What they told at first.
+    /// What the turns told at first.
     ghost first: { Option (List Handed) };
+
+    /// Whether they are without end.
+    ghost endless: { Bool };
+
+    /// The seat at first.
+    ghost seat: { Option Caller };
 
     /// The lock of the word.
     ghost lock: { ℕ };
 }
 
 impl Whose for Brand {
-    ghost use Rattle.std.specs.Prelude.{None};
+    ghost use Rattle.std.specs.Prelude.{None, false};
 
     ghost first = { None };
+
+    ghost endless = { false };
+
+    ghost seat = { None };
 
     ghost lock = { 0 };
 }
@@ -67,13 +78,14 @@ impl<'a, T: Turn, W: Whose> Model for CutTurn<'a, T, W> {
 
     ghost view = { λ c. record { turn = c.turn; lock = c.word.now.id; heard = c.heard; looks = looks_in c.looks } };
 
-    ghost invariant = { λ c. IsCutting T.told W.first W.lock (record { turn = c.turn; lock = c.word.now.id; heard = c.heard; looks = looks_in c.looks }) };
+    ghost invariant = { λ c. IsCutting T.told T.endless W.first W.endless W.lock (record { turn = c.turn; lock = c.word.now.id; heard = c.heard; looks = looks_in c.looks }) };
 }
 
 impl<'a, T: Turn + Drop, W: Whose> CutTurn<'a, T, W> {
     /// These turns, which end once the word is that the relay is cut.
     pub(crate) fn new(turn: T, word: &'a OnceLock<bool>) -> CutTurn<'a, T, W>
         requires first { T.told turn ≡ W.first }
+        requires endless { T.endless turn ≡ W.endless }
         requires lock { word.now.id ≡ W.lock }
         ensures { result ≡ record { turn = turn; lock = word.now.id; heard = None; looks = [] } }
     {
@@ -90,7 +102,7 @@ impl<'a, T: Turn + Drop, W: Whose> CutTurn<'a, T, W> {
     pub(crate) fn into_parts(self) -> (T, Option<OnceToken<'a, bool>>)
         ensures turn { result.0 ≡ self.entry.turn }
         ensures heard { result.1 ≡ self.entry.heard }
-        ensures cutting { IsCutting T.told W.first W.lock self.entry }
+        ensures cutting { IsCutting T.told T.endless W.first W.endless W.lock self.entry }
     {
         let CutTurn {
             turn,
@@ -104,15 +116,19 @@ impl<'a, T: Turn + Drop, W: Whose> CutTurn<'a, T, W> {
 }
 
 impl<'a, T: Turn + Drop, W: Whose> Turn for CutTurn<'a, T, W> {
-    ghost use Rattle.std.specs.Prelude.{Some, map};
+    ghost use Rattle.std.specs.Prelude.{Some, false, map};
     ghost use Rattle.rly_threads.specs.Cut.{handed_at};
 
     ghost told = { λ c. Some (map handed_at c.looks) };
+
+    // They may be cut.
+    ghost endless = { λ _. false };
 
     ghost latest = { λ c. T.latest c.turn };
 
     fn between<R: Wait>(&mut self, rt: &R, worker: Worker, point: Point) -> Go
         ensures told { TellsMore (Some (map handed_at self.old.looks)) (Some (map handed_at self.new.looks)) ((worker, point, result) ∷ []) }
+        ensures endless { (false ≡ false) × (false ≡ true → result.on ≡ true) }
         ensures since { (T.latest self.old.turn ≤ result.since) × (T.latest self.new.turn ≡ result.since) }
     {
         let go = self.turn.between(rt, worker, point);

@@ -21,6 +21,11 @@ use std::sync::Wait;
 /// The bytes of the buffer that a worker receives into. A packet that fills it is no message.
 pub const MAX_PACKET: usize = 1_300;
 
+/// A worker hears packets of so many bytes, and so each message with its tag.
+pub fn law_longest_packet()
+    ensures { MAX_PACKET ≡ 1300 }
+{}
+
 /// What a worker works with. Contracts see what its parts tell.
 #[derive(Drop)]
 pub struct Ends<L: Link, K: Desk, T: Turn> {

@@ -19,11 +19,12 @@ mod mem_link;
 mod mem_turn;
 mod receiver;
 mod relay;
+mod seat_desk;
 mod sender;
 mod turn;
 
 pub use crate::desk::Desk;
-pub use crate::ends::{Ends, MAX_PACKET};
+pub use crate::ends::{Ends, MAX_PACKET, law_longest_packet};
 pub use crate::link::{Link, LinkFault};
 pub use crate::mem_desk::MemDesk;
 pub use crate::mem_link::MemLink;

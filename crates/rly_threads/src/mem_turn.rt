@@ -1,6 +1,6 @@
 //! A turn in memory. In proofs it tells all that it handed out.
 
-ghost use Rattle.std.specs.Prelude.{◌≡◌, ◌≤◌, []};
+ghost use Rattle.std.specs.Prelude.{◌≡◌, ◌≤◌, [], false};
 ghost use Rattle.rly_threads.specs.Memory.{handed_of};
 
 use crate::turn::{Go, Point, Turn, Worker};
@@ -90,6 +90,8 @@ impl Turn for MemTurn {
     ghost use Rattle.rly_threads.specs.Memory.{handed_of};
 
     ghost told = { λ t. Some (handed_of t.handed) };
+
+    ghost endless = { λ _. false };
 
     ghost latest = { λ t. t.now - t.start };
 

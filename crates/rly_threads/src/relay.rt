@@ -1,18 +1,19 @@
 //! The relay: the flusher and the workers, each in a thread of its own.
 
-ghost use Rattle.std.specs.Prelude.{◌≡◌, ◌≤◌, ◌⊎◌, [], IfErr, IfOk, IfSome, length, true, vec_capacity};
-ghost use Rattle.std.specs.List.{AllByRecursion, AllZip, list_all};
+ghost use Rattle.std.specs.Prelude.{◌≡◌, ◌≤◌, ◌⊎◌, [], IfErr, IfOk, IfSome, Some, length, true, vec_capacity};
+ghost use Rattle.std.specs.List.{AllByRecursion, AllZip, list_all, zip};
 ghost use Rattle.std.specs.Option.{is_some};
 ghost use Rattle.rly_disk.specs.DiskModel.{HasFailed, Later};
 ghost use Rattle.rly_flush.specs.Flushing.{IsServed, new_flusher};
 ghost use Rattle.rly_line.specs.Submission.{LineId};
 ghost use Rattle.rly_threads.specs.HelpersCut.{GivesBack, IsFor, IsHeard, IsJoined, IsRelayed};
-ghost use Rattle.rly_threads.specs.Relay.{HasEnded, has_run_out, new_end};
+ghost use Rattle.rly_threads.specs.Relay.{HasEnded, HaveEnded, has_run_out, new_end, seated};
 
 use crate::cut::{CutTurn, Whose, tell_workers};
 use crate::ends::Ends;
 use crate::link::Link;
 use crate::receiver::receiver_run;
+use crate::seat_desk::SeatDesk;
 use crate::sender::sender_run;
 use crate::turn::{Turn, Worker};
 use rly_disk::Disk;
@@ -43,6 +44,8 @@ pub struct Post<L: Link, T: Turn> {
 pub struct Ended<L: Link, T: Turn> {
     /// Its post.
     pub post: Post<L, T>,
+    /// Its seat as it was left, for proofs. It takes no room.
+    pub seat: Snapshot<Seat>,
     /// Whether it was cut: the journal broke, and its turns would have had it go on.
     pub was_cut: bool,
 }
@@ -83,9 +86,9 @@ pub fn run_relay<
     // What its flusher leaves is what rounds make of the journal, at the end of a new line with a seat for each worker.
     ensures served { IfOk result (λ relayed. (line : LineId) × IsServed D.state (new_flusher journal (new_end line (length posts.items))) relayed.finished.last.value) }
     ensures left { IfOk result (λ relayed. relayed.finished.last.value.journal ≡ relayed.finished.journal) }
-    // Each worker that had a thread did at its post what the plan says of it, with the journal's window.
-    ensures worked { IfOk result (λ relayed. AllZip (λ post ended. IfSome ended (λ worker.
-        HasEnded L.heard L.sent T.told plan.now journal.state.params.window post worker.post worker.was_cut)) posts.items relayed.ended.items) }
+    // Each worker that had a thread did at its post and its seat of that line what the plan says of it, with the journal's window.
+    ensures worked { IfOk result (λ relayed. AllZip (HaveEnded L.heard L.sent T.told T.endless plan.now journal.state.params.window)
+        (seated relayed.finished.last.value.line.of posts.items) relayed.ended.items) }
     // The workers are told to end exactly where the journal broke, and none is cut elsewhere.
     ensures told { IfOk result (λ relayed. relayed.is_cut ≡ relayed.finished.broken) }
     ensures cut { IfOk result (λ relayed. AllByRecursion (λ ended. IfSome ended (λ worker. worker.was_cut ≡ true → relayed.is_cut ≡ true)) relayed.ended.items) }
@@ -100,7 +103,7 @@ pub fn run_relay<
         rt,
         move |scope| -> Result<Relayed<D, L, T>, Journal<D>>
             requires count { (1 ≤ length posts.items) × (length posts.items ≤ 256) }
-            ensures done { IfOk result (λ relayed. IsRelayed D.state L.heard L.sent T.told plan.entry.now journal posts.items relayed) }
+            ensures done { IfOk result (λ relayed. IsRelayed D.state L.heard L.sent T.told T.endless plan.entry.now journal posts.items relayed) }
             ensures refused { IfErr result (λ back. back ≡ journal) }
         { relay_in(scope, rt, alloc, journal, plan, posts, word) },
     )
@@ -125,7 +128,7 @@ fn relay_in<
     word: &'a OnceLock<bool>,
 ) -> Result<Relayed<D, L, T>, Journal<D>>
     requires count { (1 ≤ length posts.items) × (length posts.items ≤ 256) }
-    ensures done { IfOk result (λ relayed. IsRelayed D.state L.heard L.sent T.told plan.now journal posts.items relayed) }
+    ensures done { IfOk result (λ relayed. IsRelayed D.state L.heard L.sent T.told T.endless plan.now journal posts.items relayed) }
     ensures refused { IfErr result (λ back. back ≡ journal) }
 {
     let window = journal.params().window;
@@ -161,7 +164,7 @@ fn start_all<'s, 'a: 's, E, R: Wait + Sync, L: Link + Drop + Send + 's, T: Turn 
 ) -> Vec<Thread<'a, L, T>>
     requires seats { length seats.items ≡ length posts.items }
     requires empty { (empty.items ≡ []) × (vec_capacity empty ≡ length posts.items) }
-    ensures { AllZip (IsFor plan.now window word.now.id) posts.items result.items }
+    ensures { AllZip (IsFor plan.now window word.now.id) (zip posts.items seats.items) result.items }
 {
     let mut threads = empty;
     for (seat, post) in seats.into_iter().zip(posts) {
@@ -185,7 +188,7 @@ fn serve_to_end<'a, R: Threads + Wait, D: Disk + Drop, L: Link + Drop, T: Turn +
     ensures broken { result.finished.broken ≡ result.finished.journal.broken }
     ensures served { IsServed D.state flusher result.finished.last.value }
     ensures left { result.finished.last.value.journal ≡ result.finished.journal }
-    ensures joined { AllZip (GivesBack (IsJoined L.heard L.sent T.told result.finished.broken)) threads.entry.items result.ended.items }
+    ensures joined { AllZip (GivesBack (IsJoined L.heard L.sent T.told T.endless result.finished.broken)) threads.entry.items result.ended.items }
     ensures told { result.is_cut ≡ result.finished.broken }
     ensures complete { result.complete ≡ list_all has_run_out result.ended.items }
 {
@@ -200,13 +203,14 @@ fn serve_to_end<'a, R: Threads + Wait, D: Disk + Drop, L: Link + Drop, T: Turn +
     }
 }
 
-/// What the thread of a worker gives back: the worker's post, once it did what the plan says of it, and what it heard where
-/// it was cut.
+/// What the thread of a worker gives back: the worker's post, once it did there and at its seat what the plan says of it, and what
+/// it heard where it was cut.
 #[derive(Drop)]
 struct Duty<L: Link + Drop, T: Turn + Drop> {
     plan: Snapshot<Plan>,
     window: u64,
     post: Snapshot<Post<L, T>>,
+    seat: Snapshot<Seat>,
     word: Snapshot<OnceLock<bool>>,
 }
 
@@ -215,14 +219,39 @@ impl<'a, L: Link + Drop, T: Turn + Drop> Promise<Left<'a, L, T>> for Duty<L, T> 
     ghost use Rattle.rly_threads.specs.HelpersCut.{IsHeard};
     ghost use Rattle.rly_threads.specs.Relay.{HasEnded};
 
-    ghost kept_by = { λ duty left. HasEnded L.heard L.sent T.told duty.plan.value duty.window duty.post.value left.post (is_some left.heard)
+    ghost kept_by = { λ duty left. HasEnded L.heard L.sent T.told T.endless duty.plan.value duty.window (duty.post.value, duty.seat.value)
+        (record { post = left.post; seat = left.seat; was_cut = is_some left.heard })
         × IsHeard duty.word.value.id left.heard };
+}
+
+/// The duty of a worker at a post and a seat.
+fn duty_of<L: Link + Drop, T: Turn + Drop>(
+    plan: &Plan,
+    window: u64,
+    post: &Post<L, T>,
+    seat: &Seat,
+    word: &OnceLock<bool>,
+) -> Duty<L, T>
+    ensures plan { result.plan.value ≡ plan.now }
+    ensures window { result.window ≡ window }
+    ensures post { result.post.value ≡ post.now }
+    ensures seat { result.seat.value ≡ seat.now }
+    ensures word { result.word.value ≡ word.now }
+{
+    Duty {
+        plan: Snapshot::of(plan),
+        window,
+        post: Snapshot::of(post),
+        seat: Snapshot::of(seat),
+        word: Snapshot::of(word),
+    }
 }
 
 /// What a worker leaves.
 #[derive(Drop)]
 struct Left<'a, L: Link, T: Turn> {
     post: Post<L, T>,
+    seat: Snapshot<Seat>,
     /// What it heard where it was cut.
     heard: Option<OnceToken<'a, bool>>,
 }
@@ -241,16 +270,10 @@ fn start<'s, 'a: 's, E, R: Wait + Sync, L: Link + Drop + Send + 's, T: Turn + Dr
     seat: Seat,
     word: &'a OnceLock<bool>,
 ) -> Thread<'a, L, T>
-    ensures { IsFor plan.now window word.now.id post result }
+    ensures { IsFor plan.now window word.now.id (post, seat) result }
 {
-    let duty = Duty {
-        plan: Snapshot::of(plan),
-        window,
-        post: Snapshot::of(&post),
-        word: Snapshot::of(word),
-    };
     let started = scope.spawn_with(
-        duty,
+        duty_of(plan, window, &post, &seat, word),
         move || work(rt, alloc, plan, window, post, seat, word),
     );
     match started {
@@ -270,7 +293,7 @@ fn join_all<'a, R: Threads + Wait, L: Link + Drop, T: Turn + Drop>(
     requires empty { empty.items ≡ [] }
     requires room { length threads.items ≤ vec_capacity empty }
     requires word { AllByRecursion (λ thread. IfSome thread (λ t. t.promise.word.value.id ≡ said.now.of)) threads.items }
-    ensures { AllZip (GivesBack (IsJoined L.heard L.sent T.told said.now.value)) threads.entry.items result.items }
+    ensures { AllZip (GivesBack (IsJoined L.heard L.sent T.told T.endless said.now.value)) threads.entry.items result.items }
 {
     let mut ended = empty;
     for thread in threads {
@@ -286,7 +309,7 @@ fn join<'a, R: Threads + Wait, L: Link + Drop, T: Turn + Drop>(
     said: &OnceToken<'a, bool>,
 ) -> Option<Ended<L, T>>
     requires { IfSome thread (λ t. t.promise.word.value.id ≡ said.now.of) }
-    ensures { GivesBack (IsJoined L.heard L.sent T.told said.now.value) thread.entry result }
+    ensures { GivesBack (IsJoined L.heard L.sent T.told T.endless said.now.value) thread.entry result }
 {
     let left = thread?.join(rt);
     let was_cut = match &left.heard {
@@ -298,6 +321,7 @@ fn join<'a, R: Threads + Wait, L: Link + Drop, T: Turn + Drop>(
     };
     Some(Ended {
         post: left.post,
+        seat: left.seat,
         was_cut,
     })
 }
@@ -329,7 +353,8 @@ fn work<'a, R: Wait, L: Link + Drop, T: Turn + Drop>(
     seat: Seat,
     word: &'a OnceLock<bool>,
 ) -> Left<'a, L, T>
-    ensures ended { HasEnded L.heard L.sent T.told plan.now window post result.post (is_some result.heard) }
+    ensures ended { HasEnded L.heard L.sent T.told T.endless plan.now window (post, seat)
+        (record { post = result.post; seat = result.seat; was_cut = is_some result.heard }) }
     ensures heard { IsHeard word.now.id result.heard }
 {
     work_as::<Brand, R, L, T>(rt, alloc, plan, window, post, seat, word)
@@ -345,28 +370,30 @@ fn work_as<'a, W: Whose, R: Wait, L: Link + Drop, T: Turn + Drop>(
     word: &'a OnceLock<bool>,
 ) -> Left<'a, L, T>
     requires first { T.told post.turn ≡ W.first }
+    requires endless { T.endless post.turn ≡ W.endless }
+    requires seat { W.seat ≡ Some seat }
     requires lock { word.now.id ≡ W.lock }
-    ensures ended { HasEnded L.heard L.sent T.told plan.now window post result.post (is_some result.heard) }
+    ensures ended { HasEnded L.heard L.sent T.told T.endless plan.now window (post, seat)
+        (record { post = result.post; seat = result.seat; was_cut = is_some result.heard }) }
     ensures heard { IsHeard word.now.id result.heard }
 {
     let Post { worker, link, turn } = post;
     let mut ends = Ends {
         link,
-        desk: seat,
+        desk: SeatDesk::<W>::new(seat),
         turn: CutTurn::<'_, T, W>::new(turn, word),
     };
     match worker {
         Worker::Receiver(peer) => receiver_run(rt, alloc, plan, peer, &mut ends),
         Worker::Sender(hop) => sender_run(rt, alloc, plan, hop, window, &mut ends),
     }
-    let Ends {
-        link,
-        desk: _seat,
-        turn,
-    } = ends;
+    let Ends { link, desk, turn } = ends;
     let (turn, heard) = turn.into_parts();
+    // The flusher ends once no seat is left.
+    let seat = desk.leave();
     Left {
         post: Post { worker, link, turn },
+        seat,
         heard,
     }
 }

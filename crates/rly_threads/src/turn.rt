@@ -1,5 +1,5 @@
 // The interface of what hands a worker its moments.
-ghost use Rattle.std.specs.Prelude.{◌≡◌, ◌≤◌, ◌∷◌, [], List, Option, ℕ};
+ghost use Rattle.std.specs.Prelude.{◌≡◌, ◌≤◌, ◌∷◌, [], Bool, List, Option, true, ℕ};
 ghost use Rattle.rly_threads.specs.declared.turn.Go.{Go as AGo};
 ghost use Rattle.rly_threads.specs.declared.turn.Point.{Point as APoint};
 ghost use Rattle.rly_threads.specs.declared.turn.Worker.{Worker as AWorker};
@@ -49,6 +49,9 @@ pub trait Turn {
     /// What was handed to whom and where, if it tells.
     ghost told: { Self → Option (List (AWorker × APoint × AGo)) };
 
+    /// Whether its turns are without end. No call changes that.
+    ghost endless: { Self → Bool };
+
     /// The microseconds that it handed out last.
     ghost latest: { Self → ℕ };
 
@@ -56,6 +59,7 @@ pub trait Turn {
     /// at `Heard` is its turn's; the one at `Answered` is that of its call's answer.
     fn between<R: Wait>(&mut self, rt: &R, worker: Worker, point: Point) -> Go
         ensures told { TellsMore (told self.old) (told self.new) ((worker, point, result) ∷ []) }
+        ensures endless { (endless self.new ≡ endless self.old) × (endless self.old ≡ true → result.on ≡ true) }
         // Whether it tells or not, the microseconds never fall.
         ensures since { (latest self.old ≤ result.since) × (latest self.new ≡ result.since) };
 }

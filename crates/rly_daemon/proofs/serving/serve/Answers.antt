@@ -19,7 +19,7 @@ returns-in-Ok-outcome_of-clause-ends g c =
     let complete : relay.relayed.complete ≡ true = search rules in
     let count = posts_count _ _ c.args.plan.now c.args.keys c.args.turns c.requires.keys c.in-Ok.ensures in
     let some : 1 ≤ length c.in-Ok.posts.items = omega (arith, count, c.requires.sound.peer_count.0) in
-    turns_end c.args.plan.now c.args.keys c.args.journal.state.params.window c.args.turns _ _ c.in-Ok.ensures some relay.ensures.worked (sym relay.ensures.complete ∙ complete)
+    turns_end c.args.plan.now c.args.keys c.args.journal.state.params.window c.args.turns relay.relayed.finished.last.value.line.of _ _ c.in-Ok.ensures some relay.ensures.worked (sym relay.ensures.complete ∙ complete)
 
 pub returns-in-Ok-outcome_of-clause-worked : goal.returns-in-Ok-outcome_of-clause-worked
 returns-in-Ok-outcome_of-clause-worked g c =

@@ -40,6 +40,7 @@ loop-wanted-preserved g c =
         of = c.answer.ensures.of ∙ kept.of;
         taken = c.answer.ensures.taken ∙ kept.taken;
         start = c.answer.ensures.start ∙ kept.start;
+        over = c.answer.ensures.over ∙ kept.over;
         holds = c.answer.ensures.holds;
       },
     )

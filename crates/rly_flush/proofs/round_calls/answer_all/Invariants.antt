@@ -18,5 +18,6 @@ invariant-loop-wanted g l =
       of : l.line.of ≡ l.fn.line.of;
       taken : l.line.taken ≡ l.fn.line.taken;
       start : l.line.start ≡ l.fn.line.start;
+      over : l.line.over ≡ l.fn.line.over;
       holds : IsResponding l.line;
     })

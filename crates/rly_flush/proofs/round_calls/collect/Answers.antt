@@ -61,7 +61,7 @@ loop-count-preserved g c =
 
 pub returns-then-len-gt-MAX_CALLS-clause-collected :
     goal.returns-then-len-gt-MAX_CALLS-clause-collected
-returns-then-len-gt-MAX_CALLS-clause-collected g c =
+returns-then-len-gt-MAX_CALLS-clause-collected g c _ =
     collected_kept c.in-Some-more.batch c.loop-count.invariant.collected c.in-Some-more.ensures.taken
     (omega (arith, c.len-in-loop-count.ensures.count, c.len.ensures, c.if-len-gt-MAX_CALLS.true))
 

@@ -11,4 +11,4 @@ invariant-loop-thread g l =
     (into_iter_len l.thread-iterator ≡ length (into_iter_items l.thread-iterator))
     × (length l.ended.items + length (into_iter_items l.thread-iterator) ≤ vec_capacity l.ended)
     × AllByRecursion (λ thread. IfSome thread (λ t. t.promise.word.value.id ≡ l.fn.said.of)) (into_iter_items l.thread-iterator)
-    × Each (GivesBack (IsJoined g.L.Link.heard g.L.Link.sent g.T.Turn.told l.fn.said.value)) l.fn.threads.items (into_iter_items l.thread-iterator) l.ended.items
+    × Each (GivesBack (IsJoined g.L.Link.heard g.L.Link.sent g.T.Turn.told g.T.Turn.endless l.fn.said.value)) l.fn.threads.items (into_iter_items l.thread-iterator) l.ended.items

@@ -2,7 +2,9 @@ use Rattle.std.proofs.Common.{◌≡◌, ◌∙◌, ◌⊎◌, ap, rules, subst,
 use Rattle.rly_disk.specs.DiskModel.{HasFailed, Later}
 use Rattle.rly_journal.specs.Journal.{JournalState}
 use Rattle.rly_threads.specs.declared.relay.Relayed.{Relayed}
+use Rattle.std.specs.List.{AllZip}
 use Rattle.rly_threads.specs.HelpersCut.{IsRelayed}
+use Rattle.rly_threads.specs.Relay.{HaveEnded, seated}
 use Rattle.rly_threads.proofs.Kept.{if_ok}
 use Rattle.rly_threads.proofs.relay.run_relay.Goals as goal
 
@@ -13,7 +15,7 @@ scoped-requires g c = record { at = λ scope. (c.requires, (search rules, search
 pub returns : goal.returns
 returns g c =
     let Is : Relayed g.row.D.Denot g.row.L.Denot g.row.T.Denot → Type 0 =
-    IsRelayed g.D.Disk.state g.L.Link.heard g.L.Link.sent g.T.Turn.told c.args.plan.now c.args.journal c.args.posts.items in
+    IsRelayed g.D.Disk.state g.L.Link.heard g.L.Link.sent g.T.Turn.told g.T.Turn.endless c.args.plan.now c.args.journal c.args.posts.items in
     let done : IfOk c.scoped.result Is = c.scoped.ensures.1.0 in
     record {
       broken = if_ok {P = Is} c.scoped.result done (λ relayed is. is.broken);
@@ -24,7 +26,11 @@ returns g c =
           (is.served.rounds.broke (ap (λ (j : JournalState g.row.D.Denot). j.broken) is.left ∙ sym is.broken ∙ yes)));
       served = if_ok {P = Is} c.scoped.result done (λ relayed is. (is.line, is.served));
       left = if_ok {P = Is} c.scoped.result done (λ relayed is. is.left);
-      worked = if_ok {P = Is} c.scoped.result done (λ relayed is. is.worked);
+      worked =
+          if_ok {P = Is} c.scoped.result done
+          (λ relayed is.
+          subst (λ line. AllZip (HaveEnded g.L.Link.heard g.L.Link.sent g.T.Turn.told g.T.Turn.endless c.args.plan.now c.args.journal.state.params.window) (seated line c.args.posts.items) relayed.ended.items)
+          (sym is.served.rounds.of) is.worked);
       told = if_ok {P = Is} c.scoped.result done (λ relayed is. is.told);
       cut = if_ok {P = Is} c.scoped.result done (λ relayed is. is.cut);
       complete = if_ok {P = Is} c.scoped.result done (λ relayed is. is.complete);

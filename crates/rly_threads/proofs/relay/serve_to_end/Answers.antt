@@ -10,5 +10,5 @@ join_all-ended-requires-clause-word g c =
 
 pub returns-clause-joined : goal.returns-clause-joined
 returns-clause-joined g c =
-    subst (λ said. AllZip (GivesBack (IsJoined g.L.Link.heard g.L.Link.sent g.T.Turn.told said)) c.args.threads.items c.join_all-ended.result.items)
+    subst (λ said. AllZip (GivesBack (IsJoined g.L.Link.heard g.L.Link.sent g.T.Turn.told g.T.Turn.endless said)) c.args.threads.items c.join_all-ended.result.items)
     c.tell_workers-said.ensures.value c.join_all-ended.ensures

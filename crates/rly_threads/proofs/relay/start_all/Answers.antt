@@ -1,6 +1,6 @@
 use Rattle.std.proofs.Common.{◌≡◌, ◌∙◌, [], ap, arith, inl, inr, length, refl, rules, subst, sym}
 use Rattle.std.specs.Iterator.Adapters.{zip_first, zip_second}
-use Rattle.std.specs.List.{AllZip}
+use Rattle.std.specs.List.{AllZip, zip}
 use Rattle.std.specs.Vec.Iter.{into_iter_items, into_iter_len}
 use Rattle.rly_threads.specs.HelpersCut.{IsFor}
 use Rattle.rly_threads.proofs.Threads.{each_all, each_first, each_next, none_left}
@@ -33,17 +33,19 @@ loop-seat-preserved g c =
       grind (arith, rules, before.0, steps.0.1, post),
       grind (arith, rules, before.1, steps.1.1, post),
       grind (arith, rules, before.2, post, pushed, c.push_reserved.ensures.capacity),
-      each_next _ _ _ _ _ _ _ _ before.3 steps.1.0 c.start-thread.ensures c.push_reserved.ensures.items,
+      each_next _ _ _ _ _ _ _ _ before.3 (λ i. zip (steps.1.0 i) (steps.0.0 i)) c.start-thread.ensures c.push_reserved.ensures.items,
     )
 
 pub returns : goal.returns
 returns g c =
     let before = c.loop-seat.invariant in
-    let items = ap (λ s. into_iter_items (zip_second s)) c.into_iter-seat-iterator.ensures.into_iter_gives ∙ c.zip-seat-items.ensures.second.0 in
+    let same = c.into_iter-seat-iterator.ensures.into_iter_gives in
+    let items = ap (λ s. into_iter_items (zip_second s)) same ∙ c.zip-seat-items.ensures.second.0 in
+    let seats = ap (λ s. into_iter_items (zip_first s)) same ∙ ap into_iter_items c.zip-seat-items.ensures.first ∙ c.into_iter.ensures.rest in
     let none : into_iter_items (zip_second c.loop-seat.seat-iterator) ≡ [] =
     (elim c.in-None.ensures.steps [
       | inl first ↦ none_left _ (sym before.0 ∙ first.1.0)
       | inr second ↦ none_left _ (sym before.1 ∙ second.1.0)
     ]) in
-    subst (λ posts. AllZip (IsFor c.args.plan.now c.args.window c.args.word.now.id) posts c.loop-seat.threads.items) items
-    (each_all _ _ _ _ before.3 none)
+    subst (λ given. AllZip (IsFor c.args.plan.now c.args.window c.args.word.now.id) given c.loop-seat.threads.items) (λ i. zip (items i) (seats i))
+    (each_all _ _ _ _ before.3 (ap (λ l. zip l (into_iter_items (zip_first c.loop-seat.seat-iterator))) none))

@@ -9,7 +9,7 @@ use Rattle.rly_flush.proofs.flusher.Flusher.law_beginning.Goals as goal
 
 pub invariant_of-self : goal.invariant_of-self
 invariant_of-self g c = (
-  subst (λ (l : Responding). IsFlushing g.D.Disk.state (record { first = c.self.inside.first.value.journal; journal = c.self.inside.owned.journal; kept = c.self.inside.kept; line = l; over = c.self.inside.is_over }))
+  subst (λ (l : Responding). IsFlushing g.D.Disk.state (record { first = c.self.inside.first.value.journal; journal = c.self.inside.owned.journal; kept = c.self.inside.kept; line = l }))
       (sym c.law_beginning.ensures.same.0) c.self.invariant.0,
   c.self.invariant.1,
 )

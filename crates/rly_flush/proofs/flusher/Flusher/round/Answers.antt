@@ -1,28 +1,28 @@
-use Rattle.std.proofs.Common.{◌≡◌, false, true, arith, refl, subst, sym}
-use Rattle.rly_flush.specs.Flushing.{FlusherState, GrewInRound, IsCrashSafe}
+use Rattle.std.proofs.Common.{◌≡◌, false, arith, refl, subst, sym}
+use Rattle.rly_flush.specs.Flushing.{FlusherState, GrewInRound, IsCrashSafe, IsOneRound}
 use Rattle.rly_flush.specs.HelpersFlushing.{IsReady}
-use Rattle.rly_flush.proofs.Crashing.{may_tell, stayed, went_on}
+use Rattle.rly_flush.proofs.Crashing.{may_tell, one_round, stayed, went_on}
 use Rattle.rly_flush.proofs.flusher.Flusher.round.Goals as goal
 
 pub returns-then-not-collect-clause-history : goal.returns-then-not-collect-clause-history
 returns-then-not-collect-clause-history g c =
     let same = c.if-not-collect.ensures.stayed refl in
-    (stayed g.D.Disk.state g.met.D.Disk.consistent c.self.invariant.0 true same.0 same.1 same.2).history
+    (stayed g.D.Disk.state g.met.D.Disk.consistent c.self.invariant.0 same.0 same.1 same.2).history
 
 pub invariant_of-self : goal.invariant_of-self
 invariant_of-self g c =
     let same = c.if-not-collect.ensures.stayed refl in (
-      (stayed g.D.Disk.state g.met.D.Disk.consistent c.self.invariant.0 true same.0 same.1 same.2).flushing,
+      (stayed g.D.Disk.state g.met.D.Disk.consistent c.self.invariant.0 same.0 same.1 same.2).flushing,
       subst IsReady (sym same.3) c.self.invariant.1,
     )
 
 pub answer_all-requires-clause-legal : goal.answer_all-requires-clause-legal
 answer_all-requires-clause-legal g c =
-    may_tell g.D.Disk.state g.met.D.Disk.consistent c.self.invariant.0 c.collect.ensures.collected c.collect.ensures.said c.commit.ensures.round
+    may_tell g.D.Disk.state g.met.D.Disk.consistent c.self.invariant.0 (c.if-not-collect.ensures.collected refl) c.collect.ensures.said c.commit.ensures.round c.if-not-collect.ensures.count.0
 
 pub invariant_of-self-2 : goal.invariant_of-self-2
 invariant_of-self-2 g c = (
-  (went_on g.D.Disk.state g.met.D.Disk.consistent c.self.invariant.0 c.collect.ensures.collected c.collect.ensures.said c.commit.ensures.round c.answer_all.ensures.line c.answer_all.ensures.holds).flushing,
+  (went_on g.D.Disk.state g.met.D.Disk.consistent c.self.invariant.0 (c.if-not-collect.ensures.collected refl) c.collect.ensures.said c.commit.ensures.round c.if-not-collect.ensures.count.0 c.answer_all.ensures.line c.answer_all.ensures.holds).flushing,
   record {
     calls_empty = c.commit.ensures.emptied;
     said_empty = c.answer_all.ensures.emptied.0;
@@ -37,17 +37,22 @@ invariant_of-self-2 g c = (
   },
 )
 
+pub returns-clause-took : goal.returns-clause-took
+returns-clause-took g c =
+    subst (λ (f : FlusherState g.row.D.Denot). IsOneRound g.D.Disk.state f (record { first = c.self.inside.first.value.journal; journal = c.commit.new.journal; kept = c.collect.new.kept; line = c.answer_all.new.line })) c.self.view_is
+    (one_round g.D.Disk.state g.met.D.Disk.consistent c.self.invariant.0 (c.if-not-collect.ensures.collected refl) c.collect.ensures.said c.commit.ensures.round c.if-not-collect.ensures.count.0 c.answer_all.ensures.line c.if-not-collect.ensures.count)
+
 pub returns-clause-history : goal.returns-clause-history
 returns-clause-history g c =
-    (went_on g.D.Disk.state g.met.D.Disk.consistent c.self.invariant.0 c.collect.ensures.collected c.collect.ensures.said c.commit.ensures.round c.answer_all.ensures.line c.answer_all.ensures.holds).history
+    (went_on g.D.Disk.state g.met.D.Disk.consistent c.self.invariant.0 (c.if-not-collect.ensures.collected refl) c.collect.ensures.said c.commit.ensures.round c.if-not-collect.ensures.count.0 c.answer_all.ensures.line c.answer_all.ensures.holds).history
 
 pub returns-clause-failures : goal.returns-clause-failures
 returns-clause-failures g c =
-    subst (λ (f : FlusherState g.row.D.Denot). GrewInRound g.D.Disk.state f (record { first = c.self.inside.first.value.journal; journal = c.commit.new.journal; kept = c.collect.new.kept; line = c.answer_all.new.line; over = c.self.inside.is_over })) c.self.view_is
-    (went_on g.D.Disk.state g.met.D.Disk.consistent c.self.invariant.0 c.collect.ensures.collected c.collect.ensures.said c.commit.ensures.round c.answer_all.ensures.line c.answer_all.ensures.holds).grew
+    subst (λ (f : FlusherState g.row.D.Denot). GrewInRound g.D.Disk.state f (record { first = c.self.inside.first.value.journal; journal = c.commit.new.journal; kept = c.collect.new.kept; line = c.answer_all.new.line })) c.self.view_is
+    (went_on g.D.Disk.state g.met.D.Disk.consistent c.self.invariant.0 (c.if-not-collect.ensures.collected refl) c.collect.ensures.said c.commit.ensures.round c.if-not-collect.ensures.count.0 c.answer_all.ensures.line c.answer_all.ensures.holds).grew
 
 pub returns-clause-any_moment : goal.returns-clause-any_moment
 returns-clause-any_moment g c =
     subst (λ (f : FlusherState g.row.D.Denot). (g.D.Disk.state f.journal.disk).honest → f.first.broken ≡ false
-    → IsCrashSafe g.D.Disk.state f (record { first = c.self.inside.first.value.journal; journal = c.commit.new.journal; kept = c.collect.new.kept; line = c.answer_all.new.line; over = c.self.inside.is_over })) c.self.view_is
-    (went_on g.D.Disk.state g.met.D.Disk.consistent c.self.invariant.0 c.collect.ensures.collected c.collect.ensures.said c.commit.ensures.round c.answer_all.ensures.line c.answer_all.ensures.holds).safe
+    → IsCrashSafe g.D.Disk.state f (record { first = c.self.inside.first.value.journal; journal = c.commit.new.journal; kept = c.collect.new.kept; line = c.answer_all.new.line })) c.self.view_is
+    (went_on g.D.Disk.state g.met.D.Disk.consistent c.self.invariant.0 (c.if-not-collect.ensures.collected refl) c.collect.ensures.said c.commit.ensures.round c.if-not-collect.ensures.count.0 c.answer_all.ensures.line c.answer_all.ensures.holds).safe

@@ -1,0 +1,161 @@
+//! The flusher's rounds, one by one: how many a number of calls take, how long a seat is answered, and what a round does
+//! once the journal broke.
+
+use crate::asks::{take_at, window};
+use crate::devices::device;
+use rly_core::Refusal;
+use rly_disk::{After, Disk, FaultDisk};
+use rly_flush::Flusher;
+use rly_journal::Journal;
+use rly_line::{Seat, make};
+use rly_machine::Reply;
+use std::alloc::Global;
+use std::process::Abort;
+use std::sync::Wait;
+use std::thread;
+use std::time::Duration;
+
+/// Above the numbers at which an answer might be kept back or a seat shut: 1,000, 1,024 and 2,048.
+const MANY: u64 = 2_100;
+
+/// So many seats ask at once.
+const SEATS: u16 = 32;
+
+/// So many questions at a seat, one after the other. The number of the last answer.
+fn questions_at<R: Abort + Wait>(rt: &R, mut seat: Seat, count: u64) -> u64 {
+    let mut last = 0u64;
+    for _question in 0..count {
+        let answer = seat.call(rt, window()).expect(rt, "an answer");
+        expect!(*rt; answer.number == last.saturating_add(1));
+        last = answer.number;
+    }
+    last
+}
+
+/// A seat asks 2,100 times, and each call is put and answered under its number.
+#[test]
+fn a_seat_is_answered_on_and_on(rt: HostRuntime) {
+    let alloc = rt.alloc();
+    let journal = Journal::open(alloc, device(&rt, alloc))
+        .ok()
+        .expect(&rt, "a journal");
+    let Ok((mut seats, line)) = make(alloc, 1, 1) else {
+        panic!(rt; "memory");
+    };
+    let flusher = Flusher::new(alloc, journal, line)
+        .ok()
+        .expect(&rt, "memory");
+    let seat = seats.pop().expect(&rt, "a seat");
+    let asking = thread::spawn(&rt, move || questions_at(&rt, seat, MANY))
+        .ok()
+        .expect(&rt, "a thread");
+    let finished = flusher.serve(&rt);
+    expect!(rt; asking.join(&rt) == MANY);
+    expect!(rt; !finished.broken);
+}
+
+/// So many rounds a flusher makes until it finds no seat.
+fn rounds_to_end<R: Wait, D: Disk + Drop>(rt: &R, flusher: &mut Flusher<D>) -> u64 {
+    let mut rounds = 0u64;
+    for _round in 0..=SEATS {
+        if !flusher.round(rt) {
+            break;
+        }
+        rounds = rounds.saturating_add(1);
+    }
+    rounds
+}
+
+/// A round takes all calls that wait, up to 64: rounds of 8 would be 4 at least for 32 calls. The flusher begins later each
+/// time, since on a busy machine a thread begins late too.
+#[test]
+fn a_round_takes_all_that_wait(rt: HostRuntime) {
+    let alloc = rt.alloc();
+    for begins_after in &[10, 20, 40, 80, 160, 320, 640, 1_280, 2_560, 5_120] {
+        let journal = Journal::open(alloc, device(&rt, alloc))
+            .ok()
+            .expect(&rt, "a journal");
+        let Ok((seats, line)) = make(alloc, SEATS, SEATS) else {
+            panic!(rt; "memory");
+        };
+        let mut flusher = Flusher::new(alloc, journal, line)
+            .ok()
+            .expect(&rt, "memory");
+        let mut asking = Vec::new(alloc);
+        for seat in seats {
+            let asked = thread::spawn(&rt, move || questions_at(&rt, seat, 1))
+                .ok()
+                .expect(&rt, "a thread");
+            asking.push(asked).expect(&rt, "memory");
+        }
+        thread::sleep(&rt, Duration::from_millis(*begins_after));
+        let rounds = rounds_to_end(&rt, &mut flusher);
+        for asked in asking {
+            expect!(rt; asked.join(&rt) == 1);
+        }
+        if rounds <= 2 {
+            return;
+        }
+    }
+    panic!(rt; "each run took three rounds or more")
+}
+
+/// How a seat's two takes were refused, if they were.
+fn two_takes<R: Abort + Wait>(
+    rt: &R,
+    alloc: Global,
+    mut seat: Seat,
+) -> (Option<Refusal>, Option<Refusal>) {
+    let first = take_at(rt, alloc, &mut seat, 1, 1);
+    let second = take_at(rt, alloc, &mut seat, 1, 2);
+    (refusal_in(&first), refusal_in(&second))
+}
+
+/// The refusal in a reply.
+fn refusal_in(reply: &Reply) -> Option<Refusal> {
+    match reply {
+        Reply::Refused(refusal) => Some(*refusal),
+        _ => None,
+    }
+}
+
+/// A round takes a call and answers it also where the journal broke in the round before: 12 of the round that broke it, and
+/// 11 of the next. Then one more finds that no seat is left. A round has four calls of its device, and the first round is met
+/// by four of the runs.
+#[test]
+fn a_round_of_a_broken_journal_answers(rt: HostRuntime) {
+    let alloc = rt.alloc();
+    let mut broken = 0u64;
+    for fails_at in 1..100 {
+        let disk = FaultDisk::new(device(&rt, alloc), fails_at, 0, After::Stops);
+        let Ok(journal) = Journal::open(alloc, disk) else {
+            continue;
+        };
+        let Ok((mut seats, line)) = make(alloc, 1, 1) else {
+            panic!(rt; "memory");
+        };
+        let mut flusher = Flusher::new(alloc, journal, line)
+            .ok()
+            .expect(&rt, "memory");
+        let seat = seats.pop().expect(&rt, "a seat");
+        let asking = thread::spawn(&rt, move || two_takes(&rt, alloc, seat))
+            .ok()
+            .expect(&rt, "a thread");
+        expect!(rt; flusher.round(&rt));
+        expect!(rt; flusher.round(&rt));
+        let told = asking.join(&rt);
+        expect!(rt; !flusher.round(&rt));
+        match told {
+            (Some(first), second) => {
+                expect!(rt; first == Refusal::Unsure);
+                expect!(rt; second == Some(Refusal::Broken));
+                broken = broken.saturating_add(1);
+            }
+            (None, _) => {
+                expect!(rt; broken == 4);
+                return;
+            }
+        }
+    }
+    panic!(rt; "each run failed")
+}
