@@ -9,7 +9,7 @@ use std::process::Abort;
 use std::test::Fail;
 
 /// The least device of two segments for 64 datagrams of 1,200 bytes.
-const DEVICE: Geometry = Geometry {
+pub(crate) const DEVICE: Geometry = Geometry {
     params: Params {
         hops: 1,
         peers: 1,
@@ -31,11 +31,11 @@ const CYCLE: u64 = 32;
 const LENGTH: usize = 1_200;
 
 /// The one hop, peer and seat.
-const HOP: HopId = HopId(1);
+pub(crate) const HOP: HopId = HopId(1);
 
-const PEER: PeerId = PeerId(1);
+pub(crate) const PEER: PeerId = PeerId(1);
 
-const SEAT: SeatId = SeatId(0);
+pub(crate) const SEAT: SeatId = SeatId(0);
 
 /// The ids of the first datagrams of the cycles: an id is the position of its take. A cycle accepts 32 takes and 32 picks, and
 /// from the second on a release.
@@ -106,7 +106,7 @@ fn is_due(kind: Kind, number: u64, id: u64, reply: &Reply) -> bool {
 }
 
 /// Makes a step, for which there is memory.
-fn step(rt: &impl Abort, relay: &mut Relay, next: Step) {
+pub(crate) fn step(rt: &impl Abort, relay: &mut Relay, next: Step) {
     assert!(rt; relay.step(next).is_ok());
 }
 
@@ -139,7 +139,7 @@ fn round(
 }
 
 /// The relay is opened on its disk, which doesn't fail.
-fn open(rt: &impl Abort, relay: &mut Relay) {
+pub(crate) fn open(rt: &impl Abort, relay: &mut Relay) {
     step(
         rt,
         relay,
