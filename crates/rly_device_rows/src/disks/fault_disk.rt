@@ -109,6 +109,18 @@ fn a_failing_sync_settles_nothing(rt: HostRuntime) -> Result<(), Fail> {
 }
 
 #[test]
+fn a_failing_read_leaves_its_buffer(rt: HostRuntime) -> Result<(), Fail> {
+    let mut disk = FaultDisk::new(mem_disk(rt.alloc(), &[9; 2])?, 1, 0, After::GoesOn);
+    let mut buffer = [7; 2];
+    let outcome = match fits(&disk, 0, 2) {
+        true => disk.read_at(0, &mut buffer),
+        false => Ok(()),
+    };
+    expect!(rt; outcome == Err(DiskFault) && buffer == [7; 2]);
+    Ok(())
+}
+
+#[test]
 fn a_client_of_the_trait(rt: HostRuntime) -> Result<(), Fail> {
     let alloc = rt.alloc();
     let mut disk = mem_disk(alloc, &[0; 6])?;
