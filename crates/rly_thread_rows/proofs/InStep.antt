@@ -1,5 +1,5 @@
 -- A thread that answers each call on a machine stays in step with it.
-use Rattle.std.proofs.Common.{ℕ, ◌≡◌, ◌∷◌, ◌++◌, [], List, refl, ap, sym, subst, ◌∙◌, append-nil, length, length-append, take, arith}
+use Rattle.std.proofs.Common.{ℕ, Bool, ◌≡◌, ◌∷◌, ◌++◌, [], List, refl, ap, sym, subst, ◌∙◌, append-nil, length, length-append, take, arith}
 use Rattle.std.specs.List.{zip}
 use Rattle.rly_machine.specs.declared.call.Answer.{Answer}
 use Rattle.rly_machine.specs.declared.call.Call.{Call}
@@ -57,5 +57,5 @@ module _ {s : State (List ℕ)} {r now : Responding} (b : BatchView) (kept : IsI
         }
 
 -- nothing was asked yet
-pub in_step_first : (s : State (List ℕ)) (of : LineId) (r : Responding) (lines : List Teller) → r ≡ record { of = of; taken = []; start = s; history = []; lines = lines } → IsInStep s r
-in_step_first s of r lines is = subst (λ (x : Responding). IsInStep s x) (sym is) (record { answered = refl; state = refl; unharmed = refl })
+pub in_step_first : (s : State (List ℕ)) (of : LineId) (r : Responding) (lines : List Teller) (over : Bool) → r ≡ record { of = of; taken = []; start = s; history = []; lines = lines; over = over } → IsInStep s r
+in_step_first s of r lines over is = subst (λ (x : Responding). IsInStep s x) (sym is) (record { answered = refl; state = refl; unharmed = refl })
