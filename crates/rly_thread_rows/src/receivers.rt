@@ -62,6 +62,24 @@ fn custody_is_sent(rt: HostRuntime) {
     expect!(rt; ends.desk.machine().item_count() == 1);
 }
 
+/// The longest datagram from station 3 to station 7: number 1, 1,200 bytes to destination 12.
+fn longest() -> [u8; 1_218] {
+    let head = b"\x52\x4c\x01\x01\x00\x03\x00\x07\x00\x00\x00\x00\x00\x00\x00\x01\x04\xb0\x00\x0c";
+    let mut packet = [0x41; 1_218];
+    let (first, _rest) = packet.split_at_mut(head.len());
+    first.copy_from_slice(head);
+    packet
+}
+
+/// The longest datagram has room in the buffer of a worker.
+#[test]
+fn the_longest_datagram_is_taken(rt: HostRuntime) {
+    let ends = hear_one(&rt, rt.alloc(), &longest());
+    expect_sent(&rt, &ends, 1, CUSTODY);
+    expect!(rt; ends.desk.machine().item_count() == 1);
+    expect!(rt; ends.desk.machine().byte_count() == 1_200);
+}
+
 /// Data from station 3 to station 7 under this number, payload `000c41`, or `000d41`, to whose destination there is no route.
 fn numbered(number: u8, destination: u8) -> [u8; 21] {
     let mut packet =

@@ -21,7 +21,7 @@ use std::sync::Wait;
 /// The bytes of the buffer that a worker receives into. A packet that fills it is no message.
 pub const MAX_PACKET: usize = 1_300;
 
-/// A worker hears packets of so many bytes, and so each message with its tag.
+/// The length has room for the longest message with its tag. That a worker's buffer has this length is tested.
 pub fn law_longest_packet()
     ensures { MAX_PACKET ≡ 1300 }
 {}
