@@ -3,11 +3,13 @@ use Rattle.std.proofs.Common.{◌≡◌, ◌∙◌, ℕ, zero, suc, ◌≤◌, L
 use Rattle.std.proofs.lemmas.Bool.{and_parts}
 use Rattle.std.proofs.lemmas.List.Folds.{list_all-append}
 use Rattle.std.proofs.lemmas.Option.{IfSome_then, none-some}
-use Rattle.std.specs.List.{AllZip, list_all}
+use Rattle.std.specs.List.{AllZip, list_all, zip}
 use Rattle.std.specs.Option.{is_none, option_map, unwrap_or}
 use Rattle.std.specs.Prelude.{IfSome, None, Option, Some}
 use Rattle.rly_daemon.specs.declared.plan_keys.KeyedWorker.{KeyedWorker}
 use Rattle.rly_daemon.specs.Serving.{Duty, StationPost, addresses_of, clock_endless, clock_told, duties, duty_at, duty_of}
+use Rattle.rly_line.specs.Replies.{ReplyId}
+use Rattle.rly_line.specs.Seats.{new_callers}
 use Rattle.rly_line.specs.Submission.{LineId}
 use Rattle.rly_plan.specs.ContactPlan.{ContactPlan, next_hop_at, peer_at}
 use Rattle.rly_plan.specs.Endpoints.{Endpoints}
@@ -83,13 +85,14 @@ uncut (l ∷ looks) e =
     let both = or_parts l.cut (was_cut looks) e in
     λ i. uncut_one l both.0 i ∷ uncut looks both.1 i
 
-endless_goes_on : {C : Type 0} (plan : ContactPlan) (links : List KeyedWorker) (window : ℕ) (line : LineId) (posts : List (StationPost C)) (ended : List (Option (Ended (StationLink (UdpLink C)) (WallClock C)))) → map duty_at posts ≡ duties plan links 0 → 1 ≤ length posts
-    → AllZip (HaveEnded (station_heard (λ _. None)) (station_sent (λ _. None)) clock_told clock_endless plan window) (seated line posts) ended
+endless_goes_on : {C : Type 0} (plan : ContactPlan) (links : List KeyedWorker) (window : ℕ) (line : LineId) (names : List (Option ReplyId)) (number : ℕ) (posts : List (StationPost C)) (ended : List (Option (Ended (StationLink (UdpLink C)) (WallClock C)))) → map duty_at posts ≡ duties plan links 0 → 1 ≤ length posts → length names ≡ length posts
+    → AllZip (HaveEnded (station_heard (λ _. None)) (station_sent (λ _. None)) clock_told clock_endless plan window) (zip posts (new_callers line number names)) ended
     → list_all has_run_out ended ≡ true → ⊥
-endless_goes_on plan links window line [] ended e some worked all = absurd (omega (arith, some))
-endless_goes_on plan links window line (post ∷ posts) [] e some worked all = absurd worked
-endless_goes_on plan links window line (post ∷ posts) (None ∷ ended) e some worked all = absurd (true≢false (sym all))
-endless_goes_on plan links window line (post ∷ posts) (Some left ∷ ended) e some worked all =
+endless_goes_on plan links window line names number [] ended e some count worked all = absurd (omega (arith, some))
+endless_goes_on plan links window line [] number (post ∷ posts) ended e some count worked all = absurd (omega (arith, count))
+endless_goes_on plan links window line (name ∷ names) number (post ∷ posts) [] e some count worked all = absurd worked
+endless_goes_on plan links window line (name ∷ names) number (post ∷ posts) (None ∷ ended) e some count worked all = absurd (true≢false (sym all))
+endless_goes_on plan links window line (name ∷ names) number (post ∷ posts) (Some left ∷ ended) e some count worked all =
     let did = worked.0 in
     let first = first_duty _ _ plan 0 links e in
     let is : post.worker ≡ first.0.worker = ap (λ d. d.worker) first.1 in
@@ -104,8 +107,8 @@ endless_goes_on plan links window line (post ∷ posts) (Some left ∷ ended) e 
     true≢false (sym (last_on end.before (end.worker, Start, end.last) on) ∙ end.off)
 
 -- where each worker of a plan ran until its turns were ended, the turns have an end
-pub turns_end : {C : Type 0} (plan : ContactPlan) (links : List KeyedWorker) (window turns : ℕ) (line : LineId) (posts : List (StationPost C)) (ended : List (Option (Ended (StationLink (UdpLink C)) (WallClock C)))) → map duty_at posts ≡ duties plan links turns → 1 ≤ length posts
-    → AllZip (HaveEnded (station_heard (λ _. None)) (station_sent (λ _. None)) clock_told clock_endless plan window) (seated line posts) ended
+pub turns_end : {C : Type 0} (plan : ContactPlan) (links : List KeyedWorker) (window turns : ℕ) (line : LineId) (names : List (Option ReplyId)) (posts : List (StationPost C)) (ended : List (Option (Ended (StationLink (UdpLink C)) (WallClock C)))) → map duty_at posts ≡ duties plan links turns → 1 ≤ length posts → length names ≡ length posts
+    → AllZip (HaveEnded (station_heard (λ _. None)) (station_sent (λ _. None)) clock_told clock_endless plan window) (seated line names posts) ended
     → list_all has_run_out ended ≡ true → 1 ≤ turns
-turns_end plan links window zero line posts ended e some worked all = absurd (endless_goes_on plan links window line posts ended e some worked all)
-turns_end plan links window (suc n) line posts ended e some worked all = omega arith
+turns_end plan links window zero line names posts ended e some count worked all = absurd (endless_goes_on plan links window line names 0 posts ended e some count worked all)
+turns_end plan links window (suc n) line names posts ended e some count worked all = omega arith

@@ -6,6 +6,7 @@ use Rattle.rly_audit.specs.Report.{balances, books_of, report_of}
 use Rattle.rly_core.specs.Limits.{IsWithinLimits}
 use Rattle.rly_core.specs.declared.params.Geometry.{Geometry}
 use Rattle.rly_flush.specs.Flushing.{FlusherState, IsServed, new_flusher}
+use Rattle.rly_line.specs.Replies.{ReplyId}
 use Rattle.rly_line.specs.Submission.{LineId}
 use Rattle.rly_plan.specs.ContactPlan.{ContactPlan}
 use Rattle.rly_threads.specs.Relay.{new_end}
@@ -61,7 +62,9 @@ pub record HasServed (turns : ℕ) (new : Option (List ℕ)) : Type 0 where
   pub begun : opened.broken ≡ false
   pub whole : left.journal.broken ≡ false
   pub line : LineId
-  pub served : IsServed file_state (new_flusher opened (new_end line (length (workers_of plan)))) left
+  pub names : List (Option ReplyId)
+  pub seats : length names ≡ length (workers_of plan)
+  pub served : IsServed file_state (new_flusher opened (new_end line names)) left
   pub begins : Option (List ℕ)
   pub told : Appends begins new (ended_line turns)
 

@@ -8,7 +8,8 @@ use Rattle.rly_daemon.specs.declared.plan_keys.KeyedWorker.{KeyedWorker}
 use Rattle.rly_daemon.specs.declared.udp_link.UdpLink.{UdpLink}
 use Rattle.rly_daemon.specs.declared.wall_clock.WallClock.{WallClock}
 use Rattle.rly_daemon.specs.WallClock.{turns_left}
-use Rattle.rly_line.specs.Submission.{LineId}
+use Rattle.rly_line.specs.EndViews.{names_of}
+use Rattle.rly_line.specs.Responding.{Responding}
 use Rattle.rly_plan.specs.ContactPlan.{ContactPlan, next_hop_at, peer_at}
 use Rattle.rly_plan.specs.Endpoints.{Endpoints}
 use Rattle.rly_seal.specs.declared.station_link.StationLink.{StationLink}
@@ -19,7 +20,7 @@ use Rattle.rly_threads.specs.declared.relay.Post.{Post}
 use Rattle.rly_threads.specs.declared.turn.Worker.{Worker}
 use Rattle.rly_threads.specs.declared.turn.Worker.TheVariants as worker
 use Rattle.rly_threads.specs.Memory.{handed_of}
-use Rattle.rly_threads.specs.Relay.{HaveEnded, has_run_out, seated}
+use Rattle.rly_threads.specs.Relay.{AreAnsweredBy, HaveEnded, has_run_out, seated}
 use Rattle.rly_threads.specs.Turns.{Handed}
 
 -- a device has each peer and each hop of a plan
@@ -86,13 +87,15 @@ duty_of plan turns link =
 abbrev pub duties : ContactPlan → List KeyedWorker → ℕ → List Duty
 duties plan links turns = map (duty_of plan turns) links
 
--- Each worker of a plan had a thread, did at its post and its seat of a line what the plan says of it, from its start to the end of
--- its turns, and left that post. Its link is sealed with the key that there is for it, and no other link is. A socket tells
+-- Each worker of a plan had a thread, did at its post and its seat what the plan says of it, from its start to the end of its turns,
+-- and left that post. What its seat put and knows stands beside who answered it. Its link is sealed with the key that there is for it, and no other link is. A socket tells
 -- nothing of what it heard and sent; a seat and a clock tell all.
-pub record HasRun {C : Type 0} (plan : ContactPlan) (links : List KeyedWorker) (window turns : ℕ) (line : LineId)
+pub record HasRun {C : Type 0} (plan : ContactPlan) (links : List KeyedWorker) (window turns : ℕ) (r : Responding)
     (ended : List (Option (Ended (StationLink (UdpLink C)) (WallClock C)))) : Type 0 where
   pub posts : List (StationPost C)
   pub planned : map duty_at posts ≡ duties plan links turns
   pub worked : AllZip (HaveEnded (station_heard (λ _. None)) (station_sent (λ _. None)) clock_told clock_endless plan window)
-      (seated line posts) ended
+      (seated r.of (names_of r.lines) posts) ended
+  pub seats : length r.lines ≡ length posts
+  pub answered : AreAnsweredBy r ended
   pub complete : list_all has_run_out ended ≡ true

@@ -1,6 +1,6 @@
 //! The running relay: what it needs of its device, its workers, and how it ends.
 
-ghost use Rattle.std.specs.Prelude.{◌≡◌, ◌≤◌, ◌⊎◌, ◌++◌, Err, IfErr, IfOk, IsOk, OnOk, false, length, map, Option, option_copied, true};
+ghost use Rattle.std.specs.Prelude.{◌≡◌, ◌≤◌, ◌⊎◌, ◌++◌, Err, IfErr, IfOk, IsOk, OnOk, false, length, map, List, Option, option_copied, true};
 ghost use Rattle.rly_core.specs.declared.refusal.Refusal.{Refusal as ARefusal};
 ghost use Rattle.rly_core.specs.declared.refusal.Refusal.TheVariants as refusal;
 ghost use Rattle.rly_daemon.specs.declared.command_fault.ServeFault.TheVariants as fault;
@@ -10,6 +10,7 @@ ghost use Rattle.rly_daemon.specs.Keys.{AreKeysOf};
 ghost use Rattle.rly_daemon.specs.Serving.{HasRoom, HasRun, LacksRoom, addresses_of, duties, duty_at, duty_of, receivers, senders, workers_of};
 ghost use Rattle.rly_daemon.specs.declared.file_fault.SystemWord.{SystemWord as AWord};
 ghost use Rattle.rly_flush.specs.Flushing.{IsServed, new_flusher};
+ghost use Rattle.rly_line.specs.Replies.{ReplyId};
 ghost use Rattle.rly_line.specs.Submission.{LineId};
 ghost use Rattle.rly_plan.specs.Sound.{IsSoundPlan};
 ghost use Rattle.rly_plan.specs.declared.place.Place.{Place as APlace};
@@ -87,9 +88,10 @@ pub fn serve<'a, H: AllocGlobal + Net + Threads + Wait + Clock + Sync, D: Disk +
     // A relay whose turns are without end never ends well.
     ensures ends { OnOk result (1 ≤ turns) }
     // Each worker of the plan did at its post and its seat what the plan says of it, as far as its link tells.
-    ensures worked { IfOk result (λ relayed. HasRun plan.now keys.entry journal.state.params.window turns relayed.finished.last.value.line.of relayed.ended.items) }
+    ensures worked { IfOk result (λ relayed. HasRun plan.now keys.entry journal.state.params.window turns relayed.finished.last.value.line relayed.ended.items) }
     // The journal is what its flusher's rounds made of it, and not broken.
-    ensures served { IfOk result (λ relayed. (line : LineId) × IsServed D.state (new_flusher journal (new_end line (length (workers_of plan.now)))) relayed.finished.last.value) }
+    ensures served { IfOk result (λ relayed. (line : LineId) × (names : List (Option ReplyId)) × (length names ≡ length (workers_of plan.now))
+        × IsServed D.state (new_flusher journal (new_end line names)) relayed.finished.last.value) }
     ensures left { IfOk result (λ relayed. relayed.finished.last.value.journal ≡ relayed.finished.journal) }
     ensures whole { IfOk result (λ relayed. relayed.finished.journal.broken ≡ false) }
 {

@@ -25,7 +25,7 @@ use Rattle.rly_line.specs.Responding.{AreLeft, IsResponding, Responding, calls_i
 use Rattle.rly_line.specs.Submission.{LineId}
 use Rattle.rly_line.proofs.Telling.{with_over}
 use Rattle.rly_flush.specs.HelpersFlushing.{AreCollected, IsFlushing, IsRounded}
-use Rattle.rly_flush.specs.Flushing.{AreHarmless, FlusherState, GrewInRound, IsBreaking, IsCrashSafe, IsLeftIn, IsDoubtful, IsOneHistory, IsOneRound, answered_state, entries_since, folded, kept_calls, over_now, state_reached}
+use Rattle.rly_flush.specs.Flushing.{AreHarmless, FlusherState, GrewInRound, IsBreaking, IsCrashSafe, IsLeftIn, IsDoubtful, IsOneHistory, IsOneRound, IsRefusedWhereScarce, answered_state, entries_since, folded, kept_calls, over_now, state_reached}
 use Rattle.rly_flush.proofs.Joining.{GoesOn, goes_on}
 use Rattle.rly_flush.proofs.Refusing.{accepted_append, all_append, all_broken, all_harmless, all_unsure, broken_accepts_none, calls_in_append, calls_in_zip, unsure_accepts_none}
 
@@ -395,14 +395,15 @@ module _ {D : Type 0} (state : D → DiskState) (consistent : (disk : D) → (st
 
     -- which was one round
     pub one_round : {line : Responding} → line ≡ record collected { history = collected.history ++ zip said given; lines = line.lines } → IsIn 1 64 (length calls)
-        → IsOneRound state old (record { first = old.first; journal = journal; kept = left; line = line })
-    one_round {line} told count = record {
+        → IsRefusedWhereScarce old.journal calls given → IsOneRound state old (record { first = old.first; journal = journal; kept = left; line = line })
+    one_round {line} told count memory = record {
       calls = calls;
       given = given;
       count = count;
       in_turn = record { came = taken.came; taken = ap (λ (l : Responding). l.taken) told ∙ ap (λ (l : Responding). l.taken) taken.line; in_turn = taken.in_turn; full = taken.full };
       history = ap (λ (l : Responding). l.history) told ∙ (λ i. (taken.line i).history ++ zip (same i) given);
       round = now.round;
+      memory = memory;
     }
 
 -- nothing was taken yet

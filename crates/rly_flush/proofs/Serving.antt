@@ -14,6 +14,7 @@ use Rattle.rly_machine.specs.History.{Entry, LegalButForBytes, accepted_of}
 use Rattle.rly_machine.specs.State.{State}
 use Rattle.rly_journal.specs.Journal.{IsRound, JournalState}
 use Rattle.rly_journal.specs.Standing.{Stands}
+use Rattle.rly_line.specs.EndViews.{names_of}
 use Rattle.rly_flush.specs.Flushing.{AreHarmless, AreRounds, FlusherState, GrewInRound, IsBreaking, IsContinued, IsCrashSafe, IsKeptSince, IsMadeRound, IsOneHistory, IsOneRound, IsLeftIn, IsTruthful, IsWritten, MayFollow, MayGoOn, folded, over_now, state_reached}
 use Rattle.rly_flush.proofs.Crashing.{left_in, with_end}
 use Rattle.rly_flush.proofs.Refusing.{accepted_append, all_append, all_broken, harmful, still_truthful}
@@ -46,6 +47,7 @@ module _ {D : Type 0} (state : D → DiskState) where
       in_turn = record { came = made.one.in_turn.came; taken = made.one.in_turn.taken; in_turn = made.one.in_turn.in_turn; full = made.one.in_turn.full };
       history = made.one.history;
       round = made.one.round;
+      memory = made.one.memory;
     };
     any_moment = λ honest sound.
         let safe = made.any_moment honest sound in
@@ -76,6 +78,7 @@ module _ {D : Type 0} (state : D → DiskState) (consistent : (disk : D) → (st
     first = refl;
     of = refl;
     start = refl;
+    names = refl;
     history = history;
     grew = record { added = []; history = sym (append-nil f.line.history); truthful = tt };
     broke = λ broke. inl broke;
@@ -95,7 +98,7 @@ module _ {D : Type 0} (state : D → DiskState) (consistent : (disk : D) → (st
   unfolding continued_first
   first_may f history = tt
 
-  module _ (a b e : FlusherState D) (so_far : IsContinued state a b) (may : MayFollow b so_far.rounds) (made : Bool) (took : MatchBool made (IsOneRound state b e) (e ≡ over_now b)) (first : e.first ≡ b.first) (of : e.line.of ≡ b.line.of) (start : e.line.start ≡ b.line.start)
+  module _ (a b e : FlusherState D) (so_far : IsContinued state a b) (may : MayFollow b so_far.rounds) (made : Bool) (took : MatchBool made (IsOneRound state b e) (e ≡ over_now b)) (first : e.first ≡ b.first) (of : e.line.of ≡ b.line.of) (start : e.line.start ≡ b.line.start) (names : names_of e.line.lines ≡ names_of b.line.lines)
       (history : IsOneHistory state e) (grew : GrewInRound state b e) (later : Later (state b.journal.disk) (state e.journal.disk))
       (safe : (state b.journal.disk).honest → b.first.broken ≡ false → IsCrashSafe state b e) where
     abbrev Failed : Type 0
@@ -200,6 +203,7 @@ module _ {D : Type 0} (state : D → DiskState) (consistent : (disk : D) → (st
       first = first ∙ so_far.first;
       of = of ∙ so_far.of;
       start = start ∙ so_far.start;
+      names = names ∙ so_far.names;
       history = history;
       grew = record {
         added = so_far.grew.added ++ grew.added;

@@ -3,7 +3,7 @@ use Rattle.std.specs.Prelude.{ℕ, ◌≡◌, ◌<◌, ◌≤◌, ◌⊎◌, ◌
 use Rattle.std.specs.Prelude.{Option, None, Some, IfSome, true, false}
 use Rattle.std.specs.List.{AllByRecursion, zip}
 use Rattle.rly_core.specs.Bounds.{IsIn}
-use Rattle.rly_core.specs.declared.refusal.Refusal.TheVariants.{Broken, DeviceRead, Unsure}
+use Rattle.rly_core.specs.declared.refusal.Refusal.TheVariants.{Broken, DeviceRead, OutOfMemory, Unsure}
 use Rattle.rly_disk.specs.DiskModel.{DiskState, Later, LeavesOnly, HasFailed}
 use Rattle.rly_machine.specs.declared.call.Answer.{Answer}
 use Rattle.rly_machine.specs.declared.call.Call.{Call}
@@ -12,11 +12,11 @@ use Rattle.rly_machine.specs.declared.reply.Reply.TheVariants.{Refused}
 use Rattle.rly_machine.specs.Fold.{AllAccepted, fold}
 use Rattle.rly_machine.specs.History.{Entry, Legal, LegalButForBytes, accepted_of, harm, state_after}
 use Rattle.rly_machine.specs.State.{State}
-use Rattle.rly_journal.specs.Journal.{IsRound, JournalState}
-use Rattle.rly_journal.specs.Rounds.{AreServed, refusals}
+use Rattle.rly_journal.specs.Journal.{IsDueFor, IsRound, JournalState}
+use Rattle.rly_journal.specs.Rounds.{AreServed, IsRefusedWhereWanted, refusals}
 use Rattle.rly_journal.specs.Standing.{Stands}
 use Rattle.rly_line.specs.Batches.{BatchView, calls_in_batch}
-use Rattle.rly_line.specs.EndViews.{EndView}
+use Rattle.rly_line.specs.EndViews.{EndView, names_of}
 use Rattle.rly_line.specs.Responding.{AreTold, Responding, calls_in}
 
 -- what contracts see of a flusher: the journal that it was given, that journal now, the batch that it keeps for its
@@ -66,6 +66,12 @@ pub record IsInTurn {D : Type 0} (old new : FlusherState D) (calls : List Call) 
   pub in_turn : kept_calls old.kept ++ came ≡ calls ++ kept_calls new.kept
   pub full : IfSome new.kept (λ batch. 64 < length calls + length batch.asks)
 
+-- memory was refused only to asks that may want it, or to all calls where a segment is due and its head finds none
+abbrev pub IsRefusedWhereScarce : {D : Type 0} → JournalState D → List Call → List Answer → Type 0
+IsRefusedWhereScarce journal calls given =
+    IsRefusedWhereWanted journal.state (zip calls given)
+    ⊎ (IsDueFor journal calls × (given ≡ refusals OutOfMemory journal.position calls))
+
 -- one round: 1 to 64 calls, that of the batch that was kept first, were answered by one round of the journal
 pub record IsOneRound {D : Type 0} (state : D → DiskState) (old new : FlusherState D) : Type 0 where
   pub calls : List Call
@@ -74,6 +80,7 @@ pub record IsOneRound {D : Type 0} (state : D → DiskState) (old new : FlusherS
   pub in_turn : IsInTurn old new calls
   pub history : new.line.history ≡ old.line.history ++ zip calls given
   pub round : IsRound state old.journal new.journal calls given
+  pub memory : IsRefusedWhereScarce old.journal calls given
 
 -- why a call is told of a failure: 12 where a device call failed in its round, 11 where the journal was broken before;
 -- never 13
@@ -217,6 +224,7 @@ pub record IsContinued {D : Type 0} (state : D → DiskState) (old new : Flusher
   pub first : new.first ≡ old.first
   pub of : new.line.of ≡ old.line.of
   pub start : new.line.start ≡ old.line.start
+  pub names : names_of new.line.lines ≡ names_of old.line.lines
   pub history : IsOneHistory state new
   -- the history went on, and tells of a failure only where there was one
   pub grew : GrewInRounds state old new

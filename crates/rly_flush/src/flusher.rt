@@ -2,17 +2,17 @@ ghost use Rattle.std.specs.Prelude.{◌≡◌, ◌≤◌, ◌↔◌, ℕ, [], No
 ghost use Rattle.std.specs.List.{range_with_len};
 ghost use Rattle.rly_core.specs.Bounds.{IsIn};
 ghost use Rattle.rly_disk.specs.DiskModel.{Later};
-ghost use Rattle.rly_line.specs.EndViews.{new_teller};
-ghost use Rattle.rly_line.specs.Responding.{calls_in};
+ghost use Rattle.rly_line.specs.EndViews.{names_of, new_tellers};
+ghost use Rattle.rly_line.specs.Responding.{IsLeftBy, calls_in};
 ghost use Rattle.rly_line.specs.Submission.{IsBeginning};
-ghost use Rattle.rly_flush.specs.Flushing.{GrewInRound, IsCrashSafe, IsOneHistory, IsOneRound, IsServed, new_flusher, over_now};
+ghost use Rattle.rly_flush.specs.Flushing.{GrewInRound, IsCrashSafe, IsOneHistory, IsOneRound, IsRefusedWhereScarce, IsServed, new_flusher, over_now};
 ghost use Rattle.rly_flush.specs.HelpersFlushing.{IsRounded};
 
 use crate::owned_journal::OwnedJournal;
 use crate::round_calls::{Lists, answer_all, collect};
 use rly_disk::Disk;
 use rly_journal::Journal;
-use rly_line::{Batch, LineEnd, Responder, Seat};
+use rly_line::{Batch, ClosedEnd, LineEnd, Responder, Seat};
 use rly_machine::{Answer, Call};
 use std::alloc::Global;
 use std::marker::Model;
@@ -49,6 +49,8 @@ pub struct Finished<D: Disk> {
     /// Whether a write or a sync failed: the journal refuses every call until the device is opened again.
     pub broken: bool,
     pub journal: Journal<D>,
+    /// Its end of all seats' lines, closed: who has a seat that was left learns there what its answers stand on.
+    pub lines: ClosedEnd,
     /// The flusher at its end, for proofs: its history, and the journal that was given. It takes no room.
     pub last: Snapshot<Flusher<D>>,
 }
@@ -61,7 +63,7 @@ impl<D: Disk> Flusher<D> {
         journal: Journal<D>,
         line_end: LineEnd,
     ) -> Result<Flusher<D>, (Journal<D>, LineEnd)>
-        requires { (count : ℕ) × (line_end ≡ record line_end { taken = []; lines = map new_teller (range_with_len 0 count) }) }
+        requires { line_end ≡ record line_end { taken = []; lines = new_tellers 0 (names_of line_end.lines) } }
         ensures begins { IfOk result (λ flusher. flusher ≡ new_flusher journal line_end) }
         ensures history { IfOk result (λ flusher. IsOneHistory D.state flusher) }
         ensures refused { IfErr result (λ back. (back.0 ≡ journal) × (back.1 ≡ line_end)) }
@@ -97,6 +99,7 @@ impl<D: Disk> Flusher<D> {
         ensures first { self.new.first ≡ self.old.first }
         ensures of { self.new.line.of ≡ self.old.line.of }
         ensures start { self.new.line.start ≡ self.old.line.start }
+        ensures names { names_of self.new.line.lines ≡ names_of self.old.line.lines }
         ensures history { IsOneHistory D.state self.new }
         // What this round adds tells of a failure only where there was one.
         ensures failures { GrewInRound D.state self.old self.new }
@@ -123,12 +126,13 @@ impl<D: Disk> Flusher<D> {
         true
     }
 
-    /// Makes rounds until all seats are gone, or until the journal is broken and each batch that was taken is answered, and
+    /// Makes rounds until each seat is left or gone, or until the journal is broken and each batch that was taken is answered, and
     /// gives the journal back. What is left in the line is Lost to its seat, and each later call is Closed.
     pub fn serve<R: Wait>(self, rt: &R) -> Finished<D>
         ensures broken { result.broken ≡ result.journal.broken }
         ensures journal { result.last.value.journal ≡ result.journal }
         ensures ends { IsServed D.state self result.last.value }
+        ensures closed { IsLeftBy result.last.value.line result.lines }
     {
         let mut flusher = self;
         flusher.law_history();
@@ -137,7 +141,7 @@ impl<D: Disk> Flusher<D> {
                 break;
             }
         }
-        flusher.into_finished()
+        flusher.into_finished(rt)
     }
 
     /// Whether the journal is broken and no batch is left to be answered.
@@ -164,18 +168,26 @@ impl<D: Disk> Flusher<D> {
         self.line.law_beginning(seat)
     }
 
-    /// The journal, given back.
-    fn into_finished(self) -> Finished<D>
+    /// So many seats are gone that didn't say so, since no one had them: it doesn't wait for those.
+    pub fn forget(&mut self, seats: usize)
+        ensures { self.new ≡ self.old }
+    {
+        self.line.forget(seats);
+    }
+
+    /// The journal, given back, and the lines, closed.
+    fn into_finished<R: Wait>(self, rt: &R) -> Finished<D>
         ensures broken { result.broken ≡ result.journal.broken }
         ensures journal { result.journal ≡ self.journal }
         ensures last { result.last.value ≡ self }
+        ensures closed { IsLeftBy self.line result.lines }
     {
         let last = Snapshot::of(&self);
         let Flusher {
             alloc: _alloc,
             first: _first,
             owned,
-            line: _line,
+            line,
             kept: _kept,
             lists: _lists,
         } = self;
@@ -183,6 +195,7 @@ impl<D: Disk> Flusher<D> {
         Finished {
             broken: journal.is_broken(),
             journal,
+            lines: line.close(rt),
             last,
         }
     }
@@ -200,6 +213,7 @@ fn commit<D: Disk>(
     requires room { 64 ≤ vec_capacity answers.old }
     ensures emptied { calls.new.items ≡ [] }
     ensures round { IsRounded D.state journal.old journal.new calls.old.items answers.new.items }
+    ensures memory { IsRefusedWhereScarce journal.old calls.old.items answers.new.items }
     ensures calls_capacity { vec_capacity calls.new ≡ vec_capacity calls.old }
     ensures answers_capacity { vec_capacity answers.old ≤ vec_capacity answers.new }
 {

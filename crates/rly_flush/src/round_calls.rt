@@ -6,6 +6,7 @@ ghost use Rattle.rly_core.specs.Bounds.{IsIn};
 ghost use Rattle.rly_machine.specs.declared.call.Call.{Call as ACall};
 ghost use Rattle.rly_machine.specs.History.{LegalBy, harm_after, state_after, without_bytes};
 ghost use Rattle.rly_line.specs.Batches.{calls_in_batch, no_answers};
+ghost use Rattle.rly_line.specs.EndViews.{names_of};
 ghost use Rattle.rly_line.specs.Responding.{AreLeft, IsResponding};
 ghost use Rattle.rly_flush.specs.Flushing.{kept_calls};
 ghost use Rattle.rly_flush.specs.HelpersFlushing.{AreCollected, HasRoom, IsReady, answers_said, calls_said};
@@ -147,6 +148,7 @@ pub(crate) fn answer_all<T: Standing, R: Wait>(
     requires count { length answers.old.items ≡ length (calls_said said.old.items) }
     requires legal { LegalBy without_bytes (harm_after 0 line.old.history) (state_after line.old.start line.old.history) (zip (calls_said said.old.items) answers.old.items) }
     ensures line { line.new ≡ record line.old { history = line.old.history ++ zip (calls_said said.old.items) answers.old.items; lines = line.new.lines } }
+    ensures names { names_of line.new.lines ≡ names_of line.old.lines }
     ensures emptied { (said.new.items ≡ []) × (wanted.new.items ≡ []) × (answers.new.items ≡ []) }
     ensures said_capacity { vec_capacity said.new ≡ vec_capacity said.old }
     ensures wanted_capacity { vec_capacity wanted.new ≡ vec_capacity wanted.old }

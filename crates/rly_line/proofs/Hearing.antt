@@ -17,7 +17,7 @@ use Rattle.rly_line.proofs.Telling.{entries_after_own}
 
 -- what contracts see of a seat at these ends
 abbrev pub caller : SeatId → Putter → Hearer → Bool → Caller
-caller seat p h shut = record { of = p.of; seat = seat; put = p.put; base = h.base; known = h.known; shut = shut; refused = p.refused }
+caller seat p h shut = record { of = p.of; replies = h.of; seat = seat; put = p.put; base = h.base; known = h.known; shut = shut; refused = p.refused }
 
 -- calls of a seat's number are of that seat
 of_seat : (seat : SeatId) (calls : List Call) → AreOf seat.0 calls → AllByRecursion (λ (c : Call). c.seat ≡ seat) calls
@@ -31,7 +31,7 @@ length_entries (x ∷ xs) [] count = absurd (omega (arith, count))
 length_entries (x ∷ xs) (y ∷ ys) count = let rest = length_entries xs ys (omega (arith, count)) in omega (arith, rest)
 
 module _ (seat : SeatId) (p q : Putter) (h now : Hearer) (calls more : ℕ) (shut : Bool) (is : IsSeated seat p h calls shut) (open_is : shut ≡ false) (b : BatchView)
-    (count : more ≡ length b.asks) (whose : b.seat ≡ seat) (before : b.before ≡ length p.put) (put : q ≡ record p { put = p.put ++ calls_in_batch b }) (same : now.seat ≡ h.seat) where
+    (count : more ≡ length b.asks) (whose : b.seat ≡ seat) (before : b.before ≡ length p.put) (put : q ≡ record p { put = p.put ++ calls_in_batch b }) (same : (now.of ≡ h.of) × (now.seat ≡ h.seat)) where
   grown : calls + more ≡ length q.put
   grown = omega (arith, is.count, count, ap (λ (x : Putter). length x.put) put, length-append p.put (calls_in_batch b), length_batch b)
 
@@ -39,7 +39,7 @@ module _ (seat : SeatId) (p q : Putter) (h now : Hearer) (calls more : ℕ) (shu
   pub seated_shut : IsSeated seat q now (calls + more) true
   seated_shut = record {
     puts = ap (λ (x : Putter). x.seat) put ∙ is.puts;
-    hears = same ∙ is.hears;
+    hears = same.1 ∙ is.hears;
     count = grown;
     answered = λ e. absurd (true≢false e);
     listens = λ e. absurd (true≢false e);
@@ -80,7 +80,7 @@ module _ (seat : SeatId) (p q : Putter) (h now : Hearer) (calls more : ℕ) (shu
     pub seated : IsSeated seat q now (calls + more) shut
     seated = record {
       puts = ap (λ (x : Putter). x.seat) put ∙ is.puts;
-      hears = same ∙ is.hears;
+      hears = same.1 ∙ is.hears;
       count = grown;
       answered = λ _. answered_now;
       listens = λ _. hears_on;
@@ -95,6 +95,7 @@ module _ (seat : SeatId) (p q : Putter) (h now : Hearer) (calls more : ℕ) (shu
     pub answered : AreAnsweredWith (caller seat p h shut) b.asks answers (caller seat q now shut)
     answered = record {
       of = ap (λ (x : Putter). x.of) put;
+      replies = same.0;
       seat = refl;
       open_still = open_is;
       refused = ap (λ (x : Putter). x.refused) put;
@@ -123,6 +124,7 @@ one_by before after ask answer (x ∷ []) all is =
     let numbers = subst (λ l. AreNumbered (length before.put) l) is all.numbers in
     record {
       of = all.of;
+      replies = all.replies;
       seat = all.seat;
       open_still = all.open_still;
       refused = all.refused;

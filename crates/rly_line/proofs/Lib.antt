@@ -4,3 +4,4 @@ pub mod Replying
 pub mod Making
 pub mod Telling
 pub mod Hearing
+pub mod Closing

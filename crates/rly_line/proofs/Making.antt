@@ -1,21 +1,54 @@
 -- Lines that are made one after another, one for each seat.
-use Rattle.std.proofs.Common.{ℕ, ◌≡◌, ◌+◌, ◌<◌, List, [], ◌∷◌, ◌++◌, false, map, length, get_or, refl, ap, sym, ◌∙◌, subst, arith}
-use Rattle.std.specs.List.{range_with_len}
-use Rattle.std.proofs.lemmas.List.FromFn.{get_or-map-range_with_len, length-map-range_with_len, map-range_with_len_more}
-use Rattle.rly_line.specs.EndViews.{AreInPlace, teller_at, new_teller}
-use Rattle.rly_line.specs.Replies.{Teller}
+use Rattle.std.proofs.Common.{ℕ, zero, suc, ◌≡◌, ◌+◌, ◌<◌, Option, None, List, [], ◌∷◌, ◌++◌, false, length, get_or, refl, ap, sym, ◌∙◌, subst, arith}
+use Rattle.std.proofs.lemmas.List.{length-map, map-append}
+use Rattle.rly_line.specs.EndViews.{AreInPlace, names_of, new_teller, new_tellers}
 use Rattle.rly_line.specs.HelpersEnds.{Taker}
+use Rattle.rly_line.specs.Replies.{ReplyId, Teller}
+use Rattle.rly_line.specs.Seats.{Caller, new_caller, new_callers}
 use Rattle.rly_line.specs.Submission.{LineId}
 
--- each of the new lines is new
-pub new_teller_at : (count seat : ℕ) → seat < length (map new_teller (range_with_len 0 count)) → teller_at (map new_teller (range_with_len 0 count)) seat ≡ new_teller seat
-new_teller_at count seat here =
-    let below : seat < count = omega (arith, here, length-map-range_with_len new_teller 0 count) in
-    get_or-map-range_with_len new_teller 0 count seat seat (new_teller seat) below (omega arith)
+-- each of the new lines is new, and in its place
+pub new_teller_at : (number : ℕ) (names : List (Option ReplyId)) (seat : ℕ) (d : Teller) → seat < length (new_tellers number names)
+    → get_or (new_tellers number names) seat d ≡ new_teller (get_or names seat None) (number + seat)
+new_teller_at number [] seat d here = absurd (omega (arith, here))
+new_teller_at number (of ∷ more) zero d here = ap (new_teller of) (let e : number ≡ number + 0 = omega arith in e)
+new_teller_at number (of ∷ more) (suc k) d here =
+    let below : k < length (new_tellers (number + 1) more) = omega (arith, here) in
+    let e : (number + 1) + k ≡ number + suc k = omega arith in
+    new_teller_at (number + 1) more k d below ∙ ap (new_teller (get_or more k None)) e
 
--- and in its place
-pub new_in_place : (count : ℕ) → AreInPlace (map new_teller (range_with_len 0 count))
-new_in_place count seat here = ap (λ (t : Teller). t.seat) (new_teller_at count seat here)
+pub new_in_place : (names : List (Option ReplyId)) → AreInPlace (new_tellers 0 names)
+new_in_place names seat here =
+    let e : 0 + seat ≡ seat = omega arith in
+    ap (λ (t : Teller). t.seat) (new_teller_at 0 names seat (new_teller None seat) here) ∙ e
+
+-- there are as many lines as names, and as many seats
+pub tellers_count : (number : ℕ) (names : List (Option ReplyId)) → length (new_tellers number names) ≡ length names
+tellers_count number [] = refl
+tellers_count number (of ∷ more) = ap suc (tellers_count (number + 1) more)
+
+pub callers_count : (of : LineId) (number : ℕ) (names : List (Option ReplyId)) → length (new_callers of number names) ≡ length names
+callers_count of number [] = refl
+callers_count of number (name ∷ more) = ap suc (callers_count of (number + 1) more)
+
+pub names_again : (number : ℕ) (names : List (Option ReplyId)) → names_of (new_tellers number names) ≡ names
+names_again number [] = refl
+names_again number (of ∷ more) = ap (λ l. of ∷ l) (names_again (number + 1) more)
+
+-- one more line, and one more seat
+pub tellers_more : (number : ℕ) (names : List (Option ReplyId)) (of : Option ReplyId)
+    → new_tellers number (names ++ of ∷ []) ≡ new_tellers number names ++ new_teller of (number + length names) ∷ []
+tellers_more number [] of = ap (λ n. new_teller of n ∷ []) (let e : number ≡ number + 0 = omega arith in e)
+tellers_more number (name ∷ names) of =
+    let e : (number + 1) + length names ≡ number + length (name ∷ names) = omega arith in
+    ap (λ l. new_teller name number ∷ l) (tellers_more (number + 1) names of ∙ ap (λ n. new_tellers (number + 1) names ++ new_teller of n ∷ []) e)
+
+pub callers_more : (of : LineId) (number : ℕ) (names : List (Option ReplyId)) (name : Option ReplyId)
+    → new_callers of number (names ++ name ∷ []) ≡ new_callers of number names ++ new_caller of name (number + length names) ∷ []
+callers_more of number [] name = ap (λ n. new_caller of name n ∷ []) (let e : number ≡ number + 0 = omega arith in e)
+callers_more of number (first ∷ names) name =
+    let e : (number + 1) + length names ≡ number + length (first ∷ names) = omega arith in
+    ap (λ l. new_caller of first number ∷ l) (callers_more of (number + 1) names name ∙ ap (λ n. new_callers of (number + 1) names ++ new_caller of name n ∷ []) e)
 
 -- what stands between others
 pub between : {X : Type 0} (front : List X) (x : X) (behind : List X) (d : X) → get_or (front ++ x ∷ behind) (length front) d ≡ x
@@ -23,18 +56,30 @@ between [] x behind d = refl
 between (c ∷ front) x behind d = between front x behind d
 
 -- so they are the lines of an end that takes the calls of so many seats
-pub is_new_end : (of : LineId) (capacity : ℕ) (taker : Taker) (lines : List Teller) (count : ℕ) → taker ≡ record { of = of; capacity = capacity; seats = count; taken = []; over = false } → lines ≡ map new_teller (range_with_len 0 count)
-    → (taker.seats ≡ length lines) × AreInPlace lines
-is_new_end of capacity taker lines count counts made = (
-  ap (λ (t : Taker). t.seats) counts ∙ sym (ap length made ∙ length-map-range_with_len new_teller 0 count),
-  subst AreInPlace (sym made) (new_in_place count),
+pub is_new_end : (of : LineId) (capacity : ℕ) (taker : Taker) (lines : List Teller) (count : ℕ) → taker ≡ record { of = of; capacity = capacity; seats = count; taken = []; over = false }
+    → lines ≡ new_tellers 0 (names_of lines) → length lines ≡ count → (taker.seats ≡ length lines) × AreInPlace lines
+is_new_end of capacity taker lines count counts made as_many = (
+  ap (λ (t : Taker). t.seats) counts ∙ sym as_many,
+  subst AreInPlace (sym made) (new_in_place (names_of lines)),
 )
 
--- and with one more there is one more
-pub one_more : {X : Type 0} (make : ℕ → X) (before after : List X) (x : X) (count : ℕ) → before ≡ map make (range_with_len 0 count) → after ≡ before ++ x ∷ [] → x ≡ make count
-    → after ≡ map make (range_with_len 0 (count + 1))
-one_more make before after x count made more is =
-    more ∙ ap (λ l. l ++ x ∷ []) made ∙ ap (λ y. map make (range_with_len 0 count) ++ y ∷ []) is ∙ sym (map-range_with_len_more make 0 count count (omega arith))
+-- with one more line they are as many and as new
+pub one_more_line : (before after : List Teller) (line : Teller) (count : ℕ) → before ≡ new_tellers 0 (names_of before) → length before ≡ count → after ≡ before ++ line ∷ []
+    → line ≡ new_teller line.of count → after ≡ new_tellers 0 (names_of after)
+one_more_line before after line count made as_many more is =
+    let names : List (Option ReplyId) = names_of before in
+    let counted : 0 + length names ≡ count = omega (arith, length-map before (λ (t : Teller). t.of), as_many) in
+    more ∙ ap (λ l. l ++ line ∷ []) made ∙ ap (λ y. new_tellers 0 names ++ y ∷ []) (is ∙ ap (new_teller line.of) (sym counted)) ∙ sym (tellers_more 0 names line.of)
+    ∙ ap (new_tellers 0) (sym (map-append (λ (t : Teller). t.of) before (line ∷ [])) ∙ sym (ap names_of more))
+
+-- and with one more seat beside it so are the seats
+pub one_more_seat : (of : LineId) (seats now : List Caller) (before after : List Teller) (line : Teller) (seat : Caller) (count : ℕ) → seats ≡ new_callers of 0 (names_of before)
+    → length before ≡ count → now ≡ seats ++ seat ∷ [] → after ≡ before ++ line ∷ [] → seat ≡ new_caller of line.of count → now ≡ new_callers of 0 (names_of after)
+one_more_seat of seats now before after line seat count made as_many grown more is =
+    let names : List (Option ReplyId) = names_of before in
+    let counted : 0 + length names ≡ count = omega (arith, length-map before (λ (t : Teller). t.of), as_many) in
+    grown ∙ ap (λ l. l ++ seat ∷ []) made ∙ ap (λ y. new_callers of 0 names ++ y ∷ []) (is ∙ ap (new_caller of line.of) (sym counted)) ∙ sym (callers_more of 0 names line.of)
+    ∙ ap (new_callers of 0) (sym (map-append (λ (t : Teller). t.of) before (line ∷ [])) ∙ sym (ap names_of more))
 
 -- a line with one more seat
 pub next_line : (old new : Taker) (capacity number : ℕ) → new ≡ record old { seats = old.seats + 1 } → old ≡ record old { capacity = capacity; seats = number; taken = []; over = false }

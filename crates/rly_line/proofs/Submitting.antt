@@ -1,6 +1,7 @@
 -- Each step keeps the rule of the line that batches go into.
 use Rattle.std.proofs.Common.{◌≡◌, ◌≢◌, ◌==◌, ℕ, suc, ◌+◌, ◌<◌, ◌≤◌, true, true≢false, cond, List, [], ◌∷◌, ◌++◌, length, set, sym, refl, ap, ◌∙◌, subst, append_assoc, append-nil, eq-eqb, ne_eqb, lt_of_not-le, length-append, ⊎_elim, arith}
 use Rattle.std.specs.List.{AllByRecursion}
+use Rattle.std.specs.Prelude.{Option, Some, None, IfSome}
 use Rattle.std.proofs.lemmas.List.{flat_map_more}
 use Rattle.std.proofs.lemmas.List.Concat.{flat_map-cons}
 use Rattle.std.proofs.lemmas.List.Elements.{filter-append}
@@ -12,9 +13,9 @@ use Rattle.rly_machine.specs.declared.call.Call.{Call}
 use Rattle.rly_machine.specs.declared.call.SeatId.{SeatId}
 use Rattle.rly_machine.specs.declared.command.Ask.{Ask}
 use Rattle.rly_line.specs.declared.submission.LineView.{LineView}
-use Rattle.rly_line.specs.Batches.{BatchView, HasAsks, calls_after, calls_in_batch, calls_in_batches}
-use Rattle.rly_line.specs.HelpersEnds.{idle, taking, together, putting}
-use Rattle.rly_line.specs.Submission.{AreBeside, calls_of, AreNumbered, AreLined, IsNext}
+use Rattle.rly_line.specs.Batches.{BatchView, HasAsks, calls_after, calls_in_batch, calls_in_line, calls_put}
+use Rattle.rly_line.specs.HelpersEnds.{IsTaken, idle, taking, together, putting}
+use Rattle.rly_line.specs.Submission.{AreBeside, calls_of, AreNumbered, AreLined, IsLine}
 use Rattle.rly_line.proofs.Views.{alone, at_set, each_set, each_push}
 
 -- each of a list of calls is of this seat
@@ -100,10 +101,28 @@ pub numbered_more : (seat : ℕ) (calls : List Call) (b : BatchView) → AreNumb
     → (b.seat.0 ≡ seat → b.before ≡ length (calls_of seat calls)) → AreNumbered 0 (calls_of seat (calls ++ calls_in_batch b))
 numbered_more seat calls b numbered next = numbered_by seat calls b numbered next (ℕ_discrete b.seat.0 seat)
 
--- what holds of each batch holds with one more
-all_more : (P : BatchView → Type 0) (batches : List BatchView) (b : BatchView) → AllByRecursion P batches → P b → AllByRecursion P (batches ++ b ∷ [])
-all_more P [] b all one = (one, tt)
-all_more P (x ∷ xs) b all one = (all.0, all_more P xs b all.1 one)
+-- what holds of each put holds with one more
+all_more : (P : Option BatchView → Type 0) (puts : List (Option BatchView)) (put : Option BatchView) → AllByRecursion P puts → P put → AllByRecursion P (puts ++ put ∷ [])
+all_more P [] put all one = (one, tt)
+all_more P (x ∷ xs) put all one = (all.0, all_more P xs put all.1 one)
+
+-- each batch has an ask
+abbrev Asks : Option BatchView → Type 0
+Asks = λ put. IfSome put HasAsks
+
+-- views stay where one is put back, and so does the rule of the calls
+again : (owner : ℕ → ℕ) (head count : ℕ) (gone items now : List Call) (views : List LineView) (pass : ℕ) (v : LineView) → IsLine owner head count gone items views → items ≡ now
+    → get_elem? views pass ≡ some v → IsLine owner head count gone now (set views pass v)
+again owner head count gone items now views pass v line same at =
+    let Puts : ℕ → LineView → Type 0 = λ j u. u.puts ≡ true → (owner u.seat ≡ j) × (u.seat < count) × (calls_of u.seat (gone ++ now) ≡ u.put) in
+    let Takes : ℕ → LineView → Type 0 = λ j u. u.takes ≡ true → (j ≡ head) × (u.seats ≡ count) × (u.taken ≡ gone) in
+    let kept : IsLine owner head count gone now views = subst (λ l. IsLine owner head count gone l views) same line in
+    record {
+      seated = kept.seated;
+      numbered = kept.numbered;
+      puts = each_set Puts views pass v (kept.puts pass v at) (λ j u _ e. kept.puts j u e);
+      takes = each_set Takes views pass v (kept.takes pass v at) (λ j u _ e. kept.takes j u e);
+    }
 
 -- the line begins with no call and no seat
 pub begins : AreLined [] (taking 0 [] ∷ [])
@@ -123,15 +142,15 @@ begins = (
 
 -- a seat puts its next batch
 pub puts : (n pass : ℕ) (v : LineView) (b : BatchView) → v.puts ≡ true → b.seat.0 ≡ v.seat → b.before ≡ length v.put → HasAsks b
-    → Pushes AreLined n pass v b (λ w. w ≡ record v { put = v.put ++ calls_in_batch b })
+    → Pushes AreLined n pass v (Some b) (λ w. w ≡ record v { put = v.put ++ calls_in_batch b })
 puts n pass v b may mine next asks items views room rule at =
     let owner = rule.0 in let head = rule.1 in let count = rule.2 in let gone = rule.3 in let line = rule.4 in
     let calls : List Call = calls_in_batch b in
     let w : LineView = record v { put = v.put ++ calls } in
     let own = line.puts pass v at may in
-    let all : List Call = gone ++ calls_in_batches items in
-    let whole : List Call = gone ++ calls_in_batches (items ++ b ∷ []) in
-    let more : whole ≡ all ++ calls = sym (flat_map_more calls_in_batch gone items b) in
+    let all : List Call = gone ++ calls_in_line items in
+    let whole : List Call = gone ++ calls_in_line (items ++ Some b ∷ []) in
+    let more : whole ≡ all ++ calls = sym (flat_map_more calls_put gone items (Some b)) in
     let same = λ (seat : ℕ) (other : b.seat.0 ≢ seat). ap (calls_of seat) more ∙ calls_of_other seat b.seat.0 all calls (own_batch b) other in
     let here : calls_of v.seat whole ≡ v.put ++ calls =
     ap (calls_of v.seat) more ∙ calls_of_own v.seat all calls (subst (λ s. AreOf s calls) mine (own_batch b)) ∙ ap (λ l. l ++ calls) own.2 in
@@ -152,7 +171,24 @@ puts n pass v b may mine next asks items views room rule at =
               (theirs.0, theirs.1, same u.seat (λ s. apart (sym theirs.0 ∙ ap owner (sym s ∙ mine) ∙ own.0)) ∙ theirs.2));
           takes = each_set Takes views pass w (line.takes pass v at) (λ j u apart e. line.takes j u e);
         },
-        all_more HasAsks items b rule.5 asks,
+        all_more Asks items (Some b) rule.5 asks,
+      ),
+      refl,
+    )
+
+-- a seat leaves
+pub leaves : (n pass : ℕ) (v : LineView) → Pushes AreLined n pass v None (λ w. w ≡ v)
+leaves n pass v items views room rule at =
+    let more : calls_in_line (items ++ None ∷ []) ≡ calls_in_line items ++ [] = sym (flat_map_more calls_put [] items None) in (
+      v,
+      (
+        rule.0,
+        rule.1,
+        rule.2,
+        rule.3,
+        again rule.0 rule.1 rule.2 rule.3 (calls_in_line items) (calls_in_line (items ++ None ∷ [])) views pass v rule.4
+            (sym (append-nil (calls_in_line items)) ∙ sym more) at,
+        all_more Asks items None rule.5 tt,
       ),
       refl,
     )
@@ -163,16 +199,28 @@ there count seat calls none asked (no here) = lt_of_not-le here
 there count seat calls none asked (yes past) = absurd (omega (arith, asked, ap length (none past)))
 
 -- the head takes the first batch of the line, which is its seat's next
-pub takes : (pass : ℕ) (v : LineView) → v.takes ≡ true
-    → Pops AreLined pass v (λ b w. (w ≡ record v { taken = v.taken ++ calls_in_batch b }) × IsNext v.seats v.taken b)
-takes pass v may b items views rule at =
+pub takes : (pass : ℕ) (v : LineView) → v.takes ≡ true → Pops AreLined pass v (λ put w. IsTaken v put w)
+takes pass v may None items views rule at =
+    let same : calls_in_line (None ∷ items) ≡ calls_in_line items = flat_map-cons calls_put None items in (
+      v,
+      (
+        rule.0,
+        rule.1,
+        rule.2,
+        rule.3,
+        again rule.0 rule.1 rule.2 rule.3 (calls_in_line (None ∷ items)) (calls_in_line items) views pass v rule.4 same at,
+        rule.5.1,
+      ),
+      refl,
+    )
+takes pass v may (Some b) items views rule at =
     let owner = rule.0 in let head = rule.1 in let count = rule.2 in let gone = rule.3 in let line = rule.4 in
     let calls : List Call = calls_in_batch b in
-    let rest : List Call = calls_in_batches items in
-    let whole : List Call = gone ++ calls_in_batches (b ∷ items) in
+    let rest : List Call = calls_in_line items in
+    let whole : List Call = gone ++ calls_in_line (Some b ∷ items) in
     let w : LineView = record v { taken = v.taken ++ calls } in
     let mine = line.takes pass v at may in
-    let same : whole ≡ (gone ++ calls) ++ rest = ap (λ l. gone ++ l) (flat_map-cons calls_in_batch b items) ∙ sym (append_assoc gone calls rest) in
+    let same : whole ≡ (gone ++ calls) ++ rest = ap (λ l. gone ++ l) (flat_map-cons calls_put (Some b) items) ∙ sym (append_assoc gone calls rest) in
     let seat : ℕ = b.seat.0 in
     let placed : calls_of seat whole ≡ (calls_of seat gone ++ calls) ++ calls_of seat rest =
     ap (calls_of seat) same ∙ filter-append (λ (c : Call). c.seat.0 == seat) (gone ++ calls) rest ∙ ap (λ l. l ++ calls_of seat rest) (calls_of_own seat gone calls (own_batch b)) in
@@ -226,7 +274,7 @@ forks pass v may items views rule at =
     let vs : List LineView = set views pass left in
     let mine = line.takes pass v at may in
     let known : ℕ → ℕ = λ seat. cond (seat == count) (length vs) (owner seat) in
-    let all : List Call = gone ++ calls_in_batches items in
+    let all : List Call = gone ++ calls_in_line items in
     let Puts : ℕ → LineView → Type 0 = λ j u. u.puts ≡ true → (known u.seat ≡ j) × (u.seat < count + 1) × (calls_of u.seat all ≡ u.put) in
     let Takes : ℕ → LineView → Type 0 = λ j u. u.takes ≡ true → (j ≡ head) × (u.seats ≡ count + 1) × (u.taken ≡ gone) in
     let old = λ (j : ℕ) (u : LineView) (e : get_elem? views j ≡ some u) (p : u.puts ≡ true).
@@ -260,7 +308,7 @@ merges pass v other u may theirs items views rule at apart now =
     let was : get_elem? views other ≡ some u = ⊎_elim (λ x. absurd (apart x.0)) (λ x. x.1) (at_set views pass other both u now) in
     let its = line.puts other u was theirs in
     let known : ℕ → ℕ = λ seat. cond (seat == u.seat) pass (owner seat) in
-    let all : List Call = gone ++ calls_in_batches items in
+    let all : List Call = gone ++ calls_in_line items in
     let Puts : ℕ → LineView → Type 0 = λ j w. w.puts ≡ true → (known w.seat ≡ j) × (w.seat < count) × (calls_of w.seat all ≡ w.put) in
     let Takes : ℕ → LineView → Type 0 = λ j w. w.takes ≡ true → (j ≡ head) × (w.seats ≡ count) × (w.taken ≡ gone) in
     let Others : ℕ → LineView → Type 0 = λ j w. j ≢ other → Puts j w in
@@ -295,7 +343,7 @@ parts pass v may puts items views rule at =
     let mine = line.takes pass v at may in
     let its = line.puts pass v at puts in
     let known : ℕ → ℕ = λ seat. cond (seat == v.seat) (length vs) (owner seat) in
-    let all : List Call = gone ++ calls_in_batches items in
+    let all : List Call = gone ++ calls_in_line items in
     let Puts : ℕ → LineView → Type 0 = λ j u. u.puts ≡ true → (known u.seat ≡ j) × (u.seat < count) × (calls_of u.seat all ≡ u.put) in
     let Takes : ℕ → LineView → Type 0 = λ j u. u.takes ≡ true → (j ≡ head) × (u.seats ≡ count) × (u.taken ≡ gone) in
     let old = λ (j : ℕ) (u : LineView) (apart : j ≢ pass) (e : get_elem? views j ≡ some u) (p : u.puts ≡ true).
@@ -317,19 +365,19 @@ parts pass v may puts items views rule at =
     )
 
 -- what both tell together
-pub learns : (pass : ℕ) (v : LineView) → v.takes ≡ true → v.puts ≡ true → Learns AreLined pass v (λ batches. calls_of v.seat (v.taken ++ calls_in_batches batches) ≡ v.put)
+pub learns : (pass : ℕ) (v : LineView) → v.takes ≡ true → v.puts ≡ true → Learns AreLined pass v (λ puts. calls_of v.seat (v.taken ++ calls_in_line puts) ≡ v.put)
 learns pass v may puts items views rule at =
     let line = rule.4 in
-    ap (λ l. calls_of v.seat (l ++ calls_in_batches items)) (line.takes pass v at may).2 ∙ (line.puts pass v at puts).2
+    ap (λ l. calls_of v.seat (l ++ calls_in_line items)) (line.takes pass v at may).2 ∙ (line.puts pass v at puts).2
 
 -- so the calls taken are a beginning
 pub beginning : (seat : ℕ) (taken items put : List Call) → calls_of seat (taken ++ items) ≡ put → put ≡ calls_of seat taken ++ calls_of seat items
 beginning seat taken items put is = sym is ∙ filter-append (λ (c : Call). c.seat.0 == seat) taken items
 
-pub line_law : (batches : List BatchView) (views : List LineView) (taker putter : LineView) → AreLined batches views → AreBeside views taker putter
-    → putter.put ≡ calls_of putter.seat taker.taken ++ calls_of putter.seat (calls_in_batches batches)
-line_law batches views taker putter rule beside =
+pub line_law : (puts : List (Option BatchView)) (views : List LineView) (taker putter : LineView) → AreLined puts views → AreBeside views taker putter
+    → putter.put ≡ calls_of putter.seat taker.taken ++ calls_of putter.seat (calls_in_line puts)
+line_law puts views taker putter rule beside =
     let line = rule.4 in
-    beginning putter.seat taker.taken (calls_in_batches batches) putter.put
-    (ap (λ l. calls_of putter.seat (l ++ calls_in_batches batches)) (line.takes beside.head taker beside.head_is beside.takes).2
+    beginning putter.seat taker.taken (calls_in_line puts) putter.put
+    (ap (λ l. calls_of putter.seat (l ++ calls_in_line puts)) (line.takes beside.head taker beside.head_is beside.takes).2
     ∙ (line.puts beside.owner putter beside.owner_is beside.puts).2)

@@ -1,7 +1,7 @@
 -- The answers to a batch are told: what each line was told stays a prefix of the history.
 use Rattle.std.proofs.Common.{◌≡◌, ◌≢◌, ◌==◌, inl, inr, ℕ, zero, suc, ◌+◌, ◌<◌, ◌≤◌, true, false, true≢false, Bool, cond, Option, Some, None, List, [], ◌∷◌, ◌++◌, length, map, set, get_or, sym, refl, ap, ◌∙◌, subst, append_assoc, append-nil, eq-eqb, ne_eqb, arith, get_or-set_other, get_or-set_same, length-append}
 use Rattle.std.specs.Prelude.{All, IfNone, IfSome, MatchBool}
-use Rattle.std.specs.List.{AllByRecursion, range_with_len, zip}
+use Rattle.std.specs.List.{AllByRecursion, zip}
 use Rattle.std.proofs.lemmas.List.Elements.{filter-append, All-append}
 use Rattle.std.proofs.lemmas.List.{length-set, map-append}
 use Rattle.std.proofs.lemmas.Slice.Zip.{firsts-zip}
@@ -14,8 +14,8 @@ use Rattle.rly_machine.specs.History.{Entry, LegalBy, harm_after, state_after, w
 use Rattle.rly_machine.specs.State.{State}
 use Rattle.rly_machine.proofs.Histories.{legal_append}
 use Rattle.rly_line.specs.Batches.{AnswersView, BatchView, HasAsks, calls_after, calls_in_batch, no_answers}
-use Rattle.rly_line.specs.EndViews.{EndView, teller_at, new_teller, with_gone, with_told}
-use Rattle.rly_line.specs.Replies.{MayTell, Teller, entries_of}
+use Rattle.rly_line.specs.EndViews.{EndView, names_of, new_teller, new_tellers, teller_at, with_gone, with_told}
+use Rattle.rly_line.specs.Replies.{MayTell, ReplyId, Teller, entries_of}
 use Rattle.rly_line.specs.Responding.{AreLeft, IsResponding, IsTold, Responding, calls_in, responding}
 use Rattle.rly_line.specs.Story.{StoryView}
 use Rattle.rly_line.specs.Submission.{AreNumbered, IsNext, LineId, calls_of}
@@ -156,20 +156,20 @@ module _ (r : Responding) (b : BatchView) (answers : List Answer) (left : List C
       → IsTold r.start History (teller_at (set r.lines b.seat.0 now) seat)
   each_told now told seat here (yes own) =
       subst (λ (t : Teller). IsTold r.start History t)
-      (sym (ap (λ (k : ℕ). get_or (set r.lines b.seat.0 now) k (new_teller seat)) own ∙ get_or-set_same r.lines b.seat.0 now (new_teller seat) seat_there)) told
+      (sym (ap (λ (k : ℕ). get_or (set r.lines b.seat.0 now) k (new_teller None seat)) own ∙ get_or-set_same r.lines b.seat.0 now (new_teller None seat) seat_there)) told
   each_told now told seat here (no other) =
       let there : seat < length r.lines = subst (λ (n : ℕ). seat < n) (length-set r.lines b.seat.0 now) here in
-      let same : get_or (set r.lines b.seat.0 now) seat (new_teller seat) ≡ teller_at r.lines seat = get_or-set_other r.lines b.seat.0 seat now (new_teller seat) other in
+      let same : get_or (set r.lines b.seat.0 now) seat (new_teller None seat) ≡ teller_at r.lines seat = get_or-set_other r.lines b.seat.0 seat now (new_teller None seat) other in
       subst (λ (t : Teller). IsTold r.start History t) (sym same)
       (older (teller_at r.lines seat) (holds.told seat there) (λ _ e. other (sym (e ∙ holds.in_place seat there))))
 
   each_in_place : (now : Teller) → now.seat ≡ b.seat.0 → (seat : ℕ) → seat < length (set r.lines b.seat.0 now) → Dec (seat ≡ b.seat.0)
       → (teller_at (set r.lines b.seat.0 now) seat).seat ≡ seat
   each_in_place now mine seat here (yes own) =
-      ap (λ (t : Teller). t.seat) (ap (λ (k : ℕ). get_or (set r.lines b.seat.0 now) k (new_teller seat)) own ∙ get_or-set_same r.lines b.seat.0 now (new_teller seat) seat_there) ∙ mine ∙ sym own
+      ap (λ (t : Teller). t.seat) (ap (λ (k : ℕ). get_or (set r.lines b.seat.0 now) k (new_teller None seat)) own ∙ get_or-set_same r.lines b.seat.0 now (new_teller None seat) seat_there) ∙ mine ∙ sym own
   each_in_place now mine seat here (no other) =
       let there : seat < length r.lines = subst (λ (n : ℕ). seat < n) (length-set r.lines b.seat.0 now) here in
-      ap (λ (t : Teller). t.seat) (get_or-set_other r.lines b.seat.0 seat now (new_teller seat) other) ∙ holds.in_place seat there
+      ap (λ (t : Teller). t.seat) (get_or-set_other r.lines b.seat.0 seat now (new_teller None seat) other) ∙ holds.in_place seat there
 
   -- with one line told or found gone, all goes on
   pub goes_on : (now : Teller) → IsTold r.start History now → now.seat ≡ its_line.seat → LegalBy without_bytes (harm_after 0 r.history) (state_after r.start r.history) (zip calls answers)
@@ -207,21 +207,21 @@ took r b holds next =
     }
 
 -- nothing was taken or told yet
-pub none_yet : (of : LineId) (start : State (List ℕ)) (count : ℕ) (over : Bool) → IsResponding (record { of = of; taken = []; start = start; history = []; lines = map new_teller (range_with_len 0 count); over = over })
-none_yet of start count over = record {
+pub none_yet : (of : LineId) (start : State (List ℕ)) (names : List (Option ReplyId)) (over : Bool) → IsResponding (record { of = of; taken = []; start = start; history = []; lines = new_tellers 0 names; over = over })
+none_yet of start names over = record {
   legal = tt;
   waiting = ([], refl);
   seated = λ k d lt. absurd (omega arith);
   numbered = λ _. tt;
-  in_place = new_in_place count;
-  told = λ seat here. subst (IsTold start []) (sym (new_teller_at count seat here)) (record { base = inl refl; rest = []; whole = refl; up_to_date = λ _. refl });
+  in_place = new_in_place names;
+  told = λ seat here. subst (IsTold start []) (sym (new_teller_at 0 names seat (new_teller None seat) here)) (record { base = inl refl; rest = []; whole = refl; up_to_date = λ _. refl });
 }
 
 -- at new lines
-pub at_first : (line : EndView) (story : StoryView) (start : State (List ℕ)) → (count : ℕ) × (line ≡ record line { taken = []; lines = map new_teller (range_with_len 0 count) })
+pub at_first : (line : EndView) (story : StoryView) (start : State (List ℕ)) → line ≡ record line { taken = []; lines = new_tellers 0 (names_of line.lines) }
     → story ≡ record { start = start; history = [] } → IsResponding (responding line story)
 at_first line story start made begun =
-    subst (λ (y : EndView × StoryView). IsResponding (responding y.0 y.1)) (λ i. (sym made.1 i, sym begun i)) (none_yet line.of start made.0 line.over)
+    subst (λ (y : EndView × StoryView). IsResponding (responding y.0 y.1)) (λ i. (sym made i, sym begun i)) (none_yet line.of start (names_of line.lines) line.over)
 
 -- whether a wait found an end is beside all that
 pub with_over : (over : Bool) (r : Responding) → IsResponding r → IsResponding (record r { over = over })
@@ -242,6 +242,15 @@ took_any over line now story (Some b) holds taken none =
     subst (λ (e : EndView). IsResponding (responding e story)) (sym taken.0) (took (responding line story) b holds taken.1)
 took_any over line now story None holds taken none =
     subst (λ (e : EndView). IsResponding (responding e story)) (sym none) (with_over over (responding line story) holds)
+
+-- a list stays, as far as a function tells, where one of its elements is set to another of which it tells the same
+pub map_set : {X Y : Type 0} (f : X → Y) (xs : List X) (k : ℕ) (x d : X) → f x ≡ f (get_or xs k d) → map f (set xs k x) ≡ map f xs
+map_set f [] k x d same = refl
+map_set f (y ∷ ys) zero x d same = ap (λ z. z ∷ map f ys) same
+map_set f (y ∷ ys) (suc k) x d same = ap (λ l. f y ∷ l) (map_set f ys k x d same)
+
+names_set : (lines : List Teller) (seat : ℕ) (now d : Teller) → now.of ≡ (get_or lines seat d).of → names_of (set lines seat now) ≡ names_of lines
+names_set lines seat now d same = map_set (λ (t : Teller). t.of) lines seat now d same
 
 module _ (line : EndView) (story pushed : StoryView) (b : BatchView) (given : AnswersView) (holds : IsResponding (responding line story))
     (has : 1 ≤ given.wanted) (whose : given ≡ record (no_answers b) { answers = given.answers }) (count : length given.answers ≡ given.wanted)
@@ -287,3 +296,11 @@ module _ (line : EndView) (story pushed : StoryView) (b : BatchView) (given : An
   after_ok after false at taken lines = put_back after.of after.taken after.lines after.over (with_gone (teller_at line.lines b.seat.0)) at taken
       (lines ∙ ap (λ (s : SeatId). set line.lines s.0 (with_gone (teller_at line.lines s.0))) seat_is)
       (gone_now (responding line story) b given.answers next.0 holds asks as_many next.1) refl
+
+  -- which lines they are stays
+  pub names_kept : (after : EndView) (told : Bool)
+      → MatchBool told (after.lines ≡ set line.lines given.seat.0 (with_told (teller_at line.lines given.seat.0) pushed))
+      (after.lines ≡ set line.lines given.seat.0 (with_gone (teller_at line.lines given.seat.0)))
+      → names_of after.lines ≡ names_of line.lines
+  names_kept after true lines = ap names_of lines ∙ names_set line.lines given.seat.0 (with_told (teller_at line.lines given.seat.0) pushed) (new_teller None given.seat.0) refl
+  names_kept after false lines = ap names_of lines ∙ names_set line.lines given.seat.0 (with_gone (teller_at line.lines given.seat.0)) (new_teller None given.seat.0) refl

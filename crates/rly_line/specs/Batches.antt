@@ -1,5 +1,5 @@
 -- A batch: asks that one seat puts together, and whose answers come back together.
-use Rattle.std.specs.Prelude.{ℕ, ◌+◌, ◌≤◌, List, [], ◌∷◌, length}
+use Rattle.std.specs.Prelude.{ℕ, ◌+◌, ◌≤◌, List, [], ◌∷◌, length, Option, None, Some}
 use Rattle.std.specs.List.{flat_map}
 use Rattle.rly_machine.specs.declared.call.Answer.{Answer}
 use Rattle.rly_machine.specs.declared.call.Call.{Call}
@@ -22,12 +22,18 @@ pub record BatchView : Type 0 where
 abbrev pub HasAsks : BatchView → Type 0
 HasAsks batch = 1 ≤ length batch.asks
 
--- its calls, and those of several batches, in order
+-- its calls
 abbrev pub calls_in_batch : BatchView → List Call
 calls_in_batch batch = calls_after batch.seat batch.before batch.asks
 
-abbrev pub calls_in_batches : List BatchView → List Call
-calls_in_batches batches = flat_map calls_in_batch batches
+-- the calls of what a seat put: of a batch, or none, where it said that it puts no more; and those of all that is in a
+-- line, in order
+abbrev pub calls_put : Option BatchView → List Call
+calls_put None = []
+calls_put (Some batch) = calls_in_batch batch
+
+abbrev pub calls_in_line : List (Option BatchView) → List Call
+calls_in_line puts = flat_map calls_put puts
 
 -- what contracts see of the answers to a batch: whose they are, how many there are to be, and those that are there
 pub record AnswersView : Type 0 where

@@ -1,6 +1,6 @@
 -- Nothing is claimed here: the two lines as their channels keep them, and the ends of a seat, which only private
 -- functions speak of.
-use Rattle.std.specs.Prelude.{ℕ, ◌≡◌, ◌≤◌, ◌⊎◌, List, [], ◌∷◌, length, vec_capacity}
+use Rattle.std.specs.Prelude.{ℕ, ◌≡◌, ◌≤◌, ◌⊎◌, List, [], ◌++◌, length, vec_capacity}
 use Rattle.std.specs.Prelude.{Bool, true, false, Option, Some, None}
 use Rattle.std.specs.Global.{Vec}
 use Rattle.crossbeam_channel.specs.Claims.{Pass}
@@ -12,9 +12,9 @@ use Rattle.rly_machine.specs.History.{Entry, LegalButForBytes}
 use Rattle.rly_machine.specs.State.{State}
 use Rattle.rly_line.specs.declared.replies.ReplyView.{ReplyView}
 use Rattle.rly_line.specs.declared.submission.LineView.{LineView}
-use Rattle.rly_line.specs.Batches.{AnswersView, BatchView}
-use Rattle.rly_line.specs.Replies.{ExtendsHistory, entries_of}
-use Rattle.rly_line.specs.Submission.{LineId}
+use Rattle.rly_line.specs.Batches.{AnswersView, BatchView, calls_in_batch}
+use Rattle.rly_line.specs.Replies.{ExtendsHistory, ReplyId, entries_of}
+use Rattle.rly_line.specs.Submission.{IsNext, LineId}
 
 -- ---- the line that calls go into
 
@@ -33,8 +33,13 @@ abbrev pub idle : LineView
 idle = record { puts = false; seat = 0; put = []; takes = false; seats = 0; taken = [] }
 
 -- the line that a pass is of
-abbrev pub line_of : Pass BatchView LineView → LineId
+abbrev pub line_of : Pass (Option BatchView) LineView → LineId
 line_of pass = record { table = pass.table_id; key = pass.me.0.of }
+
+-- what the taking pass learns of what is taken: a batch, or that a seat leaves
+abbrev pub IsTaken : LineView → Option BatchView → LineView → Type 0
+IsTaken v None w = w ≡ v
+IsTaken v (Some batch) w = (w ≡ record v { taken = v.taken ++ calls_in_batch batch }) × IsNext v.seats v.taken batch
 
 -- what contracts see of a seat's end of the line, and of the other end
 pub record Putter : Type 0 where
@@ -52,6 +57,12 @@ pub record Taker : Type 0 where
   pub taken : List Call
   -- a wait found no batch and no seat
   pub over : Bool
+
+-- and of that end once it takes no more
+pub record Taken : Type 0 where
+  pub of : LineId
+  pub seats : ℕ
+  pub taken : List Call
 
 -- ---- a line that answers come out of
 
@@ -74,8 +85,21 @@ telling seat = record both_ends { hears = false; seat = seat }
 abbrev pub hearing : ℕ → ReplyView
 hearing seat = record both_ends { tells = false; seat = seat }
 
+-- what both know together, where the base that the seat knows stands as the one before; and what is left of the view of a
+-- pass that was given up
+abbrev pub both_known : ReplyView → ReplyView → ReplyView
+both_known teller hearer = record teller { hears = true; known = hearer.known; base_before = hearer.base }
+
+abbrev pub silent : ReplyView
+silent = record both_ends { tells = false; hears = false }
+
+-- the line that a pass is of
+abbrev pub replies_of : Pass (Option AnswersView) ReplyView → ReplyId
+replies_of pass = record { table = pass.table_id; key = pass.me.0.of }
+
 -- what contracts see of its end that hears
 pub record Hearer : Type 0 where
+  pub of : Option ReplyId
   pub seat : ℕ
   pub base : Option (State (List ℕ))
   pub known : List Entry
@@ -83,13 +107,13 @@ pub record Hearer : Type 0 where
   pub deaf : Bool
 
 -- one that nothing was heard by
-abbrev pub new_hearer : ℕ → Hearer
-new_hearer seat = record { seat = seat; base = None; known = []; deaf = false }
+abbrev pub new_hearer : Option ReplyId → ℕ → Hearer
+new_hearer of seat = record { of = of; seat = seat; base = None; known = []; deaf = false }
 
 -- what it knows, by what its pass knows: where it is deaf the last answers taught nothing
-abbrev pub heard_by : ReplyView → Bool → Hearer
-heard_by v false = record { seat = v.seat; base = v.base; known = v.known; deaf = false }
-heard_by v true = record { seat = v.seat; base = v.base_before; known = v.known_before; deaf = true }
+abbrev pub heard_by : ReplyId → ReplyView → Bool → Hearer
+heard_by of v false = record { of = Some of; seat = v.seat; base = v.base; known = v.known; deaf = false }
+heard_by of v true = record { of = Some of; seat = v.seat; base = v.base_before; known = v.known_before; deaf = true }
 
 -- what a batch of answers taught: the base is the same in all of them
 pub record Teaches (seat : ℕ) (base known_base : Option (State (List ℕ))) (before : List Entry) (answers : List Answer)
@@ -99,6 +123,13 @@ pub record Teaches (seat : ℕ) (base known_base : Option (State (List ℕ))) (b
   pub base_is : known_base ≡ Some start
   pub legal : LegalButForBytes start after
   pub goes_on : ExtendsHistory seat before answers after
+
+-- what the hearing pass learns of what is taken: a batch of answers, or that no more come
+abbrev pub IsHeard : ReplyView → Option AnswersView → ReplyView → Type 0
+IsHeard v None w = w ≡ v
+IsHeard v (Some given) w =
+    (w ≡ record v { base = w.base; known = w.known; base_before = v.base; known_before = v.known })
+    × Teaches v.seat v.base w.base v.known given.answers w.known
 
 -- ---- a seat
 

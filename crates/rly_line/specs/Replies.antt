@@ -1,10 +1,13 @@
 -- A line that one seat's answers come out of, batch by batch, under one rule: it was told a base state and histories,
 -- each made of the one before, of calls of other seats and then the calls of its seat's next batch. What the seat knows
--- is the last one that it took.
+-- is the last one that it took. The last word in a line is that no more answers come.
 use Rattle.std.specs.Prelude.{ℕ, ◌≡◌, ◌⊎◌, ◌==◌, List, [], ◌∷◌, ◌++◌, Bool, true, Option, Some, None, filter, length}
 use Rattle.std.specs.List.{AllByRecursion, zip}
 use mathlib.Core.Option.{some}
 use lib.ListN.{get_elem?}
+use Rattle.atomic_table.specs.Seated.{TableId}
+use Rattle.atomic_table.specs.declared.badge.Badge.{Badge}
+use Rattle.crossbeam_channel.specs.declared.flavors.array.Key.{Key}
 use Rattle.rly_machine.specs.declared.call.Answer.{Answer}
 use Rattle.rly_machine.specs.declared.call.Call.{Call}
 use Rattle.rly_machine.specs.History.{Entry, LegalButForBytes}
@@ -27,8 +30,18 @@ pub record ExtendsHistory (seat : ℕ) (before : List Entry) (answers : List Ans
   pub own : AllByRecursion (λ call. call.seat.0 ≡ seat) calls
   pub numbers : AreNumbered (length (entries_of seat before)) calls
 
+-- which line it is, as the channel names itself
+pub record ReplyId : Type 0 where
+  pub table : TableId
+  pub key : Badge (Key (Option AnswersView))
+
+-- a base that isn't known, or this one
+abbrev pub IsBase : Option (State (List ℕ)) → Option (State (List ℕ)) → Type 0
+IsBase known base = (known ≡ None) ⊎ (known ≡ base)
+
 -- what contracts see of its end that tells
 pub record Teller : Type 0 where
+  pub of : Option ReplyId
   pub seat : ℕ
   -- so many batches of answers the line holds
   pub capacity : ℕ
@@ -42,25 +55,26 @@ pub record MayTell (t : Teller) (start : State (List ℕ)) (answers : List Answe
   pub legal : LegalButForBytes start history
   pub goes_on : ExtendsHistory t.seat t.told answers history
 
--- the batches of answers in a line, each of which tells a history that goes on from the one before: from what is known
--- to what was told last
-abbrev pub Tells : ℕ → Option (State (List ℕ)) → List Entry → List AnswersView → List Entry → Type 0
+-- what is in a line: batches of answers, each of which tells a history that goes on from the one before, from what is
+-- known to what was told last; and that no more come, which tells nothing
+abbrev pub Tells : ℕ → Option (State (List ℕ)) → List Entry → List (Option AnswersView) → List Entry → Type 0
 Tells seat base known [] told = known ≡ told
-Tells seat base known (given ∷ more) told =
+Tells seat base known (None ∷ more) told = Tells seat base known more told
+Tells seat base known (Some given ∷ more) told =
     (start : State (List ℕ)) × (history : List Entry) × (base ≡ Some start) × LegalButForBytes start history
     × ExtendsHistory seat known given.answers history × Tells seat base history more told
 
--- what holds of the answers in the line and of what each pass knows, where these passes tell and hear
+-- what holds of what is in the line and of what each pass knows, where these passes tell and hear
 pub record IsReplyLine (teller hearer seat : ℕ) (base : Option (State (List ℕ))) (known told : List Entry)
-    (items : List AnswersView) (views : List ReplyView) : Type 0 where
+    (items : List (Option AnswersView)) (views : List ReplyView) : Type 0 where
   pub chain : Tells seat base known items told
   pub tells : (pass : ℕ) (v : ReplyView) → get_elem? views pass ≡ some v → v.tells ≡ true
       → (pass ≡ teller) × (v.seat ≡ seat) × (v.base ≡ base) × (v.told ≡ told)
   pub hears : (pass : ℕ) (v : ReplyView) → get_elem? views pass ≡ some v → v.hears ≡ true
-      → (pass ≡ hearer) × (v.seat ≡ seat) × (v.known ≡ known) × ((v.base ≡ None) ⊎ (v.base ≡ base))
+      → (pass ≡ hearer) × (v.seat ≡ seat) × (v.known ≡ known) × IsBase v.base base × IsBase v.base_before base
 
 -- the rule
-abbrev pub AreReplied : List AnswersView → List ReplyView → Type 0
+abbrev pub AreReplied : List (Option AnswersView) → List ReplyView → Type 0
 AreReplied items views =
     (teller : ℕ) × (hearer : ℕ) × (seat : ℕ) × (base : Option (State (List ℕ)))
     × (known : List Entry) × (told : List Entry) × IsReplyLine teller hearer seat base known told items views
@@ -76,6 +90,6 @@ pub record AreBesideReplies (views : List ReplyView) (teller hearer : ReplyView)
 
 -- what a seat knows is a prefix of a history, from a base that is the same where it knows one
 pub record IsPrefixOf (known_base base : Option (State (List ℕ))) (known history : List Entry) : Type 0 where
-  pub same_base : (known_base ≡ None) ⊎ (known_base ≡ base)
+  pub same_base : IsBase known_base base
   pub rest : List Entry
   pub whole : history ≡ known ++ rest

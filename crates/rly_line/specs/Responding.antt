@@ -1,12 +1,14 @@
 -- The thread that answers: what it told each seat is a prefix of one legal history, of the calls that it took.
-use Rattle.std.specs.Prelude.{ℕ, ◌≡◌, ◌<◌, ◌⊎◌, Bool, List, [], ◌++◌, All, false, Some, None, length, map}
+use Rattle.std.specs.Prelude.{ℕ, ◌≡◌, ◌<◌, ◌⊎◌, Bool, List, [], ◌++◌, All, false, length, map}
+use Rattle.std.specs.Prelude.{Option, Some, None, slice_index_or}
 use Rattle.rly_machine.specs.declared.call.Call.{Call}
 use Rattle.rly_machine.specs.History.{Entry, LegalButForBytes}
 use Rattle.rly_machine.specs.State.{State}
-use Rattle.rly_line.specs.EndViews.{AreInPlace, EndView, teller_at}
-use Rattle.rly_line.specs.Replies.{Teller, entries_of}
+use Rattle.rly_line.specs.EndViews.{AreInPlace, ClosedView, EndView, TellTheSame, teller_at}
+use Rattle.rly_line.specs.Replies.{IsPrefixOf, ReplyId, Teller, entries_of}
+use Rattle.rly_line.specs.Seats.{Caller}
 use Rattle.rly_line.specs.Story.{StoryView}
-use Rattle.rly_line.specs.Submission.{AreNumbered, LineId, calls_of}
+use Rattle.rly_line.specs.Submission.{AreNumbered, IsBeginning, LineId, calls_of}
 
 -- what contracts see of it: which line it takes calls from, the calls that were taken, the state that it began in, the
 -- history that it made, what each seat's line was told, and whether a wait found that no batch was left and no seat
@@ -56,3 +58,27 @@ pub record IsResponding (r : Responding) : Type 0 where
   pub numbered : (seat : ℕ) → AreNumbered 0 (calls_of seat r.taken)
   pub in_place : AreInPlace r.lines
   pub told : AreTold r.start r.history r.lines
+
+-- a seat at this line, and at the line of its number among those that answers come out of
+pub record IsSeatOf (of : LineId) (names : List (Option ReplyId)) (c : Caller) : Type 0 where
+  pub puts : c.of ≡ of
+  pub there : c.seat.0 < length names
+  pub hears : c.replies ≡ slice_index_or names c.seat.0 None
+
+-- the closed end that it left
+pub record IsLeftBy (r : Responding) (end : ClosedView) : Type 0 where
+  pub of : end.of ≡ r.of
+  pub taken : end.taken ≡ r.taken
+  pub told : TellTheSame end.lines r.lines
+
+-- A seat that was left beside the closed end of its lines: of the calls that it put, those that were taken are a prefix, ask for
+-- ask; and what it knows is a prefix of what its line was told
+pub record IsToldBy (end : ClosedView) (c : Caller) : Type 0 where
+  pub begins : IsBeginning c.seat.0 end.taken c.put
+  pub known : IsPrefixOf c.base (teller_at end.lines c.seat.0).base c.known (teller_at end.lines c.seat.0).told
+
+-- a seat beside who answered it: of the calls that it put, those that were taken are a prefix, ask for ask; and what it
+-- knows is a prefix of the one history
+pub record IsAnsweredBy (r : Responding) (c : Caller) : Type 0 where
+  pub begins : IsBeginning c.seat.0 r.taken c.put
+  pub known : IsPrefixOf c.base (Some r.start) c.known r.history

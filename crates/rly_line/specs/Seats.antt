@@ -13,13 +13,15 @@ use Rattle.rly_line.specs.declared.call_error.CallError.TheVariants.{Closed, Los
 use Rattle.rly_line.specs.declared.call_error.BatchError.{BatchError}
 use Rattle.rly_line.specs.declared.call_error.BatchError.TheVariants as batch
 use Rattle.rly_line.specs.Batches.{calls_after}
-use Rattle.rly_line.specs.Replies.{entries_of}
+use Rattle.rly_line.specs.Replies.{ReplyId, entries_of}
 use Rattle.rly_line.specs.Submission.{AreNumbered, LineId}
 
--- what contracts see of a seat: which line it puts calls into, the calls that it put, the base state and the history
--- that it knows, whether it is shut, and whether its line refused a batch, since its other end was gone
+-- what contracts see of a seat: which line it puts calls into, which line its answers come out of, the calls that it put,
+-- the base state and the history that it knows, whether it is shut, and whether its line refused a batch, since its other
+-- end was gone
 pub record Caller : Type 0 where
   pub of : LineId
+  pub replies : Option ReplyId
   pub seat : SeatId
   pub put : List Call
   pub base : Option (State (List ℕ))
@@ -28,8 +30,22 @@ pub record Caller : Type 0 where
   pub refused : Bool
 
 -- a seat that nothing was asked from
-abbrev pub new_caller : LineId → ℕ → Caller
-new_caller of number = record { of = of; seat = record { 0 = number }; put = []; base = None; known = []; shut = false; refused = false }
+abbrev pub new_caller : LineId → Option ReplyId → ℕ → Caller
+new_caller of replies number = record {
+  of = of;
+  replies = replies;
+  seat = record { 0 = number };
+  put = [];
+  base = None;
+  known = [];
+  shut = false;
+  refused = false;
+}
+
+-- such seats of one line, numbered one after another, from a number on
+abbrev pub new_callers : LineId → ℕ → List (Option ReplyId) → List Caller
+new_callers of number [] = []
+new_callers of number (replies ∷ more) = new_caller of replies number ∷ new_callers of (number + 1) more
 
 -- the call that puts an ask under the seat's next number
 abbrev pub next_call : Caller → Ask → Call
@@ -38,6 +54,7 @@ next_call c ask = record { seat = c.seat; number = length c.put + 1; ask = ask }
 -- a seat after its ask was answered, where it was another before
 pub record IsAnsweredWith (before : Caller) (ask : Ask) (answer : Answer) (after : Caller) : Type 0 where
   pub of : after.of ≡ before.of
+  pub replies : after.replies ≡ before.replies
   pub seat : after.seat ≡ before.seat
   pub open_still : after.shut ≡ false
   pub refused : after.refused ≡ before.refused
@@ -66,6 +83,7 @@ next_calls c asks = calls_after c.seat (length c.put) asks
 -- a seat after asks that it put together were answered, where it was another before
 pub record AreAnsweredWith (before : Caller) (asks : List Ask) (answers : List Answer) (after : Caller) : Type 0 where
   pub of : after.of ≡ before.of
+  pub replies : after.replies ≡ before.replies
   pub seat : after.seat ≡ before.seat
   pub open_still : after.shut ≡ false
   pub refused : after.refused ≡ before.refused

@@ -1,6 +1,7 @@
 -- The line that batches of calls go into, under one rule: of each seat, the calls that were taken, and after them those
--- in the line, are those that it put.
+-- in the line, are those that it put. A seat that leaves says so in the line.
 use Rattle.std.specs.Prelude.{ℕ, ◌≡◌, ◌+◌, ◌<◌, ◌≤◌, ◌==◌, List, [], ◌∷◌, ◌++◌, true, filter, length}
+use Rattle.std.specs.Prelude.{Option, IfSome}
 use Rattle.std.specs.List.{AllByRecursion}
 use mathlib.Core.Option.{some}
 use lib.ListN.{get_elem?}
@@ -9,7 +10,7 @@ use Rattle.atomic_table.specs.declared.badge.Badge.{Badge}
 use Rattle.crossbeam_channel.specs.declared.flavors.array.Key.{Key}
 use Rattle.rly_machine.specs.declared.call.Call.{Call}
 use Rattle.rly_line.specs.declared.submission.LineView.{LineView}
-use Rattle.rly_line.specs.Batches.{BatchView, HasAsks, calls_in_batches}
+use Rattle.rly_line.specs.Batches.{BatchView, HasAsks, calls_in_line}
 
 -- the calls of one seat
 abbrev pub calls_of : ℕ → List Call → List Call
@@ -30,16 +31,16 @@ pub record IsLine (owner : ℕ → ℕ) (head count : ℕ) (gone items : List Ca
   pub takes : (pass : ℕ) (v : LineView) → get_elem? views pass ≡ some v → v.takes ≡ true
       → (pass ≡ head) × (v.seats ≡ count) × (v.taken ≡ gone)
 
--- the rule, of the batches in the line: of their calls, one after another; and each batch has an ask
-abbrev pub AreLined : List BatchView → List LineView → Type 0
-AreLined batches views =
+-- the rule, of what is in the line: of its calls, one after another; and each batch has an ask
+abbrev pub AreLined : List (Option BatchView) → List LineView → Type 0
+AreLined puts views =
     (owner : ℕ → ℕ) × (head : ℕ) × (count : ℕ) × (gone : List Call)
-    × IsLine owner head count gone (calls_in_batches batches) views × AllByRecursion HasAsks batches
+    × IsLine owner head count gone (calls_in_line puts) views × AllByRecursion (λ put. IfSome put HasAsks) puts
 
 -- which line it is, as the channel names itself
 pub record LineId : Type 0 where
   pub table : TableId
-  pub key : Badge (Key BatchView)
+  pub key : Badge (Key (Option BatchView))
 
 -- a batch is the next of its seat, one of so many, after the calls that were taken
 pub record IsNext (seats : ℕ) (taken : List Call) (batch : BatchView) : Type 0 where

@@ -1,9 +1,9 @@
 //! The rules of the two lines, whatever the schedule.
 
-ghost use Rattle.std.specs.Prelude.{◌≡◌, ◌++◌, List};
+ghost use Rattle.std.specs.Prelude.{◌≡◌, ◌++◌, List, Option};
 ghost use Rattle.rly_line.specs.declared.submission.LineView.{LineView as AView};
 ghost use Rattle.rly_line.specs.declared.replies.ReplyView.{ReplyView as AReplyView};
-ghost use Rattle.rly_line.specs.Batches.{AnswersView, BatchView, calls_in_batches};
+ghost use Rattle.rly_line.specs.Batches.{AnswersView, BatchView, calls_in_line};
 ghost use Rattle.rly_line.specs.Replies.{AreBesideReplies, AreReplied, IsPrefixOf};
 ghost use Rattle.rly_line.specs.Submission.{AreBeside, AreLined, calls_of};
 
@@ -11,13 +11,13 @@ ghost use Rattle.rly_line.specs.Submission.{AreBeside, AreLined, calls_of};
 /// put, ask for ask. The channel keeps the rule at each moment; `LineEnd::law_beginning` says it to who holds
 /// both ends.
 pub fn law_line()
-    ensures { (batches : List BatchView) (views : List AView) (taker putter : AView) → AreLined batches views → AreBeside views taker putter
-        → putter.put ≡ calls_of putter.seat taker.taken ++ calls_of putter.seat (calls_in_batches batches) }
+    ensures { (puts : List (Option BatchView)) (views : List AView) (taker putter : AView) → AreLined puts views → AreBeside views taker putter
+        → putter.put ≡ calls_of putter.seat taker.taken ++ calls_of putter.seat (calls_in_line puts) }
 {}
 
 /// What a seat knows is a prefix of what its line was told last, from the same base. The channel of the line's answers
 /// keeps the rule at each moment. What the line was told is a prefix of the one history of who answers (`Responder`).
 pub fn law_reply_line()
-    ensures { (answers : List AnswersView) (views : List AReplyView) (teller hearer : AReplyView) → AreReplied answers views → AreBesideReplies views teller hearer
+    ensures { (answers : List (Option AnswersView)) (views : List AReplyView) (teller hearer : AReplyView) → AreReplied answers views → AreBesideReplies views teller hearer
         → IsPrefixOf hearer.base teller.base hearer.known teller.told }
 {}

@@ -9,7 +9,9 @@
 
 mod batch;
 mod call_error;
+mod closed_end;
 mod laws;
+mod left_seat;
 mod line_end;
 mod replies;
 mod responder;
@@ -21,7 +23,9 @@ mod submission;
 
 pub use crate::batch::{Answers, Batch};
 pub use crate::call_error::{BatchError, CallError};
+pub use crate::closed_end::ClosedEnd;
 pub use crate::laws::{law_line, law_reply_line};
+pub use crate::left_seat::LeftSeat;
 pub use crate::line_end::LineEnd;
 pub use crate::responder::Responder;
 pub use crate::seat::Seat;

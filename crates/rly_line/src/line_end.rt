@@ -1,9 +1,11 @@
 ghost use Rattle.std.specs.Prelude.{◌≡◌, ◌++◌, ◌<◌, false, length, slice_set, true, IfNone, IfSome, MatchBool};
+ghost use Rattle.rly_line.specs.EndViews.{TellTheSame};
 ghost use Rattle.rly_line.specs.Batches.{calls_in_batch};
 ghost use Rattle.rly_line.specs.Replies.{MayTell};
 ghost use Rattle.rly_line.specs.Submission.{IsBeginning, IsNext};
 
 use crate::batch::{Answers, Batch};
+use crate::closed_end::ClosedEnd;
 use crate::replies::TellEnd;
 use crate::seat::Seat;
 use crate::story::{Standing, Story};
@@ -79,6 +81,26 @@ impl LineEnd {
         line.tell(rt, answers, story)
     }
 
+    /// So many seats are gone that didn't say so. No wait is for them.
+    pub fn forget(&mut self, count: usize)
+        ensures { self.new ≡ self.old }
+    {
+        self.calls.forget(count);
+    }
+
+    /// Takes no more calls and tells no more, and says so to each seat: a call that was put and not answered is Lost, and each
+    /// later one is Closed.
+    pub fn close<R: Wait>(self, rt: &R) -> ClosedEnd
+        ensures of { result.of ≡ self.of }
+        ensures taken { result.taken ≡ self.taken }
+        ensures told { TellTheSame result.lines self.lines }
+    {
+        let LineEnd { calls, mut replies } = self;
+        let calls = calls.close();
+        close_all(rt, &mut replies);
+        ClosedEnd::new(calls, replies)
+    }
+
     /// What is true of each seat at this line, at each moment: of the calls that it put, those that were
     /// taken are a beginning, ask for ask.
     pub fn law_beginning(&mut self, seat: Seat) -> Seat
@@ -87,5 +109,15 @@ impl LineEnd {
         ensures begins { IsBeginning seat.seat.0 self.old.taken seat.put }
     {
         seat.law_beginning(&mut self.calls)
+    }
+}
+
+/// Says in each of these lines that no more answers come.
+fn close_all<R: Wait>(rt: &R, lines: &mut [TellEnd])
+    ensures { TellTheSame lines.new lines.old }
+{
+    for place in 0..lines.len() {
+        let line = &mut lines[place];
+        line.close(rt);
     }
 }

@@ -3,12 +3,13 @@
 ghost use Rattle.std.specs.Prelude.{◌≡◌, ℕ, ◌∷◌, [], None, Some, false, length, true, IfNone, IfSome, IfOk, MatchBool};
 ghost use Rattle.crossbeam_channel.specs.Claims.{view, IsSeatAt};
 ghost use Rattle.crossbeam_channel.specs.Ends.{sends_on, receives_on};
+ghost use Rattle.rly_line.specs.EndViews.{new_teller, with_gone};
 ghost use Rattle.rly_line.specs.HelpersEnds.{Teaches, new_hearer};
-ghost use Rattle.rly_line.specs.Replies.{MayTell};
+ghost use Rattle.rly_line.specs.Replies.{IsPrefixOf, MayTell};
 
 use crate::batch::Answers;
 use crate::story::{Standing, Story};
-use crossbeam_channel::protocol::{Lesson, Outcome, Protocol, Split};
+use crossbeam_channel::protocol::{Join, Lesson, Outcome, Protocol, Split};
 use crossbeam_channel::{Pass, RuledReceiver, RuledSender, bounded_with};
 use rly_machine::{Answer, Call, Machine, Payload};
 use std::alloc::{AllocError, Global};
@@ -53,7 +54,7 @@ pub struct ReplyView {
 /// The rule of the line.
 pub struct Replied;
 
-impl Protocol<Answers, ReplyView> for Replied {
+impl Protocol<Option<Answers>, ReplyView> for Replied {
     ghost use Rattle.rly_line.specs.HelpersEnds as helpers;
     ghost use Rattle.rly_line.specs.Replies as replies;
 
@@ -109,48 +110,78 @@ struct Puts<W> {
     tale: PhantomData<W>,
 }
 
-impl<W: Tale> Outcome<Answers, ReplyView> for Puts<W> {
+impl<W: Tale> Outcome<Option<Answers>, ReplyView> for Puts<W> {
     ghost use Rattle.std.specs.Prelude.{◌≡◌, Some};
 
     ghost then = { λ v given w. w ≡ record v { base = Some W.start; told = W.history } };
 }
 
-impl<W: Tale> Lesson<Answers, ReplyView> for Puts<W> {
-    ghost fact = { λ v batches. Unit {0} };
+impl<W: Tale> Lesson<Option<Answers>, ReplyView> for Puts<W> {
+    ghost fact = { λ v items. Unit {0} };
+}
+
+/// It is said that no more answers come.
+struct Closes;
+
+impl Outcome<Option<Answers>, ReplyView> for Closes {
+    ghost use Rattle.std.specs.Prelude.{◌≡◌};
+
+    ghost then = { λ v given w. w ≡ v };
+}
+
+impl Lesson<Option<Answers>, ReplyView> for Closes {
+    ghost fact = { λ v items. Unit {0} };
 }
 
 /// A batch of answers is taken.
 struct Takes;
 
-impl Outcome<Answers, ReplyView> for Takes {
-    ghost use Rattle.std.specs.Prelude.{◌≡◌};
-    ghost use Rattle.rly_line.specs.HelpersEnds.{Teaches};
+impl Outcome<Option<Answers>, ReplyView> for Takes {
+    ghost use Rattle.rly_line.specs.HelpersEnds.{IsHeard};
 
-    ghost then = { λ v given w. (w ≡ record v { base = w.base; known = w.known; base_before = v.base; known_before = v.known }) × Teaches v.seat v.base w.base v.known given.answers w.known };
+    ghost then = { λ v given w. IsHeard v given w };
 }
 
-impl Lesson<Answers, ReplyView> for Takes {
-    ghost fact = { λ v batches. Unit {0} };
+impl Lesson<Option<Answers>, ReplyView> for Takes {
+    ghost fact = { λ v items. Unit {0} };
 }
 
-/// The end of a seat's line that answers are put in. Contracts see whose it is, how many batches of answers it
+/// The pass that tells takes in the seat's.
+struct Together;
+
+impl Join<ReplyView> for Together {
+    ghost use Rattle.rly_line.specs.HelpersEnds.{both_known, silent};
+
+    ghost both = { λ v w. both_known v w };
+
+    ghost spent = { silent };
+}
+
+impl Lesson<Option<Answers>, ReplyView> for Together {
+    ghost use Rattle.rly_line.specs.Replies.{IsPrefixOf};
+
+    ghost fact = { λ v items. IsPrefixOf v.base_before v.base v.known v.told };
+}
+
+/// The end of a seat's line that answers are put in. Contracts see which line it is and whose, how many batches of answers it
 /// holds, the base and the history that it was told last, and whether the seat is gone.
 #[derive(Drop)]
 pub struct TellEnd {
-    line: RuledSender<Answers, ReplyView, Replied>,
-    pass: Pass<Answers, ReplyView>,
+    line: RuledSender<Option<Answers>, ReplyView, Replied>,
+    pass: Pass<Option<Answers>, ReplyView>,
     gone: bool,
 }
 
 impl Model for TellEnd {
-    ghost use Rattle.std.specs.Prelude.{◌≡◌, true};
+    ghost use Rattle.std.specs.Prelude.{◌≡◌, Some, true};
     ghost use Rattle.crossbeam_channel.specs.Claims.{view as pass_view, IsSeatAt};
     ghost use Rattle.crossbeam_channel.specs.Ends.{ruled_capacity, sends_on};
+    ghost use Rattle.rly_line.specs.HelpersEnds.{replies_of};
     ghost use Rattle.rly_line.specs.Replies.{Teller};
 
     ghost Value = { Teller };
 
-    ghost view = { λ e. record { seat = (pass_view e.pass).seat; capacity = ruled_capacity (sends_on e.line); base = (pass_view e.pass).base; told = (pass_view e.pass).told; gone = e.gone } };
+    ghost view = { λ e. record { of = Some (replies_of e.pass); seat = (pass_view e.pass).seat; capacity = ruled_capacity (sends_on e.line); base = (pass_view e.pass).base; told = (pass_view e.pass).told; gone = e.gone } };
 
     ghost invariant = { λ e. IsSeatAt (sends_on e.line) e.pass × ((pass_view e.pass).tells ≡ true) };
 }
@@ -181,19 +212,46 @@ impl TellEnd {
         }
         let put = self
             .line
-            .send_as::<Puts<W>, R>(rt, &mut self.pass, answers)
+            .send_as::<Puts<W>, R>(rt, &mut self.pass, Some(answers))
             .is_ok();
         self.gone = !put;
         put
     }
+
+    /// Says that no more answers come. A seat that is gone is told nothing.
+    pub fn close<R: Wait>(&mut self, rt: &R)
+        ensures { with_gone self.new ≡ with_gone self.old }
+    {
+        if !self.gone {
+            self.gone = self
+                .line
+                .send_as::<Closes, R>(rt, &mut self.pass, None)
+                .is_err();
+        }
+    }
+
+    /// What a seat of this line knows is a prefix of what it was told last. The seat's end is used up.
+    pub fn law_known(&mut self, end: HearEnd)
+        requires { end.of ≡ self.old.of }
+        ensures same { self.new ≡ self.old }
+        ensures known { IsPrefixOf end.base self.old.base end.known self.old.told }
+    {
+        let HearEnd {
+            line: _line,
+            pass,
+            is_deaf: _is_deaf,
+        } = end;
+        self.line.absorb::<Together>(&mut self.pass, pass);
+        self.line.learn_as::<Together>(&mut self.pass);
+    }
 }
 
-/// A seat's end of the line. Contracts see whose it is, and the base and the history that the seat
-/// knows, and whether it is deaf: it then hears no more.
+/// A seat's end of the line. Contracts see which line it is and whose, the base and the history that the seat knows, and
+/// whether it is deaf: it then hears no more.
 #[derive(Drop)]
 pub struct HearEnd {
-    line: RuledReceiver<Answers, ReplyView, Replied>,
-    pass: Pass<Answers, ReplyView>,
+    line: RuledReceiver<Option<Answers>, ReplyView, Replied>,
+    pass: Pass<Option<Answers>, ReplyView>,
     is_deaf: bool,
 }
 
@@ -201,48 +259,52 @@ impl Model for HearEnd {
     ghost use Rattle.std.specs.Prelude.{◌≡◌, true};
     ghost use Rattle.crossbeam_channel.specs.Claims.{view as pass_view, IsSeatAt};
     ghost use Rattle.crossbeam_channel.specs.Ends.{receives_on};
-    ghost use Rattle.rly_line.specs.HelpersEnds.{Hearer, heard_by};
+    ghost use Rattle.rly_line.specs.HelpersEnds.{Hearer, heard_by, replies_of};
+    ghost use Rattle.rly_line.specs.Replies.{IsPrefixOf};
 
     ghost Value = { Hearer };
 
-    ghost view = { λ e. heard_by (pass_view e.pass) e.is_deaf };
+    ghost view = { λ e. heard_by (replies_of e.pass) (pass_view e.pass) e.is_deaf };
 
-    ghost invariant = { λ e. IsSeatAt (receives_on e.line) e.pass × ((pass_view e.pass).hears ≡ true) };
+    ghost invariant = { λ e. IsSeatAt (receives_on e.line) e.pass × ((pass_view e.pass).hears ≡ true)
+        × IsPrefixOf (pass_view e.pass).base_before (pass_view e.pass).base (pass_view e.pass).known_before (pass_view e.pass).known };
 }
 
 impl HearEnd {
-    /// Waits for a batch of so many answers. None: there was none, and the other end is gone; or another
+    /// Waits for a batch of so many answers. None: there was none, and no more come, or the other end is gone; or another
     /// number came, which teaches nothing, and the end is deaf.
     pub fn hear<R: Wait>(&mut self, rt: &R, count: usize) -> Option<Answers>
         requires { self.old.deaf ≡ false }
-        ensures seat { self.new.seat ≡ self.old.seat }
+        ensures seat { (self.new.of ≡ self.old.of) × (self.new.seat ≡ self.old.seat) }
         ensures count { IfSome result (λ given. length given.answers ≡ count) }
         ensures listens { IfSome result (λ given. self.new.deaf ≡ false) }
         ensures heard { IfSome result (λ given. Teaches self.old.seat self.old.base self.new.base self.old.known given.answers self.new.known) }
         ensures none { IfNone result (self.new ≡ record self.old { deaf = self.new.deaf }) }
     {
         match self.line.recv_as::<Takes, R>(rt, &mut self.pass) {
-            Ok(answers) => {
+            Ok(Some(answers)) => {
                 self.is_deaf = answers.len() != count;
                 if self.is_deaf { None } else { Some(answers) }
             }
-            Err(_) => None,
+            Ok(None) | Err(_) => None,
         }
     }
 }
 
 /// The two ends of a seat's line, in which nothing was told. It holds one batch of answers.
 pub fn reply_line(alloc: Global, seat: u16) -> Result<(TellEnd, HearEnd), AllocError>
-    ensures { IfOk result (λ ends. (ends.0 ≡ record { seat = seat; capacity = 1; base = None; told = []; gone = false }) × (ends.1 ≡ new_hearer seat)) }
+    ensures { IfOk result (λ ends. (ends.0 ≡ new_teller ends.0.of seat) × (ends.1 ≡ new_hearer ends.0.of seat)) }
 {
     reply_line_of::<Brand>(alloc, seat)
 }
 
 fn reply_line_of<W: Whose>(alloc: Global, seat: u16) -> Result<(TellEnd, HearEnd), AllocError>
     requires { seat ≡ W.seat }
-    ensures { IfOk result (λ ends. (ends.0 ≡ record { seat = seat; capacity = 1; base = None; told = []; gone = false }) × (ends.1 ≡ new_hearer seat)) }
+    ensures { IfOk result (λ ends. (ends.0 ≡ new_teller ends.0.of seat) × (ends.1 ≡ new_hearer ends.0.of seat)) }
 {
-    let (tells, hears, mut pass) = bounded_with::<Answers, ReplyView, Replied, Global>(alloc, 1)?;
+    let (tells, hears, mut pass) = bounded_with::<Option<Answers>, ReplyView, Replied, Global>(
+        alloc, 1,
+    )?;
     let hearing = tells.another::<Ends<W>>(&mut pass);
     Ok((
         TellEnd {

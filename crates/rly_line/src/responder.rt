@@ -1,13 +1,14 @@
-ghost use Rattle.std.specs.Prelude.{◌≡◌, ℕ, ◌++◌, [], List, length, map, true, IfNone, IfSome};
-ghost use Rattle.std.specs.List.{range_with_len, zip};
+ghost use Rattle.std.specs.Prelude.{◌≡◌, ◌++◌, [], List, length, true, IfNone, IfSome};
+ghost use Rattle.std.specs.List.{zip};
 ghost use Rattle.rly_machine.specs.History.{LegalBy, harm_after, state_after, without_bytes};
 ghost use Rattle.rly_machine.specs.declared.call.Call.{Call};
 ghost use Rattle.rly_line.specs.Batches.{calls_in_batch, no_answers};
-ghost use Rattle.rly_line.specs.EndViews.{new_teller};
-ghost use Rattle.rly_line.specs.Responding.{AreLeft, IsResponding};
+ghost use Rattle.rly_line.specs.EndViews.{names_of, new_tellers};
+ghost use Rattle.rly_line.specs.Responding.{AreLeft, IsLeftBy, IsResponding};
 ghost use Rattle.rly_line.specs.Submission.{IsBeginning};
 
 use crate::batch::{Answers, Batch};
+use crate::closed_end::ClosedEnd;
 use crate::line_end::LineEnd;
 use crate::seat::Seat;
 use crate::story::{Standing, Story};
@@ -37,7 +38,7 @@ impl<T: Standing> Model for Responder<T> {
 impl<T: Standing> Responder<T> {
     /// At the end of new lines, in the state that something stands for.
     pub fn new(line: LineEnd, at: &T) -> Responder<T>
-        requires { (count : ℕ) × (line ≡ record line { taken = []; lines = map new_teller (range_with_len 0 count) }) }
+        requires { line ≡ record line { taken = []; lines = new_tellers 0 (names_of line.lines) } }
         ensures same { result ≡ record { of = line.of; taken = []; start = T.state at.now; history = []; lines = line.lines; over = line.over } }
         ensures holds { IsResponding result }
     {
@@ -74,12 +75,31 @@ impl<T: Standing> Responder<T> {
         ensures taken { self.new.taken ≡ self.old.taken }
         ensures start { self.new.start ≡ self.old.start }
         ensures over { self.new.over ≡ self.old.over }
+        ensures names { names_of self.new.lines ≡ names_of self.old.lines }
         ensures history { self.new.history ≡ self.old.history ++ zip (calls_in_batch batch.now.value) answers.answers }
         ensures holds { IsResponding self.new }
     {
         let _some = answers.wanted();
         self.story.push(batch, &answers);
         self.line.tell(rt, answers, &self.story);
+    }
+
+    /// So many seats are gone that didn't say so. No wait is for them.
+    pub fn forget(&mut self, count: usize)
+        ensures { self.new ≡ self.old }
+    {
+        self.line.forget(count);
+    }
+
+    /// Takes no more calls and tells no more, and says so to each seat.
+    pub fn close<R: Wait>(self, rt: &R) -> ClosedEnd
+        ensures { IsLeftBy self result }
+    {
+        let Responder {
+            line,
+            story: _story,
+        } = self;
+        line.close(rt)
     }
 
     /// What is true of each seat at this line, at each moment: of the calls that it put, those that were

@@ -6,6 +6,7 @@ ghost use Rattle.rly_line.specs.Seats.{AreAnsweredWith, AreUnanswered, IsAnswere
 ghost use Rattle.rly_line.specs.Submission.{IsBeginning};
 
 use crate::call_error::{BatchError, CallError};
+use crate::left_seat::LeftSeat;
 use crate::replies::HearEnd;
 use crate::seat_ends::SeatEnds;
 use crate::submission::{SubmitEnd, TakeEnd};
@@ -19,8 +20,8 @@ use std::sync::Wait;
 /// So many asks a batch has at most.
 const MAX_ASKS: usize = limits::MAX_ROUND as usize;
 
-/// The place of one caller at the line. Contracts see which line it is, its number, the calls that it put, the base state
-/// and the history that it knows, whether it is shut, and whether its line refused a batch.
+/// The place of one caller at the line. Contracts see which line it is, which line its answers come out of, its number, the
+/// calls that it put, the base state and the history that it knows, whether it is shut, and whether its line refused a batch.
 #[derive(Drop)]
 pub struct Seat {
     alloc: Global,
@@ -50,8 +51,8 @@ impl Seat {
         replies: HearEnd,
     ) -> Result<Seat, AllocError>
         requires line { line ≡ record line { seat = seat.0; put = []; refused = false } }
-        requires replies { replies ≡ new_hearer seat.0 }
-        ensures { IfOk result (λ made. made ≡ new_caller line.of seat.0) }
+        requires replies { replies ≡ new_hearer replies.of seat.0 }
+        ensures { IfOk result (λ made. made ≡ new_caller line.of replies.of seat.0) }
     {
         let asks = Vec::with_capacity(alloc, MAX_ASKS)?;
         let answers = Vec::with_capacity(alloc, MAX_ASKS)?;
@@ -83,6 +84,21 @@ impl Seat {
             asks,
             answers,
         }
+    }
+
+    /// Gives the seat up, and says so in its line: the end of all lines waits for no more of it. Its owner drops it, or leaves
+    /// it and keeps what is left for `ClosedEnd::law_left`.
+    pub fn leave<R: Wait>(self, rt: &R) -> LeftSeat
+        ensures { result ≡ self }
+    {
+        let Seat {
+            alloc: _alloc,
+            mut ends,
+            asks: _asks,
+            answers: _answers,
+        } = self;
+        ends.leave(rt);
+        LeftSeat::new(ends)
     }
 
     /// Its number.

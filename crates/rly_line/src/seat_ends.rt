@@ -32,7 +32,7 @@ impl Model for SeatEnds {
 
     ghost Value = { Caller };
 
-    ghost view = { λ s. record { of = s.line.of; seat = s.seat; put = s.line.put; base = s.replies.base; known = s.replies.known; shut = s.is_shut; refused = s.line.refused } };
+    ghost view = { λ s. record { of = s.line.of; replies = s.replies.of; seat = s.seat; put = s.line.put; base = s.replies.base; known = s.replies.known; shut = s.is_shut; refused = s.line.refused } };
 
     ghost invariant = { λ s. IsSeated s.seat s.line s.replies s.calls s.is_shut };
 }
@@ -41,8 +41,8 @@ impl SeatEnds {
     /// A seat's two ends, of which nothing was asked.
     pub fn new(seat: SeatId, line: SubmitEnd, replies: HearEnd) -> SeatEnds
         requires line { line ≡ record line { seat = seat.0; put = []; refused = false } }
-        requires replies { replies ≡ new_hearer seat.0 }
-        ensures { result ≡ new_caller line.of seat.0 }
+        requires replies { replies ≡ new_hearer replies.of seat.0 }
+        ensures { result ≡ new_caller line.of replies.of seat.0 }
     {
         SeatEnds {
             seat,
@@ -100,6 +100,28 @@ impl SeatEnds {
             return Err(None);
         };
         Ok(answers)
+    }
+
+    /// Says that the seat puts no more.
+    pub fn leave<R: Wait>(&mut self, rt: &R)
+        ensures { self.new ≡ self.old }
+    {
+        self.line.leave(rt);
+    }
+
+    /// Its end of the line that batches go into, and its end of the line that answers come out of.
+    pub fn into_lines(self) -> (SubmitEnd, HearEnd)
+        ensures line { result.0 ≡ record { of = self.of; seat = self.seat.0; put = self.put; refused = self.refused } }
+        ensures replies { result.1 ≡ record result.1 { of = self.replies; seat = self.seat.0; base = self.base; known = self.known } }
+    {
+        let SeatEnds {
+            seat: _seat,
+            line,
+            replies,
+            calls: _calls,
+            is_shut: _is_shut,
+        } = self;
+        (line, replies)
     }
 
     /// Of the calls that it put, those that were taken are a beginning.

@@ -1,7 +1,6 @@
-ghost use Rattle.std.specs.Prelude.{◌≡◌, ◌<◌, ◌≤◌, [], false, map, IfOk};
-ghost use Rattle.std.specs.List.{range_with_len};
-ghost use Rattle.rly_line.specs.EndViews.{new_teller};
-ghost use Rattle.rly_line.specs.Seats.{new_caller};
+ghost use Rattle.std.specs.Prelude.{◌≡◌, ◌<◌, ◌≤◌, [], false, length, IfOk};
+ghost use Rattle.rly_line.specs.EndViews.{names_of, new_tellers};
+ghost use Rattle.rly_line.specs.Seats.{new_callers};
 
 use crate::line_end::LineEnd;
 use crate::replies::reply_line;
@@ -16,9 +15,10 @@ use std::alloc::{AllocError, Global};
 pub fn make(alloc: Global, capacity: u16, seats: u16) -> Result<(Vec<Seat>, LineEnd), AllocError>
     requires capacity { (1 ≤ capacity) × (capacity ≤ MAX_CAPACITY) }
     requires seats { (1 ≤ seats) × (seats ≤ MAX_SEATS) }
-    ensures seats { IfOk result (λ made. made.0.items ≡ map (new_caller made.1.of) (range_with_len 0 seats)) }
+    ensures seats { IfOk result (λ made. made.0.items ≡ new_callers made.1.of 0 (names_of made.1.lines)) }
+    ensures count { IfOk result (λ made. length made.1.lines ≡ seats) }
     ensures capacity { IfOk result (λ made. made.1.capacity ≡ capacity) }
-    ensures end { IfOk result (λ made. made.1 ≡ record made.1 { taken = []; lines = map new_teller (range_with_len 0 seats); over = false }) }
+    ensures end { IfOk result (λ made. made.1 ≡ record made.1 { taken = []; lines = new_tellers 0 (names_of made.1.lines); over = false }) }
 {
     let mut line = Line::new(alloc, capacity as usize)?;
     let mut made = Vec::with_capacity(alloc, seats as usize)?;
@@ -30,7 +30,7 @@ pub fn make(alloc: Global, capacity: u16, seats: u16) -> Result<(Vec<Seat>, Line
         replies.push_reserved(tells);
         made.push_reserved(seat);
     }
-    let calls = line.into_end();
+    let calls = line.into_end(seats as usize);
     let end = LineEnd::new(calls, replies);
     Ok((made, end))
 }

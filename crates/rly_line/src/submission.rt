@@ -1,6 +1,7 @@
 //! The line that batches go into.
 
-ghost use Rattle.std.specs.Prelude.{◌≡◌, ◌+◌, ◌++◌, ◌<◌, [], false, length, true, IfErr, IfNone, IfOk, IfSome, OnErr, OnOk};
+ghost use Rattle.std.specs.Prelude.{◌≡◌, ◌+◌, ◌++◌, ◌<◌, [], false, length, true, IfErr, IfNone, IfOk, IfSome, MatchOption, OnErr, OnOk};
+ghost use Rattle.rly_line.specs.HelpersEnds.{line_of};
 ghost use Rattle.crossbeam_channel.specs.Claims.{view, IsSeatAt};
 ghost use Rattle.crossbeam_channel.specs.Ends.{sends_on, receives_on};
 ghost use Rattle.rly_line.specs.Batches.{calls_in_batch};
@@ -34,7 +35,7 @@ pub struct LineView {
 /// The rule of the line.
 pub struct Lined;
 
-impl Protocol<Batch, LineView> for Lined {
+impl Protocol<Option<Batch>, LineView> for Lined {
     ghost use Rattle.std.specs.Prelude.{[]};
     ghost use Rattle.rly_line.specs.HelpersEnds as helpers;
     ghost use Rattle.rly_line.specs.Submission as submission;
@@ -59,30 +60,41 @@ impl Split<LineView> for Seats {
 /// A seat puts a batch.
 pub struct Puts;
 
-impl Outcome<Batch, LineView> for Puts {
+impl Outcome<Option<Batch>, LineView> for Puts {
     ghost use Rattle.std.specs.Prelude.{◌≡◌, ◌++◌};
-    ghost use Rattle.rly_line.specs.Batches.{calls_in_batch};
+    ghost use Rattle.rly_line.specs.Batches.{calls_put};
 
-    ghost then = { λ v batch w. w ≡ record v { put = v.put ++ calls_in_batch batch } };
+    ghost then = { λ v put w. w ≡ record v { put = v.put ++ calls_put put } };
 }
 
-impl Lesson<Batch, LineView> for Puts {
-    ghost fact = { λ v batches. Unit {0} };
+impl Lesson<Option<Batch>, LineView> for Puts {
+    ghost fact = { λ v puts. Unit {0} };
+}
+
+/// A seat says that it puts no more.
+pub struct Leaves;
+
+impl Outcome<Option<Batch>, LineView> for Leaves {
+    ghost use Rattle.std.specs.Prelude.{◌≡◌};
+
+    ghost then = { λ v put w. w ≡ v };
+}
+
+impl Lesson<Option<Batch>, LineView> for Leaves {
+    ghost fact = { λ v puts. Unit {0} };
 }
 
 /// A batch is taken.
 pub struct Takes;
 
-impl Outcome<Batch, LineView> for Takes {
-    ghost use Rattle.std.specs.Prelude.{◌≡◌, ◌++◌};
-    ghost use Rattle.rly_line.specs.Batches.{calls_in_batch};
-    ghost use Rattle.rly_line.specs.Submission.{IsNext};
+impl Outcome<Option<Batch>, LineView> for Takes {
+    ghost use Rattle.rly_line.specs.HelpersEnds.{IsTaken};
 
-    ghost then = { λ v batch w. (w ≡ record v { taken = v.taken ++ calls_in_batch batch }) × IsNext v.seats v.taken batch };
+    ghost then = { λ v put w. IsTaken v put w };
 }
 
-impl Lesson<Batch, LineView> for Takes {
-    ghost fact = { λ v batches. Unit {0} };
+impl Lesson<Option<Batch>, LineView> for Takes {
+    ghost fact = { λ v puts. Unit {0} };
 }
 
 /// A seat's pass and the one that takes are put together, and cut again.
@@ -104,20 +116,20 @@ impl Split<LineView> for Together {
     ghost right = { λ v. putting v.seat v.put };
 }
 
-impl Lesson<Batch, LineView> for Together {
+impl Lesson<Option<Batch>, LineView> for Together {
     ghost use Rattle.std.specs.Prelude.{◌≡◌, ◌++◌};
-    ghost use Rattle.rly_line.specs.Batches.{calls_in_batches};
+    ghost use Rattle.rly_line.specs.Batches.{calls_in_line};
     ghost use Rattle.rly_line.specs.Submission.{calls_of};
 
-    ghost fact = { λ v batches. calls_of v.seat (v.taken ++ calls_in_batches batches) ≡ v.put };
+    ghost fact = { λ v puts. calls_of v.seat (v.taken ++ calls_in_line puts) ≡ v.put };
 }
 
 /// The whole line, while seats are given out. Contracts see it as the end that takes calls.
 #[derive(Drop)]
 pub struct Line {
-    puts: RuledSender<Batch, LineView, Lined>,
-    takes: RuledReceiver<Batch, LineView, Lined>,
-    pass: Pass<Batch, LineView>,
+    puts: RuledSender<Option<Batch>, LineView, Lined>,
+    takes: RuledReceiver<Option<Batch>, LineView, Lined>,
+    pass: Pass<Option<Batch>, LineView>,
 }
 
 impl Model for Line {
@@ -139,7 +151,9 @@ impl Line {
         requires { 0 < capacity }
         ensures { IfOk result (λ line. line ≡ record line { capacity = capacity; seats = 0; taken = []; over = false }) }
     {
-        let (puts, takes, pass) = bounded_with::<Batch, LineView, Lined, Global>(alloc, capacity)?;
+        let (puts, takes, pass) = bounded_with::<Option<Batch>, LineView, Lined, Global>(
+            alloc, capacity,
+        )?;
         Ok(Line { puts, takes, pass })
     }
 
@@ -157,13 +171,15 @@ impl Line {
         })
     }
 
-    /// The end that takes calls. No seat is given out any more.
-    pub fn into_end(self) -> TakeEnd
+    /// The end that takes calls, of all its seats. No seat is given out any more.
+    pub fn into_end(self, seats: usize) -> TakeEnd
+        requires { seats ≡ self.seats }
         ensures { result ≡ self }
     {
         TakeEnd {
             line: self.takes,
             pass: self.pass,
+            here: seats,
             is_over: false,
         }
     }
@@ -173,8 +189,8 @@ impl Line {
 /// since the other end was gone.
 #[derive(Drop)]
 pub struct SubmitEnd {
-    line: RuledSender<Batch, LineView, Lined>,
-    pass: Pass<Batch, LineView>,
+    line: RuledSender<Option<Batch>, LineView, Lined>,
+    pass: Pass<Option<Batch>, LineView>,
     is_refused: bool,
 }
 
@@ -200,12 +216,49 @@ impl SubmitEnd {
         ensures back { IfErr result (λ back. (back ≡ batch) × (self.new ≡ record self.old { refused = true })) }
     {
         let _count = batch.len();
-        match self.line.send_as::<Puts, R>(rt, &mut self.pass, batch) {
+        match self
+            .line
+            .send_as::<Puts, R>(rt, &mut self.pass, Some(batch))
+        {
             Ok(()) => Ok(()),
             Err(error) => {
                 self.is_refused = true;
-                Err(error.into_inner())
+                let Some(back) = error.into_inner() else {
+                    unreachable!();
+                };
+                Err(back)
             }
+        }
+    }
+
+    /// Says that the seat puts no more.
+    pub fn leave<R: Wait>(&mut self, rt: &R)
+        ensures { self.new ≡ self.old }
+    {
+        let _told = self.line.send_as::<Leaves, R>(rt, &mut self.pass, None);
+    }
+
+    /// Of the calls that it put, those that were taken are a beginning, whoever has the pass that takes.
+    fn law_beginning(self, taker: &mut Pass<Option<Batch>, LineView>) -> SubmitEnd
+        requires takes { ((view taker.old).takes ≡ true) × (taker.old.me.1 ≡ []) }
+        requires of { line_of taker.old ≡ self.of }
+        ensures same { result ≡ self }
+        ensures known { ((view taker.new).takes ≡ true) × ((view taker.new).seats ≡ (view taker.old).seats) × ((view taker.new).taken ≡ (view taker.old).taken) }
+        ensures pass { (taker.new.me.1 ≡ []) × (line_of taker.new ≡ line_of taker.old) }
+        ensures begins { IsBeginning self.seat (view taker.old).taken self.put }
+    {
+        let SubmitEnd {
+            line,
+            pass,
+            is_refused,
+        } = self;
+        line.absorb::<Together>(taker, pass);
+        line.learn_as::<Together>(taker);
+        let pass = line.another::<Together>(taker);
+        SubmitEnd {
+            line,
+            pass,
+            is_refused,
         }
     }
 }
@@ -214,8 +267,10 @@ impl SubmitEnd {
 /// calls taken, and whether a wait found that no batch was left and no seat.
 #[derive(Drop)]
 pub struct TakeEnd {
-    line: RuledReceiver<Batch, LineView, Lined>,
-    pass: Pass<Batch, LineView>,
+    line: RuledReceiver<Option<Batch>, LineView, Lined>,
+    pass: Pass<Option<Batch>, LineView>,
+    /// How many seats didn't leave yet.
+    here: usize,
     is_over: bool,
 }
 
@@ -238,13 +293,27 @@ impl TakeEnd {
         ensures taken { IfSome result (λ batch. (self.new ≡ record self.old { taken = self.old.taken ++ calls_in_batch batch }) × IsNext self.old.seats self.old.taken batch) }
         ensures none { IfNone result (self.new ≡ record self.old { over = true }) }
     {
-        match self.line.recv_as::<Takes, R>(rt, &mut self.pass) {
-            Ok(batch) => Some(batch),
-            Err(_) => {
-                self.is_over = true;
-                None
+        for _count in rt.forever() {
+            if self.here == 0 {
+                break;
+            }
+            match self.next(rt) {
+                Some(Some(batch)) => return Some(batch),
+                Some(None) => self.forget(1),
+                None => break,
             }
         }
+        self.is_over = true;
+        None
+    }
+
+    /// Waits for what is put next: a batch, or None, where a seat leaves. None: nothing was left, and no seat.
+    fn next<R: Wait>(&mut self, rt: &R) -> Option<Option<Batch>>
+        ensures taken { IfSome result (λ put. MatchOption put (self.new ≡ self.old)
+            (λ batch. (self.new ≡ record self.old { taken = self.old.taken ++ calls_in_batch batch }) × IsNext self.old.seats self.old.taken batch)) }
+        ensures none { IfNone result (self.new ≡ self.old) }
+    {
+        self.line.recv_as::<Takes, R>(rt, &mut self.pass).ok()
     }
 
     /// A batch that is in the line, if there is one.
@@ -253,9 +322,33 @@ impl TakeEnd {
         ensures none { IfNone result (self.new ≡ self.old) }
     {
         match self.line.try_recv_as::<Takes, R>(rt, &mut self.pass) {
-            Ok(batch) => Some(batch),
+            Ok(Some(batch)) => Some(batch),
+            Ok(None) => {
+                self.forget(1);
+                None
+            }
             Err(_) => None,
         }
+    }
+
+    /// So many seats are gone that didn't say so.
+    pub fn forget(&mut self, count: usize)
+        ensures { self.new ≡ self.old }
+    {
+        self.here = self.here.saturating_sub(count);
+    }
+
+    /// Takes no more. A batch that is put from now on is refused, and what is in the line is lost.
+    pub fn close(self) -> TakenEnd
+        ensures { result ≡ record { of = self.of; seats = self.seats; taken = self.taken } }
+    {
+        let TakeEnd {
+            line: _line,
+            pass,
+            here: _here,
+            is_over: _is_over,
+        } = self;
+        TakenEnd { pass }
     }
 
     /// Of the calls that a seat of this line put, those that were taken are a beginning.
@@ -264,18 +357,36 @@ impl TakeEnd {
         ensures same { (self.new ≡ self.old) × (result ≡ end) }
         ensures begins { IsBeginning end.seat self.old.taken end.put }
     {
-        let SubmitEnd {
-            line,
-            pass,
-            is_refused,
-        } = end;
-        line.absorb::<Together>(&mut self.pass, pass);
-        line.learn_as::<Together>(&mut self.pass);
-        let pass = line.another::<Together>(&mut self.pass);
-        SubmitEnd {
-            line,
-            pass,
-            is_refused,
-        }
+        end.law_beginning(&mut self.pass)
+    }
+}
+
+/// The end of the line that took batches, once it takes no more. Contracts see how many seats there are, and the calls
+/// taken.
+#[derive(Drop)]
+pub struct TakenEnd {
+    pass: Pass<Option<Batch>, LineView>,
+}
+
+impl Model for TakenEnd {
+    ghost use Rattle.std.specs.Prelude.{◌≡◌, [], true};
+    ghost use Rattle.crossbeam_channel.specs.Claims.{view as pass_view};
+    ghost use Rattle.rly_line.specs.HelpersEnds.{Taken, line_of};
+
+    ghost Value = { Taken };
+
+    ghost view = { λ e. record { of = line_of e.pass; seats = (pass_view e.pass).seats; taken = (pass_view e.pass).taken } };
+
+    ghost invariant = { λ e. ((pass_view e.pass).takes ≡ true) × (e.pass.me.1 ≡ []) };
+}
+
+impl TakenEnd {
+    /// Of the calls that a seat of this line put, those that were taken are a beginning. The seat's end is used up.
+    pub fn law_beginning(&mut self, end: SubmitEnd)
+        requires { end.of ≡ self.old.of }
+        ensures same { self.new ≡ self.old }
+        ensures begins { IsBeginning end.seat self.old.taken end.put }
+    {
+        let _end = end.law_beginning(&mut self.pass);
     }
 }

@@ -95,6 +95,43 @@ fn line_row_2(rt: HostRuntime) {
     expect!(rt; finished.journal.position() == 1);
 }
 
+/// A flusher ends once each seat was left, though what is left of them is still there.
+#[test]
+fn seats_that_are_left_end_the_flusher(rt: HostRuntime) {
+    let alloc = rt.alloc();
+    let (seats, flusher) = flusher_on(&rt, alloc, device(&rt, alloc), 3);
+    let mut left = Vec::new(alloc);
+    for seat in seats {
+        left.push(seat.leave(&rt)).expect(&rt, "memory");
+    }
+    let finished = flusher.serve(&rt);
+    expect!(rt; left.len() == 3);
+    expect!(rt; !finished.broken);
+    expect!(rt; finished.journal.position() == 0);
+}
+
+/// It waits for one seat less where it was told that one is gone.
+#[test]
+fn a_seat_that_is_gone_is_forgotten(rt: HostRuntime) {
+    let alloc = rt.alloc();
+    let (mut seats, mut flusher) = flusher_on(&rt, alloc, device(&rt, alloc), 2);
+    let gone = seats.pop().expect(&rt, "two seats");
+    let seat = seats.pop().expect(&rt, "two seats");
+    drop(gone);
+    flusher.forget(1);
+    let asking = thread::spawn(&rt, move || {
+        let mut seat = seat;
+        let reply = take_at(&rt, alloc, &mut seat, 1, 1);
+        (matches!(&reply, Reply::Taken(1)), seat.leave(&rt))
+    })
+    .ok()
+    .expect(&rt, "a thread");
+    let finished = flusher.serve(&rt);
+    let (is_taken, _left) = asking.join(&rt);
+    expect!(rt; is_taken);
+    expect!(rt; finished.journal.position() == 1);
+}
+
 /// Each seat's takes are all taken.
 #[test]
 fn four_seats_are_served(rt: HostRuntime) {

@@ -1,17 +1,22 @@
 -- Each thread gives back what its worker's post promised.
 use Rattle.std.proofs.Common.{◌≡◌, ◌∙◌, ℕ, List, [], ◌∷◌, Bool, true, subst, sym}
-use Rattle.std.specs.List.{AllByRecursion, AllZip}
+use Rattle.std.specs.List.{AllByRecursion, AllZip, zip}
 use Rattle.std.specs.Prelude.{Err, IfOk, IfSome, None, Ok, Option, Result, Some}
 use Rattle.std.specs.declared.thread.PromisedHandle.{PromisedHandle}
+use Rattle.rly_line.specs.EndViews.{ClosedView}
+use Rattle.rly_line.specs.Replies.{ReplyId}
+use Rattle.rly_line.specs.Responding.{AreTold, IsAnsweredBy, IsLeftBy, IsSeatOf, Responding}
 use Rattle.rly_line.specs.Seats.{Caller}
+use Rattle.rly_line.specs.Submission.{LineId}
+use Rattle.rly_line.proofs.Closing.{answered_by}
 use Rattle.rly_plan.specs.ContactPlan.{ContactPlan}
 use Rattle.rly_threads.specs.declared.relay.Duty.{Duty}
 use Rattle.rly_threads.specs.declared.relay.Ended.{Ended}
 use Rattle.rly_threads.specs.declared.relay.Left.{Left}
 use Rattle.rly_threads.specs.declared.relay.Post.{Post}
 use Rattle.rly_threads.specs.Ends.{Hearing}
-use Rattle.rly_threads.specs.HelpersCut.{GivesBack, IsFor, IsJoined}
-use Rattle.rly_threads.specs.Relay.{HasEnded, HaveEnded}
+use Rattle.rly_threads.specs.HelpersCut.{AreSeatsOf, GivesBack, IsFor, IsJoined}
+use Rattle.rly_threads.specs.Relay.{AreAnsweredBy, HasEnded, HaveEnded}
 use Rattle.rly_threads.specs.Turns.{Handed}
 use Rattle.rly_threads.proofs.Threads.{through}
 
@@ -22,38 +27,38 @@ second_all R Q each [] (y ∷ ys) all = absurd all
 second_all R Q each (x ∷ xs) [] all = absurd all
 second_all R Q each (x ∷ xs) (y ∷ ys) all = (each x y all.0, second_all R Q each xs ys all.1)
 
-kept_one : {L T : Type 0} (heard : L → Option (List Hearing)) (sent : L → Option (List (List ℕ))) (handed : T → Option (List Handed)) (endless : T → Bool) (plan : ContactPlan) (window lock : ℕ) (said : Bool)
+kept_one : {L T : Type 0} (heard : L → Option (List Hearing)) (sent : L → Option (List (List ℕ))) (handed : T → Option (List Handed)) (endless : T → Bool) (plan : ContactPlan) (window lock : ℕ) (said : Bool) (lines : ClosedView)
     (given : Post L T × Caller) (thread : Option (PromisedHandle (Left L T) (Duty L T))) (ended : Option (Ended L T))
-    → IsFor plan window lock given thread → GivesBack (IsJoined heard sent handed endless said) thread ended
+    → IsFor plan window lock given thread → GivesBack (IsJoined heard sent handed endless said lines) thread ended
     → HaveEnded heard sent handed endless plan window given ended
-kept_one {L} {T} heard sent handed endless plan window lock said given None ended is_for gave =
+kept_one {L} {T} heard sent handed endless plan window lock said lines given None ended is_for gave =
     subst (HaveEnded heard sent handed endless plan window given) (sym gave) tt
-kept_one heard sent handed endless plan window lock said given (Some thread) None is_for gave = tt
-kept_one {L} {T} heard sent handed endless plan window lock said given (Some thread) (Some worker) is_for gave =
-    subst (λ (y : ContactPlan × ℕ × Post L T × Caller). HasEnded heard sent handed endless y.0 y.1 (y.2, y.3) worker)
+kept_one heard sent handed endless plan window lock said lines given (Some thread) None is_for gave = tt
+kept_one {L} {T} heard sent handed endless plan window lock said lines given (Some thread) (Some worker) is_for gave =
+    subst (λ (y : ContactPlan × ℕ × Post L T × Caller). HasEnded heard sent handed endless y.0 y.1 (y.2, y.3) worker.post worker.seat.value worker.was_cut)
     (λ i. (is_for.0 i, is_for.1 i, is_for.2 i, is_for.4 i)) gave.0
 
 -- each worker that had a thread did what its post promised
-pub kept_through : {L T : Type 0} (heard : L → Option (List Hearing)) (sent : L → Option (List (List ℕ))) (handed : T → Option (List Handed)) (endless : T → Bool) (plan : ContactPlan) (window lock : ℕ) (said : Bool)
+pub kept_through : {L T : Type 0} (heard : L → Option (List Hearing)) (sent : L → Option (List (List ℕ))) (handed : T → Option (List Handed)) (endless : T → Bool) (plan : ContactPlan) (window lock : ℕ) (said : Bool) (lines : ClosedView)
     (given : List (Post L T × Caller)) (threads : List (Option (PromisedHandle (Left L T) (Duty L T)))) (results : List (Option (Ended L T)))
-    → AllZip (IsFor plan window lock) given threads → AllZip (GivesBack (IsJoined heard sent handed endless said)) threads results
+    → AllZip (IsFor plan window lock) given threads → AllZip (GivesBack (IsJoined heard sent handed endless said lines)) threads results
     → AllZip (HaveEnded heard sent handed endless plan window) given results
-kept_through {L} {T} heard sent handed endless plan window lock said given threads results are_for gave =
-    through (IsFor plan window lock) (GivesBack (IsJoined heard sent handed endless said)) (HaveEnded heard sent handed endless plan window)
-    (kept_one heard sent handed endless plan window lock said) given threads results are_for gave
+kept_through {L} {T} heard sent handed endless plan window lock said lines given threads results are_for gave =
+    through (IsFor plan window lock) (GivesBack (IsJoined heard sent handed endless said lines)) (HaveEnded heard sent handed endless plan window)
+    (kept_one heard sent handed endless plan window lock said lines) given threads results are_for gave
 
-cut_one : {L T : Type 0} (heard : L → Option (List Hearing)) (sent : L → Option (List (List ℕ))) (handed : T → Option (List Handed)) (endless : T → Bool) (said : Bool)
-    (thread : Option (PromisedHandle (Left L T) (Duty L T))) (ended : Option (Ended L T)) → GivesBack (IsJoined heard sent handed endless said) thread ended
+cut_one : {L T : Type 0} (heard : L → Option (List Hearing)) (sent : L → Option (List (List ℕ))) (handed : T → Option (List Handed)) (endless : T → Bool) (said : Bool) (lines : ClosedView)
+    (thread : Option (PromisedHandle (Left L T) (Duty L T))) (ended : Option (Ended L T)) → GivesBack (IsJoined heard sent handed endless said lines) thread ended
     → IfSome ended (λ worker. worker.was_cut ≡ true → said ≡ true)
-cut_one {L} {T} heard sent handed endless said None ended gave = subst (λ (e : Option (Ended L T)). IfSome e (λ worker. worker.was_cut ≡ true → said ≡ true)) (sym gave) tt
-cut_one heard sent handed endless said (Some thread) None gave = tt
-cut_one heard sent handed endless said (Some thread) (Some worker) gave = gave.1
+cut_one {L} {T} heard sent handed endless said lines None ended gave = subst (λ (e : Option (Ended L T)). IfSome e (λ worker. worker.was_cut ≡ true → said ≡ true)) (sym gave) tt
+cut_one heard sent handed endless said lines (Some thread) None gave = tt
+cut_one heard sent handed endless said lines (Some thread) (Some worker) gave = gave.1
 
 -- none was cut but where that was said
-pub all_cut : {L T : Type 0} (heard : L → Option (List Hearing)) (sent : L → Option (List (List ℕ))) (handed : T → Option (List Handed)) (endless : T → Bool) (said : Bool)
-    (threads : List (Option (PromisedHandle (Left L T) (Duty L T)))) (results : List (Option (Ended L T))) → AllZip (GivesBack (IsJoined heard sent handed endless said)) threads results
+pub all_cut : {L T : Type 0} (heard : L → Option (List Hearing)) (sent : L → Option (List (List ℕ))) (handed : T → Option (List Handed)) (endless : T → Bool) (said : Bool) (lines : ClosedView)
+    (threads : List (Option (PromisedHandle (Left L T) (Duty L T)))) (results : List (Option (Ended L T))) → AllZip (GivesBack (IsJoined heard sent handed endless said lines)) threads results
     → AllByRecursion (λ ended. IfSome ended (λ worker. worker.was_cut ≡ true → said ≡ true)) results
-all_cut heard sent handed endless said threads results gave = second_all _ _ (cut_one heard sent handed endless said) threads results gave
+all_cut heard sent handed endless said lines threads results gave = second_all _ _ (cut_one heard sent handed endless said lines) threads results gave
 
 told_one : {L T : Type 0} (plan : ContactPlan) (window lock said : ℕ) → said ≡ lock → (given : Post L T × Caller) (thread : Option (PromisedHandle (Left L T) (Duty L T))) → IsFor plan window lock given thread
     → IfSome thread (λ t. t.promise.word.value.id ≡ said)
@@ -69,3 +74,33 @@ all_told plan window lock said same given threads are_for = second_all _ _ (told
 pub if_ok : {A E : Type 0} {P Q : A → Type 0} (r : Result A E) → IfOk r P → ((a : A) → P a → Q a) → IfOk r Q
 if_ok (Ok a) is then = then a is
 if_ok (Err e) is then = tt
+
+told_seat : {L T : Type 0} (plan : ContactPlan) (window lock : ℕ) (of : LineId) (names : List (Option ReplyId)) (given : Post L T × Caller) (thread : Option (PromisedHandle (Left L T) (Duty L T)))
+    → IsFor plan window lock given thread → IsSeatOf of names given.1 → IfSome thread (λ t. IsSeatOf of names t.promise.seat.value)
+told_seat plan window lock of names given None is_for its = tt
+told_seat plan window lock of names given (Some thread) is_for its = subst (IsSeatOf of names) (sym is_for.4) its
+
+-- the threads were started for seats of these lines
+pub are_seats : {L T : Type 0} (plan : ContactPlan) (window lock : ℕ) (of : LineId) (names : List (Option ReplyId)) (posts : List (Post L T)) (seats : List Caller)
+    (threads : List (Option (PromisedHandle (Left L T) (Duty L T)))) → AllZip (IsFor plan window lock) (zip posts seats) threads → AllByRecursion (IsSeatOf of names) seats → AreSeatsOf of names threads
+are_seats plan window lock of names posts seats [] are_for its = tt
+are_seats plan window lock of names [] seats (t ∷ threads) are_for its = absurd are_for
+are_seats plan window lock of names (p ∷ posts) [] (t ∷ threads) are_for its = absurd are_for
+are_seats plan window lock of names (p ∷ posts) (s ∷ seats) (t ∷ threads) are_for its =
+    (told_seat plan window lock of names (p, s) t are_for.0 its.0, are_seats plan window lock of names posts seats threads are_for.1 its.1)
+
+answered_one : {L T : Type 0} (heard : L → Option (List Hearing)) (sent : L → Option (List (List ℕ))) (handed : T → Option (List Handed)) (endless : T → Bool) (said : Bool) (lines : ClosedView)
+    (r : Responding) → IsLeftBy r lines → AreTold r.start r.history r.lines
+    → (thread : Option (PromisedHandle (Left L T) (Duty L T))) (ended : Option (Ended L T)) → GivesBack (IsJoined heard sent handed endless said lines) thread ended
+    → IfSome ended (λ worker. IsAnsweredBy r worker.seat.value)
+answered_one {L} {T} heard sent handed endless said lines r left told None ended gave = subst (λ (e : Option (Ended L T)). IfSome e (λ worker. IsAnsweredBy r worker.seat.value)) (sym gave) tt
+answered_one heard sent handed endless said lines r left told (Some thread) None gave = tt
+answered_one heard sent handed endless said lines r left told (Some thread) (Some worker) gave = answered_by r lines worker.seat.value left told gave.3 gave.2
+
+-- so each stands beside who answered it
+pub all_answered : {L T : Type 0} (heard : L → Option (List Hearing)) (sent : L → Option (List (List ℕ))) (handed : T → Option (List Handed)) (endless : T → Bool) (said : Bool) (lines : ClosedView)
+    (r : Responding) → IsLeftBy r lines → AreTold r.start r.history r.lines
+    → (threads : List (Option (PromisedHandle (Left L T) (Duty L T)))) (results : List (Option (Ended L T))) → AllZip (GivesBack (IsJoined heard sent handed endless said lines)) threads results
+    → AreAnsweredBy r results
+all_answered heard sent handed endless said lines r left told threads results gave =
+    second_all _ _ (answered_one heard sent handed endless said lines r left told) threads results gave

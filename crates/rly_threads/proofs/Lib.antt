@@ -5,4 +5,3 @@ pub mod Senders
 pub mod Threads
 pub mod Kept
 pub mod Seating
-pub mod Leaving

@@ -32,11 +32,12 @@ asks_after seat last (ask ∷ asks) = ap (λ l. ask ∷ l) (asks_after seat (las
 
 -- nothing was asked
 pub put_nothing : (c : Caller) → HasPut c [] c
-put_nothing c = record { of = refl; seat = refl; put = sym (append-nil (asks_in c.put)); told = sym (append-nil (answers_in (entries_of c.seat.0 c.known))) }
+put_nothing c = record { of = refl; replies = refl; seat = refl; put = sym (append-nil (asks_in c.put)); told = sym (append-nil (answers_in (entries_of c.seat.0 c.known))) }
 
 -- what is known of a seat before and after one batch
 record HasMoved (before : Caller) (asked : Asked) (after : Caller) : Type 0 where
   pub of : after.of ≡ before.of
+  pub replies : after.replies ≡ before.replies
   pub seat : after.seat ≡ before.seat
   pub put : asks_in after.put ≡ asks_in before.put ++ put_of asked
   pub told : answers_in (entries_of before.seat.0 after.known) ≡ answers_in (entries_of before.seat.0 before.known) ++ answers_of asked
@@ -52,6 +53,7 @@ one_more first before after all asked so_far moved =
     subst (λ (s : SeatId). answers_in (entries_of s.0 after.known) ≡ answers_in (entries_of s.0 before.known) ++ answers_of asked) so_far.seat moved.told in
     record {
       of = moved.of ∙ so_far.of;
+      replies = moved.replies ∙ so_far.replies;
       seat = moved.seat ∙ so_far.seat;
       put = moved.put ∙ ap (λ l. l ++ put_of asked) so_far.put ∙ append_assoc (asks_in first.put) (flat_map put_of all) (put_of asked) ∙ ap (λ l. asks_in first.put ++ l) (sym puts);
       told = own ∙ ap (λ l. l ++ answers_of asked) so_far.told ∙ append_assoc (answers_in (entries_of first.seat.0 first.known)) (flat_map answers_of all) (answers_of asked)
@@ -59,10 +61,11 @@ one_more first before after all asked so_far moved =
     }
 
 -- nothing was put
-stayed : (before after : Caller) (asked : Asked) → after.of ≡ before.of → after.seat ≡ before.seat → after.put ≡ before.put → after.known ≡ before.known → put_of asked ≡ [] → answers_of asked ≡ []
+stayed : (before after : Caller) (asked : Asked) → after.of ≡ before.of → after.replies ≡ before.replies → after.seat ≡ before.seat → after.put ≡ before.put → after.known ≡ before.known → put_of asked ≡ [] → answers_of asked ≡ []
     → HasMoved before asked after
-stayed before after asked of seat put known none none_told = record {
+stayed before after asked of replies seat put known none none_told = record {
   of = of;
+  replies = replies;
   seat = seat;
   put = ap asks_in put ∙ sym (append-nil (asks_in before.put)) ∙ ap (λ l. asks_in before.put ++ l) (sym none);
   told = ap (λ h. answers_in (entries_of before.seat.0 h)) known ∙ sym (append-nil (answers_in (entries_of before.seat.0 before.known)))
@@ -71,8 +74,8 @@ stayed before after asked of seat put known none none_told = record {
 
 handed_back : (before after : Caller) (count : ℕ) (asked : Asked) → IsClosed before count after → put_of asked ≡ [] → answers_of asked ≡ [] → HasMoved before asked after
 handed_back before after count asked closed none none_told = ⊎_elim
-    (λ same. stayed before after asked (ap (λ (c : Caller). c.of) same.1) (ap (λ (c : Caller). c.seat) same.1) (ap (λ (c : Caller). c.put) same.1) (ap (λ (c : Caller). c.known) same.1) none none_told)
-    (λ refused. stayed before after asked (ap (λ (c : Caller). c.of) refused) (ap (λ (c : Caller). c.seat) refused) (ap (λ (c : Caller). c.put) refused) (ap (λ (c : Caller). c.known) refused) none none_told)
+    (λ same. stayed before after asked (ap (λ (c : Caller). c.of) same.1) (ap (λ (c : Caller). c.replies) same.1) (ap (λ (c : Caller). c.seat) same.1) (ap (λ (c : Caller). c.put) same.1) (ap (λ (c : Caller). c.known) same.1) none none_told)
+    (λ refused. stayed before after asked (ap (λ (c : Caller). c.of) refused) (ap (λ (c : Caller). c.replies) refused) (ap (λ (c : Caller). c.seat) refused) (ap (λ (c : Caller). c.put) refused) (ap (λ (c : Caller). c.known) refused) none none_told)
     closed
 
 -- they were put, and no answers came
@@ -80,6 +83,7 @@ lost : (before after : Caller) (asks : List Ask) (asked : Asked) → after ≡ r
     → HasMoved before asked after
 lost before after asks asked is puts none_told = record {
   of = ap (λ (c : Caller). c.of) is;
+  replies = ap (λ (c : Caller). c.replies) is;
   seat = ap (λ (c : Caller). c.seat) is;
   put = ap (λ (c : Caller). asks_in c.put) is ∙ map-append (λ (call : Call). call.ask) before.put (calls_after before.seat (length before.put) asks)
       ∙ ap (λ l. asks_in before.put ++ l) (asks_after before.seat (length before.put) asks ∙ sym puts);
@@ -92,6 +96,7 @@ one_moved : (before after : Caller) (ask : Ask) (outcome : Result Answer CallErr
     → IfErr outcome (λ error. IsUnanswered before ask error after) → HasMoved before (call_asked ask outcome) after
 one_moved before after ask (Ok answer) did none = record {
   of = did.of;
+  replies = did.replies;
   seat = did.seat;
   put = ap asks_in did.put ∙ map-append (λ (call : Call). call.ask) before.put _;
   told = ap answers_in did.calls ∙ map-append (λ (entry : Entry). entry.1) (entries_of before.seat.0 before.known) ((did.call, answer) ∷ []);
@@ -104,6 +109,7 @@ several_moved : (before after : Caller) (asks left : List Ask) (answers : List A
     → IfErr outcome (λ error. AreUnanswered before asks error left after) → HasMoved before (asks, batch_outcome outcome answers) after
 several_moved before after asks left answers (Ok _) did none = record {
   of = did.of;
+  replies = did.replies;
   seat = did.seat;
   put = ap asks_in did.put ∙ map-append (λ (call : Call). call.ask) before.put (calls_after before.seat (length before.put) asks)
       ∙ ap (λ l. asks_in before.put ++ l) (asks_after before.seat (length before.put) asks);

@@ -48,6 +48,7 @@ answers_of (asks, Err error) = []
 -- calls are the answers to that.
 pub record HasPut (before : Caller) (asked : List Asked) (after : Caller) : Type 0 where
   pub of : after.of ≡ before.of
+  pub replies : after.replies ≡ before.replies
   pub seat : after.seat ≡ before.seat
   pub put : map (λ call. call.ask) after.put ≡ map (λ call. call.ask) before.put ++ flat_map put_of asked
   pub told : map (λ entry. entry.1) (entries_of before.seat.0 after.known)

@@ -7,6 +7,9 @@ use Rattle.std.specs.declared.sync.OnceToken.{OnceToken}
 use Rattle.rly_disk.specs.DiskModel.{DiskState}
 use Rattle.rly_flush.specs.Flushing.{IsServed, new_flusher}
 use Rattle.rly_journal.specs.Journal.{JournalState}
+use Rattle.rly_line.specs.EndViews.{ClosedView, names_of}
+use Rattle.rly_line.specs.Replies.{ReplyId}
+use Rattle.rly_line.specs.Responding.{IsSeatOf, IsToldBy}
 use Rattle.rly_line.specs.Seats.{Caller}
 use Rattle.rly_line.specs.Submission.{LineId}
 use Rattle.rly_plan.specs.ContactPlan.{ContactPlan}
@@ -24,7 +27,7 @@ use Rattle.rly_threads.specs.declared.seat_desk.Said.TheVariants.{One, Several}
 use Rattle.rly_threads.specs.Asking.{Asked, HasPut, batch_outcome, call_asked}
 use Rattle.rly_threads.specs.Cut.{Look, all_on, cut_early, was_cut}
 use Rattle.rly_threads.specs.Ends.{Hearing, TellsMore}
-use Rattle.rly_threads.specs.Relay.{HasEnded, HaveEnded, has_run_out, new_end, seated}
+use Rattle.rly_threads.specs.Relay.{AreAnsweredBy, HasEnded, HaveEnded, has_run_out, new_end, seated}
 use Rattle.rly_threads.specs.Turns.{Handed}
 
 -- what a log has
@@ -82,12 +85,19 @@ abbrev pub GivesBack : {H R : Type 0} → (H → R → Type 0) → Option H → 
 GivesBack Gives None result = result ≡ None
 GivesBack Gives (Some thread) result = IfSome result (Gives thread)
 
--- the thread of a worker at its end: its worker did at its post what was promised, and was cut only where that was said
+-- the thread of a worker at its end: its worker did at its post what was promised, and was cut only where that was said; and what
+-- its seat put and knows stands beside the closed end of its lines
 abbrev pub IsJoined : {L T : Type 0} → (L → Option (List Hearing)) → (L → Option (List (List ℕ))) → (T → Option (List Handed))
-    → (T → Bool) → Bool → PromisedHandle (Left L T) (Duty L T) → Ended L T → Type 0
-IsJoined heard sent handed endless said thread ended =
-    HasEnded heard sent handed endless thread.promise.plan.value thread.promise.window (thread.promise.post.value, thread.promise.seat.value) ended
-    × (ended.was_cut ≡ true → said ≡ true)
+    → (T → Bool) → Bool → ClosedView → PromisedHandle (Left L T) (Duty L T) → Ended L T → Type 0
+IsJoined heard sent handed endless said lines thread ended =
+    HasEnded heard sent handed endless thread.promise.plan.value thread.promise.window (thread.promise.post.value, thread.promise.seat.value)
+    ended.post ended.seat.value ended.was_cut
+    × (ended.was_cut ≡ true → said ≡ true) × IsToldBy lines ended.seat.value
+    × IsSeatOf lines.of (names_of lines.lines) ended.seat.value
+
+-- the seats of threads are of these lines
+abbrev pub AreSeatsOf : {L T : Type 0} → LineId → List (Option ReplyId) → List (Option (PromisedHandle (Left L T) (Duty L T))) → Type 0
+AreSeatsOf of names threads = AllByRecursion (λ thread. IfSome thread (λ t. IsSeatOf of names t.promise.seat.value)) threads
 
 -- what a relay leaves of its journal and its posts, each as `run_relay` says it
 pub record IsRelayed {D L T : Type 0} (state : D → DiskState) (heard : L → Option (List Hearing)) (sent : L → Option (List (List ℕ)))
@@ -95,9 +105,12 @@ pub record IsRelayed {D L T : Type 0} (state : D → DiskState) (heard : L → O
     (relayed : Relayed D L T) : Type 0 where
   pub broken : relayed.finished.broken ≡ relayed.finished.journal.broken
   pub line : LineId
-  pub served : IsServed state (new_flusher journal (new_end line (length posts))) relayed.finished.last.value
+  pub names : List (Option ReplyId)
+  pub count : length names ≡ length posts
+  pub served : IsServed state (new_flusher journal (new_end line names)) relayed.finished.last.value
   pub left : relayed.finished.last.value.journal ≡ relayed.finished.journal
-  pub worked : AllZip (HaveEnded heard sent handed endless plan journal.state.params.window) (seated line posts) relayed.ended.items
+  pub worked : AllZip (HaveEnded heard sent handed endless plan journal.state.params.window) (seated line names posts) relayed.ended.items
+  pub answered : AreAnsweredBy relayed.finished.last.value.line relayed.ended.items
   pub told : relayed.is_cut ≡ relayed.finished.broken
   pub cut : AllByRecursion (λ ended. IfSome ended (λ worker. worker.was_cut ≡ true → relayed.is_cut ≡ true)) relayed.ended.items
   pub complete : relayed.complete ≡ list_all has_run_out relayed.ended.items

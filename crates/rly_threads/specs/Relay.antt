@@ -1,12 +1,14 @@
 -- A relay: its lines, and what its workers did.
 use Rattle.std.specs.Prelude.{◌≡◌, ◌⊎◌, ℕ, not, Bool, false, true, List, [], length, map, Option, None, Some, IfNone, IfSome}
-use Rattle.std.specs.List.{range_with_len, zip}
+use Rattle.std.specs.List.{AllByRecursion, zip}
 use Rattle.rly_core.specs.declared.ids.HopId.{HopId}
 use Rattle.rly_core.specs.declared.ids.PeerId.{PeerId}
 use Rattle.rly_hop.specs.Receiving.{receiver}
 use Rattle.rly_hop.specs.Sending.{sender}
-use Rattle.rly_line.specs.EndViews.{EndView, new_teller}
-use Rattle.rly_line.specs.Seats.{Caller, new_caller}
+use Rattle.rly_line.specs.EndViews.{EndView, new_tellers}
+use Rattle.rly_line.specs.Replies.{ReplyId}
+use Rattle.rly_line.specs.Responding.{IsAnsweredBy, Responding}
+use Rattle.rly_line.specs.Seats.{Caller, new_callers}
 use Rattle.rly_line.specs.Submission.{LineId}
 use Rattle.rly_plan.specs.ContactPlan.{ContactPlan, next_hop_at, peer_at}
 use Rattle.rly_threads.specs.declared.relay.Ended.{Ended}
@@ -21,9 +23,9 @@ use Rattle.rly_threads.specs.Outlet.{outlet, outlet_turn, pacing}
 use Rattle.rly_threads.specs.Runs.{Ran, EndsView}
 use Rattle.rly_threads.specs.Turns.{Given, Handed, done_in}
 
--- the end of a new line of so many seats, which has room for a call of each
-abbrev pub new_end : LineId → ℕ → EndView
-new_end line seats = record { of = line; capacity = seats; taken = []; lines = map new_teller (range_with_len 0 seats); over = false }
+-- the end of a new line whose seats are answered in these lines, with room for a batch of each
+abbrev pub new_end : LineId → List (Option ReplyId) → EndView
+new_end line names = record { of = line; capacity = length names; taken = []; lines = new_tellers 0 names; over = false }
 
 -- A receiver of a peer of the plan, from its start to its end: it waited, asked and sent as its cores and its rules of waiting
 -- name for what it was given, in order, and did nothing else. It takes up to 64 packets a turn, or one where memory for the
@@ -52,33 +54,37 @@ HasWorked plan window (worker.Sender hop) old new = HasSent plan window hop old 
 abbrev pub told_at : Option (List Hearing) → Option (List (List ℕ)) → List Asked → List Handed → EndsView
 told_at heard sent asked handed = record { heard = heard; sent = sent; asked = Some asked; handed = Some handed }
 
--- A worker that ended, beside its post and its seat before. It did what the plan says for what it was handed and answered, from
+-- A worker at its end, its post and its seat then, and whether it was cut, beside its post and its seat before. It did what the plan says for what it was handed and answered, from
 -- its start to its end, and its seat put what it asked and nothing else. What it was handed is what its turns handed out, but for
 -- its end where it was cut: its turns would have had it go on. Turns without end hand out no end.
 pub record HasEnded {L T : Type 0} (heard : L → Option (List Hearing)) (sent : L → Option (List (List ℕ)))
     (handed : T → Option (List Handed)) (endless : T → Bool) (plan : ContactPlan) (window : ℕ) (given : Post L T × Caller)
-    (ended : Ended L T) : Type 0 where
-  pub worker : ended.post.worker ≡ given.0.worker
+    (post : Post L T) (seat : Caller) (cut : Bool) : Type 0 where
+  pub worker : post.worker ≡ given.0.worker
   pub looks : List Look
-  pub turns : TellsMore (handed given.0.turn) (handed ended.post.turn) (map (λ l. l.handed) looks)
+  pub turns : TellsMore (handed given.0.turn) (handed post.turn) (map (λ l. l.handed) looks)
   pub on : endless given.0.turn ≡ true → all_on looks ≡ true
   pub asked : List Asked
-  pub put : HasPut given.1 asked ended.seat.value
+  pub put : HasPut given.1 asked seat
   pub worked : HasWorked plan window given.0.worker
       (told_at (heard given.0.link) (sent given.0.link) [] [])
-      (told_at (heard ended.post.link) (sent ended.post.link) asked (map handed_at looks))
-  pub was_cut : ended.was_cut ≡ was_cut looks
+      (told_at (heard post.link) (sent post.link) asked (map handed_at looks))
+  pub was_cut : cut ≡ was_cut looks
   pub early : cut_early looks ≡ true
 
 -- the same where it had a thread
 abbrev pub HaveEnded : {L T : Type 0} → (L → Option (List Hearing)) → (L → Option (List (List ℕ))) → (T → Option (List Handed))
     → (T → Bool) → ContactPlan → ℕ → Post L T × Caller → Option (Ended L T) → Type 0
 HaveEnded heard sent handed endless plan window given ended =
-    IfSome ended (HasEnded heard sent handed endless plan window given)
+    IfSome ended (λ e. HasEnded heard sent handed endless plan window given e.post e.seat.value e.was_cut)
 
 -- posts, each with the seat of its number at a line, of which nothing was asked
-abbrev pub seated : {L T : Type 0} → LineId → List (Post L T) → List (Post L T × Caller)
-seated line posts = zip posts (map (new_caller line) (range_with_len 0 (length posts)))
+abbrev pub seated : {L T : Type 0} → LineId → List (Option ReplyId) → List (Post L T) → List (Post L T × Caller)
+seated line names posts = zip posts (new_callers line 0 names)
+
+-- what each worker that had a thread put and knows stands beside who answered it
+abbrev pub AreAnsweredBy : {L T : Type 0} → Responding → List (Option (Ended L T)) → Type 0
+AreAnsweredBy r ended = AllByRecursion (λ e. IfSome e (λ worker. IsAnsweredBy r worker.seat.value)) ended
 
 -- whether a worker had a thread, and ran until its turns were ended
 abbrev pub has_run_out : {L T : Type 0} → Option (Ended L T) → Bool

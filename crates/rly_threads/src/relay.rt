@@ -1,13 +1,16 @@
 //! The relay: the flusher and the workers, each in a thread of its own.
 
-ghost use Rattle.std.specs.Prelude.{◌≡◌, ◌≤◌, ◌⊎◌, [], IfErr, IfOk, IfSome, Some, length, true, vec_capacity};
+ghost use Rattle.std.specs.Prelude.{◌≡◌, ◌≤◌, ◌⊎◌, [], IfErr, IfOk, IfSome, List, Option, Some, length, true, vec_capacity};
 ghost use Rattle.std.specs.List.{AllByRecursion, AllZip, list_all, zip};
 ghost use Rattle.std.specs.Option.{is_some};
 ghost use Rattle.rly_disk.specs.DiskModel.{HasFailed, Later};
 ghost use Rattle.rly_flush.specs.Flushing.{IsServed, new_flusher};
+ghost use Rattle.rly_line.specs.EndViews.{names_of};
+ghost use Rattle.rly_line.specs.Replies.{ReplyId};
+ghost use Rattle.rly_line.specs.Responding.{IsSeatOf};
 ghost use Rattle.rly_line.specs.Submission.{LineId};
-ghost use Rattle.rly_threads.specs.HelpersCut.{GivesBack, IsFor, IsHeard, IsJoined, IsRelayed};
-ghost use Rattle.rly_threads.specs.Relay.{HasEnded, HaveEnded, has_run_out, new_end, seated};
+ghost use Rattle.rly_threads.specs.HelpersCut.{AreSeatsOf, GivesBack, IsFor, IsHeard, IsJoined, IsRelayed};
+ghost use Rattle.rly_threads.specs.Relay.{AreAnsweredBy, HasEnded, HaveEnded, has_run_out, new_end, seated};
 
 use crate::cut::{CutTurn, Whose, tell_workers};
 use crate::ends::Ends;
@@ -19,7 +22,7 @@ use crate::turn::{Turn, Worker};
 use rly_disk::Disk;
 use rly_flush::{Finished, Flusher};
 use rly_journal::Journal;
-use rly_line::{Seat, make};
+use rly_line::{ClosedEnd, LeftSeat, Seat, make};
 use rly_plan::Plan;
 use std::alloc::Global;
 use std::marker::Brand;
@@ -45,7 +48,7 @@ pub struct Ended<L: Link, T: Turn> {
     /// Its post.
     pub post: Post<L, T>,
     /// Its seat as it was left, for proofs. It takes no room.
-    pub seat: Snapshot<Seat>,
+    pub seat: Snapshot<LeftSeat>,
     /// Whether it was cut: the journal broke, and its turns would have had it go on.
     pub was_cut: bool,
 }
@@ -84,11 +87,15 @@ pub fn run_relay<
     ensures broke { IfOk result (λ relayed. relayed.finished.broken ≡ true →
         (journal.broken ≡ true) ⊎ HasFailed (D.state journal.disk) (D.state relayed.finished.journal.disk)) }
     // What its flusher leaves is what rounds make of the journal, at the end of a new line with a seat for each worker.
-    ensures served { IfOk result (λ relayed. (line : LineId) × IsServed D.state (new_flusher journal (new_end line (length posts.items))) relayed.finished.last.value) }
+    ensures served { IfOk result (λ relayed. (line : LineId) × (names : List (Option ReplyId)) × (length names ≡ length posts.items)
+        × IsServed D.state (new_flusher journal (new_end line names)) relayed.finished.last.value) }
     ensures left { IfOk result (λ relayed. relayed.finished.last.value.journal ≡ relayed.finished.journal) }
     // Each worker that had a thread did at its post and its seat of that line what the plan says of it, with the journal's window.
     ensures worked { IfOk result (λ relayed. AllZip (HaveEnded L.heard L.sent T.told T.endless plan.now journal.state.params.window)
-        (seated relayed.finished.last.value.line.of posts.items) relayed.ended.items) }
+        (seated relayed.finished.last.value.line.of (names_of relayed.finished.last.value.line.lines) posts.items) relayed.ended.items) }
+    ensures seats { IfOk result (λ relayed. length relayed.finished.last.value.line.lines ≡ length posts.items) }
+    // What its seat put begins with all asks that the flusher's history has of it, and what it knows is a prefix of that history.
+    ensures answered { IfOk result (λ relayed. AreAnsweredBy relayed.finished.last.value.line relayed.ended.items) }
     // The workers are told to end exactly where the journal broke, and none is cut elsewhere.
     ensures told { IfOk result (λ relayed. relayed.is_cut ≡ relayed.finished.broken) }
     ensures cut { IfOk result (λ relayed. AllByRecursion (λ ended. IfSome ended (λ worker. worker.was_cut ≡ true → relayed.is_cut ≡ true)) relayed.ended.items) }
@@ -185,21 +192,39 @@ fn serve_to_end<'a, R: Threads + Wait, D: Disk + Drop, L: Link + Drop, T: Turn +
 ) -> Relayed<D, L, T>
     requires empty { (empty.items ≡ []) × (length threads.items ≤ vec_capacity empty) }
     requires word { AllByRecursion (λ thread. IfSome thread (λ t. t.promise.word.value.id ≡ word.now.id)) threads.items }
+    requires seats { AreSeatsOf flusher.line.of (names_of flusher.line.lines) threads.items }
     ensures broken { result.finished.broken ≡ result.finished.journal.broken }
     ensures served { IsServed D.state flusher result.finished.last.value }
     ensures left { result.finished.last.value.journal ≡ result.finished.journal }
-    ensures joined { AllZip (GivesBack (IsJoined L.heard L.sent T.told T.endless result.finished.broken)) threads.entry.items result.ended.items }
+    ensures joined { AllZip (GivesBack (IsJoined L.heard L.sent T.told T.endless result.finished.broken result.finished.lines)) threads.entry.items result.ended.items }
+    ensures answered { AreAnsweredBy result.finished.last.value.line result.ended.items }
     ensures told { result.is_cut ≡ result.finished.broken }
     ensures complete { result.complete ≡ list_all has_run_out result.ended.items }
 {
-    let finished = flusher.serve(rt);
+    let mut flusher = flusher;
+    forget_missing(&mut flusher, &threads);
+    let mut finished = flusher.serve(rt);
     let said = tell_workers(rt, word, finished.broken);
-    let ended = join_all(rt, threads, &said, empty);
+    let ended = join_all(rt, threads, &said, &mut finished.lines, empty);
     Relayed {
         complete: have_run_out(&ended),
         is_cut: *word.value(&said),
         finished,
         ended,
+    }
+}
+
+/// The seats of the workers that had no thread are gone.
+fn forget_missing<'a, D: Disk + Drop, L: Link + Drop, T: Turn + Drop>(
+    flusher: &mut Flusher<D>,
+    threads: &[Thread<'a, L, T>],
+)
+    ensures { flusher.new ≡ flusher.old }
+{
+    for thread in threads.iter() {
+        if thread.is_none() {
+            flusher.forget(1);
+        }
     }
 }
 
@@ -220,8 +245,7 @@ impl<'a, L: Link + Drop, T: Turn + Drop> Promise<Left<'a, L, T>> for Duty<L, T> 
     ghost use Rattle.rly_threads.specs.Relay.{HasEnded};
 
     ghost kept_by = { λ duty left. HasEnded L.heard L.sent T.told T.endless duty.plan.value duty.window (duty.post.value, duty.seat.value)
-        (record { post = left.post; seat = left.seat; was_cut = is_some left.heard })
-        × IsHeard duty.word.value.id left.heard };
+        left.post left.seat (is_some left.heard) × IsHeard duty.word.value.id left.heard };
 }
 
 /// The duty of a worker at a post and a seat.
@@ -251,7 +275,8 @@ fn duty_of<L: Link + Drop, T: Turn + Drop>(
 #[derive(Drop)]
 struct Left<'a, L: Link, T: Turn> {
     post: Post<L, T>,
-    seat: Snapshot<Seat>,
+    /// What is left of its seat.
+    seat: LeftSeat,
     /// What it heard where it was cut.
     heard: Option<OnceToken<'a, bool>>,
 }
@@ -288,28 +313,34 @@ fn join_all<'a, R: Threads + Wait, L: Link + Drop, T: Turn + Drop>(
     rt: &R,
     threads: Vec<Thread<'a, L, T>>,
     said: &OnceToken<'a, bool>,
+    lines: &mut ClosedEnd,
     empty: Vec<Option<Ended<L, T>>>,
 ) -> Vec<Option<Ended<L, T>>>
     requires empty { empty.items ≡ [] }
     requires room { length threads.items ≤ vec_capacity empty }
     requires word { AllByRecursion (λ thread. IfSome thread (λ t. t.promise.word.value.id ≡ said.now.of)) threads.items }
-    ensures { AllZip (GivesBack (IsJoined L.heard L.sent T.told T.endless said.now.value)) threads.entry.items result.items }
+    requires seats { AreSeatsOf lines.old.of (names_of lines.old.lines) threads.items }
+    ensures same { lines.new ≡ lines.old }
+    ensures joined { AllZip (GivesBack (IsJoined L.heard L.sent T.told T.endless said.now.value lines.old)) threads.entry.items result.items }
 {
     let mut ended = empty;
     for thread in threads {
-        ended.push_reserved(join(rt, thread, said));
+        ended.push_reserved(join(rt, thread, said, lines));
     }
     ended
 }
 
-/// Waits until this thread has ended.
+/// Waits until this thread has ended, and learns what its seat knows.
 fn join<'a, R: Threads + Wait, L: Link + Drop, T: Turn + Drop>(
     rt: &R,
     thread: Thread<'a, L, T>,
     said: &OnceToken<'a, bool>,
+    lines: &mut ClosedEnd,
 ) -> Option<Ended<L, T>>
-    requires { IfSome thread (λ t. t.promise.word.value.id ≡ said.now.of) }
-    ensures { GivesBack (IsJoined L.heard L.sent T.told T.endless said.now.value) thread.entry result }
+    requires word { IfSome thread (λ t. t.promise.word.value.id ≡ said.now.of) }
+    requires seat { IfSome thread (λ t. IsSeatOf lines.old.of (names_of lines.old.lines) t.promise.seat.value) }
+    ensures same { lines.new ≡ lines.old }
+    ensures joined { GivesBack (IsJoined L.heard L.sent T.told T.endless said.now.value lines.old) thread.entry result }
 {
     let left = thread?.join(rt);
     let was_cut = match &left.heard {
@@ -319,9 +350,11 @@ fn join<'a, R: Threads + Wait, L: Link + Drop, T: Turn + Drop>(
         }
         None => false,
     };
+    let seat = Snapshot::of(&left.seat);
+    lines.law_left(left.seat);
     Some(Ended {
         post: left.post,
-        seat: left.seat,
+        seat,
         was_cut,
     })
 }
@@ -354,7 +387,7 @@ fn work<'a, R: Wait, L: Link + Drop, T: Turn + Drop>(
     word: &'a OnceLock<bool>,
 ) -> Left<'a, L, T>
     ensures ended { HasEnded L.heard L.sent T.told T.endless plan.now window (post, seat)
-        (record { post = result.post; seat = result.seat; was_cut = is_some result.heard }) }
+        result.post result.seat (is_some result.heard) }
     ensures heard { IsHeard word.now.id result.heard }
 {
     work_as::<Brand, R, L, T>(rt, alloc, plan, window, post, seat, word)
@@ -374,7 +407,7 @@ fn work_as<'a, W: Whose, R: Wait, L: Link + Drop, T: Turn + Drop>(
     requires seat { W.seat ≡ Some seat }
     requires lock { word.now.id ≡ W.lock }
     ensures ended { HasEnded L.heard L.sent T.told T.endless plan.now window (post, seat)
-        (record { post = result.post; seat = result.seat; was_cut = is_some result.heard }) }
+        result.post result.seat (is_some result.heard) }
     ensures heard { IsHeard word.now.id result.heard }
 {
     let Post { worker, link, turn } = post;
@@ -389,8 +422,8 @@ fn work_as<'a, W: Whose, R: Wait, L: Link + Drop, T: Turn + Drop>(
     }
     let Ends { link, desk, turn } = ends;
     let (turn, heard) = turn.into_parts();
-    // The flusher ends once no seat is left.
-    let seat = desk.leave();
+    // The flusher ends once each seat is left.
+    let seat = desk.leave(rt);
     Left {
         post: Post { worker, link, turn },
         seat,

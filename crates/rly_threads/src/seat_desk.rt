@@ -8,7 +8,7 @@ ghost use Rattle.rly_threads.specs.Ends.{TellsMore};
 use crate::cut::Whose;
 use crate::desk::Desk;
 use http_server::Log;
-use rly_line::{BatchError, CallError, Seat};
+use rly_line::{BatchError, CallError, LeftSeat, Seat};
 use rly_machine::{Answer, Ask};
 use std::marker::{Model, PhantomData};
 use std::snapshot::Snapshot;
@@ -54,16 +54,16 @@ impl<W: Whose> SeatDesk<W> {
         }
     }
 
-    /// Gives the seat up, and says how it was left.
-    pub(crate) fn leave(self) -> Snapshot<Seat>
-        ensures { IfSome W.seat (λ first. HasPut first self.asked result.value) }
+    /// Gives the seat up.
+    pub(crate) fn leave<R: Wait>(self, rt: &R) -> LeftSeat
+        ensures { IfSome W.seat (λ first. HasPut first self.asked result) }
     {
         let SeatDesk {
             seat,
             said: _said,
             whose: _whose,
         } = self;
-        Snapshot::of(&seat)
+        seat.leave(rt)
     }
 }
 

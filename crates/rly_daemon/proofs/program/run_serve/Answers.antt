@@ -16,7 +16,9 @@ returns-in-Ok g c =
         begun = c.in_ok-journal.ensures.whole;
         whole = ap (λ (j : JournalState FileDisk). j.broken) relay.ensures.left ∙ relay.ensures.whole;
         line = relay.ensures.served.0;
-        served = relay.ensures.served.1;
+        names = relay.ensures.served.1;
+        seats = relay.ensures.served.2;
+        served = relay.ensures.served.3;
         begins = g.E.Write.contents c.serve.new.errors;
         told = c.in_ok-tell_end-in-Ok.ensures;
       };

@@ -1,8 +1,7 @@
-use Rattle.std.proofs.Common.{◌≡◌, ◌≤◌, ◌∙◌, arith, length, rules, subst, sym, true}
+use Rattle.std.proofs.Common.{◌≡◌, ◌≤◌, ◌∙◌, arith, length, rules, sym, true}
 use Rattle.rly_daemon.proofs.Endless.{turns_end}
 use Rattle.rly_daemon.proofs.Workers.{posts_count, workers_count}
-use Rattle.rly_flush.specs.Flushing.{IsServed, new_flusher}
-use Rattle.rly_threads.specs.Relay.{new_end}
+use Rattle.rly_line.proofs.Closing.{as_many_names}
 use Rattle.rly_daemon.proofs.serving.serve.Goals as goal
 
 -- a plan has 1 to 64 peers and 1 to 64 hops
@@ -19,13 +18,13 @@ returns-in-Ok-outcome_of-clause-ends g c =
     let complete : relay.relayed.complete ≡ true = search rules in
     let count = posts_count _ _ c.args.plan.now c.args.keys c.args.turns c.requires.keys c.in-Ok.ensures in
     let some : 1 ≤ length c.in-Ok.posts.items = omega (arith, count, c.requires.sound.peer_count.0) in
-    turns_end c.args.plan.now c.args.keys c.args.journal.state.params.window c.args.turns relay.relayed.finished.last.value.line.of _ _ c.in-Ok.ensures some relay.ensures.worked (sym relay.ensures.complete ∙ complete)
+    turns_end c.args.plan.now c.args.keys c.args.journal.state.params.window c.args.turns relay.relayed.finished.last.value.line.of _ _ _ c.in-Ok.ensures some (as_many_names relay.relayed.finished.last.value.line.lines ∙ relay.ensures.seats) relay.ensures.worked (sym relay.ensures.complete ∙ complete)
 
 pub returns-in-Ok-outcome_of-clause-worked : goal.returns-in-Ok-outcome_of-clause-worked
 returns-in-Ok-outcome_of-clause-worked g c =
     let relay = c.in-Ok-run_relay in
     let complete : relay.relayed.complete ≡ true = search rules in
-    record { posts = c.in-Ok.posts.items; planned = c.in-Ok.ensures; worked = relay.ensures.worked; complete = sym relay.ensures.complete ∙ complete }
+    record { posts = c.in-Ok.posts.items; planned = c.in-Ok.ensures; worked = relay.ensures.worked; seats = relay.ensures.seats; answered = relay.ensures.answered; complete = sym relay.ensures.complete ∙ complete }
 
 -- as many seats as workers
 pub returns-in-Ok-outcome_of-clause-served : goal.returns-in-Ok-outcome_of-clause-served
@@ -33,4 +32,4 @@ returns-in-Ok-outcome_of-clause-served g c =
     let relay = c.in-Ok-run_relay in
     let served = relay.ensures.served in
     let count = posts_count _ _ c.args.plan.now c.args.keys c.args.turns c.requires.keys c.in-Ok.ensures ∙ sym (workers_count c.args.plan.now) in
-    (served.0, subst (λ seats. IsServed g.D.Disk.state (new_flusher c.args.journal (new_end served.0 seats)) relay.relayed.finished.last.value) count served.1)
+    (served.0, served.1, served.2 ∙ count, served.3)

@@ -41,6 +41,7 @@ loop-wanted-preserved g c =
         taken = c.answer.ensures.taken ∙ kept.taken;
         start = c.answer.ensures.start ∙ kept.start;
         over = c.answer.ensures.over ∙ kept.over;
+        names = c.answer.ensures.names ∙ kept.names;
         holds = c.answer.ensures.holds;
       },
     )

@@ -1,6 +1,7 @@
 use Rattle.std.proofs.Common.{◌≡◌, ◌+◌, List, drop, length, vec_capacity}
 use Rattle.std.specs.Vec.Iter.{drain_items}
 use Rattle.rly_machine.specs.declared.call.Call.{Call}
+use Rattle.rly_line.specs.EndViews.{names_of}
 use Rattle.rly_line.specs.Responding.{IsResponding}
 use Rattle.rly_flush.specs.HelpersFlushing.{answers_said, calls_said}
 use Rattle.rly_flush.proofs.Answering.{IsUnderWay, once_told}
@@ -19,5 +20,6 @@ invariant-loop-wanted g l =
       taken : l.line.taken ≡ l.fn.line.taken;
       start : l.line.start ≡ l.fn.line.start;
       over : l.line.over ≡ l.fn.line.over;
+      names : names_of l.line.lines ≡ names_of l.fn.line.lines;
       holds : IsResponding l.line;
     })

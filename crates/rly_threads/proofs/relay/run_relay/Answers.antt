@@ -1,10 +1,14 @@
-use Rattle.std.proofs.Common.{◌≡◌, ◌∙◌, ◌⊎◌, ap, rules, subst, sym, true, IfOk}
+use Rattle.std.proofs.Common.{◌≡◌, ◌∙◌, ◌⊎◌, List, Option, ap, length, rules, subst, sym, true, IfOk}
 use Rattle.rly_disk.specs.DiskModel.{HasFailed, Later}
 use Rattle.rly_journal.specs.Journal.{JournalState}
 use Rattle.rly_threads.specs.declared.relay.Relayed.{Relayed}
 use Rattle.std.specs.List.{AllZip}
 use Rattle.rly_threads.specs.HelpersCut.{IsRelayed}
 use Rattle.rly_threads.specs.Relay.{HaveEnded, seated}
+use Rattle.rly_line.specs.Replies.{ReplyId}
+use Rattle.rly_line.specs.Submission.{LineId}
+use Rattle.rly_line.proofs.Closing.{as_many_names}
+use Rattle.rly_line.proofs.Making.{names_again}
 use Rattle.rly_threads.proofs.Kept.{if_ok}
 use Rattle.rly_threads.proofs.relay.run_relay.Goals as goal
 
@@ -24,13 +28,17 @@ returns g c =
           (λ relayed is yes.
           subst (λ (j : JournalState g.row.D.Denot). (c.args.journal.broken ≡ true) ⊎ HasFailed (g.D.Disk.state c.args.journal.disk) (g.D.Disk.state j.disk)) is.left
           (is.served.rounds.broke (ap (λ (j : JournalState g.row.D.Denot). j.broken) is.left ∙ sym is.broken ∙ yes)));
-      served = if_ok {P = Is} c.scoped.result done (λ relayed is. (is.line, is.served));
+      served = if_ok {P = Is} c.scoped.result done (λ relayed is. (is.line, is.names, is.count, is.served));
       left = if_ok {P = Is} c.scoped.result done (λ relayed is. is.left);
       worked =
           if_ok {P = Is} c.scoped.result done
           (λ relayed is.
-          subst (λ line. AllZip (HaveEnded g.L.Link.heard g.L.Link.sent g.T.Turn.told g.T.Turn.endless c.args.plan.now c.args.journal.state.params.window) (seated line c.args.posts.items) relayed.ended.items)
-          (sym is.served.rounds.of) is.worked);
+          subst (λ (y : LineId × List (Option ReplyId)). AllZip (HaveEnded g.L.Link.heard g.L.Link.sent g.T.Turn.told g.T.Turn.endless c.args.plan.now c.args.journal.state.params.window) (seated y.0 y.1 c.args.posts.items) relayed.ended.items)
+          (λ i. (sym is.served.rounds.of i, sym (is.served.rounds.names ∙ names_again 0 is.names) i)) is.worked);
+      seats =
+          if_ok {P = Is} c.scoped.result done
+          (λ relayed is. sym (as_many_names relayed.finished.last.value.line.lines) ∙ ap length (is.served.rounds.names ∙ names_again 0 is.names) ∙ is.count);
+      answered = if_ok {P = Is} c.scoped.result done (λ relayed is. is.answered);
       told = if_ok {P = Is} c.scoped.result done (λ relayed is. is.told);
       cut = if_ok {P = Is} c.scoped.result done (λ relayed is. is.cut);
       complete = if_ok {P = Is} c.scoped.result done (λ relayed is. is.complete);

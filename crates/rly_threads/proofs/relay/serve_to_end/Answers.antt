@@ -1,6 +1,12 @@
-use Rattle.std.proofs.Common.{◌≡◌, IfSome, subst, sym}
+use Rattle.std.proofs.Common.{◌≡◌, ◌∙◌, Bool, IfSome, List, Option, subst, sym}
 use Rattle.std.specs.List.{AllByRecursion, AllZip}
-use Rattle.rly_threads.specs.HelpersCut.{GivesBack, IsJoined}
+use Rattle.rly_flush.specs.Flushing.{FlusherState, IsServed}
+use Rattle.rly_line.specs.EndViews.{ClosedView, names_of}
+use Rattle.rly_line.specs.Replies.{ReplyId}
+use Rattle.rly_line.specs.Submission.{LineId}
+use Rattle.rly_line.proofs.Closing.{same_names}
+use Rattle.rly_threads.specs.HelpersCut.{AreSeatsOf, GivesBack, IsJoined}
+use Rattle.rly_threads.proofs.Kept.{all_answered}
 use Rattle.rly_threads.proofs.relay.serve_to_end.Goals as goal
 
 pub join_all-ended-requires-clause-word : goal.join_all-ended-requires-clause-word
@@ -8,7 +14,21 @@ join_all-ended-requires-clause-word g c =
     subst (λ lock. AllByRecursion (λ thread. IfSome thread (λ t. t.promise.word.value.id ≡ lock)) c.args.threads.items)
     (sym c.tell_workers-said.ensures.of) c.requires.word
 
+-- the seats are of the lines that the flusher closed
+pub join_all-ended-requires-clause-seats : goal.join_all-ended-requires-clause-seats
+join_all-ended-requires-clause-seats g c =
+    let served = subst (λ (f : FlusherState g.row.D.Denot). IsServed g.D.Disk.state f c.serve-finished.result.last.value) c.forget_missing.ensures c.serve-finished.ensures.ends in
+    let left = c.serve-finished.ensures.closed in
+    let of : c.args.flusher.line.of ≡ c.serve-finished.result.lines.of = sym (left.of ∙ served.rounds.of) in
+    let names : names_of c.args.flusher.line.lines ≡ names_of c.serve-finished.result.lines.lines = sym (same_names _ _ left.told ∙ served.rounds.names) in
+    subst (λ (y : LineId × List (Option ReplyId)). AreSeatsOf y.0 y.1 c.args.threads.items) (λ i. (of i, names i)) c.requires.seats
+
 pub returns-clause-joined : goal.returns-clause-joined
 returns-clause-joined g c =
-    subst (λ said. AllZip (GivesBack (IsJoined g.L.Link.heard g.L.Link.sent g.T.Turn.told g.T.Turn.endless said)) c.args.threads.items c.join_all-ended.result.items)
-    c.tell_workers-said.ensures.value c.join_all-ended.ensures
+    subst (λ (y : Bool × ClosedView). AllZip (GivesBack (IsJoined g.L.Link.heard g.L.Link.sent g.T.Turn.told g.T.Turn.endless y.0 y.1)) c.args.threads.items c.join_all-ended.result.items)
+    (λ i. (c.tell_workers-said.ensures.value i, sym c.join_all-ended.ensures.same i)) c.join_all-ended.ensures.joined
+
+pub returns-clause-answered : goal.returns-clause-answered
+returns-clause-answered g c =
+    all_answered g.L.Link.heard g.L.Link.sent g.T.Turn.told g.T.Turn.endless _ _ c.serve-finished.result.last.value.line c.serve-finished.ensures.closed
+    c.serve-finished.ensures.ends.rounds.history.told _ _ c.join_all-ended.ensures.joined

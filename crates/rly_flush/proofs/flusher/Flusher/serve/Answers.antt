@@ -12,7 +12,7 @@ loop-count-init g c = (continued_first g.D.Disk.state g.met.D.Disk.consistent c.
 pub loop-count-preserved : goal.loop-count-preserved
 loop-count-preserved g c =
     let so_far = continued_next g.D.Disk.state g.met.D.Disk.consistent c.args.self c.loop-count.flusher c.round.new.self c.loop-count.invariant.0 c.loop-count.invariant.1 c.round.result
-    c.round.ensures.took c.round.ensures.first c.round.ensures.of c.round.ensures.start c.round.ensures.history c.round.ensures.failures c.round.ensures.later c.round.ensures.any_moment in
+    c.round.ensures.took c.round.ensures.first c.round.ensures.of c.round.ensures.start c.round.ensures.names c.round.ensures.history c.round.ensures.failures c.round.ensures.later c.round.ensures.any_moment in
     (so_far, may_follow c.round.new.self so_far.rounds (λ broke none. absurd (false≢true (sym c.if-has_ended.false ∙ c.has_ended.ensures.1 (broke, none)))))
 
 pub returns-clause-ends : goal.returns-clause-ends
@@ -27,7 +27,7 @@ returns-clause-ends g c =
             | in-Some+then-not-round w ↦
                 subst (IsContinued g.D.Disk.state c.args.self) (sym w.flusher-is)
                 (continued_next g.D.Disk.state g.met.D.Disk.consistent c.args.self c.loop-count.flusher w.round.new.self c.loop-count.invariant.0 c.loop-count.invariant.1 w.round.result
-                w.round.ensures.took w.round.ensures.first w.round.ensures.of w.round.ensures.start w.round.ensures.history w.round.ensures.failures w.round.ensures.later w.round.ensures.any_moment)
+                w.round.ensures.took w.round.ensures.first w.round.ensures.of w.round.ensures.start w.round.ensures.names w.round.ensures.history w.round.ensures.failures w.round.ensures.later w.round.ensures.any_moment)
           ]);
       none_kept =
           (elim c.match-next.branch [

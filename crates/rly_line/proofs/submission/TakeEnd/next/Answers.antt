@@ -1,5 +1,5 @@
 use Rattle.rly_line.proofs.Submitting.{takes}
-use Rattle.rly_line.proofs.submission.TakeEnd.wait.Goals as goal
+use Rattle.rly_line.proofs.submission.TakeEnd.next.Goals as goal
 
 pub recv_as-requires-clause-rule : goal.recv_as-requires-clause-rule
 recv_as-requires-clause-rule g c = (takes _ _ c.self.invariant.1, λ _ _ _ _. tt)
