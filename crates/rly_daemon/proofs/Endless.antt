@@ -13,10 +13,10 @@ use Rattle.rly_line.specs.Seats.{new_callers}
 use Rattle.rly_line.specs.Submission.{LineId}
 use Rattle.rly_plan.specs.ContactPlan.{ContactPlan, next_hop_at, peer_at}
 use Rattle.rly_plan.specs.Endpoints.{Endpoints}
-use Rattle.rly_daemon.specs.declared.udp_link.UdpLink.{UdpLink}
+use Rattle.rly_daemon.specs.Neighbour.{neighbour_heard, neighbour_sent}
+use Rattle.rly_daemon.specs.declared.neighbour_link.NeighbourLink.{NeighbourLink}
 use Rattle.rly_daemon.specs.declared.wall_clock.WallClock.{WallClock}
-use Rattle.rly_seal.specs.declared.station_link.StationLink.{StationLink}
-use Rattle.rly_seal.specs.StationLink.{link_below, station_heard, station_sent}
+use Rattle.rly_seal.specs.StationLink.{link_below}
 use Rattle.rly_threads.specs.declared.relay.Ended.{Ended}
 use Rattle.rly_threads.specs.declared.turn.Go.{Go}
 use Rattle.rly_threads.specs.declared.turn.Point.TheVariants.{Start}
@@ -85,8 +85,8 @@ uncut (l ∷ looks) e =
     let both = or_parts l.cut (was_cut looks) e in
     λ i. uncut_one l both.0 i ∷ uncut looks both.1 i
 
-endless_goes_on : {C : Type 0} (plan : ContactPlan) (links : List KeyedWorker) (window : ℕ) (line : LineId) (names : List (Option ReplyId)) (number : ℕ) (posts : List (StationPost C)) (ended : List (Option (Ended (StationLink (UdpLink C)) (WallClock C)))) → map duty_at posts ≡ duties plan links 0 → 1 ≤ length posts → length names ≡ length posts
-    → AllZip (HaveEnded (station_heard (λ _. None)) (station_sent (λ _. None)) clock_told clock_endless plan window) (zip posts (new_callers line number names)) ended
+endless_goes_on : {C : Type 0} (plan : ContactPlan) (links : List KeyedWorker) (window : ℕ) (line : LineId) (names : List (Option ReplyId)) (number : ℕ) (posts : List (StationPost C)) (ended : List (Option (Ended (NeighbourLink C) (WallClock C)))) → map duty_at posts ≡ duties plan links 0 → 1 ≤ length posts → length names ≡ length posts
+    → AllZip (HaveEnded (λ l. neighbour_heard l) (λ l. neighbour_sent l) clock_told clock_endless plan window) (zip posts (new_callers line number names)) ended
     → list_all has_run_out ended ≡ true → ⊥
 endless_goes_on plan links window line names number [] ended e some count worked all = absurd (omega (arith, some))
 endless_goes_on plan links window line [] number (post ∷ posts) ended e some count worked all = absurd (omega (arith, count))
@@ -96,9 +96,9 @@ endless_goes_on plan links window line (name ∷ names) number (post ∷ posts) 
     let did = worked.0 in
     let first = first_duty _ _ plan 0 links e in
     let is : post.worker ≡ first.0.worker = ap (λ d. d.worker) first.1 in
-    let there : Some (link_below post.link).addresses.value ≡ addresses_of plan post.worker = ap (λ d. d.addresses) first.1 ∙ ap (addresses_of plan) (sym is) in
+    let there : Some (link_below post.link.link).addresses.value ≡ addresses_of plan post.worker = ap (λ d. d.addresses) first.1 ∙ ap (addresses_of plan) (sym is) in
     let none : post.turn.left ≡ None = ap (λ d. d.left) first.1 in
-    let end = worked_ended plan window post.worker (link_below post.link).addresses.value _ _ there did.worked in
+    let end = worked_ended plan window post.worker (link_below post.link.link).addresses.value _ _ there did.worked in
     let not_cut : was_cut did.looks ≡ false = sym did.was_cut ∙ not_false left.was_cut (and_parts (not left.was_cut) (list_all has_run_out ended) all).0 in
     let whole : map (λ l. l.handed) did.looks ≡ end.before ++ (end.worker, Start, end.last) ∷ [] =
     uncut did.looks not_cut ∙ ap (λ (o : Option (List Handed)). unwrap_or o []) end.handed in
@@ -107,8 +107,8 @@ endless_goes_on plan links window line (name ∷ names) number (post ∷ posts) 
     true≢false (sym (last_on end.before (end.worker, Start, end.last) on) ∙ end.off)
 
 -- where each worker of a plan ran until its turns were ended, the turns have an end
-pub turns_end : {C : Type 0} (plan : ContactPlan) (links : List KeyedWorker) (window turns : ℕ) (line : LineId) (names : List (Option ReplyId)) (posts : List (StationPost C)) (ended : List (Option (Ended (StationLink (UdpLink C)) (WallClock C)))) → map duty_at posts ≡ duties plan links turns → 1 ≤ length posts → length names ≡ length posts
-    → AllZip (HaveEnded (station_heard (λ _. None)) (station_sent (λ _. None)) clock_told clock_endless plan window) (seated line names posts) ended
+pub turns_end : {C : Type 0} (plan : ContactPlan) (links : List KeyedWorker) (window turns : ℕ) (line : LineId) (names : List (Option ReplyId)) (posts : List (StationPost C)) (ended : List (Option (Ended (NeighbourLink C) (WallClock C)))) → map duty_at posts ≡ duties plan links turns → 1 ≤ length posts → length names ≡ length posts
+    → AllZip (HaveEnded (λ l. neighbour_heard l) (λ l. neighbour_sent l) clock_told clock_endless plan window) (seated line names posts) ended
     → list_all has_run_out ended ≡ true → 1 ≤ turns
 turns_end plan links window zero line names posts ended e some count worked all = absurd (endless_goes_on plan links window line names 0 posts ended e some count worked all)
 turns_end plan links window (suc n) line names posts ended e some count worked all = omega arith

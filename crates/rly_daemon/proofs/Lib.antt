@@ -1,3 +1,4 @@
 pub mod Workers
 pub mod Turns
 pub mod Endless
+pub mod Sending

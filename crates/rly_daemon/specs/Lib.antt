@@ -3,6 +3,8 @@ pub mod FileDisk
 pub mod Formatting
 pub mod WallClock
 pub mod NamedKey
+pub mod Neighbour
+pub mod Warnings
 pub mod Serving
 pub mod Keys
 pub mod Planning

@@ -1,19 +1,19 @@
 -- What a relay needs of its device, and the workers that it starts.
-use Rattle.std.specs.Prelude.{◌≡◌, ◌⊎◌, ℕ, ◌<◌, ◌≤◌, List, [], ◌∷◌, ◌++◌, codes, map, length, Bool, true, Option, None, Some}
+use Rattle.std.specs.Prelude.{◌≡◌, ◌⊎◌, ℕ, ◌<◌, ◌≤◌, List, [], ◌∷◌, ◌++◌, ◌==◌, codes, map, length, Bool, true, false, is_some, Option, None, Some}
 use Rattle.std.specs.Fmt.{decimal}
 use Rattle.std.specs.List.{AllZip, list_all, range_with_len}
 use Rattle.std.specs.Option.{is_none, option_map}
 use Rattle.rly_core.specs.declared.params.Params.{Params}
+use Rattle.rly_daemon.specs.Neighbour.{neighbour_heard, neighbour_sent}
+use Rattle.rly_daemon.specs.declared.neighbour_link.NeighbourLink.{NeighbourLink}
 use Rattle.rly_daemon.specs.declared.plan_keys.KeyedWorker.{KeyedWorker}
-use Rattle.rly_daemon.specs.declared.udp_link.UdpLink.{UdpLink}
 use Rattle.rly_daemon.specs.declared.wall_clock.WallClock.{WallClock}
 use Rattle.rly_daemon.specs.WallClock.{turns_left}
 use Rattle.rly_line.specs.EndViews.{names_of}
 use Rattle.rly_line.specs.Responding.{Responding}
 use Rattle.rly_plan.specs.ContactPlan.{ContactPlan, next_hop_at, peer_at}
 use Rattle.rly_plan.specs.Endpoints.{Endpoints}
-use Rattle.rly_seal.specs.declared.station_link.StationLink.{StationLink}
-use Rattle.rly_seal.specs.StationLink.{keys_over, link_below, station_heard, station_sent}
+use Rattle.rly_seal.specs.StationLink.{keys_over, link_below}
 use Rattle.rly_tag.specs.Keys.{Keys}
 use Rattle.rly_threads.specs.declared.relay.Ended.{Ended}
 use Rattle.rly_threads.specs.declared.relay.Post.{Post}
@@ -53,15 +53,30 @@ addresses_of plan (worker.Sender hop) = option_map (λ n. n.addresses) (next_hop
 abbrev pub ended_line : ℕ → List ℕ
 ended_line turns = codes "rly: ended after " ++ decimal turns ++ codes " turns" ++ 10 ∷ []
 
--- a worker, the addresses of its link, the keys over it, and how many turns it has
+-- what a worker warns of: whose failed sends, whose packets without a right tag, and whether of the clock
+pub record Warned : Type 0 where
+  pub sends : Option Worker
+  pub tags : Worker
+  pub clock : Bool
+
+-- each warns of its own link, and the receiver of the first peer of the clock
+abbrev pub is_first : Worker → Bool
+is_first (worker.Receiver peer) = peer.0 == 1
+is_first (worker.Sender hop) = false
+
+abbrev pub warned_of : Worker → Warned
+warned_of w = record { sends = Some w; tags = w; clock = is_first w }
+
+-- a worker, the addresses of its link, the keys over it, how many turns it has, and what it warns of
 pub record Duty : Type 0 where
   pub worker : Worker
   pub addresses : Option Endpoints
   pub keys : Option Keys
   pub left : Option ℕ
+  pub warned : Warned
 
-abbrev pub duty : Worker → Option Endpoints → Option Keys → Option ℕ → Duty
-duty w addresses keys left = record { worker = w; addresses = addresses; keys = keys; left = left }
+abbrev pub duty : Worker → Option Endpoints → Option Keys → Option ℕ → Warned → Duty
+duty w addresses keys left warned = record { worker = w; addresses = addresses; keys = keys; left = left; warned = warned }
 
 -- what a clock tells, and whether its turns are without end
 abbrev pub clock_told : {C : Type 0} → WallClock C → Option (List Handed)
@@ -72,16 +87,25 @@ clock_endless clock = is_none clock.left
 
 -- a worker at a socket, sealed where its link has a key
 abbrev pub StationPost : Type 0 → Type 0
-StationPost C = Post (StationLink (UdpLink C)) (WallClock C)
+StationPost C = Post (NeighbourLink C) (WallClock C)
 
--- what the worker of a post has to do
+-- what the worker of a post warns of
+abbrev pub warned_at : {C : Type 0} → StationPost C → Warned
+warned_at post = record {
+  sends = option_map (λ f. f.worker) (link_below post.link.link).failed_sends;
+  tags = post.link.wrong_tags.worker;
+  clock = is_some post.turn.watch;
+}
+
+-- what it has to do
 abbrev pub duty_at : {C : Type 0} → StationPost C → Duty
-duty_at post = duty post.worker (Some (link_below post.link).addresses.value) (keys_over post.link) post.turn.left
+duty_at post = duty post.worker (Some (link_below post.link.link).addresses.value) (keys_over post.link.link) post.turn.left
+    (warned_at post)
 
 -- what a plan and its keys say of a worker
 abbrev pub duty_of : ContactPlan → ℕ → KeyedWorker → Duty
 duty_of plan turns link =
-    duty link.worker (addresses_of plan link.worker) (option_map (λ k. k.keys) link.key) (turns_left turns)
+    duty link.worker (addresses_of plan link.worker) (option_map (λ k. k.keys) link.key) (turns_left turns) (warned_of link.worker)
 
 -- what they say of all workers
 abbrev pub duties : ContactPlan → List KeyedWorker → ℕ → List Duty
@@ -91,10 +115,10 @@ duties plan links turns = map (duty_of plan turns) links
 -- and left that post. What its seat put and knows stands beside who answered it. Its link is sealed with the key that there is for it, and no other link is. A socket tells
 -- nothing of what it heard and sent; a seat and a clock tell all.
 pub record HasRun {C : Type 0} (plan : ContactPlan) (links : List KeyedWorker) (window turns : ℕ) (r : Responding)
-    (ended : List (Option (Ended (StationLink (UdpLink C)) (WallClock C)))) : Type 0 where
+    (ended : List (Option (Ended (NeighbourLink C) (WallClock C)))) : Type 0 where
   pub posts : List (StationPost C)
   pub planned : map duty_at posts ≡ duties plan links turns
-  pub worked : AllZip (HaveEnded (station_heard (λ _. None)) (station_sent (λ _. None)) clock_told clock_endless plan window)
+  pub worked : AllZip (HaveEnded (λ l. neighbour_heard l) (λ l. neighbour_sent l) clock_told clock_endless plan window)
       (seated r.of (names_of r.lines) posts) ended
   pub seats : length r.lines ≡ length posts
   pub answered : AreAnsweredBy r ended

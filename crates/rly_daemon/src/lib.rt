@@ -8,20 +8,28 @@
 
 mod address_fault;
 mod bells;
+mod clock_watch;
 mod command_fault;
+mod error_lines;
+mod failed_sends;
 mod file_disk;
 mod file_fault;
 mod formatting;
 mod geometry;
 mod key_fault;
+mod neighbour_link;
 mod new_key;
 mod plan_keys;
 mod planning;
 mod program;
 mod serving;
+mod teller;
 mod udp_link;
 mod wall_clock;
+mod warning;
 mod worker_name;
+mod worker_threads;
+mod wrong_tags;
 
 pub use crate::address_fault::{AddressFault, End, EndFault};
 pub use crate::command_fault::ServeFault;
@@ -29,6 +37,7 @@ pub use crate::file_disk::FileDisk;
 pub use crate::file_fault::{Cause, FileFault, FilePart, SystemWord};
 pub use crate::formatting::{UseFault, unused};
 pub use crate::key_fault::{KeyFault, KeyWord, NewKeyFault};
+pub use crate::neighbour_link::NeighbourLink;
 pub use crate::new_key::write_key;
 pub use crate::plan_keys::{KeyedWorker, NamedKey, PlanKeys, key_in, read_keys};
 pub use crate::program::{Host, run};

@@ -1,13 +1,14 @@
 //! The running relay: what it needs of its device, its workers, and how it ends.
 
-ghost use Rattle.std.specs.Prelude.{◌≡◌, ◌≤◌, ◌⊎◌, ◌++◌, Err, IfErr, IfOk, IsOk, OnOk, false, length, map, List, Option, option_copied, true};
+ghost use Rattle.std.specs.Prelude.{◌≡◌, ◌≤◌, ◌⊎◌, ◌++◌, Err, IfErr, IfOk, IsOk, OnOk, false, is_some, length, map, List, Option, option_copied, true};
 ghost use Rattle.rly_core.specs.declared.refusal.Refusal.{Refusal as ARefusal};
 ghost use Rattle.rly_core.specs.declared.refusal.Refusal.TheVariants as refusal;
 ghost use Rattle.rly_daemon.specs.declared.command_fault.ServeFault.TheVariants as fault;
 ghost use Rattle.rly_daemon.specs.declared.file_fault.Cause.TheVariants as cause;
 ghost use Rattle.rly_daemon.specs.Faults.{cause_at};
 ghost use Rattle.rly_daemon.specs.Keys.{AreKeysOf};
-ghost use Rattle.rly_daemon.specs.Serving.{HasRoom, HasRun, LacksRoom, addresses_of, duties, duty_at, duty_of, receivers, senders, workers_of};
+ghost use Rattle.rly_daemon.specs.Serving.{HasRoom, HasRun, LacksRoom, addresses_of, duties, duty_at, duty_of, is_first, receivers, senders, workers_of};
+ghost use Rattle.rly_daemon.specs.WallClock.{turns_left};
 ghost use Rattle.rly_daemon.specs.declared.file_fault.SystemWord.{SystemWord as AWord};
 ghost use Rattle.rly_flush.specs.Flushing.{IsServed, new_flusher};
 ghost use Rattle.rly_line.specs.Replies.{ReplyId};
@@ -18,18 +19,23 @@ ghost use Rattle.rly_threads.specs.Relay.{new_end};
 
 use crate::address_fault::{AddressFault, End, EndFault};
 use crate::bells::Bells;
+use crate::clock_watch::ClockWatch;
 use crate::command_fault::ServeFault;
+use crate::error_lines::ErrorLines;
+use crate::failed_sends::FailedSends;
 use crate::file_fault::{Cause, SystemWord};
 use crate::formatting::live_items;
+use crate::neighbour_link::NeighbourLink;
 use crate::plan_keys::{KeyedWorker, PlanKeys};
+use crate::teller::Teller;
 use crate::udp_link::UdpLink;
 use crate::wall_clock::WallClock;
 use crate::worker_name::WorkerName;
+use crate::worker_threads::check_threads;
 use rly_core::{HopId, Params, PeerId, Refusal};
 use rly_disk::Disk;
 use rly_journal::Journal;
 use rly_plan::{Addresses, Plan, law_plan_is_sound};
-use rly_seal::StationLink;
 use rly_threads::{Post, Relayed, Worker, run_relay};
 use std::alloc::{AllocError, Global};
 use std::fs::{File, Files};
@@ -41,10 +47,10 @@ use std::time::Clock;
 use std::{fs, io};
 
 /// A worker of the relay, its link and its turns.
-type UdpPost<'a, H> = Post<StationLink<UdpLink<&'a H>>, WallClock<&'a H>>;
+type UdpPost<'a, H> = Post<NeighbourLink<&'a H>, WallClock<&'a H>>;
 
 /// What a relay over UDP leaves.
-pub type UdpRelayed<'a, D, H> = Relayed<D, StationLink<UdpLink<&'a H>>, WallClock<&'a H>>;
+pub type UdpRelayed<'a, D, H> = Relayed<D, NeighbourLink<&'a H>, WallClock<&'a H>>;
 
 /// Reads a plan from a file. Where the file can't be read or isn't UTF-8, the answer is `Plan`; a plan that is refused is
 /// told with the place of its first fault.
@@ -106,6 +112,9 @@ pub fn serve<'a, H: AllocGlobal + Net + Threads + Wait + Clock + Sync, D: Disk +
         Ok(posts) => posts,
         Err(fault) => return Err((fault, journal.into_disk())),
     };
+    if let Err(fault) = check_threads(rt, posts.len()) {
+        return Err((fault, journal.into_disk()));
+    }
     let told = tell_start(&journal, plan, size, &posts, errors);
     match run_relay(rt, rt.alloc(), journal, plan, posts) {
         Ok(relayed) => match outcome_of(relayed.finished.broken, relayed.complete, told) {
@@ -144,9 +153,8 @@ fn tell_open<'a, H: Clock, E: Write>(posts: &[UdpPost<'a, H>], errors: &mut E) -
     let mut before = "rly: anyone can speak on";
     let mut is_any = false;
     for post in posts {
-        if let StationLink::Open(_) = &post.link {
-            let name = WorkerName(post.worker);
-            write!(errors, "{before} {name}")?;
+        if post.link.is_open() {
+            write!(errors, "{before} {}", WorkerName(post.worker))?;
             before = ",";
             is_any = true;
         }
@@ -202,9 +210,12 @@ fn posts_of<'a, H: AllocGlobal + Net + Clock>(
     let Ok(bells) = Arc::new(rt.alloc(), Bells::open(rt, rt.alloc(), plan)?) else {
         return Err(AllocError.into());
     };
+    let Ok(lines) = Arc::new(rt.alloc(), ErrorLines::new(rt.alloc())) else {
+        return Err(AllocError.into());
+    };
     let mut posts = Vec::new(rt.alloc());
     for link in keys.links {
-        let post = post_of(rt, plan, link, turns, &bells)?;
+        let post = post_of(rt, plan, link, turns, &bells, &lines)?;
         if posts.push(post).is_err() {
             return Err(AllocError.into());
         }
@@ -213,13 +224,15 @@ fn posts_of<'a, H: AllocGlobal + Net + Clock>(
 }
 
 /// A worker of a plan, with its link and its turns. Its link is sealed where it has a key. Its turns tell the bells, and a
-/// sender's link has the bell of its hop. A worker whose neighbour isn't in the plan has no link.
+/// sender's link has the bell of its hop. What is to be warned of goes to the lines. A worker whose neighbour isn't in the
+/// plan has no link.
 fn post_of<'a, H: AllocGlobal + Net + Clock>(
     rt: &'a H,
     plan: &Plan,
     link: KeyedWorker<'_>,
     turns: u64,
     bells: &Arc<Bells, Global>,
+    lines: &Arc<ErrorLines, Global>,
 ) -> Result<UdpPost<'a, H>, ServeFault>
     ensures { IfOk result (λ post. duty_at post ≡ duty_of plan.now turns link.entry) }
 {
@@ -235,9 +248,41 @@ fn post_of<'a, H: AllocGlobal + Net + Clock>(
         Worker::Receiver(_) => socket,
         Worker::Sender(hop) => socket.with_bell(bells.clone()?, hop),
     };
-    let link = StationLink::new(socket, key.map(|key| key.into_key()));
-    let turn = WallClock::new(rt, turns).with_bells(bells.clone()?);
+    let failed_sends = FailedSends::new(worker, Teller::new(lines.clone()?));
+    let socket = socket.with_failed_sends(failed_sends);
+    let key = key.map(|key| key.into_key());
+    let link = NeighbourLink::new(socket, key, worker, Teller::new(lines.clone()?));
+    let turn = turn_of(rt, worker, turns, bells, lines)?;
     Ok(Post { worker, link, turn })
+}
+
+/// The turns of a worker, which tell the bells. Those of the first peer's receiver also tell where the clock was set.
+fn turn_of<'a, H: Clock>(
+    rt: &'a H,
+    worker: Worker,
+    turns: u64,
+    bells: &Arc<Bells, Global>,
+    lines: &Arc<ErrorLines, Global>,
+) -> Result<WallClock<&'a H>, AllocError>
+    ensures left { IfOk result (λ turn. turn.left ≡ turns_left turns) }
+    ensures watch { IfOk result (λ turn. is_some turn.watch ≡ is_first worker) }
+{
+    let turn = WallClock::new(rt, turns).with_bells(bells.clone()?);
+    if !is_first(worker) {
+        return Ok(turn);
+    }
+    let watch = ClockWatch::new(Teller::new(lines.clone()?));
+    Ok(turn.with_watch(watch))
+}
+
+/// Whether it is the receiver of the first peer.
+fn is_first(worker: Worker) -> bool
+    ensures { result ≡ is_first worker }
+{
+    match worker {
+        Worker::Receiver(peer) => peer.0 == 1,
+        Worker::Sender(_) => false,
+    }
 }
 
 /// Says whose link it was that the system refused, and at which address.

@@ -1,8 +1,9 @@
-ghost use Rattle.std.specs.Prelude.{◌≡◌, ◌≤◌, ◌-◌, ◌^◌, ◌↔◌, IfOk, IfSome, IsErr, IsTrue, length};
+ghost use Rattle.std.specs.Prelude.{◌≡◌, ◌≤◌, ◌-◌, ◌^◌, ◌↔◌, IfOk, IfSome, IsErr, IsTrue, Some, length};
 ghost use Rattle.rly_threads.specs.Ends.{FailuresRose};
 
 use crate::address_fault::{End, EndFault};
 use crate::bells::Bells;
+use crate::failed_sends::FailedSends;
 use crate::file_fault::SystemWord;
 use rly_core::HopId;
 use rly_plan::Addresses;
@@ -32,6 +33,8 @@ pub struct UdpLink<C: Clock + Drop> {
     /// Whether a call of the socket waits, as the system was told last.
     waits: bool,
     failures: u64,
+    /// Its sends that failed, if they are told.
+    failed_sends: Option<FailedSends>,
     /// What ends its waits, and of which hop it is the link, if anything ends them.
     bell: Option<(Arc<Bells, Global>, HopId)>,
     addresses: Snapshot<Addresses>,
@@ -52,6 +55,7 @@ impl<C: Clock + Drop> UdpLink<C> {
             clock,
             waits: true,
             failures: 0,
+            failed_sends: None,
             bell: None,
             addresses: Snapshot::of(addresses),
         })
@@ -62,6 +66,14 @@ impl<C: Clock + Drop> UdpLink<C> {
         ensures { result ≡ record self { bell = result.bell } }
     {
         self.bell = Some((bells, hop));
+        self
+    }
+
+    /// The same, and it tells of sends that fail.
+    pub(crate) fn with_failed_sends(mut self, failed_sends: FailedSends) -> UdpLink<C>
+        ensures { result ≡ record self { failed_sends = Some failed_sends } }
+    {
+        self.failed_sends = Some(failed_sends);
         self
     }
 
@@ -134,7 +146,8 @@ impl<C: Clock + Drop> UdpLink<C> {
 
     /// Counts a call that failed.
     fn fail(&mut self) -> LinkFault
-        ensures { FailuresRose self.old.failures self.new.failures }
+        ensures rise { FailuresRose self.old.failures self.new.failures }
+        ensures same { self.new ≡ record self.old { failures = self.new.failures } }
     {
         self.failures = self.failures.saturating_add(1);
         LinkFault
@@ -142,7 +155,8 @@ impl<C: Clock + Drop> UdpLink<C> {
 }
 
 impl<C: Clock + Drop> Link for UdpLink<C> {
-    ghost use Rattle.std.specs.Prelude.{◌≡◌, ◌≤◌, ◌-◌, ◌^◌, IfOk, IfSome, IsErr, None, OnErr, OnOk, length};
+    ghost use Rattle.std.specs.Prelude.{◌≡◌, ◌≤◌, ◌<◌, ◌-◌, ◌^◌, IfOk, IfSome, IsErr, None, OnErr, OnOk, length};
+    ghost use Rattle.rly_daemon.specs.Warnings.{HasCountedIf};
     ghost use Rattle.rly_threads.specs.Ends.{FailuresRose};
 
     ghost heard = { λ _. None };
@@ -156,6 +170,7 @@ impl<C: Clock + Drop> Link for UdpLink<C> {
         ensures rise { OnErr result (FailuresRose self.old.failures self.new.failures) }
         ensures no_failure { OnOk result (self.new.failures ≡ self.old.failures) }
         ensures spent { self.old.failures ≡ 2 ^ 64 - 1 → IsErr result }
+        ensures quiet { self.new.failed_sends ≡ self.old.failed_sends }
     {
         match self.receive_waiting(buffer) {
             Ok(found) => Ok(found),
@@ -172,6 +187,7 @@ impl<C: Clock + Drop> Link for UdpLink<C> {
         ensures rise { OnErr result (FailuresRose self.old.failures self.new.failures) }
         ensures no_failure { OnOk result (self.new.failures ≡ self.old.failures) }
         ensures spent { self.old.failures ≡ 2 ^ 64 - 1 → IsErr result }
+        ensures quiet { self.new.failed_sends ≡ self.old.failed_sends }
     {
         match self.receive(false, buffer) {
             Ok(found) => Ok(found),
@@ -183,13 +199,21 @@ impl<C: Clock + Drop> Link for UdpLink<C> {
         ensures rise { OnErr result (FailuresRose self.old.failures self.new.failures) }
         ensures no_failure { OnOk result (self.new.failures ≡ self.old.failures) }
         ensures spent { self.old.failures ≡ 2 ^ 64 - 1 → IsErr result }
+        // A failed send is counted and told, and no other is.
+        ensures quiet { OnOk result (self.new.failed_sends ≡ self.old.failed_sends) }
+        ensures counted { OnErr result ((self.old.failures < 2 ^ 64 - 1) → HasCountedIf self.old.failed_sends self.new.failed_sends) }
     {
         if self.is_spent() {
             return Err(self.fail());
         }
         match self.send_waiting(packet) {
             Ok(_) => Ok(()),
-            Err(_) => Err(self.fail()),
+            Err(error) => {
+                if let Some(failed_sends) = &mut self.failed_sends {
+                    failed_sends.add(error);
+                }
+                Err(self.fail())
+            }
         }
     }
 

@@ -1,8 +1,10 @@
-ghost use Rattle.std.specs.Prelude.{◌≡◌, ◌≤◌, false, List, Option, ℕ};
+ghost use Rattle.std.specs.Prelude.{◌≡◌, ◌≤◌, false, true, List, None, Option, Some, ℕ};
+ghost use Rattle.rly_daemon.specs.Warnings.{HasReadIf};
 ghost use Rattle.rly_daemon.specs.WallClock.{goes_on, is_read_at, left_at, moment_of, start_count, turns_had, turns_left, turns_of};
 ghost use Rattle.rly_threads.specs.declared.turn.Point.{Point as APoint};
 
 use crate::bells::Bells;
+use crate::clock_watch::{ClockWatch, Reading};
 use http_server::Log;
 use rly_threads::{Go, Point, Turn, Worker};
 use std::alloc::Global;
@@ -18,6 +20,8 @@ pub struct WallClock<C: Clock + Drop> {
     since: u64,
     left: Option<u64>,
     bells: Option<Arc<Bells, Global>>,
+    /// Who tells where the wall clock is set, if anybody does.
+    watch: Option<ClockWatch>,
     // What it handed out, which takes no memory.
     handed: Log<(Worker, Point), Go>,
 }
@@ -25,7 +29,8 @@ pub struct WallClock<C: Clock + Drop> {
 impl<C: Clock + Drop> WallClock<C> {
     /// It ends its worker after so many turns: never, where they are 0.
     pub fn new(clock: C, turns: u64) -> WallClock<C>
-        ensures { result.left ≡ turns_left turns }
+        ensures left { result.left ≡ turns_left turns }
+        ensures watch { result.watch ≡ None }
     {
         let left = if turns == 0 { None } else { Some(turns) };
         WallClock {
@@ -34,6 +39,7 @@ impl<C: Clock + Drop> WallClock<C> {
             since: 0,
             left,
             bells: None,
+            watch: None,
             handed: Log::new(),
         }
     }
@@ -43,6 +49,14 @@ impl<C: Clock + Drop> WallClock<C> {
         ensures { result ≡ record self { bells = result.bells } }
     {
         self.bells = Some(bells);
+        self
+    }
+
+    /// The same, and it tells where the wall clock is set.
+    pub(crate) fn with_watch(mut self, watch: ClockWatch) -> WallClock<C>
+        ensures { result ≡ record self { watch = Some watch } }
+    {
+        self.watch = Some(watch);
         self
     }
 
@@ -73,7 +87,8 @@ impl<C: Clock + Drop> WallClock<C> {
         ensures on { result.on ≡ goes_on point self.old.left }
         ensures now { result.now ≡ self.new.now }
         ensures since { (result.since ≡ self.new.since) × (self.old.since ≤ self.new.since) }
-        ensures held { is_read_at point ≡ false → (self.new.now ≡ self.old.now) × (self.new.since ≡ self.old.since) }
+        ensures held { is_read_at point ≡ false → (self.new.now ≡ self.old.now) × (self.new.since ≡ self.old.since) × (self.new.watch ≡ self.old.watch) }
+        ensures watched { is_read_at point ≡ true → HasReadIf self.old.watch self.new.watch self.new.now self.old.since self.new.since }
         ensures left { self.new.left ≡ left_at point self.old.left }
         ensures handed { self.new.handed ≡ self.old.handed }
     {
@@ -96,20 +111,28 @@ impl<C: Clock + Drop> WallClock<C> {
         }
     }
 
-    /// Reads both clocks. A monotonic one that falls stays where it was.
+    /// Reads both clocks. A monotonic one that falls stays where it was. Where the wall clock was set, that is told.
     fn read(&mut self)
-        ensures same { self.new ≡ record self.old { now = self.new.now; since = self.new.since } }
+        ensures same { self.new ≡ record self.old { now = self.new.now; since = self.new.since; watch = self.new.watch } }
         ensures since { self.old.since ≤ self.new.since }
+        ensures watched { HasReadIf self.old.watch self.new.watch self.new.now self.old.since self.new.since }
     {
         self.now = moment_of(self.clock.since_1970().ok());
         let passed = moment_of(self.clock.monotonic().ok());
         self.since = self.since.max(passed);
+        if let Some(watch) = &mut self.watch {
+            watch.note(Reading {
+                wall: self.now,
+                steady: passed,
+            });
+        }
     }
 }
 
 impl<C: Clock + Drop> Turn for WallClock<C> {
     ghost use Rattle.std.specs.Prelude.{◌≡◌, ◌≤◌, ◌∷◌, [], Some, false, true};
     ghost use Rattle.std.specs.Option.{is_none};
+    ghost use Rattle.rly_daemon.specs.Warnings.{HasReadIf};
     ghost use Rattle.rly_daemon.specs.WallClock.{goes_on, is_read_at, left_at};
     ghost use Rattle.rly_threads.specs.Ends.{TellsMore};
     ghost use Rattle.rly_threads.specs.Memory.{handed_of};
@@ -126,6 +149,9 @@ impl<C: Clock + Drop> Turn for WallClock<C> {
         ensures since { (self.old.since ≤ result.since) × (self.new.since ≡ result.since) }
         // Within a turn it hands out the moment at which the packet was waited for, up to the answer of the call.
         ensures held { is_read_at point ≡ false → (self.new.now ≡ self.old.now) × (self.new.since ≡ self.old.since) }
+        // Where the clocks are read, a wall clock that was set is told, if it is watched; nowhere else.
+        ensures watched { is_read_at point ≡ true → HasReadIf self.old.watch self.new.watch self.new.now self.old.since self.new.since }
+        ensures quiet { is_read_at point ≡ false → self.new.watch ≡ self.old.watch }
         ensures left { self.new.left ≡ left_at point self.old.left }
         ensures tells { TellsMore (Some (handed_of self.old.handed)) (Some (handed_of self.new.handed)) ((worker, point, result) ∷ []) }
         ensures endless { (is_none self.new.left ≡ is_none self.old.left) × (is_none self.old.left ≡ true → result.on ≡ true) }

@@ -7,6 +7,11 @@ use std::fmt::{Display, Formatter};
 pub(crate) struct WorkerName(pub Worker);
 
 impl Display for WorkerName {
+    ghost use Rattle.std.specs.Prelude.{Some};
+    ghost use Rattle.rly_daemon.specs.Warnings.{name_text};
+
+    ghost output = { λ name. Some (name_text name.0) };
+
     fn fmt<W: fmt::Write>(&self, f: &mut Formatter<W>) -> fmt::Result {
         match self.0 {
             Worker::Receiver(peer) => write!(f, "peer {}", peer.0),

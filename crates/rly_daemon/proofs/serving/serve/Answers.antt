@@ -1,5 +1,8 @@
+use denote.Exit.{no}
+use denote.Param.Send.{arg_send, param_send, param_sync, shr_send}
 use Rattle.std.proofs.Common.{◌≡◌, ◌≤◌, ◌∙◌, arith, length, rules, sym, true}
 use Rattle.rly_daemon.proofs.Endless.{turns_end}
+use Rattle.rly_daemon.proofs.Sending.{neighbour_send}
 use Rattle.rly_daemon.proofs.Workers.{posts_count, workers_count}
 use Rattle.rly_line.proofs.Closing.{as_many_names}
 use Rattle.rly_daemon.proofs.serving.serve.Goals as goal
@@ -11,6 +14,11 @@ run_relay-requires-after_bounds g c κs within =
     let peers = c.requires.sound.peer_count in
     let hops = c.requires.sound.hop_count in
     (omega (arith, count, peers.0, hops.0), omega (arith, count, peers.1, hops.1))
+
+-- a worker's link goes to its thread
+pub run_relay-requires-send-L : goal.run_relay-requires-send-L
+run_relay-requires-send-L g c κs within =
+    param_send 2 _ (arg_send _ no _ (neighbour_send _ _ (shr_send _ _ _ (param_sync 0 _ c.type_bounds.sync-H))))
 
 pub returns-in-Ok-outcome_of-clause-ends : goal.returns-in-Ok-outcome_of-clause-ends
 returns-in-Ok-outcome_of-clause-ends g c =

@@ -1,0 +1,77 @@
+-- The link to a neighbour may be sent to another thread where its clock may.
+use denote.RattleType.{RattleType}
+use denote.Param.Send.{AllSend, IsSend, recorded_send, sendable, struct_send, view_send}
+use denote.Struct.Declared.{Declared, shape}
+use denote.Struct.Field.{rows}
+use denote.Struct.Struct.{Struct}
+use Rattle.std.proofs.Crossing.{crosses}
+use Rattle.http_server.proofs.log.Log.TheSendSync.{the_send}
+use Rattle.std.specs.declared.time.Clock as Clock
+use Rattle.rly_threads.specs.declared.link.Link as Link
+use Rattle.rly_tag.specs.contracts.key.Key as Key
+use Rattle.rly_tag.specs.contracts.key.Key.TheInside as KeyInside
+use Rattle.rly_seal.specs.contracts.sealed.Sealed as Sealed
+use Rattle.rly_seal.specs.contracts.sealed.Sealed.TheInside as Inside
+use Rattle.rly_seal.specs.contracts.station_link.StationLink as Station
+use Rattle.rly_daemon.specs.contracts.failed_sends.FailedSends as FailedSends
+use Rattle.rly_daemon.specs.contracts.neighbour_link.NeighbourLink as NeighbourLink
+use Rattle.rly_daemon.specs.contracts.udp_link.UdpLink as UdpLink
+use Rattle.rly_daemon.specs.contracts.udp_link.UdpLinkLink.TheImpl as Impl
+use Rattle.rly_daemon.specs.contracts.wrong_tags.WrongTags as WrongTags
+
+sends_send : IsSend FailedSends.the_field.row
+sends_send = search (sendable, crosses, the_send) depth 30
+
+tags_send : IsSend WrongTags.the_field.row
+tags_send = search (sendable, crosses, the_send) depth 30
+
+udp_send : (C : RattleType) → IsSend C → IsSend (UdpLink.the_row C)
+udp_send C c =
+    let udp : Declared = UdpLink.the_type C in
+    let fields : AllSend (rows udp.parts) = (
+      search (sendable, crosses) depth 20,
+      (
+        search (sendable, crosses) depth 20,
+        (
+          search (sendable, c) depth 20,
+          (
+            search sendable depth 20,
+            (
+              search sendable depth 20,
+              (
+                search (sendable, crosses, sends_send) depth 20,
+                (
+                  search (sendable, crosses) depth 60,
+                  (
+                    search (sendable, crosses) depth 20,
+                    tt,
+                  ),
+                ),
+              ),
+            ),
+          ),
+        ),
+      ),
+    ) in
+    recorded_send (Struct (shape udp)) udp.D udp.to udp.to_one (struct_send (shape udp) fields)
+
+key_send : IsSend Key.the_row
+key_send =
+    let inside : Declared = KeyInside.the_type in
+    let fields : AllSend (rows inside.parts) = (search sendable depth 20, (search (sendable, crosses) depth 20, tt)) in
+    view_send KeyInside.the_row _ _ _ _ (recorded_send (Struct (shape inside)) inside.D inside.to inside.to_one (struct_send (shape inside) fields))
+
+sealed_send : (L : RattleType) (g : Link.Ghosts L.Denot) → IsSend L → IsSend (Sealed.the_row L g)
+sealed_send L g l =
+    let inside : Declared = Inside.the_type L g in
+    let fields : AllSend (rows inside.parts) = (l, (key_send, (search sendable depth 20, (search (sendable, the_send) depth 20, (search sendable depth 20, tt))))) in
+    view_send (Inside.the_row L g) _ _ _ _ (recorded_send (Struct (shape inside)) inside.D inside.to inside.to_one (struct_send (shape inside) fields))
+
+station_send : (L : RattleType) (g : Link.Ghosts L.Denot) → IsSend L → IsSend (Station.the_field L g).row
+station_send L g l = search (sendable, crosses, l, sealed_send L g l) depth 40
+
+pub neighbour_send : (C : RattleType) (g : Clock.Ghosts C.Denot) → IsSend C → IsSend (NeighbourLink.the_row C g)
+neighbour_send C g c =
+    let link : Declared = NeighbourLink.the_type C g in
+    let fields : AllSend (rows link.parts) = (station_send (UdpLink.the_row C) (Impl.ghosts C g Impl.no_dict Impl.no_dict) (udp_send C c), (tags_send, tt)) in
+    recorded_send (Struct (shape link)) link.D link.to link.to_one (struct_send (shape link) fields)
