@@ -35,6 +35,20 @@ pub(super) fn make_small(rt: &(impl Abort + Host), path: &str) {
     expect(rt, &words, b"", 0, b"formatted 165880\n", b"");
 }
 
+/// Formats a file as a device of 64 hops, 64 peers, 16 items and 4,096 bytes.
+pub(super) fn make_wide(rt: &(impl Abort + Host), path: &str) {
+    let words = [
+        "rly",
+        "format",
+        path,
+        "--hops=64",
+        "--peers=64",
+        "--items=16",
+        "--bytes=4096",
+    ];
+    expect(rt, &words, b"", 0, b"formatted 175834\n", b"");
+}
+
 /// Checks that a run is refused.
 fn expect_refused(rt: &(impl Abort + Host), words: &[&str], errors: &[u8]) {
     expect(rt, words, b"show 1\n", 1, b"", errors);

@@ -3,8 +3,8 @@
 ghost use Rattle.std.specs.Prelude.{IfOk};
 ghost use Rattle.rly_plan.specs.Sound.{IsSoundPlan};
 
-use crate::devices::{make_small, path_of};
-use crate::programs::expect;
+use crate::devices::{make_small, make_wide, path_of};
+use crate::programs::{expect, finish};
 use crate::spools::small_disk;
 use rly_core::Refusal;
 use rly_daemon::{Cause, Host, ServeFault, read_keys, read_plan, serve};
@@ -245,6 +245,48 @@ fn a_relay_needs_room_and_links(rt: HostRuntime) -> Result<(), Fail> {
     let plan = path_of(&rt, "narrow-plan")?;
     make_small(&rt, device.as_str());
     expect_links(&rt, device.as_str(), plan.as_str())
+}
+
+/// A plan of 64 peers and 64 hops, each with a loopback address of its own, and a comment of 70,000 bytes.
+fn greatest_plan(alloc: Global) -> Result<String, AllocError> {
+    let mut text = String::new(alloc);
+    writeln!(text, "station = 7")?;
+    for id in 1..=64 {
+        writeln!(text, "[[peer]]\nid = {id}\nstation = {id}")?;
+        writeln!(
+            text,
+            "listen = \"127.0.1.{id}:4001\"\nremote = \"127.0.0.1:9\""
+        )?;
+    }
+    for id in 1..=64 {
+        writeln!(text, "[[hop]]\nid = {id}\nstation = {id}\ncontacts = []")?;
+        writeln!(
+            text,
+            "listen = \"127.0.2.{id}:4001\"\nremote = \"127.0.0.1:9\""
+        )?;
+    }
+    text.push('#')?;
+    for _byte in 0..70_000 {
+        text.push('n')?;
+    }
+    Ok(text)
+}
+
+/// A relay may have as many workers as a plan has neighbours.
+#[test]
+fn the_greatest_relay_is_served(rt: HostRuntime) -> Result<(), Fail> {
+    let device = path_of(&rt, "wide")?;
+    let plan = path_of(&rt, "wide-plan")?;
+    let text = greatest_plan(rt.alloc())?;
+    fs::write(&rt, plan.as_str(), text.as_str())?;
+    make_wide(&rt, device.as_str());
+    let words = ["rly", "serve", device.as_str(), plan.as_str(), "--turns=1"];
+    let run = finish(&rt, &words, b"");
+    expect!(rt; run.status == 0);
+    expect!(rt; run.errors.ends_with(b"\nrly: ended after 1 turns\n"));
+    fs::remove_file(&rt, plan.as_str())?;
+    fs::remove_file(&rt, device.as_str())?;
+    Ok(())
 }
 
 /// A small device whose first write after its opening fails.

@@ -97,7 +97,11 @@ fn formatted(
 }
 
 /// What a device reads.
-fn bytes_of<D: Disk>(rt: &impl Abort, alloc: Global, disk: &mut D) -> Result<Vec<u8>, Fail> {
+pub(crate) fn bytes_of<D: Disk>(
+    rt: &impl Abort,
+    alloc: Global,
+    disk: &mut D,
+) -> Result<Vec<u8>, Fail> {
     let mut bytes = vec![in alloc; 0u8; disk.size() as usize]?;
     assert!(rt; disk.read_at(0, &mut bytes).is_ok());
     Ok(bytes)
@@ -145,7 +149,7 @@ fn run(
 }
 
 /// A device on which six datagrams were taken, and CoDel let three into flight.
-fn six_takes_and_three_picks(rt: &impl Abort, alloc: Global) -> Result<MemDisk, Fail> {
+pub(crate) fn six_takes_and_three_picks(rt: &impl Abort, alloc: Global) -> Result<MemDisk, Fail> {
     let disk = formatted(rt, alloc, &DEFAULT, DEFAULT_SIZE)?;
     let Ok(mut journal) = Journal::open(alloc, disk) else {
         return Err(Fail::from("not opened"));
@@ -160,7 +164,11 @@ fn six_takes_and_three_picks(rt: &impl Abort, alloc: Global) -> Result<MemDisk, 
 }
 
 /// The report on a device, which then reads as before.
-fn report_on<D: Disk + Drop>(rt: &impl Abort, alloc: Global, disk: D) -> Result<Vec<u8>, Fail> {
+pub(crate) fn report_on<D: Disk + Drop>(
+    rt: &impl Abort,
+    alloc: Global,
+    disk: D,
+) -> Result<Vec<u8>, Fail> {
     let mut disk = disk;
     let before = bytes_of(rt, alloc, &mut disk)?;
     let mut written = Vec::new(alloc);

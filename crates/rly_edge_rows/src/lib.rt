@@ -19,4 +19,6 @@ mod audits;
 #[cfg(test)]
 mod expect;
 #[cfg(test)]
+mod growths;
+#[cfg(test)]
 mod settings;

@@ -20,6 +20,8 @@ macro_rules! expect {
 #[cfg(test)]
 mod expect;
 #[cfg(test)]
+mod growths;
+#[cfg(test)]
 mod messages;
 #[cfg(test)]
 mod plan_faults;

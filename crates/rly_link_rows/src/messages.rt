@@ -96,6 +96,27 @@ fn faults_of_the_header(rt: HostRuntime) {
     );
 }
 
+/// The worked Data with one byte changed.
+fn changed(place: usize, byte: u8) -> [u8; 21] {
+    let mut bytes = DATA;
+    if let Some(found) = bytes.get_mut(place) {
+        *found = byte;
+    }
+    bytes
+}
+
+#[test]
+fn changes_of_the_worked_data(rt: HostRuntime) {
+    for (place, byte, refusal) in &[
+        (1, 0x4d, Refusal::Magic),
+        (2, 0x02, Refusal::Version),
+        (3, 0x07, Refusal::Kind),
+        (5, 0x00, Refusal::Station),
+    ] {
+        expect!(rt; fault(&changed(*place, *byte)) == Some(*refusal), *place as u64);
+    }
+}
+
 /// One byte more than a custody, a refusal and a Data have.
 const CUSTODY_AND_MORE: [u8; 17] = [
     0x52, 0x4c, 0x01, 0x02, 0x00, 0x07, 0x00, 0x03, 0, 0, 0, 0, 0, 0, 0, 1, 0,

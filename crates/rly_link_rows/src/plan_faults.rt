@@ -232,7 +232,7 @@ fn contacts(alloc: Global, count: u64) -> Result<String, AllocError> {
     Ok(text)
 }
 
-fn neighbours(alloc: Global, count: u64, more: &str) -> Result<String, AllocError> {
+pub(crate) fn neighbours(alloc: Global, count: u64, more: &str) -> Result<String, AllocError> {
     let mut text = String::new(alloc);
     for number in 1..=count {
         let row = format!(in alloc;
@@ -302,6 +302,25 @@ fn many_destinations_may_have_a_route(rt: HostRuntime) -> Result<(), Fail> {
 fn addresses_have_any_length(rt: HostRuntime) -> Result<(), Fail> {
     for length in &[0, 1, 64, 255, 10_000] {
         let found = answer_to_addresses(rt.alloc(), *length)?;
+        expect!(rt; found == 0, *length);
+    }
+    Ok(())
+}
+
+/// The answer for the whole plan with a comment of so many bytes after it.
+fn answer_to_comment(alloc: Global, length: u64) -> Result<u8, AllocError> {
+    let mut text = String::from_str(alloc, WHOLE)?;
+    text.push_str("# ")?;
+    for _ in 0..length {
+        text.push('n')?;
+    }
+    Ok(answer(alloc, text.as_str()))
+}
+
+#[test]
+fn a_plan_has_any_length(rt: HostRuntime) -> Result<(), Fail> {
+    for length in &[0, 70_000, 1_100_000] {
+        let found = answer_to_comment(rt.alloc(), *length)?;
         expect!(rt; found == 0, *length);
     }
     Ok(())

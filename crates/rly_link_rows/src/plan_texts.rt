@@ -1,8 +1,10 @@
 //! Plans as text, at moments before, in, between and after their contacts.
+use crate::plan_faults::neighbours;
 use crate::plans::WHOLE;
 use rly_core::HopId;
 use rly_plan::Plan;
 use rly_plan_text::{Utc, text_of};
+use std::alloc::{AllocError, Global};
 use std::process::Abort;
 use std::test::Fail;
 
@@ -130,7 +132,35 @@ fn each_table_has_its_lines(rt: HostRuntime) -> Result<(), Fail> {
     Ok(())
 }
 
-/// A hop of that plan, a moment, and when its link changes next.
+/// A plan of 64 peers, 64 hops with a contact each, and a route to each destination from 1 to 20,000.
+fn greatest(alloc: Global) -> Result<String, AllocError> {
+    let peers = neighbours(alloc, 64, "")?;
+    let hops = neighbours(alloc, 64, ", contacts = [[0, 10]]")?;
+    let mut routes = String::new(alloc);
+    for destination in 1..=20_000 {
+        let row = format!(in alloc; "{{ destination = {destination}, hop = 64 }},")?;
+        routes.push_str(row.as_str())?;
+    }
+    format!(in alloc; "station = 7\npeer = [{peers}]\nhop = [{hops}]\nroute = [{routes}]\n")
+}
+
+/// Two lines at its head, one for each peer, three for each hop, and one for each route.
+#[test]
+fn the_greatest_plan_is_told(rt: HostRuntime) -> Result<(), Fail> {
+    let text = greatest(rt.alloc())?;
+    let plan = Plan::from_toml(rt.alloc(), text.as_str())?;
+    let told = text_of(rt.alloc(), &plan, 5)?;
+    let lines = told
+        .as_bytes()
+        .iter()
+        .filter(|byte| **byte == b'\n')
+        .count();
+    expect!(rt; lines == 2 + 64 + 3 * 64 + 20_000);
+    expect!(rt; told.as_bytes().ends_with(b"\nroute 20000 hop 64\n"));
+    Ok(())
+}
+
+/// A hop of the plan of several, a moment, and when its link changes next.
 const CHANGES: [(u16, u64, Option<u64>); 12] = [
     (0, 0, None),
     (1, 0, None),

@@ -28,7 +28,11 @@ mod device;
 #[cfg(test)]
 mod expect;
 #[cfg(test)]
+mod extremes;
+#[cfg(test)]
 mod faults;
+#[cfg(test)]
+mod growths;
 #[cfg(test)]
 mod refused_devices;
 #[cfg(test)]

@@ -19,7 +19,7 @@ enum Base {
 
 /// Changes of device E, and of device E after its first take: how many bytes stay, which bytes are set, and why it isn't
 /// opened. `None` opens to the empty state.
-const ROWS: [(Base, usize, &[(usize, u8)], Option<OpenFault>); 16] = [
+const ROWS: [(Base, usize, &[(usize, u8)], Option<OpenFault>); 17] = [
     (Base::Formatted, SIZE, &[], None),
     (Base::Formatted, 63, &[], Some(OpenFault::NotADevice)),
     (
@@ -71,6 +71,13 @@ const ROWS: [(Base, usize, &[(usize, u8)], Option<OpenFault>); 16] = [
         SIZE,
         &[(82_972, 0xa5), (82_980, 0x02)],
         Some(OpenFault::Damaged(82_972)),
+    ),
+    // a group without a body
+    (
+        Base::Formatted,
+        SIZE,
+        &[(164, 0xa5)],
+        Some(OpenFault::Damaged(164)),
     ),
     // a group with a count of 0
     (

@@ -21,6 +21,8 @@ mod expect;
 #[cfg(test)]
 mod flushing;
 #[cfg(test)]
+mod growths;
+#[cfg(test)]
 mod playing;
 #[cfg(test)]
 mod rows;

@@ -1,0 +1,396 @@
+//! Each call that takes memory, where one of its growths is refused (`bench/scarce_memory`): it says so, and keeps what it
+//! promises; or it is made all the same, since a list whose growth is refused may grow by less. Where none was refused, nothing
+//! is told as refused memory.
+use crate::comparison::{expect_state, is_same, machine_after, reply_of};
+use crate::device::{DEVICE_E, SIZE, bytes_of, formatted, opened};
+use crate::faults::KINDS;
+use crate::script::{HOP, Script, Step, ask_all, calls_of, take};
+use rly_checkpoint::{DecodeFault, read_checkpoint, write_checkpoint};
+use rly_core::Refusal;
+use rly_disk::{Disk, MemDisk, Torn};
+use rly_journal::{Journal, OpenFault};
+use rly_machine::{Answer, Machine, Payload, Reply};
+use rly_scarce::{before, was_refused};
+use rly_segment::{FormatFault, format};
+use std::alloc::{AllocError, Global};
+use std::process::Abort;
+use std::test::Fail;
+
+/// What stands before the round: three datagrams were taken, two of them picked, and one of these released. It is asked in one
+/// round, so no segment is due.
+const FRONT: [Step; 6] = [
+    Step::Take {
+        number: 1,
+        stamp: 0,
+        byte: 1,
+        length: 1_200,
+    },
+    Step::Take {
+        number: 2,
+        stamp: 100,
+        byte: 2,
+        length: 1_200,
+    },
+    Step::Take {
+        number: 3,
+        stamp: 200,
+        byte: 3,
+        length: 1_200,
+    },
+    Step::Pick { now: 300 },
+    Step::Pick { now: 300 },
+    Step::Release { number: 1 },
+];
+
+/// A round of every kind of ask, some of which no memory is wanted for.
+const ROUND: [Step; 9] = [
+    Step::Take {
+        number: 4,
+        stamp: 400,
+        byte: 4,
+        length: 700,
+    },
+    Step::Window,
+    Step::Fetch { number: 2 },
+    Step::Release { number: 2 },
+    Step::Pick { now: 500 },
+    Step::Fetch { number: 9 },
+    Step::Take {
+        number: 9,
+        stamp: 400,
+        byte: 9,
+        length: 1,
+    },
+    Step::Pick { now: u64::MAX },
+    Step::Show,
+];
+
+/// A journal on device E after the first steps, and one more round that fills the segment if one is to be due.
+fn prepared(rt: &impl Abort, alloc: Global, due: bool) -> Result<Journal<MemDisk>, AllocError> {
+    let mut journal = opened(rt, alloc, MemDisk::new(alloc, formatted(rt, alloc)?));
+    let _ = ask_all(rt, alloc, &mut journal, &FRONT)?;
+    if due {
+        let _ = ask_all(rt, alloc, &mut journal, &FILLING)?;
+    }
+    Ok(journal)
+}
+
+/// It takes a datagram and gives it up again, so that the segment is full: the offset is above 4,628.
+const FILLING: [Step; 1] = [Step::Take {
+    number: 4,
+    stamp: 300,
+    byte: 4,
+    length: 1_200,
+}];
+
+/// The plain machine after the same.
+fn prepared_machine(alloc: Global, due: bool) -> Result<Machine<Payload>, AllocError> {
+    let script = Script {
+        steps: &FRONT,
+        calls: FRONT.len(),
+    };
+    let mut machine = machine_after(alloc, script, 1)?;
+    if due {
+        for step in &FILLING {
+            let _ = reply_of(alloc, &mut machine, *step)?;
+        }
+    }
+    Ok(machine)
+}
+
+#[test]
+fn formatting(rt: HostRuntime) -> Result<(), Fail> {
+    let alloc = rt.alloc();
+    let wanted = formatted(&rt, alloc)?;
+    let mut disk = MemDisk::new(alloc, vec![in alloc; 0u8; SIZE]?);
+    before(alloc)?;
+    let told = format(alloc, &mut disk, &DEVICE_E);
+    let refused = was_refused(alloc);
+    expect!(rt; refused || told.is_ok());
+    let read = bytes_of(&rt, alloc, &mut disk)?;
+    match told {
+        Ok(()) => expect!(rt; read.as_slice() == wanted.as_slice()),
+        Err(FormatFault::OutOfMemory) => expect!(rt; read.iter().all(|byte| *byte == 0)),
+        Err(fault) => expect!(rt; fault == FormatFault::Device && disk.failures() == 1),
+    }
+    Ok(())
+}
+
+/// What is refused is handed back as it was, with nothing pending: a crash leaves what is read.
+fn expect_handed_back(
+    rt: &impl Abort,
+    alloc: Global,
+    disk: MemDisk,
+    bytes: &[u8],
+    kind: Torn,
+) -> Result<(), AllocError> {
+    let mut disk = disk.crash(kind);
+    let read = bytes_of(rt, alloc, &mut disk)?;
+    expect!(rt; read.as_slice() == bytes);
+    expect_state(
+        rt,
+        alloc,
+        &mut opened(rt, alloc, disk),
+        &mut prepared_machine(alloc, true)?,
+    )
+}
+
+#[test]
+fn opening(rt: HostRuntime) -> Result<(), Fail> {
+    let alloc = rt.alloc();
+    for kind in &KINDS {
+        let mut disk = prepared(&rt, alloc, true)?.into_disk();
+        let bytes = bytes_of(&rt, alloc, &mut disk)?;
+        before(alloc)?;
+        let told = Journal::open(alloc, disk);
+        let refused = was_refused(alloc);
+        expect!(rt; refused || told.is_ok());
+        match told {
+            Ok(journal) => expect_handed_back(&rt, alloc, journal.into_disk(), &bytes, *kind)?,
+            Err((fault, disk)) => {
+                let failed = disk.failures() > 0;
+                expect!(rt; fault == OpenFault::OutOfMemory && !failed || fault == OpenFault::Device && failed);
+                expect_handed_back(&rt, alloc, disk, &bytes, *kind)?;
+            }
+        }
+    }
+    Ok(())
+}
+
+/// Whether a step may be refused memory in a state that the plain machine has: that which it would accept with bytes or drops,
+/// and a Fetch of bytes.
+fn may_want(step: Step, reply: &Reply) -> bool {
+    match step {
+        Step::Take { .. } => matches!(reply, Reply::Taken(_)),
+        Step::Pick { .. } => matches!(reply, Reply::Picked { .. } | Reply::Nothing),
+        Step::Fetch { .. } => matches!(reply, Reply::Bytes(_)),
+        Step::Release { .. } | Step::Window | Step::Show => false,
+    }
+}
+
+/// Expects each answer to be the plain machine's, or, of an ask that may want memory, the refusal of memory. The machine makes
+/// the steps that weren't refused. Says whether one was.
+fn expect_answers(
+    rt: &impl Abort,
+    alloc: Global,
+    machine: &mut Machine<Payload>,
+    answers: &[Answer],
+) -> Result<bool, AllocError> {
+    let mut starved = false;
+    for (step, answer) in ROUND.iter().zip(answers) {
+        let is_starved = is_same(&answer.reply, &Reply::Refused(Refusal::OutOfMemory));
+        let mut body = Vec::new(alloc);
+        write_checkpoint(machine, &mut body)?;
+        let reply = reply_of(alloc, machine, *step)?;
+        if is_starved {
+            expect!(rt; may_want(*step, &reply));
+            *machine = read_again(rt, alloc, &body);
+            starved = true;
+        } else {
+            expect!(rt; is_same(&answer.reply, &reply), machine.seq());
+        }
+        expect!(rt; answer.position == machine.seq());
+    }
+    Ok(starved)
+}
+
+/// A machine as it was written.
+fn read_again(rt: &impl Abort, alloc: Global, body: &[u8]) -> Machine<Payload> {
+    match read_checkpoint(alloc, DEVICE_E.params, body) {
+        Ok(machine) => machine,
+        Err(_) => panic!(rt; "a checkpoint that was written is read"),
+    }
+}
+
+/// Expects what a crash leaves of a disk to stand for one of two states.
+fn expect_standing(
+    rt: &impl Abort,
+    alloc: Global,
+    disk: MemDisk,
+    (first, other): (&mut Machine<Payload>, &mut Machine<Payload>),
+) -> Result<(), AllocError> {
+    let mut journal = opened(rt, alloc, disk);
+    if journal.position() == first.seq() {
+        return expect_state(rt, alloc, &mut journal, first);
+    }
+    expect_state(rt, alloc, &mut journal, other)
+}
+
+/// A round that was asked while a growth might be refused.
+#[derive(Drop)]
+struct Asked {
+    journal: Journal<MemDisk>,
+    answers: Vec<Answer>,
+    /// Whether a growth was refused.
+    refused: bool,
+    /// Whether that was the one for the answers, so that nothing was done.
+    undone: bool,
+}
+
+/// Asks the round of a journal.
+fn ask_in_scarce_memory(rt: &impl Abort, alloc: Global, due: bool) -> Result<Asked, AllocError> {
+    let mut journal = prepared(rt, alloc, due)?;
+    let mut calls = calls_of(alloc, &ROUND)?;
+    let mut answers = Vec::new(alloc);
+    assert!(rt; 1 <= calls.len() && calls.len() <= 64);
+    before(alloc)?;
+    let told = journal.round(alloc, &mut calls, &mut answers);
+    let refused = was_refused(alloc);
+    let undone = told.is_err();
+    expect!(rt; calls.is_empty() != undone);
+    expect!(rt; answers.len() == if undone { 0 } else { ROUND.len() });
+    Ok(Asked {
+        journal,
+        answers,
+        refused,
+        undone,
+    })
+}
+
+/// Whether each answer is one refusal.
+fn are_all(answers: &[Answer], refusal: Refusal) -> bool {
+    answers
+        .iter()
+        .all(|answer| is_same(&answer.reply, &Reply::Refused(refusal)))
+}
+
+/// The plain machine after a round that no memory was refused to.
+fn served_machine(alloc: Global, due: bool) -> Result<Machine<Payload>, AllocError> {
+    let mut machine = prepared_machine(alloc, due)?;
+    for step in &ROUND {
+        let _ = reply_of(alloc, &mut machine, *step)?;
+    }
+    Ok(machine)
+}
+
+/// A round whose growths are refused in turn. Each answer is the machine's or refused memory, and the device stands for what
+/// was accepted, whatever a crash leaves. Where the disk in memory could not grow, all are told unsure, and the device stands
+/// for the state before or after.
+fn expect_round(rt: &impl Abort, alloc: Global, due: bool, kind: Torn) -> Result<(), AllocError> {
+    let Asked {
+        journal,
+        answers,
+        refused,
+        undone,
+    } = ask_in_scarce_memory(rt, alloc, due)?;
+    let mut first = prepared_machine(alloc, due)?;
+    let mut other = prepared_machine(alloc, due)?;
+    let broken = journal.is_broken();
+    if broken {
+        expect!(rt; refused && are_all(&answers, Refusal::Unsure));
+        other = served_machine(alloc, due)?;
+    } else if undone || are_all(&answers, Refusal::OutOfMemory) {
+        expect!(rt; refused && (undone || due));
+    } else {
+        let starved = expect_answers(rt, alloc, &mut first, &answers)?;
+        expect!(rt; refused || !starved);
+        let _ = expect_answers(rt, alloc, &mut other, &answers)?;
+    }
+    let disk = journal.into_disk();
+    expect!(rt; broken == (disk.failures() > 0));
+    expect_standing(rt, alloc, disk.crash(kind), (&mut first, &mut other))
+}
+
+#[test]
+fn a_round(rt: HostRuntime) -> Result<(), Fail> {
+    for kind in &KINDS {
+        expect_round(&rt, rt.alloc(), false, *kind)?;
+    }
+    Ok(())
+}
+
+#[test]
+fn a_round_that_opens_a_segment(rt: HostRuntime) -> Result<(), Fail> {
+    for kind in &KINDS {
+        expect_round(&rt, rt.alloc(), true, *kind)?;
+    }
+    Ok(())
+}
+
+#[test]
+fn a_fetch(rt: HostRuntime) -> Result<(), Fail> {
+    let alloc = rt.alloc();
+    let mut journal = prepared(&rt, alloc, false)?;
+    before(alloc)?;
+    let told = journal.fetch(alloc, HOP, 2);
+    let refused = was_refused(alloc);
+    match told {
+        Ok(bytes) => {
+            expect!(rt; bytes.len() == 1_200);
+            expect!(rt; bytes.iter().all(|byte| *byte == 2));
+        }
+        Err(refusal) => expect!(rt; refused && refusal == Refusal::OutOfMemory),
+    }
+    expect_state(
+        &rt,
+        alloc,
+        &mut journal,
+        &mut prepared_machine(alloc, false)?,
+    )?;
+    Ok(())
+}
+
+#[test]
+fn a_new_machine(rt: HostRuntime) -> Result<(), Fail> {
+    let alloc = rt.alloc();
+    before(alloc)?;
+    let told: Result<Machine<Payload>, AllocError> = Machine::new(alloc, DEVICE_E.params);
+    let refused = was_refused(alloc);
+    expect!(rt; refused || told.is_ok());
+    Ok(())
+}
+
+/// What is refused leaves the machine as it was, and is answered when it is asked again.
+#[test]
+fn steps_of_a_machine(rt: HostRuntime) -> Result<(), Fail> {
+    let alloc = rt.alloc();
+    let mut machine = prepared_machine(alloc, false)?;
+    let mut same = prepared_machine(alloc, false)?;
+    for step in &ROUND {
+        let seq = machine.seq();
+        let ask = step.ask(alloc)?;
+        let again = step.ask(alloc)?;
+        before(alloc)?;
+        let told = machine.evaluate(alloc, ask);
+        let refused = was_refused(alloc);
+        expect!(rt; refused || told.is_ok());
+        let reply = match told {
+            Ok(reply) => reply,
+            Err(_) => {
+                expect!(rt; machine.seq() == seq);
+                machine.evaluate(alloc, again)?
+            }
+        };
+        expect!(rt; is_same(&reply, &reply_of(alloc, &mut same, *step)?), seq);
+    }
+    Ok(())
+}
+
+#[test]
+fn writing_a_checkpoint(rt: HostRuntime) -> Result<(), Fail> {
+    let alloc = rt.alloc();
+    let machine = prepared_machine(alloc, false)?;
+    let mut out = Vec::new(alloc);
+    before(alloc)?;
+    let told = write_checkpoint(&machine, &mut out);
+    let refused = was_refused(alloc);
+    expect!(rt; refused || told.is_ok());
+    expect!(rt; told.is_err() == out.is_empty());
+    Ok(())
+}
+
+#[test]
+fn reading_a_checkpoint(rt: HostRuntime) -> Result<(), Fail> {
+    let alloc = rt.alloc();
+    let machine = prepared_machine(alloc, false)?;
+    let mut out = Vec::new(alloc);
+    write_checkpoint(&machine, &mut out)?;
+    before(alloc)?;
+    let told = read_checkpoint(alloc, DEVICE_E.params, &out);
+    let refused = was_refused(alloc);
+    match told {
+        Ok(found) => expect!(rt; is_same(&found.ask_show(HOP), &machine.ask_show(HOP))),
+        Err(fault) => expect!(rt; refused && fault == DecodeFault::OutOfMemory),
+    }
+    Ok(())
+}

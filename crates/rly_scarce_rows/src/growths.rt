@@ -1,0 +1,6 @@
+//! Each call between two marks.
+
+mod pairs;
+mod records;
+mod seats;
+mod workers;

@@ -1,0 +1,165 @@
+//! Seats, their line, and the flusher that answers them.
+
+use rly_core::{Geometry, HopId, Params, PeerId, Refusal};
+use rly_disk::MemDisk;
+use rly_flush::Flusher;
+use rly_journal::Journal;
+use rly_line::{Seat, make};
+use rly_machine::{Ask, Command, Payload, Reply};
+use rly_scarce::{before, was_refused};
+use rly_segment::format;
+use std::alloc::Global;
+use std::process::Abort;
+use std::sync::Wait;
+use std::test::Fail;
+use std::thread;
+
+/// Four peers, on two segments of the least length.
+const DEVICE: Geometry = Geometry {
+    params: Params {
+        hops: 1,
+        peers: 4,
+        window: 8,
+        items: 1_024,
+        bytes: 4_096,
+        maxpacket: 1_500,
+        target: 5_000,
+        interval: 100_000,
+    },
+    segments: 2,
+    length: 110_148,
+};
+
+const SIZE: usize = 220_360;
+
+/// The journal of a new device.
+fn new_journal<R: Abort>(rt: &R, alloc: Global) -> Journal<MemDisk> {
+    let bytes = Vec::from_elem(alloc, 0u8, SIZE).expect(rt, "memory");
+    let mut disk = MemDisk::new(alloc, bytes);
+    expect!(rt; format(alloc, &mut disk, &DEVICE).is_ok());
+    opened(rt, alloc, disk)
+}
+
+/// The journal of a device that opens.
+fn opened<R: Abort>(rt: &R, alloc: Global, disk: MemDisk) -> Journal<MemDisk> {
+    Journal::open(alloc, disk).ok().expect(rt, "a journal")
+}
+
+#[test]
+fn making_a_line(rt: HostRuntime) -> Result<(), Fail> {
+    let alloc = rt.alloc();
+    before(alloc)?;
+    let made = make(alloc, 4, 2);
+    let refused = was_refused(alloc);
+    match made {
+        Ok((seats, _line)) => expect!(rt; seats.len() == 2),
+        Err(_) => expect!(rt; refused),
+    }
+    Ok(())
+}
+
+/// Where it is refused, journal and line are handed back, and a flusher is made of them.
+#[test]
+fn a_new_flusher(rt: HostRuntime) -> Result<(), Fail> {
+    let alloc = rt.alloc();
+    let journal = new_journal(&rt, alloc);
+    let (seats, line) = make(alloc, 4, 2)?;
+    before(alloc)?;
+    let told = Flusher::new(alloc, journal, line);
+    let refused = was_refused(alloc);
+    expect!(rt; refused || told.is_ok());
+    let flusher = match told {
+        Ok(flusher) => flusher,
+        Err((journal, line)) => Flusher::new(alloc, journal, line)
+            .ok()
+            .expect(&rt, "a flusher"),
+    };
+    drop(seats);
+    let finished = flusher.serve(&rt);
+    expect!(rt; !finished.broken);
+    expect!(rt; finished.journal.position() == 0);
+    Ok(())
+}
+
+/// What a seat was told of its takes, up to the first that had no answer.
+#[derive(Drop)]
+struct Heard {
+    taken: u64,
+    starved: u64,
+    unsure: u64,
+    /// Whether a growth was refused, here or at the flusher.
+    refused: bool,
+}
+
+/// The take of the first datagram of a peer.
+fn take<R: Abort>(rt: &R, alloc: Global, peer: u16) -> Ask {
+    let payload = Vec::from_elem(alloc, 0x41, 1_200).expect(rt, "memory");
+    Ask::Command(Command::Take {
+        peer: PeerId(peer),
+        number: 1,
+        hop: HopId(1),
+        stamp: 0,
+        payload: Payload::new(payload),
+    })
+}
+
+/// Asks for a take of each of three peers, between the marks.
+fn ask_three<R: Abort + Wait>(rt: &R, alloc: Global, mut seat: Seat) -> Heard {
+    let asks = vec![in alloc; take(rt, alloc, 1), take(rt, alloc, 2), take(rt, alloc, 3)]
+        .ok()
+        .expect(rt, "memory");
+    let mut heard = Heard {
+        taken: 0,
+        starved: 0,
+        unsure: 0,
+        refused: false,
+    };
+    before(alloc).expect(rt, "memory");
+    for ask in asks {
+        match seat.call(rt, ask) {
+            Ok(answer) => hear(rt, &mut heard, &answer.reply),
+            Err(_) => break,
+        }
+    }
+    heard.refused = was_refused(alloc);
+    heard
+}
+
+/// Counts an answer to a take, which each time is one of these.
+fn hear<R: Abort>(rt: &R, heard: &mut Heard, reply: &Reply) {
+    match reply {
+        Reply::Taken(id) => {
+            heard.taken = heard.taken.saturating_add(1);
+            expect!(rt; *id == heard.taken);
+        }
+        Reply::Refused(Refusal::OutOfMemory) => heard.starved = heard.starved.saturating_add(1),
+        Reply::Refused(Refusal::Unsure) => heard.unsure = heard.unsure.saturating_add(1),
+        _ => expect!(rt; false),
+    }
+}
+
+/// A seat in a thread of its own is told of each take that it was taken, or that memory was refused, and these weren't. Where
+/// the disk in memory couldn't grow it is told unsure, and nothing after that: that take stands or not.
+#[test]
+fn calls_of_a_seat(rt: HostRuntime) -> Result<(), Fail> {
+    let alloc = rt.alloc();
+    let (mut seats, line) = make(alloc, 4, 1)?;
+    let seat = seats.pop().expect(&rt, "a seat");
+    let flusher = Flusher::new(alloc, new_journal(&rt, alloc), line)
+        .ok()
+        .expect(&rt, "a flusher");
+    let asking = thread::spawn(&rt, move || ask_three(&rt, alloc, seat))
+        .ok()
+        .expect(&rt, "a thread");
+    let finished = flusher.serve(&rt);
+    let heard = asking.join(&rt);
+    let broken = finished.broken;
+    expect!(rt; heard.refused || heard.taken == 3);
+    expect!(rt; broken == (heard.unsure == 1));
+    expect!(rt; broken || heard.taken + heard.starved == 3);
+    let journal = opened(&rt, alloc, finished.journal.into_disk());
+    let more = journal.position().saturating_sub(heard.taken);
+    expect!(rt; journal.position() >= heard.taken);
+    expect!(rt; more == 0 || broken && more == 1);
+    Ok(())
+}

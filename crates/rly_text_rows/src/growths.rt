@@ -1,0 +1,75 @@
+//! `sim` and `play` where one growth of memory is refused (`bench/scarce_memory`). What was written is a prefix of the replies,
+//! and the end says that memory was refused; or, in a play, all lines are answered, and one is told so. Where none was refused,
+//! the replies are whole.
+use crate::playing::{SMALL, formatted, geometry_of};
+use crate::rows::replies;
+use rly_journal::Journal;
+use rly_scarce::{before, was_refused};
+use rly_text::{TextFault, play, sim};
+use std::test::Fail;
+
+/// Lines of each kind.
+const LINES: &str =
+    "take 1 1 1 0 41\ntake 1 2 1 0 4242\npick 1 10\nfetch 1 1\nwindow 1\ndone 1 1\nno line\nshow 1\n";
+
+/// The replies where memory was refused.
+const SCARCE: &[u8] = b"refused 14 memory\n";
+
+const UNSURE: &[u8] = b"refused 12 unsure\n";
+
+#[test]
+fn a_simulation(rt: HostRuntime) -> Result<(), Fail> {
+    let alloc = rt.alloc();
+    let whole = replies(alloc, SMALL, LINES)?;
+    SMALL.check()?;
+    let mut reader = LINES.as_bytes();
+    let mut written: Vec<u8> = Vec::with_capacity(alloc, 1_024)?;
+    before(alloc)?;
+    let told = sim(alloc, SMALL, &mut reader, &mut written);
+    let refused = was_refused(alloc);
+    match told {
+        Ok(()) => expect!(rt; written.as_slice() == whole.as_slice()),
+        Err(fault) => expect!(rt; refused && matches!(fault, TextFault::OutOfMemory)),
+    }
+    expect!(rt; whole.as_slice().starts_with(written.as_slice()));
+    Ok(())
+}
+
+/// Whether there is a reply to each line, and one of them says that memory was refused, or, where the disk in memory couldn't
+/// grow, that it is unsure what stands.
+fn tell_of_scarcity(written: &[u8], whole: &[u8]) -> bool {
+    let (lines, replies) = (count_of(written, b'\n'), count_of(whole, b'\n'));
+    let is_told = written
+        .split_inclusive(|byte| *byte == b'\n')
+        .any(|line| line == SCARCE || line == UNSURE);
+    lines == replies && is_told
+}
+
+/// How often a byte stands in a text.
+fn count_of(text: &[u8], byte: u8) -> usize {
+    text.iter().filter(|found| **found == byte).count()
+}
+
+#[test]
+fn a_play(rt: HostRuntime) -> Result<(), Fail> {
+    let alloc = rt.alloc();
+    let whole = replies(alloc, SMALL, LINES)?;
+    let disk = formatted(&rt, &geometry_of(&rt, SMALL))?;
+    let mut journal = Journal::open(alloc, disk).ok().ok_or("a journal")?;
+    let mut reader = LINES.as_bytes();
+    let mut written: Vec<u8> = Vec::with_capacity(alloc, 1_024)?;
+    before(alloc)?;
+    let told = play(alloc, &mut reader, &mut written, &mut journal, 3);
+    let refused = was_refused(alloc);
+    match told {
+        Ok(()) => {
+            let is_whole = written.as_slice() == whole.as_slice();
+            expect!(rt; is_whole || refused && tell_of_scarcity(&written, &whole));
+        }
+        Err(fault) => {
+            expect!(rt; refused && matches!(fault, TextFault::OutOfMemory));
+            expect!(rt; whole.as_slice().starts_with(written.as_slice()));
+        }
+    }
+    Ok(())
+}
