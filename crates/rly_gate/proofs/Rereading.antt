@@ -1,8 +1,8 @@
 -- Reads of a group, and what follows from reads alone.
-use Rattle.std.proofs.Common.{◌≡◌, ◌≤◌, ◌+◌, ◌++◌, ◌∷◌, [], ◌∙◌, ℕ, Bool, true, false, List, length, nat_le, arith, le-leb, refl, subst}
+use Rattle.std.proofs.Common.{◌≡◌, ◌≤◌, ◌+◌, ◌∷◌, [], ℕ, Bool, true, false, nat_le, arith, le-leb, refl, subst}
 use Rattle.std.specs.Prelude.{Option, Some, None, Result, Ok, Err, Vec, if◌then◌else◌}
 use Rattle.rly_disk.specs.DiskModel.{Consistent, DiskState, NothingNew}
-use Rattle.rly_disk.specs.Trace.{DeviceEvent, Makes, OnlyReads, Read, are_reads}
+use Rattle.rly_disk.specs.Trace.{Makes, OnlyReads, Read, are_reads}
 use Rattle.rly_disk.proofs.Making.{reads_later, reads_new, reads_of, reads_settled}
 use Rattle.rly_disk.proofs.Traces.{makes_front, makes_joined}
 use Rattle.rly_gate.specs.Calls.{group_reads, is_told, length_reads}

@@ -17,9 +17,9 @@ pub record HoldsGroup (image : List ℕ) (at end : ℕ) (body : List ℕ) : Type
 abbrev pub HoldsNone : List ℕ → ℕ → ℕ → Type 0
 HoldsNone image at end = (body : List ℕ) → HoldsGroup image at end body → ⊥
 
--- some body stands at a gate
-abbrev pub HoldsSome : List ℕ → ℕ → ℕ → Type 0
-HoldsSome image at end = (body : List ℕ) × HoldsGroup image at end body
+-- a body of some bytes stands at a gate
+abbrev pub HoldsBytes : List ℕ → ℕ → ℕ → Type 0
+HoldsBytes image at end = (body : List ℕ) × HoldsGroup image at end body × (0 < length body)
 
 -- what is answered of a gate: nothing where it is closed, else the body, or that there is none
 abbrev pub IsReadGroup : {A : Type 0} → List ℕ → ℕ → ℕ → Result (Option (Vec ℕ A)) GroupFault → Type 0

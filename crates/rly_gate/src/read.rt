@@ -1,15 +1,15 @@
-ghost use Rattle.std.specs.Prelude.{◌≡◌, ◌≢◌, ◌+◌, ◌<◌, ◌≤◌, ◌↔◌, ◌∷◌, [], ℕ, Err, IfOk, IfSome, IsTrue, OnOk, drop, is_ok, length, take, vec_len};
+ghost use Rattle.std.specs.Prelude.{◌≡◌, ◌≢◌, ◌+◌, ◌<◌, ◌≤◌, ◌↔◌, ◌∷◌, [], ℕ, Err, IfOk, IfSome, IsTrue, OnErr, OnOk, drop, is_ok, length, take, vec_len};
 ghost use Rattle.byteorder.specs.Endian.{big_bytes};
 ghost use Rattle.rly_disk.specs.Trace.{Makes, Read};
 ghost use Rattle.rly_gate.specs.Calls.{are_told, bytes_reads, group_reads, is_told, length_reads};
 ghost use Rattle.rly_gate.specs.Group.{IsOpen};
-ghost use Rattle.rly_gate.specs.Reading.{HoldsSome, IsReadGroup};
+ghost use Rattle.rly_gate.specs.Reading.{HoldsBytes, IsReadGroup};
 ghost use Rattle.rly_gate.specs.HelpersReading.{IsReadLength};
 
 use crate::gate::{FRAME_OVERHEAD, LENGTH_BYTES, OPEN_GATE};
 use byteorder::{BigEndian, ByteOrder};
 use rly_disk::{Disk, DiskFault};
-use std::alloc::Global;
+use std::alloc::{AllocError, Global};
 
 /// Why bytes were not read. The disk reads as before.
 #[derive(Clone, Copy, Debug, PartialEq, Eq)]
@@ -43,7 +43,7 @@ pub fn read_group<D: Disk>(
     requires end { end ≤ (D.state disk.old).size }
     ensures read { (D.state disk.old).honest → IsReadGroup (D.state disk.old).seen at end result }
     ensures within { IfOk result (λ found. IfSome found (λ body. at + 6 + vec_len body ≤ end)) }
-    ensures memory { (D.state disk.old).honest → result ≡ Err GroupFault.OutOfMemory → HoldsSome (D.state disk.old).seen at end }
+    ensures memory { (D.state disk.old).honest → result ≡ Err GroupFault.OutOfMemory → HoldsBytes (D.state disk.old).seen at end }
     ensures trace { (n : ℕ) × Makes D.state (group_reads at end n result) (is_told result) disk.old disk.new }
 {
     let Ok(opened) = is_open(disk, at) else {
@@ -114,15 +114,27 @@ pub fn read_bytes<D: Disk>(
     ensures read { (D.state disk.old).honest
         → IfOk result (λ bytes. bytes.items ≡ take count (drop place (D.state disk.old).seen)) }
     ensures length { IfOk result (λ bytes. length bytes.items ≡ count) }
+    ensures memory { result ≡ Err ReadFault.OutOfMemory → 0 < count }
     ensures trace { Makes D.state (bytes_reads place count result) (are_told result) disk.old disk.new }
 {
-    let Ok(mut bytes) = vec![in alloc; 0u8; count] else {
+    let Ok(mut bytes) = zeroes(alloc, count) else {
         return Err(ReadFault::OutOfMemory);
     };
     let Ok(()) = fill(disk, place, &mut bytes) else {
         return Err(ReadFault::Device);
     };
     Ok(bytes)
+}
+
+/// So many bytes 0. None takes no memory.
+fn zeroes(alloc: Global, count: usize) -> Result<Vec<u8>, AllocError>
+    ensures length { IfOk result (λ bytes. length bytes.items ≡ count) }
+    ensures memory { OnErr result (0 < count) }
+{
+    if count == 0 {
+        return Ok(Vec::new(alloc));
+    }
+    vec![in alloc; 0u8; count]
 }
 
 /// Fills a buffer from a place on.

@@ -4,6 +4,7 @@ use Rattle.std.proofs.lemmas.Result.{err_from_is_err_and}
 use Rattle.rly_disk.specs.Trace.{Read}
 use Rattle.rly_disk.proofs.Traces.{makes_front, makes_joined}
 use Rattle.std.proofs.lemmas.Bool.{not-false}
+use Rattle.std.proofs.lemmas.List.{length-drop, length-take}
 use Rattle.byteorder.specs.Endian.{big_bytes}
 use Rattle.rly_gate.specs.Group.{StandsAt}
 use Rattle.rly_disk.proofs.Making.{quiet_new}
@@ -31,12 +32,22 @@ returns-in-Err-OutOfMemory-clause-memory g c honest refused =
     let first = quiet_new g.D.Disk.state c.in-Ok.ensures.trace refl honest (g.met.D.Disk.consistent c.args.disk.now honest) in
     let n = c.in_ok-length.length in
     let field = c.in_ok-length.ensures.read first.honest in
+    let some = c.in-Err-OutOfMemory.ensures.memory (ap Err c.in-Err-OutOfMemory.field-0-is) in
     let body : List ℕ = take n (drop (c.args.at + 5) (g.D.Disk.state c.args.disk.now).seen) in (
       body,
       holds (g.D.Disk.state c.args.disk.now).seen c.args.at c.args.end n body
           ((c.in-Ok.ensures.read honest).0 (search (rules, not-false)))
           (subst (λ (image : List ℕ). StandsAt image (c.args.at + 1) (big_bytes 4 n)) first.seen field.0)
           field.1 c.in_ok-length.ensures.within (omega (arith, (g.met.D.Disk.consistent c.args.disk.now honest).seen_size, c.requires.end)) refl,
+      omega (
+        arith,
+        some,
+        length-take n (drop (c.args.at + 5) (g.D.Disk.state c.args.disk.now).seen),
+        length-drop (c.args.at + 5) (g.D.Disk.state c.args.disk.now).seen,
+        c.in_ok-length.ensures.within,
+        (g.met.D.Disk.consistent c.args.disk.now honest).seen_size,
+        c.requires.end,
+      ),
     )
 
 pub returns-in_default-clause-trace : goal.returns-in_default-clause-trace

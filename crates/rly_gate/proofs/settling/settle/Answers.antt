@@ -1,4 +1,4 @@
-use Rattle.std.proofs.Common.{◌≡◌, arith, length}
+use Rattle.std.proofs.Common.{arith}
 use Rattle.std.proofs.lemmas.Bool.Decides.{nat_tests}
 use Rattle.rly_disk.proofs.Making.{cut_short}
 use Rattle.rly_gate.proofs.Durable.{settling_both, settling_cut, settling_nothing}
