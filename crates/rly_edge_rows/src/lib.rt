@@ -1,7 +1,7 @@
-//! Tests of the command line and of the report on a device.
+//! Tests of the command line, of the report on a device, and of the reports of a station that serves.
 //!
 //! What words ask for, and which ask for nothing (docs/COMMANDS.md); reports on devices in memory that were filled by rounds,
-//! refusals, and writers that fail. They stand over the built libraries, so that these are proved once. No crate may call it:
+//! refusals, and writers that fail; the text of a station's report, and what is counted for it. They stand over the built libraries, so that these are proved once. No crate may call it:
 //! it has no code but tests.
 #![tactic(auto)]
 
@@ -20,5 +20,7 @@ mod audits;
 mod expect;
 #[cfg(test)]
 mod growths;
+#[cfg(test)]
+mod reports;
 #[cfg(test)]
 mod settings;

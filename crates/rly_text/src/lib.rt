@@ -19,5 +19,6 @@ mod simulation;
 mod text_fault;
 
 pub use crate::playing::play;
+pub use crate::reply_line::StatusLine;
 pub use crate::simulation::sim;
 pub use crate::text_fault::TextFault;

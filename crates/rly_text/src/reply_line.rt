@@ -84,7 +84,10 @@ impl fmt::Display for ReplyLine<'_> {
             Reply::Unchanged => write!(f, "unchanged {hop}"),
             Reply::Bytes(payload) => write!(f, "bytes {hop} {number} {}", Hexadecimal { payload }),
             Reply::WindowIs { first, next } => write!(f, "window {hop} {first} {next}"),
-            Reply::Shown(status) => write!(f, "{}", StatusLine { hop, status }),
+            Reply::Shown(status) => {
+                let hop = self.subject.hop;
+                write!(f, "{}", StatusLine { hop, status })
+            }
             Reply::Refused(refusal) => write!(f, "{refusal}"),
         }
     }
@@ -185,18 +188,20 @@ fn digits_of<'a>(bytes: &[u8], buffer: &'a mut [u8; 2 * PIECE]) -> &'a str
 
 /// All numbers of a hop, as a line.
 #[derive(Drop)]
-struct StatusLine<'a> {
-    hop: u16,
-    status: &'a HopStatus,
+pub struct StatusLine<'a> {
+    /// Which hop it is.
+    pub hop: HopId,
+    /// Its numbers.
+    pub status: &'a HopStatus,
 }
 
 impl fmt::Display for StatusLine<'_> {
     ghost use Rattle.rly_text.specs.Replies.{status_text};
 
-    ghost output = { λ line. Some (status_text (record { 0 = line.hop }) line.status.now) };
+    ghost output = { λ line. Some (status_text line.hop line.status.now) };
 
     fn fmt<W: fmt::Write>(&self, f: &mut fmt::Formatter<W>) -> fmt::Result {
-        let (hop, status) = (self.hop, self.status);
+        let (hop, status) = (self.hop.0, self.status);
         let counts = HopCounts { status };
         let codel = Discards {
             codel: &status.codel,

@@ -1,0 +1,28 @@
+-- What a station asks and tells of its hops (docs/DEFINITIONS.md, "Reports").
+use Rattle.std.specs.Prelude.{ℕ, List, map, length, Result}
+use Rattle.std.specs.List.{range_with_len}
+use Rattle.rly_core.specs.declared.ids.HopId.{HopId}
+use Rattle.rly_core.specs.declared.refusal.Refusal.{Refusal}
+use Rattle.rly_machine.specs.declared.command.Ask.{Ask}
+use Rattle.rly_machine.specs.declared.command.Ask.TheVariants as ask
+use Rattle.rly_machine.specs.declared.command.Query.TheVariants.{Show}
+use Rattle.rly_machine.specs.declared.reply.HopStatus.{HopStatus}
+use Rattle.rly_plan.specs.ContactPlan.{ContactPlan, is_open, next_change}
+use Rattle.rly_report.specs.declared.report.HopReport.{HopReport}
+
+-- Show of a hop
+abbrev pub show_ask : ℕ → Ask
+show_ask id = ask.Query (Show (record { 0 = id }))
+
+-- Show of so many hops, whose ids are 1, 2, 3, ..
+abbrev pub shows : ℕ → List Ask
+shows count = map show_ask (range_with_len 1 count)
+
+-- Show of each hop of a plan
+abbrev pub show_asks : ContactPlan → List Ask
+show_asks plan = shows (length plan.hops)
+
+-- what is told of a hop of a plan at a moment, by what its Show was answered, and with so many packets without a right tag
+abbrev pub hop_report : ContactPlan → HopId → ℕ → Result HopStatus Refusal → ℕ → HopReport
+hop_report plan hop moment answer wrong =
+    record { hop = hop; answer = answer; is_open = is_open plan hop moment; change = next_change plan hop moment; wrong = wrong }
