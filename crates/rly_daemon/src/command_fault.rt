@@ -71,7 +71,7 @@ pub(crate) enum CommandFault {
     #[error("{0}")]
     NewKey(NewKeyFault),
     /// A device to be formatted holds so many live datagrams.
-    #[error("rly: format failed\nrly: device: live datagrams: {0}; --force formats it, and they are lost")]
+    #[error("refused 23 device\nrly: device: live datagrams: {0}; --force formats it, and they are lost")]
     Live(u64),
     /// Something was refused.
     #[error("{0}{1}")]

@@ -262,7 +262,7 @@ fn audit_tells_what_play_left(rt: HostRuntime) -> Result<(), Fail> {
 
 /// What is told where a device that holds a live datagram would be formatted.
 const ONE_LIVES: &[u8] =
-    b"rly: format failed\nrly: device: live datagrams: 1; --force formats it, and they are lost\n";
+    b"refused 23 device\nrly: device: live datagrams: 1; --force formats it, and they are lost\n";
 
 /// Runs `play` on lines, and checks that each is accepted.
 fn expect_played(rt: &(impl Abort + Host), path: &str, input: &[u8], output: &[u8]) {

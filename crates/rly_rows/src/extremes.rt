@@ -6,7 +6,7 @@ use crate::device::{DEVICE_E, SECOND_GATE, SIZE, bytes_of, device_e, formatted, 
 use crate::script::{HOP, Step, ask_all};
 use rly_checkpoint::read_checkpoint;
 use rly_core::{Geometry, Params, Refusal};
-use rly_disk::{Disk, MemDisk};
+use rly_disk::MemDisk;
 use rly_journal::Journal;
 use rly_machine::{Machine, Payload, Reply};
 use rly_segment::format;
@@ -155,9 +155,9 @@ fn the_greatest_spool(rt: HostRuntime) -> Result<(), Fail> {
     let steps = [Step::Pick { now: 0 }, Step::Fetch { number: 65 }];
     ask_both(&rt, alloc, (&mut journal, &mut machine), &steps)?;
     let mut disk = journal.into_disk();
-    let mut head = [0; 12];
-    expect!(rt; disk.read_at(17_298_029, &mut head).is_ok());
-    expect!(rt; head == FULL_HEAD);
+    let bytes = bytes_of(&rt, alloc, &mut disk)?;
+    assert!(rt; bytes.len() == FULL_SIZE);
+    expect!(rt; &bytes[17_298_029..17_298_041] == FULL_HEAD.as_slice());
     let mut journal = opened(&rt, alloc, disk);
     let last = [
         Step::Show,
@@ -238,9 +238,8 @@ fn a_head_past_the_first_mib(rt: HostRuntime) -> Result<(), Fail> {
     expect!(rt; format(alloc, &mut disk, &FAR) == Ok(()));
     let mut bytes = bytes_of(&rt, alloc, &mut disk)?;
     assert!(rt; bytes.len() == FAR_SIZE);
-    for place in 0..100 {
-        bytes[FAR_GATE + place] = bytes[64 + place];
-    }
+    let head = Vec::from_slice(alloc, &bytes[64..164])?;
+    bytes[FAR_GATE..FAR_GATE + 100].copy_from_slice(&head);
     bytes[FAR_GATE + 8] = 2;
     bytes[FAR_GATE + 20] = 1;
     let body = &bytes[FAR_GATE + 13..FAR_GATE + 100];
