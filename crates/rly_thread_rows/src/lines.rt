@@ -160,16 +160,6 @@ fn last_of<R: Abort>(rt: &R, alloc: Global, count: u16) -> (Seat, LineEnd)
     (seats.pop().expect(rt, "a seat"), line)
 }
 
-/// Both ends of the line come back as they were from the law that they meet.
-#[test]
-fn both_ends_agree(rt: HostRuntime) {
-    let (mut seats, mut line) = make(rt.alloc(), 1, 2).expect(&rt, "memory");
-    let seat = seats.pop().expect(&rt, "a seat");
-    let seat = line.law_beginning(seat);
-    expect!(rt; seat.id().0 == 1);
-    expect!(rt; line.more(&rt).is_none());
-}
-
 /// Where the other end is gone, a call is handed back.
 #[test]
 fn nobody_answers(rt: HostRuntime) {
