@@ -1,9 +1,8 @@
 -- Batches are collected one after the other, and the one that doesn't fit is kept.
 use Rattle.std.proofs.Common.{◌≡◌, ◌+◌, ◌<◌, ◌++◌, length, List, Option, None, Some, ap, sym, ◌∙◌, append_assoc, append-nil}
 use Rattle.rly_machine.specs.declared.call.Call.{Call}
-use Rattle.rly_line.specs.Batches.{BatchView, calls_in_batch}
+use Rattle.rly_line.specs.Batches.{BatchView, calls_in_batch, calls_put}
 use Rattle.rly_line.specs.Responding.{Responding}
-use Rattle.rly_flush.specs.Flushing.{kept_calls}
 use Rattle.rly_flush.specs.HelpersFlushing.{AreCollected}
 
 module _ {old mid new : Responding} {kept : Option BatchView} {calls : List Call} (b : BatchView) (so_far : AreCollected old mid kept None calls)
@@ -13,9 +12,9 @@ module _ {old mid new : Responding} {kept : Option BatchView} {calls : List Call
       taken ∙ ap (λ (r : Responding). record r { taken = r.taken ++ calls_in_batch b }) so_far.line
       ∙ ap (λ l. record old { taken = l }) (append_assoc old.taken so_far.came (calls_in_batch b))
 
-  in_order : kept_calls kept ++ (so_far.came ++ calls_in_batch b) ≡ calls ++ calls_in_batch b
+  in_order : calls_put kept ++ (so_far.came ++ calls_in_batch b) ≡ calls ++ calls_in_batch b
   in_order =
-      sym (append_assoc (kept_calls kept) so_far.came (calls_in_batch b)) ∙ ap (λ l. l ++ calls_in_batch b) (so_far.in_turn ∙ append-nil calls)
+      sym (append_assoc (calls_put kept) so_far.came (calls_in_batch b)) ∙ ap (λ l. l ++ calls_in_batch b) (so_far.in_turn ∙ append-nil calls)
 
   -- one more batch is of the round
   pub collected_more : AreCollected old new kept None (calls ++ calls_in_batch b)

@@ -20,12 +20,12 @@ use Rattle.rly_journal.specs.Journal.{IsRound, JournalState}
 use Rattle.rly_journal.specs.Rounds.{AreServed, refusal_of, refusals}
 use Rattle.rly_journal.specs.Standing.{Stands}
 use Rattle.rly_line.specs.Replies.{Teller}
-use Rattle.rly_line.specs.Batches.{BatchView}
+use Rattle.rly_line.specs.Batches.{BatchView, calls_put}
 use Rattle.rly_line.specs.Responding.{AreLeft, IsResponding, Responding, calls_in}
 use Rattle.rly_line.specs.Submission.{LineId}
 use Rattle.rly_line.proofs.Telling.{with_over}
 use Rattle.rly_flush.specs.HelpersFlushing.{AreCollected, IsFlushing, IsRounded}
-use Rattle.rly_flush.specs.Flushing.{AreHarmless, FlusherState, GrewInRound, IsBreaking, IsCrashSafe, IsLeftIn, IsDoubtful, IsOneHistory, IsOneRound, IsRefusedWhereScarce, answered_state, entries_since, folded, kept_calls, over_now, state_reached}
+use Rattle.rly_flush.specs.Flushing.{AreHarmless, FlusherState, GrewInRound, IsBreaking, IsCrashSafe, IsLeftIn, IsDoubtful, IsOneHistory, IsOneRound, IsRefusedWhereScarce, answered_state, entries_since, folded, over_now, state_reached}
 use Rattle.rly_flush.proofs.Joining.{GoesOn, goes_on}
 use Rattle.rly_flush.proofs.Refusing.{accepted_append, all_append, all_broken, all_harmless, all_unsure, broken_accepts_none, calls_in_append, calls_in_zip, unsure_accepts_none}
 
@@ -294,13 +294,13 @@ module _ {D : Type 0} (state : D → DiskState) (consistent : (disk : D) → (st
       same_by (inr (inr breaks)) broke = absurd (false≢true (sym breaks.0 ∙ broke))
 
       -- all of it goes on
-      pub kept_next : kept_calls old.kept ++ came ≡ calls ++ kept_calls left → IsResponding next.line → IsFlushing state next
+      pub kept_next : calls_put old.kept ++ came ≡ calls ++ calls_put left → IsResponding next.line → IsFlushing state next
       kept_next in_turn responding = record {
         responding = responding;
         start = kept.start;
         as_given = kept.as_given;
-        answered = ap (λ l. l ++ kept_calls left) more ∙ append_assoc (calls_in old.line.history) calls (kept_calls left) ∙ ap (λ l. calls_in old.line.history ++ l) (sym in_turn)
-            ∙ sym (append_assoc (calls_in old.line.history) (kept_calls old.kept) came) ∙ ap (λ l. l ++ came) kept.answered;
+        answered = ap (λ l. l ++ calls_put left) more ∙ append_assoc (calls_in old.line.history) calls (calls_put left) ∙ ap (λ l. calls_in old.line.history ++ l) (sym in_turn)
+            ∙ sym (append_assoc (calls_in old.line.history) (calls_put old.kept) came) ∙ ap (λ l. l ++ came) kept.answered;
         legal = legal_append (λ reply. reply) 0 old.line.start old.line.history (zip calls given) kept.legal on.legal;
         position_is = on.position_is;
         running = on.running;
@@ -364,9 +364,9 @@ module _ {D : Type 0} (state : D → DiskState) (consistent : (disk : D) → (st
     -- the calls were taken and are not answered yet
     pub left_to_tell : (rest : List Call) × AreLeft collected (said ++ rest)
     left_to_tell = (
-      kept_calls left,
-      subst (λ (y : Responding × List Call). AreLeft y.0 (y.1 ++ kept_calls left)) (λ i. (sym taken.line i, sym same i))
-          (ap (λ l. l ++ taken.came) (sym kept.answered) ∙ append_assoc (calls_in old.line.history) (kept_calls old.kept) taken.came ∙ ap (λ l. calls_in old.line.history ++ l) taken.in_turn),
+      calls_put left,
+      subst (λ (y : Responding × List Call). AreLeft y.0 (y.1 ++ calls_put left)) (λ i. (sym taken.line i, sym same i))
+          (ap (λ l. l ++ taken.came) (sym kept.answered) ∙ append_assoc (calls_in old.line.history) (calls_put old.kept) taken.came ∙ ap (λ l. calls_in old.line.history ++ l) taken.in_turn),
     )
 
     -- there are as many answers

@@ -15,7 +15,7 @@ use Rattle.rly_machine.specs.State.{State}
 use Rattle.rly_journal.specs.Journal.{IsDueFor, IsRound, JournalState}
 use Rattle.rly_journal.specs.Rounds.{AreServed, IsRefusedWhereWanted, refusals}
 use Rattle.rly_journal.specs.Standing.{Stands}
-use Rattle.rly_line.specs.Batches.{BatchView, calls_in_batch}
+use Rattle.rly_line.specs.Batches.{BatchView, calls_put}
 use Rattle.rly_line.specs.EndViews.{EndView, names_of}
 use Rattle.rly_line.specs.Responding.{AreTold, Responding, calls_in}
 
@@ -26,11 +26,6 @@ pub record FlusherState (D : Type 0) : Type 0 where
   pub journal : JournalState D
   pub kept : Option BatchView
   pub line : Responding
-
--- the calls of the batch that is kept
-abbrev pub kept_calls : Option BatchView → List Call
-kept_calls None = []
-kept_calls (Some batch) = calls_in_batch batch
 
 -- the state of a journal as far as was answered: its running state, which where it is broken counts as many commands as
 -- its position
@@ -63,7 +58,7 @@ entries_since p broke behind = zip broke (refusals Unsure p broke) ++ zip behind
 pub record IsInTurn {D : Type 0} (old new : FlusherState D) (calls : List Call) : Type 0 where
   pub came : List Call
   pub taken : new.line.taken ≡ old.line.taken ++ came
-  pub in_turn : kept_calls old.kept ++ came ≡ calls ++ kept_calls new.kept
+  pub in_turn : calls_put old.kept ++ came ≡ calls ++ calls_put new.kept
   pub full : IfSome new.kept (λ batch. 64 < length calls + length batch.asks)
 
 -- memory was refused only to asks that may want it, or to all calls where a segment is due and its head finds none
@@ -172,7 +167,7 @@ KeepsAccepted disk start history = (image : List ℕ) → disk.images image → 
 -- what holds at each exit: there is one history of the calls that were taken
 pub record IsOneHistory {D : Type 0} (state : D → DiskState) (f : FlusherState D) : Type 0 where
   -- its calls are those, in the order in which they were taken, but for the batch that is kept, which was taken last
-  pub calls : calls_in f.line.history ++ kept_calls f.kept ≡ f.line.taken
+  pub calls : calls_in f.line.history ++ calls_put f.kept ≡ f.line.taken
   -- it is legal from the state of the journal that was given
   pub start : f.line.start ≡ answered_state f.first
   pub as_given : f.first.broken ≡ false → f.line.start ≡ f.first.state

@@ -9,10 +9,10 @@ use Rattle.rly_machine.specs.declared.call.Call.{Call}
 use Rattle.rly_machine.specs.History.{Legal, harm_after, position}
 use Rattle.rly_journal.specs.Journal.{IsRound, IsSafe, JournalState}
 use Rattle.rly_journal.specs.Standing.{Stands}
-use Rattle.rly_line.specs.Batches.{AnswersView, BatchView, calls_in_batch, no_answers}
+use Rattle.rly_line.specs.Batches.{AnswersView, BatchView, calls_in_batch, calls_put, no_answers}
 use Rattle.rly_line.specs.Responding.{IsResponding, Responding, calls_in}
 use Rattle.rly_flush.specs.declared.round_calls.Lists.{Lists}
-use Rattle.rly_flush.specs.Flushing.{FlusherState, IsCrashSafe, answered_state, kept_calls, state_reached}
+use Rattle.rly_flush.specs.Flushing.{FlusherState, IsCrashSafe, answered_state, state_reached}
 
 -- the calls of the batches of a round, which the history is made of
 abbrev pub calls_said : List (Snapshot BatchView) → List Call
@@ -42,7 +42,7 @@ pub record IsReady (lists : Lists) : Type 0 where
 pub record AreCollected (old new : Responding) (kept left : Option BatchView) (calls : List Call) : Type 0 where
   pub came : List Call
   pub line : new ≡ record old { taken = old.taken ++ came }
-  pub in_turn : kept_calls kept ++ came ≡ calls ++ kept_calls left
+  pub in_turn : calls_put kept ++ came ≡ calls ++ calls_put left
   pub full : IfSome left (λ batch. 64 < length calls + length batch.asks)
 
 -- what is known of a round of the journal
@@ -60,7 +60,7 @@ pub record IsFlushing {D : Type 0} (state : D → DiskState) (f : FlusherState D
   pub start : f.line.start ≡ answered_state f.first
   pub as_given : f.first.broken ≡ false → f.line.start ≡ f.first.state
   -- there is one history, of the calls that were taken, in order, but for the batch that is kept
-  pub answered : calls_in f.line.history ++ kept_calls f.kept ≡ f.line.taken
+  pub answered : calls_in f.line.history ++ calls_put f.kept ≡ f.line.taken
   pub legal : Legal f.line.start f.line.history
   -- the journal is where the history led to
   pub position_is : f.journal.position ≡ position f.line.start f.line.history

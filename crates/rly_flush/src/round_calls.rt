@@ -5,10 +5,9 @@ ghost use Rattle.std.specs.List.{zip};
 ghost use Rattle.rly_core.specs.Bounds.{IsIn};
 ghost use Rattle.rly_machine.specs.declared.call.Call.{Call as ACall};
 ghost use Rattle.rly_machine.specs.History.{LegalBy, harm_after, state_after, without_bytes};
-ghost use Rattle.rly_line.specs.Batches.{calls_in_batch, no_answers};
+ghost use Rattle.rly_line.specs.Batches.{calls_in_batch, calls_put, no_answers};
 ghost use Rattle.rly_line.specs.EndViews.{names_of};
 ghost use Rattle.rly_line.specs.Responding.{AreLeft, IsResponding};
-ghost use Rattle.rly_flush.specs.Flushing.{kept_calls};
 ghost use Rattle.rly_flush.specs.HelpersFlushing.{AreCollected, HasRoom, IsReady, answers_said, calls_said};
 
 use rly_core::limits;

@@ -1,4 +1,4 @@
-ghost use Rattle.std.specs.Prelude.{◌≡◌, ◌-◌, is_some, List, ℕ};
+ghost use Rattle.std.specs.Prelude.{◌≡◌, ◌+◌, ◌-◌, is_some, not, true, List, ℕ};
 ghost use Rattle.std.specs.Option.{option_map};
 ghost use Rattle.rly_hop.specs.Payloads.{out_action_bytes, out_event_bytes};
 ghost use Rattle.rly_hop.specs.Sending.{after_custody, after_release, is_unsure, sender, sending_step, turn};
@@ -92,6 +92,21 @@ impl Sending {
         ensures { result ≡ self.now.window - (self.now.next - self.now.first) }
     {
         self.window.saturating_sub(self.next - self.first)
+    }
+
+    /// How many datagrams may be in flight beside those that are, once all up to this number are released.
+    pub fn room_after(&self, number: u64) -> u64
+        ensures { result ≡ self.now.window - (self.now.next - (number + 1)) }
+    {
+        let left = self.next.saturating_sub(number).saturating_sub(1);
+        self.window.saturating_sub(left)
+    }
+
+    /// Whether nothing is left to do but to hear: a turn would name nothing, also while a contact is open.
+    pub fn can_only_hear(&self) -> bool
+        ensures { result ≡ not (is_some (turn self.now true)) }
+    {
+        self.turn(true).is_none()
     }
 
     /// The call that a turn names, if it names one.

@@ -30,13 +30,13 @@ use Rattle.rly_machine.proofs.Histories.{folds, legal_but_for_bytes}
 use Rattle.rly_record.specs.Spelling.{HasRecord, HaveBody, body_of}
 use Rattle.rly_segment.specs.Heads.{segment_end, segment_place}
 use Rattle.rly_journal.specs.declared.tail.Tail.{Tail}
-use Rattle.rly_journal.specs.Calls.{MakesRound, logging, renewed, renewing, rounding}
+use Rattle.rly_journal.specs.Calls.{IsUnopened, MakesRound, logging, renewed, renewing, rounding}
 use Rattle.rly_journal.specs.HelpersCalls.{IsReady, IsUnready}
 use Rattle.rly_journal.specs.HelpersGroups.{Gathers, GroupState, group_body, unsure_at}
 use Rattle.rly_journal.specs.HelpersJournal.{IsShaped}
 use Rattle.rly_journal.specs.Journal.{Breaks, Goes, IsDueFor, IsRound, IsSafe, JournalState, holds_command, is_command}
 use Rattle.rly_journal.specs.Log.{IsDurable, IsFull, IsLogged}
-use Rattle.rly_journal.specs.Rounds.{AreServed, refusals}
+use Rattle.rly_journal.specs.Rounds.{AreServed, IsRefusedWhereWanted, refusals}
 use Rattle.rly_journal.specs.Standing.{Commands, Stands}
 use Rattle.rly_journal.proofs.Appending.{append_image, append_logged, appended_tail, gathered_body, logged_within, room_left}
 use Rattle.rly_journal.proofs.Ending.{renew_image, renew_logged, renew_room, renew_shape, renewing_synced, renewing_writes}
@@ -182,10 +182,10 @@ logging_none state a gate group (command ∷ commands) s t gathers none = absurd
 
 -- a round that opened no segment
 pub serve_made : {D : Type 0} (state : D → DiskState) (old new : JournalState D) (calls : List Call) (given : List Answer) (group : GroupState) → AreServed calls given old.state new.state
-    → Gathers (accepted_of (zip calls given)) group old.state new.state → (IsDueFor old calls → ⊥)
+    → Gathers (accepted_of (zip calls given)) group old.state new.state → (IsDueFor old calls → ⊥) → IsRefusedWhereWanted old.state (zip calls given)
     → Makes state (logging old.tail.gate (accepted_of (zip calls given))) (not new.broken) old.disk new.disk
     → (before after : List Answer) → (new.broken ≡ false → after ≡ before ++ given) → MakesRound state old new calls before after
-serve_made state old new calls given group served gathers none makes before after told = record {
+serve_made state old new calls given group served gathers none wanted makes before after told = record {
   given = given;
   told = told;
   served = served;
@@ -193,6 +193,7 @@ serve_made state old new calls given group served gathers none makes before afte
   opened = false;
   due = λ yes. let e : false ≡ true = yes in absurd cc;
   starved = λ no due. absurd (none due);
+  wanted = inl wanted;
   makes = makes;
 }
 
@@ -280,6 +281,7 @@ module _ {D : Type 0} (state : D → DiskState) (old mid : JournalState D) (call
         opened = true;
         due = λ yes. opened.0;
         starved = λ no. let e : true ≡ false = no in absurd cc;
+        wanted = ⊎_elim (λ wanted. inl (subst (λ s. IsRefusedWhereWanted s (zip calls made.given)) same wanted)) (λ unopened. absurd (none unopened.due)) made.wanted;
         makes = makes_joined state (renewing old.tail old.state) (logging (renewed old.tail old.state).gate (accepted_of (zip calls made.given))) (not new.broken) opened.2
             (subst (λ t. Makes state (logging t.gate (accepted_of (zip calls made.given))) (not new.broken) mid.disk new.disk) opened.1 (unopened made.opened refl made.makes));
       })
@@ -302,6 +304,7 @@ made_as state old new now calls {before} {after} first last is from to made =
       opened = made.opened;
       due = made.due;
       starved = made.starved;
+      wanted = made.wanted;
       makes = made.makes;
     })
 
@@ -323,16 +326,17 @@ module _ {D : Type 0} (state : D → DiskState) (old new : JournalState D) (call
   round_unmade before after position refused counted = ⊎_elim
       (λ starved. subst (λ j. MakesRound state old j calls before after) (sym starved.1) (unserved old refl false
       (λ _. refused ∙ ap (λ r. before ++ refusals r position calls) starved.0 ∙ ap (λ n. before ++ refusals OutOfMemory n calls) counted)
-      (λ yes. let e : false ≡ true = yes in absurd cc) (λ no due. refl)
+      (λ yes. let e : false ≡ true = yes in absurd cc) (λ no due. refl) (record { due = starved.2; why = inl refl })
       (subst (λ b. Makes state [] (not b) old.disk old.disk) (sym whole) (makes_nothing state old.disk))))
-      (λ failed. unserved new same true (λ going. let e : true ≡ false = sym failed.1 ∙ going in absurd cc) (λ yes. failed.2) (λ no. let e : true ≡ false = no in absurd cc)
+      (λ failed. unserved new same true (λ going. let e : true ≡ false = sym failed.1 ∙ going in absurd cc) (λ yes. failed.2) (λ no. let e : true ≡ false = no in absurd cc) (record { due = failed.2; why = inr (failed.1, failed.3) })
       (subst (λ b. Makes state (renewing old.tail old.state ++ []) (not b) old.disk new.disk) (sym failed.1) (makes_front state (renewing old.tail old.state) [] failed.3)))
       readied
     where
       unserved : (now : JournalState D) → now.state ≡ old.state → (opened : Bool)
           → (now.broken ≡ false → after ≡ before ++ refusals OutOfMemory old.state.seq calls) → (opened ≡ true → IsDueFor old calls) → (opened ≡ false → IsDueFor old calls → now ≡ old)
+          → IsUnopened state old now calls opened
           → Makes state (rounding old.tail old.state opened []) (not now.broken) old.disk now.disk → MakesRound state old now calls before after
-      unserved now still opened told due starved makes = record {
+      unserved now still opened told due starved unopened makes = record {
         given = refusals OutOfMemory old.state.seq calls;
         told = told;
         served = subst (AreServed calls (refusals OutOfMemory old.state.seq calls) old.state) (sym still) (served_starved old.state calls);
@@ -340,6 +344,7 @@ module _ {D : Type 0} (state : D → DiskState) (old new : JournalState D) (call
         opened = opened;
         due = due;
         starved = starved;
+        wanted = inr unopened;
         makes = subst (λ commands. Makes state (rounding old.tail old.state opened commands) (not now.broken) old.disk now.disk) (sym (none_accepted OutOfMemory old.state.seq calls)) makes;
       }
 

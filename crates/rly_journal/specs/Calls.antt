@@ -1,5 +1,5 @@
 -- The calls that a journal makes of its device.
-use Rattle.std.specs.Prelude.{◌≡◌, ◌+◌, ◌-◌, ℕ, Bool, true, false, not, List, [], ◌∷◌, ◌++◌, Some, set, slice_index_or}
+use Rattle.std.specs.Prelude.{◌≡◌, ◌⊎◌, ◌+◌, ◌-◌, ℕ, Bool, true, false, not, List, [], ◌∷◌, ◌++◌, Some, set, slice_index_or}
 use Rattle.std.specs.List.{AllByRecursion, zip}
 use Rattle.rly_disk.specs.DiskModel.{DiskState}
 use Rattle.rly_core.specs.declared.params.Geometry.{Geometry}
@@ -16,7 +16,7 @@ use Rattle.rly_journal.specs.declared.open_fault.OpenFault.{OpenFault}
 use Rattle.rly_journal.specs.declared.open_fault.OpenFault.TheVariants as fault
 use Rattle.rly_journal.specs.declared.tail.Tail.{Tail}
 use Rattle.rly_journal.specs.Journal.{IsDueFor, JournalState}
-use Rattle.rly_journal.specs.Rounds.{AreServed}
+use Rattle.rly_journal.specs.Rounds.{AreServed, IsRefusedWhereWanted}
 use Rattle.rly_journal.specs.Standing.{Commands}
 
 -- the other of two segments
@@ -123,6 +123,14 @@ pub record BreaksOpening {D : Type 0} (state : D → DiskState) (told : Bool) (o
 abbrev pub fetching : List DeviceEvent
 fetching = []
 
+-- the calls of a round weren't evaluated: a segment is due, and memory was refused for its head, or the device failed
+-- before the head stood
+pub record IsUnopened {D : Type 0} (state : D → DiskState) (old new : JournalState D) (calls : List Call)
+    (opened : Bool) : Type 0 where
+  pub due : IsDueFor old calls
+  pub why : (opened ≡ false)
+      ⊎ ((new.broken ≡ true) × Makes state (renewing old.tail old.state) false old.disk new.disk)
+
 -- a round of a journal that isn't broken: its calls were served, and those of the device are its own, all of them where
 -- the journal goes on, else those up to the first that failed
 pub record MakesRound {D : Type 0} (state : D → DiskState) (old new : JournalState D) (calls : List Call)
@@ -137,5 +145,7 @@ pub record MakesRound {D : Type 0} (state : D → DiskState) (old new : JournalS
   pub due : opened ≡ true → IsDueFor old calls
   -- where one is due it was opened, but for want of memory, and then nothing changed
   pub starved : opened ≡ false → IsDueFor old calls → new ≡ old
+  -- where the calls were evaluated, memory was refused only to those that may want it
+  pub wanted : IsRefusedWhereWanted old.state (zip calls given) ⊎ IsUnopened state old new calls opened
   pub makes : Makes state (rounding old.tail old.state opened (accepted_of (zip calls given))) (not new.broken) old.disk
       new.disk

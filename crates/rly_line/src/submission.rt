@@ -307,7 +307,7 @@ impl TakeEnd {
         None
     }
 
-    /// Waits for what is put next: a batch, or None, where a seat leaves. None: nothing was left, and no seat.
+    /// Waits for what a seat puts: a batch, or, as `Some(None)`, that it leaves. `None`: nothing was left in the line, and no seat.
     fn next<R: Wait>(&mut self, rt: &R) -> Option<Option<Batch>>
         ensures taken { IfSome result (λ put. MatchOption put (self.new ≡ self.old)
             (λ batch. (self.new ≡ record self.old { taken = self.old.taken ++ calls_in_batch batch }) × IsNext self.old.seats self.old.taken batch)) }

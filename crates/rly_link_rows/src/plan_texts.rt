@@ -160,6 +160,39 @@ fn the_greatest_plan_is_told(rt: HostRuntime) -> Result<(), Fail> {
     Ok(())
 }
 
+/// A plan whose peer has this word for its addresses and for the file of its key.
+fn worded(alloc: Global, word: &str) -> Result<String, AllocError> {
+    let hop = "{ id = 1, station = 9, listen = 'c', remote = 'd', contacts = [] }";
+    let peer = format!(in alloc;
+        "{{ id = 1, station = 3, listen = '{word}', remote = '{word}', key = '{word}' }}"
+    )?;
+    format!(in alloc; "station = 7\npeer = [{peer}]\nhop = [{hop}]\n")
+}
+
+/// What is told of its hop.
+const CLOSED: &str = "hop 1 station 9 listen c remote d
+hop 1 resend 160 contacts 0 open 0
+hop 1 contact closed
+";
+
+/// Addresses and the path of a key of 5,000 bytes are told whole.
+#[test]
+fn long_words_are_told_whole(rt: HostRuntime) -> Result<(), Fail> {
+    let alloc = rt.alloc();
+    let mut word = String::new(alloc);
+    for _part in 0..1_000 {
+        word.push_str("abcde")?;
+    }
+    let text = worded(alloc, word.as_str())?;
+    let plan = Plan::from_toml(alloc, text.as_str())?;
+    let told = text_of(alloc, &plan, 0)?;
+    let wanted = format!(in alloc;
+        "at 1970-01-01T00:00:00Z 0\nstation 7\npeer 1 station 3 listen {word} remote {word} key {word}\n{CLOSED}"
+    )?;
+    expect!(rt; told.as_str() == wanted.as_str());
+    Ok(())
+}
+
 /// A hop of the plan of several, a moment, and when its link changes next.
 const CHANGES: [(u16, u64, Option<u64>); 12] = [
     (0, 0, None),

@@ -1,6 +1,6 @@
 -- What the cores of two real relays name on an event, and what that leaves of the two.
 use Rattle.std.proofs.Common.{ℕ, ◌≡◌, List, [], ◌∷◌, ◌++◌, length, map, take, drop, replicate, Bool, true, false, refl, sym, ◌∙◌, ap, subst, Option, Some, None}
-use Rattle.std.specs.Prelude.{not, nat_lt, ◌+◌, ◌-◌, ◌&&◌, ◌==◌, is_none, is_some, if◌then◌else◌, slice_get, slice_set}
+use Rattle.std.specs.Prelude.{not, nat_lt, ◌+◌, ◌-◌, ◌&&◌, ◌==◌, is_none, is_some, slice_get, slice_set}
 use Rattle.std.specs.List.{ItemBy}
 use Rattle.std.specs.Option.{option_map}
 use Rattle.std.proofs.lemmas.Bool.{cond_both}

@@ -1,5 +1,5 @@
 -- What a crash leaves of an end.
-use Rattle.std.proofs.Common.{ℕ, ◌≡◌, ◌⊎◌, inl, inr, ◌+◌, ◌<◌, ◌≤◌, List, [], ◌∷◌, length, take, true, false, refl, arith, sym, ◌∙◌, ap, subst, Option, Some, None}
+use Rattle.std.proofs.Common.{ℕ, ◌≡◌, inl, inr, ◌≤◌, List, [], length, take, true, false, refl, arith, sym, ◌∙◌, ap, subst, Option, Some, None}
 use Rattle.std.proofs.Math.Seq.{take-length}
 use Rattle.std.proofs.lemmas.List.{length-take-le}
 use Rattle.rly_core.specs.declared.params.Params.{Params}
@@ -14,7 +14,7 @@ use Rattle.rly_machine.specs.State.{State, new_state}
 use Rattle.rly_pair.specs.declared.spool.Spool.{Spool}
 use Rattle.rly_pair.specs.declared.spool.Spool.TheVariants.{Open, Shut}
 use Rattle.rly_pair.specs.HelpersStation.{Commands, IsDurableSpool, IsReopened, IsSafe, IsSoundStation, IsSpool, Leaves, accepted_in, cut_by, disk_of, harm_left, state_at}
-use Rattle.rly_world.specs.PairEnd.{Asked, End, Replied}
+use Rattle.rly_world.specs.PairEnd.{Asked, Replied}
 use Rattle.rly_pair.specs.PairSteps.{Crashes}
 use Rattle.rly_pair.proofs.StationStanding.{accepted_take, seq_at, standing_accepted, standing_all, standing_take}
 use Rattle.rly_pair.proofs.StationSteps.{shown}

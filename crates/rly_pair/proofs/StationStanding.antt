@@ -1,10 +1,9 @@
 -- The accepted commands among those that an end keeps.
-use Rattle.std.proofs.Common.{ℕ, zero, suc, ◌≡◌, ◌+◌, ◌<◌, ◌≤◌, List, [], ◌∷◌, ◌++◌, length, take, drop, Bool, true, false, refl, arith, sym, ◌∙◌, ap, subst}
+use Rattle.std.proofs.Common.{ℕ, zero, suc, ◌≡◌, ◌≤◌, List, [], ◌∷◌, ◌++◌, length, take, drop, true, false, refl, arith, sym, ◌∙◌, ap, subst}
 use Rattle.std.specs.Prelude.{if◌then◌else◌}
 use Rattle.std.proofs.lemmas.Bool.{cond-true}
 use Rattle.std.proofs.lemmas.List.{append-nil, length-take-le, take-append-drop}
 use Rattle.rly_core.specs.declared.params.Params.{Params}
-use Rattle.rly_journal.specs.Standing.{Stands}
 use Rattle.rly_machine.specs.declared.command.Ask.{Ask}
 use Rattle.rly_machine.specs.declared.command.Ask.TheVariants as ask
 use Rattle.rly_machine.specs.declared.command.Command.{Command}
@@ -16,7 +15,7 @@ use Rattle.rly_machine.specs.State.{State, new_state}
 use Rattle.rly_machine.specs.Step.{step}
 use Rattle.rly_machine.proofs.Folding.{accepted_append, accepted_parts, fold_append, seq_fold}
 use Rattle.rly_machine.proofs.RealReplies.{unaccepted}
-use Rattle.rly_pair.specs.HelpersStation.{Commands, Leaves, accepted_in, command_of, standing, state_at}
+use Rattle.rly_pair.specs.HelpersStation.{Commands, accepted_in, command_of, standing, state_at}
 
 -- where each is accepted, all stand
 pub standing_all : (s : State (List ℕ)) (commands : Commands) → AllAccepted length s commands → standing s commands ≡ commands

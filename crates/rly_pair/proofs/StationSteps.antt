@@ -1,8 +1,8 @@
 -- What a call leaves of an end.
-use Rattle.std.proofs.Common.{ℕ, zero, suc, ◌≡◌, ◌⊎◌, inl, inr, ◌+◌, ◌<◌, ◌≤◌, List, [], ◌∷◌, ◌++◌, length, take, drop, Bool, true, false, nat_lt, nat_le, max, refl, arith, sym, ◌∙◌, ap, subst, Option, Some, None}
+use Rattle.std.proofs.Common.{ℕ, zero, suc, ◌≡◌, ◌⊎◌, inl, inr, ◌<◌, ◌≤◌, List, [], ◌∷◌, ◌++◌, length, take, drop, Bool, true, false, nat_lt, nat_le, max, refl, arith, sym, ◌∙◌, ap, subst, Option, Some, None}
 use Rattle.std.specs.Prelude.{◌||◌, ◌&&◌, ◌==◌, slice_index_or, if◌then◌else◌}
 use Rattle.std.specs.List.{AllByRecursion}
-use Rattle.std.proofs.lemmas.Bool.{and_from, and_parts, cases_lt, cond-true, cond_both, eqb-true, le-leb, lt-ltb, true≢false}
+use Rattle.std.proofs.lemmas.Bool.{and_from, and_parts, cond-true, cond_both, eqb-true, le-leb, lt-ltb, true≢false}
 use Rattle.std.proofs.Math.Seq.{take-length}
 use Rattle.std.proofs.lemmas.List.{append-nil, length-append, take_at}
 use Rattle.rly_core.specs.declared.params.Params.{Params}
@@ -27,9 +27,9 @@ use Rattle.rly_pair.specs.declared.station.Harm.{Harm}
 use Rattle.rly_pair.specs.declared.station.Harm.TheVariants as station
 use Rattle.rly_pair.specs.declared.spool.Spool.{Spool}
 use Rattle.rly_pair.specs.declared.spool.Spool.TheVariants.{Open, Shut}
-use Rattle.rly_pair.specs.HelpersStation.{Commands, Gives, IsCalled, IsHarmed, IsSafe, IsSoundStation, IsSpool, IsSpoolCalled, Leaves, Rests, Serves, Stopped, Works, accepted_in, command_of, harm_number, kept_of, state_at, told_of, told_with}
-use Rattle.rly_world.specs.PairEnd.{Asked, accepted_after, after_call, may_go, reply_by, with_made, with_told, Broken, DeviceRead, Done, End, OutOfMemory, Outcome, Replied, Unsure, harm_by, reply_at, state_of, told_by}
-use Rattle.rly_pair.specs.PairSteps.{Calls, Makes, can_go}
+use Rattle.rly_pair.specs.HelpersStation.{Commands, Gives, IsCalled, IsHarmed, IsSafe, IsSoundStation, IsSpool, IsSpoolCalled, Leaves, Stopped, Works, accepted_in, command_of, harm_number, kept_of, state_at, told_of, told_with}
+use Rattle.rly_world.specs.PairEnd.{Asked, accepted_after, after_call, may_go, may_want, reply_by, with_made, with_told, Broken, DeviceRead, Done, End, OutOfMemory, Outcome, Replied, Unsure, harm_by, reply_at, state_of, told_by}
+use Rattle.rly_pair.specs.PairSteps.{Calls, Makes, can_go, can_make}
 use Rattle.rly_pair.specs.PairSteps.{Serves as Serving}
 use Rattle.rly_world.proofs.PairLists.{all_append}
 use Rattle.rly_pair.proofs.StationStanding.{all_made, standing_all, standing_made, state_made}
@@ -122,11 +122,11 @@ module _ (params : Params) (commands : Commands) (told due harmed : ℕ) (asked 
           },
         )
 
-    starved_left : (new : JournalState (FaultDisk MemDisk)) → new.broken ≡ false → new.state ≡ old.state → Left an (Refused refusal.OutOfMemory) (Some (Open new))
-    starved_left new goes state = (
+    starved_left : (new : JournalState (FaultDisk MemDisk)) → new.broken ≡ false → new.state ≡ old.state → may_want old.state an ≡ true → Left an (Refused refusal.OutOfMemory) (Some (Open new))
+    starved_left new goes state wants = (
       record {
         outcome = OutOfMemory;
-        can = ap (λ (n : ℕ). n == 0) works.unharmed;
+        can = and_from (harmed == 0) (may_want (state_of before) an) (ap (λ (n : ℕ). n == 0) works.unharmed) (ap (λ (s : State (List ℕ)). may_want s an) (sym state_is) ∙ wants);
         reply_is = refl;
         after = same_shown params told asked replied _ _ _ _ none_kept refl;
         tells = refl;
@@ -187,7 +187,7 @@ module _ (params : Params) (commands : Commands) (told due harmed : ℕ) (asked 
     works_left new reply (inl serves) =
         elim serves.goes [
           | inl goes ↦ done_left new reply serves.works goes.0 goes.1 goes.2
-          | inr starved ↦ subst (λ (r : Reply). Left an r (Some (Open new))) (sym starved.0) (starved_left new serves.works starved.1)
+          | inr starved ↦ subst (λ (r : Reply). Left an r (Some (Open new))) (sym starved.0) (starved_left new serves.works starved.1 starved.2)
         ]
     works_left new reply (inr (inl gives)) =
         subst (λ (r : Reply). Left an r (Some (Open new))) (sym gives.reply_is)
@@ -318,12 +318,15 @@ pub front_removed : {X : Type 0} (xs : List X) (x : X) → 0 < length xs → x �
 front_removed [] x some is = absurd (omega (arith, some))
 front_removed {X} (y ∷ ys) x some is = ap (λ (z : X). z ∷ ys) (sym is)
 
-can_may : (e : End) (outcome : Outcome) → can_go e outcome ≡ true → may_go e outcome ≡ true
-can_may e Done can = ap (λ (n : ℕ). nat_le n 0) (eqb-true e.harm 0 can)
-can_may e (Unsure stands) can = ap (λ (n : ℕ). nat_le n 1) (eqb-true e.harm 0 (and_parts (e.harm == 0) stands can).0)
-can_may e Broken can = (and_parts (nat_lt 0 e.harm) (nat_le e.harm 2) can).1
-can_may e DeviceRead can = absurd (true≢false (sym can))
-can_may e OutOfMemory can = ap (λ (n : ℕ). nat_le n 0) (eqb-true e.harm 0 can)
+can_may : (e : End) (an : Ask) (outcome : Outcome) → can_go e an outcome ≡ true → may_go e an outcome ≡ true
+can_may e an Done can = and_from (nat_le e.harm 0) true (ap (λ (n : ℕ). nat_le n 0) (eqb-true e.harm 0 can)) refl
+can_may e an (Unsure stands) can =
+    and_from (nat_le e.harm 1) true (ap (λ (n : ℕ). nat_le n 1) (eqb-true e.harm 0 (and_parts (e.harm == 0) stands can).0)) refl
+can_may e an Broken can = and_from (nat_le e.harm 2) true (and_parts (nat_lt 0 e.harm) (nat_le e.harm 2) can).1 refl
+can_may e an DeviceRead can = absurd (true≢false (sym can))
+can_may e an OutOfMemory can =
+    let parts = and_parts (e.harm == 0) (may_want (state_of e) an) can in
+    and_from (nat_le e.harm 0) (may_want (state_of e) an) (ap (λ (n : ℕ). nat_le n 0) (eqb-true e.harm 0 parts.0)) parts.1
 
 -- the end once the answer of a call waits
 abbrev pub waits : Asked → List Asked → End → Reply → ℕ → End
@@ -332,30 +335,21 @@ waits call rest e reply position = record e { asked = rest; replied = e.replied 
 pub makes_left : (e e' : End) (call : Asked) (rest : List Asked) (reply : Reply) (position : ℕ) → Calls e e' call.ask reply position → e.asked ≡ call ∷ rest → Makes e (waits call rest e' reply position)
 makes_left e e' call rest reply position calls is = record {
   outcome = calls.outcome;
-  can = calls.can;
+  can = subst (λ (l : List Asked). can_make e l calls.outcome ≡ true) (sym is) calls.can;
   after = ap (λ (x : End). waits call rest x reply position) calls.after
       ∙ ap (λ (r : Reply). waits call rest (after_call e call.ask calls.outcome) r position) calls.reply_is
       ∙ ap (λ (p : ℕ). waits call rest (after_call e call.ask calls.outcome) (reply_by calls.outcome (reply_at e call.ask)) p)
       (calls.tells ∙ ap (λ (x : End). told_by calls.outcome (length x.accepted)) calls.after)
-      ∙ sym (cond-true (may_go e calls.outcome) _ e (can_may e calls.outcome calls.can))
+      ∙ sym (cond-true (may_go e call.ask calls.outcome) _ e (can_may e call.ask calls.outcome calls.can))
       ∙ ap (with_made e calls.outcome) (sym is);
 }
 
-pub harm_small : (h : Harm) → harm_number h ≤ 2
-harm_small station.Whole = omega arith
-harm_small station.Failed = omega arith
-harm_small station.Broken = omega arith
-
-pub makes_none : (e : End) → e.harm ≤ 2 → e.asked ≡ [] → Makes e e
-makes_none e small none =
-    elim (cases_lt 0 e.harm) [
-      | inl some ↦ record { outcome = Broken; can = and_from (nat_lt 0 e.harm) (nat_le e.harm 2) (lt-ltb 0 e.harm some) (le-leb e.harm 2 small); after = sym (ap (with_made e Broken) none) }
-      | inr whole ↦ record {
-        outcome = Done;
-        can = ap (λ (n : ℕ). n == 0) (let zero : e.harm ≡ 0 = omega (arith, whole) in zero);
-        after = sym (ap (with_made e Done) none);
-      }
-    ]
+pub makes_none : (e : End) → e.asked ≡ [] → Makes e e
+makes_none e none = record {
+  outcome = Done;
+  can = ap (λ (l : List Asked). can_make e l Done) none;
+  after = sym (ap (with_made e Done) none);
+}
 
 pub sound_push : (params : Params) (commands : Commands) (told harmed position : ℕ) (replied before after : List Replied) (made : Replied) (spool : Option Spool)
     → IsKept params commands told harmed position replied spool → before ≡ replied → after ≡ before ++ made ∷ [] → made.position ≡ position
@@ -396,7 +390,7 @@ serves_left e e' an reply position is_answered calls = record {
       ∙ ap (λ (p : ℕ). answered (after_call e an calls.outcome) (reply_by calls.outcome (reply_at e an)) p is_answered)
       (calls.tells ∙ ap (λ (x : End). told_by calls.outcome (length x.accepted)) calls.after)
       ∙ serves_so e an calls.outcome is_answered
-      ∙ sym (cond-true (may_go e calls.outcome) _ e (can_may e calls.outcome calls.can));
+      ∙ sym (cond-true (may_go e an calls.outcome) _ e (can_may e an calls.outcome calls.can));
 }
 
 pub sound_told : (params : Params) (commands : Commands) (told harmed position : ℕ) (replied : List Replied) (spool : Option Spool) (is_answered : Bool) (reply : Reply) (after : ℕ)

@@ -25,7 +25,7 @@ use Rattle.rly_machine.specs.Fold.{AllAccepted, fold}
 use Rattle.rly_machine.specs.History.{harm, is_failure}
 use Rattle.rly_machine.specs.State.{State, new_state}
 use Rattle.rly_machine.specs.Step.{step}
-use Rattle.rly_world.specs.PairEnd.{Replied}
+use Rattle.rly_world.specs.PairEnd.{Replied, may_want}
 use Rattle.rly_pair.specs.declared.spool.Spool.{Spool}
 use Rattle.rly_pair.specs.declared.spool.Spool.TheVariants.{Open, Shut}
 use Rattle.rly_pair.specs.declared.station.Harm.{Harm}
@@ -37,7 +37,7 @@ pub record Serves {D : Type 0} (old new : JournalState D) (an : Ask) (reply : Re
   pub works : new.broken ≡ false
   pub goes : ((is_failure reply ≡ false) × (reply ≡ (ask_step old.state an).1)
       × (new.state ≡ (ask_step old.state an).0))
-      ⊎ ((reply ≡ Refused refusal.OutOfMemory) × (new.state ≡ old.state))
+      ⊎ ((reply ≡ Refused refusal.OutOfMemory) × (new.state ≡ old.state) × (may_want old.state an ≡ true))
 
 -- its device failed: the call stands or not
 pub record Gives {D : Type 0} (state : D → DiskState) (old new : JournalState D) (an : Ask) (reply : Reply)

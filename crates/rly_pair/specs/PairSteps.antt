@@ -4,10 +4,10 @@ use Rattle.std.specs.Prelude.{List, [], ◌∷◌, length, Option, Some, None}
 use Rattle.rly_core.specs.declared.params.Params.{Params}
 use Rattle.rly_machine.specs.declared.command.Ask.{Ask}
 use Rattle.rly_machine.specs.declared.reply.Reply.{Reply}
-use Rattle.rly_world.specs.PairEnd.{End, Outcome, Replied, Done, Unsure, Broken, DeviceRead, OutOfMemory}
-use Rattle.rly_world.specs.PairEnd.{after_call, reply_at, reply_by, told_by}
+use Rattle.rly_world.specs.PairEnd.{Asked, End, Outcome, Replied, Done, Unsure, Broken, DeviceRead, OutOfMemory}
+use Rattle.rly_world.specs.PairEnd.{after_call, may_want, reply_at, reply_by, state_of, told_by}
 use Rattle.rly_world.specs.PairCores.{is_for_receiver, is_for_sender}
-use Rattle.rly_world.specs.PairWorld.{PairSetup, PairWorld, pair_step, Turns, Timeout, FetchesAhead}
+use Rattle.rly_world.specs.PairWorld.{PairSetup, PairWorld, pair_step, Turns, Timeout, FetchesAhead, PicksAhead}
 use Rattle.rly_world.specs.PairWorld.{UpperHears, LowerHears, UpperMakes, LowerMakes, UpperAnswers, LowerAnswers}
 use Rattle.rly_world.specs.PairWorld.{UpperServes, LowerServes, UpperCrashes, LowerCrashes}
 use Rattle.rly_pair.specs.declared.step.Step.{Step}
@@ -15,18 +15,23 @@ use Rattle.rly_pair.specs.declared.step.Step.TheVariants as step
 use Rattle.rly_world.specs.PairEnd.{with_crash, with_made, with_other, with_told}
 
 -- How a call of an end may go. One whose device failed is broken until the next crash. Where it fails in a call, the
--- command counts as accepted, until a crash takes it away.
-abbrev pub can_go : End → Outcome → Bool
-can_go e Done = e.harm == 0
-can_go e (Unsure stands) = (e.harm == 0) && stands
-can_go e Broken = nat_lt 0 e.harm && nat_le e.harm 2
-can_go e DeviceRead = false
-can_go e OutOfMemory = e.harm == 0
+-- command counts as accepted, until a crash takes it away. Memory is refused only to an ask that may want it.
+abbrev pub can_go : End → Ask → Outcome → Bool
+can_go e ask Done = e.harm == 0
+can_go e ask (Unsure stands) = (e.harm == 0) && stands
+can_go e ask Broken = nat_lt 0 e.harm && nat_le e.harm 2
+can_go e ask DeviceRead = false
+can_go e ask OutOfMemory = (e.harm == 0) && may_want (state_of e) ask
+
+-- how the first call that waits may go, if one does
+abbrev pub can_make : End → List Asked → Outcome → Bool
+can_make e [] outcome = true
+can_make e (call ∷ calls) outcome = can_go e call.ask outcome
 
 -- a call of an end was made: its reply, and how many accepted commands its answer tells of
 pub record Calls (old new : End) (ask : Ask) (reply : Reply) (position : ℕ) : Type 0 where
   pub outcome : Outcome
-  pub can : IsTrue (can_go old outcome)
+  pub can : IsTrue (can_go old ask outcome)
   pub reply_is : reply ≡ reply_by outcome (reply_at old ask)
   pub after : new ≡ after_call old ask outcome
   pub tells : position ≡ told_by outcome (length new.accepted)
@@ -34,13 +39,13 @@ pub record Calls (old new : End) (ask : Ask) (reply : Reply) (position : ℕ) : 
 -- the first call that waits was made, if one does
 pub record Makes (old new : End) : Type 0 where
   pub outcome : Outcome
-  pub can : IsTrue (can_go old outcome)
+  pub can : IsTrue (can_make old old.asked outcome)
   pub after : new ≡ with_made old outcome old.asked
 
 -- a call of another caller was made, and answered or not
 pub record Serves (old new : End) (ask : Ask) (is_answered : Bool) : Type 0 where
   pub outcome : Outcome
-  pub can : IsTrue (can_go old outcome)
+  pub can : IsTrue (can_go old ask outcome)
   pub after : new ≡ with_other old ask outcome is_answered
 
 -- the answer of the first call that was made was given, if there is one
@@ -79,21 +84,22 @@ abbrev pub IsStep : Step → PairWorld → PairWorld → Type 0
 IsStep (step.Turns is_open moment) old new = new ≡ pair_step old (Turns is_open moment)
 IsStep step.Timeout old new = new ≡ pair_step old Timeout
 IsStep (step.FetchesAhead number) old new = new ≡ pair_step old (FetchesAhead number)
+IsStep (step.PicksAhead moment) old new = new ≡ pair_step old (PicksAhead moment)
 IsStep (step.UpperHears packet) old new = new ≡ pair_step old (UpperHears packet)
 IsStep (step.LowerHears packet core hop stamp) old new = new ≡ pair_step old (LowerHears packet core hop stamp)
 IsStep step.UpperMakes old new =
-    (outcome : Outcome) × IsTrue (can_go old.upper outcome) × (new ≡ pair_step old (UpperMakes outcome))
+    (outcome : Outcome) × IsTrue (can_make old.upper old.upper.asked outcome) × (new ≡ pair_step old (UpperMakes outcome))
 IsStep step.LowerMakes old new =
-    (outcome : Outcome) × IsTrue (can_go old.lower outcome) × (new ≡ pair_step old (LowerMakes outcome))
+    (outcome : Outcome) × IsTrue (can_make old.lower old.lower.asked outcome) × (new ≡ pair_step old (LowerMakes outcome))
 IsStep (step.UpperAnswers is_sent) old new = new ≡ pair_step old (UpperAnswers is_sent)
 IsStep (step.LowerAnswers is_sent) old new = new ≡ pair_step old (LowerAnswers is_sent)
 IsStep (step.UpperServes ask is_answered) old new =
     (IsTrue (is_for_sender old.setup.hop ask) × (new ≡ old))
-    ⊎ ((outcome : Outcome) × IsTrue (can_go old.upper outcome)
+    ⊎ ((outcome : Outcome) × IsTrue (can_go old.upper ask outcome)
     × (new ≡ pair_step old (UpperServes ask outcome is_answered)))
 IsStep (step.LowerServes ask is_answered) old new =
     (IsTrue (is_for_receiver old.setup.peer ask) × (new ≡ old))
-    ⊎ ((outcome : Outcome) × IsTrue (can_go old.lower outcome)
+    ⊎ ((outcome : Outcome) × IsTrue (can_go old.lower ask outcome)
     × (new ≡ pair_step old (LowerServes ask outcome is_answered)))
 IsStep (step.UpperCrashes torn fault) old new =
     (kept : ℕ) × (opens : Bool) × (old.upper.told ≤ kept) × (kept ≤ length old.upper.accepted)

@@ -79,6 +79,7 @@ impl Pair {
         match step {
             Step::Turns { is_open, moment } => self.turns(is_open, moment),
             Step::FetchesAhead { number } => self.fetches_ahead(number),
+            Step::PicksAhead { moment } => self.picks_ahead(moment),
             Step::LowerHears {
                 packet,
                 core,
@@ -259,6 +260,18 @@ impl Pair {
     {
         self.upper
             .ask(0, Ask::Query(Query::Fetch { hop: HOP, number }))
+    }
+
+    /// A datagram is picked ahead.
+    fn picks_ahead(&mut self, moment: u64) -> Result<(), AllocError>
+        ensures err { OnErr result (self.new ≡ self.old) }
+        ensures ok { OnOk result (IsStep (Step.PicksAhead moment) self.old self.new) }
+    {
+        let pick = Command::Pick {
+            hop: HOP,
+            now: moment,
+        };
+        self.upper.ask(0, Ask::Command(pick))
     }
 
     /// A packet arrives at the upper.

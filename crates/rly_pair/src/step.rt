@@ -20,6 +20,10 @@ pub enum Step {
     FetchesAhead {
         number: u64,
     },
+    /// A datagram is picked for it before it asks for one, at this moment of the hop's link clock.
+    PicksAhead {
+        moment: u64,
+    },
     /// A packet arrives at the upper.
     UpperHears {
         packet: usize,

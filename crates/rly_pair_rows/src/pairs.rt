@@ -169,6 +169,50 @@ fn lower_crashes_with_the_command(rt: HostRuntime) -> Result<(), Fail> {
     exchange(&rt, rt.alloc(), true, 2)
 }
 
+/// Three datagrams are released, and the two that wait are picked beside the release: the core learns their numbers from the answers
+/// that come after the release's.
+#[test]
+fn picks_are_made_beside_a_release(rt: HostRuntime) -> Result<(), Fail> {
+    let alloc = rt.alloc();
+    let mut pair = three_sent(&rt, alloc)?;
+    comes_in(alloc, &mut pair, 4)?;
+    comes_in(alloc, &mut pair, 5)?;
+    for packet in 0..3 {
+        lower_takes(alloc, &mut pair, packet)?;
+    }
+    pair.step(alloc, Step::UpperHears { packet: 5 })?;
+    let turn = Step::Turns {
+        is_open: true,
+        moment: 0,
+    };
+    pair.step(alloc, turn)?;
+    pair.step(alloc, Step::PicksAhead { moment: 0 })?;
+    pair.step(alloc, Step::PicksAhead { moment: 0 })?;
+    for _call in 0..3 {
+        pair.step(alloc, Step::UpperMakes)?;
+    }
+    for _call in 0..3 {
+        pair.step(alloc, Step::UpperAnswers { is_sent: true })?;
+    }
+    one_call(alloc, &mut pair)?;
+    one_call(alloc, &mut pair)?;
+    expect_packets(
+        &rt,
+        &pair,
+        &[
+            Said::Data(1),
+            Said::Data(2),
+            Said::Data(3),
+            Said::Custody(1),
+            Said::Custody(2),
+            Said::Custody(3),
+            Said::Data(4),
+            Said::Data(5),
+        ],
+    );
+    Ok(())
+}
+
 /// The lower's device fails as it is opened: no call is made and no custody sent, until it crashes again.
 #[test]
 fn unopened_lower_sends_no_custody(rt: HostRuntime) -> Result<(), Fail> {

@@ -12,7 +12,7 @@ use Rattle.rly_record.specs.Spelling.{body_of}
 use Rattle.rly_journal.specs.declared.tail.Tail.{Tail}
 use Rattle.rly_journal.specs.Calls.{logging}
 use Rattle.rly_journal.specs.Log.{IsLogged}
-use Rattle.rly_journal.specs.Rounds.{AreServed, refusals}
+use Rattle.rly_journal.specs.Rounds.{AreServed, IsRefusedWhereWanted, refusals}
 use Rattle.rly_journal.specs.Standing.{Commands, gate_of}
 use Rattle.rly_world.specs.RelaySteps.{AreEvaluated, HasPlace, IsDueFor, IsEvaluated, after, after_evaluation, evaluated}
 use Rattle.rly_world.specs.RelaySteps as event
@@ -46,13 +46,18 @@ module _ (base : World) (stage : Stage) (batches : List Batch) (device : Device)
   new = in_hand base (after_evaluation commands) batches given device (accepted ++ commands)
 
   pub evaluates : s ≡ state_from base.params accepted → AreServed (calls_of batches) given s t
-      → (IsDueFor old (calls_of batches) → given ≡ refusals OutOfMemory base.position (calls_of batches)) → HasPlace old (event.Evaluates given)
-  evaluates is served due =
+      → (IsDueFor old (calls_of batches) → given ≡ refusals OutOfMemory base.position (calls_of batches))
+      → ((IsDueFor old (calls_of batches) → ⊥) → IsRefusedWhereWanted s (zip (calls_of batches) given)) → HasPlace old (event.Evaluates given)
+  evaluates is served due wanted =
       let so : AreServed (calls_of batches) given (state_from base.params accepted) (state_after (state_from base.params accepted) (zip (calls_of batches) given)) =
       subst (λ r. AreServed (calls_of batches) given r (state_after r (zip (calls_of batches) given))) is
       (subst (AreServed (calls_of batches) given s) served.state served) in
       let right : IsEvaluated base.is_broken old (calls_of batches) given =
-      subst (λ b. IsEvaluated b old (calls_of batches) given) (sym whole) (record { served = so; due = due }) in
+      subst (λ b. IsEvaluated b old (calls_of batches) given) (sym whole) (record {
+        served = so;
+        due = due;
+        wanted = λ none. subst (λ r. IsRefusedWhereWanted r (zip (calls_of batches) given)) is (wanted none);
+      }) in
       (record { stage = stage; batches = batches; answers = [] }, refl, (first, right))
 
   evaluated_between : HasPlace old (event.Evaluates given) → Between old new

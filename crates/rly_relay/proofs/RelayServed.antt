@@ -16,7 +16,7 @@ use Rattle.rly_machine.proofs.Folding.{fold_append, seq_fold}
 use Rattle.rly_journal.specs.Calls.{MakesRound, renewed, renewing, rounding}
 use Rattle.rly_journal.specs.Journal.{IsDueFor, IsRound, JournalState}
 use Rattle.rly_journal.specs.Log.{IsDurable, IsFull, IsLogged}
-use Rattle.rly_journal.specs.Rounds.{refusals}
+use Rattle.rly_journal.specs.Rounds.{IsRefusedWhereWanted, refusals}
 use Rattle.rly_journal.specs.Standing.{Commands}
 use Rattle.rly_world.specs.RelaySteps as event
 use Rattle.rly_world.specs.RelaySteps.{HasPlace, IsEvaluated, after, after_evaluation, broke, on_device}
@@ -28,7 +28,7 @@ use Rattle.rly_relay.specs.Relay.{IsDeviceOf, IsReached}
 use Rattle.rly_relay.proofs.RelayDisks.{Came, came_cut, came_whole}
 use Rattle.rly_relay.proofs.RelayLogs.{IsOver}
 use Rattle.rly_relay.proofs.RelayServes.{IsPart}
-use Rattle.rly_relay.proofs.RelayTurns.{TheDisk, begun, calm_walk, due_here, held, opened_walk, rounding_writes, served_state, state_here}
+use Rattle.rly_relay.proofs.RelayTurns.{TheDisk, begun, calm_walk, due_here, held, opened_walk, renew_walk, renewing_writes, rounding_writes, served_state, state_here}
 use Rattle.rly_relay.proofs.RelayWalks.{Broke, Walks}
 
 module _ (old new : JournalState TheDisk) (w : World) (batches : List Batch) (answers : List Answer) where
@@ -160,24 +160,33 @@ module _ (old new : JournalState TheDisk) (w : World) (batches : List Batch) (an
 
     -- by what the journal says of its round
     module _ (given : List Answer) (gives : answers ≡ given) (round : IsRound (fault_state mem_state) old new (calls_of batches) given) where
+      same : IsDeviceOf (fault_state mem_state old.disk) w.device
+      same = record { seen = world.device.seen; images = world.device.images }
+
+      unsure : new.broken ≡ true → (new.position ≡ old.position) × (answers ≡ refusals Unsure old.position (calls_of batches))
+      unsure broken = elim round [
+        | inl was ↦ absurd (true≢false (sym was.0 ∙ whole))
+        | inr now ↦ elim now [
+          | inl goes ↦ absurd (true≢false (sym broken ∙ goes.1.broken))
+          | inr breaks ↦ (breaks.1.position, gives ∙ breaks.1.unsure)
+        ]
+      ]
+
+      -- it broke while a segment was opened
+      went_unopened : (Ends : World → Type 0) → new.broken ≡ true → Makes (fault_state mem_state) (renewing old.tail old.state) false old.disk new.disk
+          → Walks (IsPart w batches) (begun w batches) (renewing old.tail old.state) Ends → Served new batches answers (begun w batches)
+      went_unopened Ends broken makes walk =
+          broken_served broken (unsure broken).0 (unsure broken).1
+          (came_cut (IsPart w batches) (begun w batches) (fault_state mem_state old.disk) (fault_state mem_state new.disk)
+          (renewing old.tail old.state) makes.events Ends tt makes.leads same walk (is_spent (fault_state mem_state new.disk))
+          (renewing_writes old.tail old.state) makes.made)
+
       went : (new.broken ≡ false → new.position ≡ new.state.seq)
           → Walks (IsPart w batches) (begun w batches) (rounding old.tail old.state made.opened commands)
           (IsOver w batches made.given (w.accepted ++ commands))
           → Served new batches answers (begun w batches)
       went counted walk = by_broken new.broken refl
         where
-          same : IsDeviceOf (fault_state mem_state old.disk) w.device
-          same = record { seen = world.device.seen; images = world.device.images }
-
-          unsure : new.broken ≡ true → (new.position ≡ old.position) × (answers ≡ refusals Unsure old.position (calls_of batches))
-          unsure broken = elim round [
-            | inl was ↦ absurd (true≢false (sym was.0 ∙ whole))
-            | inr now ↦ elim now [
-              | inl goes ↦ absurd (true≢false (sym broken ∙ goes.1.broken))
-              | inr breaks ↦ (breaks.1.position, gives ∙ breaks.1.unsure)
-            ]
-          ]
-
           by_broken : (b : Bool) → new.broken ≡ b → Served new batches answers (begun w batches)
           by_broken false fine =
               let makes = subst (λ b. Makes (fault_state mem_state) (rounding old.tail old.state made.opened commands) (not b) old.disk new.disk) fine made.makes in
@@ -236,8 +245,19 @@ serves old new calls answers given tail renews trace gives round opens w batches
     by_broken false whole =
         let made : MakesRound (fault_state mem_state) old new (calls_of batches) [] answers =
         subst (λ c. MakesRound (fault_state mem_state) old new c [] answers) (sym are) (trace whole) in
-        went old new w batches answers whole reached_here world_here (tail whole) made given gives round_here counted
-        (by_opened made made.opened refl)
+        elim made.wanted [
+          | inl wanted ↦
+              went old new w batches answers whole reached_here world_here (tail whole) made given gives round_here counted
+              (by_opened made wanted made.opened refl)
+          | inr unopened ↦ elim unopened.why [
+            | inl shut ↦
+                went old new w batches answers whole reached_here world_here (tail whole) made given gives round_here counted
+                (by_shut made shut (λ none. absurd (none (unopened.due.0, (due_here old w batches whole (tail whole) reached_here world_here).1 unopened.due.1))))
+            | inr failed ↦
+                went_unopened old new w batches answers whole reached_here world_here (tail whole) made given gives round_here _ failed.0 failed.1
+                (renew_walk old w batches whole (tail whole) reached_here world_here new.state made.given made.served unopened.due (renews whole unopened.due.1))
+          ]
+        ]
       where
         counted : new.broken ≡ false → new.position ≡ new.state.seq
         counted fine = elim round_here [
@@ -248,18 +268,14 @@ serves old new calls answers given tail renews trace gives round opens w batches
           ]
         ]
 
-        by_opened : (made : MakesRound (fault_state mem_state) old new (calls_of batches) [] answers) → (b : Bool) → made.opened ≡ b
+        by_shut : (made : MakesRound (fault_state mem_state) old new (calls_of batches) [] answers) → made.opened ≡ false
+            → ((event.IsDueFor (begun w batches) (calls_of batches) → ⊥) → IsRefusedWhereWanted old.state (zip (calls_of batches) made.given))
             → Walks (IsPart w batches) (begun w batches) (rounding old.tail old.state made.opened (accepted_of (zip (calls_of batches) made.given)))
             (IsOver w batches made.given (w.accepted ++ accepted_of (zip (calls_of batches) made.given)))
-        by_opened made true is =
-            let due = made.due is in
+        by_shut made is wanted =
             subst (λ b. Walks (IsPart w batches) (begun w batches) (rounding old.tail old.state b (accepted_of (zip (calls_of batches) made.given)))
             (IsOver w batches made.given (w.accepted ++ accepted_of (zip (calls_of batches) made.given)))) (sym is)
-            (opened_walk old w batches whole (tail whole) reached_here world_here new.state made.given made.served due (renews whole due.1))
-        by_opened made false is =
-            subst (λ b. Walks (IsPart w batches) (begun w batches) (rounding old.tail old.state b (accepted_of (zip (calls_of batches) made.given)))
-            (IsOver w batches made.given (w.accepted ++ accepted_of (zip (calls_of batches) made.given)))) (sym is)
-            (calm_walk old w batches whole (tail whole) reached_here world_here new.state made.given made.served starved)
+            (calm_walk old w batches whole (tail whole) reached_here world_here new.state made.given made.served starved wanted)
           where
             starved : event.IsDueFor (begun w batches) (calls_of batches) → made.given ≡ refusals OutOfMemory w.position (calls_of batches)
             starved due =
@@ -272,6 +288,17 @@ serves old new calls answers given tail renews trace gives round opens w batches
                       sym (made.told fine) ∙ refused.1 ∙ ap (refusals OutOfMemory old.position) (sym are)
                       ∙ ap (λ n. refusals OutOfMemory n (calls_of batches)) (sym world_here.spool.2)
                 ]
+
+        by_opened : (made : MakesRound (fault_state mem_state) old new (calls_of batches) [] answers)
+            → IsRefusedWhereWanted old.state (zip (calls_of batches) made.given) → (b : Bool) → made.opened ≡ b
+            → Walks (IsPart w batches) (begun w batches) (rounding old.tail old.state made.opened (accepted_of (zip (calls_of batches) made.given)))
+            (IsOver w batches made.given (w.accepted ++ accepted_of (zip (calls_of batches) made.given)))
+        by_opened made wanted true is =
+            let due = made.due is in
+            subst (λ b. Walks (IsPart w batches) (begun w batches) (rounding old.tail old.state b (accepted_of (zip (calls_of batches) made.given)))
+            (IsOver w batches made.given (w.accepted ++ accepted_of (zip (calls_of batches) made.given)))) (sym is)
+            (opened_walk old w batches whole (tail whole) reached_here world_here new.state made.given made.served due (renews whole due.1) wanted)
+        by_opened made wanted false is = by_shut made is (λ none. wanted)
 
 -- what is said of an answer that is one
 pub on_ok : {T E : Type 0} (r : Result T E) {P : Type 0} → IsOk r → OnOk r P → P

@@ -23,7 +23,7 @@ use Rattle.rly_journal.specs.declared.tail.Tail.{Tail}
 use Rattle.rly_journal.specs.Calls.{logging, other_segment, renewed, renewing, rounding}
 use Rattle.rly_journal.specs.Journal.{IsDueFor, JournalState}
 use Rattle.rly_journal.specs.Log.{IsDurable, IsFull, IsLogged}
-use Rattle.rly_journal.specs.Rounds.{AreServed, refusals}
+use Rattle.rly_journal.specs.Rounds.{AreServed, IsRefusedWhereWanted, refusals}
 use Rattle.rly_journal.specs.Standing.{Commands, state_in}
 use Rattle.rly_world.specs.RelaySteps as event
 use Rattle.rly_world.specs.RelaySteps.{Event, HasPlace, Run, after}
@@ -60,6 +60,11 @@ replacing_writes place true bytes =
 replacing_writes place false bytes =
     (tt, (tt, all_both (settling (place + 1) bytes) (settling place (open_gate ∷ [])) (settling_writes (place + 1) bytes) (settling_writes place (open_gate ∷ []))))
 
+pub renewing_writes : (tail : Tail) (s : State (List ℕ)) → AllByRecursion AreWriting (renewing tail s)
+renewing_writes tail s =
+    replacing_writes (segment_place tail.geometry (other_segment tail)) (slice_index_or tail.closed (other_segment tail) false)
+    (head_of (tail.generation + 1) s ++ 0 ∷ [])
+
 logging_writes : (gate : ℕ) (commands : Commands) → AllByRecursion AreWriting (logging gate commands)
 logging_writes gate [] = tt
 logging_writes gate (command ∷ commands) =
@@ -69,8 +74,7 @@ logging_writes gate (command ∷ commands) =
 pub rounding_writes : (tail : Tail) (s : State (List ℕ)) (opened : Bool) (commands : Commands)
     → AllByRecursion AreWriting (rounding tail s opened commands)
 rounding_writes tail s true commands = all_both (renewing tail s) (logging (renewed tail s).gate commands)
-    (replacing_writes (segment_place tail.geometry (other_segment tail)) (slice_index_or tail.closed (other_segment tail) false)
-    (head_of (tail.generation + 1) s ++ 0 ∷ []))
+    (renewing_writes tail s)
     (logging_writes (renewed tail s).gate commands)
 rounding_writes tail s false commands = logging_writes tail.gate commands
 
@@ -114,10 +118,11 @@ module _ (old : JournalState TheDisk) (w : World) (batches : List Batch) (whole 
 
       -- no segment was opened
       pub calm_walk : (event.IsDueFor (begun w batches) (calls_of batches) → given ≡ refusals OutOfMemory w.position (calls_of batches))
+          → ((event.IsDueFor (begun w batches) (calls_of batches) → ⊥) → IsRefusedWhereWanted old.state (zip (calls_of batches) given))
           → Walks (IsPart w batches) (begun w batches) (rounding old.tail old.state false commands) (IsOver w batches given (w.accepted ++ commands))
-      calm_walk due = serve_walk w Taking batches w.device w.accepted old.tail old.state t given (world.spool.1 ∙ whole) (inl refl)
+      calm_walk due wanted = serve_walk w Taking batches w.device w.accepted old.tail old.state t given (world.spool.1 ∙ whole) (inl refl)
           calm.counted held logs
-          (evaluates w Taking batches w.device w.accepted old.tail old.state t given (world.spool.1 ∙ whole) (inl refl) state_here served due)
+          (evaluates w Taking batches w.device w.accepted old.tail old.state t given (world.spool.1 ∙ whole) (inl refl) state_here served due wanted)
 
       -- a segment was opened
       module _ (due : IsDueFor old (calls_of batches))
@@ -165,7 +170,7 @@ module _ (old : JournalState TheDisk) (w : World) (batches : List Batch) (whole 
             ∙ ap (λ s. replacing (segment_place old.tail.geometry segment) (slice_index_or old.tail.closed segment false)
             (head_of (old.tail.generation + 1) s ++ 0 ∷ [])) (sym logs.state)
 
-        renew_walk : Walks (IsPart w batches) (begun w batches) (renewing old.tail old.state)
+        pub renew_walk : Walks (IsPart w batches) (begun w batches) (renewing old.tail old.state)
             (Known opening (renewing old.tail old.state) (IsReadied w batches [] w.accepted))
         renew_walk = walks_from (IsPart w batches) (begun w batches) opening (renewing old.tail old.state)
             (Known opening (renewing old.tail old.state) (IsReadied w batches [] w.accepted))
@@ -174,9 +179,9 @@ module _ (old : JournalState TheDisk) (w : World) (batches : List Batch) (whole 
             (subst (λ l. Walks (IsPart w batches) opening l (IsReadied w batches [] w.accepted)) same_calls
             (replaces_walk w segment (slice_index_or old.tail.closed segment false) batches [] w.device w.accepted logs.x opening_held logs.stands closed_there)))
 
-        then_serves : (m : World) → Known opening (renewing old.tail old.state) (IsReadied w batches [] w.accepted) m
+        then_serves : IsRefusedWhereWanted old.state (zip (calls_of batches) given) → (m : World) → Known opening (renewing old.tail old.state) (IsReadied w batches [] w.accepted) m
             → Walks (IsPart w batches) m (logging (renewed old.tail old.state).gate commands) (IsOver w batches given (w.accepted ++ commands))
-        then_serves m known =
+        then_serves wanted m known =
             let led = known.0 in
             let ready = led.ends in
             let v : World = in_hand w Ready batches [] ready.device w.accepted in
@@ -194,9 +199,9 @@ module _ (old : JournalState TheDisk) (w : World) (batches : List Batch) (whole 
             (serve_walk w Ready batches ready.device w.accepted (renewed old.tail old.state) old.state t given (world.spool.1 ∙ whole) (inr refl)
             calm.counted v_held now
             (evaluates w Ready batches ready.device w.accepted (renewed old.tail old.state) old.state t given (world.spool.1 ∙ whole) (inr refl) state_here served
-            (λ is_due. absurd (next.1 ((due_in_image ready.device.synced (renewed old.tail old.state) old.state now).0 is_due.1)))))
+            (λ is_due. absurd (next.1 ((due_in_image ready.device.synced (renewed old.tail old.state) old.state now).0 is_due.1))) (λ none. wanted)))
 
-        pub opened_walk : Walks (IsPart w batches) (begun w batches) (rounding old.tail old.state true commands) (IsOver w batches given (w.accepted ++ commands))
-        opened_walk = walks_joined (IsPart w batches) (begun w batches) (renewing old.tail old.state) (logging (renewed old.tail old.state).gate commands)
+        pub opened_walk : IsRefusedWhereWanted old.state (zip (calls_of batches) given) → Walks (IsPart w batches) (begun w batches) (rounding old.tail old.state true commands) (IsOver w batches given (w.accepted ++ commands))
+        opened_walk wanted = walks_joined (IsPart w batches) (begun w batches) (renewing old.tail old.state) (logging (renewed old.tail old.state).gate commands)
             (Known opening (renewing old.tail old.state) (IsReadied w batches [] w.accepted)) (IsOver w batches given (w.accepted ++ commands))
-            renew_walk then_serves
+            renew_walk (then_serves wanted)

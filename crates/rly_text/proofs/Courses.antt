@@ -2,13 +2,14 @@
 use Rattle.std.proofs.Common.{◌≡◌, ◌⊎◌, ◌≤◌, ℕ, List, [], ◌∷◌, ◌++◌, length, map, Bool, true, false, true≢false, cond, Option, Some, None, refl, sym, ◌∙◌, ap, subst, arith, append_assoc, append-nil, inl, inr}
 use Rattle.std.proofs.lemmas.List.{length-map, map-append}
 use Rattle.std.specs.Io.KnownBytes.{Appends, prepend_known}
-use Rattle.std.specs.List.{AllByRecursion, zip}
+use Rattle.std.specs.Prelude.{◌||◌}
+use Rattle.std.specs.List.{AllByRecursion, list_any, zip}
 use Rattle.rly_core.specs.declared.refusal.Refusal.{Refusal}
 use Rattle.rly_core.specs.declared.refusal.Refusal.TheVariants.{Broken, Line, OutOfMemory, Unsure}
 use Rattle.rly_core.specs.Refusals.{refusal_line}
 use Rattle.rly_disk.specs.DiskModel.{DiskState, Later}
 use Rattle.rly_disk.proofs.Composition.{later_again, rose_earlier, rose_later}
-use Rattle.rly_journal.specs.Journal.{IsRound, JournalState}
+use Rattle.rly_journal.specs.Journal.{IsRound, JournalState, holds_command, is_command}
 use Rattle.rly_journal.specs.Rounds as rounds
 use Rattle.rly_machine.specs.Ask.{ask_step}
 use Rattle.rly_machine.specs.History.{LegalBy, harm, is_failure, next_state, state_after}
@@ -22,7 +23,7 @@ use Rattle.rly_text.specs.Grammar.{ask_in_line}
 use Rattle.rly_text.specs.Lines.{lines_of}
 use Rattle.rly_text.specs.HelpersOutflow.{Adds, AddsBeginning, Outflow, outflow_of}
 use Rattle.rly_text.specs.HelpersPlaying.{AddsPlay, BeginsPlay, EndsAt, Gathers, IsAnsweredBy, PlaysSome, asks_in, asks_of, round_text, subject_in}
-use Rattle.rly_text.specs.Playing.{AreLinesRefused, AreLinesServed, PlayCourse, IsLineServed, NoneStarved, Plays, PlaysAll, PlaysFront, ServedLine, reply_line, state_behind, served_text}
+use Rattle.rly_text.specs.Playing.{AreLinesRefused, AreLinesServed, AreRefusedForHead, AreRefusedWhereScarce, AreRefusedWhereWanted, IsLineRefused, IsRefusedInRounds, PlayCourse, IsLineServed, NoneStarved, Plays, PlaysAll, PlaysFront, ServedLine, asked_command, lines_in, reply_line, state_behind, state_behind_all, served_text}
 use Rattle.rly_text.specs.Replies.{reply_text, subject_of}
 use Rattle.rly_text.specs.Text.{ByteState, answer_of, ask_answer, replies_from}
 use Rattle.rly_text.specs.declared.reply_line.Subject.{Subject}
@@ -72,16 +73,95 @@ text_exact s t (line ∷ lines) (one ∷ told) asked h fed =
     let more = text_exact (state_behind s one.0 one.1) t lines told tail h.1 fed.1 in
     ap (λ l. l ++ 10 ∷ served_text told) first ∙ ap (λ l. (answer_of s line).1 ++ 10 ∷ l) (more ∙ ap (λ r. replies_from r lines) state)
 
+-- ---- where memory was refused
+
+states_append : (s : ByteState) (xs ys : List ServedLine) → state_behind_all s (xs ++ ys) ≡ state_behind_all (state_behind_all s xs) ys
+states_append s [] ys = refl
+states_append s (x ∷ xs) ys = states_append (state_behind s x.0 x.1) xs ys
+
+served_behind : (s t : ByteState) (told : List ServedLine) → AreLinesServed s told t → t ≡ state_behind_all s told
+served_behind s t [] h = h
+served_behind s t (one ∷ told) h = served_behind (state_behind s one.0 one.1) t told h.1
+
+lines_append : (xs ys : List (List ServedLine)) → lines_in (xs ++ ys) ≡ lines_in xs ++ lines_in ys
+lines_append [] ys = refl
+lines_append (x ∷ xs) ys = ap (λ l. x ++ l) (lines_append xs ys) ∙ sym (append_assoc x (lines_in xs) (lines_in ys))
+
+few_append : (batch : ℕ) (xs ys : List (List ServedLine)) → AllByRecursion (λ round. length round ≤ batch) xs → AllByRecursion (λ round. length round ≤ batch) ys
+    → AllByRecursion (λ round. length round ≤ batch) (xs ++ ys)
+few_append batch [] ys h k = k
+few_append batch (x ∷ xs) ys h k = (h.0, few_append batch xs ys h.1 k)
+
+-- a refusal that is no want of memory
+not_starved : (refusal : Refusal) → (Refused refusal ≡ Refused OutOfMemory → ⊥) → (asked : Option Ask) (reply : Reply) → IsLineRefused refusal asked reply
+    → reply ≡ Refused OutOfMemory → ⊥
+not_starved refusal other None reply refused same = (let e : Refused Line ≡ Refused OutOfMemory = sym refused ∙ same in cc)
+not_starved refusal other (Some ask) reply refused same = other (sym refused ∙ same)
+
+wanted_refused : (refusal : Refusal) → (Refused refusal ≡ Refused OutOfMemory → ⊥) → (s : ByteState) (told : List ServedLine) → AreLinesRefused refusal told
+    → AreRefusedWhereWanted s told
+wanted_refused refusal other s [] refused = tt
+wanted_refused refusal other s (one ∷ told) refused =
+    ((λ same. absurd (not_starved refusal other one.0 one.1 refused.0 same)), wanted_refused refusal other (state_behind s one.0 one.1) told refused.1)
+
+refused_split : (refusal : Refusal) (xs ys : List ServedLine) → AreLinesRefused refusal (xs ++ ys) → AreLinesRefused refusal xs × AreLinesRefused refusal ys
+refused_split refusal [] ys h = (tt, h)
+refused_split refusal (x ∷ xs) ys h = let more = refused_split refusal xs ys h.1 in ((h.0, more.0), more.1)
+
+broken_is_not_starved : Refused Broken ≡ Refused OutOfMemory → ⊥
+broken_is_not_starved same = cc
+
+module _ {D : Type 0} (state : D → DiskState) where
+  rounds_refused : (old new : JournalState D) (s : ByteState) (rounds : List (List ServedLine)) → AreLinesRefused Broken (lines_in rounds)
+      → AreRefusedWhereScarce state old new s rounds
+  rounds_refused old new s [] refused = tt
+  rounds_refused old new s (round ∷ rounds) refused =
+      let parts = refused_split Broken round (lines_in rounds) refused in
+      (inl (wanted_refused Broken broken_is_not_starved s round parts.0), rounds_refused old new (state_behind_all s round) rounds parts.1)
+
+  head_wider : (i j k l : JournalState D) (s : ByteState) (round : List ServedLine) → Later (state i.disk) (state j.disk) → Later (state k.disk) (state l.disk)
+      → AreRefusedForHead state j k s round → AreRefusedForHead state i l s round
+  head_wider i j k l s round before after h = record {
+    command = h.command;
+    refused = h.refused;
+    journal = h.journal;
+    running = h.running;
+    state_is = h.state_is;
+    full = h.full;
+    durable = h.durable;
+    since = later_again before h.since;
+    until = later_again h.until after;
+  }
+
+  scarce_wider : (i j k l : JournalState D) (s : ByteState) (rounds : List (List ServedLine)) → Later (state i.disk) (state j.disk) → Later (state k.disk) (state l.disk)
+      → AreRefusedWhereScarce state j k s rounds → AreRefusedWhereScarce state i l s rounds
+  scarce_wider i j k l s [] before after h = tt
+  scarce_wider i j k l s (round ∷ rounds) before after h = (
+    elim h.0 [
+      | inl wanted ↦ inl wanted
+      | inr starved ↦ inr (head_wider i j k l s round before after starved)
+    ],
+    scarce_wider i j k l (state_behind_all s round) rounds before after h.1,
+  )
+
+  scarce_append : (old new : JournalState D) (s : ByteState) (xs ys : List (List ServedLine)) → AreRefusedWhereScarce state old new s xs
+      → AreRefusedWhereScarce state old new (state_behind_all s (lines_in xs)) ys → AreRefusedWhereScarce state old new s (xs ++ ys)
+  scarce_append old new s [] ys h k = k
+  scarce_append old new s (x ∷ xs) ys h k =
+      (h.0, scarce_append old new (state_behind_all s x) xs ys h.1 (subst (λ r. AreRefusedWhereScarce state old new r ys) (states_append s x (lines_in xs)) k))
+
 -- ---- the play of lines
 
 module _ {D : Type 0} (batch : ℕ) (state : D → DiskState) where
   pub plays_of : (old new : JournalState D) (lines : List (List ℕ)) (text : List ℕ) (told : List ServedLine) → map (λ one. one.0) told ≡ map ask_in_line lines
-      → text ≡ served_text told → PlayCourse batch state old new told → Later (state old.disk) (state new.disk) → Plays batch state old new lines text
-  plays_of old new lines text told asked written course later = record {
+      → text ≡ served_text told → PlayCourse batch state old new told → IsRefusedInRounds batch state old new told → Later (state old.disk) (state new.disk)
+      → Plays batch state old new lines text
+  plays_of old new lines text told asked written course memory later = record {
     told = told;
     asked = asked;
     written = written;
     course = course;
+    memory = memory;
     later = later;
     exact = λ running calm fed. elim course [
       | inl goes ↦ written ∙ text_exact old.state new.state lines told asked goes.served fed
@@ -112,6 +192,7 @@ module _ {D : Type 0} (batch : ℕ) (state : D → DiskState) where
         | inl broken ↦ inr (inr (record { broken = broken; refused = tt; same = refl }))
         | inr running ↦ inl (record { running = running; goes = running; served = refl; calm = refl })
       ])
+      (record { rounds = []; lines = refl; few = tt; scarce = tt })
       (later_same (state j.disk))
 
   course_append : (i j k : JournalState D) (xs ys : List ServedLine) → Later (state i.disk) (state j.disk) → Later (state j.disk) (state k.disk)
@@ -179,12 +260,50 @@ module _ {D : Type 0} (batch : ℕ) (state : D → DiskState) where
         ]
       ]
 
+  -- a broken journal refuses all lines, and not for want of memory
+  broken_course : (j k : JournalState D) (ys : List ServedLine) → j.broken ≡ true → PlayCourse batch state j k ys → AreLinesRefused Broken ys
+  broken_course j k ys broken c =
+      elim c [
+        | inl goes ↦ absurd (true≢false (sym broken ∙ goes.running))
+        | inr others ↦ elim others [
+          | inl breaks ↦ absurd (true≢false (sym broken ∙ breaks.running))
+          | inr rejects ↦ rejects.refused
+        ]
+      ]
+
+  memory_append : (i j k : JournalState D) (xs ys : List ServedLine) → Later (state i.disk) (state j.disk) → Later (state j.disk) (state k.disk)
+      → PlayCourse batch state i j xs → PlayCourse batch state j k ys → IsRefusedInRounds batch state i j xs → IsRefusedInRounds batch state j k ys
+      → IsRefusedInRounds batch state i k (xs ++ ys)
+  memory_append i j k xs ys before after c d h m = record {
+    rounds = h.rounds ++ m.rounds;
+    lines = ap (λ l. l ++ ys) h.lines ∙ ap (λ l. lines_in h.rounds ++ l) m.lines ∙ sym (lines_append h.rounds m.rounds);
+    few = few_append batch h.rounds m.rounds h.few m.few;
+    scarce = scarce_append state i k i.state h.rounds m.rounds (scarce_wider state i i j k i.state h.rounds (later_same (state i.disk)) after h.scarce) behind;
+  }
+    where
+      by_broken : j.broken ≡ true → AreRefusedWhereScarce state i k (state_behind_all i.state (lines_in h.rounds)) m.rounds
+      by_broken broken = rounds_refused state i k (state_behind_all i.state (lines_in h.rounds)) m.rounds
+          (subst (AreLinesRefused Broken) m.lines (broken_course j k ys broken d))
+
+      behind : AreRefusedWhereScarce state i k (state_behind_all i.state (lines_in h.rounds)) m.rounds
+      behind = elim c [
+        | inl goes ↦
+            subst (λ s. AreRefusedWhereScarce state i k s m.rounds)
+            (served_behind i.state j.state xs goes.served ∙ ap (state_behind_all i.state) h.lines)
+            (scarce_wider state i j k k j.state m.rounds before (later_same (state k.disk)) m.scarce)
+        | inr others ↦ elim others [
+          | inl breaks ↦ by_broken breaks.broken
+          | inr rejects ↦ by_broken (ap (λ v. v.broken) rejects.same ∙ rejects.broken)
+        ]
+      ]
+
   pub plays_append : (i j k : JournalState D) (ls ms : List (List ℕ)) (t u : List ℕ) → Plays batch state i j ls t → Plays batch state j k ms u → Plays batch state i k (ls ++ ms) (t ++ u)
   plays_append i j k ls ms t u h m =
       plays_of i k (ls ++ ms) (t ++ u) (h.told ++ m.told)
       (map-append (λ one. one.0) h.told m.told ∙ ap (λ l. l ++ map (λ one. one.0) m.told) h.asked ∙ ap (λ l. map ask_in_line ls ++ l) m.asked ∙ sym (map-append ask_in_line ls ms))
       (ap (λ l. l ++ u) h.written ∙ ap (λ l. served_text h.told ++ l) m.written ∙ sym (text_append h.told m.told))
       (course_append i j k h.told m.told h.later m.later h.course m.course)
+      (memory_append i j k h.told m.told h.later m.later h.course m.course h.memory m.memory)
       (later_again h.later m.later)
 
 -- ---- a round of the journal
@@ -239,6 +358,41 @@ merge_refused refusal position (Some ask ∷ asked) [] same = absurd (omega (ari
 merge_refused refusal position (Some ask ∷ asked) (call ∷ calls) same =
     let tail : asks_of calls ≡ asks_in asked = cc in
     (refl, merge_refused refusal position asked calls tail)
+
+merge_wanted : (asked : List (Option Ask)) (calls : List Call) (given : List Answer) (s : ByteState) → asks_of calls ≡ asks_in asked → length given ≡ length calls
+    → rounds.IsRefusedWhereWanted s (zip calls given) → AreRefusedWhereWanted s (merge asked given)
+merge_wanted [] calls given s same count wanted = tt
+merge_wanted (None ∷ asked) calls given s same count wanted =
+    ((λ starved. absurd (let e : Refused Line ≡ Refused OutOfMemory = starved in cc)), merge_wanted asked calls given s same count wanted)
+merge_wanted (Some ask ∷ asked) [] given s same count wanted = absurd (omega (arith, ap length same))
+merge_wanted (Some ask ∷ asked) (call ∷ calls) [] s same count wanted = absurd (omega (arith, count))
+merge_wanted (Some ask ∷ asked) (call ∷ calls) (answer ∷ given) s same count wanted =
+    let head : call.ask ≡ ask = cc in
+    let tail : asks_of calls ≡ asks_in asked = cc in
+    let more = merge_wanted asked calls given (next_state s (call, answer)) tail (omega (arith, count)) wanted.1 in
+    subst (λ x. AreRefusedWhereWanted s ((Some x, answer.reply) ∷ merge asked given)) head (wanted.0, more)
+
+-- the same of them are commands
+merge_commands : (asked : List (Option Ask)) (calls : List Call) (given : List Answer) → asks_of calls ≡ asks_in asked → length given ≡ length calls
+    → list_any (λ one. asked_command one.0) (merge asked given) ≡ holds_command calls
+merge_commands [] [] given same count = refl
+merge_commands [] (call ∷ calls) given same count = absurd (omega (arith, ap length same))
+merge_commands (None ∷ asked) calls given same count = merge_commands asked calls given same count
+merge_commands (Some ask ∷ asked) [] given same count = absurd (omega (arith, ap length same))
+merge_commands (Some ask ∷ asked) (call ∷ calls) [] same count = absurd (omega (arith, count))
+merge_commands (Some ask ∷ asked) (call ∷ calls) (answer ∷ given) same count =
+    let head : call.ask ≡ ask = cc in
+    let tail : asks_of calls ≡ asks_in asked = cc in
+    ap (λ b. is_command ask || b) (merge_commands asked calls given tail (omega (arith, count))) ∙ ap (λ a. is_command a || holds_command calls) (sym head)
+
+abbrev first_reply : List Answer → Reply
+first_reply [] = Refused Line
+first_reply (answer ∷ given) = answer.reply
+
+-- calls with a command among them aren't refused by two refusals at once
+one_refusal : (p q : ℕ) (calls : List Call) → holds_command calls ≡ true → rounds.refusals Broken p calls ≡ rounds.refusals OutOfMemory q calls → ⊥
+one_refusal p q [] holds same = absurd (true≢false (sym holds))
+one_refusal p q (call ∷ calls) holds same = (let e : Refused Broken ≡ Refused OutOfMemory = ap first_reply same in cc)
 
 -- ---- one round, from a batch of lines
 
@@ -302,14 +456,57 @@ module _ {D : Type 0} (batch : ℕ) (state : D → DiskState) where
         | inl idle ↦
             let none : asks_in asked ≡ [] = sym same ∙ ap asks_of idle.0 in
             subst (λ gs. PlayCourse batch state j k (merge asked gs)) (sym idle.1) (subst (λ m. PlayCourse batch state j m (merge asked [])) (sym idle.2) (idle_course j asked none))
-        | inr round ↦ round_course j k asked calls given few same round
+        | inr round ↦ round_course j k asked calls given few same round.0
+      ]
+
+  -- the journal of a round whose calls were refused memory isn't broken
+  runs : (j k : JournalState D) (calls : List Call) (given : List Answer) → IsRound state j k calls given → holds_command calls ≡ true
+      → given ≡ rounds.refusals OutOfMemory j.position calls → j.broken ≡ false
+  runs j k calls given round holds starved =
+      elim round [
+        | inl rejected ↦ absurd (one_refusal j.position j.position calls holds (sym rejected.1 ∙ starved))
+        | inr others ↦ elim others [
+          | inl goes ↦ goes.0
+          | inr breaks ↦ breaks.0
+        ]
+      ]
+
+  answered_memory : (j k : JournalState D) (asked : List (Option Ask)) (calls : List Call) (given : List Answer) → length (merge asked given) ≤ batch → asks_of calls ≡ asks_in asked
+      → length given ≡ length calls → IsAnsweredBy state j k calls given → Later (state j.disk) (state k.disk) → IsRefusedInRounds batch state j k (merge asked given)
+  answered_memory j k asked calls given few same count answered later = record {
+    rounds = merge asked given ∷ [];
+    lines = sym (append-nil (merge asked given));
+    few = (few, tt);
+    scarce = (of_round answered, tt);
+  }
+    where
+      of_round : IsAnsweredBy state j k calls given → AreRefusedWhereWanted j.state (merge asked given) ⊎ AreRefusedForHead state j k j.state (merge asked given)
+      of_round (inl idle) =
+          let none : asks_in asked ≡ [] = sym same ∙ ap asks_of idle.0 in
+          inl (subst (λ gs. AreRefusedWhereWanted j.state (merge asked gs)) (sym idle.1)
+          (wanted_refused Broken broken_is_not_starved j.state (merge asked []) (idle_refused Broken asked none)))
+      of_round (inr round) = elim round.1.wanted [
+        | inl wanted ↦ inl (merge_wanted asked calls given j.state same count wanted)
+        | inr starved ↦
+            let running = runs j k calls given round.0 starved.0.0 starved.1 in
+            inr (record {
+              command = merge_commands asked calls given same count ∙ starved.0.0;
+              refused = subst (λ gs. AreLinesRefused OutOfMemory (merge asked gs)) (sym starved.1) (merge_refused OutOfMemory j.position asked calls same);
+              journal = j;
+              running = running;
+              state_is = refl;
+              full = starved.0.1;
+              durable = λ honest. round.1.durable honest running;
+              since = later_same batch state (state j.disk);
+              until = later;
+            })
       ]
 
   answered_count : (j k : JournalState D) (calls : List Call) (given : List Answer) → IsAnsweredBy state j k calls given → length given ≡ length calls
   answered_count j k calls given answered =
       elim answered [
         | inl idle ↦ ap length idle.1 ∙ sym (ap length idle.0)
-        | inr round ↦ elim round [
+        | inr round ↦ elim round.0 [
           | inl rejected ↦ ap length rejected.1 ∙ length-map calls (rounds.refusal_of Broken j.position)
           | inr others ↦ elim others [
             | inl goes ↦ goes.1.served.count
@@ -329,7 +526,8 @@ module _ {D : Type 0} (batch : ℕ) (state : D → DiskState) where
       let count : length given ≡ length (asks_in asked) = answered_count j k calls given answered ∙ sym (length-map calls (λ call. call.ask)) ∙ ap length same in
       plays_of batch state j k front (round_text slots given) (merge asked given) (merge_asked asked given)
       (ap (λ ss. round_text ss given) slot ∙ merge_text asked given count)
-      (answered_course j k asked calls given (omega (arith, as_many, lines)) same answered) later
+      (answered_course j k asked calls given (omega (arith, as_many, lines)) same answered)
+      (answered_memory j k asked calls given (omega (arith, as_many, lines)) same (answered_count j k calls given answered) answered later) later
 
   -- ---- with the bytes that are left, and what is added to the reply text
 

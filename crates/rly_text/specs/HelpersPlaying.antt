@@ -1,11 +1,14 @@
 -- What the functions of `play` tell one another. Nothing here is claimed: it is what a play does (Playing), with what
 -- is read ahead, what is held back, and the lines that are gathered for a round.
-use Rattle.std.specs.Prelude.{◌≡◌, ◌⊎◌, ℕ, List, [], ◌∷◌, ◌++◌, map, Option, Some, None, ⊤}
+use Rattle.std.specs.Prelude.{◌≡◌, ◌⊎◌, ℕ, List, [], ◌∷◌, ◌++◌, map, false, Option, Some, None, ⊤}
+use Rattle.std.specs.List.{zip}
 use Rattle.rly_core.specs.Bounds.{IsIn}
 use Rattle.rly_core.specs.Refusals.{refusal_line}
-use Rattle.rly_core.specs.declared.refusal.Refusal.TheVariants.{Line}
+use Rattle.rly_core.specs.declared.refusal.Refusal.TheVariants.{Line, OutOfMemory}
 use Rattle.rly_disk.specs.DiskModel.{DiskState}
-use Rattle.rly_journal.specs.Journal.{IsRound, JournalState}
+use Rattle.rly_journal.specs.Journal.{IsDueFor, IsRound, JournalState}
+use Rattle.rly_journal.specs.Log.{IsDurable}
+use Rattle.rly_journal.specs.Rounds.{IsRefusedWhereWanted, refusals}
 use Rattle.rly_machine.specs.declared.call.Answer.{Answer}
 use Rattle.rly_machine.specs.declared.call.Call.{Call}
 use Rattle.rly_machine.specs.declared.command.Ask.{Ask}
@@ -98,7 +101,17 @@ pub record IsPut (asked : Option Ask) (old new : Batch) : Type 0 where
   pub answers : new.answers ≡ old.answers
   pub most : new.most ≡ old.most
 
+-- memory was refused only to calls that may want it, or to all where a segment is due and there is none for its head;
+-- the journal ends where its device does
+pub record IsScarceRound {D : Type 0} (state : D → DiskState) (old : JournalState D) (calls : List Call)
+    (given : List Answer) : Type 0 where
+  pub wanted : IsRefusedWhereWanted old.state (zip calls given)
+      ⊎ (IsDueFor old calls × (given ≡ refusals OutOfMemory old.position calls))
+  pub durable : (state old.disk).honest → old.broken ≡ false → IsDurable (state old.disk) old.tail old.state
+
 -- calls were answered, or there was none
 abbrev pub IsAnsweredBy : {D : Type 0} → (D → DiskState) → JournalState D → JournalState D
     → List Call → List Answer → Type 0
-IsAnsweredBy state old new calls given = ((calls ≡ []) × (given ≡ []) × (new ≡ old)) ⊎ IsRound state old new calls given
+IsAnsweredBy state old new calls given =
+    ((calls ≡ []) × (given ≡ []) × (new ≡ old))
+    ⊎ (IsRound state old new calls given × IsScarceRound state old calls given)

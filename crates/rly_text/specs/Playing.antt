@@ -1,13 +1,15 @@
 -- What `play` writes for lines, and what becomes of its journal.
 use Rattle.std.specs.Prelude.{◌≡◌, ◌⊎◌, ◌≤◌, ℕ, List, [], ◌∷◌, ◌++◌, length, map}
-use Rattle.std.specs.Prelude.{true, false, if◌then◌else◌, Option, Some, None, ⊤}
+use Rattle.std.specs.Prelude.{Bool, true, false, if◌then◌else◌, Option, Some, None, ⊤}
 use Rattle.std.specs.Io.KnownBytes.{Appends}
-use Rattle.std.specs.List.{AllByRecursion}
+use Rattle.std.specs.List.{AllByRecursion, list_any}
 use Rattle.rly_core.specs.Refusals.{refusal_line}
 use Rattle.rly_core.specs.declared.refusal.Refusal.{Refusal}
 use Rattle.rly_core.specs.declared.refusal.Refusal.TheVariants.{Broken, Line, OutOfMemory, Unsure}
 use Rattle.rly_disk.specs.DiskModel.{DiskState, Later, HasFailed}
-use Rattle.rly_journal.specs.Journal.{JournalState}
+use Rattle.rly_journal.specs.Journal.{JournalState, is_command}
+use Rattle.rly_journal.specs.Log.{IsDurable, IsFull}
+use Rattle.rly_journal.specs.Rounds.{MayWantMemory}
 use Rattle.rly_machine.specs.Ask.{ask_step}
 use Rattle.rly_machine.specs.History.{is_failure}
 use Rattle.rly_machine.specs.declared.command.Ask.{Ask}
@@ -94,6 +96,63 @@ abbrev pub PlayCourse : {D : Type 0} → ℕ → (D → DiskState) → JournalSt
 PlayCourse batch state old new told =
     PlayGoesOn state old new told ⊎ PlayBreaks batch state old new told ⊎ PlayIsRefused old new told
 
+-- the state after lines that were answered one after the other
+abbrev pub state_behind_all : ByteState → List ServedLine → ByteState
+state_behind_all s [] = s
+state_behind_all s (first ∷ more) = state_behind_all (state_behind s first.0 first.1) more
+
+-- a line that asks something to which memory may be refused
+abbrev pub LineMayWantMemory : ByteState → Option Ask → Type 0
+LineMayWantMemory s None = ⊥
+LineMayWantMemory s (Some ask) = MayWantMemory s ask
+
+-- of lines that were answered one after the other, memory was refused only to those that may want it
+abbrev pub AreRefusedWhereWanted : ByteState → List ServedLine → Type 0
+AreRefusedWhereWanted s [] = ⊤
+AreRefusedWhereWanted s (first ∷ more) =
+    (first.1 ≡ Refused OutOfMemory → LineMayWantMemory s first.0)
+    × AreRefusedWhereWanted (state_behind s first.0 first.1) more
+
+-- whether a line asked a command
+abbrev pub asked_command : Option Ask → Bool
+asked_command None = false
+asked_command (Some ask) = is_command ask
+
+-- the lines of a round, with a command among them, were all refused memory: when their journal was in this state a
+-- segment was due, on its device too, and there was no memory for its head
+pub record AreRefusedForHead {D : Type 0} (state : D → DiskState) (old new : JournalState D) (s : ByteState)
+    (round : List ServedLine) : Type 0 where
+  pub command : list_any (λ one. asked_command one.0) round ≡ true
+  pub refused : AreLinesRefused OutOfMemory round
+  pub journal : JournalState D
+  pub running : journal.broken ≡ false
+  pub state_is : journal.state ≡ s
+  pub full : IsFull journal.tail
+  pub durable : (state journal.disk).honest → IsDurable (state journal.disk) journal.tail s
+  pub since : Later (state old.disk) (state journal.disk)
+  pub until : Later (state journal.disk) (state new.disk)
+
+-- lines were answered in rounds, and in each round memory was refused only to lines that may want it, or to all
+abbrev pub AreRefusedWhereScarce : {D : Type 0} → (D → DiskState) → JournalState D → JournalState D → ByteState
+    → List (List ServedLine) → Type 0
+AreRefusedWhereScarce state old new s [] = ⊤
+AreRefusedWhereScarce state old new s (round ∷ rounds) =
+    (AreRefusedWhereWanted s round ⊎ AreRefusedForHead state old new s round)
+    × AreRefusedWhereScarce state old new (state_behind_all s round) rounds
+
+-- the lines of rounds
+abbrev pub lines_in : List (List ServedLine) → List ServedLine
+lines_in [] = []
+lines_in (round ∷ rounds) = round ++ lines_in rounds
+
+-- 14 came only where memory is wanted: the lines are those of rounds, none longer than a round may be
+pub record IsRefusedInRounds {D : Type 0} (batch : ℕ) (state : D → DiskState) (old new : JournalState D)
+    (told : List ServedLine) : Type 0 where
+  pub rounds : List (List ServedLine)
+  pub lines : told ≡ lines_in rounds
+  pub few : AllByRecursion (λ round. length round ≤ batch) rounds
+  pub scarce : AreRefusedWhereScarce state old new old.state rounds
+
 -- no line was refused for want of memory
 abbrev pub NoneStarved : List ServedLine → Type 0
 NoneStarved told = AllByRecursion (λ one. one.1 ≡ Refused OutOfMemory → ⊥) told
@@ -106,6 +165,7 @@ pub record Plays {D : Type 0} (batch : ℕ) (state : D → DiskState) (old new :
   pub asked : map (λ one. one.0) told ≡ map ask_in_line lines
   pub written : text ≡ served_text told
   pub course : PlayCourse batch state old new told
+  pub memory : IsRefusedInRounds batch state old new told
   pub later : Later (state old.disk) (state new.disk)
   pub exact : old.broken ≡ false → (HasFailed (state old.disk) (state new.disk) → ⊥) → NoneStarved told
       → text ≡ replies_from old.state lines

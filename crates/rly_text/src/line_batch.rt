@@ -138,6 +138,7 @@ impl Batch {
         if self.calls.is_empty() {
             return Ok(());
         }
+        journal.law_tail();
         journal.round(alloc, &mut self.calls, &mut self.answers)
     }
 

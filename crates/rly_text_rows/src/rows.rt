@@ -259,3 +259,21 @@ fn refusals_of_a_pick(rt: HostRuntime) -> Result<(), Fail> {
         "taken 1 1\ntaken 1 2\npicked 1 1 1\nrefused 7 windowfull\nrefused 2 nohop\nrefused 3 badmoment\n",
     )
 }
+
+/// As many hops and peers as a spool may have.
+#[test]
+fn the_last_hop_and_peer(rt: HostRuntime) -> Result<(), Fail> {
+    let wide = Params {
+        hops: 64,
+        peers: 64,
+        ..Params::DEFAULT
+    };
+    expect(
+        &rt,
+        wide,
+        "take 64 1 64 0 41\npick 64 0\nfetch 64 1\nshow 64\ntake 65 1 1 0 41\nwindow 65\n",
+        "taken 64 1\npicked 64 1 1\nbytes 64 1 41\n\
+hop 64 taken 1 queued 0 flight 1 dropped 0 released 0 first 0 next 0 count 0 last 0 dropping no moment 0\n\
+refused 1 nopeer\nrefused 2 nohop\n",
+    )
+}

@@ -92,14 +92,14 @@ fn send<R: Abort + Wait>(rt: &R, alloc: Global, link: MemLink, turns: u64) -> Me
 /// it, 16 times in all. Its sends are calls 4, 9, 14 and so on up to 79.
 const LAST_UNHEARD: u64 = 80;
 
-/// What a sender does in silence: it asks for the window, picks, and fetches 16 times. Each of these 18 moves something, so the
-/// receive after it doesn't wait.
+/// What a sender does in silence: it asks for the window, picks, and fetches 16 times. The receives after the window and after the
+/// pick don't wait: something is left to do then. Once the datagram went out it can only hear.
 fn unheard(fails_at: u64) -> Done {
     let is_lost = fails_at % 5 == 4;
     Done {
         delivered: if is_lost { 15 } else { 16 },
         calls: 80,
-        waits: 46,
+        waits: 62,
         asked: 18,
     }
 }
@@ -142,16 +142,16 @@ const ACKNOWLEDGED: [usize; 2] = [40, 56];
 /// heard in turn 41, by call 51, and the second in turn 56, by call 67. Each of these turns has a receive more, which finds nothing.
 const LAST_ACKNOWLEDGED: u64 = 76;
 
-/// What a sender does with that neighbour: it asks for the window, picks, fetches, releases, and then asks for the next datagram
-/// in each turn, without success.
+/// What a sender does with that neighbour: it asks for the window, picks, fetches, releases, and asks for the next datagram beside
+/// the release and in each turn after it, without success. The receives after the window, the pick and the release don't wait.
 fn acknowledged(fails_at: u64) -> Done {
     // The first custody isn't heard: the datagram goes out in turns 43, 47, 51 and 55 as well, and is released in turn 57.
     if fails_at == 51 {
         return Done {
             delivered: 14,
             calls: 79,
-            waits: 47,
-            asked: 24,
+            waits: 61,
+            asked: 25,
         };
     }
     let is_lost = fails_at < 51 && fails_at % 5 == 4;
@@ -159,8 +159,8 @@ fn acknowledged(fails_at: u64) -> Done {
         delivered: if is_lost { 9 } else { 10 },
         // The second custody isn't heard: then its turn has no other receive.
         calls: if fails_at == 67 { 75 } else { 76 },
-        waits: 51,
-        asked: 36,
+        waits: 61,
+        asked: 37,
     }
 }
 
@@ -221,7 +221,7 @@ fn second_hop_goes_on_in_silence(rt: HostRuntime) {
         let done = Done {
             delivered: if is_lost { 7 } else { 8 },
             calls: 72,
-            waits: 54,
+            waits: 62,
             asked: 10,
         };
         expect_done(&rt, &ends, &done, OTHER_DATA);

@@ -1,18 +1,19 @@
 //! The flusher's rounds, one by one: how many a number of calls take, how long a seat is answered, and what a round does
 //! once the journal broke.
 
-use crate::asks::{take_at, window};
+use crate::asks::{take, take_at, window};
 use crate::devices::device;
 use rly_core::Refusal;
-use rly_disk::{After, Disk, FaultDisk};
+use rly_disk::{After, Disk, FaultDisk, MemDisk};
 use rly_flush::Flusher;
 use rly_journal::Journal;
-use rly_line::{Seat, make};
+use rly_line::{CallError, Seat, make};
 use rly_machine::Reply;
 use std::alloc::Global;
 use std::process::Abort;
 use std::sync::Wait;
 use std::thread;
+use std::thread::Threads;
 use std::time::Duration;
 
 /// Above the numbers at which an answer might be kept back or a seat shut: 1,000, 1,024 and 2,048.
@@ -158,4 +159,93 @@ fn a_round_of_a_broken_journal_answers(rt: HostRuntime) {
         }
     }
     panic!(rt; "each run failed")
+}
+
+/// Asks for a take, whatever becomes of it.
+fn take_once<R: Abort + Wait>(rt: &R, alloc: Global, mut seat: Seat) {
+    let _told = seat.call(rt, take(rt, alloc, 1, 1));
+}
+
+/// A journal that broke in its first round.
+fn broken_journal<R: Abort + Threads + Wait + Copy + Send + 'static>(
+    rt: R,
+    alloc: Global,
+) -> Journal<FaultDisk<MemDisk>> {
+    for fails_at in 1..100 {
+        let disk = FaultDisk::new(device(&rt, alloc), fails_at, 0, After::Stops);
+        let Ok(journal) = Journal::open(alloc, disk) else {
+            continue;
+        };
+        let Ok((mut seats, line)) = make(alloc, 1, 1) else {
+            panic!(rt; "memory");
+        };
+        let flusher = Flusher::new(alloc, journal, line)
+            .ok()
+            .expect(&rt, "memory");
+        let seat = seats.pop().expect(&rt, "a seat");
+        let asking = thread::spawn(&rt, move || take_once(&rt, alloc, seat))
+            .ok()
+            .expect(&rt, "a thread");
+        let finished = flusher.serve(&rt);
+        asking.join(&rt);
+        if finished.broken {
+            return finished.journal;
+        }
+    }
+    panic!(rt; "no journal broke")
+}
+
+/// What became of a question at a seat of a broken journal.
+#[derive(Clone, Copy, Debug, PartialEq, Eq)]
+enum Told {
+    Broken,
+    Lost,
+    Closed,
+    Other,
+}
+
+/// Asks once, and says what became of it.
+fn question_at<R: Wait>(rt: &R, mut seat: Seat) -> Told {
+    let answered = seat.call(rt, window());
+    match answered {
+        Ok(answer) => match refusal_in(&answer.reply) == Some(Refusal::Broken) {
+            true => Told::Broken,
+            false => Told::Other,
+        },
+        Err(CallError::Lost) => Told::Lost,
+        Err(CallError::Closed(_ask)) => Told::Closed,
+    }
+}
+
+/// Of two questions that wait for a flusher over a broken journal one is answered, and the other is left in the line. Its seat
+/// is told that no answers come, though the lines are kept. The flusher begins later each time, until both wait.
+#[test]
+fn a_seat_that_waits_is_told_of_the_end(rt: HostRuntime) {
+    let alloc = rt.alloc();
+    for begins_after in &[10, 20, 40, 80, 160, 320, 640, 1_280, 2_560, 5_120] {
+        let Ok((mut seats, line)) = make(alloc, 2, 2) else {
+            panic!(rt; "memory");
+        };
+        let flusher = Flusher::new(alloc, broken_journal(rt, alloc), line)
+            .ok()
+            .expect(&rt, "memory");
+        let second = seats.pop().expect(&rt, "two seats");
+        let first = seats.pop().expect(&rt, "two seats");
+        let one = thread::spawn(&rt, move || question_at(&rt, first))
+            .ok()
+            .expect(&rt, "a thread");
+        let other = thread::spawn(&rt, move || question_at(&rt, second))
+            .ok()
+            .expect(&rt, "a thread");
+        thread::sleep(&rt, Duration::from_millis(*begins_after));
+        let finished = flusher.serve(&rt);
+        let told = (one.join(&rt), other.join(&rt));
+        expect!(rt; finished.broken);
+        match told {
+            (Told::Broken, Told::Lost) | (Told::Lost, Told::Broken) => return,
+            (Told::Broken, Told::Closed) | (Told::Closed, Told::Broken) => {}
+            _ => panic!(rt; "one is answered, and the other told of the end"),
+        }
+    }
+    panic!(rt; "in each run the second came too late")
 }

@@ -72,27 +72,27 @@ fn silence<R: Abort>(rt: &R, alloc: Global) -> MemLink {
     custody_at(rt, alloc, &[], 0)
 }
 
-/// After so many turns, how many datagrams were sent, how many wait, are in flight and were released, and how many
+/// After so many turns, how many calls were made, how many datagrams were sent, wait, are in flight and were released, and how many
 /// receives waited.
-const TURNS: [(u64, usize, u64, u64, u64, u64); 7] = [
-    (1, 0, 1, 0, 0, 1),
-    (2, 0, 0, 1, 0, 1),
-    (3, 1, 0, 1, 0, 1),
-    (4, 1, 0, 0, 1, 1),
-    (5, 1, 0, 0, 1, 1),
-    (6, 1, 0, 0, 1, 2),
-    (7, 1, 0, 0, 1, 3),
+const TURNS: [(u64, u64, usize, u64, u64, u64, u64); 7] = [
+    (1, 1, 0, 1, 0, 0, 1),
+    (2, 2, 0, 0, 1, 0, 1),
+    (3, 3, 1, 0, 1, 0, 1),
+    (4, 5, 1, 0, 0, 1, 2),
+    (5, 6, 1, 0, 0, 1, 2),
+    (6, 7, 1, 0, 0, 1, 3),
+    (7, 8, 1, 0, 0, 1, 4),
 ];
 
-/// Within a contact a sender asks for the window, picks, fetches and sends, and releases what is kept. It waits where the
-/// turn before moved nothing: at first, and after the spool had nothing more to pick.
+/// Within a contact a sender asks for the window, picks, fetches and sends, and releases what is kept, beside which it asks for the
+/// next datagram. It waits at first, once the datagram went out, and after a turn in which the spool had nothing more to pick.
 #[test]
 fn a_datagram_goes_out(rt: HostRuntime) {
     let alloc = rt.alloc();
-    for (turns, sent, queued, flight, released, waits) in &TURNS {
+    for (turns, calls, sent, queued, flight, released, waits) in &TURNS {
         let link = custody_at(&rt, alloc, &[3], 0);
         let ends = send(&rt, alloc, link, MemTurn::new(150, 1, *turns));
-        expect!(rt; ends.desk.calls() == *turns);
+        expect!(rt; ends.desk.calls() == *calls);
         expect_counts(&rt, &ends, *queued, *flight, *released);
         expect_sent(&rt, &ends, *sent, DATA);
         expect!(rt; ends.link.waits() == *waits);
@@ -176,14 +176,14 @@ fn strays_draw_nothing(rt: HostRuntime) {
     }
 }
 
-/// After so many turns, how many calls of its link were made, and how many datagrams are in flight and were released, where 70 copies
-/// of a custody come from the fourth turn on. Before it the link was asked three times and sent one datagram. The fourth turn hears
-/// 64 of the copies, the fifth the other six and then nothing.
-const COPIES: [(u64, u64, u64, u64); 4] = [
-    (3, 4, 1, 0),
-    (4, 68, 0, 1),
-    (5, 75, 0, 1),
-    (6, 76, 0, 1),
+/// After so many turns, how many calls of its link and of its desk were made, and how many datagrams are in flight and were released,
+/// where 70 copies of a custody come from the fourth turn on. Before it the link was asked three times and sent one datagram. The
+/// fourth turn hears 64 of the copies, and makes a release and a pick for them. The fifth hears the other six and then nothing.
+const COPIES: [(u64, u64, u64, u64, u64); 4] = [
+    (3, 4, 3, 1, 0),
+    (4, 68, 5, 0, 1),
+    (5, 75, 6, 0, 1),
+    (6, 76, 7, 0, 1),
 ];
 
 /// A turn hears what the link has, 64 packets at most, and makes one release for them.
@@ -194,13 +194,57 @@ fn a_turn_hears_64_packets(rt: HostRuntime) {
     for place in 3..73 {
         places.push(place).expect(&rt, "memory");
     }
-    for (turns, calls, flight, released) in &COPIES {
+    for (turns, calls, asked, flight, released) in &COPIES {
         let link = link_with(&rt, alloc, 73, &places, CUSTODY, 0);
         let ends = send(&rt, alloc, link, MemTurn::new(1_000, 1, *turns));
         expect!(rt; ends.link.calls() == *calls);
-        expect!(rt; ends.desk.calls() == *turns);
+        expect!(rt; ends.desk.calls() == *asked);
         expect_counts(&rt, &ends, 0, *flight, *released);
     }
+}
+
+/// Custody of number 3.
+const THIRD_CUSTODY: &[u8] = b"\x52\x4c\x01\x02\x00\x09\x00\x07\x00\x00\x00\x00\x00\x00\x00\x03";
+
+/// After so many turns, how many calls were made, and how many packets were sent of ten datagrams, how many are in flight and were
+/// released, of which four may be in flight. Picks and the Fetches of what they picked take turns: 1, 2 and 1 of each. The eighth
+/// turn hears the custody of the third. Its Release and three Picks are made together, and the ninth turn fetches what they picked.
+/// Then it can only hear.
+const BESIDE: [(u64, u64, usize, u64, u64); 5] = [
+    (6, 8, 3, 4, 0),
+    (7, 9, 4, 4, 0),
+    (8, 13, 4, 4, 3),
+    (9, 16, 7, 4, 3),
+    (10, 16, 7, 4, 3),
+];
+
+/// What may be in flight after a release is picked beside it, in one round.
+#[test]
+fn picks_are_made_beside_a_release(rt: HostRuntime) {
+    let alloc = rt.alloc();
+    for (turns, calls, sent, flight, released) in &BESIDE {
+        let link = link_with(&rt, alloc, 64, &[7], THIRD_CUSTODY, 0);
+        let machine = queue_of(&rt, alloc, 10);
+        let turn = MemTurn::new(1_000, 1, *turns);
+        let ends = send_from(&rt, alloc, machine, 4, link, turn);
+        expect!(rt; ends.desk.calls() == *calls);
+        expect!(rt; ends.link.delivered().len() == *sent);
+        let queued = 10u64.saturating_sub(*flight).saturating_sub(*released);
+        expect_counts(&rt, &ends, queued, *flight, *released);
+    }
+}
+
+/// After the end of a contact a release is made alone.
+#[test]
+fn a_release_after_a_contact_is_made_alone(rt: HostRuntime) {
+    let alloc = rt.alloc();
+    let mut machine = spool_with(&rt, alloc, 8, 1);
+    take(&rt, alloc, &mut machine, 1, 2);
+    let link = custody_at(&rt, alloc, &[3], 0);
+    let ends = send_from(&rt, alloc, machine, 1, link, MemTurn::new(140, 20, 6));
+    expect!(rt; ends.desk.calls() == 4);
+    expect_sent(&rt, &ends, 1, DATA);
+    expect_counts(&rt, &ends, 1, 0, 1);
 }
 
 /// After so many turns of 50 ms, how many packets were sent of two datagrams, of which both may be in flight. The seventh turn sends
@@ -331,7 +375,7 @@ fn data_is_held_back_after_a_contact(rt: HostRuntime) {
         let ends = send(&rt, alloc, silence(&rt, alloc), turn);
         expect_sent(&rt, &ends, *sent, DATA);
         expect_counts(&rt, &ends, 0, 1, 0);
-        // All turns waited but the second and the third, which came after turns that moved something.
+        // All turns waited but the second and the third, for which something was left to do.
         expect!(rt; ends.link.waits() == *turns - 2);
     }
 }

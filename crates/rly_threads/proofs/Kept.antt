@@ -1,6 +1,7 @@
 -- Each thread gives back what its worker's post promised.
-use Rattle.std.proofs.Common.{◌≡◌, ◌∙◌, ℕ, List, [], ◌∷◌, Bool, true, subst, sym}
-use Rattle.std.specs.List.{AllByRecursion, AllZip, zip}
+use Rattle.std.proofs.Common.{◌≡◌, ◌∙◌, ◌&&◌, ℕ, List, [], ◌∷◌, Bool, false, true, refl, subst, sym}
+use Rattle.std.specs.List.{AllByRecursion, AllZip, list_all, zip}
+use Rattle.std.specs.Option.{is_some}
 use Rattle.std.specs.Prelude.{Err, IfOk, IfSome, None, Ok, Option, Result, Some}
 use Rattle.std.specs.declared.thread.PromisedHandle.{PromisedHandle}
 use Rattle.rly_line.specs.EndViews.{ClosedView}
@@ -60,6 +61,16 @@ pub all_cut : {L T : Type 0} (heard : L → Option (List Hearing)) (sent : L →
     → AllByRecursion (λ ended. IfSome ended (λ worker. worker.was_cut ≡ true → said ≡ true)) results
 all_cut heard sent handed endless said lines threads results gave = second_all _ _ (cut_one heard sent handed endless said lines) threads results gave
 
+-- as many gave something back as were there
+pub all_there : {H R : Type 0} (Gives : H → R → Type 0) (threads : List (Option H)) (results : List (Option R)) → AllZip (GivesBack Gives) threads results
+    → list_all is_some threads ≡ list_all is_some results
+all_there Gives [] [] gave = refl
+all_there Gives [] (r ∷ results) gave = absurd gave
+all_there Gives (t ∷ threads) [] gave = absurd gave
+all_there {H} {R} Gives (None ∷ threads) (r ∷ results) gave = subst (λ (e : Option R). false ≡ (is_some e && list_all is_some results)) (sym gave.0) refl
+all_there Gives (Some t ∷ threads) (None ∷ results) gave = absurd gave.0
+all_there Gives (Some t ∷ threads) (Some r ∷ results) gave = all_there Gives threads results gave.1
+
 told_one : {L T : Type 0} (plan : ContactPlan) (window lock said : ℕ) → said ≡ lock → (given : Post L T × Caller) (thread : Option (PromisedHandle (Left L T) (Duty L T))) → IsFor plan window lock given thread
     → IfSome thread (λ t. t.promise.word.value.id ≡ said)
 told_one plan window lock said same given None is_for = tt
@@ -74,6 +85,11 @@ all_told plan window lock said same given threads are_for = second_all _ _ (told
 pub if_ok : {A E : Type 0} {P Q : A → Type 0} (r : Result A E) → IfOk r P → ((a : A) → P a → Q a) → IfOk r Q
 if_ok (Ok a) is then = then a is
 if_ok (Err e) is then = tt
+
+-- and of two
+pub if_both : {A E : Type 0} {P Q S : A → Type 0} (r : Result A E) → IfOk r P → IfOk r Q → ((a : A) → P a → Q a → S a) → IfOk r S
+if_both (Ok a) is too then = then a is too
+if_both (Err e) is too then = tt
 
 told_seat : {L T : Type 0} (plan : ContactPlan) (window lock : ℕ) (of : LineId) (names : List (Option ReplyId)) (given : Post L T × Caller) (thread : Option (PromisedHandle (Left L T) (Duty L T)))
     → IsFor plan window lock given thread → IsSeatOf of names given.1 → IfSome thread (λ t. IsSeatOf of names t.promise.seat.value)

@@ -25,7 +25,7 @@ use Rattle.rly_threads.specs.declared.turn.Point.TheVariants.{Heard}
 use Rattle.rly_threads.specs.declared.turn.Worker.TheVariants as worker
 use Rattle.rly_threads.specs.Asking.{BatchOutcome, CallOutcome, call_asked}
 use Rattle.rly_threads.specs.Ends.{TellsMore, hearing}
-use Rattle.rly_threads.specs.Outlet.{Outlet, Pacing, call_at, call_count, calls_from, event_in, is_progress, named_ask, outlet_done, outlet_events, outlet_on_action, outlet_on_calls, outlet_on_packet, outlet_packets, outlet_sent, outlet_told, paced, pacing, picks_after, timed}
+use Rattle.rly_threads.specs.Outlet.{Outlet, Pacing, call_at, call_count, calls_from, event_in, is_progress, named_ask, outlet_done, outlet_events, outlet_on_action, outlet_on_calls, outlet_on_packet, outlet_packets, outlet_sent, outlet_told, paced, pacing, picks_after, timed, waits_first}
 use Rattle.rly_threads.specs.HelpersTurns.{Did, HasHeard, HasNumbers, HasTold, IsCall, call_event}
 use Rattle.rly_threads.specs.Runs.{EndsView}
 use Rattle.rly_threads.specs.Turns.{Given, Made, around_call, has_some, hearings_from, receives_of}
@@ -155,10 +155,15 @@ telling_all first in_contact old new s t picks more moved all left place h none 
     let whole : h.done ≡ all = sym (h.parts ∙ ap (λ l. h.done ++ l) none ∙ append-nil h.done) in
     subst (HasTold in_contact old new s t picks more moved) (λ i. outlet_events (calls_from first (end i)) (Ok (whole i))) h.told
 
+-- a Release asks something, and so does a Pick
+release_asks : (w : Outlet) (now number : ℕ) (is_first : Bool) → (ask : Ask) × (named_ask w now (if is_first then action.Release number else action.Pick) ≡ Some ask)
+release_asks w now number true = (_, refl)
+release_asks w now number false = (_, refl)
+
 -- what is asked by a call that is none but to be asked
 ask_at : (w : Outlet) (now : ℕ) (first : OutAction (List ℕ)) (place : ℕ) → IsCall first → (ask : Ask) × (named_ask w now (call_at first place) ≡ Some ask)
 ask_at w now action.AskWindow place is = (_, refl)
-ask_at w now (action.Release number) place is = (_, refl)
+ask_at w now (action.Release number) place is = release_asks w now number (place == 0)
 ask_at w now (action.Fetch number) place is = (_, refl)
 ask_at w now action.Pick place is = (_, refl)
 ask_at w now (action.Send m) place is = absurd is
@@ -295,20 +300,20 @@ told_as in_contact old new end s t u picks more last moved went done told h ends
     (subst (HasTold in_contact old new s t picks more moved) is h))))
 
 -- what is made at least once is a call
-pub counted_call : (most count : ℕ) (p : Pacing) (named : OutAction (List ℕ)) → count ≡ call_count most p named → 0 < count → IsCall named
-counted_call most count p action.AskWindow is some = tt
-counted_call most count p (action.Release number) is some = tt
-counted_call most count p (action.Fetch number) is some = tt
-counted_call most count p action.Pick is some = tt
-counted_call most count p (action.Send m) is some = absurd (omega (arith, is, some))
+pub counted_call : (most count : ℕ) (in_contact : Bool) (p : Pacing) (named : OutAction (List ℕ)) → count ≡ call_count most in_contact p named → 0 < count → IsCall named
+counted_call most count in_contact p action.AskWindow is some = tt
+counted_call most count in_contact p (action.Release number) is some = tt
+counted_call most count in_contact p (action.Fetch number) is some = tt
+counted_call most count in_contact p action.Pick is some = tt
+counted_call most count in_contact p (action.Send m) is some = absurd (omega (arith, is, some))
 
 -- several are made where several may be
-pub counted_few : (most count : ℕ) (p : Pacing) (named : OutAction (List ℕ)) → count ≡ call_count most p named → 1 < count → count ≤ most
-counted_few most count p action.AskWindow is several = absurd (omega (arith, is, several))
-counted_few most count p (action.Release number) is several = absurd (omega (arith, is, several))
-counted_few most count p (action.Fetch number) is several = omega (arith, is)
-counted_few most count p action.Pick is several = omega (arith, is)
-counted_few most count p (action.Send m) is several = absurd (omega (arith, is, several))
+pub counted_few : (most count : ℕ) (in_contact : Bool) (p : Pacing) (named : OutAction (List ℕ)) → count ≡ call_count most in_contact p named → 1 < count → count ≤ most
+counted_few most count in_contact p action.AskWindow is several = absurd (omega (arith, is, several))
+counted_few most count in_contact p (action.Release number) is several = omega (arith, is)
+counted_few most count in_contact p (action.Fetch number) is several = omega (arith, is)
+counted_few most count in_contact p action.Pick is several = omega (arith, is)
+counted_few most count in_contact p (action.Send m) is several = absurd (omega (arith, is, several))
 
 -- fewer numbers are numbers too
 pub fewer_numbers : (named : OutAction (List ℕ)) (few many : ℕ) → HasNumbers named many → few ≤ many → HasNumbers named few
@@ -426,7 +431,7 @@ hearing_full waits old now s t place h end =
 
 -- a turn, after its start
 pub turned : (w : Outlet) (most : ℕ) (old told mid new : EndsView) (p : Pacing) (heard core : Sender) (due left : Pacing) (given : Given) (in_contact : Bool) (action : Option (OutAction (List ℕ)))
-    → HasHeard (not p.moved) old told p.core heard given.packets → TellsMore told.handed mid.handed ((worker.Sender w.hop, Heard, given.heard) ∷ [])
+    → HasHeard (waits_first p.moved p.core) old told p.core heard given.packets → TellsMore told.handed mid.handed ((worker.Sender w.hop, Heard, given.heard) ∷ [])
     → mid ≡ record told { handed = mid.handed }
     → due ≡ timed w given.heard.since (pacing heard p.moved p.mark p.picks)
     → in_contact ≡ is_open w.plan w.hop given.heard.now → core ≡ (sending_step due.core (Turn in_contact)).0 → action ≡ (sending_step due.core (Turn in_contact)).1
@@ -444,11 +449,11 @@ turned w most old told mid new p heard core due left given in_contact action hea
     let rest : Did mid new left (outlet_on_action w most given.heard.now given.made (pacing step.0 false ready.mark ready.picks) step.1) =
     subst (Did mid new left) (λ i. outlet_on_action w most given.heard.now given.made (pacing (core_is i) false (due_is i).mark (due_is i).picks) (action_is i)) did in
     let same : mid.heard ≡ told.heard = ap (λ t. t.heard) quiet in
-    let hearing_is : TellsMore old.heard mid.heard (hearings_from (not p.moved) (receives_of packets)) =
-    subst (λ x. TellsMore old.heard x (hearings_from (not p.moved) (receives_of packets))) (sym same)
-    (subst (λ l. TellsMore old.heard told.heard (hearings_from (not p.moved) (receives_of l))) whole hears.heard) in
+    let hearing_is : TellsMore old.heard mid.heard (hearings_from (waits_first p.moved p.core) (receives_of packets)) =
+    subst (λ x. TellsMore old.heard x (hearings_from (waits_first p.moved p.core) (receives_of packets))) (sym same)
+    (subst (λ l. TellsMore old.heard told.heard (hearings_from (waits_first p.moved p.core) (receives_of l))) whole hears.heard) in
     let moment : TellsMore old.handed mid.handed ((worker.Sender w.hop, Heard, given.heard) ∷ []) =
     subst (λ x. TellsMore x mid.handed ((worker.Sender w.hop, Heard, given.heard) ∷ [])) (ap (λ t. t.handed) hears.same) at in
     let both : mid ≡ record old { heard = mid.heard; handed = mid.handed } =
     quiet ∙ (λ i. record (hears.same i) { handed = mid.handed }) ∙ (λ i. record old { heard = sym same i; handed = mid.handed }) in
-    did_hear old mid new left _ (worker.Sender w.hop) (not p.moved) packets given.heard hearing_is moment both rest
+    did_hear old mid new left _ (worker.Sender w.hop) (waits_first p.moved p.core) packets given.heard hearing_is moment both rest

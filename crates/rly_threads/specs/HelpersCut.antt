@@ -7,9 +7,9 @@ use Rattle.std.specs.declared.sync.OnceToken.{OnceToken}
 use Rattle.rly_disk.specs.DiskModel.{DiskState}
 use Rattle.rly_flush.specs.Flushing.{IsServed, new_flusher}
 use Rattle.rly_journal.specs.Journal.{JournalState}
-use Rattle.rly_line.specs.EndViews.{ClosedView, names_of}
+use Rattle.rly_line.specs.EndViews.{ClosedView, EndView, names_of}
 use Rattle.rly_line.specs.Replies.{ReplyId}
-use Rattle.rly_line.specs.Responding.{IsSeatOf, IsToldBy}
+use Rattle.rly_line.specs.Responding.{IsLeftBy, IsSeatOf, IsToldBy}
 use Rattle.rly_line.specs.Seats.{Caller}
 use Rattle.rly_line.specs.Submission.{LineId}
 use Rattle.rly_plan.specs.ContactPlan.{ContactPlan}
@@ -27,7 +27,7 @@ use Rattle.rly_threads.specs.declared.seat_desk.Said.TheVariants.{One, Several}
 use Rattle.rly_threads.specs.Asking.{Asked, HasPut, batch_outcome, call_asked}
 use Rattle.rly_threads.specs.Cut.{Look, all_on, cut_early, was_cut}
 use Rattle.rly_threads.specs.Ends.{Hearing, TellsMore}
-use Rattle.rly_threads.specs.Relay.{AreAnsweredBy, HasEnded, HaveEnded, has_run_out, new_end, seated}
+use Rattle.rly_threads.specs.Relay.{AreAnsweredBy, HasEnded, HaveEnded, has_run_out, is_to_end}
 use Rattle.rly_threads.specs.Turns.{Handed}
 
 -- what a log has
@@ -80,10 +80,11 @@ IsFor plan window lock given thread =
     IfSome thread (λ t. (t.promise.plan.value ≡ plan) × (t.promise.window ≡ window) × (t.promise.post.value ≡ given.0)
     × (t.promise.word.value.id ≡ lock) × (t.promise.seat.value ≡ given.1))
 
--- what came of a worker that had a thread, if it had one
+-- what came of a worker that had a thread, where it had one
 abbrev pub GivesBack : {H R : Type 0} → (H → R → Type 0) → Option H → Option R → Type 0
 GivesBack Gives None result = result ≡ None
-GivesBack Gives (Some thread) result = IfSome result (Gives thread)
+GivesBack Gives (Some thread) None = ⊥
+GivesBack Gives (Some thread) (Some left) = Gives thread left
 
 -- the thread of a worker at its end: its worker did at its post what was promised, and was cut only where that was said; and what
 -- its seat put and knows stands beside the closed end of its lines
@@ -99,18 +100,16 @@ IsJoined heard sent handed endless said lines thread ended =
 abbrev pub AreSeatsOf : {L T : Type 0} → LineId → List (Option ReplyId) → List (Option (PromisedHandle (Left L T) (Duty L T))) → Type 0
 AreSeatsOf of names threads = AllByRecursion (λ thread. IfSome thread (λ t. IsSeatOf of names t.promise.seat.value)) threads
 
--- what a relay leaves of its journal and its posts, each as `run_relay` says it
+-- what a relay leaves of its journal and its posts, each with its seat, as `run_relay_at` says it
 pub record IsRelayed {D L T : Type 0} (state : D → DiskState) (heard : L → Option (List Hearing)) (sent : L → Option (List (List ℕ)))
-    (handed : T → Option (List Handed)) (endless : T → Bool) (plan : ContactPlan) (journal : JournalState D) (posts : List (Post L T))
-    (relayed : Relayed D L T) : Type 0 where
+    (handed : T → Option (List Handed)) (endless : T → Bool) (plan : ContactPlan) (journal : JournalState D) (line_end : EndView)
+    (given : List (Post L T × Caller)) (relayed : Relayed D L T) : Type 0 where
   pub broken : relayed.finished.broken ≡ relayed.finished.journal.broken
-  pub line : LineId
-  pub names : List (Option ReplyId)
-  pub count : length names ≡ length posts
-  pub served : IsServed state (new_flusher journal (new_end line names)) relayed.finished.last.value
+  pub served : IsServed state (new_flusher journal line_end) relayed.finished.last.value
   pub left : relayed.finished.last.value.journal ≡ relayed.finished.journal
-  pub worked : AllZip (HaveEnded heard sent handed endless plan journal.state.params.window) (seated line names posts) relayed.ended.items
+  pub closed : IsLeftBy relayed.finished.last.value.line relayed.finished.lines
+  pub worked : AllZip (HaveEnded heard sent handed endless plan journal.state.params.window) given relayed.ended.items
   pub answered : AreAnsweredBy relayed.finished.last.value.line relayed.ended.items
-  pub told : relayed.is_cut ≡ relayed.finished.broken
+  pub told : relayed.is_cut ≡ is_to_end relayed.finished.broken relayed.ended.items
   pub cut : AllByRecursion (λ ended. IfSome ended (λ worker. worker.was_cut ≡ true → relayed.is_cut ≡ true)) relayed.ended.items
   pub complete : relayed.complete ≡ list_all has_run_out relayed.ended.items

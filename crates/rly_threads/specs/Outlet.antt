@@ -1,5 +1,5 @@
 -- A sending worker, turn by turn (docs/PROTOCOL.md, "The sending core").
-use Rattle.std.specs.Prelude.{ℕ, ◌+◌, ◌-◌, ◌/◌, min, nat_le, List, [], ◌∷◌, ◌++◌, map, take, Bool, true, false, not, ◌&&◌, ◌||◌}
+use Rattle.std.specs.Prelude.{ℕ, ◌+◌, ◌-◌, ◌/◌, ◌==◌, min, nat_le, List, [], ◌∷◌, ◌++◌, map, take, Bool, true, false, not, ◌&&◌, ◌||◌}
 use Rattle.std.specs.Prelude.{if◌then◌else◌, fold, Option, Some, None, is_some, Ok, Err}
 use Rattle.std.specs.List.{filter_map, list_any, range_with_len, zip}
 use Rattle.rly_core.specs.declared.ids.HopId.{HopId}
@@ -10,7 +10,7 @@ use Rattle.rly_hop.specs.declared.sending.event.OutAction.TheVariants as action
 use Rattle.rly_hop.specs.declared.sending.event.OutEvent.{OutEvent}
 use Rattle.rly_hop.specs.declared.sending.event.OutEvent.TheVariants as event
 use Rattle.rly_hop.specs.Sender.{Sender}
-use Rattle.rly_hop.specs.Sending.{sending_step}
+use Rattle.rly_hop.specs.Sending.{sending_step, turn}
 use Rattle.rly_hop.specs.SendingRuns.{sender_after}
 use Rattle.rly_line.specs.declared.call_error.BatchError.{BatchError}
 use Rattle.rly_line.specs.declared.call_error.BatchError.TheVariants as error
@@ -54,19 +54,23 @@ outlet_on_hearing s (Some m) = (sending_step s (event.Heard m)).0
 abbrev pub outlet_on_packet : Sender → List ℕ → Sender
 outlet_on_packet s packet = outlet_on_hearing s (message_in (Some packet))
 
--- How many calls are made together where the core names this one, of so many at most: the Fetches of all that is in flight from
--- this number on, and as many Picks as may be in flight beside what is.
-abbrev pub call_count : ℕ → Pacing → OutAction (List ℕ) → ℕ
-call_count most p action.AskWindow = 1
-call_count most p (action.Release number) = 1
-call_count most p (action.Fetch number) = min most (p.core.next - number)
-call_count most p action.Pick = min (min most p.picks) (p.core.window - (p.core.next - p.core.first))
-call_count most p (action.Send m) = 0
+-- how many Picks go with the release of all up to this number: while a contact is open, as many as may be in flight after it
+abbrev pub picks_beside : Bool → Pacing → ℕ → ℕ
+picks_beside in_contact p number = if in_contact then min p.picks (p.core.window - (p.core.next - (number + 1))) else 0
 
--- the one at a place among calls that are made together: the Fetch of a later number, or the same call again
+-- How many calls are made together where the core names this one, of so many at most: the Fetches of all that is in flight from
+-- this number on, a Release and the Picks that go with it, and as many Picks as may be in flight beside what is.
+abbrev pub call_count : ℕ → Bool → Pacing → OutAction (List ℕ) → ℕ
+call_count most in_contact p action.AskWindow = 1
+call_count most in_contact p (action.Release number) = min most (picks_beside in_contact p number + 1)
+call_count most in_contact p (action.Fetch number) = min most (p.core.next - number)
+call_count most in_contact p action.Pick = min (min most p.picks) (p.core.window - (p.core.next - p.core.first))
+call_count most in_contact p (action.Send m) = 0
+
+-- the one at a place among calls that are made together: the Fetch of a later number, a Pick after a Release, or the same call again
 abbrev pub call_at : OutAction (List ℕ) → ℕ → OutAction (List ℕ)
 call_at action.AskWindow place = action.AskWindow
-call_at (action.Release number) place = action.Release number
+call_at (action.Release number) place = if place == 0 then action.Release number else action.Pick
 call_at (action.Fetch number) place = action.Fetch (number + place)
 call_at action.Pick place = action.Pick
 call_at (action.Send m) place = action.Send m
@@ -182,7 +186,8 @@ outlet_on_calls w now made p (first ∷ others) =
 
 abbrev pub outlet_on_action : Outlet → ℕ → ℕ → Made → Pacing → Option (OutAction (List ℕ)) → Done Pacing
 outlet_on_action w most now made p None = nothing_done p
-outlet_on_action w most now made p (Some named) = outlet_on_calls w now made p (calls_from named (call_count most p named))
+outlet_on_action w most now made p (Some named) =
+    outlet_on_calls w now made p (calls_from named (call_count most (is_open w.plan w.hop now) p named))
 
 -- The core is told to send again, at these microseconds, if the turn before moved nothing, nothing that was acknowledged
 -- waits to be released, and at least the hop's `resend`, in milliseconds, has passed since the mark.
@@ -191,15 +196,18 @@ timed w since p =
     if not p.moved && not (is_some p.core.acked) && nat_le (resend w.plan w.hop) ((since - p.mark) / 1000)
     then pacing (sending_step p.core event.Timeout).0 false since p.picks else p
 
--- One turn, after its start, of so many calls at most. It hears what its link has, 64 packets at most, of which the first is waited
--- for unless the turn before moved something. A timeout comes after that.
+-- whether a turn waits for its first packet: the one before moved nothing, or nothing is left to do but to hear
+abbrev pub waits_first : Bool → Sender → Bool
+waits_first moved core = not moved || not (is_some (turn core true))
+
+-- One turn, after its start, of so many calls at most. It hears what its link has, 64 packets at most. A timeout comes after that.
 abbrev pub outlet_done : Outlet → ℕ → Pacing → Given → Done Pacing
 outlet_done w most p given =
     let packets = take 64 given.packets in
     let heard = pacing (fold outlet_on_packet p.core packets) p.moved p.mark p.picks in
     let timed = timed w given.heard.since heard in
     let left = sending_step timed.core (event.Turn (is_open w.plan w.hop given.heard.now)) in
-    with_hearings (worker.Sender w.hop) (not p.moved) packets given.heard
+    with_hearings (worker.Sender w.hop) (waits_first p.moved p.core) packets given.heard
     (outlet_on_action w most given.heard.now given.made (pacing left.0 false timed.mark timed.picks) left.1)
 
 -- one turn

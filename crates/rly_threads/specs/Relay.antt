@@ -1,6 +1,7 @@
 -- A relay: its lines, and what its workers did.
-use Rattle.std.specs.Prelude.{◌≡◌, ◌⊎◌, ℕ, not, Bool, false, true, List, [], length, map, Option, None, Some, IfNone, IfSome}
-use Rattle.std.specs.List.{AllByRecursion, zip}
+use Rattle.std.specs.Prelude.{◌≡◌, ◌⊎◌, ◌||◌, ℕ, not, Bool, false, true, List, [], length, map, Option, None, Some, IfNone, IfSome}
+use Rattle.std.specs.List.{AllByRecursion, list_all, zip}
+use Rattle.std.specs.Option.{is_some}
 use Rattle.rly_core.specs.declared.ids.HopId.{HopId}
 use Rattle.rly_core.specs.declared.ids.PeerId.{PeerId}
 use Rattle.rly_hop.specs.Receiving.{receiver}
@@ -85,6 +86,10 @@ seated line names posts = zip posts (new_callers line 0 names)
 -- what each worker that had a thread put and knows stands beside who answered it
 abbrev pub AreAnsweredBy : {L T : Type 0} → Responding → List (Option (Ended L T)) → Type 0
 AreAnsweredBy r ended = AllByRecursion (λ e. IfSome e (λ worker. IsAnsweredBy r worker.seat.value)) ended
+
+-- whether the workers of a relay are to end before their turns do: the journal broke, or one of them had no thread
+abbrev pub is_to_end : {L T : Type 0} → Bool → List (Option (Ended L T)) → Bool
+is_to_end broken ended = broken || not (list_all is_some ended)
 
 -- whether a worker had a thread, and ran until its turns were ended
 abbrev pub has_run_out : {L T : Type 0} → Option (Ended L T) → Bool

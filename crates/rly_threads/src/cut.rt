@@ -29,7 +29,7 @@ pub(crate) fn tell_workers<'a, R: Wait>(
 }
 
 /// Whose turns and whose seat they are, for the proof alone.
-pub(crate) trait Whose {
+pub trait Whose {
     ghost use Rattle.std.specs.Prelude.{ℕ, Bool, List, Option};
     ghost use Rattle.rly_line.specs.Seats.{Caller};
     ghost use Rattle.rly_threads.specs.Turns.{Handed};

@@ -23,6 +23,7 @@ mod seat_desk;
 mod sender;
 mod turn;
 
+pub use crate::cut::Whose;
 pub use crate::desk::Desk;
 pub use crate::ends::{Ends, MAX_PACKET, law_longest_packet};
 pub use crate::link::{Link, LinkFault};
@@ -30,6 +31,7 @@ pub use crate::mem_desk::MemDesk;
 pub use crate::mem_link::MemLink;
 pub use crate::mem_turn::MemTurn;
 pub use crate::receiver::receiver_run;
-pub use crate::relay::{Ended, Post, Relayed, run_relay};
+pub use crate::relay::{Ended, Post, Relayed, run_relay, run_relay_at};
+pub use crate::seat_desk::SeatDesk;
 pub use crate::sender::sender_run;
 pub use crate::turn::{Go, Point, Turn, Worker};

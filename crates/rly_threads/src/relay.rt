@@ -1,16 +1,16 @@
 //! The relay: the flusher and the workers, each in a thread of its own.
 
-ghost use Rattle.std.specs.Prelude.{◌≡◌, ◌≤◌, ◌⊎◌, [], IfErr, IfOk, IfSome, List, Option, Some, length, true, vec_capacity};
+ghost use Rattle.std.specs.Prelude.{◌≡◌, ◌≤◌, ◌⊎◌, ◌||◌, [], IfErr, IfOk, IfSome, List, Option, Some, length, not, true, vec_capacity};
 ghost use Rattle.std.specs.List.{AllByRecursion, AllZip, list_all, zip};
 ghost use Rattle.std.specs.Option.{is_some};
 ghost use Rattle.rly_disk.specs.DiskModel.{HasFailed, Later};
 ghost use Rattle.rly_flush.specs.Flushing.{IsServed, new_flusher};
-ghost use Rattle.rly_line.specs.EndViews.{names_of};
+ghost use Rattle.rly_line.specs.EndViews.{names_of, new_tellers};
 ghost use Rattle.rly_line.specs.Replies.{ReplyId};
-ghost use Rattle.rly_line.specs.Responding.{IsSeatOf};
+ghost use Rattle.rly_line.specs.Responding.{IsLeftBy, IsSeatOf};
 ghost use Rattle.rly_line.specs.Submission.{LineId};
 ghost use Rattle.rly_threads.specs.HelpersCut.{AreSeatsOf, GivesBack, IsFor, IsHeard, IsJoined, IsRelayed};
-ghost use Rattle.rly_threads.specs.Relay.{AreAnsweredBy, HasEnded, HaveEnded, has_run_out, new_end, seated};
+ghost use Rattle.rly_threads.specs.Relay.{AreAnsweredBy, HasEnded, HaveEnded, has_run_out, is_to_end, new_end, seated};
 
 use crate::cut::{CutTurn, Whose, tell_workers};
 use crate::ends::Ends;
@@ -22,7 +22,7 @@ use crate::turn::{Turn, Worker};
 use rly_disk::Disk;
 use rly_flush::{Finished, Flusher};
 use rly_journal::Journal;
-use rly_line::{ClosedEnd, LeftSeat, Seat, make};
+use rly_line::{ClosedEnd, LeftSeat, LineEnd, Seat, make};
 use rly_plan::Plan;
 use std::alloc::Global;
 use std::marker::Brand;
@@ -49,7 +49,7 @@ pub struct Ended<L: Link, T: Turn> {
     pub post: Post<L, T>,
     /// Its seat as it was left, for proofs. It takes no room.
     pub seat: Snapshot<LeftSeat>,
-    /// Whether it was cut: the journal broke, and its turns would have had it go on.
+    /// Whether it was cut: it was told to end, and its turns would have had it go on.
     pub was_cut: bool,
 }
 
@@ -60,15 +60,16 @@ pub struct Relayed<D: Disk, L: Link, T: Turn> {
     pub finished: Finished<D>,
     /// Its workers, in the order of their posts. None: there was no thread for it, and it did nothing.
     pub ended: Vec<Option<Ended<L, T>>>,
-    /// Whether its workers were told to end at their next turns.
+    /// Whether its workers were told to end at their next turns: the journal broke, or one of them had no thread.
     pub is_cut: bool,
     /// Whether each worker had a thread and ran until its turns were ended.
     pub complete: bool,
 }
 
 /// Starts each worker in a thread of its own, and waits until all have ended. Their calls are answered meanwhile: the
-/// flusher has the calling thread. Once the journal is broken each worker ends at its next turn. Where memory is refused for
-/// the lines, the flusher or what the threads give back, nothing is started, and the journal is handed back.
+/// flusher has the calling thread. Once the journal is broken each worker ends at its next turn, and at once where one of them
+/// had no thread. Where memory is refused for the lines, the flusher or what the threads give back, nothing is started, and the
+/// journal is handed back.
 pub fn run_relay<
     R: Threads + Wait + Sync,
     D: Disk + Drop,
@@ -96,23 +97,74 @@ pub fn run_relay<
     ensures seats { IfOk result (λ relayed. length relayed.finished.last.value.line.lines ≡ length posts.items) }
     // What its seat put begins with all asks that the flusher's history has of it, and what it knows is a prefix of that history.
     ensures answered { IfOk result (λ relayed. AreAnsweredBy relayed.finished.last.value.line relayed.ended.items) }
-    // The workers are told to end exactly where the journal broke, and none is cut elsewhere.
-    ensures told { IfOk result (λ relayed. relayed.is_cut ≡ relayed.finished.broken) }
+    // The workers are told to end exactly where the journal broke or one of them had no thread, and none is cut elsewhere.
+    ensures told { IfOk result (λ relayed. relayed.is_cut ≡ is_to_end relayed.finished.broken relayed.ended.items) }
     ensures cut { IfOk result (λ relayed. AllByRecursion (λ ended. IfSome ended (λ worker. worker.was_cut ≡ true → relayed.is_cut ≡ true)) relayed.ended.items) }
     ensures complete { IfOk result (λ relayed. relayed.complete ≡ list_all has_run_out relayed.ended.items) }
     ensures later { IfOk result (λ relayed. Later (D.state journal.disk) (D.state relayed.finished.journal.disk)) }
     ensures refused { IfErr result (λ back. back ≡ journal) }
 {
+    let workers = posts.len() as u16;
+    let Ok((seats, line_end)) = make(alloc, workers, workers) else {
+        return Err(journal);
+    };
     let word = OnceLock::new();
-    let word = &word;
+    run_relay_at(rt, alloc, journal, plan, posts, seats, line_end, &word)
+}
+
+/// As `run_relay`, at the end of a new line and with a word of the caller's. Each worker has the seat of its place. Others may have
+/// seats of that line too: the relay ends once they have left them as well, unless the journal broke. The word is said once the
+/// workers are to end or the relay has ended, so who sees it said knows that no more calls need be made. Where memory is refused,
+/// the line is closed and the word said.
+pub fn run_relay_at<
+    R: Threads + Wait + Sync,
+    D: Disk + Drop,
+    L: Link + Drop + Send,
+    T: Turn + Drop + Send,
+>(
+    rt: &R,
+    alloc: Global,
+    journal: Journal<D>,
+    plan: &Plan,
+    posts: Vec<Post<L, T>>,
+    seats: Vec<Seat>,
+    line_end: LineEnd,
+    word: &OnceLock<bool>,
+) -> Result<Relayed<D, L, T>, Journal<D>>
+    requires each { length seats.items ≡ length posts.items }
+    requires seats { AllByRecursion (IsSeatOf line_end.of (names_of line_end.lines)) seats.items }
+    requires new { line_end ≡ record line_end { taken = []; lines = new_tellers 0 (names_of line_end.lines) } }
+    ensures broken { IfOk result (λ relayed. relayed.finished.broken ≡ relayed.finished.journal.broken) }
+    ensures broke { IfOk result (λ relayed. relayed.finished.broken ≡ true →
+        (journal.broken ≡ true) ⊎ HasFailed (D.state journal.disk) (D.state relayed.finished.journal.disk)) }
+    // What its flusher leaves is what rounds make of the journal, at that end.
+    ensures served { IfOk result (λ relayed. IsServed D.state (new_flusher journal line_end) relayed.finished.last.value) }
+    ensures left { IfOk result (λ relayed. relayed.finished.last.value.journal ≡ relayed.finished.journal) }
+    // Its closed end is that of its flusher, for those who have other seats.
+    ensures closed { IfOk result (λ relayed. IsLeftBy relayed.finished.last.value.line relayed.finished.lines) }
+    ensures worked { IfOk result (λ relayed. AllZip (HaveEnded L.heard L.sent T.told T.endless plan.now journal.state.params.window)
+        (zip posts.items seats.items) relayed.ended.items) }
+    ensures answered { IfOk result (λ relayed. AreAnsweredBy relayed.finished.last.value.line relayed.ended.items) }
+    ensures told { IfOk result (λ relayed. relayed.is_cut ≡ is_to_end relayed.finished.broken relayed.ended.items) }
+    ensures cut { IfOk result (λ relayed. AllByRecursion (λ ended. IfSome ended (λ worker. worker.was_cut ≡ true → relayed.is_cut ≡ true)) relayed.ended.items) }
+    ensures complete { IfOk result (λ relayed. relayed.complete ≡ list_all has_run_out relayed.ended.items) }
+    ensures later { IfOk result (λ relayed. Later (D.state journal.disk) (D.state relayed.finished.journal.disk)) }
+    ensures refused { IfErr result (λ back. back ≡ journal) }
+{
     thread::scope(
         thread::scope_env(),
         rt,
         move |scope| -> Result<Relayed<D, L, T>, Journal<D>>
-            requires count { (1 ≤ length posts.items) × (length posts.items ≤ 256) }
-            ensures done { IfOk result (λ relayed. IsRelayed D.state L.heard L.sent T.told T.endless plan.entry.now journal posts.items relayed) }
+            requires each { length seats.items ≡ length posts.items }
+            requires seats { AllByRecursion (IsSeatOf line_end.of (names_of line_end.lines)) seats.items }
+            requires new { line_end ≡ record line_end { taken = []; lines = new_tellers 0 (names_of line_end.lines) } }
+            ensures done { IfOk result (λ relayed. IsRelayed D.state L.heard L.sent T.told T.endless plan.entry.now journal line_end (zip posts.items seats.items) relayed) }
             ensures refused { IfErr result (λ back. back ≡ journal) }
-        { relay_in(scope, rt, alloc, journal, plan, posts, word) },
+        {
+            relay_in(
+                scope, rt, alloc, journal, plan, posts, seats, line_end, word,
+            )
+        },
     )
 }
 
@@ -132,29 +184,40 @@ fn relay_in<
     journal: Journal<D>,
     plan: &'s Plan,
     posts: Vec<Post<L, T>>,
+    seats: Vec<Seat>,
+    line_end: LineEnd,
     word: &'a OnceLock<bool>,
 ) -> Result<Relayed<D, L, T>, Journal<D>>
-    requires count { (1 ≤ length posts.items) × (length posts.items ≤ 256) }
-    ensures done { IfOk result (λ relayed. IsRelayed D.state L.heard L.sent T.told T.endless plan.now journal posts.items relayed) }
+    requires each { length seats.items ≡ length posts.items }
+    requires seats { AllByRecursion (IsSeatOf line_end.of (names_of line_end.lines)) seats.items }
+    requires new { line_end ≡ record line_end { taken = []; lines = new_tellers 0 (names_of line_end.lines) } }
+    ensures done { IfOk result (λ relayed. IsRelayed D.state L.heard L.sent T.told T.endless plan.now journal line_end (zip posts.items seats.items) relayed) }
     ensures refused { IfErr result (λ back. back ≡ journal) }
 {
     let window = journal.params().window;
-    let workers = posts.len() as u16;
-    let Ok((seats, line_end)) = make(alloc, workers, workers) else {
-        return Err(journal);
-    };
     let Ok(threads) = Vec::with_capacity(alloc, posts.len()) else {
+        call_off(rt, line_end, word);
         return Err(journal);
     };
     let Ok(ended) = Vec::with_capacity(alloc, posts.len()) else {
+        call_off(rt, line_end, word);
         return Err(journal);
     };
     let flusher = match Flusher::new(alloc, journal, line_end) {
         Ok(flusher) => flusher,
-        Err((journal, _)) => return Err(journal),
+        Err((journal, line_end)) => {
+            call_off(rt, line_end, word);
+            return Err(journal);
+        }
     };
     let threads = start_all(scope, rt, alloc, plan, window, posts, seats, word, threads);
     Ok(serve_to_end(rt, flusher, threads, word, ended))
+}
+
+/// Nothing is started: who has a seat of these lines is answered no more, and who waits for the word has it.
+fn call_off<R: Wait>(rt: &R, line_end: LineEnd, word: &OnceLock<bool>) {
+    let _closed = line_end.close(rt);
+    let _said = tell_workers(rt, word, true);
 }
 
 /// Starts the thread of each worker for which there is one, and puts them into an empty list with room for them.
@@ -182,7 +245,7 @@ fn start_all<'s, 'a: 's, E, R: Wait + Sync, L: Link + Drop + Send + 's, T: Turn 
 }
 
 /// Serves the calls of these workers until the flusher has ended, says to the workers whether they are to end, and waits until
-/// they have.
+/// they have. Where one of them has no thread the others are to end at once.
 fn serve_to_end<'a, R: Threads + Wait, D: Disk + Drop, L: Link + Drop, T: Turn + Drop>(
     rt: &R,
     flusher: Flusher<D>,
@@ -196,21 +259,46 @@ fn serve_to_end<'a, R: Threads + Wait, D: Disk + Drop, L: Link + Drop, T: Turn +
     ensures broken { result.finished.broken ≡ result.finished.journal.broken }
     ensures served { IsServed D.state flusher result.finished.last.value }
     ensures left { result.finished.last.value.journal ≡ result.finished.journal }
-    ensures joined { AllZip (GivesBack (IsJoined L.heard L.sent T.told T.endless result.finished.broken result.finished.lines)) threads.entry.items result.ended.items }
+    ensures closed { IsLeftBy result.finished.last.value.line result.finished.lines }
+    ensures joined { AllZip (GivesBack (IsJoined L.heard L.sent T.told T.endless result.is_cut result.finished.lines)) threads.entry.items result.ended.items }
     ensures answered { AreAnsweredBy result.finished.last.value.line result.ended.items }
-    ensures told { result.is_cut ≡ result.finished.broken }
+    ensures told { result.is_cut ≡ is_to_end result.finished.broken result.ended.items }
     ensures complete { result.complete ≡ list_all has_run_out result.ended.items }
 {
     let mut flusher = flusher;
     forget_missing(&mut flusher, &threads);
-    let mut finished = flusher.serve(rt);
-    let said = tell_workers(rt, word, finished.broken);
+    let (mut finished, said) = serve_and_tell(rt, flusher, word, have_started(&threads));
     let ended = join_all(rt, threads, &said, &mut finished.lines, empty);
     Relayed {
         complete: have_run_out(&ended),
         is_cut: *word.value(&said),
         finished,
         ended,
+    }
+}
+
+/// Serves until the flusher has ended, and says to the workers whether they are to end: once the journal broke, or at once where
+/// not all of them are there.
+fn serve_and_tell<'a, R: Wait, D: Disk + Drop>(
+    rt: &R,
+    flusher: Flusher<D>,
+    word: &'a OnceLock<bool>,
+    are_all: bool,
+) -> (Finished<D>, OnceToken<'a, bool>)
+    ensures broken { result.0.broken ≡ result.0.journal.broken }
+    ensures journal { result.0.last.value.journal ≡ result.0.journal }
+    ensures ends { IsServed D.state flusher result.0.last.value }
+    ensures closed { IsLeftBy result.0.last.value.line result.0.lines }
+    ensures of { result.1.of ≡ word.now.id }
+    ensures said { result.1.value ≡ (result.0.broken || not are_all) }
+{
+    if are_all {
+        let finished = flusher.serve(rt);
+        let said = tell_workers(rt, word, finished.broken);
+        (finished, said)
+    } else {
+        let said = tell_workers(rt, word, true);
+        (flusher.serve(rt), said)
     }
 }
 
@@ -226,6 +314,13 @@ fn forget_missing<'a, D: Disk + Drop, L: Link + Drop, T: Turn + Drop>(
             flusher.forget(1);
         }
     }
+}
+
+/// Whether each of these workers has a thread.
+fn have_started<'a, L: Link + Drop, T: Turn + Drop>(threads: &[Thread<'a, L, T>]) -> bool
+    ensures { result ≡ list_all is_some threads.now }
+{
+    threads.iter().all(Option::is_some)
 }
 
 /// What the thread of a worker gives back: the worker's post, once it did there and at its seat what the plan says of it, and what

@@ -16,7 +16,7 @@ use std::sync::Wait;
 
 /// What was asked of a seat together, and what became of it. It takes no memory.
 #[derive(Drop)]
-pub(crate) enum Said {
+pub enum Said {
     /// An ask alone.
     One(Snapshot<Ask>, Snapshot<Result<Answer, CallError>>),
     /// Several, and their answers.
@@ -25,7 +25,7 @@ pub(crate) enum Said {
 
 /// A worker's seat. Its crate sees the seat, and what was asked of it.
 #[derive(Drop)]
-pub(crate) struct SeatDesk<W: Whose> {
+pub struct SeatDesk<W: Whose> {
     seat: Seat,
     said: Log<Said, ()>,
     whose: PhantomData<W>,
@@ -43,7 +43,7 @@ impl<W: Whose> Model for SeatDesk<W> {
 
 impl<W: Whose> SeatDesk<W> {
     /// A worker's seat, of which nothing was asked yet.
-    pub(crate) fn new(seat: Seat) -> SeatDesk<W>
+    pub fn new(seat: Seat) -> SeatDesk<W>
         requires { W.seat ≡ Some seat }
         ensures { result ≡ record { seat = seat; asked = [] } }
     {
@@ -55,7 +55,7 @@ impl<W: Whose> SeatDesk<W> {
     }
 
     /// Gives the seat up.
-    pub(crate) fn leave<R: Wait>(self, rt: &R) -> LeftSeat
+    pub fn leave<R: Wait>(self, rt: &R) -> LeftSeat
         ensures { IfSome W.seat (λ first. HasPut first self.asked result) }
     {
         let SeatDesk {

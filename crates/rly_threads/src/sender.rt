@@ -4,7 +4,8 @@ ghost use Rattle.std.specs.Option.{option_map};
 ghost use Rattle.rly_hop.specs.Payloads.{message_bytes, out_action_bytes, out_event_bytes};
 ghost use Rattle.rly_hop.specs.Sending.{sending_step};
 ghost use Rattle.rly_threads.specs.Ends.{TellsMore};
-ghost use Rattle.rly_threads.specs.Outlet.{call_at, call_count, calls_from, error_event, event_in, is_progress, named_ask, outlet, outlet_done, outlet_events, outlet_on_action, outlet_on_calls, outlet_on_hearing, outlet_packets, paced, pacing, picks_after, timed};
+ghost use Rattle.rly_plan.specs.ContactPlan.{is_open};
+ghost use Rattle.rly_threads.specs.Outlet.{call_at, call_count, calls_from, error_event, event_in, is_progress, named_ask, outlet, outlet_done, outlet_events, outlet_on_action, outlet_on_calls, outlet_on_hearing, outlet_packets, paced, pacing, picks_after, picks_beside, timed, waits_first};
 ghost use Rattle.rly_threads.specs.Relay.{HasSent};
 ghost use Rattle.rly_threads.specs.HelpersTurns.{Did, HasHeard, HasNumbers, HasTold, IsCall, IsIdle, call_event};
 ghost use Rattle.rly_threads.specs.Turns.{Given, Made, has_some};
@@ -116,7 +117,7 @@ struct Outlet<'a> {
 }
 
 impl<'a> Outlet<'a> {
-    /// One turn, after its start. Where the turn before moved something, no receive waits.
+    /// One turn, after its start.
     fn turn<R: Wait, L: Link, K: Desk, T: Turn>(
         &mut self,
         rt: &R,
@@ -139,13 +140,20 @@ impl<'a> Outlet<'a> {
         self.act(rt, go.now, action, calls, ends);
     }
 
-    /// Gives the core what its link has, 64 packets at most. The first is waited for unless the turn before moved something.
+    /// Whether a turn waits for its first packet: the one before moved nothing, or nothing is left to do but to hear.
+    fn waits_first(&self) -> bool
+        ensures { result ≡ waits_first self.now.moved self.now.core }
+    {
+        !self.moved || self.core.can_only_hear()
+    }
+
+    /// Gives the core what its link has, 64 packets at most.
     fn gather<L: Link, K: Desk, T: Turn>(&mut self, ends: &mut Ends<L, K, T>)
         ensures same { self.new ≡ record self.old { core = self.new.core } }
-        ensures heard { (packets : List (List ℕ)) × HasHeard (not self.old.moved) ends.old ends.new self.old.core self.new.core packets }
+        ensures heard { (packets : List (List ℕ)) × HasHeard (waits_first self.old.moved self.old.core) ends.old ends.new self.old.core self.new.core packets }
     {
         let mut buffer = [0; MAX_PACKET];
-        let mut waits = !self.moved;
+        let mut waits = self.waits_first();
         for _place in 0..MAX_PACKETS {
             let found = ends.receive(waits, &mut buffer);
             let Some(count) = found else {
@@ -204,7 +212,7 @@ impl<'a> Outlet<'a> {
         let Some(action) = action else {
             return;
         };
-        let count = self.count(action, calls.most);
+        let count = self.count(now, action, calls.most);
         if count > 1 {
             self.ask_all(rt, now, action, count, calls, ends);
         } else if count > 0 {
@@ -213,15 +221,28 @@ impl<'a> Outlet<'a> {
     }
 
     /// How many calls are made together where the core names this one.
-    fn count(&self, action: OutAction<&[u8]>, most: u64) -> u64
-        ensures count { result ≡ call_count most (pacing self.now.core self.now.moved self.now.mark self.now.picks) (out_action_bytes action.entry) }
+    fn count(&self, now: u64, action: OutAction<&[u8]>, most: u64) -> u64
+        ensures count { result ≡ call_count most (is_open self.now.plan.now self.now.hop now) (pacing self.now.core self.now.moved self.now.mark self.now.picks) (out_action_bytes action.entry) }
         ensures numbers { HasNumbers (out_action_bytes action.entry) result }
     {
         match action {
-            OutAction::AskWindow | OutAction::Release(_) => 1,
+            OutAction::AskWindow => 1,
+            OutAction::Release(number) => most.min(
+                self.picks_beside(now, number).saturating_add(1),
+            ),
             OutAction::Fetch(number) => most.min(self.core.next().saturating_sub(number)),
             OutAction::Pick => most.min(self.picks).min(self.core.room()),
             OutAction::Send(_) => 0,
+        }
+    }
+
+    /// How many Picks go with the release of all up to this number.
+    fn picks_beside(&self, now: u64, number: u64) -> u64
+        ensures { result ≡ picks_beside (is_open self.now.plan.now self.now.hop now) (pacing self.now.core self.now.moved self.now.mark self.now.picks) number }
+    {
+        match self.plan.is_open(self.hop, now) {
+            true => self.picks.min(self.core.room_after(number)),
+            false => 0,
         }
     }
 
@@ -381,13 +402,15 @@ impl<'a> Outlet<'a> {
     }
 }
 
-/// The call at a place of those that are made together: the Fetch of a later number, or the same call again.
+/// The call at a place of those that are made together: the Fetch of a later number, a Pick after a Release, or the same call
+/// again.
 fn call_at<'a>(first: OutAction<&'a [u8]>, place: u64) -> OutAction<&'a [u8]>
     requires { HasNumbers (out_action_bytes first) place }
     ensures { out_action_bytes result ≡ call_at (out_action_bytes first.entry) place }
 {
     match first {
         OutAction::Fetch(number) => OutAction::Fetch(number + place),
+        OutAction::Release(_) if place > 0 => OutAction::Pick,
         other => other,
     }
 }

@@ -26,7 +26,7 @@ use Rattle.rly_world.specs.PairCores.{sender_event, sender_sends, take_answer}
 use Rattle.rly_world.specs.PairEnd.{Asked, End, Replied, with_asked, with_crash, with_made}
 use Rattle.rly_world.specs.PairEnd.{with_other, with_told}
 use Rattle.rly_world.specs.PairPayloads.{Numbered}
-use Rattle.rly_world.specs.PairWorld.{IsPair, PairEvent, PairSetup, PairWorld, Turns, Timeout, FetchesAhead, UpperHears}
+use Rattle.rly_world.specs.PairWorld.{IsPair, PairEvent, PairSetup, PairWorld, Turns, Timeout, FetchesAhead, PicksAhead, UpperHears}
 use Rattle.rly_world.specs.PairWorld.{LowerHears, UpperMakes, LowerMakes, UpperAnswers, LowerAnswers, UpperServes}
 use Rattle.rly_world.specs.PairWorld.{LowerServes, UpperCrashes, LowerCrashes, lower_answers, lower_hears}
 use Rattle.rly_world.specs.PairWorld.{new_receivers, new_sender, pair_after, pair_start, pair_step, receiver_answered}
@@ -362,6 +362,19 @@ step_holds w (FetchesAhead number) h = record {
     acked = h.upper.acked;
     asked = all_append (λ (c : Asked). IsSafeAsk w.setup.hop (kept_in w) c.ask) w.upper.asked _ h.upper.asked
         (refl, tt);
+    replied = h.upper.replied;
+    released = h.upper.released;
+  };
+  lower = h.lower;
+  packets = h.packets;
+}
+step_holds w (PicksAhead moment) h = record {
+  upper = record {
+    there = h.upper.there;
+    told = h.upper.told;
+    acked = h.upper.acked;
+    asked = all_append (λ (c : Asked). IsSafeAsk w.setup.hop (kept_in w) c.ask) w.upper.asked _ h.upper.asked
+        (tt, tt);
     replied = h.upper.replied;
     released = h.upper.released;
   };

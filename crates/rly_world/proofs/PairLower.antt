@@ -374,7 +374,7 @@ lower_made peer given e receivers outcome (call ∷ calls) is low =
     ∙ append_assoc (map shown e.replied) (call ∷ []) calls
     ∙ ap (λ (l : List Asked). map shown e.replied ++ l) (sym is) in
     let same = kept_called peer e call.ask outcome low.told in
-    either (may_go e outcome)
+    either (may_go e call.ask outcome)
     (record (after_call e call.ask outcome) { asked = calls; replied = e.replied ++ due ∷ [] }) e
     (GoesOn peer given receivers (kept_by peer e)) (
       record {
@@ -464,7 +464,7 @@ lower_served peer given e receivers an outcome is_answered other low =
     let after : End = after_call e an outcome in
     let called = lower_called peer given e receivers an outcome (others_take peer given an other) low in
     let same = kept_called peer e an outcome low.told in
-    either (may_go e outcome)
+    either (may_go e an outcome)
     (if is_answered then with_told after (reply_by outcome (reply_at e an)) (length after.accepted) else after) e
     (GoesOn peer given receivers (kept_by peer e))
     (either is_answered (with_told after (reply_by outcome (reply_at e an)) (length after.accepted)) after

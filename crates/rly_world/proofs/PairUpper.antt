@@ -296,7 +296,7 @@ upper_made hop kept e s outcome (call ∷ calls) is up =
     } in
     let told = due_safe hop e call.ask outcome
     (machine_told hop kept e.params e.accepted call.ask up.there asked.0) in
-    either (may_go e outcome)
+    either (may_go e call.ask outcome)
     (record (after_call e call.ask outcome) { asked = calls; replied = e.replied ++ due ∷ [] }) e
     (GoesOn hop kept s (given_by hop e)) (
       record {
@@ -376,7 +376,7 @@ upper_served hop kept e s an outcome is_answered other up =
     let after : End = after_call e an outcome in
     let called = upper_called hop kept e s an outcome (others_release hop kept an other) up in
     let same = given_called hop e an outcome up.told in
-    either (may_go e outcome)
+    either (may_go e an outcome)
     (if is_answered then with_told after (reply_by outcome (reply_at e an)) (length after.accepted) else after) e
     (GoesOn hop kept s (given_by hop e))
     (either is_answered (with_told after (reply_by outcome (reply_at e an)) (length after.accepted)) after

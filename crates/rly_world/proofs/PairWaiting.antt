@@ -23,7 +23,7 @@ use Rattle.rly_world.specs.PairEnd.{Asked, End, Outcome, Replied, after_call, ma
 use Rattle.rly_world.specs.PairEnd.{told_by, with_asked, with_crash, with_made, with_other, with_told}
 use Rattle.rly_world.specs.PairWaiting.{is_early, waiting_after, waiting_count, waiting_step}
 use Rattle.rly_world.specs.PairWorld.{PairEvent, PairSetup, PairWorld, pair_after, pair_start, pair_step}
-use Rattle.rly_world.specs.PairWorld.{Turns, Timeout, FetchesAhead, UpperHears, LowerHears, UpperMakes, LowerMakes}
+use Rattle.rly_world.specs.PairWorld.{Turns, Timeout, FetchesAhead, PicksAhead, UpperHears, LowerHears, UpperMakes, LowerMakes}
 use Rattle.rly_world.specs.PairWorld.{UpperAnswers, LowerAnswers, UpperServes, LowerServes, UpperCrashes, LowerCrashes}
 use Rattle.rly_world.specs.PairWorld.{lower_answers, lower_hears, receiver_answered, new_receivers, new_sender}
 use Rattle.rly_world.specs.PairWorld.{upper_answers, upper_hears, with_receiver, with_sender}
@@ -104,7 +104,7 @@ made_waits e outcome (call ∷ calls) is =
       reply = reply_by outcome (reply_at e call.ask);
       position = told_by outcome (length after.accepted);
     } in
-    either (may_go e outcome) (record after { asked = calls; replied = e.replied ++ due ∷ [] }) e
+    either (may_go e call.ask outcome) (record after { asked = calls; replied = e.replied ++ due ∷ [] }) e
     (λ x. waiting_count x ≡ waiting_count e)
     (omega (arith, length-append e.replied (due ∷ []), ap length is)) refl
 
@@ -113,7 +113,7 @@ other_waits : (e : End) (ask : Ask) (outcome : Outcome) (is_answered : Bool)
 other_waits e ask outcome is_answered =
     let after : End = after_call e ask outcome in
     let told : End = with_told after (reply_by outcome (reply_at e ask)) (length after.accepted) in
-    either (may_go e outcome) (if is_answered then told else after) e (λ x. waiting_count x ≡ waiting_count e)
+    either (may_go e ask outcome) (if is_answered then told else after) e (λ x. waiting_count x ≡ waiting_count e)
     (either is_answered told after (λ x. waiting_count x ≡ waiting_count e) refl refl) refl
 
 upper_hears_alone : (w : PairWorld) (m : Option (Message (List ℕ))) → waiting_count w.upper ≡ 0 → Alone w
@@ -181,6 +181,9 @@ step_alone w (FetchesAhead number) h =
       );
       lower = h.lower;
     }) h
+step_alone w (PicksAhead moment) h =
+    if_in_time w (pair_step w (PicksAhead moment)) (waiting_count w.upper)
+    (λ none. record { upper = omega (arith, none, more_wait w.upper 0 (sender_asks w.setup.hop moment (Some out_action.Pick))); lower = h.lower }) h
 step_alone w (UpperHears packet) h =
     if_in_time w (pair_step w (UpperHears packet)) (waiting_count w.upper)
     (λ none. upper_hears_alone w (slice_get w.packets packet) none h) h

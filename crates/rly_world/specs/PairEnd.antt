@@ -1,14 +1,17 @@
 -- One end of a link: what its relay accepted and told, and the calls of its cores that wait for their answers.
-use Rattle.std.specs.Prelude.{ℕ, nat_le, max, Bool, true, false, if◌then◌else◌, List, [], ◌∷◌, ◌++◌, length, map, take}
+use Rattle.std.specs.Prelude.{ℕ, ◌&&◌, nat_le, nat_lt, max, Bool, true, false, if◌then◌else◌}
+use Rattle.std.specs.Prelude.{List, [], ◌∷◌, ◌++◌, length, map, take}
 use Rattle.rly_core.specs.declared.params.Params.{Params}
 use Rattle.rly_core.specs.declared.refusal.Refusal.TheVariants as refusal
 use Rattle.rly_machine.specs.declared.command.Ask.{Ask}
+use Rattle.rly_machine.specs.declared.command.Ask.TheVariants as ask
 use Rattle.rly_machine.specs.declared.command.Command.{Command}
 use Rattle.rly_machine.specs.declared.reply.Reply.{Reply}
-use Rattle.rly_machine.specs.declared.reply.Reply.TheVariants.{Refused}
+use Rattle.rly_machine.specs.declared.reply.Reply.TheVariants.{Bytes, Refused}
 use Rattle.rly_machine.specs.Ask.{ask_step}
 use Rattle.rly_machine.specs.Fold.{fold}
 use Rattle.rly_machine.specs.History.{accepted_by, is_failure}
+use Rattle.rly_machine.specs.Query.{query_reply}
 use Rattle.rly_machine.specs.State.{State, new_state}
 
 -- a call that waits to be made, and the place of the core that asked it
@@ -43,7 +46,8 @@ pub data Outcome : Type 0 where
   Done : Outcome
   -- the device fails: it is answered 12, and its command stands or not
   Unsure : (stands : Bool) → Outcome
-  -- the journal is broken, a read fails, or memory is refused: it is answered 11, 13 or 14, and isn't made
+  -- the journal is broken, a read fails, or memory is refused to an ask that may want it: it is answered 11, 13 or 14, and
+  -- isn't made
   Broken : Outcome
   DeviceRead : Outcome
   OutOfMemory : Outcome
@@ -80,10 +84,6 @@ told_by Broken count = 0
 told_by DeviceRead count = 0
 told_by OutOfMemory count = 0
 
--- whether a call may go so: a device that failed never works again before the next crash
-abbrev pub may_go : End → Outcome → Bool
-may_go e outcome = nat_le e.harm (harm_by outcome)
-
 -- the state of its machine
 abbrev pub state_of : End → State (List ℕ)
 state_of e = fold length (new_state e.params) e.accepted
@@ -91,6 +91,29 @@ state_of e = fold length (new_state e.params) e.accepted
 -- the machine's reply to an ask
 abbrev pub reply_at : End → Ask → Reply
 reply_at e ask = (ask_step (state_of e) ask).1
+
+-- whether a reply carries bytes
+abbrev pub carries_bytes : Reply → Bool
+carries_bytes (Bytes payload) = nat_lt 0 (length payload)
+carries_bytes _ = false
+
+-- whether memory may be refused to an ask: to a command, before which a segment may be due, and to a Fetch of a payload
+-- that has bytes
+abbrev pub may_want : State (List ℕ) → Ask → Bool
+may_want s (ask.Command command) = true
+may_want s (ask.Query query) = carries_bytes (query_reply s query)
+
+-- memory is refused only there
+abbrev pub is_wanted : State (List ℕ) → Ask → Outcome → Bool
+is_wanted s ask Done = true
+is_wanted s ask (Unsure stands) = true
+is_wanted s ask Broken = true
+is_wanted s ask DeviceRead = true
+is_wanted s ask OutOfMemory = may_want s ask
+
+-- whether a call may go so: a device that failed never works again before the next crash
+abbrev pub may_go : End → Ask → Outcome → Bool
+may_go e ask outcome = nat_le e.harm (harm_by outcome) && is_wanted (state_of e) ask outcome
 
 -- the commands that are accepted once a call went so
 abbrev pub accepted_after : End → Ask → Outcome → List (Command (List ℕ))
@@ -114,7 +137,7 @@ with_made e outcome [] = e
 with_made e outcome (call ∷ calls) =
     let reply = reply_by outcome (reply_at e call.ask) in
     let after = after_call e call.ask outcome in
-    if may_go e outcome
+    if may_go e call.ask outcome
     then record after {
       asked = calls;
       replied = e.replied ++ (record {
@@ -129,7 +152,7 @@ with_made e outcome (call ∷ calls) =
 abbrev pub with_other : End → Ask → Outcome → Bool → End
 with_other e ask outcome is_answered =
     let after = after_call e ask outcome in
-    if may_go e outcome
+    if may_go e ask outcome
     then if is_answered then with_told after (reply_by outcome (reply_at e ask)) (length after.accepted) else after
     else e
 

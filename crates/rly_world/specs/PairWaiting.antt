@@ -1,7 +1,7 @@
 -- Two relays whose workers wait for each answer: a core gets no other event while a call of its end waits.
 use Rattle.std.specs.Prelude.{ℕ, ◌+◌, nat_lt, Bool, false, if◌then◌else◌, List, [], ◌∷◌, length}
 use Rattle.rly_world.specs.PairEnd.{End}
-use Rattle.rly_world.specs.PairWorld.{PairEvent, PairWorld, pair_step, Turns, Timeout, FetchesAhead, UpperHears}
+use Rattle.rly_world.specs.PairWorld.{PairEvent, PairWorld, pair_step, Turns, Timeout, FetchesAhead, PicksAhead, UpperHears}
 use Rattle.rly_world.specs.PairWorld.{LowerHears, UpperMakes, LowerMakes, UpperAnswers, LowerAnswers}
 use Rattle.rly_world.specs.PairWorld.{UpperServes, LowerServes, UpperCrashes, LowerCrashes}
 
@@ -14,6 +14,7 @@ abbrev pub is_early : PairWorld → PairEvent → Bool
 is_early w (Turns is_open moment) = nat_lt 0 (waiting_count w.upper)
 is_early w Timeout = nat_lt 0 (waiting_count w.upper)
 is_early w (FetchesAhead number) = nat_lt 0 (waiting_count w.upper)
+is_early w (PicksAhead moment) = nat_lt 0 (waiting_count w.upper)
 is_early w (UpperHears packet) = nat_lt 0 (waiting_count w.upper)
 is_early w (LowerHears packet core hop stamp) = nat_lt 0 (waiting_count w.lower)
 is_early w (UpperMakes outcome) = false

@@ -14,7 +14,8 @@ use Rattle.rly_hop.specs.Receiving.{ReceivingResult, receiver, receiving_step}
 use Rattle.rly_hop.specs.Sender.{Sender}
 use Rattle.rly_hop.specs.Sending.{SendingResult, sender, sending_step}
 use Rattle.rly_machine.specs.declared.command.Ask.{Ask}
-use Rattle.rly_machine.specs.declared.command.Ask.TheVariants.{Query}
+use Rattle.rly_machine.specs.declared.command.Ask.TheVariants.{Command, Query}
+use Rattle.rly_machine.specs.declared.command.Command.TheVariants as command
 use Rattle.rly_machine.specs.declared.command.Query.TheVariants as query
 use Rattle.rly_machine.specs.State.{has_hop, has_peer, hop_at, new_state}
 use Rattle.rly_world.specs.PairCores.{is_for_receiver, is_for_sender, receiver_asks, receiver_sends}
@@ -77,6 +78,9 @@ pub data PairEvent : Type 0 where
   Timeout : PairEvent
   -- a payload that the sending core hasn't asked for yet is fetched for it, as where a window is asked for at once
   FetchesAhead : (number : ℕ) → PairEvent
+  -- a datagram is picked for the sending core before it asks for one, at this moment of the hop's link clock, as where Picks are
+  -- asked together, and beside a Release
+  PicksAhead : (moment : ℕ) → PairEvent
   -- the packet at this place arrives at the upper; or at the lower, where it is given to this core, which takes it for
   -- this hop with this stamp
   UpperHears : (packet : ℕ) → PairEvent
@@ -144,13 +148,15 @@ lower_answers w is_sent (r ∷ rest) =
     r.call.core is_sent r (slice_get w.receivers r.call.core)
 
 -- what an event makes of two relays. One that has no place changes nothing: where nothing waits, where a packet was
--- never sent, where a device that failed would work, where a crash would take what was told, or where another caller
--- would make a core's call.
+-- never sent, where a device that failed would work, where memory would be refused that isn't wanted, where a crash would
+-- take what was told, or where another caller would make a core's call.
 abbrev pub pair_step : PairWorld → PairEvent → PairWorld
 pair_step w (Turns is_open moment) = with_sender w moment true (sending_step w.sender (out_event.Turn is_open))
 pair_step w Timeout = with_sender w 0 true (sending_step w.sender out_event.Timeout)
 pair_step w (FetchesAhead number) =
     record w { upper = with_asked w.upper 0 (Query (query.Fetch w.setup.hop number) ∷ []) }
+pair_step w (PicksAhead moment) =
+    record w { upper = with_asked w.upper 0 (Command (command.Pick w.setup.hop moment) ∷ []) }
 pair_step w (UpperHears packet) = upper_hears w (slice_get w.packets packet)
 pair_step w (LowerHears packet core hop stamp) =
     lower_hears w core hop stamp (slice_get w.receivers core) (slice_get w.packets packet)

@@ -12,7 +12,7 @@ use Rattle.rly_machine.specs.declared.command.Ask.{Ask}
 use Rattle.rly_machine.specs.History.{accepted_of, is_failure, state_after}
 use Rattle.rly_machine.specs.State.{State}
 use Rattle.rly_journal.specs.Journal.{holds_command}
-use Rattle.rly_journal.specs.Rounds.{AreServed, refusals}
+use Rattle.rly_journal.specs.Rounds.{AreServed, IsRefusedWhereWanted, refusals}
 use Rattle.rly_journal.specs.Standing.{Commands, IsStanding, Standing, Stands}
 use Rattle.rly_world.specs.RelayPhases.{IsDueIn, IsNeeded, MayOpen, MaySync, MayWrite, bytes_of, place_of}
 use Rattle.rly_world.specs.RelayWorld.{Answering, Batch, Body, Device, Gate, Head, IsImageOf, Phase, Ready, Round, Seal}
@@ -40,7 +40,7 @@ pub data Event : Type 0 where
   Crash : (image : List ℕ) → Event
   -- it is opened, and finds this state
   Opening : (s : State (List ℕ)) → Event
-  -- an opening fails: at its sync, or at a later call or for memory
+  -- an opening fails: at its sync; or at a later call or for memory, which each of these devices wants (`HasNewestHead`)
   FailedOpening : (synced : Bool) → Event
 
 -- ---- seats
@@ -235,12 +235,13 @@ MayTake None (batch ∷ line) (Some round) = round.stage ≡ Taking
 abbrev pub IsDueFor : World → List Call → Type 0
 IsDueFor w calls = (holds_command calls ≡ true) × IsDueIn w.device.synced
 
--- the calls are answered one after the other by the machine, or refused memory; all of them are refused memory where it
--- was refused for the segment that is due
+-- the calls are answered one after the other by the machine, or refused memory where they may want it; all of them are
+-- refused memory where it was refused for the segment that is due
 pub record AreEvaluated (w : World) (calls : List Call) (given : List Answer) : Type 0 where
   pub served : AreServed calls given (state_from w.params w.accepted)
       (state_after (state_from w.params w.accepted) (zip calls given))
   pub due : IsDueFor w calls → given ≡ refusals OutOfMemory w.position calls
+  pub wanted : (IsDueFor w calls → ⊥) → IsRefusedWhereWanted (state_from w.params w.accepted) (zip calls given)
 
 abbrev pub IsEvaluated : Bool → World → List Call → List Answer → Type 0
 IsEvaluated true w calls given = given ≡ refusals Broken w.position calls

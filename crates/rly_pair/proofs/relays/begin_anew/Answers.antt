@@ -1,5 +1,4 @@
-use Rattle.std.proofs.Common.{◌≡◌, ◌++◌, List, arith, drop, length, map, sym, ◌∙◌, ap, take}
-use Rattle.std.proofs.Math.Seq.{take-length}
+use Rattle.std.proofs.Common.{arith, ◌∙◌}
 use Rattle.rly_hop.specs.Receiver.{Receiver}
 use Rattle.rly_hop.specs.Receiving.{receiver}
 use Rattle.rly_journal.proofs.Serving.{mark_next}

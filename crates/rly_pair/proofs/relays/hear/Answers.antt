@@ -1,4 +1,4 @@
-use Rattle.std.proofs.Common.{◌≡◌, ℕ, List, Some, sym, ◌∙◌, ap, Bor}
+use Rattle.std.proofs.Common.{ℕ, List, Some, sym, ◌∙◌, ap, Bor}
 use Rattle.rly_hop.specs.declared.message.Message.{Message}
 use Rattle.rly_hop.specs.declared.receiving.event.InAction.{InAction}
 use Rattle.rly_hop.specs.Payloads.{in_action_bytes}

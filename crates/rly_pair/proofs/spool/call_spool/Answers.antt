@@ -1,4 +1,4 @@
-use Rattle.std.proofs.Common.{◌≡◌, ◌∙◌, ap, Option, Some, sym, subst, refl}
+use Rattle.std.proofs.Common.{◌∙◌, ap, Option, Some, sym, subst, refl}
 use Rattle.std.specs.Prelude.{IfOk}
 use Rattle.std.proofs.lemmas.Result.{IfOk-weaker}
 use Rattle.rly_pair.specs.HelpersStation.{IsSpoolCalled}

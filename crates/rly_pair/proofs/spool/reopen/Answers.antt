@@ -1,4 +1,4 @@
-use Rattle.std.proofs.Common.{◌≡◌, List, ℕ, subst}
+use Rattle.std.proofs.Common.{subst}
 use Rattle.rly_disk.specs.MemDisk.{mem_state}
 use Rattle.rly_disk.specs.declared.mem.MemDisk.{MemDisk}
 use Rattle.rly_pair.proofs.spool.reopen.Goals as goal

@@ -1,49 +1,51 @@
-use Rattle.std.proofs.Common.{◌≡◌, ◌∙◌, ◌⊎◌, List, Option, ap, length, rules, subst, sym, true, IfOk}
-use Rattle.rly_disk.specs.DiskModel.{HasFailed, Later}
-use Rattle.rly_journal.specs.Journal.{JournalState}
-use Rattle.rly_threads.specs.declared.relay.Relayed.{Relayed}
-use Rattle.std.specs.List.{AllZip}
-use Rattle.rly_threads.specs.HelpersCut.{IsRelayed}
-use Rattle.rly_threads.specs.Relay.{HaveEnded, seated}
+use Rattle.std.proofs.Common.{◌≡◌, ◌∙◌, List, Option, ap, length, rules, subst, sym, IfOk}
+use Rattle.std.specs.List.{AllByRecursion, AllZip, zip}
+use Rattle.rly_flush.specs.Flushing.{IsServed, new_flusher}
+use Rattle.rly_line.specs.EndViews.{names_of}
 use Rattle.rly_line.specs.Replies.{ReplyId}
+use Rattle.rly_line.specs.Responding.{IsSeatOf}
 use Rattle.rly_line.specs.Submission.{LineId}
-use Rattle.rly_line.proofs.Closing.{as_many_names}
-use Rattle.rly_line.proofs.Making.{names_again}
-use Rattle.rly_threads.proofs.Kept.{if_ok}
+use Rattle.rly_line.proofs.Closing.{as_many_names, seats_of}
+use Rattle.rly_line.proofs.Making.{callers_count, names_again}
+use Rattle.rly_threads.specs.Relay.{HaveEnded, new_end, seated}
+use Rattle.rly_threads.proofs.Kept.{if_both, if_ok}
 use Rattle.rly_threads.proofs.relay.run_relay.Goals as goal
 
--- what the closure requires, and after it that the links and the turns may be sent and the runtime shared
-pub scoped-requires : goal.scoped-requires
-scoped-requires g c = record { at = λ scope. (c.requires, (search rules, search rules, search rules)) }
+-- a seat for each worker
+pub run_relay_at-requires-clause-each : goal.run_relay_at-requires-clause-each
+run_relay_at-requires-clause-each g c κs within =
+    let workers : c.len-workers.result ≡ length c.args.posts.items = search rules in
+    ap length c.in-Ok.ensures.seats ∙ callers_count _ 0 _ ∙ as_many_names c.in-Ok.line_end.lines ∙ c.in-Ok.ensures.count ∙ workers
 
-pub returns : goal.returns
-returns g c =
-    let Is : Relayed g.row.D.Denot g.row.L.Denot g.row.T.Denot → Type 0 =
-    IsRelayed g.D.Disk.state g.L.Link.heard g.L.Link.sent g.T.Turn.told g.T.Turn.endless c.args.plan.now c.args.journal c.args.posts.items in
-    let done : IfOk c.scoped.result Is = c.scoped.ensures.1.0 in
-    record {
-      broken = if_ok {P = Is} c.scoped.result done (λ relayed is. is.broken);
-      broke =
-          if_ok {P = Is} c.scoped.result done
-          (λ relayed is yes.
-          subst (λ (j : JournalState g.row.D.Denot). (c.args.journal.broken ≡ true) ⊎ HasFailed (g.D.Disk.state c.args.journal.disk) (g.D.Disk.state j.disk)) is.left
-          (is.served.rounds.broke (ap (λ (j : JournalState g.row.D.Denot). j.broken) is.left ∙ sym is.broken ∙ yes)));
-      served = if_ok {P = Is} c.scoped.result done (λ relayed is. (is.line, is.names, is.count, is.served));
-      left = if_ok {P = Is} c.scoped.result done (λ relayed is. is.left);
-      worked =
-          if_ok {P = Is} c.scoped.result done
-          (λ relayed is.
-          subst (λ (y : LineId × List (Option ReplyId)). AllZip (HaveEnded g.L.Link.heard g.L.Link.sent g.T.Turn.told g.T.Turn.endless c.args.plan.now c.args.journal.state.params.window) (seated y.0 y.1 c.args.posts.items) relayed.ended.items)
-          (λ i. (sym is.served.rounds.of i, sym (is.served.rounds.names ∙ names_again 0 is.names) i)) is.worked);
-      seats =
-          if_ok {P = Is} c.scoped.result done
-          (λ relayed is. sym (as_many_names relayed.finished.last.value.line.lines) ∙ ap length (is.served.rounds.names ∙ names_again 0 is.names) ∙ is.count);
-      answered = if_ok {P = Is} c.scoped.result done (λ relayed is. is.answered);
-      told = if_ok {P = Is} c.scoped.result done (λ relayed is. is.told);
-      cut = if_ok {P = Is} c.scoped.result done (λ relayed is. is.cut);
-      complete = if_ok {P = Is} c.scoped.result done (λ relayed is. is.complete);
-      later =
-          if_ok {P = Is} c.scoped.result done
-          (λ relayed is. subst (λ (j : JournalState g.row.D.Denot). Later (g.D.Disk.state c.args.journal.disk) (g.D.Disk.state j.disk)) is.left is.served.rounds.later);
-      refused = c.scoped.ensures.1.1;
-    }
+-- of that line
+pub run_relay_at-requires-clause-seats : goal.run_relay_at-requires-clause-seats
+run_relay_at-requires-clause-seats g c κs within =
+    let names : List (Option ReplyId) = names_of c.in-Ok.line_end.lines in
+    subst (AllByRecursion (IsSeatOf c.in-Ok.line_end.of names)) (sym c.in-Ok.ensures.seats) (seats_of c.in-Ok.line_end.of names)
+
+-- its line is a new one with as many seats as there are workers
+pub returns-clause-served : goal.returns-clause-served
+returns-clause-served g c =
+    let count : c.len-workers.result ≡ length c.args.posts.items = search rules in
+    let names : List (Option ReplyId) = names_of c.in-Ok.line_end.lines in
+    let many : length names ≡ c.len-workers.result = as_many_names c.in-Ok.line_end.lines ∙ c.in-Ok.ensures.count in
+    let begun : c.in-Ok.line_end ≡ new_end c.in-Ok.line_end.of names =
+    c.in-Ok.ensures.end ∙ ap (λ capacity. record (new_end c.in-Ok.line_end.of names) { capacity = capacity }) (c.in-Ok.ensures.capacity ∙ sym many) in
+    if_ok c.run_relay_at.result c.run_relay_at.ensures.served
+    (λ relayed served. (c.in-Ok.line_end.of, names, many ∙ count, subst (λ end. IsServed g.D.Disk.state (new_flusher c.args.journal end) relayed.finished.last.value) begun served))
+
+-- and each worker had the seat of its place
+pub returns-clause-worked : goal.returns-clause-worked
+returns-clause-worked g c =
+    if_both c.run_relay_at.result c.run_relay_at.ensures.served c.run_relay_at.ensures.worked
+    (λ relayed served worked.
+    subst (λ (y : LineId × List (Option ReplyId)). AllZip (HaveEnded g.L.Link.heard g.L.Link.sent g.T.Turn.told g.T.Turn.endless c.args.plan.now c.args.journal.state.params.window) (seated y.0 y.1 c.args.posts.items) relayed.ended.items)
+    (λ i. (sym served.rounds.of i, sym served.rounds.names i))
+    (subst (λ given. AllZip (HaveEnded g.L.Link.heard g.L.Link.sent g.T.Turn.told g.T.Turn.endless c.args.plan.now c.args.journal.state.params.window) (zip c.args.posts.items given) relayed.ended.items)
+    c.in-Ok.ensures.seats worked))
+
+pub returns-clause-seats : goal.returns-clause-seats
+returns-clause-seats g c =
+    let count : c.len-workers.result ≡ length c.args.posts.items = search rules in
+    if_ok c.run_relay_at.result c.run_relay_at.ensures.served
+    (λ relayed served. sym (as_many_names relayed.finished.last.value.line.lines) ∙ ap length served.rounds.names ∙ as_many_names c.in-Ok.line_end.lines ∙ c.in-Ok.ensures.count ∙ count)

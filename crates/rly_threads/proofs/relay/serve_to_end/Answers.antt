@@ -1,34 +1,42 @@
-use Rattle.std.proofs.Common.{◌≡◌, ◌∙◌, Bool, IfSome, List, Option, subst, sym}
-use Rattle.std.specs.List.{AllByRecursion, AllZip}
+use Rattle.std.proofs.Common.{◌≡◌, ◌∙◌, ◌||◌, Bool, IfSome, List, Option, ap, not, subst, sym}
+use Rattle.std.specs.List.{AllByRecursion, AllZip, list_all}
+use Rattle.std.specs.Option.{is_some}
 use Rattle.rly_flush.specs.Flushing.{FlusherState, IsServed}
 use Rattle.rly_line.specs.EndViews.{ClosedView, names_of}
 use Rattle.rly_line.specs.Replies.{ReplyId}
 use Rattle.rly_line.specs.Submission.{LineId}
 use Rattle.rly_line.proofs.Closing.{same_names}
 use Rattle.rly_threads.specs.HelpersCut.{AreSeatsOf, GivesBack, IsJoined}
-use Rattle.rly_threads.proofs.Kept.{all_answered}
+use Rattle.rly_threads.proofs.Kept.{all_answered, all_there}
 use Rattle.rly_threads.proofs.relay.serve_to_end.Goals as goal
 
 pub join_all-ended-requires-clause-word : goal.join_all-ended-requires-clause-word
 join_all-ended-requires-clause-word g c =
     subst (λ lock. AllByRecursion (λ thread. IfSome thread (λ t. t.promise.word.value.id ≡ lock)) c.args.threads.items)
-    (sym c.tell_workers-said.ensures.of) c.requires.word
+    (sym c.serve_and_tell-finished.ensures.of) c.requires.word
 
 -- the seats are of the lines that the flusher closed
 pub join_all-ended-requires-clause-seats : goal.join_all-ended-requires-clause-seats
 join_all-ended-requires-clause-seats g c =
-    let served = subst (λ (f : FlusherState g.row.D.Denot). IsServed g.D.Disk.state f c.serve-finished.result.last.value) c.forget_missing.ensures c.serve-finished.ensures.ends in
-    let left = c.serve-finished.ensures.closed in
-    let of : c.args.flusher.line.of ≡ c.serve-finished.result.lines.of = sym (left.of ∙ served.rounds.of) in
-    let names : names_of c.args.flusher.line.lines ≡ names_of c.serve-finished.result.lines.lines = sym (same_names _ _ left.told ∙ served.rounds.names) in
+    let served = subst (λ (f : FlusherState g.row.D.Denot). IsServed g.D.Disk.state f c.serve_and_tell-finished.result.0.last.value) c.forget_missing.ensures c.serve_and_tell-finished.ensures.ends in
+    let left = c.serve_and_tell-finished.ensures.closed in
+    let of : c.args.flusher.line.of ≡ c.serve_and_tell-finished.result.0.lines.of = sym (left.of ∙ served.rounds.of) in
+    let names : names_of c.args.flusher.line.lines ≡ names_of c.serve_and_tell-finished.result.0.lines.lines = sym (same_names _ _ left.told ∙ served.rounds.names) in
     subst (λ (y : LineId × List (Option ReplyId)). AreSeatsOf y.0 y.1 c.args.threads.items) (λ i. (of i, names i)) c.requires.seats
 
 pub returns-clause-joined : goal.returns-clause-joined
 returns-clause-joined g c =
     subst (λ (y : Bool × ClosedView). AllZip (GivesBack (IsJoined g.L.Link.heard g.L.Link.sent g.T.Turn.told g.T.Turn.endless y.0 y.1)) c.args.threads.items c.join_all-ended.result.items)
-    (λ i. (c.tell_workers-said.ensures.value i, sym c.join_all-ended.ensures.same i)) c.join_all-ended.ensures.joined
+    (λ i. (sym c.value.ensures i, sym c.join_all-ended.ensures.same i)) c.join_all-ended.ensures.joined
 
 pub returns-clause-answered : goal.returns-clause-answered
 returns-clause-answered g c =
-    all_answered g.L.Link.heard g.L.Link.sent g.T.Turn.told g.T.Turn.endless _ _ c.serve-finished.result.last.value.line c.serve-finished.ensures.closed
-    c.serve-finished.ensures.ends.rounds.history.told _ _ c.join_all-ended.ensures.joined
+    all_answered g.L.Link.heard g.L.Link.sent g.T.Turn.told g.T.Turn.endless _ _ c.serve_and_tell-finished.result.0.last.value.line c.serve_and_tell-finished.ensures.closed
+    c.serve_and_tell-finished.ensures.ends.rounds.history.told _ _ c.join_all-ended.ensures.joined
+
+-- as many have ended as had a thread
+pub returns-clause-told : goal.returns-clause-told
+returns-clause-told g c =
+    let all : c.have_started.result ≡ list_all is_some c.join_all-ended.result.items =
+    c.have_started.ensures ∙ ap (list_all is_some) c.deref-2.ensures.value ∙ all_there _ _ _ c.join_all-ended.ensures.joined in
+    c.value.ensures ∙ c.serve_and_tell-finished.ensures.said ∙ ap (λ all. c.serve_and_tell-finished.result.0.broken || not all) all

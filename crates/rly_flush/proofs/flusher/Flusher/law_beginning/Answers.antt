@@ -3,7 +3,8 @@ use Rattle.rly_machine.specs.declared.call.Call.{Call}
 use Rattle.rly_line.specs.Responding.{Responding, calls_in}
 use Rattle.rly_line.specs.Submission.{IsBeginning}
 use Rattle.rly_flush.specs.HelpersFlushing.{IsFlushing}
-use Rattle.rly_flush.specs.Flushing.{FlusherState, kept_calls}
+use Rattle.rly_line.specs.Batches.{calls_put}
+use Rattle.rly_flush.specs.Flushing.{FlusherState}
 use Rattle.rly_flush.proofs.Answering.{shorter}
 use Rattle.rly_flush.proofs.flusher.Flusher.law_beginning.Goals as goal
 
@@ -17,5 +18,5 @@ invariant_of-self g c = (
 pub returns-clause-begins : goal.returns-clause-begins
 returns-clause-begins g c =
     subst (λ (f : FlusherState g.row.D.Denot). IsBeginning c.args.seat.seat.0 (calls_in f.line.history) c.args.seat.put) c.self.view_is
-    (shorter c.args.seat.seat.0 (calls_in c.self.inside.line.history) (kept_calls c.self.inside.kept) c.args.seat.put
+    (shorter c.args.seat.seat.0 (calls_in c.self.inside.line.history) (calls_put c.self.inside.kept) c.args.seat.put
     (subst (λ (l : List Call). IsBeginning c.args.seat.seat.0 l c.args.seat.put) (sym c.self.invariant.0.answered) c.law_beginning.ensures.begins))

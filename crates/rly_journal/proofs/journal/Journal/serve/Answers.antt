@@ -68,7 +68,7 @@ returns-then-is_empty-clause-trace g c =
     subst (λ j. MakesRound g.D.Disk.state j (record { disk = c.self.inside.disk; tail = c.self.inside.tail; state = c.answer_calls.new.machine.state; position = c.self.inside.position; broken = c.self.inside.broken }) c.args.calls.now.items c.args.answers.now.items c.answer_calls.new.answers.items) c.self.view_is
     (serve_made g.D.Disk.state (record { disk = c.self.inside.disk; tail = c.self.inside.tail; state = c.self.inside.machine.state; position = c.self.inside.position; broken = c.self.inside.broken })
     (record { disk = c.self.inside.disk; tail = c.self.inside.tail; state = c.answer_calls.new.machine.state; position = c.self.inside.position; broken = c.self.inside.broken }) c.args.calls.now.items answered.0 c.answer_calls.new.group answered.2 answered.3
-    (λ due. c.requires.ready (subst (λ j. IsDueFor j c.args.calls.now.items) c.self.view_is due))
+    (λ due. c.requires.ready (subst (λ j. IsDueFor j c.args.calls.now.items) c.self.view_is due)) answered.4
     (subst (λ b. Makes g.D.Disk.state (logging c.self.inside.tail.gate (accepted_of (zip c.args.calls.now.items answered.0))) (not b) c.self.inside.disk c.self.inside.disk) (sym whole) none) c.args.answers.now.items c.answer_calls.new.answers.items (λ _. answered.1))
 
 pub returns-in-Ok-clause-trace : goal.returns-in-Ok-clause-trace
@@ -80,7 +80,7 @@ returns-in-Ok-clause-trace g c =
     subst (λ j. MakesRound g.D.Disk.state j (record { disk = c.append.new.disk; tail = c.append.new.tail; state = c.answer_calls.new.machine.state; position = c.seq-self-inside.result; broken = c.self.inside.broken }) c.args.calls.now.items c.args.answers.now.items c.answer_calls.new.answers.items) c.self.view_is
     (serve_made g.D.Disk.state (record { disk = c.self.inside.disk; tail = c.self.inside.tail; state = c.self.inside.machine.state; position = c.self.inside.position; broken = c.self.inside.broken })
     (record { disk = c.append.new.disk; tail = c.append.new.tail; state = c.answer_calls.new.machine.state; position = c.seq-self-inside.result; broken = c.self.inside.broken }) c.args.calls.now.items answered.0 c.answer_calls.new.group answered.2 answered.3
-    (λ due. c.requires.ready (subst (λ j. IsDueFor j c.args.calls.now.items) c.self.view_is due))
+    (λ due. c.requires.ready (subst (λ j. IsDueFor j c.args.calls.now.items) c.self.view_is due)) answered.4
     (subst (λ b. Makes g.D.Disk.state (logging c.self.inside.tail.gate (accepted_of (zip c.args.calls.now.items answered.0))) (not b) c.self.inside.disk c.append.new.disk) (sym whole) made) c.args.answers.now.items c.answer_calls.new.answers.items (λ _. answered.1))
 
 pub returns-in-Err-clause-answers : goal.returns-in-Err-clause-answers
@@ -107,7 +107,7 @@ returns-in-Err-clause-trace g c =
     subst (λ j. MakesRound g.D.Disk.state j (record { disk = c.append.new.disk; tail = c.append.new.tail; state = c.answer_calls.new.machine.state; position = c.self.inside.position; broken = true }) c.args.calls.now.items c.args.answers.now.items c.make_unsure.new.answers.items) c.self.view_is
     (serve_made g.D.Disk.state (record { disk = c.self.inside.disk; tail = c.self.inside.tail; state = c.self.inside.machine.state; position = c.self.inside.position; broken = c.self.inside.broken })
     (record { disk = c.append.new.disk; tail = c.append.new.tail; state = c.answer_calls.new.machine.state; position = c.self.inside.position; broken = true }) c.args.calls.now.items answered.0 c.answer_calls.new.group answered.2 answered.3
-    (λ due. c.requires.ready (subst (λ j. IsDueFor j c.args.calls.now.items) c.self.view_is due)) made
+    (λ due. c.requires.ready (subst (λ j. IsDueFor j c.args.calls.now.items) c.self.view_is due)) answered.4 made
     c.args.answers.now.items c.make_unsure.new.answers.items (λ going. let e : true ≡ false = going in absurd cc))
 
 pub returns-then-is_empty-clause-wanted : goal.returns-then-is_empty-clause-wanted

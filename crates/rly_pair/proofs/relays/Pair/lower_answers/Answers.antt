@@ -1,4 +1,4 @@
-use Rattle.std.proofs.Common.{◌≡◌, ◌++◌, ℕ, List, Some, sym, ◌∙◌, ap, subst, refl, MutBor}
+use Rattle.std.proofs.Common.{◌≡◌, ◌++◌, ℕ, List, Some, sym, ◌∙◌, ap, subst, MutBor}
 use Rattle.std.specs.Prelude.{slice_set}
 use Rattle.rly_hop.specs.declared.message.Message.{Message}
 use Rattle.rly_hop.specs.Receiver.{Receiver}

@@ -1,4 +1,4 @@
-use Rattle.std.proofs.Common.{ℕ, ◌≡◌, List, Option, Some, sym, ◌∙◌, ap, subst}
+use Rattle.std.proofs.Common.{ℕ, List, Option, Some, sym, ◌∙◌, subst}
 use Rattle.rly_disk.specs.FaultDisk.{fault_state}
 use Rattle.rly_disk.specs.MemDisk.{mem_state}
 use Rattle.rly_disk.specs.declared.fault_disk.FaultDisk.{FaultDisk}

@@ -1,10 +1,10 @@
-use Rattle.std.proofs.Common.{ℕ, ◌≡◌, ◌<◌, List, [], ◌∷◌, ◌++◌, length, drop, arith, sym, ◌∙◌, ap, subst, refl}
+use Rattle.std.proofs.Common.{◌≡◌, ◌<◌, List, [], ◌∷◌, ◌++◌, length, drop, arith, sym, ◌∙◌, ap, subst, refl}
 use Rattle.std.specs.Vec.{vec_len}
 use Rattle.rly_machine.specs.declared.command.Ask.{Ask}
 use Rattle.rly_world.specs.PairEnd.{Asked, End, Replied}
 use Rattle.rly_pair.specs.HelpersStation.{accepted_in, harm_number}
 use Rattle.rly_pair.specs.PairSteps.{Calls, Makes}
-use Rattle.rly_pair.proofs.StationSteps.{front_removed, harm_small, made_left, makes_left, makes_none, nonempty, shown, sound_push}
+use Rattle.rly_pair.proofs.StationSteps.{front_removed, made_left, makes_left, nonempty, shown, sound_push}
 use Rattle.rly_pair.proofs.station.Station.make.Goals as goal
 
 pub invariant_of-self-2 : goal.invariant_of-self-2

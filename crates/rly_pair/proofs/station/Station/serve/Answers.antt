@@ -1,4 +1,4 @@
-use Rattle.std.proofs.Common.{ℕ, ◌≡◌, sym, ap, subst}
+use Rattle.std.proofs.Common.{ℕ, sym, subst}
 use Rattle.rly_pair.specs.HelpersStation.{accepted_in, harm_number}
 use Rattle.rly_world.specs.PairEnd.{End}
 use Rattle.rly_pair.specs.PairSteps.{Serves}

@@ -1,5 +1,6 @@
 use Rattle.std.proofs.Common.{◌≡◌, ◌&&◌, not}
 use Rattle.std.specs.Prelude.{◌==◌}
+use Rattle.rly_threads.specs.Outlet.{waits_first}
 use Rattle.rly_threads.proofs.Senders.{Hearing}
 use Rattle.rly_threads.proofs.sender.Outlet.gather.Given as goal
 
@@ -7,6 +8,6 @@ use Rattle.rly_threads.proofs.sender.Outlet.gather.Given as goal
 abbrev pub invariant-loop-place : goal.invariant-loop-place
 invariant-loop-place g l = record {
   same : l.self ≡ record l.fn.self { core = l.self.core };
-  waits : l.waits ≡ ((l._place == 0) && not l.fn.self.moved);
-  heard : Hearing (not l.fn.self.moved) l.fn.ends l.ends l.fn.self.core l.self.core l._place;
+  waits : l.waits ≡ ((l._place == 0) && waits_first l.fn.self.moved l.fn.self.core);
+  heard : Hearing (waits_first l.fn.self.moved l.fn.self.core) l.fn.ends l.ends l.fn.self.core l.self.core l._place;
 }
