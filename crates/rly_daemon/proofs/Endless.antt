@@ -7,7 +7,7 @@ use Rattle.std.specs.List.{AllZip, list_all, zip}
 use Rattle.std.specs.Option.{is_none, option_map, unwrap_or}
 use Rattle.std.specs.Prelude.{IfSome, None, Option, Some}
 use Rattle.rly_daemon.specs.declared.plan_keys.KeyedWorker.{KeyedWorker}
-use Rattle.rly_daemon.specs.Serving.{Duty, StationPost, addresses_of, clock_endless, clock_told, duties, duty_at, duty_of}
+use Rattle.rly_daemon.specs.Serving.{Duty, PostOver, addresses_of, clock_endless, clock_told, duties, duty_of, duty_over}
 use Rattle.rly_line.specs.Replies.{ReplyId}
 use Rattle.rly_line.specs.Seats.{new_callers}
 use Rattle.rly_line.specs.Submission.{LineId}
@@ -85,20 +85,20 @@ uncut (l ∷ looks) e =
     let both = or_parts l.cut (was_cut looks) e in
     λ i. uncut_one l both.0 i ∷ uncut looks both.1 i
 
-endless_goes_on : {C : Type 0} (plan : ContactPlan) (links : List KeyedWorker) (window : ℕ) (line : LineId) (names : List (Option ReplyId)) (number : ℕ) (posts : List (StationPost C)) (ended : List (Option (Ended (NeighbourLink C) (WallClock C)))) → map duty_at posts ≡ duties plan links 0 → 1 ≤ length posts → length names ≡ length posts
-    → AllZip (HaveEnded (λ l. neighbour_heard l) (λ l. neighbour_sent l) clock_told clock_endless plan window) (zip posts (new_callers line number names)) ended
+endless_goes_on : {L C : Type 0} (below : L → NeighbourLink C) (plan : ContactPlan) (links : List KeyedWorker) (window : ℕ) (line : LineId) (names : List (Option ReplyId)) (number : ℕ) (posts : List (PostOver L C)) (ended : List (Option (Ended L (WallClock C)))) → map (duty_over below) posts ≡ duties plan links 0 → 1 ≤ length posts → length posts ≤ length names
+    → AllZip (HaveEnded (λ l. neighbour_heard (below l)) (λ l. neighbour_sent (below l)) clock_told clock_endless plan window) (zip posts (new_callers line number names)) ended
     → list_all has_run_out ended ≡ true → ⊥
-endless_goes_on plan links window line names number [] ended e some count worked all = absurd (omega (arith, some))
-endless_goes_on plan links window line [] number (post ∷ posts) ended e some count worked all = absurd (omega (arith, count))
-endless_goes_on plan links window line (name ∷ names) number (post ∷ posts) [] e some count worked all = absurd worked
-endless_goes_on plan links window line (name ∷ names) number (post ∷ posts) (None ∷ ended) e some count worked all = absurd (true≢false (sym all))
-endless_goes_on plan links window line (name ∷ names) number (post ∷ posts) (Some left ∷ ended) e some count worked all =
+endless_goes_on below plan links window line names number [] ended e some count worked all = absurd (omega (arith, some))
+endless_goes_on below plan links window line [] number (post ∷ posts) ended e some count worked all = absurd (omega (arith, count))
+endless_goes_on below plan links window line (name ∷ names) number (post ∷ posts) [] e some count worked all = absurd worked
+endless_goes_on below plan links window line (name ∷ names) number (post ∷ posts) (None ∷ ended) e some count worked all = absurd (true≢false (sym all))
+endless_goes_on below plan links window line (name ∷ names) number (post ∷ posts) (Some left ∷ ended) e some count worked all =
     let did = worked.0 in
     let first = first_duty _ _ plan 0 links e in
     let is : post.worker ≡ first.0.worker = ap (λ d. d.worker) first.1 in
-    let there : Some (link_below post.link.link).addresses.value ≡ addresses_of plan post.worker = ap (λ d. d.addresses) first.1 ∙ ap (addresses_of plan) (sym is) in
+    let there : Some (link_below (below post.link).link).addresses.value ≡ addresses_of plan post.worker = ap (λ d. d.addresses) first.1 ∙ ap (addresses_of plan) (sym is) in
     let none : post.turn.left ≡ None = ap (λ d. d.left) first.1 in
-    let end = worked_ended plan window post.worker (link_below post.link.link).addresses.value _ _ there did.worked in
+    let end = worked_ended plan window post.worker (link_below (below post.link).link).addresses.value _ _ there did.worked in
     let not_cut : was_cut did.looks ≡ false = sym did.was_cut ∙ not_false left.was_cut (and_parts (not left.was_cut) (list_all has_run_out ended) all).0 in
     let whole : map (λ l. l.handed) did.looks ≡ end.before ++ (end.worker, Start, end.last) ∷ [] =
     uncut did.looks not_cut ∙ ap (λ (o : Option (List Handed)). unwrap_or o []) end.handed in
@@ -107,8 +107,8 @@ endless_goes_on plan links window line (name ∷ names) number (post ∷ posts) 
     true≢false (sym (last_on end.before (end.worker, Start, end.last) on) ∙ end.off)
 
 -- where each worker of a plan ran until its turns were ended, the turns have an end
-pub turns_end : {C : Type 0} (plan : ContactPlan) (links : List KeyedWorker) (window turns : ℕ) (line : LineId) (names : List (Option ReplyId)) (posts : List (StationPost C)) (ended : List (Option (Ended (NeighbourLink C) (WallClock C)))) → map duty_at posts ≡ duties plan links turns → 1 ≤ length posts → length names ≡ length posts
-    → AllZip (HaveEnded (λ l. neighbour_heard l) (λ l. neighbour_sent l) clock_told clock_endless plan window) (seated line names posts) ended
+pub turns_end : {L C : Type 0} (below : L → NeighbourLink C) (plan : ContactPlan) (links : List KeyedWorker) (window turns : ℕ) (line : LineId) (names : List (Option ReplyId)) (posts : List (PostOver L C)) (ended : List (Option (Ended L (WallClock C)))) → map (duty_over below) posts ≡ duties plan links turns → 1 ≤ length posts → length posts ≤ length names
+    → AllZip (HaveEnded (λ l. neighbour_heard (below l)) (λ l. neighbour_sent (below l)) clock_told clock_endless plan window) (seated line names posts) ended
     → list_all has_run_out ended ≡ true → 1 ≤ turns
-turns_end plan links window zero line names posts ended e some count worked all = absurd (endless_goes_on plan links window line names 0 posts ended e some count worked all)
-turns_end plan links window (suc n) line names posts ended e some count worked all = omega arith
+turns_end below plan links window zero line names posts ended e some count worked all = absurd (endless_goes_on below plan links window line names 0 posts ended e some count worked all)
+turns_end below plan links window (suc n) line names posts ended e some count worked all = omega arith

@@ -39,12 +39,18 @@ udp_send C c =
             (
               search sendable depth 20,
               (
-                search (sendable, crosses, sends_send) depth 20,
+                search (sendable, crosses) depth 20,
                 (
-                  search (sendable, crosses) depth 60,
+                  search sendable depth 20,
                   (
-                    search (sendable, crosses) depth 20,
-                    tt,
+                    search (sendable, crosses, sends_send) depth 20,
+                    (
+                      search (sendable, crosses) depth 60,
+                      (
+                        search (sendable, crosses) depth 20,
+                        tt,
+                      ),
+                    ),
                   ),
                 ),
               ),

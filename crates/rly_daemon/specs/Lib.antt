@@ -9,3 +9,5 @@ pub mod Serving
 pub mod Keys
 pub mod Planning
 pub mod Program
+pub mod WallPace
+pub mod Reporting

@@ -1,5 +1,5 @@
 -- What a run of the program leaves, by what its command line asks (docs/COMMANDS.md).
-use Rattle.std.specs.Prelude.{◌≡◌, ℕ, ◌≤◌, List, [], ◌∷◌, ◌++◌, length, IfSome, max, min, Bool, Option, false, true, codes}
+use Rattle.std.specs.Prelude.{◌≡◌, ◌⊎◌, ℕ, ◌+◌, ◌≤◌, ◌==◌, MatchBool, List, [], ◌∷◌, ◌++◌, length, IfSome, max, min, Bool, Option, false, true, codes}
 use Rattle.std.specs.Fmt.{decimal}
 use Rattle.std.specs.Io.KnownBytes.{Appends}
 use Rattle.rly_audit.specs.Report.{balances, books_of, report_of}
@@ -7,11 +7,14 @@ use Rattle.rly_core.specs.Limits.{IsWithinLimits}
 use Rattle.rly_core.specs.declared.params.Geometry.{Geometry}
 use Rattle.rly_flush.specs.Flushing.{FlusherState, IsServed, new_flusher}
 use Rattle.rly_line.specs.Replies.{ReplyId}
+use Rattle.rly_line.specs.Seats.{Caller}
 use Rattle.rly_line.specs.Submission.{LineId}
 use Rattle.rly_plan.specs.ContactPlan.{ContactPlan}
 use Rattle.rly_threads.specs.Relay.{new_end}
 use Rattle.rly_journal.specs.Journal.{JournalState}
 use Rattle.rly_machine.specs.State.{State, new_state}
+use Rattle.rly_reporter.specs.declared.reporter.ReporterEnd.{ReporterEnd}
+use Rattle.rly_reporter.specs.declared.reporter.ReporterEnd.TheVariants.{Closed, Paced}
 use Rattle.rly_segment.specs.Device.{IsGeometry, device_length}
 use Rattle.rly_settings.specs.declared.given.Settings.{Settings}
 use Rattle.rly_settings.specs.declared.given.Settings.TheVariants.{Sim, Format, Play, Audit, Serve, Key, Plan}
@@ -19,6 +22,7 @@ use Rattle.rly_daemon.specs.FileDisk.{file_state}
 use Rattle.rly_daemon.specs.Formatting.{HasMade, wanted_geometry}
 use Rattle.rly_daemon.specs.Keys.{HasKey}
 use Rattle.rly_daemon.specs.Planning.{HasTold}
+use Rattle.rly_daemon.specs.Reporting.{HasReports}
 use Rattle.rly_daemon.specs.Serving.{HasRoom, ended_line, workers_of}
 use Rattle.rly_text.specs.Playing.{PlaysAll}
 use Rattle.rly_text.specs.Text.{text_for}
@@ -52,21 +56,38 @@ pub record HasFormatted (geometry : Geometry) (force : Bool) (old new : Option (
   pub written : Appends old new (size_line (device_length geometry))
 
 -- A plan was served on a device that was opened whole, until its workers had their turns, and the journal is whole after all
--- rounds. What ended it was told.
-pub record HasServed (turns : ℕ) (new : Option (List ℕ)) : Type 0 where
-  pub plan : ContactPlan
+-- rounds. Its line had a seat for each worker, and as many for others. What ended it was told.
+pub record HasServedAt (turns others : ℕ) (new : Option (List ℕ)) (plan : ContactPlan) (left : FlusherState FileDisk) : Type 0 where
   pub opened : JournalState FileDisk
-  pub left : FlusherState FileDisk
   pub room : HasRoom plan opened.state.params
   pub ends : 1 ≤ turns
   pub begun : opened.broken ≡ false
   pub whole : left.journal.broken ≡ false
   pub line : LineId
   pub names : List (Option ReplyId)
-  pub seats : length names ≡ length (workers_of plan)
+  pub seats : length names ≡ length (workers_of plan) + others
   pub served : IsServed file_state (new_flusher opened (new_end line names)) left
   pub begins : Option (List ℕ)
   pub told : Appends begins new (ended_line turns)
+
+abbrev pub HasServed : ℕ → Option (List ℕ) → Type 0
+HasServed turns new = (plan : ContactPlan) × (left : FlusherState FileDisk) × HasServedAt turns 0 new plan left
+
+-- The same, with reports: all that was written is a report at each moment that was due, of what was answered at a seat beside those of
+-- the workers, in the one history of the device.
+pub record HasServedReporting (turns : ℕ) (old new told : Option (List ℕ)) : Type 0 where
+  pub plan : ContactPlan
+  pub left : FlusherState FileDisk
+  pub served : HasServedAt turns 1 told plan left
+  pub seat : Caller
+  pub end : ReporterEnd
+  pub all : (end ≡ Paced) ⊎ (end ≡ Closed)
+  pub reports : HasReports plan left.line old new seat end
+
+-- as it was asked for: without reports nothing was written
+abbrev pub HasServedWith : ℕ → ℕ → Option (List ℕ) → Option (List ℕ) → Option (List ℕ) → Type 0
+HasServedWith turns report old new told =
+    MatchBool (report == 0) ((new ≡ old) × HasServed turns told) (HasServedReporting turns old new told)
 
 -- a command that ended well: the reader before and after it, the bytes that there were to read, those of the writer before and
 -- after it, and those of standard error
@@ -80,8 +101,8 @@ IsDone (Play file batch) before behind left old new told_old told_new =
     HasPlayed batch left old new × (told_new ≡ told_old)
 IsDone (Audit file) before behind left old new told_old told_new =
     (behind ≡ before) × HasReport old new × (told_new ≡ told_old)
-IsDone (Serve file plan turns) before behind left old new told_old told_new =
-    (behind ≡ before) × (new ≡ old) × HasServed turns told_new
+IsDone (Serve file plan turns report) before behind left old new told_old told_new = (behind ≡ before)
+    × HasServedWith turns report old new told_new
 IsDone Key before behind left old new told_old told_new =
     (behind ≡ before) × HasKey old new × (told_new ≡ told_old)
 IsDone (Plan plan at) before behind left old new told_old told_new =

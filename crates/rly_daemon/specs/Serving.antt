@@ -1,5 +1,5 @@
 -- What a relay needs of its device, and the workers that it starts.
-use Rattle.std.specs.Prelude.{◌≡◌, ◌⊎◌, ℕ, ◌<◌, ◌≤◌, List, [], ◌∷◌, ◌++◌, ◌==◌, codes, map, length, Bool, true, false, is_some, Option, None, Some}
+use Rattle.std.specs.Prelude.{◌≡◌, ◌⊎◌, ℕ, ◌+◌, ◌<◌, ◌≤◌, List, [], ◌∷◌, ◌++◌, ◌==◌, codes, map, length, Bool, true, false, is_some, Option, Some}
 use Rattle.std.specs.Fmt.{decimal}
 use Rattle.std.specs.List.{AllZip, list_all, range_with_len}
 use Rattle.std.specs.Option.{is_none, option_map}
@@ -85,22 +85,29 @@ clock_told clock = Some (handed_of clock.handed)
 abbrev pub clock_endless : {C : Type 0} → WallClock C → Bool
 clock_endless clock = is_none clock.left
 
+-- a worker at a link that is or stands over one to its neighbour
+abbrev pub PostOver : Type 0 → Type 0 → Type 0
+PostOver L C = Post L (WallClock C)
+
 -- a worker at a socket, sealed where its link has a key
 abbrev pub StationPost : Type 0 → Type 0
-StationPost C = Post (NeighbourLink C) (WallClock C)
+StationPost C = PostOver (NeighbourLink C) C
 
 -- what the worker of a post warns of
-abbrev pub warned_at : {C : Type 0} → StationPost C → Warned
-warned_at post = record {
-  sends = option_map (λ f. f.worker) (link_below post.link.link).failed_sends;
-  tags = post.link.wrong_tags.worker;
+abbrev pub warned_over : {L C : Type 0} → (L → NeighbourLink C) → PostOver L C → Warned
+warned_over below post = record {
+  sends = option_map (λ f. f.worker) (link_below (below post.link).link).failed_sends;
+  tags = (below post.link).wrong_tags.worker;
   clock = is_some post.turn.watch;
 }
 
 -- what it has to do
+abbrev pub duty_over : {L C : Type 0} → (L → NeighbourLink C) → PostOver L C → Duty
+duty_over below post = duty post.worker (Some (link_below (below post.link).link).addresses.value) (keys_over (below post.link).link)
+    post.turn.left (warned_over below post)
+
 abbrev pub duty_at : {C : Type 0} → StationPost C → Duty
-duty_at post = duty post.worker (Some (link_below post.link.link).addresses.value) (keys_over post.link.link) post.turn.left
-    (warned_at post)
+duty_at post = duty_over (λ l. l) post
 
 -- what a plan and its keys say of a worker
 abbrev pub duty_of : ContactPlan → ℕ → KeyedWorker → Duty
@@ -113,13 +120,17 @@ duties plan links turns = map (duty_of plan turns) links
 
 -- Each worker of a plan had a thread, did at its post and its seat what the plan says of it, from its start to the end of its turns,
 -- and left that post. What its seat put and knows stands beside who answered it. Its link is sealed with the key that there is for it, and no other link is. A socket tells
--- nothing of what it heard and sent; a seat and a clock tell all.
-pub record HasRun {C : Type 0} (plan : ContactPlan) (links : List KeyedWorker) (window turns : ℕ) (r : Responding)
-    (ended : List (Option (Ended (NeighbourLink C) (WallClock C)))) : Type 0 where
-  pub posts : List (StationPost C)
-  pub planned : map duty_at posts ≡ duties plan links turns
-  pub worked : AllZip (HaveEnded (λ l. neighbour_heard l) (λ l. neighbour_sent l) clock_told clock_endless plan window)
+-- nothing of what it heard and sent; a seat and a clock tell all. So many seats are others', behind those of the workers.
+pub record HasRunOver {L C : Type 0} (below : L → NeighbourLink C) (others : ℕ) (plan : ContactPlan) (links : List KeyedWorker) (window turns : ℕ)
+    (r : Responding) (ended : List (Option (Ended L (WallClock C)))) : Type 0 where
+  pub posts : List (PostOver L C)
+  pub planned : map (duty_over below) posts ≡ duties plan links turns
+  pub worked : AllZip (HaveEnded (λ l. neighbour_heard (below l)) (λ l. neighbour_sent (below l)) clock_told clock_endless plan window)
       (seated r.of (names_of r.lines) posts) ended
-  pub seats : length r.lines ≡ length posts
+  pub seats : length r.lines ≡ length posts + others
   pub answered : AreAnsweredBy r ended
   pub complete : list_all has_run_out ended ≡ true
+
+-- the same where each worker has the link to its neighbour itself, and no one else a seat
+abbrev pub HasRun : {C : Type 0} → ContactPlan → List KeyedWorker → ℕ → ℕ → Responding → List (Option (Ended (NeighbourLink C) (WallClock C))) → Type 0
+HasRun plan links window turns r ended = HasRunOver (λ l. l) 0 plan links window turns r ended

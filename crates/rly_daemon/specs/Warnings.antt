@@ -1,6 +1,6 @@
 -- What a station tells of while it serves: sends that fail, packets without a right tag, and a clock that is set
 -- (docs/COMMANDS.md, "rly serve").
-use Rattle.std.specs.Prelude.{◌≡◌, ◌⊎◌, ℕ, ◌+◌, ◌-◌, ◌%◌, ◌/◌, ◌^◌, ◌==◌, nat_lt, max, min, ℤ, unsigned_abs, if◌then◌else◌, codes, slice_index_or}
+use Rattle.std.specs.Prelude.{◌≡◌, ℕ, ◌+◌, ◌-◌, ◌%◌, ◌/◌, ◌^◌, ◌==◌, nat_lt, max, min, ℤ, unsigned_abs, if◌then◌else◌, codes, slice_index_or}
 use Rattle.std.specs.Prelude.{Bool, true, false, not, ◌&&◌, ◌||◌, List, [], ◌∷◌, ◌++◌, map, set, Option, Some, None}
 use Rattle.std.specs.Fmt.{decimal}
 use Rattle.std.specs.IoError.{raw_os_error}

@@ -2,6 +2,7 @@ ghost use Rattle.std.specs.Prelude.{◌≡◌, ◌≤◌, IfOk, OnOk};
 ghost use Rattle.rly_daemon.specs.FileDisk.{file_state};
 
 use crate::file_fault::{FileFault, SystemWord};
+use crate::gate_tally::GateTally;
 use rly_disk::{Counts, Disk, DiskFault};
 use std::fs::{File, Files, OpenOptions, TryLockError};
 use std::io;
@@ -22,6 +23,8 @@ pub struct FileDisk {
     counts: Counts,
     /// What the system said of the first call that failed.
     word: Option<SystemWord>,
+    /// Where the gates that it opens are counted, if they are.
+    gates: Option<GateTally>,
 }
 
 impl FileDisk {
@@ -56,6 +59,23 @@ impl FileDisk {
             self.size = size;
         }
         Ok(())
+    }
+
+    /// The same, whose gates are counted from now on.
+    pub(crate) fn with_gates(mut self, gates: GateTally) -> FileDisk
+        ensures { result ≡ record self { gates = result.gates } }
+    {
+        self.gates = Some(gates);
+        self
+    }
+
+    /// Counts a gate, if one was opened.
+    fn tell_gate(&mut self, place: u64, bytes: &[u8], is_written: bool)
+        ensures { self.new ≡ record self.old { gates = self.new.gates } }
+    {
+        if let (Some(gates), true) = (&mut self.gates, is_written) {
+            gates.note(place, bytes);
+        }
     }
 
     /// The first of its calls that failed.
@@ -113,6 +133,7 @@ fn settled(file: File) -> Result<FileDisk, FileFault>
         size,
         counts: Counts::new(),
         word: None,
+        gates: None,
     })
 }
 
@@ -165,6 +186,7 @@ impl Disk for FileDisk {
         }
         let outcome = self.file.write_all_at(bytes, place);
         self.note(&outcome);
+        self.tell_gate(place, bytes, outcome.is_ok());
         self.counts.count_write(outcome.is_err());
         outcome.map_err(|_| DiskFault)
     }

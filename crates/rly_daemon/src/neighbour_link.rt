@@ -7,6 +7,7 @@ use crate::failed_sends::FailedSends;
 use crate::teller::Teller;
 use crate::udp_link::UdpLink;
 use crate::wrong_tags::WrongTags;
+use rly_reporter::TaggedLink;
 use rly_seal::StationLink;
 use rly_tag::Key;
 use rly_threads::{Link, LinkFault, Worker};
@@ -42,6 +43,12 @@ impl<C: Clock + Drop> NeighbourLink<C> {
         ensures { IsTrue result ↔ IsNone (keys_over self.now.link) }
     {
         matches!(&self.link, StationLink::Open(_))
+    }
+}
+
+impl<C: Clock + Drop> TaggedLink for NeighbourLink<C> {
+    fn wrong_tags(&self) -> u64 {
+        self.link.wrong_tags()
     }
 }
 

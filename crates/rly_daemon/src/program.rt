@@ -10,7 +10,7 @@ ghost use Rattle.rly_settings.specs.CommandLine.{AsksHelp, IsSettings, asked_of,
 ghost use Rattle.rly_settings.specs.declared.given.Settings.{Settings as ASettings};
 ghost use Rattle.rly_daemon.specs.FileDisk.{file_state};
 ghost use Rattle.rly_daemon.specs.Formatting.{FindsNoneLive, HasMade, wanted_geometry};
-ghost use Rattle.rly_daemon.specs.Program.{HasPlayed, HasReport, HasServed, IsDone, IsOutOfLimits, size_line};
+ghost use Rattle.rly_daemon.specs.Program.{HasPlayed, HasReport, HasServed, HasServedReporting, HasServedWith, IsDone, IsOutOfLimits, size_line};
 ghost use Rattle.rly_daemon.specs.Serving.{ended_line};
 ghost use Rattle.rly_daemon.specs.declared.file_fault.Cause.{Cause as ACause};
 ghost use Rattle.rly_text.specs.Text.{text_for};
@@ -19,26 +19,30 @@ use crate::command_fault::{CommandFault, ServeFault};
 use crate::file_disk::FileDisk;
 use crate::file_fault::Cause;
 use crate::formatting::{UseFault, unused};
+use crate::gate_tally::GateTally;
 use crate::geometry::{device_size, geometry_of};
 use crate::new_key::write_key;
 use crate::plan_keys::read_keys;
 use crate::planning::run_plan;
+use crate::reporting::{Reports, serve_reporting};
 use crate::serving::{read_plan, serve};
 use rly_audit::{AuditFault, audit};
 use rly_core::{Geometry, Params, Refusal};
 use rly_disk::Disk;
 use rly_journal::Journal;
-use rly_segment::{FormatFault, format};
+use rly_plan::Plan;
+use rly_reporter::{Reported, ReporterEnd, Tally, Watched};
+use rly_segment::{FormatFault, format, read_header};
 use rly_settings::{Settings, SettingsFault, settings};
 use rly_text::{TextFault, play, sim};
-use std::alloc::Global;
+use std::alloc::{AllocError, Global};
 use std::convert::AsStr;
 use std::fmt::Display;
 use std::fs::{File, Files};
 use std::io::{Read, Write};
 use std::net::Net;
 use std::random::RandomSource;
-use std::sync::Wait;
+use std::sync::{Arc, OnceLock, Wait};
 use std::thread::Threads;
 use std::time::Clock;
 
@@ -62,7 +66,7 @@ const MAX_BATCH: u64 = 64;
 /// Runs the whole program on a command line, the program's name first, and answers its exit
 /// status: 0, also where reply lines refuse; 1 where a command failed, or a journal ended Broken;
 /// 2 for a bad command line. Replies, help and version go to `writer`, why it failed to `errors`.
-pub fn run<H: Host, S: AsStr, R: Read, W: Write, E: Write>(
+pub fn run<H: Host, S: AsStr, R: Read, W: Write + Send, E: Write>(
     rt: &H,
     words: &[S],
     reader: &mut R,
@@ -90,7 +94,7 @@ pub fn run<H: Host, S: AsStr, R: Read, W: Write, E: Write>(
 }
 
 /// Runs one command.
-fn obey<H: Host, R: Read, W: Write, E: Write>(
+fn obey<H: Host, R: Read, W: Write + Send, E: Write>(
     rt: &H,
     settings: Settings<'_>,
     reader: &mut R,
@@ -118,7 +122,12 @@ fn obey<H: Host, R: Read, W: Write, E: Write>(
         }
         Settings::Play { file, batch } => run_play(rt, file, batch, reader, writer),
         Settings::Audit { file } => run_audit(rt, file, writer),
-        Settings::Serve { file, plan, turns } => { run_serve(rt, file, plan, turns, errors) }
+        Settings::Serve {
+            file,
+            plan,
+            turns,
+            report,
+        } => run_serving(rt, file, plan, turns, report, writer, errors),
         Settings::Key => {
             write_key(rt, writer)?;
             Ok(())
@@ -252,6 +261,25 @@ fn run_audit<H: AllocGlobal + Files<File = File>, W: Write>(
     }
 }
 
+/// Runs the relay of a plan, with a report at once and whenever so many seconds have passed, or without reports where they are 0.
+fn run_serving<H: Host, W: Write + Send, E: Write>(
+    rt: &H,
+    file: &str,
+    path: &str,
+    turns: u64,
+    seconds: u64,
+    writer: &mut W,
+    errors: &mut E,
+) -> Result<(), CommandFault>
+    ensures served { OnOk result (HasServedWith turns seconds (W.contents writer.old) (W.contents writer.new) (E.contents errors.new)) }
+{
+    if seconds == 0 {
+        run_serve(rt, file, path, turns, errors)
+    } else {
+        run_reports(rt, file, path, turns, seconds, writer, errors)
+    }
+}
+
 /// Runs the relay of a plan on the device in a file. The plan and its keys are read before the file is touched.
 fn run_serve<H: Host, E: Write>(
     rt: &H,
@@ -278,6 +306,91 @@ fn run_serve<H: Host, E: Write>(
         )),
         Err((fault, _disk)) => Err(CommandFault::Serve(fault)),
     }
+}
+
+/// The same, with a report at once and whenever so many seconds have passed.
+fn run_reports<H: Host, W: Write + Send, E: Write>(
+    rt: &H,
+    file: &str,
+    path: &str,
+    turns: u64,
+    seconds: u64,
+    writer: &mut W,
+    errors: &mut E,
+) -> Result<(), CommandFault>
+    ensures served { OnOk result (HasServedReporting turns (W.contents writer.old) (W.contents writer.new) (E.contents errors.new)) }
+{
+    let plan = read_plan(rt, path)?;
+    let keys = read_keys(rt, &plan, path)?;
+    let tally = tally_of(rt.alloc(), &plan)?;
+    let disk = FileDisk::open(rt, file)?;
+    let size = disk.size();
+    let disk = watched(disk, &tally)?;
+    let journal = open_journal(rt.alloc(), disk)?;
+    let word = OnceLock::new();
+    let reports = Reports {
+        seconds,
+        tally,
+        word: &word,
+    };
+    let reported = match serve_reporting(
+        rt, journal, &plan, keys, turns, size, reports, writer, errors,
+    ) {
+        Ok(reported) => reported,
+        Err(failed) => return Err(fault_of(failed)),
+    };
+    let Reported {
+        relayed: _relayed,
+        watched,
+        had_thread: _had_thread,
+    } = reported;
+    let Watched {
+        pace: _pace,
+        counters: _counters,
+        seat: _seat,
+        end,
+    } = watched;
+    tell_end(turns, errors)?;
+    reports_ended(end)?;
+    Ok(())
+}
+
+/// What a relay's fault is told as. Where its journal broke, that is what the system said of its device.
+fn fault_of(failed: (ServeFault, FileDisk)) -> CommandFault {
+    let (fault, disk) = failed;
+    match fault {
+        ServeFault::Refused(Refusal::Broken, _) => refused(Refusal::Broken, &disk),
+        fault => CommandFault::Serve(fault),
+    }
+}
+
+/// Whether reports ended as they should: their writer didn't fail.
+fn reports_ended(end: ReporterEnd) -> Result<(), TextFault>
+    ensures { OnOk result ((end ≡ ReporterEnd.Paced) ⊎ (end ≡ ReporterEnd.Closed)) }
+{
+    match end {
+        ReporterEnd::Output => Err(TextFault::Output),
+        ReporterEnd::Paced | ReporterEnd::Closed => Ok(()),
+    }
+}
+
+/// Where the workers of a plan count.
+fn tally_of(alloc: Global, plan: &Plan) -> Result<Arc<Tally, Global>, ServeFault> {
+    let tally = Tally::new(alloc, plan)?;
+    match Arc::new(alloc, tally) {
+        Ok(tally) => Ok(tally),
+        Err(_) => Err(AllocError.into()),
+    }
+}
+
+/// The same disk, whose gates are counted where it has a header.
+fn watched(disk: FileDisk, tally: &Arc<Tally, Global>) -> Result<FileDisk, ServeFault> {
+    let mut disk = disk;
+    let Ok(geometry) = read_header(&mut disk) else {
+        return Ok(disk);
+    };
+    let tally = Arc::try_clone(tally)?;
+    Ok(disk.with_gates(GateTally::new(&geometry, tally)))
 }
 
 /// Says what ended a relay.

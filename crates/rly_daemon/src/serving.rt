@@ -31,7 +31,6 @@ use crate::teller::Teller;
 use crate::udp_link::UdpLink;
 use crate::wall_clock::WallClock;
 use crate::worker_name::WorkerName;
-use crate::worker_threads::check_threads;
 use rly_core::{HopId, Params, PeerId, Refusal};
 use rly_disk::Disk;
 use rly_journal::Journal;
@@ -47,7 +46,7 @@ use std::time::Clock;
 use std::{fs, io};
 
 /// A worker of the relay, its link and its turns.
-type UdpPost<'a, H> = Post<NeighbourLink<&'a H>, WallClock<&'a H>>;
+pub(crate) type UdpPost<'a, H> = Post<NeighbourLink<&'a H>, WallClock<&'a H>>;
 
 /// What a relay over UDP leaves.
 pub type UdpRelayed<'a, D, H> = Relayed<D, NeighbourLink<&'a H>, WallClock<&'a H>>;
@@ -77,7 +76,8 @@ pub fn read_plan<H: AllocGlobal + Files<File = File>>(
 /// Runs the relay of a plan, with the keys of its links, on a journal until each worker had its turns, and answers what it leaves. Where the turns are 0
 /// they are without end. Once all that it needs is there it tells what it serves, on a device of `size` bytes; where that
 /// can't be told it serves all the same, and the answer is `Untold` at its end. Once the journal is broken each worker ends
-/// at its next turn, and the answer is `Broken`. A fault gives the disk back.
+/// at its next turn, and the answer is `Broken`. Where the system has no thread for one of them, the others end at once, and the
+/// answer is `Worker`. A fault gives the disk back.
 pub fn serve<'a, H: AllocGlobal + Net + Threads + Wait + Clock + Sync, D: Disk + Drop, E: Write>(
     rt: &'a H,
     journal: Journal<D>,
@@ -101,20 +101,10 @@ pub fn serve<'a, H: AllocGlobal + Net + Threads + Wait + Clock + Sync, D: Disk +
     ensures left { IfOk result (λ relayed. relayed.finished.last.value.journal ≡ relayed.finished.journal) }
     ensures whole { IfOk result (λ relayed. relayed.finished.journal.broken ≡ false) }
 {
-    if let Err(fault) = check_room(plan, journal.params()) {
-        return Err((fault, journal.into_disk()));
-    }
-    if journal.is_broken() {
-        let fault = ServeFault::Refused(Refusal::Broken, Cause::Told);
-        return Err((fault, journal.into_disk()));
-    }
-    let posts = match posts_of(rt, plan, keys, turns) {
+    let posts = match ready_posts(rt, &journal, plan, keys, turns) {
         Ok(posts) => posts,
         Err(fault) => return Err((fault, journal.into_disk())),
     };
-    if let Err(fault) = check_threads(rt, posts.len()) {
-        return Err((fault, journal.into_disk()));
-    }
     let told = tell_start(&journal, plan, size, &posts, errors);
     match run_relay(rt, rt.alloc(), journal, plan, posts) {
         Ok(relayed) => match outcome_of(relayed.finished.broken, relayed.complete, told) {
@@ -125,8 +115,29 @@ pub fn serve<'a, H: AllocGlobal + Net + Threads + Wait + Clock + Sync, D: Disk +
     }
 }
 
+/// The workers of a plan for whose neighbours a journal has room, each with its link and its turns. A broken journal has none.
+pub(crate) fn ready_posts<'a, H: AllocGlobal + Net + Clock, D: Disk>(
+    rt: &'a H,
+    journal: &Journal<D>,
+    plan: &Plan,
+    keys: PlanKeys<'_>,
+    turns: u64,
+) -> Result<Vec<UdpPost<'a, H>>, ServeFault>
+    requires { IsSoundPlan plan.now }
+    ensures room { OnOk result (HasRoom plan.now journal.now.state.params) }
+    ensures lacks { LacksRoom plan.now journal.now.state.params → result ≡ Err (fault.Refused refusal.BadGeometry cause.Plan) }
+    ensures whole { OnOk result (journal.now.broken ≡ false) }
+    ensures posts { IfOk result (λ posts. map duty_at posts.items ≡ duties plan.now keys.entry turns) }
+{
+    check_room(plan, journal.params())?;
+    if journal.is_broken() {
+        return Err(ServeFault::Refused(Refusal::Broken, Cause::Told));
+    }
+    posts_of(rt, plan, keys, turns)
+}
+
 /// Says what is served: the station, its neighbours, how much of the device is taken, and whose links anyone can speak on.
-fn tell_start<'a, H: Clock, D: Disk, E: Write>(
+pub(crate) fn tell_start<'a, H: Clock, D: Disk, E: Write>(
     journal: &Journal<D>,
     plan: &Plan,
     size: u64,
@@ -179,7 +190,7 @@ fn check_room(plan: &Plan, params: Params) -> Result<(), ServeFault>
 }
 
 /// How a relay ended that was started. `told` is whether what it serves could be told.
-fn outcome_of(
+pub(crate) fn outcome_of(
     is_broken: bool,
     is_complete: bool,
     told: Result<(), ServeFault>,

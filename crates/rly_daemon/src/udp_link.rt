@@ -19,6 +19,14 @@ use std::{io, thread};
 /// How long a receive that waits does so, in milliseconds.
 const WAIT: u64 = 10;
 
+/// What else is on its way is let come for this part of the time since the last wait, but no longer than this, and not at all where
+/// that is shorter. Both in microseconds.
+const PART: u32 = 32;
+
+const LONGEST: u64 = 1_000;
+
+const SHORTEST: u64 = 50;
+
 /// A link over UDP. It receives from any address, and sends to one. An empty packet ends a wait and isn't heard: it is no
 /// message, and the bell of a hop's link is one.
 ///
@@ -33,6 +41,9 @@ pub struct UdpLink<C: Clock + Drop> {
     /// Whether a call of the socket waits, as the system was told last.
     waits: bool,
     failures: u64,
+    /// When its last wait ended that gave a packet, and how many packets came since, with that one.
+    waited: Duration,
+    given: u64,
     /// Its sends that failed, if they are told.
     failed_sends: Option<FailedSends>,
     /// What ends its waits, and of which hop it is the link, if anything ends them.
@@ -55,6 +66,8 @@ impl<C: Clock + Drop> UdpLink<C> {
             clock,
             waits: true,
             failures: 0,
+            waited: Duration::ZERO,
+            given: 0,
             failed_sends: None,
             bell: None,
             addresses: Snapshot::of(addresses),
@@ -92,6 +105,25 @@ impl<C: Clock + Drop> UdpLink<C> {
             bells.end_wait(*hop);
         }
         outcome
+    }
+
+    /// A wait that began then gave a packet. Lets come what else is on its way, if several came together the last time: a neighbour
+    /// that was answered sends what its window has room for one after the other, and a worker's turn takes what is there.
+    fn let_others_come(&mut self, began: Duration)
+        ensures { self.new ≡ record self.old { waited = self.new.waited; given = self.new.given } }
+    {
+        let part = began.saturating_sub(self.waited) / PART;
+        let pause = Duration::from_micros(LONGEST).min(part);
+        if self.given > 1 && pause >= Duration::from_micros(SHORTEST) {
+            thread::sleep(&self.clock, pause);
+        }
+        self.waited = self.moment();
+        self.given = 1;
+    }
+
+    /// The moment of a clock that doesn't fall, or its start where it can't be read.
+    fn moment(&self) -> Duration {
+        self.clock.monotonic().unwrap_or(Duration::ZERO)
     }
 
     /// Whether the count of failures stands at its last value, where each call fails.
@@ -172,8 +204,13 @@ impl<C: Clock + Drop> Link for UdpLink<C> {
         ensures spent { self.old.failures ≡ 2 ^ 64 - 1 → IsErr result }
         ensures quiet { self.new.failed_sends ≡ self.old.failed_sends }
     {
+        let began = self.moment();
         match self.receive_waiting(buffer) {
-            Ok(found) => Ok(found),
+            Ok(Some(count)) => {
+                self.let_others_come(began);
+                Ok(Some(count))
+            }
+            Ok(None) => Ok(None),
             Err(_) => {
                 // A receive that fails at once is not to keep the processor busy.
                 thread::sleep(&self.clock, Duration::from_millis(WAIT));
@@ -190,7 +227,11 @@ impl<C: Clock + Drop> Link for UdpLink<C> {
         ensures quiet { self.new.failed_sends ≡ self.old.failed_sends }
     {
         match self.receive(false, buffer) {
-            Ok(found) => Ok(found),
+            Ok(Some(count)) => {
+                self.given = self.given.saturating_add(1);
+                Ok(Some(count))
+            }
+            Ok(None) => Ok(None),
             Err(_) => Err(self.fail()),
         }
     }

@@ -30,6 +30,8 @@ mod planning;
 #[cfg(test)]
 mod programs;
 #[cfg(test)]
+mod reporting;
+#[cfg(test)]
 mod serving;
 #[cfg(test)]
 mod spools;

@@ -1,10 +1,10 @@
 //! Whole runs of the program, up to the status.
 
 use rly_daemon::{Host, run};
-use std::cell::Cell;
 use std::io;
 use std::io::{Error, ErrorKind, Read, Write};
 use std::process::Abort;
+use std::sync::atomic::{AtomicU64, Ordering};
 
 /// The status of a run, its output and its errors.
 #[derive(Drop)]
@@ -64,6 +64,18 @@ fn options_reach_the_machine(rt: HostRuntime) {
         b"take 1 1 1 0 41\ntake 1 2 1 0 41\n",
         0,
         b"taken 1 1\nrefused 6 full\n",
+        b"",
+    );
+}
+
+#[test]
+fn the_last_hop_is_the_machine_s(rt: HostRuntime) {
+    expect(
+        &rt,
+        &["rly", "sim", "--hops=64", "--peers=64"],
+        b"take 64 1 64 0 41\ntake 1 1 65 0 41\n",
+        0,
+        b"taken 64 1\nrefused 2 nohop\n",
         b"",
     );
 }
@@ -165,13 +177,13 @@ fn the_version_has_status_0(rt: HostRuntime) {
 /// One who types a line once the one before it was answered, three in all.
 #[derive(Drop)]
 struct Typist<'a> {
-    typed: usize,
-    answered: &'a Cell<usize>,
+    typed: u64,
+    answered: &'a AtomicU64,
 }
 
 impl Read for Typist<'_> {
     fn read(&mut self, buffer: &mut [u8]) -> io::Result<usize> {
-        if self.answered.get() != self.typed {
+        if self.answered.load(Ordering::SeqCst) != self.typed {
             return Err(Error::from(ErrorKind::TimedOut));
         }
         if self.typed == 3 || buffer.len() < 9 {
@@ -186,19 +198,18 @@ impl Read for Typist<'_> {
 /// A screen that shows an answer when it is flushed.
 #[derive(Drop)]
 struct Screen<'a> {
-    held: usize,
-    answered: &'a Cell<usize>,
+    held: u64,
+    answered: &'a AtomicU64,
 }
 
 impl Write for Screen<'_> {
     fn write(&mut self, text: &[u8]) -> io::Result<usize> {
-        self.held = text.iter().filter(|byte| **byte == b'\n').count();
+        self.held = text.iter().filter(|byte| **byte == b'\n').count() as u64;
         Ok(text.len())
     }
 
     fn flush(&mut self) -> io::Result<()> {
-        let answered = self.answered.get();
-        self.answered.set(answered.saturating_add(self.held));
+        self.answered.fetch_add(self.held, Ordering::SeqCst);
         self.held = 0;
         Ok(())
     }
@@ -206,7 +217,7 @@ impl Write for Screen<'_> {
 
 #[test]
 fn each_line_is_answered_before_the_next(rt: HostRuntime) {
-    let answered = Cell::new(0);
+    let answered = AtomicU64::new(0);
     let mut reader = Typist {
         typed: 0,
         answered: &answered,
@@ -219,5 +230,5 @@ fn each_line_is_answered_before_the_next(rt: HostRuntime) {
     let words = ["rly", "sim"];
     let status = run(&rt, &words, &mut reader, &mut writer, &mut errors);
     expect!(rt; status == 0);
-    expect!(rt; answered.get() == 3);
+    expect!(rt; answered.load(Ordering::SeqCst) == 3);
 }

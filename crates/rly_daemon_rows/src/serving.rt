@@ -46,7 +46,7 @@ pub(super) const CUSTODY: &[u8] =
 
 /// A neighbour that sends a datagram every 10 ms, so many times at most, until it hears something. Whether
 /// that is the datagram's custody.
-fn hears_custody(socket: &UdpSocket, relay: &str, times: u64) -> bool {
+pub(super) fn hears_custody(socket: &UdpSocket, relay: &str, times: u64) -> bool {
     let mut buffer = [0; 64];
     for _sent in 0..times {
         let _lost = socket.send_to(DATA, relay);

@@ -236,6 +236,36 @@ fn sixty_four_hops_and_peers(rt: HostRuntime) -> Result<(), Fail> {
     Ok(())
 }
 
+/// As many commands as a spool ever accepts, and how many datagrams of as many were dropped.
+const LAST: u64 = 281_474_976_710_655;
+
+const DROPPED: u64 = 140_737_488_355_328;
+
+/// The report on a device with these numbers.
+const GREATEST: &str =
+    "hop 1 taken 281474976710655 queued 0 flight 0 dropped 140737488355328 released 140737488355327
+peer 1 last 281474976710655
+seq 281474976710655
+balance ok
+";
+
+/// The head of a device may have numbers as great as these: all that was taken was dropped or let go.
+#[test]
+fn the_greatest_numbers(rt: HostRuntime) -> Result<(), Fail> {
+    let alloc = rt.alloc();
+    let mut disk = formatted(&rt, alloc, &SMALL, SMALL_SIZE)?;
+    let mut bytes = bytes_of(&rt, alloc, &mut disk)?;
+    assert!(rt; bytes.len() == SMALL_SIZE);
+    bytes[77..85].copy_from_slice(&LAST.to_be_bytes());
+    bytes[85..93].copy_from_slice(&LAST.to_be_bytes());
+    bytes[134..142].copy_from_slice(&LAST.to_be_bytes());
+    bytes[142..150].copy_from_slice(&DROPPED.to_be_bytes());
+    bytes[150..158].copy_from_slice(&(LAST - DROPPED).to_be_bytes());
+    let report = report_on(&rt, alloc, MemDisk::new(alloc, bytes))?;
+    expect!(rt; report.as_slice() == GREATEST.as_bytes());
+    Ok(())
+}
+
 #[test]
 fn devices_that_do_not_open(rt: HostRuntime) -> Result<(), Fail> {
     let alloc = rt.alloc();

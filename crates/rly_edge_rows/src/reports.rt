@@ -10,7 +10,7 @@ use rly_plan::{Plan, law_plan_is_sound};
 use rly_report::{
     Counted, DeviceReport, HopReport, PeerCounts, PeerReport, Report, show_asks, text_of, told_text,
 };
-use std::alloc::Global;
+use std::alloc::{AllocError, Global};
 use std::test::Fail;
 
 /// A hop with a number of its own in each field.
@@ -314,3 +314,170 @@ const OTHER: HopStatus = HopStatus {
     },
     moment: 77,
 };
+
+/// A plan of 64 peers and of 64 hops, whose contacts are from 100 to 200.
+fn greatest_text(alloc: Global) -> Result<String, AllocError> {
+    let mut peers = String::new(alloc);
+    let mut hops = String::new(alloc);
+    for id in 1..=64 {
+        let row = format!(in alloc; "{{ id = {id}, station = {id}, listen = 'a', remote = 'b'")?;
+        write!(peers, "{row} }},")?;
+        write!(hops, "{row}, contacts = [[100, 200]] }},")?;
+    }
+    format!(in alloc; "station = 7\npeer = [{peers}]\nhop = [{hops}]\n")
+}
+
+/// That plan.
+fn greatest_plan(alloc: Global) -> Result<Plan, Fail>
+    ensures sound { IfOk result (λ plan. IsSoundPlan plan) }
+    ensures hops { IfOk result (λ plan. 64 ≡ length plan.hops) }
+{
+    law_plan_is_sound();
+    let text = greatest_text(alloc)?;
+    match Plan::from_toml(alloc, text.as_str()) {
+        Ok(plan) if plan.hop_count() == 64 => Ok(plan),
+        _ => Err(Fail::from("a plan with 64 hops")),
+    }
+}
+
+/// An answer to the Show of each of 64 hops: as many datagrams were taken and released as the hop's id says.
+fn answers_of_all(alloc: Global) -> Result<Vec<Answer>, AllocError> {
+    let mut answers = Vec::new(alloc);
+    for id in 1..=64 {
+        let status = HopStatus {
+            taken: id,
+            released: id,
+            ..OTHER
+        };
+        answers.push(answer_of(Reply::Shown(status)))?;
+    }
+    Ok(answers)
+}
+
+/// What was counted of each of 64 peers and hops: as many packets as its id says.
+fn counted_of_all() -> Counted {
+    let mut all = counted();
+    for (report, id) in all.peers.iter_mut().zip(1u16..=64) {
+        *report = PeerReport {
+            peer: PeerId(id),
+            counts: PeerCounts {
+                heard: u64::from(id),
+                ..PeerCounts::new()
+            },
+            wrong: 0,
+        };
+    }
+    for (wrong, id) in all.wrong.iter_mut().zip(1u64..=64) {
+        *wrong = id;
+    }
+    all
+}
+
+/// What is told of them.
+fn told_of_all(alloc: Global) -> Result<String, AllocError> {
+    let mut text = String::new(alloc);
+    writeln!(text, "report 120")?;
+    for id in 1..=64 {
+        write!(
+            text,
+            "hop {id} taken {id} queued 0 flight 0 dropped 0 released {id}"
+        )?;
+        write!(text, " first 0 next 0 count 0 last 0 dropping no moment 77")?;
+        writeln!(text, " contact open until 200 wrong {id}")?;
+    }
+    for id in 1..=64 {
+        writeln!(
+            text,
+            "peer {id} heard {id} custody 0 refused 0 malformed 0 wrong 0"
+        )?;
+    }
+    writeln!(text, "device seq 51 rounds 52 segments 53")?;
+    Ok(text)
+}
+
+/// Whether each ask is Show of the hop at its place.
+fn are_shows(asks: &[Ask]) -> bool {
+    asks.iter().zip(1u16..=64).all(|(
+        ask,
+        id,
+    )| matches!(ask, Ask::Query(Query::Show { hop }) if hop.0 == id))
+}
+
+/// Each of 64 hops is asked, and each of them and of 64 peers is told.
+#[test]
+fn sixty_four_hops_and_peers_are_told(rt: HostRuntime) -> Result<(), Fail> {
+    let alloc = rt.alloc();
+    let plan = greatest_plan(alloc)?;
+    let asks = show_asks(alloc, &plan)?;
+    expect!(rt; asks.len() == 64 && are_shows(&asks));
+    let answers = answers_of_all(alloc)?;
+    assert!(rt; answers.len() == 64);
+    let text = told_text(alloc, &plan, 120, &answers, &counted_of_all())?;
+    let told = told_of_all(alloc)?;
+    expect!(rt; text.as_str() == told.as_str());
+    Ok(())
+}
+
+/// A hop each of whose numbers is the last of 64 bits.
+const GREATEST_HOP: HopStatus = HopStatus {
+    taken: u64::MAX,
+    queued: u64::MAX,
+    flight: u64::MAX,
+    dropped: u64::MAX,
+    released: u64::MAX,
+    codel: CodelState {
+        first_above_time: u64::MAX,
+        drop_next: u64::MAX,
+        count: u64::MAX,
+        lastcount: u64::MAX,
+        dropping: true,
+    },
+    moment: u64::MAX,
+};
+
+/// A peer each of whose numbers is, and which was heard at moment 0.
+const GREATEST_PEER: PeerReport = PeerReport {
+    peer: PeerId(65_535),
+    counts: PeerCounts {
+        heard: u64::MAX,
+        custody: u64::MAX,
+        refused: u64::MAX,
+        malformed: u64::MAX,
+        last: Some(0),
+    },
+    wrong: u64::MAX,
+};
+
+/// Their report at the last moment of 64 bits.
+const GREATEST_TEXT: &str = "report 18446744073709551615
+hop 65535 taken 18446744073709551615 queued 18446744073709551615 flight 18446744073709551615 dropped 18446744073709551615 released 18446744073709551615 \
+first 18446744073709551615 next 18446744073709551615 count 18446744073709551615 last 18446744073709551615 dropping yes moment 18446744073709551615 \
+contact open until 18446744073709551615 wrong 18446744073709551615
+peer 65535 heard 18446744073709551615 custody 18446744073709551615 refused 18446744073709551615 malformed 18446744073709551615 \
+wrong 18446744073709551615 last 18446744073709
+device seq 18446744073709551615 rounds 18446744073709551615 segments 18446744073709551615
+";
+
+/// The greatest numbers are told.
+#[test]
+fn the_greatest_numbers(rt: HostRuntime) {
+    let hop = HopReport {
+        hop: HopId(65_535),
+        answer: Ok(GREATEST_HOP),
+        is_open: true,
+        change: Some(u64::MAX),
+        wrong: u64::MAX,
+    };
+    let report = Report {
+        moment: u64::MAX,
+        hops: &[hop],
+        peers: &[GREATEST_PEER],
+        device: DeviceReport {
+            seq: u64::MAX,
+            rounds: u64::MAX,
+            segments: u64::MAX,
+        },
+    };
+    let text = text_of(rt.alloc(), &report);
+    expect!(rt; text.is_ok_and(|text| text.as_str() == GREATEST_TEXT));
+}

@@ -43,7 +43,8 @@ fn what_is_left_out_is_the_default(rt: HostRuntime) {
     expect!(rt; serve == Some(Settings::Serve {
             file,
             plan,
-            turns: 0
+            turns: 0,
+            report: 0
         }));
     let key = settings_of(&rt, ["rly", "key"].as_slice());
     expect!(rt; key == Some(Settings::Key));
@@ -89,13 +90,22 @@ fn what_is_given_is_read(rt: HostRuntime) {
         }));
     let play = settings_of(&rt, ["rly", "play", "--batch", "64", "spool"].as_slice());
     expect!(rt; play == Some(Settings::Play { file, batch: 64 }));
-    let words = ["rly", "serve", "--turns", "20", "spool", "plan.toml"];
+    let words = [
+        "rly",
+        "serve",
+        "--turns",
+        "20",
+        "--report=15",
+        "spool",
+        "plan.toml",
+    ];
     let serve = settings_of(&rt, words.as_slice());
     let plan = "plan.toml";
     expect!(rt; serve == Some(Settings::Serve {
             file,
             plan,
-            turns: 20
+            turns: 20,
+            report: 15
         }));
     let words = ["rly", "plan", "plan.toml", "--at", "4503599627370495"];
     let told = settings_of(&rt, words.as_slice());
@@ -151,6 +161,9 @@ fn bad_words_behind_serve_are_refused(rt: HostRuntime) {
         "--turns=-1",
         "--turns=",
         "--turns=18446744073709551616",
+        "--report=x",
+        "--report=-1",
+        "--report=0.5",
         "--batch=1",
     ] {
         let words = ["rly", "serve", "spool", "plan.toml", turns];

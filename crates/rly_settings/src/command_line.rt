@@ -19,6 +19,9 @@ const DEFAULT_BATCH: u64 = 1;
 /// How many turns each worker takes where no number is given: they are without end.
 const DEFAULT_TURNS: u64 = 0;
 
+/// How many seconds pass between two reports where no number is given: there are none.
+const DEFAULT_REPORT: u64 = 0;
+
 /// Reads a command line, the program's name first. A value that is no `u64`, a batch out of its
 /// limits, an unknown or a repeated option and a missing command or file are faults; all other
 /// limits are checked later.
@@ -84,6 +87,7 @@ fn settings_of<'a>(matches: &ArgMatches<'a>) -> Option<Settings<'a>>
         file: path_of(options, "file"),
         plan: path_of(options, "plan"),
         turns: number_of(options, "turns", DEFAULT_TURNS),
+        report: number_of(options, "report", DEFAULT_REPORT),
     })
 }
 

@@ -183,7 +183,14 @@ fn serve<'a>(alloc: Global) -> Result<Command<'a>, AllocError>
         "0",
         "Turns of each peer and each hop, in each of which it waits about 10 milliseconds for a packet; 0 is without end",
     )?;
-    Ok(with_turns)
+    let with_report = with_option(
+        alloc,
+        with_turns,
+        "report",
+        "0",
+        "Seconds between two reports on standard output: what waits, who was heard and what CoDel does; 0 is no reports",
+    )?;
+    Ok(with_report)
 }
 
 fn key<'a>(alloc: Global) -> Command<'a>

@@ -45,6 +45,8 @@ pub enum Settings<'a> {
         plan: &'a str,
         /// How many turns each worker takes: 0 for turns without end.
         turns: u64,
+        /// How many seconds pass between two reports: 0 for no reports.
+        report: u64,
     },
     /// A new key of a link.
     Key,

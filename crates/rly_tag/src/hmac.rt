@@ -1,10 +1,12 @@
 //! HMAC-SHA-256 (RFC 2104).
 
-ghost use Rattle.std.specs.Prelude.{◌≡◌, ◌-◌, ◌≤◌, ◌++◌, length, replicate};
+ghost use Rattle.std.specs.Prelude.{◌≡◌, ◌-◌, ◌≤◌, ◌++◌, List, length, replicate, ℕ};
+ghost use Rattle.sha2.specs.Hashers.{Holds256};
 ghost use Rattle.sha2.specs.Sha256.{sha256};
 ghost use Rattle.rly_tag.specs.Hmac.{hmac_sha256, key_block, mixed};
 
 use sha2::{Digest, Sha256};
+use std::marker::Model;
 
 /// The bytes of a block of SHA-256.
 const BLOCK: usize = 64;
@@ -66,5 +68,68 @@ fn digest_of(first: &[u8], second: &[u8]) -> [u8; DIGEST]
     let mut hasher = Sha256::new();
     hasher.update(first);
     hasher.update(second);
+    hasher.finalize()
+}
+
+/// A key that is ready: the two blocks that it makes are hashed once, and not for each text. Contracts see the key.
+#[derive(Drop)]
+pub(crate) struct ReadyKey {
+    key: [u8; DIGEST],
+    inner: Sha256,
+    outer: Sha256,
+}
+
+impl Model for ReadyKey {
+    ghost use Rattle.std.specs.Prelude.{List, ℕ};
+    ghost use Rattle.sha2.specs.Hashers.{Holds256};
+    ghost use Rattle.rly_tag.specs.Hmac.{key_block, mixed};
+
+    ghost Value = { List ℕ };
+
+    ghost view = { λ k. k.key };
+
+    ghost invariant = { λ k. Holds256 k.inner (mixed 0x36 (key_block k.key)) × Holds256 k.outer (mixed 0x5c (key_block k.key)) };
+}
+
+impl ReadyKey {
+    /// This key, made ready.
+    pub(crate) fn new(key: [u8; DIGEST]) -> ReadyKey
+        ensures { result ≡ key }
+    {
+        let block = key_block(&key);
+        ReadyKey {
+            key,
+            inner: begun(&mixed(INNER_PAD, &block)),
+            outer: begun(&mixed(OUTER_PAD, &block)),
+        }
+    }
+
+    /// The HMAC-SHA-256 of a text under the key.
+    #[tactic(auto, unfolding(crate::specs::Hmac::hmac_sha256))]
+    pub(crate) fn hmac(&self, text: &[u8]) -> [u8; DIGEST]
+        ensures { result ≡ hmac_sha256 self.now text.now }
+    {
+        let inner = ended(&self.inner, text);
+        ended(&self.outer, &inner)
+    }
+}
+
+/// A digest that begins with this piece.
+fn begun(first: &[u8]) -> Sha256
+    ensures { Holds256 result first.now }
+{
+    let mut hasher = Sha256::new();
+    hasher.update(first);
+    hasher
+}
+
+/// The digest of what was begun, with this piece after it.
+fn ended(begun: &Sha256, last: &[u8]) -> [u8; DIGEST]
+    ensures { (first : List ℕ) → Holds256 begun.now first → result ≡ sha256 (first ++ last.now) }
+{
+    let Ok(mut hasher) = begun.clone() else {
+        unreachable!();
+    };
+    hasher.update(last);
     hasher.finalize()
 }

@@ -7,7 +7,7 @@ ghost use Rattle.rly_tag.specs.Keys.{keys_in, keys_in_lines, line_key, one_key, 
 ghost use Rattle.rly_tag.specs.Seal.{sealed, tag_of, unsealed};
 ghost use Rattle.std.specs.Str.{bytes_eq};
 
-use crate::hmac::hmac_sha256;
+use crate::hmac::ReadyKey;
 use hex::FromHex;
 use std::marker::Model;
 
@@ -27,8 +27,8 @@ pub const TAG_BYTES: usize = 16;
 /// changed.
 #[derive(Drop)]
 pub struct Key {
-    first: [u8; KEY_BYTES],
-    second: Option<[u8; KEY_BYTES]>,
+    first: ReadyKey,
+    second: Option<ReadyKey>,
 }
 
 impl Model for Key {
@@ -129,7 +129,7 @@ fn one_key(line: &[u8]) -> Option<Key>
 {
     let first = key_in_line(line)?;
     Some(Key {
-        first,
+        first: ReadyKey::new(first),
         second: None,
     })
 }
@@ -141,8 +141,8 @@ fn two_keys(line: &[u8], other: &[u8]) -> Option<Key>
     let first = key_in_line(line)?;
     let second = key_in_line(other)?;
     Some(Key {
-        first,
-        second: Some(second),
+        first: ReadyKey::new(first),
+        second: Some(ReadyKey::new(second)),
     })
 }
 
@@ -155,16 +155,16 @@ fn key_in_line(line: &[u8]) -> Option<[u8; KEY_BYTES]>
 
 /// The tag of a packet under a key.
 #[tactic(auto, unfolding(crate::specs::Seal::tag_of))]
-fn tag_under(key: &[u8; KEY_BYTES], packet: &[u8]) -> [u8; TAG_BYTES]
+fn tag_under(key: &ReadyKey, packet: &[u8]) -> [u8; TAG_BYTES]
     ensures { result ≡ tag_of key.now packet.now }
 {
     let mut tag = [0; TAG_BYTES];
-    tag.copy_from_slice(&hmac_sha256(key, packet)[..TAG_BYTES]);
+    tag.copy_from_slice(&key.hmac(packet)[..TAG_BYTES]);
     tag
 }
 
 /// Whether this is the tag of a packet under a key.
-fn has_tag(key: &[u8; KEY_BYTES], packet: &[u8], tag: &[u8]) -> bool
+fn has_tag(key: &ReadyKey, packet: &[u8], tag: &[u8]) -> bool
     requires { length tag.now ≡ TAG_BYTES }
     ensures { result ≡ bytes_eq tag.now (tag_of key.now packet.now) }
 {

@@ -1,4 +1,4 @@
-use Rattle.std.proofs.Common.{◌∙◌, ap}
+use Rattle.std.proofs.Common.{◌∙◌, ap, arith}
 use Rattle.rly_journal.specs.Journal.{JournalState}
 use Rattle.rly_daemon.specs.declared.file_disk.FileDisk.{FileDisk}
 use Rattle.rly_daemon.proofs.program.run_serve.Goals as goal
@@ -7,19 +7,21 @@ pub returns-in-Ok : goal.returns-in-Ok
 returns-in-Ok g c =
     let relay = c.in-Ok in
     record {
-      served = record {
-        plan = c.in_ok-plan.plan;
-        opened = c.in_ok-journal.journal;
-        left = relay._relayed.finished.last.value;
-        room = relay.ensures.room;
-        ends = relay.ensures.ends;
-        begun = c.in_ok-journal.ensures.whole;
-        whole = ap (λ (j : JournalState FileDisk). j.broken) relay.ensures.left ∙ relay.ensures.whole;
-        line = relay.ensures.served.0;
-        names = relay.ensures.served.1;
-        seats = relay.ensures.served.2;
-        served = relay.ensures.served.3;
-        begins = g.E.Write.contents c.serve.new.errors;
-        told = c.in_ok-tell_end-in-Ok.ensures;
-      };
+      served = (
+        c.in_ok-plan.plan,
+        relay._relayed.finished.last.value,
+        record {
+          opened = c.in_ok-journal.journal;
+          room = relay.ensures.room;
+          ends = relay.ensures.ends;
+          begun = c.in_ok-journal.ensures.whole;
+          whole = ap (λ (j : JournalState FileDisk). j.broken) relay.ensures.left ∙ relay.ensures.whole;
+          line = relay.ensures.served.0;
+          names = relay.ensures.served.1;
+          seats = omega (arith, relay.ensures.served.2);
+          served = relay.ensures.served.3;
+          begins = g.E.Write.contents c.serve.new.errors;
+          told = c.in_ok-tell_end-in-Ok.ensures;
+        },
+      );
     }

@@ -10,7 +10,7 @@ use Rattle.rly_daemon.proofs.serving.serve.Goals as goal
 -- a plan has 1 to 64 peers and 1 to 64 hops
 pub run_relay-requires-after_bounds : goal.run_relay-requires-after_bounds
 run_relay-requires-after_bounds g c κs within =
-    let count = posts_count _ _ c.args.plan.now c.args.keys c.args.turns c.requires.keys c.in-Ok.ensures in
+    let count = posts_count _ _ c.args.plan.now c.args.keys c.args.turns c.requires.keys c.in-Ok.ensures.posts in
     let peers = c.requires.sound.peer_count in
     let hops = c.requires.sound.hop_count in
     (omega (arith, count, peers.0, hops.0), omega (arith, count, peers.1, hops.1))
@@ -24,20 +24,20 @@ pub returns-in-Ok-outcome_of-clause-ends : goal.returns-in-Ok-outcome_of-clause-
 returns-in-Ok-outcome_of-clause-ends g c =
     let relay = c.in-Ok-run_relay in
     let complete : relay.relayed.complete ≡ true = search rules in
-    let count = posts_count _ _ c.args.plan.now c.args.keys c.args.turns c.requires.keys c.in-Ok.ensures in
+    let count = posts_count _ _ c.args.plan.now c.args.keys c.args.turns c.requires.keys c.in-Ok.ensures.posts in
     let some : 1 ≤ length c.in-Ok.posts.items = omega (arith, count, c.requires.sound.peer_count.0) in
-    turns_end c.args.plan.now c.args.keys c.args.journal.state.params.window c.args.turns relay.relayed.finished.last.value.line.of _ _ _ c.in-Ok.ensures some (as_many_names relay.relayed.finished.last.value.line.lines ∙ relay.ensures.seats) relay.ensures.worked (sym relay.ensures.complete ∙ complete)
+    turns_end (λ l. l) c.args.plan.now c.args.keys c.args.journal.state.params.window c.args.turns relay.relayed.finished.last.value.line.of _ _ _ c.in-Ok.ensures.posts some (omega (arith, as_many_names relay.relayed.finished.last.value.line.lines, relay.ensures.seats)) relay.ensures.worked (sym relay.ensures.complete ∙ complete)
 
 pub returns-in-Ok-outcome_of-clause-worked : goal.returns-in-Ok-outcome_of-clause-worked
 returns-in-Ok-outcome_of-clause-worked g c =
     let relay = c.in-Ok-run_relay in
     let complete : relay.relayed.complete ≡ true = search rules in
-    record { posts = c.in-Ok.posts.items; planned = c.in-Ok.ensures; worked = relay.ensures.worked; seats = relay.ensures.seats; answered = relay.ensures.answered; complete = sym relay.ensures.complete ∙ complete }
+    record { posts = c.in-Ok.posts.items; planned = c.in-Ok.ensures.posts; worked = relay.ensures.worked; seats = omega (arith, relay.ensures.seats); answered = relay.ensures.answered; complete = sym relay.ensures.complete ∙ complete }
 
 -- as many seats as workers
 pub returns-in-Ok-outcome_of-clause-served : goal.returns-in-Ok-outcome_of-clause-served
 returns-in-Ok-outcome_of-clause-served g c =
     let relay = c.in-Ok-run_relay in
     let served = relay.ensures.served in
-    let count = posts_count _ _ c.args.plan.now c.args.keys c.args.turns c.requires.keys c.in-Ok.ensures ∙ sym (workers_count c.args.plan.now) in
+    let count = posts_count _ _ c.args.plan.now c.args.keys c.args.turns c.requires.keys c.in-Ok.ensures.posts ∙ sym (workers_count c.args.plan.now) in
     (served.0, served.1, served.2 ∙ count, served.3)

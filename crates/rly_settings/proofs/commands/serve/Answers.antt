@@ -7,4 +7,5 @@ unfolding serve_app
 returns c =
     let file = then_ruled c.named-bare.result c.in_ok-with_file.with_file _ _ c.in_ok-with_file.ensures c.named-bare.ensures in
     let plan = then_ruled c.in_ok-with_file.with_file c.in_ok-with_plan.with_plan _ _ c.in_ok-with_plan.ensures file in
-    then_ruled c.in_ok-with_plan.with_plan c.in_ok-with_turns.with_turns _ _ c.in_ok-with_turns.ensures plan
+    let turns = then_ruled c.in_ok-with_plan.with_plan c.in_ok-with_turns.with_turns _ _ c.in_ok-with_turns.ensures plan in
+    then_ruled c.in_ok-with_turns.with_turns c.in_ok-with_report.with_report _ _ c.in_ok-with_report.ensures turns

@@ -1,0 +1,31 @@
+use Rattle.std.proofs.Common.{◌∙◌, ap}
+use Rattle.rly_journal.specs.Journal.{JournalState}
+use Rattle.rly_daemon.specs.declared.file_disk.FileDisk.{FileDisk}
+use Rattle.rly_daemon.proofs.program.run_reports.Goals as goal
+
+pub returns : goal.returns
+returns g c =
+    let relay = c.in-Ok in
+    record {
+      served = record {
+        plan = c.in_ok-plan.plan;
+        left = relay.reported.relayed.finished.last.value;
+        served = record {
+          opened = c.in_ok-journal.journal;
+          room = relay.ensures.room;
+          ends = relay.ensures.ends;
+          begun = c.in_ok-journal.ensures.whole;
+          whole = ap (λ (j : JournalState FileDisk). j.broken) relay.ensures.left ∙ relay.ensures.whole;
+          line = relay.ensures.served.0;
+          names = relay.ensures.served.1;
+          seats = relay.ensures.served.2;
+          served = relay.ensures.served.3;
+          begins = g.E.Write.contents c.serve_reporting.new.errors;
+          told = c.in_ok-tell_end.ensures;
+        };
+        seat = relay.reported.watched.seat.value;
+        end = relay.reported.watched.end;
+        all = c.in_ok-reports_ended.ensures;
+        reports = relay.ensures.reported;
+      };
+    }

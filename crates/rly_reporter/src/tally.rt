@@ -1,0 +1,160 @@
+//! What the workers of a station count, in words that its reporter reads.
+
+use crate::counters::Counters;
+use rly_core::{HopId, PeerId};
+use rly_plan::Plan;
+use rly_report::{Counted, PeerCounts, PeerReport};
+use std::alloc::{AllocError, Global};
+use std::sync::Arc;
+use std::sync::atomic::{AtomicU64, Ordering};
+
+/// What the workers of a station count. Each word is written by one worker alone, and what is read of several at once may be of
+/// different moments: contracts say nothing of what another thread reads.
+#[derive(Debug, Drop)]
+pub struct Tally {
+    peers: Vec<PeerTally>,
+    wrong: Vec<AtomicU64>,
+    rounds: AtomicU64,
+    segments: AtomicU64,
+}
+
+/// What is counted of a peer's link.
+#[derive(Debug, Drop)]
+struct PeerTally {
+    heard: AtomicU64,
+    custody: AtomicU64,
+    refused: AtomicU64,
+    malformed: AtomicU64,
+    /// The moment at which it was heard last, if it was heard.
+    last: AtomicU64,
+    wrong: AtomicU64,
+}
+
+impl Tally {
+    /// Nothing was counted of any neighbour of a plan.
+    pub fn new(alloc: Global, plan: &Plan) -> Result<Tally, AllocError> {
+        let mut peers = Vec::new(alloc);
+        for _peer in 0..plan.peer_count() {
+            peers.push(PeerTally::new())?;
+        }
+        let mut wrong = Vec::new(alloc);
+        for _hop in 0..plan.hop_count() {
+            wrong.push(AtomicU64::new(0))?;
+        }
+        Ok(Tally {
+            peers,
+            wrong,
+            rounds: AtomicU64::new(0),
+            segments: AtomicU64::new(0),
+        })
+    }
+
+    /// This was counted of a peer's link.
+    pub fn set_peer(&self, report: &PeerReport) {
+        if let Some(peer) = self.peers.get(place_of(report.peer.0)) {
+            peer.set(&report.counts, report.wrong);
+        }
+    }
+
+    /// So many packets were heard of a hop without a right tag.
+    pub fn set_wrong(&self, hop: HopId, wrong: u64) {
+        if let Some(word) = self.wrong.get(place_of(hop.0)) {
+            word.store(wrong, Ordering::SeqCst);
+        }
+    }
+
+    /// So many rounds were made, and so many segments were opened.
+    pub fn set_rounds(&self, rounds: u64, segments: u64) {
+        self.rounds.store(rounds, Ordering::SeqCst);
+        self.segments.store(segments, Ordering::SeqCst);
+    }
+
+    /// What is told of a peer.
+    fn peer(&self, peer: PeerId) -> PeerReport {
+        match self.peers.get(place_of(peer.0)) {
+            Some(tally) => tally.report(peer),
+            None => PeerReport {
+                peer,
+                counts: PeerCounts::new(),
+                wrong: 0,
+            },
+        }
+    }
+
+    /// How many packets were heard of a hop without a right tag.
+    fn wrong(&self, hop: HopId) -> u64 {
+        match self.wrong.get(place_of(hop.0)) {
+            Some(word) => word.load(Ordering::SeqCst),
+            None => 0,
+        }
+    }
+}
+
+impl PeerTally {
+    fn new() -> PeerTally {
+        PeerTally {
+            heard: AtomicU64::new(0),
+            custody: AtomicU64::new(0),
+            refused: AtomicU64::new(0),
+            malformed: AtomicU64::new(0),
+            last: AtomicU64::new(0),
+            wrong: AtomicU64::new(0),
+        }
+    }
+
+    /// Where a packet was heard, its moment is there before the count says so.
+    fn set(&self, counts: &PeerCounts, wrong: u64) {
+        if let Some(moment) = counts.last {
+            self.last.store(moment, Ordering::SeqCst);
+        }
+        self.heard.store(counts.heard, Ordering::SeqCst);
+        self.custody.store(counts.custody, Ordering::SeqCst);
+        self.refused.store(counts.refused, Ordering::SeqCst);
+        self.malformed.store(counts.malformed, Ordering::SeqCst);
+        self.wrong.store(wrong, Ordering::SeqCst);
+    }
+
+    fn report(&self, peer: PeerId) -> PeerReport {
+        let heard = self.heard.load(Ordering::SeqCst);
+        let moment = self.last.load(Ordering::SeqCst);
+        PeerReport {
+            peer,
+            counts: PeerCounts {
+                heard,
+                custody: self.custody.load(Ordering::SeqCst),
+                refused: self.refused.load(Ordering::SeqCst),
+                malformed: self.malformed.load(Ordering::SeqCst),
+                last: if heard > 0 { Some(moment) } else { None },
+            },
+            wrong: self.wrong.load(Ordering::SeqCst),
+        }
+    }
+}
+
+/// The place of an id in a list.
+fn place_of(id: u16) -> usize {
+    usize::from(id).wrapping_sub(1)
+}
+
+impl Counters for Arc<Tally, Global> {
+    ghost use Rattle.std.specs.Prelude.{None};
+
+    ghost seen = { λ _. None };
+
+    fn look(&mut self) -> Counted {
+        let mut peers = [self.peer(PeerId(1)); 64];
+        for (place, report) in peers.iter_mut().enumerate() {
+            *report = self.peer(PeerId(place as u16 + 1));
+        }
+        let mut wrong = [0; 64];
+        for (place, count) in wrong.iter_mut().enumerate() {
+            *count = self.wrong(HopId(place as u16 + 1));
+        }
+        Counted {
+            peers,
+            wrong,
+            rounds: self.rounds.load(Ordering::SeqCst),
+            segments: self.segments.load(Ordering::SeqCst),
+        }
+    }
+}

@@ -1,0 +1,291 @@
+//! Reports over a desk in memory.
+
+ghost use Rattle.std.specs.Prelude.{None};
+ghost use Rattle.rly_plan.specs.Sound.{IsSoundPlan};
+
+use rly_core::{HopId, Params, PeerId};
+use rly_line::{BatchError, CallError};
+use rly_machine::{Answer, Ask, Command, Machine, Payload, Reply};
+use rly_plan::{Plan, law_plan_is_sound};
+use rly_report::{Counted, PeerCounts, PeerReport};
+use rly_reporter::{Counters, Pace, Reporter, ReporterEnd, reporter_run};
+use rly_threads::{Desk, MemDesk};
+use std::alloc::{AllocError, Global};
+use std::io;
+use std::io::{ErrorKind, Write};
+use std::process::Abort;
+use std::sync::Wait;
+
+/// Station 7, after station 3 and before stations 9 and 10. The contacts are from 100 to 200, and from 150 to 300.
+const PLAN: &str = "station = 7
+peer = [{ id = 1, station = 3, listen = 'a', remote = 'b' }]
+hop = [
+  { id = 1, station = 9, listen = 'c', remote = 'd', contacts = [[100, 200]] },
+  { id = 2, station = 10, listen = 'e', remote = 'f', contacts = [[150, 300]] },
+]
+";
+
+/// Moments in memory: 120, then 250, then the last that a plan may have, and then the end.
+#[derive(Drop)]
+struct Moments {
+    told: u64,
+}
+
+impl Pace for Moments {
+    ghost told = { λ _. None };
+
+    fn next<R: Wait>(&mut self, rt: &R) -> Option<u64> {
+        let _ = rt;
+        self.told = self.told.saturating_add(1);
+        match self.told {
+            1 => Some(120),
+            2 => Some(250),
+            3 => Some(4_503_599_627_370_495),
+            _ => None,
+        }
+    }
+}
+
+/// Counts that rise by one with each look.
+#[derive(Drop)]
+pub(super) struct Rising {
+    looks: u64,
+}
+
+impl Rising {
+    pub(super) fn new() -> Rising {
+        Rising { looks: 0 }
+    }
+}
+
+impl Counters for Rising {
+    ghost seen = { λ _. None };
+
+    fn look(&mut self) -> Counted {
+        self.looks = self.looks.saturating_add(1);
+        let peer = PeerReport {
+            peer: PeerId(1),
+            counts: PeerCounts {
+                heard: self.looks,
+                ..PeerCounts::new()
+            },
+            wrong: 0,
+        };
+        let mut wrong = [0; 64];
+        wrong[1] = self.looks;
+        Counted {
+            peers: [peer; 64],
+            wrong,
+            rounds: self.looks,
+            segments: 0,
+        }
+    }
+}
+
+/// What is told at these moments of a spool that has taken one datagram for hop 1.
+const TOLD: &str = "report 120
+hop 1 taken 1 queued 1 flight 0 dropped 0 released 0 first 0 next 0 count 0 last 0 dropping no moment 0 contact open until 200 wrong 0
+hop 2 taken 0 queued 0 flight 0 dropped 0 released 0 first 0 next 0 count 0 last 0 dropping no moment 0 contact closed until 150 wrong 1
+peer 1 heard 1 custody 0 refused 0 malformed 0 wrong 0
+device seq 1 rounds 1 segments 0
+report 250
+hop 1 taken 1 queued 1 flight 0 dropped 0 released 0 first 0 next 0 count 0 last 0 dropping no moment 0 contact closed wrong 0
+hop 2 taken 0 queued 0 flight 0 dropped 0 released 0 first 0 next 0 count 0 last 0 dropping no moment 0 contact open until 300 wrong 2
+peer 1 heard 2 custody 0 refused 0 malformed 0 wrong 0
+device seq 1 rounds 2 segments 0
+report 4503599627370495
+hop 1 taken 1 queued 1 flight 0 dropped 0 released 0 first 0 next 0 count 0 last 0 dropping no moment 0 contact closed wrong 0
+hop 2 taken 0 queued 0 flight 0 dropped 0 released 0 first 0 next 0 count 0 last 0 dropping no moment 0 contact closed wrong 3
+peer 1 heard 3 custody 0 refused 0 malformed 0 wrong 0
+device seq 1 rounds 3 segments 0
+";
+
+/// A spool that has taken one datagram for hop 1.
+fn spool<R: Abort>(rt: &R, alloc: Global) -> Machine<Payload> {
+    let mut machine = Machine::new(alloc, Params::DEFAULT).expect(rt, "memory");
+    let command = Command::Take {
+        peer: PeerId(1),
+        number: 1,
+        hop: HopId(1),
+        stamp: 0,
+        payload: Payload::new(b"\x00\x0c\x41".to_vec(alloc).expect(rt, "memory")),
+    };
+    let Ok(room) = machine.reserve_for(alloc, &command) else {
+        panic!(rt; "memory");
+    };
+    expect!(rt; matches!(&machine.apply(command, room), Reply::Taken(_)));
+    machine
+}
+
+/// A plan.
+pub(super) fn plan_of<R: Abort>(rt: &R, alloc: Global, text: &str) -> Plan
+    ensures { IsSoundPlan result }
+{
+    law_plan_is_sound();
+    match Plan::from_toml(alloc, text) {
+        Ok(plan) => plan,
+        Err(_) => panic!(rt; "no plan"),
+    }
+}
+
+/// The reporter of that plan runs at this desk with this writer.
+fn run<R: Abort + Wait, K: Desk + Drop, W: Write>(
+    rt: &R,
+    alloc: Global,
+    desk: K,
+    writer: &mut W,
+) -> (ReporterEnd, Reporter<K, Moments, Rising>) {
+    run_of(rt, alloc, &plan_of(rt, alloc, PLAN), desk, writer)
+}
+
+/// The same of any plan.
+fn run_of<R: Abort + Wait, K: Desk + Drop, W: Write>(
+    rt: &R,
+    alloc: Global,
+    plan: &Plan,
+    desk: K,
+    writer: &mut W,
+) -> (ReporterEnd, Reporter<K, Moments, Rising>)
+    requires { IsSoundPlan plan.now }
+{
+    let mut reporter = Reporter {
+        desk,
+        pace: Moments { told: 0 },
+        counters: Rising::new(),
+    };
+    let end = reporter_run(rt, alloc, plan, &mut reporter, writer);
+    (end, reporter)
+}
+
+/// A report is written at each moment, by one look at the counts each, and the reporter ends with the moments.
+#[test]
+fn a_report_is_written_at_each_moment(rt: HostRuntime) {
+    let alloc = rt.alloc();
+    let desk = MemDesk::new(alloc, spool(&rt, alloc));
+    let mut written = Vec::new(alloc);
+    let (end, reporter) = run(&rt, alloc, desk, &mut written);
+    expect!(rt; end == ReporterEnd::Paced);
+    expect!(rt; written.as_slice() == TOLD.as_bytes());
+    expect!(rt; reporter.desk.calls() == 6);
+    expect!(rt; reporter.counters.looks == 3);
+    expect!(rt; reporter.pace.told == 4);
+}
+
+/// A desk whose line is closed.
+#[derive(Drop)]
+struct Shut {
+    asked: u64,
+}
+
+impl Desk for Shut {
+    ghost asked = { λ _. None };
+
+    fn call<R: Wait>(&mut self, rt: &R, ask: Ask) -> Result<Answer, CallError> {
+        let _ = rt;
+        Err(CallError::Closed(ask))
+    }
+
+    fn call_all<R: Wait>(
+        &mut self,
+        rt: &R,
+        asks: &mut Vec<Ask>,
+        answers: &mut Vec<Answer>,
+    ) -> Result<(), BatchError> {
+        let _ = rt;
+        prove!(asks.len() <= 64 && answers.is_empty());
+        self.asked = self.asked.saturating_add(1);
+        Err(BatchError::Closed)
+    }
+}
+
+/// Where the line is closed the reporter ends at its first report, and writes nothing.
+#[test]
+fn a_closed_line_ends_the_reporter(rt: HostRuntime) {
+    let alloc = rt.alloc();
+    let mut written = Vec::new(alloc);
+    let (end, reporter) = run(&rt, alloc, Shut { asked: 0 }, &mut written);
+    expect!(rt; end == ReporterEnd::Closed);
+    expect!(rt; written.is_empty());
+    expect!(rt; reporter.desk.asked == 1);
+    expect!(rt; reporter.counters.looks == 0);
+}
+
+/// A writer that takes so many bytes and then fails.
+#[derive(Drop)]
+struct Narrow {
+    taken: Vec<u8>,
+    room: usize,
+}
+
+impl Write for Narrow {
+    fn write(&mut self, buf: &[u8]) -> io::Result<usize> {
+        let count = buf.len().min(self.room - self.taken.len().min(self.room));
+        if count == 0 {
+            return Err(io::Error::from(ErrorKind::BrokenPipe));
+        }
+        self.taken.extend_from_slice(&buf[..count])?;
+        Ok(count)
+    }
+
+    fn flush(&mut self) -> io::Result<()> {
+        Ok(())
+    }
+}
+
+/// Where the writer fails the reporter ends, and a prefix of its reports was written.
+#[test]
+fn a_failed_writer_ends_the_reporter(rt: HostRuntime) {
+    let alloc = rt.alloc();
+    for room in &[0usize, 40, 500, 640] {
+        let desk = MemDesk::new(alloc, spool(&rt, alloc));
+        let mut narrow = Narrow {
+            taken: Vec::new(alloc),
+            room: *room,
+        };
+        let (end, _reporter) = run(&rt, alloc, desk, &mut narrow);
+        expect!(rt; end == ReporterEnd::Output);
+        expect!(rt; narrow.taken.len() == *room);
+        expect!(rt; TOLD.as_bytes().starts_with(narrow.taken.as_slice()));
+    }
+}
+
+/// A plan of 64 peers and 64 hops.
+pub(crate) fn greatest_text(alloc: Global) -> Result<String, AllocError> {
+    let mut peers = String::new(alloc);
+    let mut hops = String::new(alloc);
+    for id in 1..=64 {
+        let row = format!(in alloc; "{{ id = {id}, station = {id}, listen = 'a', remote = 'b'")?;
+        write!(peers, "{row} }},")?;
+        write!(hops, "{row}, contacts = [[100, 200]] }},")?;
+    }
+    format!(in alloc; "station = 7\npeer = [{peers}]\nhop = [{hops}]\n")
+}
+
+/// That plan.
+fn greatest_plan<R: Abort>(rt: &R, alloc: Global) -> Plan
+    ensures { IsSoundPlan result }
+{
+    let text = greatest_text(alloc).expect(rt, "memory");
+    plan_of(rt, alloc, text.as_str())
+}
+
+/// A report of 64 hops and 64 peers is written whole at each moment: a line for each of them, and two more.
+#[test]
+fn the_greatest_report_is_written(rt: HostRuntime) {
+    let alloc = rt.alloc();
+    let params = Params {
+        hops: 64,
+        peers: 64,
+        ..Params::DEFAULT
+    };
+    let machine = Machine::new(alloc, params).expect(&rt, "memory");
+    let desk = MemDesk::new(alloc, machine);
+    let mut written = Vec::new(alloc);
+    let plan = greatest_plan(&rt, alloc);
+    let (end, reporter) = run_of(&rt, alloc, &plan, desk, &mut written);
+    expect!(rt; end == ReporterEnd::Paced);
+    expect!(rt; reporter.desk.calls() == 192);
+    let lines = written.iter().filter(|byte| **byte == b'\n').count();
+    expect!(rt; lines == 3 * (64 + 64 + 2));
+    expect!(rt; written.as_slice().ends_with(b"\ndevice seq 0 rounds 3 segments 0\n"));
+}

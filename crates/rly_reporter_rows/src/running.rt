@@ -1,0 +1,247 @@
+//! A relay in threads with a reporter beside it.
+
+ghost use Rattle.std.specs.Prelude.{None, false};
+
+use crate::reporters::{Rising, plan_of};
+use rly_core::{Geometry, HopId, Params, PeerId};
+use rly_disk::{After, Disk, FaultDisk, MemDisk};
+use rly_journal::Journal;
+use rly_reporter::{Pace, Reported, ReporterEnd, run_reported};
+use rly_segment::format;
+use rly_threads::{Go, MemLink, Point, Post, Turn, Worker};
+use std::alloc::Global;
+use std::process::Abort;
+use std::sync::atomic::{AtomicU64, Ordering};
+use std::sync::{OnceLock, Wait};
+use std::thread;
+use std::time::{Clock, Duration};
+
+/// Station 7, after station 3 and before station 9. Its contact is from 1000 to 2000.
+const PLAN: &str = "station = 7
+peer = [{ id = 1, station = 3, listen = 'a', remote = 'b' }]
+hop = [{ id = 1, station = 9, listen = 'c', remote = 'd', contacts = [[1000, 2000]] }]
+route = [{ destination = 12, hop = 1 }]
+";
+
+/// Data number 1 with payload `000c41` to station 7, from station 3.
+const DATA: &[u8] =
+    b"\x52\x4c\x01\x01\x00\x03\x00\x07\x00\x00\x00\x00\x00\x00\x00\x01\x00\x03\x00\x0c\x41";
+
+const WORKERS: [Worker; 2] = [Worker::Receiver(PeerId(1)), Worker::Sender(HopId(1))];
+
+/// Two segments of the least length for its parameters.
+const DEVICE: Geometry = Geometry {
+    params: Params {
+        hops: 1,
+        peers: 4,
+        window: 8,
+        items: 1_024,
+        bytes: 4_096,
+        maxpacket: 1_500,
+        target: 5_000,
+        interval: 100_000,
+    },
+    segments: 2,
+    length: 110_148,
+};
+
+/// A device in memory that was formatted and not used.
+fn device<R: Abort>(rt: &R, alloc: Global) -> MemDisk {
+    let bytes = Vec::from_elem(alloc, 0u8, 220_360).expect(rt, "memory");
+    let mut disk = MemDisk::new(alloc, bytes);
+    let formatted = format(alloc, &mut disk, &DEVICE);
+    expect!(rt; formatted.is_ok());
+    disk
+}
+
+/// The same, whose first call after those that open it fails.
+fn failing<R: Abort>(rt: &R, alloc: Global) -> FaultDisk<MemDisk> {
+    let disk = device(rt, alloc);
+    let before = disk.calls();
+    let journal = Journal::open(alloc, disk).ok().expect(rt, "a journal");
+    let disk = journal.into_disk();
+    let opening = disk.calls().wrapping_sub(before);
+    FaultDisk::new(disk, opening.wrapping_add(1), 0, After::GoesOn)
+}
+
+/// Eight turns at moment 150. It counts the answers.
+#[derive(Drop)]
+struct Counting<'a> {
+    answered: &'a AtomicU64,
+    turns: u64,
+}
+
+impl<'a> Turn for Counting<'a> {
+    ghost told = { λ _. None };
+
+    ghost endless = { λ _. false };
+
+    ghost latest = { λ _. 0 };
+
+    fn between<R: Wait>(&mut self, rt: &R, worker: Worker, point: Point) -> Go {
+        let _ = rt;
+        let _ = worker;
+        match point {
+            Point::Start => self.turns = self.turns.saturating_add(1),
+            Point::Heard | Point::Call | Point::Taken(_) => {}
+            Point::Answered => {
+                self.answered.fetch_add(1, Ordering::SeqCst);
+            }
+        }
+        Go {
+            now: 150,
+            since: 0,
+            on: self.turns <= 8,
+        }
+    }
+}
+
+/// One report at moment 150: once so many calls of workers were answered, or once the word was said. It waits 1,000 times 10 ms
+/// at most.
+#[derive(Drop)]
+struct Once<'a, C: Clock + Drop> {
+    clock: C,
+    answered: &'a AtomicU64,
+    word: &'a OnceLock<bool>,
+    wanted: u64,
+    told: u64,
+}
+
+impl<'a, C: Clock + Drop> Pace for Once<'a, C> {
+    ghost told = { λ _. None };
+
+    fn next<R: Wait>(&mut self, rt: &R) -> Option<u64> {
+        let _ = rt;
+        self.told = self.told.saturating_add(1);
+        if self.told > 1 {
+            return None;
+        }
+        for _wait in 0..1_000 {
+            if self.answered.load(Ordering::SeqCst) >= self.wanted || self.word.get().is_some() {
+                break;
+            }
+            thread::sleep(&self.clock, Duration::from_millis(10));
+        }
+        Some(150)
+    }
+}
+
+/// The posts of a receiver, which hears a datagram, and of a sender.
+fn posts<'a, R: Abort>(
+    rt: &R,
+    alloc: Global,
+    answered: &'a AtomicU64,
+) -> Vec<Post<MemLink, Counting<'a>>> {
+    let mut posts = Vec::new(alloc);
+    for worker in WORKERS {
+        let mut coming = Vec::new(alloc);
+        if worker == Worker::Receiver(PeerId(1)) {
+            let packet = DATA.to_vec(alloc).expect(rt, "memory");
+            coming.push(Some(packet)).expect(rt, "memory");
+        }
+        let link = MemLink::new(alloc, coming, 0);
+        let turn = Counting { answered, turns: 0 };
+        posts.push(Post { worker, link, turn }).expect(rt, "memory");
+    }
+    posts
+}
+
+/// What is told after one datagram was taken.
+const TOLD: &str = "report 150
+hop 1 taken 1 queued 1 flight 0 dropped 0 released 0 first 0 next 0 count 0 last 0 dropping no moment 0 contact closed until 1000 wrong 0
+peer 1 heard 1 custody 0 refused 0 malformed 0 wrong 0
+device seq 1 rounds 1 segments 0
+";
+
+/// The reporter's Show is answered beside the calls of the workers, also where these have ended: the relay waits until the reporter
+/// has left its seat.
+#[test]
+fn a_running_relay_reports(rt: HostRuntime) {
+    let alloc = rt.alloc();
+    let plan = plan_of(&rt, alloc, PLAN);
+    let answered = AtomicU64::new(0);
+    let posts = posts(&rt, alloc, &answered);
+    assert!(rt; posts.len() == 2);
+    let journal = Journal::open(alloc, device(&rt, alloc))
+        .ok()
+        .expect(&rt, "a journal");
+    let word = OnceLock::new();
+    let pace = Once {
+        clock: rt,
+        answered: &answered,
+        word: &word,
+        wanted: 1,
+        told: 0,
+    };
+    let counters = Rising::new();
+    let mut written = Vec::new(alloc);
+    let reported = run_reported(
+        &rt,
+        alloc,
+        journal,
+        &plan,
+        posts,
+        pace,
+        counters,
+        &mut written,
+        &word,
+    );
+    let Ok(reported) = reported else {
+        panic!(rt; "no relay");
+    };
+    expect!(rt; reported.had_thread);
+    expect!(rt; reported.relayed.complete);
+    expect!(rt; !reported.relayed.finished.broken);
+    expect!(rt; reported.watched.end == ReporterEnd::Paced);
+    expect!(rt; written.as_slice() == TOLD.as_bytes());
+    expect!(rt; matches!(word.get(), Some(false)));
+}
+
+/// Checks that the journal is broken, that the workers were told to end, and that the reporter found the line closed.
+fn expect_closed<R: Abort>(
+    rt: &R,
+    reported: &Reported<FaultDisk<MemDisk>, MemLink, Counting<'_>, Once<'_, HostRuntime>, Rising>,
+) {
+    expect!(rt; reported.relayed.finished.broken);
+    expect!(rt; reported.relayed.is_cut);
+    expect!(rt; reported.watched.end == ReporterEnd::Closed);
+}
+
+/// Where the journal breaks the relay doesn't wait for the reporter, whose word is said, and whose line is closed.
+#[test]
+fn a_relay_that_breaks_ends_its_reporter(rt: HostRuntime) {
+    let alloc = rt.alloc();
+    let plan = plan_of(&rt, alloc, PLAN);
+    let answered = AtomicU64::new(0);
+    let posts = posts(&rt, alloc, &answered);
+    assert!(rt; posts.len() == 2);
+    let journal = Journal::open(alloc, failing(&rt, alloc))
+        .ok()
+        .expect(&rt, "a journal");
+    let word = OnceLock::new();
+    let pace = Once {
+        clock: rt,
+        answered: &answered,
+        word: &word,
+        wanted: 1_000,
+        told: 0,
+    };
+    let counters = Rising::new();
+    let mut written = Vec::new(alloc);
+    let reported = run_reported(
+        &rt,
+        alloc,
+        journal,
+        &plan,
+        posts,
+        pace,
+        counters,
+        &mut written,
+        &word,
+    );
+    let Ok(reported) = reported else {
+        panic!(rt; "no relay");
+    };
+    expect_closed(&rt, &reported);
+    expect!(rt; written.is_empty());
+}
