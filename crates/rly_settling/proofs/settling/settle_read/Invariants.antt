@@ -1,0 +1,14 @@
+use Rattle.std.proofs.Common.{◌≡◌, ◌+◌, ◌*◌, length}
+use Rattle.rly_segment.specs.Heads.{segment_place}
+use Rattle.rly_moving.proofs.Relocations.{first_hops, hops_past}
+use Rattle.rly_settling.proofs.AsRead.{as_read}
+use Rattle.rly_settling.proofs.settling.settle_read.Given as goal
+
+-- the hops so far lie in the head
+abbrev pub invariant-loop-index : goal.invariant-loop-index
+invariant-loop-index l = record {
+  state : l.machine.state ≡ record l.initial.machine.state {
+    hops = first_hops as_read l.index (segment_place l.geometry l.segment + 21 + 8 * length l.initial.machine.state.lasts) l.initial.machine.state.hops;
+  };
+  next : l.at ≡ hops_past as_read l.index (segment_place l.geometry l.segment + 21 + 8 * length l.initial.machine.state.lasts) l.initial.machine.state.hops;
+}
