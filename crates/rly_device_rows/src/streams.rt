@@ -1,8 +1,10 @@
 //! Readers and writers that give and take little at a time, are interrupted, and fail.
 
 use rly_stream::{StreamFault, read_some, write_whole};
+use std::alloc::{AllocError, Global};
 use std::io;
 use std::io::{Error, ErrorKind, Read, Write};
+use std::process::Abort;
 use std::test::Fail;
 
 /// A reader that gives its bytes one at a time, interrupted before each, and then fails.
@@ -110,6 +112,83 @@ fn all_is_written(rt: HostRuntime) -> Result<(), Fail> {
     expect!(rt; write_whole(&mut writer, b"") == Ok(()));
     expect!(rt; write_whole(&mut writer, b" end") == Ok(()));
     expect!(rt; writer.written.as_slice() == b"hop 1 taken 6 end".as_slice());
+    Ok(())
+}
+
+/// A stream that is interrupted so many times, and then gives or takes all.
+#[derive(Drop)]
+struct Interrupted {
+    left: u32,
+}
+
+impl Interrupted {
+    /// Fails, if it is to be interrupted once more.
+    fn interrupt(&mut self) -> io::Result<()> {
+        if self.left == 0 {
+            return Ok(());
+        }
+        self.left -= 1;
+        Err(Error::from(ErrorKind::Interrupted))
+    }
+}
+
+impl Read for Interrupted {
+    fn read(&mut self, buffer: &mut [u8]) -> io::Result<usize> {
+        self.interrupt()?;
+        Ok(buffer.len())
+    }
+}
+
+impl Write for Interrupted {
+    fn write(&mut self, text: &[u8]) -> io::Result<usize> {
+        self.interrupt()?;
+        Ok(text.len())
+    }
+
+    fn flush(&mut self) -> io::Result<()> {
+        Ok(())
+    }
+}
+
+#[test]
+fn a_call_is_made_again_as_often_as_it_is_interrupted(rt: HostRuntime) -> Result<(), Fail> {
+    let mut stream = Interrupted { left: 100_000 };
+    let mut buffer = [0u8; 8];
+    expect!(rt; read_some(&mut stream, &mut buffer) == Ok(8));
+    stream.left = 100_000;
+    expect!(rt; write_whole(&mut stream, b"ok") == Ok(()));
+    Ok(())
+}
+
+/// A buffer of so many bytes is filled by one read.
+fn expect_filled(rt: &impl Abort, alloc: Global, length: usize) -> Result<(), AllocError> {
+    let mut buffer = vec![in alloc; 0u8; length]?;
+    let mut reader = Interrupted { left: 0 };
+    expect!(rt; read_some(&mut reader, &mut buffer) == Ok(length));
+    Ok(())
+}
+
+#[test]
+fn a_buffer_of_any_length_is_filled(rt: HostRuntime) -> Result<(), Fail> {
+    for length in [0, 1, 70_000, 1_100_000] {
+        expect_filled(&rt, rt.alloc(), length)?;
+    }
+    Ok(())
+}
+
+/// So long a text, three bytes at a time.
+#[test]
+fn a_long_text_is_written_whole(rt: HostRuntime) -> Result<(), Fail> {
+    let alloc = rt.alloc();
+    let text = vec![in alloc; b'a'; 1_100_000]?;
+    let mut writer = Full {
+        written: Vec::new(alloc),
+        room: 1_100_000,
+        interrupted: false,
+        fault: ErrorKind::TimedOut,
+    };
+    expect!(rt; write_whole(&mut writer, &text) == Ok(()));
+    expect!(rt; writer.written.len() == 1_100_000);
     Ok(())
 }
 

@@ -113,6 +113,105 @@ fn what_is_given_is_read(rt: HostRuntime) {
     expect!(rt; told == Some(Settings::Plan { plan, at }));
 }
 
+/// Each option of `format` together, and those of `sim` and `serve`, at 0 and at the last number of 64 bits: whether they are
+/// within the limits of a spool is checked later.
+#[test]
+fn numbers_are_read_as_they_are(rt: HostRuntime) {
+    for (text, number) in [("0", 0), ("18446744073709551615", u64::MAX)] {
+        let words = [
+            "rly",
+            "format",
+            "--hops",
+            text,
+            "--peers",
+            text,
+            "--window",
+            text,
+            "--items",
+            text,
+            "--bytes",
+            text,
+            "--maxpacket",
+            text,
+            "--target",
+            text,
+            "--interval",
+            text,
+            "--segments",
+            text,
+            "--length",
+            text,
+            "--force",
+            "spool",
+        ];
+        let params = Params {
+            hops: number,
+            peers: number,
+            window: number,
+            items: number,
+            bytes: number,
+            maxpacket: number,
+            target: number,
+            interval: number,
+        };
+        let format = settings_of(&rt, words.as_slice());
+        let file = "spool";
+        expect!(rt; format == Some(Settings::Format {
+            file,
+            params,
+            segments: number,
+            length: Some(number),
+            force: true
+        }));
+        let words = ["rly", "sim", "--hops", text, "--interval", text];
+        let sim = settings_of(&rt, words.as_slice());
+        let params = Params {
+            hops: number,
+            interval: number,
+            ..Params::DEFAULT
+        };
+        expect!(rt; sim == Some(Settings::Sim { params }));
+        let words = [
+            "rly",
+            "serve",
+            "spool",
+            "plan.toml",
+            "--turns",
+            text,
+            "--report",
+            text,
+        ];
+        let serve = settings_of(&rt, words.as_slice());
+        let plan = "plan.toml";
+        expect!(rt; serve == Some(Settings::Serve {
+            file,
+            plan,
+            turns: number,
+            report: number
+        }));
+    }
+}
+
+/// A path may have any letters and be long, or be `-`.
+#[test]
+fn paths_are_read_as_they_are(rt: HostRuntime) {
+    let bytes = [b'a'; 5_000];
+    let long = str::from_utf8(bytes.as_slice()).ok().expect(&rt, "a text");
+    for file in [long, "Spule für Müller 1", "-"] {
+        let words = ["rly", "play", file];
+        let play = settings_of(&rt, words.as_slice());
+        expect!(rt; play == Some(Settings::Play { file, batch: 1 }));
+        let words = ["rly", "serve", "spool", file];
+        let serve = settings_of(&rt, words.as_slice());
+        expect!(rt; serve == Some(Settings::Serve {
+            file: "spool",
+            plan: file,
+            turns: 0,
+            report: 0
+        }));
+    }
+}
+
 #[test]
 fn bad_words_are_refused(rt: HostRuntime) {
     assert!(rt; are_bad(&rt, ["rly"].as_slice()), "no command");

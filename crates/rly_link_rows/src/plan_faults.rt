@@ -141,10 +141,13 @@ fn a_number_out_of_its_range_is_53(rt: HostRuntime) -> Result<(), Fail> {
             ("station = 7", "station = 65535", 0),
             ("station = 3", "station = 0", 53),
             ("station = 9", "station = 65536", 53),
+            ("station = 3", "station = 65535", 0),
+            ("station = 9", "station = 65535", 0),
             ("id = 1\n", "id = 2\n", 53),
             ("id = 1\nstation = 9", "id = 0\nstation = 9", 53),
             ("destination = 12", "destination = 0", 53),
             ("destination = 12", "destination = 65536", 53),
+            ("destination = 12", "destination = 65535", 0),
             ("hop = 1\n", "hop = 0\n", 53),
             ("[300, 350]", "[300, 300]", 53),
             ("[300, 350]", "[350, 300]", 53),
@@ -282,13 +285,13 @@ fn answer_to_routes(alloc: Global, most: u64) -> Result<u8, AllocError> {
     Ok(answer(alloc, text.as_str()))
 }
 
-/// The answer for a plan with addresses of so many bytes.
-fn answer_to_addresses(alloc: Global, length: u64) -> Result<u8, AllocError> {
-    let mut name = String::new(alloc);
+/// The answer for a plan with an address of so many bytes, or with the path of a key in its place.
+fn answer_to_text(alloc: Global, key: &str, length: u64) -> Result<u8, AllocError> {
+    let mut text = String::from_str(alloc, key)?;
     for _ in 0..length {
-        name.push('n')?;
+        text.push('n')?;
     }
-    answer_to_change(alloc, "127.0.0.1:4001", name.as_str())
+    answer_to_change(alloc, "listen = \"127.0.0.1:4003", text.as_str())
 }
 
 #[test]
@@ -299,10 +302,12 @@ fn many_destinations_may_have_a_route(rt: HostRuntime) -> Result<(), Fail> {
 }
 
 #[test]
-fn addresses_have_any_length(rt: HostRuntime) -> Result<(), Fail> {
-    for length in &[0, 1, 64, 255, 10_000] {
-        let found = answer_to_addresses(rt.alloc(), *length)?;
-        expect!(rt; found == 0, *length);
+fn addresses_and_paths_of_keys_have_any_length(rt: HostRuntime) -> Result<(), Fail> {
+    for key in &["listen = \"", "listen = ''\nkey = \""] {
+        for length in &[0, 1, 64, 255, 10_000] {
+            let found = answer_to_text(rt.alloc(), *key, *length)?;
+            expect!(rt; found == 0, *length);
+        }
     }
     Ok(())
 }

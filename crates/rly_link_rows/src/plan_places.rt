@@ -1,4 +1,5 @@
 //! Texts that are no plan, and where the first fault of each is.
+use crate::plan_faults::neighbours;
 use crate::plans::WHOLE;
 use rly_plan::Plan;
 use std::alloc::{AllocError, Global};
@@ -205,6 +206,42 @@ fn what_is_there_twice_has_the_first_of_them(rt: HostRuntime) -> Result<(), Fail
     .enumerate()
     {
         let text = format!(in rt.alloc(); "{WHOLE}{tail}")?;
+        let found = answer(rt.alloc(), text.as_str())?;
+        expect!(rt; found.as_str() == *wanted, index as u64);
+    }
+    Ok(())
+}
+
+/// What is told of a text whose fault stands behind 70,000 empty lines.
+#[test]
+fn a_fault_may_be_far_down(rt: HostRuntime) -> Result<(), Fail> {
+    let mut text = String::from_str(rt.alloc(), WHOLE)?;
+    for _ in 0..70_000 {
+        text.push('\n')?;
+    }
+    text.push_str(" = 7\n")?;
+    let found = answer(rt.alloc(), text.as_str())?;
+    expect!(rt; found.as_str() == "50 line 70017, column 2");
+    Ok(())
+}
+
+/// What follows the addresses of the last of 64 hops, and where the first fault of that plan is.
+const LAST_HOPS: [(&str, &str); 6] = [
+    (", contacts = []", ""),
+    (", contacts = [], color = 1", "54 hop[64]"),
+    ("", "50 hop[64].contacts"),
+    (", contacts = [], resend = 9", "53 hop[64].resend"),
+    (", contacts = [[5, 6], [1, 2]]", "51 hop[64].contacts[2]"),
+    (", contacts = [[1, 3], [2, 4]]", "52 hop[64].contacts[2]"),
+];
+
+#[test]
+fn the_last_hop_has_its_place(rt: HostRuntime) -> Result<(), Fail> {
+    let hops = neighbours(rt.alloc(), 63, ", contacts = []")?;
+    for (index, (more, wanted)) in LAST_HOPS.iter().enumerate() {
+        let text = format!(in rt.alloc();
+            "station = 7\npeer = [{{ id = 1, station = 3, listen = '', remote = '' }}]\nhop = [{hops}{{ id = 64, station = 64, listen = '', remote = ''{more} }}]\n"
+        )?;
         let found = answer(rt.alloc(), text.as_str())?;
         expect!(rt; found.as_str() == *wanted, index as u64);
     }

@@ -20,6 +20,8 @@ macro_rules! expect {
 }
 
 #[cfg(test)]
+mod broad;
+#[cfg(test)]
 mod carried_device;
 #[cfg(test)]
 mod comparison;

@@ -179,3 +179,20 @@ fn a_refused_growth_changes_nothing(rt: HostRuntime) -> Result<(), Fail> {
     expect!(rt; counts(&disk) == [40, failures, 20, 0]);
     Ok(())
 }
+
+/// Two hundred bytes, each by a write of its own.
+#[test]
+fn many_writes_before_a_sync(rt: HostRuntime) -> Result<(), Fail> {
+    let alloc = rt.alloc();
+    let mut disk = mem_disk(alloc, &[5; 256])?;
+    for byte in 0..200u8 {
+        put(&mut disk, u64::from(byte), &[byte])?;
+    }
+    expect!(rt; disk.is_image(&[5; 256]));
+    expect!(rt; counts(&disk) == [200, 0, 0, 0]);
+    disk.sync()?;
+    expect!(rt; !disk.is_image(&[5; 256]));
+    expect!(rt; reads(alloc, &mut disk, 0, &[0, 1, 2, 3])?);
+    expect!(rt; reads(alloc, &mut disk, 197, &[197, 198, 199, 5])?);
+    Ok(())
+}
