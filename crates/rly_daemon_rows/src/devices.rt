@@ -341,3 +341,64 @@ fn a_disk_is_looked_at(rt: HostRuntime) -> Result<(), Fail> {
     expect!(rt; Journal::open(rt.alloc(), disk).is_ok());
     Ok(())
 }
+
+/// What `play` writes for so many takes of peer 1 that are all taken.
+fn all_taken(alloc: Global, count: u64) -> Result<String, Fail> {
+    let mut text = String::new(alloc);
+    for number in 1..=count {
+        writeln!(text, "taken 1 {number}")?;
+    }
+    Ok(text)
+}
+
+/// What is told where a device that holds 64 live datagrams would be formatted.
+const MANY_LIVE: &[u8] =
+    b"refused 23 device\nrly: device: live datagrams: 64; --force formats it, and they are lost\n";
+
+/// What `audit` tells of them.
+const MANY_BOOKS: &[u8] = b"hop 1 taken 64 queued 64 flight 0 dropped 0 released 0\n\
+peer 1 last 64\nseq 64\nbalance ok\n";
+
+/// Checks that a device of two segments of the greatest length, whose second begins past 2 GiB, is as any other.
+fn expect_long_device(rt: &(impl Abort + Host), path: &str) -> Result<(), Fail> {
+    let words = [
+        "rly",
+        "format",
+        path,
+        "--hops=1",
+        "--peers=1",
+        "--items=64",
+        "--bytes=4096",
+        "--length=2147483647",
+    ];
+    expect(rt, &words, b"", 0, b"formatted 4294967358\n", b"");
+    let lines = takes(rt.alloc(), 64, 1)?;
+    let taken = all_taken(rt.alloc(), 64)?;
+    let play = ["rly", "play", path, "--batch=64"];
+    expect(rt, &play, lines.as_bytes(), 0, taken.as_bytes(), b"");
+    expect(rt, &["rly", "audit", path], b"", 0, MANY_BOOKS, b"");
+    expect_refused(rt, &words, MANY_LIVE);
+    Ok(())
+}
+
+/// A device may be longer than 4 GiB, and is reached by a path of 3,900 bytes.
+#[test]
+fn the_longest_device_is_as_any_other(rt: HostRuntime) -> Result<(), Fail> {
+    let path = path_of(&rt, "longest")?;
+    let long = lengthened(rt.alloc(), path.as_str())?;
+    expect_long_device(&rt, long.as_str())?;
+    fs::remove_file(&rt, path.as_str())?;
+    Ok(())
+}
+
+/// The same path by 1,900 steps more, each of which stays in its folder.
+pub(super) fn lengthened(alloc: Global, path: &str) -> Result<String, Fail> {
+    let (folder, name) = path.rsplit_once('/').ok_or("a folder")?;
+    let mut long = String::from_str(alloc, folder)?;
+    for _step in 0..1_900 {
+        long.push_str("/.")?;
+    }
+    long.push('/')?;
+    long.push_str(name)?;
+    Ok(long)
+}

@@ -55,14 +55,16 @@ fn expect_heard(
     Ok(())
 }
 
-/// Checks that a packet comes to the neighbour's socket.
+/// Checks that a packet comes to the neighbour's socket, and so does one of 1,234 bytes: the longest, with its tag.
 fn expect_sent(rt: &(impl Abort + Host), link: &mut UdpLink<HostRuntime>) -> Result<(), Fail> {
     let mut buffer = [0; MAX_PACKET];
     let remote = UdpSocket::bind(rt, "127.0.0.1:4022")?;
     remote.set_read_timeout(Some(Duration::from_millis(1_000)))?;
-    expect!(rt; link.send(b"xyz") == Ok(()));
-    expect!(rt; remote.recv(&mut buffer)? == 3);
-    expect!(rt; &buffer[..3] == b"xyz".as_slice());
+    for packet in [b"xyz".as_slice(), [7; 1_234].as_slice()] {
+        expect!(rt; link.send(packet) == Ok(()));
+        expect!(rt; remote.recv(&mut buffer)? == packet.len());
+        expect!(rt; buffer.starts_with(packet));
+    }
     Ok(())
 }
 

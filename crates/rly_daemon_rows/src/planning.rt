@@ -1,9 +1,10 @@
 //! `rly plan`: a plan in a file as text, up to the status.
 
-use crate::devices::path_of;
+use crate::devices::{lengthened, path_of};
 use crate::keys::{LINE, make_file};
 use crate::programs::{expect, finish};
 use rly_daemon::Host;
+use std::alloc::Global;
 use std::fs;
 use std::process::Abort;
 use std::test::Fail;
@@ -77,12 +78,14 @@ fn made_folder(rt: &HostRuntime, name: &str) -> Result<(String, String, String),
     Ok((folder, plan, key))
 }
 
-/// Keys of links are read from beside the plan, and aren't told.
+/// Keys of links are read from beside the plan, and aren't told. The plan's path may have 3,900 bytes.
 #[test]
 fn a_plan_is_told(rt: HostRuntime) -> Result<(), Fail> {
     let (folder, plan, key) = made_folder(&rt, "told")?;
     make_file(&rt, key.as_str(), LINE, 0o600)?;
     expect_told(&rt, plan.as_str());
+    let long = lengthened(rt.alloc(), plan.as_str())?;
+    expect_told(&rt, long.as_str());
     fs::remove_dir_all(&rt, folder.as_str())?;
     Ok(())
 }
@@ -135,5 +138,42 @@ fn a_plan_that_is_none_is_refused(rt: HostRuntime) -> Result<(), Fail> {
     fs::remove_file(&rt, plan.as_str())?;
     let none = "rly: plan failed\nrly: plan: No such file or directory (os error 2)\n";
     expect(&rt, &words, b"", 1, b"", none.as_bytes());
+    Ok(())
+}
+
+/// A plan of 64 peers and 64 hops, each with the key of this file.
+fn keyed_plan(alloc: Global, key: &str) -> Result<String, Fail> {
+    let mut text = String::new(alloc);
+    writeln!(text, "station = 7")?;
+    for id in 1..=64 {
+        writeln!(
+            text,
+            "[[peer]]\nid = {id}\nstation = {id}\nlisten = ''\nremote = ''\nkey = '{key}'"
+        )?;
+    }
+    for id in 1..=64 {
+        writeln!(
+            text,
+            "[[hop]]\nid = {id}\nstation = {id}\nlisten = ''\nremote = ''\nkey = '{key}'\ncontacts = []"
+        )?;
+    }
+    Ok(text)
+}
+
+/// Each of 128 links of a plan may have a key, and all are told.
+#[test]
+fn the_greatest_plan_is_told(rt: HostRuntime) -> Result<(), Fail> {
+    let plan = path_of(&rt, "greatest-plan")?;
+    let key = path_of(&rt, "greatest.key")?;
+    make_file(&rt, key.as_str(), LINE, 0o600)?;
+    let text = keyed_plan(rt.alloc(), key.as_str())?;
+    fs::write(&rt, plan.as_str(), text.as_str())?;
+    let told = finish(&rt, &["rly", "plan", plan.as_str(), "--at=0"], b"");
+    expect!(rt; told.status == 0 && told.errors.is_empty());
+    // The moment, the station, 64 peers, and three lines for each of 64 hops.
+    expect!(rt; told.output.iter().filter(|byte| **byte == b'\n').count() == 258);
+    expect!(rt; told.output.ends_with(b"\nhop 64 resend 160 contacts 0 open 0\nhop 64 contact closed\n"));
+    fs::remove_file(&rt, key.as_str())?;
+    fs::remove_file(&rt, plan.as_str())?;
     Ok(())
 }

@@ -247,22 +247,22 @@ fn a_relay_needs_room_and_links(rt: HostRuntime) -> Result<(), Fail> {
     expect_links(&rt, device.as_str(), plan.as_str())
 }
 
-/// A plan of 64 peers and 64 hops, each with a loopback address of its own, and a comment of 70,000 bytes.
-fn greatest_plan(alloc: Global) -> Result<String, AllocError> {
+/// A plan of 64 peers and 64 hops, each with a loopback address of its own at this port, and a comment of 70,000 bytes.
+fn greatest_plan(alloc: Global, port: u16) -> Result<String, AllocError> {
     let mut text = String::new(alloc);
     writeln!(text, "station = 7")?;
     for id in 1..=64 {
         writeln!(text, "[[peer]]\nid = {id}\nstation = {id}")?;
         writeln!(
             text,
-            "listen = \"127.0.1.{id}:4001\"\nremote = \"127.0.0.1:9\""
+            "listen = \"127.0.1.{id}:{port}\"\nremote = \"127.0.0.1:9\""
         )?;
     }
     for id in 1..=64 {
         writeln!(text, "[[hop]]\nid = {id}\nstation = {id}\ncontacts = []")?;
         writeln!(
             text,
-            "listen = \"127.0.2.{id}:4001\"\nremote = \"127.0.0.1:9\""
+            "listen = \"127.0.2.{id}:{port}\"\nremote = \"127.0.0.1:9\""
         )?;
     }
     text.push('#')?;
@@ -272,20 +272,42 @@ fn greatest_plan(alloc: Global) -> Result<String, AllocError> {
     Ok(text)
 }
 
+/// Runs a relay of the greatest plan, on a new device and at this port, for one turn and with one option more. Its output.
+fn greatest_run(
+    rt: &(impl Abort + Host),
+    device: &str,
+    port: u16,
+    option: &str,
+) -> Result<Vec<u8>, Fail> {
+    let plan = format!(in rt.alloc(); "{device}-plan")?;
+    let text = greatest_plan(rt.alloc(), port)?;
+    fs::write(rt, plan.as_str(), text.as_str())?;
+    make_wide(rt, device);
+    let words = ["rly", "serve", device, plan.as_str(), "--turns=1", option];
+    let run = finish(rt, &words, b"");
+    expect!(*rt; run.status == 0);
+    expect!(*rt; run.errors.ends_with(b"\nrly: ended after 1 turns\n"));
+    fs::remove_file(rt, plan.as_str())?;
+    fs::remove_file(rt, device)?;
+    Ok(run.output)
+}
+
 /// A relay may have as many workers as a plan has neighbours.
 #[test]
 fn the_greatest_relay_is_served(rt: HostRuntime) -> Result<(), Fail> {
     let device = path_of(&rt, "wide")?;
-    let plan = path_of(&rt, "wide-plan")?;
-    let text = greatest_plan(rt.alloc())?;
-    fs::write(&rt, plan.as_str(), text.as_str())?;
-    make_wide(&rt, device.as_str());
-    let words = ["rly", "serve", device.as_str(), plan.as_str(), "--turns=1"];
-    let run = finish(&rt, &words, b"");
-    expect!(rt; run.status == 0);
-    expect!(rt; run.errors.ends_with(b"\nrly: ended after 1 turns\n"));
-    fs::remove_file(&rt, plan.as_str())?;
-    fs::remove_file(&rt, device.as_str())?;
+    let output = greatest_run(&rt, device.as_str(), 4001, "--report=0")?;
+    expect!(rt; output.is_empty());
+    Ok(())
+}
+
+/// A reporter beside as many workers tells of each neighbour.
+#[test]
+fn the_greatest_relay_reports(rt: HostRuntime) -> Result<(), Fail> {
+    let device = path_of(&rt, "told-wide")?;
+    let output = greatest_run(&rt, device.as_str(), 4071, "--report=100000")?;
+    let report = str::from_utf8(output.as_slice()).ok().ok_or("a text")?;
+    expect!(rt; report.contains("\nhop 64 ") && report.contains("\npeer 64 "));
     Ok(())
 }
 

@@ -22,13 +22,38 @@ const DEVICE: Geometry = Geometry {
     length: 110_148,
 };
 
-const SIZE: usize = 220_360;
+/// 64 hops and peers, and a window of 64, on two segments with more room than the least.
+const WIDE: Geometry = Geometry {
+    params: Params {
+        hops: 64,
+        peers: 64,
+        window: 64,
+        items: 1_024,
+        bytes: 4_096,
+        maxpacket: 1_500,
+        target: 5_000,
+        interval: 100_000,
+    },
+    segments: 2,
+    length: 400_000,
+};
 
 /// A device that was formatted and not used.
 pub(super) fn device<R: Abort>(rt: &R, alloc: Global) -> MemDisk {
-    let bytes = Vec::from_elem(alloc, 0u8, SIZE).expect(rt, "memory");
+    formatted(rt, alloc, &DEVICE)
+}
+
+/// A device of 64 hops and peers that was formatted and not used.
+pub(super) fn wide_device<R: Abort>(rt: &R, alloc: Global) -> MemDisk {
+    formatted(rt, alloc, &WIDE)
+}
+
+/// A new device of a geometry: 64 bytes, and its two segments.
+fn formatted<R: Abort>(rt: &R, alloc: Global, geometry: &Geometry) -> MemDisk {
+    let size = geometry.length.saturating_mul(2).saturating_add(64);
+    let bytes = Vec::from_elem(alloc, 0u8, size as usize).expect(rt, "memory");
     let mut disk = MemDisk::new(alloc, bytes);
-    let formatted = format(alloc, &mut disk, &DEVICE);
-    expect!(rt; formatted.is_ok());
+    let formatted = format(alloc, &mut disk, geometry);
+    expect!(*rt; formatted.is_ok());
     disk
 }

@@ -110,15 +110,14 @@ fn seats_that_are_left_end_the_flusher(rt: HostRuntime) {
     expect!(rt; finished.journal.position() == 0);
 }
 
-/// It waits for one seat less where it was told that one is gone.
+/// It waits for two seats less where it was told that two are gone.
 #[test]
-fn a_seat_that_is_gone_is_forgotten(rt: HostRuntime) {
+fn seats_that_are_gone_are_forgotten(rt: HostRuntime) {
     let alloc = rt.alloc();
-    let (mut seats, mut flusher) = flusher_on(&rt, alloc, device(&rt, alloc), 2);
-    let gone = seats.pop().expect(&rt, "two seats");
-    let seat = seats.pop().expect(&rt, "two seats");
-    drop(gone);
-    flusher.forget(1);
+    let (mut seats, mut flusher) = flusher_on(&rt, alloc, device(&rt, alloc), 3);
+    let seat = seats.pop().expect(&rt, "three seats");
+    drop(seats);
+    flusher.forget(2);
     let asking = thread::spawn(&rt, move || {
         let mut seat = seat;
         let reply = take_at(&rt, alloc, &mut seat, 1, 1);

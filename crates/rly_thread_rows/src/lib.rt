@@ -31,11 +31,15 @@ mod flushers;
 #[cfg(test)]
 mod lines;
 #[cfg(test)]
+mod memory;
+#[cfg(test)]
 mod overlap;
 #[cfg(test)]
 mod receivers;
 #[cfg(test)]
 mod refusals;
+#[cfg(test)]
+mod relays;
 #[cfg(test)]
 mod rounds;
 #[cfg(test)]

@@ -80,8 +80,45 @@ fn the_longest_datagram_is_taken(rt: HostRuntime) {
     expect!(rt; ends.desk.machine().byte_count() == 1_200);
 }
 
+/// Data under the last number of 64 bits is asked for. It isn't taken, since those before it are missing, and custody goes out of
+/// those that were: none.
+#[test]
+fn the_last_number_is_asked_for(rt: HostRuntime) {
+    let mut packet = numbered(0xff, 12);
+    for place in 8..16 {
+        packet[place] = 0xff;
+    }
+    let ends = hear_one(&rt, rt.alloc(), &packet);
+    expect!(rt; ends.desk.calls() == 1);
+    expect!(rt; ends.desk.machine().item_count() == 0);
+    expect!(rt; has_sent(&ends, 0, 2, 0));
+}
+
+/// A datagram is taken at the last moment that a plan may have, too.
+#[test]
+fn the_last_moment_is_one(rt: HostRuntime) {
+    let alloc = rt.alloc();
+    let mut ends = Ends {
+        link: link_with(&rt, alloc, 1, &[0], DATA, 0),
+        desk: MemDesk::new(alloc, empty(&rt, alloc)),
+        turn: MemTurn::new(4_503_599_627_370_495, 1, 2),
+    };
+    receiver_run(&rt, alloc, &plan(&rt, alloc), PeerId(1), &mut ends);
+    expect_sent(&rt, &ends, 1, CUSTODY);
+}
+
+/// A receiver has all its turns.
+#[test]
+fn ten_thousand_turns(rt: HostRuntime) {
+    let alloc = rt.alloc();
+    let link = link_with(&rt, alloc, 0, &[], DATA, 0);
+    let ends = receive(&rt, alloc, empty(&rt, alloc), link, 10_000);
+    expect!(rt; ends.link.waits() == 10_000);
+    expect!(rt; ends.desk.calls() == 0);
+}
+
 /// Data from station 3 to station 7 under this number, payload `000c41`, or `000d41`, to whose destination there is no route.
-fn numbered(number: u8, destination: u8) -> [u8; 21] {
+pub(super) fn numbered(number: u8, destination: u8) -> [u8; 21] {
     let mut packet =
         *b"\x52\x4c\x01\x01\x00\x03\x00\x07\x00\x00\x00\x00\x00\x00\x00\x01\x00\x03\x00\x0c\x41";
     packet[15] = number;
@@ -223,8 +260,10 @@ const FULL: &[u8] = b"\x52\x4c\x01\x03\x00\x07\x00\x03\x00\x00\x00\x00\x00\x00\x
 
 const NO_ROUTE: &[u8] = b"\x52\x4c\x01\x03\x00\x07\x00\x03\x00\x00\x00\x00\x00\x00\x00\x01\x02";
 
-/// Data for a destination with no route, and data that has no destination.
-const UNROUTED: [&[u8]; 2] = [
+/// Data for destinations with no route, and data that has no destination.
+const UNROUTED: [&[u8]; 4] = [
+    b"\x52\x4c\x01\x01\x00\x03\x00\x07\x00\x00\x00\x00\x00\x00\x00\x01\x00\x02\xff\xff",
+    b"\x52\x4c\x01\x01\x00\x03\x00\x07\x00\x00\x00\x00\x00\x00\x00\x01\x00\x00",
     b"\x52\x4c\x01\x01\x00\x03\x00\x07\x00\x00\x00\x00\x00\x00\x00\x01\x00\x03\x00\x0d\x41",
     b"\x52\x4c\x01\x01\x00\x03\x00\x07\x00\x00\x00\x00\x00\x00\x00\x01\x00\x01\x0c",
 ];

@@ -1,0 +1,54 @@
+//! The link and the desk in memory on which tests of workers stand: they don't give up early either.
+
+use crate::asks::window;
+use crate::receivers::empty;
+use rly_core::HopId;
+use rly_machine::{Ask, Query, Reply};
+use rly_threads::{Desk, Link, MAX_PACKET, MemDesk, MemLink};
+
+/// More calls than a bound of 1,000 or 1,024 would let through.
+const MANY: u64 = 1_100;
+
+/// A link gives each packet, and keeps each that is sent: many short ones, and then one that fills a worker's buffer.
+#[test]
+fn a_link_carries_many_packets(rt: HostRuntime) {
+    let alloc = rt.alloc();
+    let longest = [7u8; MAX_PACKET];
+    let mut coming = Vec::new(alloc);
+    for _packet in 0..MANY {
+        let given = Some(b"abc".to_vec(alloc).expect(&rt, "memory"));
+        coming.push(given).expect(&rt, "memory");
+    }
+    let given = Some(longest.to_vec(alloc).expect(&rt, "memory"));
+    coming.push(given).expect(&rt, "memory");
+    let mut link = MemLink::new(alloc, coming, 0);
+    for _packet in 0..MANY {
+        let mut buffer = [0; 8];
+        expect!(rt; link.try_recv(&mut buffer) == Ok(Some(3)));
+        expect!(rt; buffer.starts_with(b"abc"));
+        expect!(rt; link.send(b"abc") == Ok(()));
+    }
+    let mut buffer = [0; MAX_PACKET];
+    expect!(rt; link.try_recv(&mut buffer) == Ok(Some(MAX_PACKET)));
+    expect!(rt; buffer.as_slice() == longest.as_slice());
+    expect!(rt; link.send(&longest) == Ok(()));
+    expect!(rt; link.try_recv(&mut buffer) == Ok(None));
+    expect!(rt; link.failures() == 0);
+    expect!(rt; link.delivered().len() as u64 == MANY + 1);
+    expect!(rt; link.delivered().iter().take(1_000).all(|sent| sent.as_slice() == b"abc".as_slice()));
+}
+
+/// Each of many questions is answered, one after the other.
+#[test]
+fn a_desk_answers_many_questions(rt: HostRuntime) {
+    let alloc = rt.alloc();
+    let mut desk = MemDesk::new(alloc, empty(&rt, alloc));
+    for number in 1..=MANY {
+        let answer = desk.call(&rt, window()).expect(&rt, "an answer");
+        expect!(rt; answer.number == number);
+        expect!(rt; matches!(&answer.reply, Reply::WindowIs { .. }));
+    }
+    let ask = Ask::Query(Query::Show { hop: HopId(4) });
+    let answer = desk.call(&rt, ask).expect(&rt, "an answer");
+    expect!(rt; matches!(&answer.reply, Reply::Shown(_)));
+}
