@@ -96,9 +96,9 @@ endless_goes_on below plan links window line (name ∷ names) number (post ∷ p
     let did = worked.0 in
     let first = first_duty _ _ plan 0 links e in
     let is : post.worker ≡ first.0.worker = ap (λ d. d.worker) first.1 in
-    let there : Some (link_below (below post.link).link).addresses.value ≡ addresses_of plan post.worker = ap (λ d. d.addresses) first.1 ∙ ap (addresses_of plan) (sym is) in
+    let there : Some (link_below (below post.link).link.link).addresses.value ≡ addresses_of plan post.worker = ap (λ d. d.addresses) first.1 ∙ ap (addresses_of plan) (sym is) in
     let none : post.turn.left ≡ None = ap (λ d. d.left) first.1 in
-    let end = worked_ended plan window post.worker (link_below (below post.link).link).addresses.value _ _ there did.worked in
+    let end = worked_ended plan window post.worker (link_below (below post.link).link.link).addresses.value _ _ there did.worked in
     let not_cut : was_cut did.looks ≡ false = sym did.was_cut ∙ not_false left.was_cut (and_parts (not left.was_cut) (list_all has_run_out ended) all).0 in
     let whole : map (λ l. l.handed) did.looks ≡ end.before ++ (end.worker, Start, end.last) ∷ [] =
     uncut did.looks not_cut ∙ ap (λ (o : Option (List Handed)). unwrap_or o []) end.handed in

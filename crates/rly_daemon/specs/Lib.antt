@@ -6,6 +6,7 @@ pub mod NamedKey
 pub mod Neighbour
 pub mod Warnings
 pub mod Serving
+pub mod Keeping
 pub mod Keys
 pub mod Planning
 pub mod Program

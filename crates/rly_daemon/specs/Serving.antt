@@ -4,7 +4,9 @@ use Rattle.std.specs.Fmt.{decimal}
 use Rattle.std.specs.List.{AllZip, list_all, range_with_len}
 use Rattle.std.specs.Option.{is_none, option_map}
 use Rattle.rly_core.specs.declared.params.Params.{Params}
+use Rattle.rly_daemon.specs.Keeping.{keeping_of}
 use Rattle.rly_daemon.specs.Neighbour.{neighbour_heard, neighbour_sent}
+use Rattle.rly_daemon.specs.declared.keeping.Keeping.{Keeping}
 use Rattle.rly_daemon.specs.declared.neighbour_link.NeighbourLink.{NeighbourLink}
 use Rattle.rly_daemon.specs.declared.plan_keys.KeyedWorker.{KeyedWorker}
 use Rattle.rly_daemon.specs.declared.wall_clock.WallClock.{WallClock}
@@ -67,16 +69,18 @@ is_first (worker.Sender hop) = false
 abbrev pub warned_of : Worker → Warned
 warned_of w = record { sends = Some w; tags = w; clock = is_first w }
 
--- a worker, the addresses of its link, the keys over it, how many turns it has, and what it warns of
+-- a worker, the addresses of its link, the keys over it, what it keeps of early Data, how many turns it has, and what it warns of
 pub record Duty : Type 0 where
   pub worker : Worker
   pub addresses : Option Endpoints
   pub keys : Option Keys
+  pub keeps : Option Keeping
   pub left : Option ℕ
   pub warned : Warned
 
-abbrev pub duty : Worker → Option Endpoints → Option Keys → Option ℕ → Warned → Duty
-duty w addresses keys left warned = record { worker = w; addresses = addresses; keys = keys; left = left; warned = warned }
+abbrev pub duty : Worker → Option Endpoints → Option Keys → Option Keeping → Option ℕ → Warned → Duty
+duty w addresses keys keeps left warned =
+    record { worker = w; addresses = addresses; keys = keys; keeps = keeps; left = left; warned = warned }
 
 -- what a clock tells, and whether its turns are without end
 abbrev pub clock_told : {C : Type 0} → WallClock C → Option (List Handed)
@@ -96,15 +100,19 @@ StationPost C = PostOver (NeighbourLink C) C
 -- what the worker of a post warns of
 abbrev pub warned_over : {L C : Type 0} → (L → NeighbourLink C) → PostOver L C → Warned
 warned_over below post = record {
-  sends = option_map (λ f. f.worker) (link_below (below post.link).link).failed_sends;
+  sends = option_map (λ f. f.worker) (link_below (below post.link).link.link).failed_sends;
   tags = (below post.link).wrong_tags.worker;
   clock = is_some post.turn.watch;
 }
 
+-- what its link keeps, and between which stations
+abbrev pub kept_by : {C : Type 0} → NeighbourLink C → Keeping
+kept_by l = record { own = l.link.own; peer = l.link.peer; early = l.link.early }
+
 -- what it has to do
 abbrev pub duty_over : {L C : Type 0} → (L → NeighbourLink C) → PostOver L C → Duty
-duty_over below post = duty post.worker (Some (link_below (below post.link).link).addresses.value) (keys_over (below post.link).link)
-    post.turn.left (warned_over below post)
+duty_over below post = duty post.worker (Some (link_below (below post.link).link.link).addresses.value) (keys_over (below post.link).link.link)
+    (Some (kept_by (below post.link))) post.turn.left (warned_over below post)
 
 abbrev pub duty_at : {C : Type 0} → StationPost C → Duty
 duty_at post = duty_over (λ l. l) post
@@ -112,7 +120,8 @@ duty_at post = duty_over (λ l. l) post
 -- what a plan and its keys say of a worker
 abbrev pub duty_of : ContactPlan → ℕ → KeyedWorker → Duty
 duty_of plan turns link =
-    duty link.worker (addresses_of plan link.worker) (option_map (λ k. k.keys) link.key) (turns_left turns) (warned_of link.worker)
+    duty link.worker (addresses_of plan link.worker) (option_map (λ k. k.keys) link.key) (keeping_of plan link.worker)
+    (turns_left turns) (warned_of link.worker)
 
 -- what they say of all workers
 abbrev pub duties : ContactPlan → List KeyedWorker → ℕ → List Duty

@@ -17,6 +17,7 @@ mod file_fault;
 mod formatting;
 mod gate_tally;
 mod geometry;
+mod keeping;
 mod key_fault;
 mod neighbour_link;
 mod new_key;

@@ -1,23 +1,27 @@
-//! The link to a neighbour as a station has it: it tells of sends that fail, and of packets without a right tag.
+//! The link to a neighbour as a station has it: it tells of sends that fail, and of packets without a right tag, and keeps what comes
+//! ahead of a gap.
 
 ghost use Rattle.std.specs.Prelude.{◌≡◌, ◌↔◌, IsTrue, IsNone};
+ghost use Rattle.rly_ahead.specs.AheadLink.{new_ahead};
 ghost use Rattle.rly_seal.specs.StationLink.{keys_over, station_link};
 
 use crate::failed_sends::FailedSends;
+use crate::keeping::Keeping;
 use crate::teller::Teller;
 use crate::udp_link::UdpLink;
 use crate::wrong_tags::WrongTags;
+use rly_ahead::Ahead;
 use rly_reporter::TaggedLink;
 use rly_seal::StationLink;
 use rly_tag::Key;
 use rly_threads::{Link, LinkFault, Worker};
 use std::time::Clock;
 
-/// A link over UDP, sealed where it has a key, which tells of packets that come without a right tag. The link below tells of
-/// sends that fail.
+/// A link over UDP, sealed where it has a key, which tells of packets that come without a right tag. What the tag lets through is kept
+/// where it comes ahead of a gap. The link below tells of sends that fail.
 #[derive(Drop)]
 pub struct NeighbourLink<C: Clock + Drop> {
-    link: StationLink<UdpLink<C>>,
+    link: Ahead<StationLink<UdpLink<C>>>,
     wrong_tags: WrongTags,
 }
 
@@ -28,27 +32,29 @@ impl<C: Clock + Drop> NeighbourLink<C> {
         key: Option<Key>,
         worker: Worker,
         teller: Teller,
+        keeping: Keeping,
     ) -> NeighbourLink<C>
-        ensures link { result.link ≡ station_link socket key }
+        ensures link { result.link ≡ new_ahead (station_link socket key) keeping.own keeping.peer keeping.early }
         ensures worker { result.wrong_tags.worker ≡ worker }
     {
+        let Keeping { own, peer, early } = keeping;
         NeighbourLink {
-            link: StationLink::new(socket, key),
+            link: Ahead::new(StationLink::new(socket, key), own, peer, early),
             wrong_tags: WrongTags::new(worker, teller),
         }
     }
 
     /// Whether anyone can speak on it.
     pub(crate) fn is_open(&self) -> bool
-        ensures { IsTrue result ↔ IsNone (keys_over self.now.link) }
+        ensures { IsTrue result ↔ IsNone (keys_over self.now.link.link) }
     {
-        matches!(&self.link, StationLink::Open(_))
+        matches!(self.link.link(), StationLink::Open(_))
     }
 }
 
 impl<C: Clock + Drop> TaggedLink for NeighbourLink<C> {
     fn wrong_tags(&self) -> u64 {
-        self.link.wrong_tags()
+        self.link.link().wrong_tags()
     }
 }
 
@@ -73,11 +79,11 @@ impl<C: Clock + Drop> Link for NeighbourLink<C> {
         ensures no_failure { OnOk result (neighbour_failed self.new ≡ neighbour_failed self.old) }
         ensures whose { self.new.wrong_tags.worker ≡ self.old.wrong_tags.worker }
         ensures told { told_by self.new.wrong_tags.teller ≡ told_by self.old.wrong_tags.teller
-            ++ tag_told self.old.wrong_tags.worker (wrong_tags self.old.link) (wrong_tags self.new.link) }
+            ++ tag_told self.old.wrong_tags.worker (wrong_tags self.old.link.link) (wrong_tags self.new.link.link) }
     {
-        let before = self.link.wrong_tags();
+        let before = self.link.link().wrong_tags();
         let outcome = self.link.recv(buffer);
-        self.wrong_tags.note(before, self.link.wrong_tags());
+        self.wrong_tags.note(before, self.link.link().wrong_tags());
         outcome
     }
 
@@ -89,11 +95,11 @@ impl<C: Clock + Drop> Link for NeighbourLink<C> {
         ensures no_failure { OnOk result (neighbour_failed self.new ≡ neighbour_failed self.old) }
         ensures whose { self.new.wrong_tags.worker ≡ self.old.wrong_tags.worker }
         ensures told { told_by self.new.wrong_tags.teller ≡ told_by self.old.wrong_tags.teller
-            ++ tag_told self.old.wrong_tags.worker (wrong_tags self.old.link) (wrong_tags self.new.link) }
+            ++ tag_told self.old.wrong_tags.worker (wrong_tags self.old.link.link) (wrong_tags self.new.link.link) }
     {
-        let before = self.link.wrong_tags();
+        let before = self.link.link().wrong_tags();
         let outcome = self.link.try_recv(buffer);
-        self.wrong_tags.note(before, self.link.wrong_tags());
+        self.wrong_tags.note(before, self.link.link().wrong_tags());
         outcome
     }
 

@@ -25,6 +25,7 @@ use crate::error_lines::ErrorLines;
 use crate::failed_sends::FailedSends;
 use crate::file_fault::{Cause, SystemWord};
 use crate::formatting::live_items;
+use crate::keeping::Keeping;
 use crate::neighbour_link::NeighbourLink;
 use crate::plan_keys::{KeyedWorker, PlanKeys};
 use crate::teller::Teller;
@@ -234,7 +235,7 @@ fn posts_of<'a, H: AllocGlobal + Net + Clock>(
     Ok(posts)
 }
 
-/// A worker of a plan, with its link and its turns. Its link is sealed where it has a key. Its turns tell the bells, and a
+/// A worker of a plan, with its link and its turns. Its link is sealed where it has a key, and keeps what comes early from a peer. Its turns tell the bells, and a
 /// sender's link has the bell of its hop. What is to be warned of goes to the lines. A worker whose neighbour isn't in the
 /// plan has no link.
 fn post_of<'a, H: AllocGlobal + Net + Clock>(
@@ -262,7 +263,8 @@ fn post_of<'a, H: AllocGlobal + Net + Clock>(
     let failed_sends = FailedSends::new(worker, Teller::new(lines.clone()?));
     let socket = socket.with_failed_sends(failed_sends);
     let key = key.map(|key| key.into_key());
-    let link = NeighbourLink::new(socket, key, worker, Teller::new(lines.clone()?));
+    let keeping = Keeping::new(rt.alloc(), plan, worker)?;
+    let link = NeighbourLink::new(socket, key, worker, Teller::new(lines.clone()?), keeping);
     let turn = turn_of(rt, worker, turns, bells, lines)?;
     Ok(Post { worker, link, turn })
 }

@@ -160,6 +160,29 @@ fn a_number_out_of_its_range_is_53(rt: HostRuntime) -> Result<(), Fail> {
 }
 
 #[test]
+fn rate_is_a_whole_number_in_its_range(rt: HostRuntime) -> Result<(), Fail> {
+    check_changes(
+        &rt,
+        rt.alloc(),
+        &[
+            ("resend = 160", "rate = 1", 0),
+            ("resend = 160", "rate = 1000000000", 0),
+            ("resend = 160", "resend = 160\nrate = 160", 0),
+            ("resend = 160", "rate = 0", 53),
+            ("resend = 160", "rate = 1000000001", 53),
+            ("resend = 160", "rate = -1", 53),
+            ("resend = 160", "rate = 4294967297", 53),
+            ("resend = 160", "rate = '160'", 50),
+            ("resend = 160", "rate = 160.0", 50),
+            ("resend = 160", "rate = { bytes = 160 }", 54),
+            ("destination", "rate = 160\ndestination", 54),
+            ("station = 3", "station = 3\nrate = 160", 54),
+            ("station = 7", "station = 7\nrate = 160", 54),
+        ],
+    )
+}
+
+#[test]
 fn resend_is_a_whole_number_in_its_range(rt: HostRuntime) -> Result<(), Fail> {
     check_changes(
         &rt,

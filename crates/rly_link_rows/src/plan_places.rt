@@ -76,6 +76,7 @@ fn a_key_that_is_not_known_has_its_table(rt: HostRuntime) -> Result<(), Fail> {
                 "station = 3\nresend = 160",
                 "54 peer[1].resend",
             ),
+            ("station = 3", "station = 3\nrate = 1", "54 peer[1].rate"),
             (
                 "[300, 350]",
                 "{ begin = 300, end = 350 }",
@@ -109,6 +110,7 @@ fn what_is_missing_or_of_another_type_has_its_key(rt: HostRuntime) -> Result<(),
             ("remote = \"127.0.0.1:4004\"\n", "", "50 hop[1].remote"),
             ("station = 3", "station = 3\nkey = 3", "50 peer[1].key"),
             ("resend = 160", "resend = '160'", "50 hop[1].resend"),
+            ("resend = 160", "rate = '160'", "50 hop[1].rate"),
             (
                 "contacts = [[100, 200], [300, 350]]\n",
                 "",
@@ -148,6 +150,7 @@ fn a_number_out_of_its_range_has_its_key(rt: HostRuntime) -> Result<(), Fail> {
             ("station = 3", "station = 65536", "53 peer[1].station"),
             ("id = 1\nstation = 9", "id = 0\nstation = 9", "53 hop[1].id"),
             ("resend = 160", "resend = 9", "53 hop[1].resend"),
+            ("resend = 160", "rate = 0", "53 hop[1].rate"),
             ("[300, 350]", "[300, 300]", "53 hop[1].contacts[2]"),
             ("[100, 200]", "[-1, 200]", "53 hop[1].contacts[1]"),
             (

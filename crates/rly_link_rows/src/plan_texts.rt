@@ -102,7 +102,7 @@ peer = [
 hop = [
   { id = 1, station = 9, listen = '', remote = '', contacts = [] },
   { id = 2, station = 10, listen = 'a', remote = 'b', contacts = [[10, 20], [20, 30], [30, 31], [40, 41]], key = '/k' },
-  { id = 3, station = 11, listen = 'c', remote = 'd', resend = 10, contacts = [[0, 4_503_599_627_370_495]] },
+  { id = 3, station = 11, listen = 'c', remote = 'd', resend = 10, rate = 1_200, contacts = [[0, 4_503_599_627_370_495]] },
 ]
 route = [{ destination = 12, hop = 3 }, { destination = 5, hop = 1 }]
 ";
@@ -118,7 +118,7 @@ hop 2 station 10 listen a remote b key /k
 hop 2 resend 160 contacts 4 open 22
 hop 2 contact open until 1970-01-01T00:00:00.000031Z 31
 hop 3 station 11 listen c remote d
-hop 3 resend 10 contacts 1 open 4503599627370495
+hop 3 resend 10 rate 1200 contacts 1 open 4503599627370495
 hop 3 contact open until 2112-09-17T23:53:47.370495Z 4503599627370495
 route 12 hop 3
 route 5 hop 1

@@ -55,6 +55,38 @@ fn each_hop_has_its_resend(rt: HostRuntime) -> Result<(), Fail> {
     Ok(())
 }
 
+/// Three hops, of which the second has no `rate`.
+const RATES: &str = "station = 7
+peer = [{ id = 1, station = 3, listen = '', remote = '' }]
+hop = [
+  { id = 1, station = 9, listen = '', remote = '', rate = 1, contacts = [] },
+  { id = 2, station = 10, listen = '', remote = '', contacts = [] },
+  { id = 3, station = 11, listen = '', remote = '', contacts = [], rate = 1_000_000_000 },
+]
+";
+
+/// A hop, and its `rate`, or 0 where it has none.
+const RATE_OF: [(u16, u32); 6] = [
+    (0, 0),
+    (1, 1),
+    (2, 0),
+    (3, 1_000_000_000),
+    (4, 0),
+    (65_535, 0),
+];
+
+fn rates(rt: &impl Abort, plan: &Plan) {
+    for (hop, rate) in &RATE_OF {
+        expect!(rt; plan.rate(HopId(*hop)).unwrap_or(0) == *rate, *hop as u64);
+    }
+}
+
+#[test]
+fn each_hop_has_its_rate(rt: HostRuntime) -> Result<(), Fail> {
+    rates(&rt, &Plan::from_toml(rt.alloc(), RATES)?);
+    Ok(())
+}
+
 /// A peer and a hop with keys, and a peer and a hop without.
 const KEYS: &str = "station = 7
 peer = [

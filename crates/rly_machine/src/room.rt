@@ -38,6 +38,13 @@ impl Room {
         }
     }
 
+    /// How many ids it has room for.
+    pub fn count(&self) -> usize
+        ensures { result ≡ self.now }
+    {
+        self.ids.capacity()
+    }
+
     /// The empty list with that room.
     pub(crate) fn into_ids(self) -> Vec<u64>
         ensures empty { result.items ≡ [] }

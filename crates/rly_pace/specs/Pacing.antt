@@ -1,5 +1,5 @@
 -- What the pace of a hop makes of each thing that a sending worker tells it (docs/PROTOCOL.md, "The pace of a hop").
-use Rattle.std.specs.Prelude.{ℕ, ◌-◌, ◌*◌, nat_le, nat_lt, Bool, true, false, not, ◌&&◌, if◌then◌else◌, max}
+use Rattle.std.specs.Prelude.{ℕ, ◌+◌, ◌-◌, ◌*◌, nat_le, nat_lt, Bool, true, false, not, ◌&&◌, if◌then◌else◌, max}
 use Rattle.rly_pace.specs.declared.flight.Flight.{Flight}
 use Rattle.rly_pace.specs.declared.timer.Timer.{Timer}
 use Rattle.rly_pace.specs.declared.congestion.Congestion.{Congestion}
@@ -94,6 +94,10 @@ on_window p first next = record p {
   flight = record { covered = first - 1; reached = first - 1; highest = max p.flight.highest (next - 1) };
   timer = timer_on_window p.timer (max p.flight.highest (next - 1));
 }
+
+-- how many of the numbers below next weren't sent since the core was last set back
+abbrev pub unsent : Pacer → ℕ → ℕ
+unsent p next = next - (p.flight.reached + 1)
 
 -- how many further numbers may go on their way now: none while the contact is closed
 abbrev pub open_room : Pacer → ℕ

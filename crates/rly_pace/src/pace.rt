@@ -1,5 +1,5 @@
 ghost use Rattle.std.specs.Prelude.{◌≡◌};
-ghost use Rattle.rly_pace.specs.Pacing.{Pacer, first_pacer, is_opening, is_timeout, on_contact, on_covered, on_sent, on_time, on_window, open_room};
+ghost use Rattle.rly_pace.specs.Pacing.{Pacer, first_pacer, is_opening, is_timeout, on_contact, on_covered, on_sent, on_time, on_window, open_room, unsent};
 
 use crate::congestion::Congestion;
 use crate::flight::Flight;
@@ -88,6 +88,14 @@ impl Pace {
         } else {
             0
         }
+    }
+
+    /// How many of the numbers below `next`, those in flight, weren't sent since the core was last set back. They are sent before any
+    /// further one.
+    pub fn unsent(&self, next: u64) -> u64
+        ensures { result ≡ unsent self.now next }
+    {
+        next.saturating_sub(self.flight.reached).saturating_sub(1)
     }
 
     /// The core has named the sending of a number, whatever became of the packet.

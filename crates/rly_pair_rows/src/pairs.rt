@@ -40,6 +40,17 @@ fn expect_packets(rt: &impl Abort, pair: &Pair, wanted: &[Said]) {
     }
 }
 
+/// A pair of small devices.
+fn new_pair(alloc: Global) -> Result<Pair, Fail> {
+    Ok(Pair::new(alloc, &SMALL, &SMALL).ok().ok_or("a pair")?)
+}
+
+/// The pair makes a step. No clause says what it leaves, so that a test of many steps is proved as soon as one of few.
+fn step(alloc: Global, pair: &mut Pair, step: Step) -> Result<(), Fail> {
+    pair.step(alloc, step)?;
+    Ok(())
+}
+
 /// The upper takes this datagram from its own peer.
 fn comes_in(alloc: Global, pair: &mut Pair, number: u64) -> Result<(), Fail> {
     let payload = Payload::new(vec![in alloc; number.to_le_bytes()[0]; 1]?);
@@ -50,14 +61,11 @@ fn comes_in(alloc: Global, pair: &mut Pair, number: u64) -> Result<(), Fail> {
         stamp: 0,
         payload,
     };
-    pair.step(
-        alloc,
-        Step::UpperServes {
-            ask: Ask::Command(take),
-            is_answered: true,
-        },
-    )?;
-    Ok(())
+    let serves = Step::UpperServes {
+        ask: Ask::Command(take),
+        is_answered: true,
+    };
+    step(alloc, pair, serves)
 }
 
 /// The sending core names a call with the contact open, which is made and answered.
@@ -66,10 +74,9 @@ fn one_call(alloc: Global, pair: &mut Pair) -> Result<(), Fail> {
         is_open: true,
         moment: 0,
     };
-    pair.step(alloc, turn)?;
-    pair.step(alloc, Step::UpperMakes)?;
-    pair.step(alloc, Step::UpperAnswers { is_sent: true })?;
-    Ok(())
+    step(alloc, pair, turn)?;
+    step(alloc, pair, Step::UpperMakes)?;
+    step(alloc, pair, Step::UpperAnswers { is_sent: true })
 }
 
 /// A packet arrives at the lower, whose Take isn't made yet.
@@ -80,28 +87,29 @@ fn lower_hears(alloc: Global, pair: &mut Pair, packet: usize) -> Result<(), Fail
         hop: HopId(1),
         stamp: 0,
     };
-    pair.step(alloc, heard)?;
-    Ok(())
+    step(alloc, pair, heard)
 }
 
 /// A packet arrives at the lower, whose Take is made and answered.
 fn lower_takes(alloc: Global, pair: &mut Pair, packet: usize) -> Result<(), Fail> {
     lower_hears(alloc, pair, packet)?;
-    pair.step(alloc, Step::LowerMakes)?;
-    pair.step(alloc, Step::LowerAnswers { is_sent: true })?;
-    Ok(())
+    step(alloc, pair, Step::LowerMakes)?;
+    step(alloc, pair, Step::LowerAnswers { is_sent: true })
 }
+
+/// The packets of three datagrams.
+const THREE: [Said; 3] = [Said::Data(1), Said::Data(2), Said::Data(3)];
 
 /// Three datagrams at the upper, each picked, fetched and sent: packets 0, 1 and 2.
 fn three_sent(rt: &impl Abort, alloc: Global) -> Result<Pair, Fail> {
-    let mut pair = Pair::new(alloc, &SMALL, &SMALL).ok().ok_or("a pair")?;
+    let mut pair = new_pair(alloc)?;
     for number in 1..4 {
         comes_in(alloc, &mut pair, number)?;
     }
     for _call in 0..7 {
         one_call(alloc, &mut pair)?;
     }
-    expect_packets(rt, &pair, &[Said::Data(1), Said::Data(2), Said::Data(3)]);
+    expect_packets(rt, &pair, &THREE);
     Ok(pair)
 }
 
@@ -111,34 +119,34 @@ fn exchange(rt: &impl Abort, alloc: Global, is_made: bool, last: u64) -> Result<
     let mut pair = three_sent(rt, alloc)?;
     // Number 2 comes first: a gap, and the upper does nothing on hearing it.
     lower_takes(alloc, &mut pair, 1)?;
-    pair.step(alloc, Step::UpperHears { packet: 3 })?;
+    step(alloc, &mut pair, Step::UpperHears { packet: 3 })?;
     // Number 1 comes, and comes again. The upper hears both custodies.
     lower_takes(alloc, &mut pair, 0)?;
     lower_takes(alloc, &mut pair, 0)?;
-    pair.step(alloc, Step::UpperHears { packet: 4 })?;
+    step(alloc, &mut pair, Step::UpperHears { packet: 4 })?;
     one_call(alloc, &mut pair)?;
-    pair.step(alloc, Step::UpperHears { packet: 5 })?;
+    step(alloc, &mut pair, Step::UpperHears { packet: 5 })?;
     // The lower crashes before it answers number 2. A copy of number 1 shows what it has then.
     lower_hears(alloc, &mut pair, 1)?;
     if is_made {
-        pair.step(alloc, Step::LowerMakes)?;
+        step(alloc, &mut pair, Step::LowerMakes)?;
     }
     let crash = Step::LowerCrashes {
         torn: Torn::AsSynced,
         fault: SOUND,
     };
-    pair.step(alloc, crash)?;
+    step(alloc, &mut pair, crash)?;
     lower_takes(alloc, &mut pair, 0)?;
     // Number 2 comes again, and the upper releases it.
     lower_takes(alloc, &mut pair, 1)?;
-    pair.step(alloc, Step::UpperHears { packet: 7 })?;
+    step(alloc, &mut pair, Step::UpperHears { packet: 7 })?;
     one_call(alloc, &mut pair)?;
     // The upper crashes: its window is 3 to below 4.
     let crash = Step::UpperCrashes {
         torn: Torn::AsSynced,
         fault: SOUND,
     };
-    pair.step(alloc, crash)?;
+    step(alloc, &mut pair, crash)?;
     one_call(alloc, &mut pair)?;
     one_call(alloc, &mut pair)?;
     expect_packets(
@@ -169,35 +177,51 @@ fn lower_crashes_with_the_command(rt: HostRuntime) -> Result<(), Fail> {
     exchange(&rt, rt.alloc(), true, 2)
 }
 
+/// The lower takes packets 0, 1 and 2.
+fn all_taken(alloc: Global, pair: &mut Pair) -> Result<(), Fail> {
+    for packet in 0..3 {
+        lower_takes(alloc, pair, packet)?;
+    }
+    Ok(())
+}
+
+/// The upper makes three calls.
+fn three_made(alloc: Global, pair: &mut Pair) -> Result<(), Fail> {
+    for _call in 0..3 {
+        step(alloc, pair, Step::UpperMakes)?;
+    }
+    Ok(())
+}
+
+/// The upper is told three answers.
+fn three_answered(alloc: Global, pair: &mut Pair) -> Result<(), Fail> {
+    for _call in 0..3 {
+        step(alloc, pair, Step::UpperAnswers { is_sent: true })?;
+    }
+    Ok(())
+}
+
 /// Three datagrams are released, and the two that wait are picked beside the release: the core learns their numbers from the answers
 /// that come after the release's.
-#[test]
-fn picks_are_made_beside_a_release(rt: HostRuntime) -> Result<(), Fail> {
-    let alloc = rt.alloc();
-    let mut pair = three_sent(&rt, alloc)?;
+fn released_and_picked(rt: &impl Abort, alloc: Global) -> Result<(), Fail> {
+    let mut pair = three_sent(rt, alloc)?;
     comes_in(alloc, &mut pair, 4)?;
     comes_in(alloc, &mut pair, 5)?;
-    for packet in 0..3 {
-        lower_takes(alloc, &mut pair, packet)?;
-    }
-    pair.step(alloc, Step::UpperHears { packet: 5 })?;
+    all_taken(alloc, &mut pair)?;
+    step(alloc, &mut pair, Step::UpperHears { packet: 5 })?;
     let turn = Step::Turns {
         is_open: true,
         moment: 0,
     };
-    pair.step(alloc, turn)?;
-    pair.step(alloc, Step::PicksAhead { moment: 0 })?;
-    pair.step(alloc, Step::PicksAhead { moment: 0 })?;
-    for _call in 0..3 {
-        pair.step(alloc, Step::UpperMakes)?;
-    }
-    for _call in 0..3 {
-        pair.step(alloc, Step::UpperAnswers { is_sent: true })?;
-    }
+    step(alloc, &mut pair, turn)?;
+    step(alloc, &mut pair, Step::PicksAhead { moment: 0 })?;
+    step(alloc, &mut pair, Step::PicksAhead { moment: 0 })?;
+    three_made(alloc, &mut pair)?;
+    three_answered(alloc, &mut pair)?;
     one_call(alloc, &mut pair)?;
     one_call(alloc, &mut pair)?;
     expect_packets(
-        &rt,
+        rt,
         &pair,
         &[
             Said::Data(1),
@@ -213,11 +237,14 @@ fn picks_are_made_beside_a_release(rt: HostRuntime) -> Result<(), Fail> {
     Ok(())
 }
 
-/// The lower's device fails as it is opened: no call is made and no custody sent, until it crashes again.
 #[test]
-fn unopened_lower_sends_no_custody(rt: HostRuntime) -> Result<(), Fail> {
-    let alloc = rt.alloc();
-    let mut pair = three_sent(&rt, alloc)?;
+fn picks_are_made_beside_a_release(rt: HostRuntime) -> Result<(), Fail> {
+    released_and_picked(&rt, rt.alloc())
+}
+
+/// The lower's device fails as it is opened: no call is made and no custody sent, until it crashes again.
+fn unopened(rt: &impl Abort, alloc: Global) -> Result<(), Fail> {
+    let mut pair = three_sent(rt, alloc)?;
     // Opening begins with a sync, which fails.
     let crash = Step::LowerCrashes {
         torn: Torn::AsSynced,
@@ -227,17 +254,17 @@ fn unopened_lower_sends_no_custody(rt: HostRuntime) -> Result<(), Fail> {
             after: After::GoesOn,
         },
     };
-    pair.step(alloc, crash)?;
+    step(alloc, &mut pair, crash)?;
     lower_takes(alloc, &mut pair, 0)?;
-    expect_packets(&rt, &pair, &[Said::Data(1), Said::Data(2), Said::Data(3)]);
+    expect_packets(rt, &pair, &THREE);
     let crash = Step::LowerCrashes {
         torn: Torn::AsRead,
         fault: SOUND,
     };
-    pair.step(alloc, crash)?;
+    step(alloc, &mut pair, crash)?;
     lower_takes(alloc, &mut pair, 0)?;
     expect_packets(
-        &rt,
+        rt,
         &pair,
         &[
             Said::Data(1),
@@ -247,4 +274,9 @@ fn unopened_lower_sends_no_custody(rt: HostRuntime) -> Result<(), Fail> {
         ],
     );
     Ok(())
+}
+
+#[test]
+fn unopened_lower_sends_no_custody(rt: HostRuntime) -> Result<(), Fail> {
+    unopened(&rt, rt.alloc())
 }

@@ -8,7 +8,7 @@ use Rattle.rly_plan.specs.declared.draft.ContactDraft.{ContactDraft}
 use Rattle.rly_plan.specs.HelpersContacts.{last_end}
 use Rattle.rly_plan.specs.Draft.{HopText, PlanText}
 use Rattle.rly_plan.specs.Places.{first_adjacent, first_repeat}
-use Rattle.rly_plan.specs.Passes.{all_numbered, hop_in_range, is_in_range, is_station, neighbour_in_range, resend_in_range, route_in_range, rows_in_range, is_between, number, contact_in_range, all_adjacent, are_apart, repeats, contact_from}
+use Rattle.rly_plan.specs.Passes.{all_numbered, hop_in_range, is_in_range, is_station, neighbour_in_range, rate_in_range, resend_in_range, route_in_range, rows_in_range, is_between, number, contact_in_range, all_adjacent, are_apart, repeats, contact_from}
 
 -- two more neighbours
 pub adjacent_more : {A : Type 0} (test : A → A → Bool) (xs : List A) (i : ℕ) (d e : A) → 0 < i → i < length xs
@@ -170,9 +170,10 @@ numbered_contacts : (n : ℕ) (hs : List HopText) → all_numbered hop_in_range 
 numbered_contacts n [] ranged = refl
 numbered_contacts n (h ∷ hs) ranged =
     let (here, more) = and_parts (hop_in_range n h) (all_numbered hop_in_range (n + 1) hs) ranged in
-    let timed = and_parts (neighbour_in_range n h.neighbour) (resend_in_range h.resend && (nat_le (length h.contacts) MAX_CONTACTS && list_all contact_in_range h.contacts)) here in
-    let counted = and_parts (resend_in_range h.resend) (nat_le (length h.contacts) MAX_CONTACTS && list_all contact_in_range h.contacts) timed.1 in
-    let contacts = and_parts (nat_le (length h.contacts) MAX_CONTACTS) (list_all contact_in_range h.contacts) counted.1 in
+    let timed = and_parts (neighbour_in_range n h.neighbour) (resend_in_range h.resend && (rate_in_range h.rate && (nat_le (length h.contacts) MAX_CONTACTS && list_all contact_in_range h.contacts))) here in
+    let counted = and_parts (resend_in_range h.resend) (rate_in_range h.rate && (nat_le (length h.contacts) MAX_CONTACTS && list_all contact_in_range h.contacts)) timed.1 in
+    let paced = and_parts (rate_in_range h.rate) (nat_le (length h.contacts) MAX_CONTACTS && list_all contact_in_range h.contacts) counted.1 in
+    let contacts = and_parts (nat_le (length h.contacts) MAX_CONTACTS) (list_all contact_in_range h.contacts) paced.1 in
     rw (contacts.1) (numbered_contacts (n + 1) hs more)
 
 -- in a plan in range each contact is

@@ -33,6 +33,10 @@ next_hop_at plan hop = option_map (λ h. h.neighbour) (at_number plan.hops hop.0
 abbrev pub resend : ContactPlan → HopId → ℕ
 resend plan hop = unwrap_or (option_map (λ h. h.resend) (at_number plan.hops hop.0)) DEFAULT_RESEND
 
+-- how many bytes a second may go out to a hop, if that is limited: no rate for a hop that isn't there
+abbrev pub rate : ContactPlan → HopId → Option ℕ
+rate plan hop = unwrap_or (option_map (λ h. h.rate) (at_number plan.hops hop.0)) None
+
 -- the contacts of a hop: none for a hop that isn't there
 abbrev pub contacts_of : ContactPlan → HopId → List Contact
 contacts_of plan hop = unwrap_or (option_map (λ h. h.contacts) (at_number plan.hops hop.0)) []

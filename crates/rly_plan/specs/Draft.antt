@@ -10,6 +10,7 @@ use Rattle.rly_plan.specs.declared.draft.RouteDraft.{RouteDraft}
 pub record HopText : Type 0 where
   pub neighbour : NeighbourDraft
   pub resend : ℤ
+  pub rate : Option ℤ
   pub contacts : List ContactDraft
 
 -- a whole plan
@@ -77,12 +78,20 @@ abbrev pub resend_at : Option Data → Option ℤ
 resend_at None = Some (pos DEFAULT_RESEND)
 resend_at (Some value) = as_integer value
 
+-- `rate` may be left out, and then there is none
+abbrev pub rate_at : Option Data → Option (Option ℤ)
+rate_at None = Some None
+rate_at (Some value) = do
+  rate ← as_integer value
+  Some (Some rate)
+
 abbrev pub hop_in : Members → Option HopText
 hop_in ms = do
   neighbour ← neighbour_of ms
   resend ← resend_at (get_member (codes "resend") ms)
+  rate ← rate_at (get_member (codes "rate") ms)
   contacts ← items_at contact_draft_of (get_member (codes "contacts") ms)
-  Some (record { neighbour = neighbour; resend = resend; contacts = contacts })
+  Some (record { neighbour = neighbour; resend = resend; rate = rate; contacts = contacts })
 
 abbrev pub hop_draft_of : Data → Option HopText
 hop_draft_of value = as_table value >>= hop_in

@@ -10,7 +10,7 @@ use Rattle.rly_plan.specs.declared.place.Row.TheVariants.{Peer, Hop, Route}
 abbrev pub keys_of : Row → List (List ℕ)
 keys_of Peer = codes "id" ∷ codes "station" ∷ codes "listen" ∷ codes "remote" ∷ codes "key" ∷ []
 keys_of Hop = codes "id" ∷ codes "station" ∷ codes "listen" ∷ codes "remote" ∷ codes "key"
-    ∷ codes "resend" ∷ codes "contacts" ∷ []
+    ∷ codes "resend" ∷ codes "rate" ∷ codes "contacts" ∷ []
 keys_of Route = codes "destination" ∷ codes "hop" ∷ []
 
 abbrev pub has_key : Row → List ℕ → Bool

@@ -1,6 +1,6 @@
 -- The passes over a whole plan, in their order: the plan of a text, or the first fault (docs/FORMATS.md, "The plan").
 use Rattle.std.specs.Prelude.{ℕ, ◌+◌, ◌-◌, ◌==◌, nat_le, ℤ, pos, negsuc, List, [], ◌∷◌, map, length}
-use Rattle.std.specs.Prelude.{Bool, true, false, not, ◌&&◌, ◌||◌, if◌then◌else◌, Option, Some, None, Result, Ok, Err}
+use Rattle.std.specs.Prelude.{Bool, true, false, not, ◌&&◌, ◌||◌, if◌then◌else◌, Option, Some, None, option_map, Result, Ok, Err}
 use Rattle.std.specs.List.{list_all, list_any}
 use Rattle.toml.specs.Data.{Members}
 use Rattle.toml.specs.Parse.{parse_document}
@@ -56,11 +56,17 @@ contact_in_range c = is_between 0 (MOMENT_LIMIT - 1) c.begin && is_between (numb
 abbrev pub resend_in_range : ℤ → Bool
 resend_in_range z = is_between MIN_RESEND MAX_RESEND z
 
+-- bytes a second, where there is a rate
+abbrev pub rate_in_range : Option ℤ → Bool
+rate_in_range None = true
+rate_in_range (Some z) = is_between 1 1000000000 z
+
 abbrev pub hop_in_range : ℕ → HopText → Bool
 hop_in_range id h =
     neighbour_in_range id h.neighbour
     && (resend_in_range h.resend
-    && (nat_le (length h.contacts) MAX_CONTACTS && list_all contact_in_range h.contacts))
+    && (rate_in_range h.rate
+    && (nat_le (length h.contacts) MAX_CONTACTS && list_all contact_in_range h.contacts)))
 
 abbrev pub route_in_range : RouteDraft → Bool
 route_in_range r = is_station r.destination && is_between 1 MAX_HOPS r.hop
@@ -128,6 +134,7 @@ abbrev pub hop_from : HopText → Hop
 hop_from h = record {
   neighbour = neighbour_from h.neighbour;
   resend = number_32 h.resend;
+  rate = option_map number_32 h.rate;
   contacts = map contact_from h.contacts;
 }
 

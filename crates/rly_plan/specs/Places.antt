@@ -20,9 +20,9 @@ use Rattle.rly_plan.specs.declared.place.Row.{Row}
 use Rattle.rly_plan.specs.declared.place.Row.TheVariants as row
 use Rattle.rly_plan.specs.declared.place.Spot.{Spot}
 use Rattle.rly_plan.specs.declared.place.Spot.TheVariants as spot
-use Rattle.rly_plan.specs.Draft.{HopText, PlanText, contact_draft_of, draft_of, integer_at, key_at, resend_at, text_at}
+use Rattle.rly_plan.specs.Draft.{HopText, PlanText, contact_draft_of, draft_of, integer_at, key_at, rate_at, resend_at, text_at}
 use Rattle.rly_plan.specs.Keys.{has_key, has_no_key, keys_are_known}
-use Rattle.rly_plan.specs.Passes.{are_apart, begin_in_order, contact_in_range, is_between, is_in_range, is_sorted, is_station, number_16, overlaps, resend_in_range}
+use Rattle.rly_plan.specs.Passes.{are_apart, begin_in_order, contact_in_range, is_between, is_in_range, is_sorted, is_station, number_16, overlaps, rate_in_range, resend_in_range}
 
 -- the place, unless the test is passed
 abbrev pub unless : {A : Type 0} → Bool → A → Option A
@@ -65,6 +65,7 @@ spot_named name =
     else if bytes_eq name (codes "remote") then spot.At key.Remote
     else if bytes_eq name (codes "key") then spot.At key.Key
     else if bytes_eq name (codes "resend") then spot.At key.Resend
+    else if bytes_eq name (codes "rate") then spot.At key.Rate
     else if bytes_eq name (codes "contacts") then spot.At key.Contacts
     else if bytes_eq name (codes "destination") then spot.At key.Destination
     else if bytes_eq name (codes "hop") then spot.At key.Hop
@@ -124,7 +125,8 @@ abbrev pub hop_lacks : Members → Option Spot
 hop_lacks ms =
     option_or (neighbour_lacks ms)
     (option_or (unless (is_some (resend_at (get_member (codes "resend") ms))) (spot.At key.Resend))
-    (contacts_lack (get_member (codes "contacts") ms)))
+    (option_or (unless (is_some (rate_at (get_member (codes "rate") ms))) (spot.At key.Rate))
+    (contacts_lack (get_member (codes "contacts") ms))))
 
 abbrev pub route_lacks : Members → Option Spot
 route_lacks ms =
@@ -169,8 +171,9 @@ abbrev pub hop_range_fault : ℕ → HopText → Option Spot
 hop_range_fault id h =
     option_or (neighbour_range_fault id h.neighbour)
     (option_or (unless (resend_in_range h.resend) (spot.At key.Resend))
+    (option_or (unless (rate_in_range h.rate) (spot.At key.Rate))
     (option_or (unless (nat_le (length h.contacts) MAX_CONTACTS) (spot.At key.Contacts))
-    (first_contact contact_in_range 1 h.contacts)))
+    (first_contact contact_in_range 1 h.contacts))))
 
 abbrev pub route_range_fault : ℕ → RouteDraft → Option Spot
 route_range_fault n r = option_or (unless (is_station r.destination) (spot.At key.Destination)) (unless (is_between 1 MAX_HOPS r.hop) (spot.At key.Hop))

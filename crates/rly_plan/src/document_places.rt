@@ -4,7 +4,7 @@ ghost use Rattle.std.specs.Prelude.{◌≡◌, option_map};
 ghost use Rattle.toml.specs.View.{array_view, table_view, view};
 ghost use Rattle.rly_plan.specs.Places.{contacts_lack, first_item, first_no_contact, hop_lacks, missing_place, neighbour_lacks, route_lacks, routes_lack, row_unknown, rows_lack, rows_unknown, spot_named, table_lacks, unknown_place, value_unknown};
 
-use crate::draft::{integer, read_contact, read_key, read_resend, text, value_at};
+use crate::draft::{integer, read_contact, read_key, read_rate, read_resend, text, value_at};
 use crate::keys::has_no_key;
 use crate::place::{Key, Place, Row, Spot};
 use toml::value::Array;
@@ -80,6 +80,7 @@ fn spot_named(name: &str) -> Spot
         "remote" => Spot::At(Key::Remote),
         "key" => Spot::At(Key::Key),
         "resend" => Spot::At(Key::Resend),
+        "rate" => Spot::At(Key::Rate),
         "contacts" => Spot::At(Key::Contacts),
         "destination" => Spot::At(Key::Destination),
         "hop" => Spot::At(Key::Hop),
@@ -174,6 +175,9 @@ fn hop_lacks(table: &Table) -> Option<Spot>
     }
     if read_resend(table).is_none() {
         return Some(Spot::At(Key::Resend));
+    }
+    if read_rate(table).is_none() {
+        return Some(Spot::At(Key::Rate));
     }
     contacts_lack(value_at(table, "contacts"))
 }

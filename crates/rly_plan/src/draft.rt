@@ -1,7 +1,7 @@
 ghost use Rattle.std.specs.Prelude.{◌≡◌, ◌≢◌, None, codes, IfOk, OnErr, option_copied, option_map};
 ghost use Rattle.toml.specs.View.{array_view, table_view, view};
 ghost use Rattle.toml.specs.Data.{get_member};
-ghost use Rattle.rly_plan.specs.Draft.{contact_draft_of, draft_of, each_item, integer_at, items_at, key_at, neighbour_of, resend_at, routes_at, text_at};
+ghost use Rattle.rly_plan.specs.Draft.{contact_draft_of, draft_of, each_item, integer_at, items_at, key_at, neighbour_of, rate_at, resend_at, routes_at, text_at};
 
 use crate::contacts::Contact;
 use crate::neighbour::{Addresses, KeyFile};
@@ -48,6 +48,7 @@ impl ContactDraft {
 pub(crate) struct HopDraft {
     pub neighbour: NeighbourDraft,
     pub resend: i64,
+    pub rate: Option<i64>,
     pub contacts: Vec<ContactDraft>,
 }
 
@@ -56,7 +57,7 @@ impl Model for HopDraft {
 
     ghost Value = { HopText };
 
-    ghost view = { λ h. record { neighbour = h.neighbour; resend = h.resend; contacts = h.contacts.items } };
+    ghost view = { λ h. record { neighbour = h.neighbour; resend = h.resend; rate = h.rate; contacts = h.contacts.items } };
 }
 
 /// A `[[route]]` table.
@@ -148,12 +149,16 @@ impl Item for HopDraft {
         let Some(resend) = read_resend(table) else {
             return Ok(None);
         };
+        let Some(rate) = read_rate(table) else {
+            return Ok(None);
+        };
         let Some(contacts) = read_items::<ContactDraft>(alloc, value_at(table, "contacts"))? else {
             return Ok(None);
         };
         Ok(Some(HopDraft {
             neighbour,
             resend,
+            rate,
             contacts,
         }))
     }
@@ -239,6 +244,16 @@ pub(crate) fn read_resend(table: &Table) -> Option<i64>
     match value_at(table, "resend") {
         Some(value) => value.as_integer(),
         None => Some(DEFAULT_RESEND as i64),
+    }
+}
+
+/// The `rate` of a hop, which may be left out.
+pub(crate) fn read_rate(table: &Table) -> Option<Option<i64>>
+    ensures { result ≡ rate_at (get_member (codes "rate") (table_view table.now)) }
+{
+    match value_at(table, "rate") {
+        Some(value) => Some(Some(value.as_integer()?)),
+        None => Some(None),
     }
 }
 

@@ -1,6 +1,8 @@
 //! Pass 2: whether each key of a document is known at its place.
 
-ghost use Rattle.std.specs.Prelude.{◌≡◌};
+ghost use Rattle.std.specs.Prelude.{◌≡◌, ◌∷◌, [], codes};
+ghost use Rattle.std.specs.List.{list_any};
+ghost use Rattle.std.specs.Str.{bytes_eq};
 ghost use Rattle.toml.specs.View.{array_view, table_view, view};
 ghost use Rattle.rly_plan.specs.Keys.{has_key, has_no_key, is_known, item_is_known, items_are_known, items_have_no_key, keys_are_known, row_is_known, rows_are_known};
 
@@ -18,10 +20,17 @@ impl Row {
     {
         match self {
             Row::Peer => is_neighbour_key(key),
-            Row::Hop => is_neighbour_key(key) || key == "resend" || key == "contacts",
+            Row::Hop => is_neighbour_key(key) || is_link_key(key),
             Row::Route => key == "destination" || key == "hop",
         }
     }
+}
+
+/// A key of a hop that a peer doesn't have.
+fn is_link_key(key: &str) -> bool
+    ensures { result ≡ list_any (bytes_eq key.now) (codes "resend" ∷ codes "rate" ∷ codes "contacts" ∷ []) }
+{
+    key == "resend" || key == "rate" || key == "contacts"
 }
 
 fn is_neighbour_key(key: &str) -> bool

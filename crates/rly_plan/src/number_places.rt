@@ -6,7 +6,9 @@ ghost use Rattle.rly_plan.specs.Places.{first_adjacent, first_contact, first_row
 ghost use Rattle.rly_plan.specs.Passes.{contact_in_range};
 
 use crate::draft::{ContactDraft, HopDraft, NeighbourDraft, PlanDraft, RouteDraft};
-use crate::passes::{contact_in_range, is_between, is_station, number_16, resend_in_range};
+use crate::passes::{
+    contact_in_range, is_between, is_station, number_16, rate_in_range, resend_in_range,
+};
 use crate::place::{Key, Place, Row, Spot};
 use rly_core::limits::{MAX_CONTACTS, MAX_HOPS, MAX_PEERS};
 
@@ -86,6 +88,9 @@ impl Test<HopDraft> for InRange {
         }
         if !resend_in_range(row.resend) {
             return Some(Spot::At(Key::Resend));
+        }
+        if !rate_in_range(row.rate) {
+            return Some(Spot::At(Key::Rate));
         }
         if row.contacts.len() as u64 > MAX_CONTACTS {
             return Some(Spot::At(Key::Contacts));

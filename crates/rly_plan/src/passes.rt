@@ -2,11 +2,14 @@
 
 ghost use Rattle.std.specs.Prelude.{◌≡◌, ◌<◌, ◌^◌, ℕ, false, IfOk, map, slice_index_or, vec_len};
 ghost use Rattle.std.specs.List.{list_all};
-ghost use Rattle.rly_plan.specs.Passes.{all_adjacent, are_apart, begin_in_order, contact_in_range, hop_in_range, is_between, is_in_range, is_sorted, is_station, leads_to_hops, neighbour_in_range, number, number_16, number_32, overlaps, repeats, resend_in_range, route_in_range, rows_in_range};
+ghost use Rattle.rly_plan.specs.Passes.{all_adjacent, are_apart, begin_in_order, contact_in_range, hop_in_range, is_between, is_in_range, is_sorted, is_station, leads_to_hops, neighbour_in_range, number, number_16, number_32, overlaps, rate_in_range, repeats, resend_in_range, route_in_range, rows_in_range};
 
 use crate::draft::{ContactDraft, HopDraft, NeighbourDraft, PlanDraft, RouteDraft};
 use rly_core::limits::{MAX_CONTACTS, MAX_HOPS, MAX_PEERS, MAX_RESEND, MIN_RESEND, MOMENT_LIMIT};
 use std::alloc::{AllocError, Global};
+
+/// The greatest `rate` of a hop, in bytes a second. The least is 1.
+const MAX_RATE: u64 = 1_000_000_000;
 
 impl PlanDraft {
     /// Pass 4: whether each number is in its range.
@@ -124,6 +127,7 @@ fn hop_in_range(id: u64, hop: &HopDraft) -> bool
 {
     neighbour_in_range(id, &hop.neighbour)
         && resend_in_range(hop.resend)
+        && rate_in_range(hop.rate)
         && hop.contacts.len() as u64 <= MAX_CONTACTS
         && contacts_in_range(&hop.contacts)
 }
@@ -132,6 +136,15 @@ pub(crate) fn resend_in_range(resend: i64) -> bool
     ensures { result ≡ resend_in_range resend }
 {
     is_between(resend, MIN_RESEND, MAX_RESEND)
+}
+
+pub(crate) fn rate_in_range(rate: Option<i64>) -> bool
+    ensures { result ≡ rate_in_range rate }
+{
+    match rate {
+        Some(rate) => is_between(rate, 1, MAX_RATE),
+        None => true,
+    }
 }
 
 fn contacts_in_range(contacts: &[ContactDraft]) -> bool

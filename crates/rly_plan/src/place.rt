@@ -42,6 +42,8 @@ pub enum Key {
     Key,
     /// `resend`
     Resend,
+    /// `rate`
+    Rate,
     /// `contacts`
     Contacts,
     /// `destination`
@@ -65,6 +67,7 @@ impl Key {
             Key::Remote => "remote",
             Key::Key => "key",
             Key::Resend => "resend",
+            Key::Rate => "rate",
             Key::Contacts => "contacts",
             Key::Destination => "destination",
             Key::Hop => "hop",

@@ -26,6 +26,8 @@ pub struct Hop {
     pub neighbour: Neighbour,
     /// How long nothing has to move before what is in flight is sent again, in milliseconds.
     pub resend: u32,
+    /// How many bytes a second may go out, 1 to 10^9, if that is limited.
+    pub rate: Option<u32>,
     /// When the link is open.
     pub(crate) contacts: Contacts,
 }
@@ -94,7 +96,7 @@ impl Model for Plan {
 
 impl Plan {
     ghost use Rattle.std.specs.Prelude.{◌≡◌, ◌≢◌, ◌<◌, length, IfErr, IfOk, IfSome, None, Ok, Err, option_copied};
-    ghost use Rattle.rly_plan.specs.ContactPlan.{hop_for, is_open, link, next_change, next_hop_at, open_time, peer_at, resend};
+    ghost use Rattle.rly_plan.specs.ContactPlan.{hop_for, is_open, link, next_change, next_hop_at, open_time, peer_at, rate, resend};
     ghost use Rattle.rly_plan.specs.Passes.{plan_of_text};
     ghost use Rattle.rly_plan.specs.Places.{IsPlaceOf};
     ghost use Rattle.toml.specs.Errors.{IsBlank};
@@ -203,6 +205,16 @@ impl Plan {
         match at_number(&self.hops, hop.0) {
             Some(hop) => hop.resend,
             None => DEFAULT_RESEND as u32,
+        }
+    }
+
+    /// How many bytes a second may go out to a hop, if that is limited: 1 to 10^9, and none for a hop that isn't there.
+    pub fn rate(&self, hop: HopId) -> Option<u32>
+        ensures { result ≡ rate self.now hop }
+    {
+        match at_number(&self.hops, hop.0) {
+            Some(hop) => hop.rate,
+            None => None,
         }
     }
 
@@ -392,11 +404,13 @@ fn settled_hop(alloc: Global, draft: HopDraft) -> Result<Hop, AllocError>
     let HopDraft {
         neighbour,
         resend,
+        rate,
         contacts,
     } = draft;
     Ok(Hop {
         neighbour: settled_neighbour(neighbour),
         resend: number_32(resend),
+        rate: rate.map(number_32),
         contacts: settled_contacts(alloc, &contacts)?,
     })
 }

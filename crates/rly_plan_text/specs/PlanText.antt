@@ -53,11 +53,16 @@ until_text (Some change) = codes " until" ++ moment_text change
 abbrev pub hop_line : ℕ × Hop → List ℕ
 hop_line (id, hop) = codes "hop " ++ decimal id ++ neighbour_text hop.neighbour
 
--- hop H resend R contacts N open T: so many milliseconds, contacts, and microseconds in all of them
+-- the bytes a second that may go out, where that is limited
+abbrev pub rate_text : Option ℕ → List ℕ
+rate_text None = []
+rate_text (Some rate) = codes " rate " ++ decimal rate
+
+-- hop H resend R rate B contacts N open T: so many milliseconds, bytes a second, contacts, and microseconds in all of them
 abbrev pub times_line : ℕ × Hop → List ℕ
 times_line (id, hop) =
-    codes "hop " ++ decimal id ++ codes " resend " ++ decimal hop.resend ++ codes " contacts " ++ decimal (length hop.contacts)
-    ++ codes " open " ++ decimal (open_moments hop.contacts MOMENT_LIMIT) ++ 10 ∷ []
+    codes "hop " ++ decimal id ++ codes " resend " ++ decimal hop.resend ++ rate_text hop.rate
+    ++ codes " contacts " ++ decimal (length hop.contacts) ++ codes " open " ++ decimal (open_moments hop.contacts MOMENT_LIMIT) ++ 10 ∷ []
 
 -- hop H contact open until DATE MOMENT
 abbrev pub state_line : ℕ → ℕ × Hop → List ℕ

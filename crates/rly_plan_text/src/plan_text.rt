@@ -1,5 +1,5 @@
 ghost use Rattle.std.specs.Prelude.{◌≡◌, ◌<◌, ◌++◌, IfOk, IfSome, OnOk, option_copied, string_bytes};
-ghost use Rattle.rly_plan_text.specs.PlanText.{at_line, hop_line, hop_lines, hops_text, neighbour_text, peer_line, peers_text, route_line, routes_text, state_line, state_text, station_line, text_for_plan, times_line, until_text};
+ghost use Rattle.rly_plan_text.specs.PlanText.{at_line, hop_line, hop_lines, hops_text, neighbour_text, peer_line, peers_text, rate_text, route_line, routes_text, state_line, state_text, station_line, text_for_plan, times_line, until_text};
 
 use crate::utc::Utc;
 use rly_core::limits::MOMENT_LIMIT;
@@ -104,10 +104,19 @@ fn write_times(text: &mut String, number: u64, hop: &Hop) -> Result<(), AllocErr
     let resend = hop.resend;
     let contacts = hop.contact_count();
     let open = hop.open_time();
-    writeln!(
-        text,
-        "hop {number} resend {resend} contacts {contacts} open {open}"
-    )?;
+    write!(text, "hop {number} resend {resend}")?;
+    write_rate(text, hop.rate)?;
+    writeln!(text, " contacts {contacts} open {open}")?;
+    Ok(())
+}
+
+/// Adds a hop's rate, if it has one.
+fn write_rate(text: &mut String, rate: Option<u32>) -> Result<(), AllocError>
+    ensures { OnOk result (string_bytes text.new ≡ string_bytes text.old ++ rate_text rate) }
+{
+    if let Some(rate) = rate {
+        write!(text, " rate {rate}")?;
+    }
     Ok(())
 }
 

@@ -1,6 +1,6 @@
 //! A relay with a reporter beside it.
 
-ghost use Rattle.std.specs.Prelude.{◌≡◌, ◌≤◌, ◌+◌, ◌⊎◌, List, Option, IfErr, IfOk, Some, length, true};
+ghost use Rattle.std.specs.Prelude.{◌≡◌, ◌≤◌, ◌+◌, ◌⊎◌, List, Option, IfErr, IfOk, IfSome, Some, length, true};
 ghost use Rattle.std.specs.List.{AllByRecursion, AllZip, list_all};
 ghost use Rattle.rly_disk.specs.DiskModel.{HasFailed, Later};
 ghost use Rattle.rly_flush.specs.Flushing.{IsServed, new_flusher};
@@ -89,6 +89,7 @@ pub fn run_reported<
         (seated r.relayed.finished.last.value.line.of (names_of r.relayed.finished.last.value.line.lines) posts.items) r.relayed.ended.items) }
     ensures answered { IfOk result (λ r. AreAnsweredBy r.relayed.finished.last.value.line r.relayed.ended.items) }
     ensures told { IfOk result (λ r. r.relayed.is_cut ≡ is_to_end r.relayed.finished.broken r.relayed.ended.items) }
+    ensures cut { IfOk result (λ r. AllByRecursion (λ ended. IfSome ended (λ worker. worker.was_cut ≡ true → r.relayed.is_cut ≡ true)) r.relayed.ended.items) }
     ensures complete { IfOk result (λ r. r.relayed.complete ≡ list_all has_run_out r.relayed.ended.items) }
     ensures later { IfOk result (λ r. Later (D.state journal.disk) (D.state r.relayed.finished.journal.disk)) }
     // The reporter asked at the last seat of that line, and wrote what it was answered there and saw.

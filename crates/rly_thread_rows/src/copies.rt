@@ -202,15 +202,13 @@ const STRAYS: [&[u8]; 3] = [
     b"\x52\x4c\x01\x02\x00\x0a\x00\x07\x00\x00\x00\x00\x00\x00\x00\x01",
 ];
 
-/// Checks that each datagram goes out so many times before the next one does, and that this is so and as many receives wait
-/// where a stray packet comes in each turn.
-fn expect_copies<R: Abort + Wait>(rt: &R, alloc: Global, way: &Way, copies: u64) {
+/// Checks that each datagram goes out once, in order, and that this is so and as many receives wait where a stray packet comes in each
+/// turn.
+fn expect_once<R: Abort + Wait>(rt: &R, alloc: Global, way: &Way) {
     let alone = hand_over(rt, alloc, way, 0, None);
     let mut numbers = alone.link.numbers.iter();
     for number in 1..=way.datagrams {
-        for _copy in 0..copies {
-            expect!(rt; numbers.next() == Some(&number));
-        }
+        expect!(rt; numbers.next() == Some(&number));
     }
     expect!(rt; numbers.next().is_none());
     for stray in &STRAYS {
@@ -220,9 +218,9 @@ fn expect_copies<R: Abort + Wait>(rt: &R, alloc: Global, way: &Way, copies: u64)
     }
 }
 
-/// Ways there and back of at most 40 ms: in turns, and the microseconds of a turn. Beside them how many datagrams wait, and how
+/// Ways there and back of less than a second: in turns, and the microseconds of a turn. Beside them how many datagrams wait, and how
 /// many may be in flight.
-const SHORT: [(u64, u64, u64, u64); 7] = [
+const SHORT: [(u64, u64, u64, u64); 10] = [
     (1, 10_000, 20, 1),
     (4, 10_000, 20, 1),
     (3, 10_000, 20, 2),
@@ -230,9 +228,12 @@ const SHORT: [(u64, u64, u64, u64); 7] = [
     (4, 10_000, 70, 64),
     (400, 100, 20, 8),
     (400, 100, 70, 64),
+    (12, 10_000, 20, 1),
+    (60, 10_000, 20, 1),
+    (99, 10_000, 70, 64),
 ];
 
-/// Where the way there and back is at most `resend` and nothing is lost, each datagram goes out once, whatever else comes.
+/// Where the way there and back is less than a second and nothing is lost, each datagram goes out once, whatever else comes.
 #[test]
 fn each_goes_out_once(rt: HostRuntime) {
     for (turns, step, datagrams, window) in &SHORT {
@@ -242,32 +243,37 @@ fn each_goes_out_once(rt: HostRuntime) {
             datagrams: *datagrams,
             window: *window,
         };
-        expect_copies(&rt, rt.alloc(), &way, 1);
+        expect_once(&rt, rt.alloc(), &way);
     }
 }
 
-/// Longer ways with turns of 10 ms, and how often a datagram goes out if only one may be in flight: each fourth turn, until its
-/// custody is heard.
-const LONG: [(u64, u64); 5] = [(5, 2), (8, 2), (9, 3), (12, 3), (60, 15)];
+/// A second after it first went out the first datagram goes out again. What it measures doesn't count, but the wait is 2 s now: the
+/// second datagram goes out once, and from then on the wait is 1.5 s + 4 * 0.75 s.
+const MEASURED: [u64; 6] = [1, 1, 2, 3, 4, 5];
 
-/// Where it is longer than `resend`, each datagram goes out once for each `resend` of it, whatever else comes.
+/// Where the way there and back is a second and a half, one datagram goes out twice, whatever else comes.
 #[test]
-fn each_goes_out_for_each_resend(rt: HostRuntime) {
-    for (turns, copies) in &LONG {
-        let way = Way {
-            turns: *turns,
-            step: 10_000,
-            datagrams: 20,
-            window: 1,
-        };
-        expect_copies(&rt, rt.alloc(), &way, *copies);
+fn a_long_way_is_measured(rt: HostRuntime) {
+    let way = Way {
+        turns: 150,
+        step: 10_000,
+        datagrams: 5,
+        window: 1,
+    };
+    let alone = hand_over(&rt, rt.alloc(), &way, 0, None);
+    expect!(rt; alone.link.numbers.as_slice() == MEASURED.as_slice());
+    for stray in &STRAYS {
+        let ends = hand_over(&rt, rt.alloc(), &way, 0, Some(*stray));
+        expect!(rt; ends.link.numbers.as_slice() == MEASURED.as_slice());
+        expect!(rt; ends.link.waits == alone.link.waits);
     }
 }
 
-/// The fourth Data that goes out is lost. The three that may be in flight go out again, once: station 9 takes in order alone.
+/// The fourth Data that goes out is lost. The three that are on their way go out again, once, one after the other: station 9 takes in
+/// order alone.
 const AFTER_A_LOSS: [u64; 11] = [1, 2, 3, 4, 5, 6, 4, 5, 6, 7, 8];
 
-/// After a loss the window goes out again, once.
+/// After a loss what was on its way goes out again, once.
 #[test]
 fn a_loss_brings_the_window_again(rt: HostRuntime) {
     let way = Way {

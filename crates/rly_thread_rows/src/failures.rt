@@ -83,24 +83,26 @@ fn receiver_goes_on(rt: HostRuntime) {
     expect!(rt; receive(&rt, alloc, 97).link.failures() == 0);
 }
 
-/// The sender of hop 1 has one datagram, and so many turns of 10 ms.
+/// The sender of hop 1 has one datagram, and so many turns of 100 ms.
 fn send<R: Abort + Wait>(rt: &R, alloc: Global, link: MemLink, turns: u64) -> MemEnds {
-    senders::send(rt, alloc, link, MemTurn::new(1_000, 10_000, turns))
+    senders::send(rt, alloc, link, MemTurn::new(1_000, 100_000, turns))
 }
 
-/// The last call in silence: the datagram goes out in the third turn, and, since 40 ms are four turns, in each fourth one after
-/// it, 16 times in all. Its sends are calls 4, 9, 14 and so on up to 79.
-const LAST_UNHEARD: u64 = 80;
+/// The last call in silence: the datagram goes out in the third turn, a second or ten turns later, and 20 turns after that. Its sends
+/// are calls 4, 15 and 36.
+const LAST_UNHEARD: u64 = 67;
 
-/// What a sender does in silence: it asks for the window, picks, and fetches 16 times. The receives after the window and after the
+/// The calls that send it.
+const SENDS: [u64; 3] = [4, 15, 36];
+
+/// What a sender does in silence: it asks for the window, picks, and fetches three times. The receives after the window and after the
 /// pick don't wait: something is left to do then. Once the datagram went out it can only hear.
 fn unheard(fails_at: u64) -> Done {
-    let is_lost = fails_at % 5 == 4;
     Done {
-        delivered: if is_lost { 15 } else { 16 },
-        calls: 80,
+        delivered: if SENDS.contains(&fails_at) { 2 } else { 3 },
+        calls: 67,
         waits: 62,
-        asked: 18,
+        asked: 5,
     }
 }
 
@@ -119,48 +121,58 @@ fn sender_goes_on_in_silence(rt: HostRuntime) {
     expect!(rt; send(&rt, alloc, link, 64).link.failures() == 0);
 }
 
-/// A send that fails leaves its datagram in flight, and it goes out four turns later, after a timeout.
+/// The call that sends the datagram, which fails, and how often it was sent after so many turns: in turn 3, and then a second, two and
+/// four seconds after it was sent last, in turns 13, 33 and 73.
+const FAILED: [(u64, u64, usize); 9] = [
+    (4, 3, 0),
+    (4, 12, 0),
+    (4, 13, 1),
+    (15, 13, 1),
+    (15, 32, 1),
+    (15, 33, 2),
+    (36, 33, 2),
+    (36, 72, 2),
+    (36, 73, 3),
+];
+
+/// A send that fails leaves its datagram in flight, and it goes out after the next timeout.
 #[test]
 fn failed_send_is_made_again(rt: HostRuntime) {
     let alloc = rt.alloc();
-    for sends in 0..16u64 {
-        let turn = 3 + 4 * sends;
-        for (turns, delivered) in [(turn, sends), (turn + 3, sends), (turn + 4, sends + 1)] {
-            let link = senders::custody_at(&rt, alloc, &[], turn + sends + 1);
-            let ends = send(&rt, alloc, link, turns);
-            expect!(rt; ends.link.failures() == 1);
-            expect!(rt; ends.link.delivered().len() as u64 == delivered);
-            expect_counts(&rt, &ends, 0, 1, 0);
-        }
+    for (call, turns, delivered) in &FAILED {
+        let link = senders::custody_at(&rt, alloc, &[], *call);
+        let ends = send(&rt, alloc, link, *turns);
+        expect!(rt; ends.link.failures() == 1);
+        expect!(rt; ends.link.delivered().len() == *delivered);
+        expect_counts(&rt, &ends, 0, 1, 0);
     }
 }
 
 /// In which of its receives, counted from 0, a sender's neighbour acknowledges the datagram.
 const ACKNOWLEDGED: [usize; 2] = [40, 56];
 
-/// The last call with that neighbour: the datagram goes out ten times, in turns 3, 7 and so on up to 39. The first custody is
-/// heard in turn 41, by call 51, and the second in turn 56, by call 67. Each of these turns has a receive more, which finds nothing.
-const LAST_ACKNOWLEDGED: u64 = 76;
+/// The last call with that neighbour: the datagram goes out three times, as in silence. The first custody is heard in turn 41, by call
+/// 44, and the second in turn 56, by call 60. Each of these turns has a receive more, which finds nothing.
+const LAST_ACKNOWLEDGED: u64 = 69;
 
 /// What a sender does with that neighbour: it asks for the window, picks, fetches, releases, and asks for the next datagram beside
 /// the release and in each turn after it, without success. The receives after the window, the pick and the release don't wait.
 fn acknowledged(fails_at: u64) -> Done {
-    // The first custody isn't heard: the datagram goes out in turns 43, 47, 51 and 55 as well, and is released in turn 57.
-    if fails_at == 51 {
+    // The first custody isn't heard: the datagram is released in turn 57.
+    if fails_at == 44 {
         return Done {
-            delivered: 14,
-            calls: 79,
+            delivered: 3,
+            calls: 68,
             waits: 61,
-            asked: 25,
+            asked: 14,
         };
     }
-    let is_lost = fails_at < 51 && fails_at % 5 == 4;
     Done {
-        delivered: if is_lost { 9 } else { 10 },
+        delivered: if SENDS.contains(&fails_at) { 2 } else { 3 },
         // The second custody isn't heard: then its turn has no other receive.
-        calls: if fails_at == 67 { 75 } else { 76 },
+        calls: if fails_at == 60 { 68 } else { 69 },
         waits: 61,
-        asked: 37,
+        asked: 30,
     }
 }
 
@@ -186,7 +198,7 @@ const OTHER_DATA: &[u8] =
 /// Its custody.
 const OTHER_CUSTODY: &[u8] = b"\x52\x4c\x01\x02\x00\x0a\x00\x07\x00\x00\x00\x00\x00\x00\x00\x01";
 
-/// The sender of hop 2 runs for 64 turns of 10 ms. One datagram waits for each hop.
+/// The sender of hop 2 runs for 64 turns of 100 ms. One datagram waits for each hop.
 fn send_to_the_other<R: Abort + Wait>(rt: &R, alloc: Global, link: MemLink) -> MemEnds {
     let mut machine = spool_with(rt, alloc, 8, 1);
     take_for(
@@ -200,15 +212,15 @@ fn send_to_the_other<R: Abort + Wait>(rt: &R, alloc: Global, link: MemLink) -> M
     let mut ends = Ends {
         link,
         desk: MemDesk::new(alloc, machine),
-        turn: MemTurn::new(1_000, 10_000, 64),
+        turn: MemTurn::new(1_000, 100_000, 64),
     };
     sender_run(rt, alloc, &plan(rt, alloc), HopId(2), 1, &mut ends);
     ends
 }
 
-/// The last call in silence at hop 2: its `resend` of 80 ms is eight turns, so the datagram goes out in turns 3, 11 and so on up
-/// to 59. Its sends are calls 4, 13, 22 and so on up to 67.
-const LAST_OF_THE_OTHER: u64 = 72;
+/// The last call in silence at hop 2: its `resend` of three seconds is 30 turns, so the datagram goes out in turns 3 and 33. Its sends
+/// are calls 4 and 35.
+const LAST_OF_THE_OTHER: u64 = 66;
 
 /// A second hop has a `resend`, a flight and a queue of its own. What waits for the first hop stays where it is.
 #[test]
@@ -217,12 +229,12 @@ fn second_hop_goes_on_in_silence(rt: HostRuntime) {
     for fails_at in 0..=LAST_OF_THE_OTHER {
         let link = link_with(&rt, alloc, 0, &[], OTHER_CUSTODY, fails_at);
         let ends = send_to_the_other(&rt, alloc, link);
-        let is_lost = fails_at % 9 == 4;
+        let is_lost = fails_at == 4 || fails_at == 35;
         let done = Done {
-            delivered: if is_lost { 7 } else { 8 },
-            calls: 72,
+            delivered: if is_lost { 1 } else { 2 },
+            calls: 66,
             waits: 62,
-            asked: 10,
+            asked: 4,
         };
         expect_done(&rt, &ends, &done, OTHER_DATA);
         expect!(rt; ends.link.failures() == fails_at.min(1));

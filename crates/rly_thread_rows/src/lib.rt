@@ -35,6 +35,8 @@ mod memory;
 #[cfg(test)]
 mod overlap;
 #[cfg(test)]
+mod paces;
+#[cfg(test)]
 mod receivers;
 #[cfg(test)]
 mod refusals;

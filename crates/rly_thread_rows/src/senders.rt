@@ -111,24 +111,24 @@ fn nothing_goes_out_between_contacts(rt: HostRuntime) {
 }
 
 /// Microseconds from turn to turn and of each call; after so many turns, how often the datagram was sent. The third turn
-/// sends it. The first turn from 40 ms after that on that comes after one that moved nothing sends it again.
+/// sends it. The first turn from a second after that on sends it again, and the first from two seconds after that on once more.
 const TIMEOUTS: [(u64, u64, u64, usize); 12] = [
-    (10_000, 0, 6, 1),
-    (10_000, 0, 7, 2),
-    (10_000, 0, 10, 2),
-    (10_000, 0, 11, 3),
-    (9_999, 0, 7, 1),
-    (9_999, 0, 8, 2),
-    (100, 0, 402, 1),
-    (100, 0, 403, 2),
-    (10_000, 100_000, 6, 1),
-    (10_000, 100_000, 7, 2),
-    (50_000, 0, 4, 1),
-    (50_000, 0, 5, 2),
+    (10_000, 0, 102, 1),
+    (10_000, 0, 103, 2),
+    (10_000, 0, 302, 2),
+    (10_000, 0, 303, 3),
+    (9_999, 0, 103, 1),
+    (9_999, 0, 104, 2),
+    (2_500, 0, 402, 1),
+    (2_500, 0, 403, 2),
+    (10_000, 100_000, 102, 1),
+    (10_000, 100_000, 103, 2),
+    (50_000, 0, 22, 1),
+    (50_000, 0, 23, 2),
 ];
 
-/// What is in flight is sent again once nothing moved for 40 ms, however many turns that takes. The time of a call doesn't
-/// count.
+/// What is in flight is sent again after a second, and then after twice as long, however many turns that takes. The second begins
+/// once the call is answered that it was fetched by.
 #[test]
 fn data_is_sent_again(rt: HostRuntime) {
     let alloc = rt.alloc();
@@ -247,27 +247,10 @@ fn a_release_after_a_contact_is_made_alone(rt: HostRuntime) {
     expect_counts(&rt, &ends, 1, 0, 1);
 }
 
-/// After so many turns of 50 ms, how many packets were sent of two datagrams, of which both may be in flight. The seventh turn sends
-/// both again, together.
-const MOVING: [(u64, usize); 4] = [(4, 1), (5, 2), (6, 2), (7, 4)];
-
-/// While datagrams move there is no timeout, though more than 40 ms go by from turn to turn.
-#[test]
-fn no_timeout_comes_while_datagrams_move(rt: HostRuntime) {
-    let alloc = rt.alloc();
-    for (turns, sent) in &MOVING {
-        let mut machine = spool_with(&rt, alloc, 8, 1);
-        take(&rt, alloc, &mut machine, 1, 2);
-        let turn = MemTurn::new(1_000, 50_000, *turns);
-        let ends = send_from(&rt, alloc, machine, 2, silence(&rt, alloc), turn);
-        expect!(rt; ends.link.delivered().len() == *sent);
-    }
-}
-
 /// After so many turns, how many calls were made and how many packets were sent of 70 datagrams, of which 64 may be in flight. The
-/// first turn asks for the window. Then Picks and the Fetches of what they picked take turns: 1, 2, 4, 8, 16 and 32 of each, and 1 as
-/// soon as 63 are in flight.
-const WINDOW: [(u64, u64, usize); 12] = [
+/// first turn asks for the window. Then Picks and the Fetches of what they picked take turns: 1, 2, 4 and 3 of each, since ten may be
+/// on their way at first.
+const WINDOW: [(u64, u64, usize); 11] = [
     (1, 1, 0),
     (2, 2, 0),
     (3, 3, 1),
@@ -275,14 +258,14 @@ const WINDOW: [(u64, u64, usize); 12] = [
     (5, 7, 3),
     (6, 11, 3),
     (7, 15, 7),
-    (13, 127, 63),
-    (14, 128, 63),
-    (15, 129, 64),
-    (16, 129, 64),
-    (40, 129, 64),
+    (8, 18, 7),
+    (9, 21, 10),
+    (10, 21, 10),
+    (40, 21, 10),
 ];
 
-/// A long queue is asked for by ever more Picks together, and what they picked goes out together.
+/// A long queue is asked for by ever more Picks together, and what they picked goes out together, ten in all. What waits stays in
+/// the spool.
 #[test]
 fn a_window_goes_out_in_batches(rt: HostRuntime) {
     let alloc = rt.alloc();
@@ -294,6 +277,35 @@ fn a_window_goes_out_in_batches(rt: HostRuntime) {
         expect!(rt; ends.link.delivered().len() == *sent);
         let flight = (*calls).saturating_sub(1).saturating_sub(*sent as u64);
         expect_counts(&rt, &ends, 70u64.saturating_sub(flight), flight, 0);
+    }
+}
+
+/// Custody of number 10.
+const TENTH_CUSTODY: &[u8] = b"\x52\x4c\x01\x02\x00\x09\x00\x07\x00\x00\x00\x00\x00\x00\x00\x0a";
+
+/// The same where the eleventh turn hears the custody of the tenth, which makes the ten 20. Its Release and 11 Picks are made together,
+/// since one more Pick may be asked together after each that found a datagram. Then the 11 are fetched, and 9 more are picked and
+/// fetched.
+const TWENTY: [(u64, u64, usize); 6] = [
+    (10, 21, 10),
+    (11, 33, 10),
+    (12, 44, 21),
+    (13, 53, 21),
+    (14, 62, 30),
+    (40, 62, 30),
+];
+
+/// What may be on its way grows by one for each number that is covered.
+#[test]
+fn ten_and_then_twenty_are_on_their_way(rt: HostRuntime) {
+    let alloc = rt.alloc();
+    for (turns, calls, sent) in &TWENTY {
+        let turn = MemTurn::new(1_000, 1, *turns);
+        let machine = queue_of(&rt, alloc, 70);
+        let link = link_with(&rt, alloc, 64, &[10], TENTH_CUSTODY, 0);
+        let ends = send_from(&rt, alloc, machine, 64, link, turn);
+        expect!(rt; ends.desk.calls() == *calls);
+        expect!(rt; ends.link.delivered().len() == *sent);
     }
 }
 
@@ -323,24 +335,39 @@ fn an_idle_hop_makes_one_pick_a_turn(rt: HostRuntime) {
     }
 }
 
-/// After so many turns of 10 ms, how many packets were sent of seven datagrams. The seventh turn sends the last four of them. Four
-/// turns later all seven go out again, together, and again four turns later.
-const AGAIN: [(u64, usize); 6] = [(7, 7), (8, 7), (10, 7), (11, 14), (14, 14), (15, 21)];
+/// After so many turns of 10 ms, how many packets were sent of seven datagrams. The third turn sends the first of them, and the
+/// seventh the last four. A second after the third turn the first goes out again, alone. Its custody is heard two turns later, and in
+/// the turn after that the second goes out. Two seconds after the custody it goes out again: what was sent twice gives no round trip.
+const AGAIN: [(u64, usize); 8] = [
+    (7, 7),
+    (102, 7),
+    (103, 8),
+    (104, 8),
+    (105, 8),
+    (106, 9),
+    (304, 9),
+    (305, 10),
+];
 
-/// A window that isn't acknowledged goes out again in one turn, once for each `resend`.
+/// After a timeout what was on its way goes out again one by one.
 #[test]
-fn a_window_goes_out_again(rt: HostRuntime) {
+fn a_window_goes_out_again_one_by_one(rt: HostRuntime) {
     let alloc = rt.alloc();
     for (turns, sent) in &AGAIN {
         let turn = MemTurn::new(1_000, 10_000, *turns);
         let machine = queue_of(&rt, alloc, 7);
-        let ends = send_from(&rt, alloc, machine, 7, silence(&rt, alloc), turn);
+        let link = link_with(&rt, alloc, 105, &[104], CUSTODY, 0);
+        let ends = send_from(&rt, alloc, machine, 7, link, turn);
         expect!(rt; ends.link.delivered().len() == *sent);
+        if let Some(again) = ends.link.delivered().get(7) {
+            expect!(rt; again.as_slice() == DATA);
+        }
     }
 }
 
-/// After so many turns of 50 ms, how many packets were sent of the two, where the seventh turn hears the first one's custody.
-const ACKNOWLEDGED: [(u64, usize); 3] = [(7, 2), (8, 2), (9, 3)];
+/// After so many turns of 50 ms, how many packets were sent of two, where the 23rd turn hears the first one's custody, a second after
+/// it went out. From this the wait is 1 s + 4 * 0.5 s = 3 s, which is 60 turns.
+const ACKNOWLEDGED: [(u64, usize); 3] = [(23, 2), (82, 2), (83, 3)];
 
 /// A custody that is heard when a timeout is due is released, and what is still in flight isn't sent before the next one.
 #[test]
@@ -355,7 +382,7 @@ fn a_custody_comes_before_a_timeout(rt: HostRuntime) {
             alloc,
             machine,
             2,
-            custody_at(&rt, alloc, &[6], 0),
+            custody_at(&rt, alloc, &[22], 0),
             turn,
         );
         expect!(rt; ends.link.delivered().len() == *sent);
@@ -364,9 +391,9 @@ fn a_custody_comes_before_a_timeout(rt: HostRuntime) {
 }
 
 /// After so many turns, how often the datagram was sent.
-const HELD: [(u64, usize); 3] = [(3, 0), (3_999, 0), (4_000, 1)];
+const HELD: [(u64, usize); 3] = [(3, 0), (11, 0), (12, 1)];
 
-/// What was fetched within a contact and answered after its end is held back, and sent after a timeout in a later contact.
+/// What was fetched within a contact and answered after its end is held back, and sent as the next contact opens.
 #[test]
 fn data_is_held_back_after_a_contact(rt: HostRuntime) {
     let alloc = rt.alloc();

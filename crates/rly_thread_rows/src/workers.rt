@@ -29,7 +29,7 @@ id = 2
 station = 10
 listen = "127.0.0.1:4005"
 remote = "127.0.0.1:4006"
-resend = 80
+resend = 3_000
 contacts = [[1_000, 1_000_000_000]]
 [[route]]
 destination = 12

@@ -9,7 +9,7 @@ use Rattle.rly_threads.specs.declared.turn.Worker.{Worker}
 use Rattle.rly_threads.specs.Asking.{Asked}
 use Rattle.rly_threads.specs.Ends.{TellsMore}
 use Rattle.rly_threads.specs.HelpersTurns.{Did}
-use Rattle.rly_threads.specs.Runs.{EndsView}
+use Rattle.rly_threads.specs.Runs.{EndsView, Ran}
 use Rattle.rly_threads.specs.Turns.{Done, Made, Handed, done_in, done_both, hearings_from, nothing_done, receives_of, with_hearings, with_start}
 
 pub tells_nothing : {A : Type 0} (told : Option (List A)) → TellsMore told told []
@@ -36,6 +36,10 @@ did_nothing told c = record {
   asked = tells_nothing told.asked;
   handed = tells_nothing told.handed;
 }
+
+is_off : (on : Bool) → not on ≡ true → on ≡ false
+is_off true e = sym e
+is_off false e = refl
 
 -- calls were made together, and what was named then was sent
 pub did_ask : {C : Type 0} (old mid new : EndsView) (c d : C) (calls : Asked) (packets : List (List ℕ)) (handed : List Handed)
@@ -82,6 +86,19 @@ did_both old mid new b c d e first then = record {
   sent = tells_more old.sent mid.sent new.sent d.sent e.sent first.sent then.sent;
   asked = tells_more old.asked mid.asked new.asked d.asked e.asked first.asked then.asked;
   handed = tells_more old.handed mid.handed new.handed d.handed e.handed first.handed then.handed;
+}
+
+-- after it a worker was handed its end
+pub did_end : {C : Type 0} (old mid new : EndsView) (c : C) (d : Done C) (worker : Worker) (last : Go)
+    → Did old mid c d → TellsMore mid.handed new.handed ((worker, Start, last) ∷ []) → new ≡ record mid { handed = new.handed } → not last.on ≡ true
+    → Ran old new worker d
+did_end old mid new c d worker last did told quiet off = record {
+  last = last;
+  off = is_off last.on off;
+  heard = subst (λ h. TellsMore old.heard h d.heard) (sym (ap (λ t. t.heard) quiet)) did.heard;
+  sent = subst (λ s. TellsMore old.sent s d.sent) (sym (ap (λ t. t.sent) quiet)) did.sent;
+  asked = subst (λ a. TellsMore old.asked a d.asked) (sym (ap (λ t. t.asked) quiet)) did.asked;
+  handed = tells_more old.handed mid.handed new.handed d.handed ((worker, Start, last) ∷ []) did.handed told;
 }
 
 -- the last of several turns comes after those before it

@@ -5,3 +5,5 @@ pub mod Senders
 pub mod Threads
 pub mod Kept
 pub mod Seating
+pub mod RateKept
+pub mod Strays

@@ -1,11 +1,10 @@
 -- A sending worker within a turn.
 use Rattle.std.proofs.Common.{◌≡◌, ◌∙◌, ◌<◌, ◌≤◌, ◌+◌, ◌++◌, ◌&&◌, ◌||◌, ℕ, Bool, List, [], ◌∷◌, ap, arith, false, inl, inr, length, map, not, refl, subst, suc, sym, true, zero}
-use Rattle.std.specs.Prelude.{◌==◌, ◌⊎◌, fold, nat_lt, take, if◌then◌else◌, Option, Some, None, Ok, Err}
+use Rattle.std.specs.Prelude.{◌==◌, ◌⊎◌, fold, nat_lt, take, if◌then◌else◌, Option, Some, None, Ok, Err, IfNone, IfSome}
 use Rattle.std.proofs.lemmas.Bool.Decides.{nat_tests}
 use Rattle.std.specs.List.{cons_option, filter_map, list_any, range_with_len, zip}
 use Rattle.std.proofs.lemmas.List.{append-nil, append_assoc, length-append, map-append, take_all}
 use Rattle.std.proofs.lemmas.List.Elements.{filter_map-append}
-use Rattle.std.proofs.lemmas.List.Folds.{list_any-append}
 use Rattle.std.proofs.lemmas.Option.{none-some}
 use Rattle.std.proofs.lemmas.List.FromFn.{length-map-range_with_len, map-range_with_len_more}
 use Rattle.rly_hop.specs.declared.sending.event.OutAction.{OutAction}
@@ -13,85 +12,59 @@ use Rattle.rly_hop.specs.declared.sending.event.OutAction.TheVariants as action
 use Rattle.rly_hop.specs.declared.sending.event.OutEvent.{OutEvent}
 use Rattle.rly_hop.specs.declared.sending.event.OutEvent.TheVariants.{Turn}
 use Rattle.rly_hop.specs.Sender.{Sender}
-use Rattle.rly_hop.specs.Sending.{sending_step}
-use Rattle.rly_hop.specs.SendingRuns.{sender_after}
+use Rattle.rly_hop.specs.Sending.{sender, sending_step}
 use Rattle.rly_line.specs.declared.call_error.BatchError.TheVariants as batch
 use Rattle.rly_line.specs.declared.call_error.CallError.TheVariants.{Closed, Lost}
 use Rattle.rly_machine.specs.declared.call.Answer.{Answer}
 use Rattle.rly_machine.specs.declared.command.Ask.{Ask}
-use Rattle.rly_plan.specs.ContactPlan.{is_open}
+use Rattle.rly_core.specs.declared.ids.HopId.{HopId}
+use Rattle.rly_plan.specs.ContactPlan.{ContactPlan, is_open, next_hop_at, rate, resend}
+use Rattle.rly_plan.specs.declared.neighbour.Neighbour.{Neighbour}
+use Rattle.rly_threads.specs.Relay.{HasSent}
 use Rattle.rly_threads.specs.declared.turn.Go.{Go}
 use Rattle.rly_threads.specs.declared.turn.Point.TheVariants.{Heard}
 use Rattle.rly_threads.specs.declared.turn.Worker.TheVariants as worker
 use Rattle.rly_threads.specs.Asking.{BatchOutcome, CallOutcome, call_asked}
 use Rattle.rly_threads.specs.Ends.{TellsMore, hearing}
-use Rattle.rly_threads.specs.Outlet.{Outlet, Pacing, call_at, call_count, calls_from, event_in, is_progress, named_ask, outlet_done, outlet_events, outlet_on_action, outlet_on_calls, outlet_on_packet, outlet_packets, outlet_sent, outlet_told, paced, pacing, picks_after, timed, waits_first}
+use Rattle.rly_threads.specs.declared.pacing.Pacing.{Pacing}
+use Rattle.rly_threads.specs.Outlet.{Outlet, call_at, call_count, calls_from, event_in, named_ask, on_told, outlet, outlet_acts, outlet_done, outlet_events, outlet_on_action, outlet_on_calls, outlet_on_packet, outlet_sent, outlet_turn, sent_on, waits_first}
+use Rattle.rly_threads.specs.Pacing.{first_pacing, on_moment, send_room}
 use Rattle.rly_threads.specs.HelpersTurns.{Did, HasHeard, HasNumbers, HasTold, IsCall, call_event}
-use Rattle.rly_threads.specs.Runs.{EndsView}
-use Rattle.rly_threads.specs.Turns.{Given, Made, around_call, has_some, hearings_from, receives_of}
+use Rattle.rly_threads.specs.Runs.{EndsView, Ran}
+use Rattle.rly_threads.specs.Turns.{Given, Made, around_call, done_in, hearings_from, receives_of}
 use Rattle.rly_threads.proofs.Grown.{did_ask, did_hear, tells_more, tells_nothing}
 
 -- a core that was told nothing
-pub told_none : (in_contact : Bool) (ends : EndsView) (s : Sender) (picks : ℕ) → HasTold in_contact ends ends s s picks picks false []
-told_none in_contact ends s picks = record {
-  core = refl;
-  counted = refl;
-  sent = tells_nothing ends.sent;
-  same = refl;
-  went = refl;
-}
+pub told_none : (in_contact : Bool) (at : ℕ) (ends : EndsView) (p : Pacing) → HasTold in_contact at ends ends p p []
+told_none in_contact at ends p = record { core = refl; sent = tells_nothing ends.sent; same = refl }
 
-after_more : (s : Sender) (done : List (OutEvent (List ℕ))) (e : OutEvent (List ℕ)) → sender_after s (done ++ e ∷ []) ≡ (sending_step (sender_after s done) e).0
-after_more s [] e = refl
-after_more s (d ∷ done) e = after_more (sending_step s d).0 done e
+after_more : (in_contact : Bool) (at : ℕ) (p : Pacing) (done : List (OutEvent (List ℕ))) (e : OutEvent (List ℕ))
+    → fold (on_told in_contact at) p (done ++ e ∷ []) ≡ on_told in_contact at (fold (on_told in_contact at) p done) e
+after_more in_contact at p [] e = refl
+after_more in_contact at p (d ∷ done) e = after_more in_contact at (on_told in_contact at p d) done e
 
-sent_more : (in_contact : Bool) (s : Sender) (done : List (OutEvent (List ℕ))) (e : OutEvent (List ℕ))
-    → outlet_sent in_contact s (done ++ e ∷ []) ≡ outlet_sent in_contact s done ++ outlet_packets in_contact (sending_step (sender_after s done) e).1
-sent_more in_contact s [] e = append-nil (outlet_packets in_contact (sending_step s e).1)
-sent_more in_contact s (d ∷ done) e =
-    let first = outlet_packets in_contact (sending_step s d).1 in
-    let next = (sending_step s d).0 in
-    ap (λ l. first ++ l) (sent_more in_contact next done e)
-    ∙ sym (append_assoc first (outlet_sent in_contact next done) (outlet_packets in_contact (sending_step (sender_after next done) e).1))
-
-picks_more : (picks : ℕ) (done : List (OutEvent (List ℕ))) (e : OutEvent (List ℕ)) → fold picks_after picks (done ++ e ∷ []) ≡ picks_after (fold picks_after picks done) e
-picks_more picks [] e = refl
-picks_more picks (d ∷ done) e = picks_more (picks_after picks d) done e
-
-some_append : {A : Type 0} (xs ys : List A) → has_some (xs ++ ys) ≡ (has_some xs || has_some ys)
-some_append [] ys = refl
-some_append (x ∷ xs) ys = refl
-
--- one of four, in another order
-four : (a b c d : Bool) → ((a || b) || (c || d)) ≡ ((a || (c || false)) || (b || d))
-four true b c d = refl
-four false true true d = refl
-four false true false d = refl
-four false false true d = refl
-four false false false d = refl
+sent_more : (in_contact : Bool) (at : ℕ) (p : Pacing) (done : List (OutEvent (List ℕ))) (e : OutEvent (List ℕ))
+    → outlet_sent in_contact at p (done ++ e ∷ []) ≡ outlet_sent in_contact at p done ++ sent_on in_contact at (fold (on_told in_contact at) p done) e
+sent_more in_contact at p [] e = append-nil (sent_on in_contact at p e)
+sent_more in_contact at p (d ∷ done) e =
+    let first = sent_on in_contact at p d in
+    let next = on_told in_contact at p d in
+    ap (λ l. first ++ l) (sent_more in_contact at next done e)
+    ∙ sym (append_assoc first (outlet_sent in_contact at next done) (sent_on in_contact at (fold (on_told in_contact at) next done) e))
 
 -- a core was told one more
-pub told_more : (in_contact : Bool) (old mid new : EndsView) (s t u : Sender) (picks more last : ℕ) (moved went after : Bool) (done : List (OutEvent (List ℕ))) (e : OutEvent (List ℕ))
-    → HasTold in_contact old mid s t picks more moved done
-    → u ≡ (sending_step t e).0 → last ≡ picks_after more e
-    → TellsMore mid.sent new.sent (outlet_packets in_contact (sending_step t e).1) → new ≡ record mid { sent = new.sent }
-    → went ≡ (is_progress e || has_some (outlet_packets in_contact (sending_step t e).1)) → after ≡ (moved || went)
-    → HasTold in_contact old new s u picks last after (done ++ e ∷ [])
-told_more in_contact old mid new s t u picks more last moved went after done e h core picked sent same goes whether =
-    let packets = λ (x : Sender). outlet_packets in_contact (sending_step x e).1 in
-    let sends = outlet_sent in_contact s done in
-    let out = packets (sender_after s done) in
-    let sent_is : TellsMore mid.sent new.sent out = subst (TellsMore mid.sent new.sent) (ap packets h.core) sent in
-    let went_is : went ≡ (is_progress e || has_some out) = goes ∙ ap (λ x. is_progress e || has_some (packets x)) h.core in
+pub told_more : (in_contact : Bool) (at : ℕ) (old mid new : EndsView) (p q r : Pacing) (done : List (OutEvent (List ℕ))) (e : OutEvent (List ℕ))
+    → HasTold in_contact at old mid p q done → r ≡ on_told in_contact at q e
+    → TellsMore mid.sent new.sent (sent_on in_contact at q e) → new ≡ record mid { sent = new.sent }
+    → HasTold in_contact at old new p r (done ++ e ∷ [])
+told_more in_contact at old mid new p q r done e h told sent same =
+    let before = fold (on_told in_contact at) p done in
+    let sent_is : TellsMore mid.sent new.sent (sent_on in_contact at before e) = subst (λ x. TellsMore mid.sent new.sent (sent_on in_contact at x e)) h.core sent in
     record {
-      core = core ∙ ap (λ x. (sending_step x e).0) h.core ∙ sym (after_more s done e);
-      counted = picked ∙ ap (λ n. picks_after n e) h.counted ∙ sym (picks_more picks done e);
-      sent = subst (TellsMore old.sent new.sent) (sym (sent_more in_contact s done e)) (tells_more old.sent mid.sent new.sent sends out h.sent sent_is);
+      core = told ∙ ap (λ x. on_told in_contact at x e) h.core ∙ sym (after_more in_contact at p done e);
+      sent = subst (TellsMore old.sent new.sent) (sym (sent_more in_contact at p done e))
+          (tells_more old.sent mid.sent new.sent (outlet_sent in_contact at p done) (sent_on in_contact at before e) h.sent sent_is);
       same = same ∙ (λ i. record (h.same i) { sent = new.sent });
-      went =
-          whether ∙ (λ i. h.went i || went_is i) ∙ four (list_any is_progress done) (has_some sends) (is_progress e) (has_some out)
-          ∙ (λ i. sym (list_any-append is_progress done (e ∷ [])) i || sym (some_append sends out) i)
-          ∙ ap (λ l. list_any is_progress (done ++ e ∷ []) || has_some l) (sym (sent_more in_contact s done e));
     }
 
 zip_more : {A B : Type 0} (xs : List A) (ys : List B) (x : A) (y : B) → length ys ≡ length xs → zip (xs ++ x ∷ []) (ys ++ y ∷ []) ≡ zip xs ys ++ (x, y) ∷ []
@@ -120,40 +93,38 @@ events_more first count answers answer each =
     ∙ map-append told (zip calls answers) ((last, answer) ∷ [])
 
 -- so far: these were answered
-pub record Telling (first : OutAction (List ℕ)) (in_contact : Bool) (old now : EndsView) (before after : Sender) (picks more : ℕ) (moved : Bool) (all left : List Answer) (place : ℕ) : Type 0 where
+pub record Telling (first : OutAction (List ℕ)) (in_contact : Bool) (at : ℕ) (old now : EndsView) (before after : Pacing) (all left : List Answer) (place : ℕ) : Type 0 where
   pub done : List Answer
   pub parts : all ≡ done ++ left
   pub count : length done ≡ place
-  pub told : HasTold in_contact old now before after picks more moved (outlet_events (calls_from first place) (Ok done))
+  pub told : HasTold in_contact at old now before after (outlet_events (calls_from first place) (Ok done))
 
-pub telling_none : (first : OutAction (List ℕ)) (in_contact : Bool) (ends : EndsView) (s : Sender) (picks : ℕ) (all left : List Answer) → all ≡ left
-    → Telling first in_contact ends ends s s picks picks false all left 0
-telling_none first in_contact ends s picks all left same = record { done = []; parts = same; count = refl; told = told_none in_contact ends s picks }
+pub telling_none : (first : OutAction (List ℕ)) (in_contact : Bool) (at : ℕ) (ends : EndsView) (p : Pacing) (all left : List Answer) → all ≡ left
+    → Telling first in_contact at ends ends p p all left 0
+telling_none first in_contact at ends p all left same = record { done = []; parts = same; count = refl; told = told_none in_contact at ends p }
 
-pub telling_more : (first : OutAction (List ℕ)) (in_contact : Bool) (old mid new : EndsView) (s t u : Sender) (picks more last : ℕ) (moved went after : Bool) (all left rest : List Answer) (place : ℕ)
+pub telling_more : (first : OutAction (List ℕ)) (in_contact : Bool) (at : ℕ) (old mid new : EndsView) (p q r : Pacing) (all left rest : List Answer) (place : ℕ)
     (answer : Answer) (e : OutEvent (List ℕ))
-    → Telling first in_contact old mid s t picks more moved all left place → left ≡ answer ∷ rest → e ≡ event_in (call_at first place) answer.reply
-    → u ≡ (sending_step t e).0 → last ≡ picks_after more e
-    → TellsMore mid.sent new.sent (outlet_packets in_contact (sending_step t e).1) → new ≡ record mid { sent = new.sent }
-    → went ≡ (is_progress e || has_some (outlet_packets in_contact (sending_step t e).1)) → after ≡ (moved || went)
-    → Telling first in_contact old new s u picks last after all rest (place + 1)
-telling_more first in_contact old mid new s t u picks more last moved went after all left rest place answer e h lefts is core picked sent same goes whether =
-    let told = told_more in_contact old mid new s t u picks more last moved went after (outlet_events (calls_from first place) (Ok h.done)) e h.told core picked sent same goes whether in
+    → Telling first in_contact at old mid p q all left place → left ≡ answer ∷ rest → e ≡ event_in (call_at first place) answer.reply
+    → r ≡ on_told in_contact at q e → TellsMore mid.sent new.sent (sent_on in_contact at q e) → new ≡ record mid { sent = new.sent }
+    → Telling first in_contact at old new p r all rest (place + 1)
+telling_more first in_contact at old mid new p q r all left rest place answer e h lefts is told sent same =
+    let more = told_more in_contact at old mid new p q r (outlet_events (calls_from first place) (Ok h.done)) e h.told told sent same in
     let events : outlet_events (calls_from first place) (Ok h.done) ++ e ∷ [] ≡ outlet_events (calls_from first (place + 1)) (Ok (h.done ++ answer ∷ [])) =
     ap (λ x. outlet_events (calls_from first place) (Ok h.done) ++ x ∷ []) is ∙ sym (events_more first place h.done answer h.count) in
     record {
       done = h.done ++ answer ∷ [];
       parts = h.parts ∙ ap (λ l. h.done ++ l) lefts ∙ sym (append_assoc h.done (answer ∷ []) rest);
       count = omega (arith, length-append h.done (answer ∷ []), h.count);
-      told = subst (HasTold in_contact old new s u picks last after) events told;
+      told = subst (HasTold in_contact at old new p r) events more;
     }
 
-pub telling_all : (first : OutAction (List ℕ)) (in_contact : Bool) (old new : EndsView) (s t : Sender) (picks more : ℕ) (moved : Bool) (all left : List Answer) (place : ℕ)
-    → Telling first in_contact old new s t picks more moved all left place → left ≡ [] → place ≡ length all
-    → HasTold in_contact old new s t picks more moved (outlet_events (calls_from first (length all)) (Ok all))
-telling_all first in_contact old new s t picks more moved all left place h none end =
+pub telling_all : (first : OutAction (List ℕ)) (in_contact : Bool) (at : ℕ) (old new : EndsView) (p q : Pacing) (all left : List Answer) (place : ℕ)
+    → Telling first in_contact at old new p q all left place → left ≡ [] → place ≡ length all
+    → HasTold in_contact at old new p q (outlet_events (calls_from first (length all)) (Ok all))
+telling_all first in_contact at old new p q all left place h none end =
     let whole : h.done ≡ all = sym (h.parts ∙ ap (λ l. h.done ++ l) none ∙ append-nil h.done) in
-    subst (HasTold in_contact old new s t picks more moved) (λ i. outlet_events (calls_from first (end i)) (Ok (whole i))) h.told
+    subst (HasTold in_contact at old new p q) (λ i. outlet_events (calls_from first (end i)) (Ok (whole i))) h.told
 
 -- a Release asks something, and so does a Pick
 release_asks : (w : Outlet) (now number : ℕ) (is_first : Bool) → (ask : Ask) × (named_ask w now (if is_first then action.Release number else action.Pick) ≡ Some ask)
@@ -209,23 +180,22 @@ few_asks w now first (suc count) =
     )
 
 -- calls were made together, and what was named on their answers was sent or held back
-pub called : (w : Outlet) (old mid new : EndsView) (now : ℕ) (made : Made) (p left : Pacing) (calls : List (OutAction (List ℕ))) (asks : List Ask) (in_contact moved : Bool) (core : Sender) (picks : ℕ)
+pub called : (w : Outlet) (old mid new : EndsView) (now : ℕ) (made : Made) (p left : Pacing) (calls : List (OutAction (List ℕ))) (asks : List Ask) (in_contact : Bool)
     → 0 < length calls → asks ≡ filter_map (named_ask w now) calls
     → TellsMore old.asked mid.asked ((asks, made.outcome) ∷ []) → TellsMore old.handed mid.handed (around_call (worker.Sender w.hop) made)
     → mid ≡ record old { asked = mid.asked; handed = mid.handed } → in_contact ≡ is_open w.plan w.hop made.after.now
-    → HasTold in_contact mid new p.core core p.picks picks moved (outlet_events calls made.outcome)
-    → left ≡ paced core moved p.mark made.after.since picks
+    → HasTold in_contact made.after.since mid new p left (outlet_events calls made.outcome)
     → Did old new left (outlet_on_calls w now made p calls)
-called w old mid new now made p left [] asks in_contact moved core picks some list asked around quiet opening told pace = absurd (omega (arith, some))
-called w old mid new now made p left (first ∷ others) asks in_contact moved core picks some list asked around quiet opening told pace =
+called w old mid new now made p left [] asks in_contact some list asked around quiet opening told = absurd (omega (arith, some))
+called w old mid new now made p left (first ∷ others) asks in_contact some list asked around quiet opening told =
     let calls = first ∷ others in
     let events = outlet_events calls made.outcome in
-    let t : HasTold (is_open w.plan w.hop made.after.now) mid new p.core core p.picks picks moved events =
-    subst (λ b. HasTold b mid new p.core core p.picks picks moved events) opening told in
-    let packets = outlet_sent (is_open w.plan w.hop made.after.now) p.core events in
-    let left_is : left ≡ outlet_told p events packets made.after.since = pace ∙ (λ i. paced (t.core i) (t.went i) p.mark made.after.since (t.counted i)) in
-    did_ask old mid new left (outlet_told p events packets made.after.since) (filter_map (named_ask w now) calls, made.outcome) packets (around_call (worker.Sender w.hop) made)
-    left_is (subst (λ l. TellsMore old.asked mid.asked ((l, made.outcome) ∷ [])) list asked) around quiet t.sent t.same
+    let at = made.after.since in
+    let open_then = is_open w.plan w.hop made.after.now in
+    let t : HasTold open_then at mid new p left events = subst (λ b. HasTold b at mid new p left events) opening told in
+    did_ask old mid new left (fold (on_told open_then at) p events) (filter_map (named_ask w now) calls, made.outcome) (outlet_sent open_then at p events)
+    (around_call (worker.Sender w.hop) made)
+    t.core (subst (λ l. TellsMore old.asked mid.asked ((l, made.outcome) ∷ [])) list asked) around quiet t.sent t.same
 
 -- what became of one call, as a batch of one
 abbrev pub one_outcome : CallOutcome → BatchOutcome
@@ -258,24 +228,22 @@ one_ask : (w : Outlet) (now : ℕ) (named : OutAction (List ℕ)) (ask : Ask) �
 one_ask w now named ask is = ap (λ x. cons_option x []) is ∙ ap (filter_map (named_ask w now)) (sym (one_call named))
 
 -- one call was made
-pub called_one : (w : Outlet) (old mid new : EndsView) (now : ℕ) (before after : Go) (p left : Pacing) (named : OutAction (List ℕ)) (ask : Ask) (outcome : CallOutcome) (e : OutEvent (List ℕ)) (in_contact moved : Bool) (core : Sender) (picks : ℕ)
+pub called_one : (w : Outlet) (old mid new : EndsView) (now : ℕ) (before after : Go) (p left : Pacing) (named : OutAction (List ℕ)) (ask : Ask) (outcome : CallOutcome) (e : OutEvent (List ℕ)) (in_contact : Bool)
     → Some ask ≡ named_ask w now named → TellsMore old.asked mid.asked (call_asked ask outcome ∷ [])
     → TellsMore old.handed mid.handed (around_call (worker.Sender w.hop) (record { outcome = one_outcome outcome; before = before; after = after }))
     → mid ≡ record old { asked = mid.asked; handed = mid.handed } → in_contact ≡ is_open w.plan w.hop after.now
     → e ≡ call_event named outcome
-    → core ≡ (sending_step p.core e).0 → picks ≡ picks_after p.picks e
-    → TellsMore mid.sent new.sent (outlet_packets in_contact (sending_step p.core e).1) → new ≡ record mid { sent = new.sent }
-    → moved ≡ (is_progress e || has_some (outlet_packets in_contact (sending_step p.core e).1))
-    → left ≡ paced core moved p.mark after.since picks
+    → left ≡ on_told in_contact after.since p e
+    → TellsMore mid.sent new.sent (sent_on in_contact after.since p e) → new ≡ record mid { sent = new.sent }
     → Did old new left (outlet_on_calls w now (record { outcome = one_outcome outcome; before = before; after = after }) p (calls_from named 1))
-called_one w old mid new now before after p left named ask outcome e in_contact moved core picks is asked around quiet opening event core_is picked sent same goes pace =
+called_one w old mid new now before after p left named ask outcome e in_contact is asked around quiet opening event told sent same =
     let made : Made = record { outcome = one_outcome outcome; before = before; after = after } in
-    let told = told_more in_contact mid mid new p.core p.core core p.picks p.picks picks false moved moved [] e (told_none in_contact mid p.core p.picks) core_is picked sent same goes refl in
+    let one = told_more in_contact after.since mid mid new p p left [] e (told_none in_contact after.since mid p) told sent same in
     let events : e ∷ [] ≡ outlet_events (calls_from named 1) made.outcome =
     ap (λ x. x ∷ []) event ∙ sym (one_event named outcome) ∙ ap (λ l. outlet_events l made.outcome) (sym (one_call named)) in
-    called w old mid new now made p left (calls_from named 1) (ask ∷ []) in_contact moved core picks
+    called w old mid new now made p left (calls_from named 1) (ask ∷ []) in_contact
     (omega (arith, length_calls named 1)) (one_ask w now named ask is) (subst (λ x. TellsMore old.asked mid.asked (x ∷ [])) (one_asked ask outcome) asked) around quiet opening
-    (subst (HasTold in_contact mid new p.core core p.picks picks moved) events told) pace
+    (subst (HasTold in_contact after.since mid new p left) events one)
 
 -- a call has something to ask
 pub call_asks : (w : Outlet) (now : ℕ) (named : OutAction (List ℕ)) → IsCall named → None ≡ named_ask w now named → ⊥
@@ -288,32 +256,21 @@ pub several_fit : (most asks answers count : ℕ) → ((most ≡ 64) × (64 ≤ 
 several_fit most asks answers count (inl room) several few = (omega (arith, room.0, few), omega (arith, room.0, room.2, few))
 several_fit most asks answers count (inr one) several few = absurd (omega (arith, one, several, few))
 
--- the same under other names
-pub told_as : (in_contact : Bool) (old new end : EndsView) (s t u : Sender) (picks more last : ℕ) (moved went : Bool) (done told : List (OutEvent (List ℕ)))
-    → HasTold in_contact old new s t picks more moved done → end ≡ new → u ≡ t → last ≡ more → went ≡ moved → done ≡ told
-    → HasTold in_contact old end s u picks last went told
-told_as in_contact old new end s t u picks more last moved went done told h ends core picked goes is =
-    subst (λ x. HasTold in_contact old x s u picks last went told) (sym ends)
-    (subst (λ x. HasTold in_contact old new s x picks last went told) (sym core)
-    (subst (λ x. HasTold in_contact old new s t picks x went told) (sym picked)
-    (subst (λ x. HasTold in_contact old new s t picks more x told) (sym goes)
-    (subst (HasTold in_contact old new s t picks more moved) is h))))
-
 -- what is made at least once is a call
-pub counted_call : (most count : ℕ) (in_contact : Bool) (p : Pacing) (named : OutAction (List ℕ)) → count ≡ call_count most in_contact p named → 0 < count → IsCall named
-counted_call most count in_contact p action.AskWindow is some = tt
-counted_call most count in_contact p (action.Release number) is some = tt
-counted_call most count in_contact p (action.Fetch number) is some = tt
-counted_call most count in_contact p action.Pick is some = tt
-counted_call most count in_contact p (action.Send m) is some = absurd (omega (arith, is, some))
+pub counted_call : (most count room : ℕ) (p : Pacing) (named : OutAction (List ℕ)) → count ≡ call_count most room p named → 0 < count → IsCall named
+counted_call most count room p action.AskWindow is some = tt
+counted_call most count room p (action.Release number) is some = tt
+counted_call most count room p (action.Fetch number) is some = tt
+counted_call most count room p action.Pick is some = tt
+counted_call most count room p (action.Send m) is some = absurd (omega (arith, is, some))
 
 -- several are made where several may be
-pub counted_few : (most count : ℕ) (in_contact : Bool) (p : Pacing) (named : OutAction (List ℕ)) → count ≡ call_count most in_contact p named → 1 < count → count ≤ most
-counted_few most count in_contact p action.AskWindow is several = absurd (omega (arith, is, several))
-counted_few most count in_contact p (action.Release number) is several = omega (arith, is)
-counted_few most count in_contact p (action.Fetch number) is several = omega (arith, is)
-counted_few most count in_contact p action.Pick is several = omega (arith, is)
-counted_few most count in_contact p (action.Send m) is several = absurd (omega (arith, is, several))
+pub counted_few : (most count room : ℕ) (p : Pacing) (named : OutAction (List ℕ)) → count ≡ call_count most room p named → 1 < count → count ≤ most
+counted_few most count room p action.AskWindow is several = absurd (omega (arith, is, several))
+counted_few most count room p (action.Release number) is several = omega (arith, is)
+counted_few most count room p (action.Fetch number) is several = omega (arith, is)
+counted_few most count room p action.Pick is several = omega (arith, is)
+counted_few most count room p (action.Send m) is several = absurd (omega (arith, is, several))
 
 -- fewer numbers are numbers too
 pub fewer_numbers : (named : OutAction (List ℕ)) (few many : ℕ) → HasNumbers named many → few ≤ many → HasNumbers named few
@@ -430,30 +387,51 @@ hearing_full waits old now s t place h end =
     )
 
 -- a turn, after its start
-pub turned : (w : Outlet) (most : ℕ) (old told mid new : EndsView) (p : Pacing) (heard core : Sender) (due left : Pacing) (given : Given) (in_contact : Bool) (action : Option (OutAction (List ℕ)))
-    → HasHeard (waits_first p.moved p.core) old told p.core heard given.packets → TellsMore told.handed mid.handed ((worker.Sender w.hop, Heard, given.heard) ∷ [])
+pub turned : (w : Outlet) (most room : ℕ) (old told mid new : EndsView) (p heard ready acting left : Pacing) (core : Sender) (given : Given) (in_contact : Bool) (action : Option (OutAction (List ℕ)))
+    → HasHeard (waits_first p.moved p.core) old told p.core core given.packets → heard ≡ record p { core = core }
+    → TellsMore told.handed mid.handed ((worker.Sender w.hop, Heard, given.heard) ∷ [])
     → mid ≡ record told { handed = mid.handed }
-    → due ≡ timed w given.heard.since (pacing heard p.moved p.mark p.picks)
-    → in_contact ≡ is_open w.plan w.hop given.heard.now → core ≡ (sending_step due.core (Turn in_contact)).0 → action ≡ (sending_step due.core (Turn in_contact)).1
-    → Did mid new left (outlet_on_action w most given.heard.now given.made (pacing core false due.mark due.picks) action) → Did old new left (outlet_done w most p given)
-turned w most old told mid new p heard core due left given in_contact action hears at quiet timing opening after named did =
+    → in_contact ≡ is_open w.plan w.hop given.heard.now → ready ≡ on_moment heard in_contact given.heard.since
+    → room ≡ send_room ready given.heard.since
+    → acting ≡ record ready { core = (sending_step ready.core (Turn (nat_lt 0 room))).0; moved = false } → action ≡ (sending_step ready.core (Turn (nat_lt 0 room))).1
+    → Did mid new left (outlet_on_action w most room given.heard.now given.made acting action) → Did old new left (outlet_done w most p given)
+turned w most room old told mid new p heard ready acting left core given in_contact action hears same_but at quiet opening moment roomy acts named did =
     let packets = take 64 given.packets in
     let whole : given.packets ≡ packets = sym (take_all 64 given.packets (omega (arith, hears.few))) in
-    let ready = timed w given.heard.since (pacing (fold outlet_on_packet p.core packets) p.moved p.mark p.picks) in
-    let heard_is : heard ≡ fold outlet_on_packet p.core packets = hears.core ∙ ap (fold outlet_on_packet p.core) whole in
-    let due_is : due ≡ ready = timing ∙ ap (λ s. timed w given.heard.since (pacing s p.moved p.mark p.picks)) heard_is in
-    let step = sending_step ready.core (Turn (is_open w.plan w.hop given.heard.now)) in
-    let step_is : sending_step due.core (Turn in_contact) ≡ step = λ i. sending_step (due_is i).core (Turn (opening i)) in
-    let core_is : core ≡ step.0 = after ∙ ap (λ r. r.0) step_is in
-    let action_is : action ≡ step.1 = named ∙ ap (λ r. r.1) step_is in
-    let rest : Did mid new left (outlet_on_action w most given.heard.now given.made (pacing step.0 false ready.mark ready.picks) step.1) =
-    subst (Did mid new left) (λ i. outlet_on_action w most given.heard.now given.made (pacing (core_is i) false (due_is i).mark (due_is i).picks) (action_is i)) did in
+    let first : Pacing = record p { core = fold outlet_on_packet p.core packets } in
+    let next : Pacing = on_moment first (is_open w.plan w.hop given.heard.now) given.heard.since in
+    let core_is : core ≡ fold outlet_on_packet p.core packets = hears.core ∙ ap (fold outlet_on_packet p.core) whole in
+    let heard_is : heard ≡ first = same_but ∙ (λ i. record p { core = core_is i }) in
+    let ready_is : ready ≡ next = moment ∙ (λ i. on_moment (heard_is i) (opening i) given.heard.since) in
+    let room_is : room ≡ send_room next given.heard.since = roomy ∙ ap (λ r. send_room r given.heard.since) ready_is in
+    let acting_is : acting ≡ record next { core = (sending_step next.core (Turn (nat_lt 0 (send_room next given.heard.since)))).0; moved = false } =
+    acts ∙ (λ i. record (ready_is i) { core = (sending_step (ready_is i).core (Turn (nat_lt 0 (room_is i)))).0; moved = false }) in
+    let action_is : action ≡ (sending_step next.core (Turn (nat_lt 0 (send_room next given.heard.since)))).1 =
+    named ∙ (λ i. (sending_step (ready_is i).core (Turn (nat_lt 0 (room_is i)))).1) in
+    let rest : Did mid new left (outlet_acts w most (send_room next given.heard.since) next given) =
+    subst (Did mid new left) (λ i. outlet_on_action w most (room_is i) given.heard.now given.made (acting_is i) (action_is i)) did in
     let same : mid.heard ≡ told.heard = ap (λ t. t.heard) quiet in
     let hearing_is : TellsMore old.heard mid.heard (hearings_from (waits_first p.moved p.core) (receives_of packets)) =
     subst (λ x. TellsMore old.heard x (hearings_from (waits_first p.moved p.core) (receives_of packets))) (sym same)
     (subst (λ l. TellsMore old.heard told.heard (hearings_from (waits_first p.moved p.core) (receives_of l))) whole hears.heard) in
-    let moment : TellsMore old.handed mid.handed ((worker.Sender w.hop, Heard, given.heard) ∷ []) =
+    let moment_is : TellsMore old.handed mid.handed ((worker.Sender w.hop, Heard, given.heard) ∷ []) =
     subst (λ x. TellsMore x mid.handed ((worker.Sender w.hop, Heard, given.heard) ∷ [])) (ap (λ t. t.handed) hears.same) at in
     let both : mid ≡ record old { heard = mid.heard; handed = mid.handed } =
     quiet ∙ (λ i. record (hears.same i) { handed = mid.handed }) ∙ (λ i. record old { heard = sym same i; handed = mid.handed }) in
-    did_hear old mid new left _ (worker.Sender w.hop) (waits_first p.moved p.core) packets given.heard hearing_is moment both rest
+    did_hear old mid new left _ (worker.Sender w.hop) (waits_first p.moved p.core) packets given.heard hearing_is moment_is both rest
+
+-- what a sender of a hop did that is there, or that isn't
+abbrev sent_by : ContactPlan → ℕ → HopId → EndsView → EndsView → Option Neighbour → Type 0
+sent_by plan window hop old new found =
+    IfNone found (new ≡ old) × IfSome found (λ neighbour. (most : ℕ) × ((most ≡ 64) ⊎ (most ≡ 1)) × (turns : List Given)
+    × Ran old new (worker.Sender hop)
+    (done_in (outlet_turn (outlet plan hop) most)
+    (first_pacing (sender (record { 0 = plan.station }) (record { 0 = neighbour.station }) window) window (resend plan hop) (rate plan hop)) turns))
+
+pub has_sent : (plan : ContactPlan) (hop : HopId) (window : ℕ) (old new : EndsView) (neighbour : Neighbour) (most : ℕ) (turns : List Given)
+    → Some neighbour ≡ next_hop_at plan hop → (most ≡ 64) ⊎ (most ≡ 1)
+    → Ran old new (worker.Sender hop)
+    (done_in (outlet_turn (outlet plan hop) most)
+    (first_pacing (sender (record { 0 = plan.station }) (record { 0 = neighbour.station }) window) window (resend plan hop) (rate plan hop)) turns)
+    → HasSent plan window hop old new
+has_sent plan hop window old new neighbour most turns found which ran = subst (sent_by plan window hop old new) found (tt, (most, which, turns, ran))

@@ -16,7 +16,6 @@ use Rattle.rly_hop.specs.declared.sending.event.OutEvent.{OutEvent}
 use Rattle.rly_hop.specs.declared.sending.event.OutEvent.TheVariants as event
 use Rattle.rly_hop.specs.Receiver.{Receiver}
 use Rattle.rly_hop.specs.Sender.{Sender}
-use Rattle.rly_hop.specs.SendingRuns.{sender_after}
 use Rattle.rly_threads.specs.declared.receiver.Takes.{Takes}
 use Rattle.rly_threads.specs.declared.sender.Calls.{Calls}
 use Rattle.rly_threads.specs.declared.turn.Go.{Go}
@@ -25,9 +24,10 @@ use Rattle.rly_threads.specs.declared.turn.Worker.TheVariants as worker
 use Rattle.rly_threads.specs.Asking.{CallOutcome}
 use Rattle.rly_threads.specs.Ends.{TellsMore}
 use Rattle.rly_threads.specs.Intake.{Arrival, Intake, Told, Waiting, Wanted, answers_sent, hearings, receives, takings, waiting, wanted}
-use Rattle.rly_threads.specs.Outlet.{event_in, is_progress, outlet_on_packet, outlet_sent, picks_after}
+use Rattle.rly_threads.specs.declared.pacing.Pacing.{Pacing}
+use Rattle.rly_threads.specs.Outlet.{event_in, on_told, outlet_on_packet, outlet_sent}
 use Rattle.rly_threads.specs.Runs.{EndsView}
-use Rattle.rly_threads.specs.Turns.{Done, has_some, hearings_from, receives_of}
+use Rattle.rly_threads.specs.Turns.{Done, hearings_from, receives_of}
 
 -- a worker did this, and is left in this state
 pub record Did {C : Type 0} (old new : EndsView) (core : C) (d : Done C) : Type 0 where
@@ -118,13 +118,11 @@ call_event named (Ok a) = event_in named a.reply
 call_event named (Err (error.Closed back)) = event.Refused refusal.Closed
 call_event named (Err error.Lost) = event.Refused refusal.Lost
 
--- a core was told this, one after the other, and what it named then was sent
-pub record HasTold (in_contact : Bool) (old new : EndsView) (before after : Sender) (picks more : ℕ) (moved : Bool) (told : List (OutEvent (List ℕ))) : Type 0 where
-  pub core : after ≡ sender_after before told
-  pub counted : more ≡ fold picks_after picks told
-  pub sent : TellsMore old.sent new.sent (outlet_sent in_contact before told)
+-- a core was told this at a moment, one after the other, and what it named then was sent
+pub record HasTold (in_contact : Bool) (at : ℕ) (old new : EndsView) (before after : Pacing) (told : List (OutEvent (List ℕ))) : Type 0 where
+  pub core : after ≡ fold (on_told in_contact at) before told
+  pub sent : TellsMore old.sent new.sent (outlet_sent in_contact at before told)
   pub same : new ≡ record old { sent = new.sent }
-  pub went : moved ≡ (list_any is_progress told || has_some (outlet_sent in_contact before told))
 
 -- the greater of two numbers, as far as they are there
 abbrev pub greater : Option ℕ → Option ℕ → Option ℕ

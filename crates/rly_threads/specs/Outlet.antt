@@ -1,7 +1,7 @@
 -- A sending worker, turn by turn (docs/PROTOCOL.md, "The sending core").
-use Rattle.std.specs.Prelude.{ℕ, ◌+◌, ◌-◌, ◌/◌, ◌==◌, min, nat_le, List, [], ◌∷◌, ◌++◌, map, take, Bool, true, false, not, ◌&&◌, ◌||◌}
+use Rattle.std.specs.Prelude.{ℕ, ◌+◌, ◌-◌, ◌==◌, min, nat_lt, List, [], ◌∷◌, ◌++◌, map, take, Bool, true, false, not, ◌||◌}
 use Rattle.std.specs.Prelude.{if◌then◌else◌, fold, Option, Some, None, is_some, Ok, Err}
-use Rattle.std.specs.List.{filter_map, list_any, range_with_len, zip}
+use Rattle.std.specs.List.{filter_map, range_with_len, zip}
 use Rattle.rly_core.specs.declared.ids.HopId.{HopId}
 use Rattle.rly_core.specs.declared.refusal.Refusal.TheVariants as refusal
 use Rattle.rly_hop.specs.declared.message.Message.{Message}
@@ -11,7 +11,6 @@ use Rattle.rly_hop.specs.declared.sending.event.OutEvent.{OutEvent}
 use Rattle.rly_hop.specs.declared.sending.event.OutEvent.TheVariants as event
 use Rattle.rly_hop.specs.Sender.{Sender}
 use Rattle.rly_hop.specs.Sending.{sending_step, turn}
-use Rattle.rly_hop.specs.SendingRuns.{sender_after}
 use Rattle.rly_line.specs.declared.call_error.BatchError.{BatchError}
 use Rattle.rly_line.specs.declared.call_error.BatchError.TheVariants as error
 use Rattle.rly_machine.specs.declared.command.Ask.{Ask}
@@ -20,30 +19,22 @@ use Rattle.rly_machine.specs.declared.command.Command.TheVariants as command
 use Rattle.rly_machine.specs.declared.command.Query.TheVariants as query
 use Rattle.rly_machine.specs.declared.reply.Reply.{Reply}
 use Rattle.rly_machine.specs.declared.reply.Reply.TheVariants as reply
-use Rattle.rly_plan.specs.ContactPlan.{ContactPlan, is_open, link, resend}
+use Rattle.rly_pace.specs.Pacing.{unsent}
+use Rattle.rly_plan.specs.ContactPlan.{ContactPlan, is_open, link}
+use Rattle.rly_threads.specs.declared.pacing.Pacing.{Pacing}
 use Rattle.rly_threads.specs.declared.turn.Worker.TheVariants as worker
 use Rattle.rly_threads.specs.Asking.{BatchOutcome}
+use Rattle.rly_threads.specs.Pacing.{let_out, on_moment, pace_on_answer, pace_on_named, rate_after, send_room}
 use Rattle.rly_threads.specs.Turns.{Done, Given, Made, around_call, has_some, message_in, nothing_done}
 use Rattle.rly_threads.specs.Turns.{packets_of, with_hearings, with_start}
 
--- the hop that is sent to, and the plan that says when its link is open and when to send again
+-- the hop that is sent to, and the plan that says when its link is open
 pub record Outlet : Type 0 where
   pub plan : ContactPlan
   pub hop : HopId
 
 abbrev pub outlet : ContactPlan → HopId → Outlet
 outlet plan hop = record { plan = plan; hop = hop }
-
--- The core, whether the last turn moved something, the microseconds at the last turn that did or at the last timeout,
--- whichever was later: 0 before both, and how many Picks may be asked together.
-pub record Pacing : Type 0 where
-  pub core : Sender
-  pub moved : Bool
-  pub mark : ℕ
-  pub picks : ℕ
-
-abbrev pub pacing : Sender → Bool → ℕ → ℕ → Pacing
-pacing core moved mark picks = record { core = core; moved = moved; mark = mark; picks = picks }
 
 -- what hearing a message leaves, or nothing
 abbrev pub outlet_on_hearing : Sender → Option (Message (List ℕ)) → Sender
@@ -54,18 +45,20 @@ outlet_on_hearing s (Some m) = (sending_step s (event.Heard m)).0
 abbrev pub outlet_on_packet : Sender → List ℕ → Sender
 outlet_on_packet s packet = outlet_on_hearing s (message_in (Some packet))
 
--- how many Picks go with the release of all up to this number: while a contact is open, as many as may be in flight after it
-abbrev pub picks_beside : Bool → Pacing → ℕ → ℕ
-picks_beside in_contact p number = if in_contact then min p.picks (p.core.window - (p.core.next - (number + 1))) else 0
+-- How many Picks go with the release of all up to this number: no more than may be in flight after it, and than may go out at once
+-- after those in flight that are still to be sent.
+abbrev pub picks_beside : ℕ → Pacing → ℕ → ℕ
+picks_beside room p number = min p.picks (min (p.core.window - (p.core.next - (number + 1))) (room - unsent p.pace p.core.next))
 
--- How many calls are made together where the core names this one, of so many at most: the Fetches of all that is in flight from
--- this number on, a Release and the Picks that go with it, and as many Picks as may be in flight beside what is.
-abbrev pub call_count : ℕ → Bool → Pacing → OutAction (List ℕ) → ℕ
-call_count most in_contact p action.AskWindow = 1
-call_count most in_contact p (action.Release number) = min most (picks_beside in_contact p number + 1)
-call_count most in_contact p (action.Fetch number) = min most (p.core.next - number)
-call_count most in_contact p action.Pick = min (min most p.picks) (p.core.window - (p.core.next - p.core.first))
-call_count most in_contact p (action.Send m) = 0
+-- How many calls are made together where the core names this one, of so many at most, and where so many messages may go out: the
+-- Fetches of what is in flight from this number on, a Release and the Picks that go with it, and as many Picks as may be in flight
+-- beside what is. No more is fetched or picked than may go out at once.
+abbrev pub call_count : ℕ → ℕ → Pacing → OutAction (List ℕ) → ℕ
+call_count most room p action.AskWindow = 1
+call_count most room p (action.Release number) = min most (picks_beside room p number + 1)
+call_count most room p (action.Fetch number) = min (min most room) (p.core.next - number)
+call_count most room p action.Pick = min (min most (min room p.picks)) (p.core.window - (p.core.next - p.core.first))
+call_count most room p (action.Send m) = 0
 
 -- the one at a place among calls that are made together: the Fetch of a later number, a Pick after a Release, or the same call again
 abbrev pub call_at : OutAction (List ℕ) → ℕ → OutAction (List ℕ)
@@ -141,12 +134,6 @@ outlet_packets in_contact (Some (action.Fetch number)) = []
 outlet_packets in_contact (Some action.Pick) = []
 outlet_packets in_contact None = []
 
--- what is sent as a core is told this, one after the other
-abbrev pub outlet_sent : Bool → Sender → List (OutEvent (List ℕ)) → List (List ℕ)
-outlet_sent in_contact s [] = []
-outlet_sent in_contact s (told ∷ others) =
-    outlet_packets in_contact (sending_step s told).1 ++ outlet_sent in_contact (sending_step s told).0 others
-
 -- How many Picks may be asked together after an answer: where a datagram was picked one more, 64 at most, and where there was none or
 -- a call was refused one alone.
 abbrev pub picks_after : ℕ → OutEvent (List ℕ) → ℕ
@@ -162,53 +149,61 @@ picks_after picks event.Timeout = picks
 picks_after picks (event.Heard m) = picks
 picks_after picks (event.Turn in_contact) = picks
 
--- calls moved something or not, at these microseconds
-abbrev pub paced : Sender → Bool → ℕ → ℕ → ℕ → Pacing
-paced s moved mark since picks = pacing s moved (if moved then since else mark) picks
+-- what is sent at a moment as the core is told this: what it names, as far as a contact is open and the rate lets it out
+abbrev pub sent_on : Bool → ℕ → Pacing → OutEvent (List ℕ) → List (List ℕ)
+sent_on in_contact at p told = let_out p.rate (outlet_packets in_contact (sending_step p.core told).1) at
 
--- the core was told this, and what it named then was sent
-abbrev pub outlet_told : Pacing → List (OutEvent (List ℕ)) → List (List ℕ) → ℕ → Pacing
-outlet_told p told packets since =
-    paced (sender_after p.core told) (list_any is_progress told || has_some packets) p.mark since (fold picks_after p.picks told)
+-- the core is told this at a moment, and what it names then is sent
+abbrev pub on_told : Bool → ℕ → Pacing → OutEvent (List ℕ) → Pacing
+on_told in_contact at p told = record {
+  core = (sending_step p.core told).0;
+  moved = p.moved || (is_progress told || has_some (sent_on in_contact at p told));
+  picks = picks_after p.picks told;
+  pace = pace_on_named (pace_on_answer p.pace told) (sending_step p.core told).1 at;
+  rate = rate_after p.rate (outlet_packets in_contact (sending_step p.core told).1) at;
+}
+
+-- what is sent as the core is told all this, one after the other
+abbrev pub outlet_sent : Bool → ℕ → Pacing → List (OutEvent (List ℕ)) → List (List ℕ)
+outlet_sent in_contact at p [] = []
+outlet_sent in_contact at p (told ∷ others) = sent_on in_contact at p told ++ outlet_sent in_contact at (on_told in_contact at p told) others
 
 -- The calls are made together. The core is told of the answers, in order, and what it names then is sent, if a contact is open by then.
 abbrev pub outlet_on_calls : Outlet → ℕ → Made → Pacing → List (OutAction (List ℕ)) → Done Pacing
 outlet_on_calls w now made p [] = nothing_done p
 outlet_on_calls w now made p (first ∷ others) =
     let told = outlet_events (first ∷ others) made.outcome in
-    let packets = outlet_sent (is_open w.plan w.hop made.after.now) p.core told in record {
-      core = outlet_told p told packets made.after.since;
+    let in_contact = is_open w.plan w.hop made.after.now in record {
+      core = fold (on_told in_contact made.after.since) p told;
       heard = [];
       asked = (filter_map (named_ask w now) (first ∷ others), made.outcome) ∷ [];
-      sent = packets;
+      sent = outlet_sent in_contact made.after.since p told;
       handed = around_call (worker.Sender w.hop) made;
     }
 
-abbrev pub outlet_on_action : Outlet → ℕ → ℕ → Made → Pacing → Option (OutAction (List ℕ)) → Done Pacing
-outlet_on_action w most now made p None = nothing_done p
-outlet_on_action w most now made p (Some named) =
-    outlet_on_calls w now made p (calls_from named (call_count most (is_open w.plan w.hop now) p named))
-
--- The core is told to send again, at these microseconds, if the turn before moved nothing, nothing that was acknowledged
--- waits to be released, and at least the hop's `resend`, in milliseconds, has passed since the mark.
-abbrev pub timed : Outlet → ℕ → Pacing → Pacing
-timed w since p =
-    if not p.moved && not (is_some p.core.acked) && nat_le (resend w.plan w.hop) ((since - p.mark) / 1000)
-    then pacing (sending_step p.core event.Timeout).0 false since p.picks else p
+abbrev pub outlet_on_action : Outlet → ℕ → ℕ → ℕ → Made → Pacing → Option (OutAction (List ℕ)) → Done Pacing
+outlet_on_action w most room now made p None = nothing_done p
+outlet_on_action w most room now made p (Some named) = outlet_on_calls w now made p (calls_from named (call_count most room p named))
 
 -- whether a turn waits for its first packet: the one before moved nothing, or nothing is left to do but to hear
 abbrev pub waits_first : Bool → Sender → Bool
 waits_first moved core = not moved || not (is_some (turn core true))
 
--- One turn, after its start, of so many calls at most. It hears what its link has, 64 packets at most. A timeout comes after that.
+-- The core's own turn, in which so many messages may go out: where none may, its contact counts as closed.
+abbrev pub outlet_acts : Outlet → ℕ → ℕ → Pacing → Given → Done Pacing
+outlet_acts w most room p given =
+    let left = sending_step p.core (event.Turn (nat_lt 0 room)) in
+    outlet_on_action w most room given.heard.now given.made (record p { core = left.0; moved = false }) left.1
+
+-- One turn, after its start, of so many calls at most. It hears what its link has, 64 packets at most, and goes by the moment that it
+-- is handed then.
 abbrev pub outlet_done : Outlet → ℕ → Pacing → Given → Done Pacing
 outlet_done w most p given =
     let packets = take 64 given.packets in
-    let heard = pacing (fold outlet_on_packet p.core packets) p.moved p.mark p.picks in
-    let timed = timed w given.heard.since heard in
-    let left = sending_step timed.core (event.Turn (is_open w.plan w.hop given.heard.now)) in
+    let heard = record p { core = fold outlet_on_packet p.core packets } in
+    let ready = on_moment heard (is_open w.plan w.hop given.heard.now) given.heard.since in
     with_hearings (worker.Sender w.hop) (waits_first p.moved p.core) packets given.heard
-    (outlet_on_action w most given.heard.now given.made (pacing left.0 false timed.mark timed.picks) left.1)
+    (outlet_acts w most (send_room ready given.heard.since) ready given)
 
 -- one turn
 abbrev pub outlet_turn : Outlet → ℕ → Pacing → Given → Done Pacing

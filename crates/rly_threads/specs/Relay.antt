@@ -11,7 +11,7 @@ use Rattle.rly_line.specs.Replies.{ReplyId}
 use Rattle.rly_line.specs.Responding.{IsAnsweredBy, Responding}
 use Rattle.rly_line.specs.Seats.{Caller, new_callers}
 use Rattle.rly_line.specs.Submission.{LineId}
-use Rattle.rly_plan.specs.ContactPlan.{ContactPlan, next_hop_at, peer_at}
+use Rattle.rly_plan.specs.ContactPlan.{ContactPlan, next_hop_at, peer_at, rate, resend}
 use Rattle.rly_threads.specs.declared.relay.Ended.{Ended}
 use Rattle.rly_threads.specs.declared.relay.Post.{Post}
 use Rattle.rly_threads.specs.declared.turn.Worker.{Worker}
@@ -20,7 +20,8 @@ use Rattle.rly_threads.specs.Asking.{Asked, HasPut}
 use Rattle.rly_threads.specs.Cut.{Look, all_on, cut_early, handed_at, was_cut}
 use Rattle.rly_threads.specs.Ends.{Hearing, TellsMore}
 use Rattle.rly_threads.specs.Intake.{Arrivals, intake, intake_turn}
-use Rattle.rly_threads.specs.Outlet.{outlet, outlet_turn, pacing}
+use Rattle.rly_threads.specs.Outlet.{outlet, outlet_turn}
+use Rattle.rly_threads.specs.Pacing.{first_pacing}
 use Rattle.rly_threads.specs.Runs.{Ran, EndsView}
 use Rattle.rly_threads.specs.Turns.{Given, Handed, done_in}
 
@@ -38,14 +39,14 @@ HasReceived plan peer old new =
     (done_in (intake_turn (intake plan peer) most)
     (receiver (record { 0 = plan.station }) (record { 0 = neighbour.station })) turns))
 
--- The same of a sender to a hop of the plan, which may have so many datagrams in flight. It makes up to 64 calls together, or one at
--- a time where memory for their lists was refused at its start.
+-- The same of a sender to a hop of the plan, which may have so many datagrams in flight, at the hop's `resend` and rate. It makes up
+-- to 64 calls together, or one at a time where memory for their lists was refused at its start.
 abbrev pub HasSent : ContactPlan → ℕ → HopId → EndsView → EndsView → Type 0
 HasSent plan window hop old new =
     IfNone (next_hop_at plan hop) (new ≡ old) × IfSome (next_hop_at plan hop) (λ neighbour. (most : ℕ) × ((most ≡ 64) ⊎ (most ≡ 1)) × (turns : List Given)
     × Ran old new (worker.Sender hop)
     (done_in (outlet_turn (outlet plan hop) most)
-    (pacing (sender (record { 0 = plan.station }) (record { 0 = neighbour.station }) window) false 0 1) turns))
+    (first_pacing (sender (record { 0 = plan.station }) (record { 0 = neighbour.station }) window) window (resend plan hop) (rate plan hop)) turns))
 
 abbrev pub HasWorked : ContactPlan → ℕ → Worker → EndsView → EndsView → Type 0
 HasWorked plan window (worker.Receiver peer) old new = HasReceived plan peer old new

@@ -6,15 +6,18 @@ ghost use Rattle.rly_threads.specs.declared.turn.Go.{Go as AGo};
 ghost use Rattle.rly_threads.specs.declared.turn.Point.{Point as APoint};
 ghost use Rattle.rly_threads.specs.Asking.{batch_outcome, call_asked};
 ghost use Rattle.rly_threads.specs.Ends.{TellsMore, hearing, packet_in};
+ghost use Rattle.rly_threads.specs.Pacing.{let_out, rate_after};
 ghost use Rattle.rly_threads.specs.Turns.{at_taking, has_some, message_in, packets_of};
 
 use crate::desk::Desk;
 use crate::link::Link;
+use crate::pacing::let_one_out;
 use crate::turn::{Go, Point, Turn, Worker};
 use rly_core::HopId;
 use rly_hop::{MAX_MESSAGE, Message, read_message, write_message};
 use rly_line::{BatchError, CallError};
 use rly_machine::{Answer, Ask};
+use rly_pace::Rate;
 use std::marker::Model;
 use std::sync::Wait;
 
@@ -101,6 +104,40 @@ impl<L: Link, K: Desk, T: Turn> Ends<L, K, T> {
             return false;
         };
         let _sent = self.link.send(&packet[..length]);
+        true
+    }
+
+    /// Sends a message that has a spelling, if the rate lets it out at this moment, and answers whether it was sent.
+    pub(crate) fn send_at(
+        &mut self,
+        message: Message<&[u8]>,
+        rate: &mut Option<Rate>,
+        at: u64,
+    ) -> bool
+        ensures rate { rate.new ≡ rate_after rate.old (packets_of (message_bytes message.entry)) at }
+        ensures told { TellsMore self.old.sent self.new.sent (let_out rate.old (packets_of (message_bytes message.entry)) at) }
+        ensures same { self.new ≡ record self.old { sent = self.new.sent } }
+        ensures whether { result ≡ has_some (let_out rate.old (packets_of (message_bytes message.entry)) at) }
+    {
+        let mut packet = [0; MAX_MESSAGE];
+        let Ok(length) = write_message(message, &mut packet) else {
+            return false;
+        };
+        self.send_packet(&packet[..length], rate, at)
+    }
+
+    /// Sends a packet, if the rate lets it out at this moment, and answers whether it was sent.
+    fn send_packet(&mut self, packet: &[u8], rate: &mut Option<Rate>, at: u64) -> bool
+        requires { length packet.now ≤ MAX_MESSAGE }
+        ensures rate { rate.new ≡ rate_after rate.old (packet.now ∷ []) at }
+        ensures told { TellsMore self.old.sent self.new.sent (let_out rate.old (packet.now ∷ []) at) }
+        ensures same { self.new ≡ record self.old { sent = self.new.sent } }
+        ensures whether { result ≡ has_some (let_out rate.old (packet.now ∷ []) at) }
+    {
+        if !let_one_out(rate, packet, at) {
+            return false;
+        }
+        let _sent = self.link.send(packet);
         true
     }
 

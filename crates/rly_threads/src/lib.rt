@@ -1,7 +1,8 @@
 //! The workers: a receiving one for each upstream neighbour and a sending one for each next hop.
 //! In each turn a worker hears what its link has, up to 64 packets: a receiving one with a core for
 //! each, a sending one with one core. It makes the calls that this leads to together, and sends what
-//! the cores name on the answers.
+//! the cores name on the answers. A sending one keeps its hop's pace: when it sends again, and how
+//! much (`specs/Pacing.antt`).
 //!
 //! `receiver_run` and `sender_run` take any `Link`, `Desk` and `Turn`. If these tell what they
 //! gave and were given, a worker asks and sends what `specs/Intake.antt` and `specs/Outlet.antt`
@@ -17,6 +18,7 @@ mod link;
 mod mem_desk;
 mod mem_link;
 mod mem_turn;
+mod pacing;
 mod receiver;
 mod relay;
 mod seat_desk;
@@ -33,5 +35,5 @@ pub use crate::mem_turn::MemTurn;
 pub use crate::receiver::receiver_run;
 pub use crate::relay::{Ended, Post, Relayed, run_relay, run_relay_at};
 pub use crate::seat_desk::SeatDesk;
-pub use crate::sender::sender_run;
+pub use crate::sender::{law_strays_draw_nothing, law_turns_keep_the_rate, sender_run};
 pub use crate::turn::{Go, Point, Turn, Worker};

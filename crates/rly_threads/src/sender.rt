@@ -1,18 +1,25 @@
-ghost use Rattle.std.specs.Prelude.{◌≡◌, ◌<◌, ◌≤◌, ◌⊎◌, ◌||◌, [], List, Ok, false, length, not, vec_capacity, ℕ};
+ghost use Rattle.std.specs.Prelude.{◌≡◌, ◌<◌, ◌≤◌, ◌⊎◌, ◌+◌, ◌-◌, ◌*◌, ◌++◌, ◌∷◌, [], List, Ok, Some, false, fold, length, vec_capacity, ℕ};
 ghost use Rattle.std.specs.List.{filter_map};
 ghost use Rattle.std.specs.Option.{option_map};
 ghost use Rattle.rly_hop.specs.Payloads.{message_bytes, out_action_bytes, out_event_bytes};
-ghost use Rattle.rly_hop.specs.Sending.{sending_step};
-ghost use Rattle.rly_threads.specs.Ends.{TellsMore};
-ghost use Rattle.rly_plan.specs.ContactPlan.{is_open};
-ghost use Rattle.rly_threads.specs.Outlet.{call_at, call_count, calls_from, error_event, event_in, is_progress, named_ask, outlet, outlet_done, outlet_events, outlet_on_action, outlet_on_calls, outlet_on_hearing, outlet_packets, paced, pacing, picks_after, picks_beside, timed, waits_first};
+ghost use Rattle.rly_core.specs.declared.ids.HopId.{HopId as AHop};
+ghost use Rattle.rly_hop.specs.Sender.{Sender};
+ghost use Rattle.rly_pace.specs.Rates.{burst, first_bucket};
+ghost use Rattle.rly_plan.specs.ContactPlan.{ContactPlan, rate, resend};
+ghost use Rattle.rly_threads.specs.declared.pacing.Pacing.{Pacing as Keeping};
+ghost use Rattle.rly_threads.specs.Outlet.{Outlet as Handing};
+ghost use Rattle.rly_threads.specs.Pacing.{first_pacing};
+ghost use Rattle.rly_threads.specs.Strays.{is_custody_in_flight};
+ghost use Rattle.rly_threads.specs.RateKept.{earliest, latest, left_by, sent_in, total_cost};
+ghost use Rattle.rly_threads.specs.Outlet.{call_at, call_count, calls_from, error_event, event_in, named_ask, outlet, outlet_done, outlet_events, outlet_on_action, outlet_on_calls, outlet_on_hearing, outlet_on_packet, outlet_turn, waits_first};
 ghost use Rattle.rly_threads.specs.Relay.{HasSent};
 ghost use Rattle.rly_threads.specs.HelpersTurns.{Did, HasHeard, HasNumbers, HasTold, IsCall, IsIdle, call_event};
-ghost use Rattle.rly_threads.specs.Turns.{Given, Made, has_some};
+ghost use Rattle.rly_threads.specs.Turns.{Given, Made};
 
 use crate::desk::Desk;
 use crate::ends::{Ends, MAX_PACKET, message_in};
 use crate::link::Link;
+use crate::pacing::{MAX_CALLS, Pacing};
 use crate::turn::{Point, Turn, Worker};
 use rly_core::{HopId, Refusal, limits};
 use rly_hop::{Message, OutAction, OutEvent, Sending, StationId};
@@ -22,9 +29,6 @@ use rly_plan::Plan;
 use std::alloc::Global;
 use std::marker::Model;
 use std::sync::Wait;
-
-/// So many calls a sending worker makes together at most.
-const MAX_CALLS: u64 = limits::MAX_ROUND;
 
 /// So many packets it hears in one turn at most.
 const MAX_PACKETS: usize = limits::MAX_ROUND as usize;
@@ -52,14 +56,8 @@ pub fn sender_run<R: Wait, L: Link, K: Desk, T: Turn>(
         StationId(neighbour.station),
         window,
     );
-    let mut outlet = Outlet {
-        plan,
-        hop,
-        core,
-        moved: false,
-        mark: 0,
-        picks: 1,
-    };
+    let pacing = Pacing::new(core, window, plan.resend(hop), plan.rate(hop));
+    let mut outlet = Outlet { plan, hop, pacing };
     let mut calls = Calls::reserve(alloc);
     for _turn in rt.forever() {
         let go = ends.between(rt, Worker::Sender(hop), Point::Start);
@@ -69,6 +67,27 @@ pub fn sender_run<R: Wait, L: Link, K: Desk, T: Turn>(
         outlet.turn(rt, &mut calls, ends);
     }
 }
+
+/// A hop's rate is kept: over any stretch of a sender's turns, what it sent, each packet with 28 bytes more, is at most the burst and
+/// the rate times the time between, from the earliest moment at which calls of these turns were answered to the latest. So it is
+/// whatever came before, whatever it was given, and whether or not the clock falls. A key's tag isn't counted.
+pub fn law_turns_keep_the_rate()
+    ensures { (plan : ContactPlan) (hop : AHop) (most window bytes : ℕ) (core : Sender) (before : List Given) (first : Given) (later : List Given) →
+        rate plan hop ≡ Some bytes →
+        total_cost (sent_in (outlet plan hop) most (left_by (outlet plan hop) most (first_pacing core window (resend plan hop) (rate plan hop)) before) (first ∷ later))
+        ≤ burst (first_bucket bytes 1218 0) + bytes * (latest first later - earliest first later) }
+{}
+
+/// Nothing that comes to a hop's port but a custody of what is in flight makes a packet go out: a turn that hears another packet asks
+/// and sends what it would without it, at the same moments, and leaves the same.
+pub fn law_strays_draw_nothing()
+    ensures { (w : Handing) (most : ℕ) (p : Keeping) (given : Given) (before later : List (List ℕ)) (packet : List ℕ) →
+        given.packets ≡ before ++ packet ∷ later → length given.packets ≤ 64 → length (before ++ later) ≤ 64 →
+        is_custody_in_flight (fold outlet_on_packet p.core before) packet ≡ false →
+        ((outlet_turn w most p given).core ≡ (outlet_turn w most p (record given { packets = before ++ later })).core)
+        × ((outlet_turn w most p given).sent ≡ (outlet_turn w most p (record given { packets = before ++ later })).sent)
+        × ((outlet_turn w most p given).asked ≡ (outlet_turn w most p (record given { packets = before ++ later })).asked) }
+{}
 
 /// The calls that are made together, and their answers. Between turns there are none.
 #[derive(Drop)]
@@ -107,13 +126,7 @@ impl Calls {
 struct Outlet<'a> {
     plan: &'a Plan,
     hop: HopId,
-    core: Sending,
-    /// Whether the last turn moved something.
-    moved: bool,
-    /// The microseconds at the last turn that moved something, or at the last timeout.
-    mark: u64,
-    /// How many Picks may be asked together.
-    picks: u64,
+    pacing: Pacing,
 }
 
 impl<'a> Outlet<'a> {
@@ -129,31 +142,26 @@ impl<'a> Outlet<'a> {
         ensures most { calls.new.most ≡ calls.old.most }
         ensures plan { self.new.plan ≡ self.old.plan }
         ensures hop { self.new.hop ≡ self.old.hop }
-        ensures done { (given : Given) × Did ends.old ends.new (pacing self.new.core self.new.moved self.new.mark self.new.picks)
-            (outlet_done (outlet self.old.plan.now self.old.hop) calls.old.most (pacing self.old.core self.old.moved self.old.mark self.old.picks) given) }
+        ensures done { (given : Given) × Did ends.old ends.new self.new.pacing
+            (outlet_done (outlet self.old.plan.now self.old.hop) calls.old.most self.old.pacing given) }
     {
         self.gather(ends);
         let go = ends.between(rt, Worker::Sender(self.hop), Point::Heard);
-        self.time(go.since);
-        let is_open = self.plan.is_open(self.hop, go.now);
-        let action = self.core.step(OutEvent::Turn { is_open });
-        self.act(rt, go.now, action, calls, ends);
-    }
-
-    /// Whether a turn waits for its first packet: the one before moved nothing, or nothing is left to do but to hear.
-    fn waits_first(&self) -> bool
-        ensures { result ≡ waits_first self.now.moved self.now.core }
-    {
-        !self.moved || self.core.can_only_hear()
+        self.pacing
+            .moment(self.plan.is_open(self.hop, go.now), go.since);
+        let room = self.pacing.room(go.since);
+        let action = self.pacing.core.step(OutEvent::Turn { is_open: room > 0 });
+        self.act(rt, go.now, room, action, calls, ends);
     }
 
     /// Gives the core what its link has, 64 packets at most.
     fn gather<L: Link, K: Desk, T: Turn>(&mut self, ends: &mut Ends<L, K, T>)
-        ensures same { self.new ≡ record self.old { core = self.new.core } }
-        ensures heard { (packets : List (List ℕ)) × HasHeard (waits_first self.old.moved self.old.core) ends.old ends.new self.old.core self.new.core packets }
+        ensures same { self.new ≡ record self.old { pacing = record self.old.pacing { core = self.new.pacing.core } } }
+        ensures heard { (packets : List (List ℕ))
+            × HasHeard (waits_first self.old.pacing.moved self.old.pacing.core) ends.old ends.new self.old.pacing.core self.new.pacing.core packets }
     {
         let mut buffer = [0; MAX_PACKET];
-        let mut waits = self.waits_first();
+        let mut waits = self.pacing.waits_first();
         for _place in 0..MAX_PACKETS {
             let found = ends.receive(waits, &mut buffer);
             let Some(count) = found else {
@@ -166,28 +174,12 @@ impl<'a> Outlet<'a> {
 
     /// Gives the core a message that was heard.
     fn hear(&mut self, message: Option<Message<&[u8]>>)
-        ensures same { self.new ≡ record self.old { core = self.new.core } }
-        ensures core { self.new.core ≡ outlet_on_hearing self.old.core (option_map message_bytes message.entry) }
+        ensures same { self.new ≡ record self.old { pacing = record self.old.pacing { core = self.new.pacing.core } } }
+        ensures core { self.new.pacing.core ≡ outlet_on_hearing self.old.pacing.core (option_map message_bytes message.entry) }
     {
         if let Some(message) = message {
-            let _nothing = self.core.step(OutEvent::Heard(message));
+            let _nothing = self.pacing.core.step(OutEvent::Heard(message));
         }
-    }
-
-    /// Where nothing moved for as long as the hop's `resend`, the core is told to send again what is in flight.
-    fn time(&mut self, since: u64)
-        ensures plan { self.new.plan ≡ self.old.plan }
-        ensures hop { self.new.hop ≡ self.old.hop }
-        ensures pacing { pacing self.new.core self.new.moved self.new.mark self.new.picks
-            ≡ timed (outlet self.old.plan.now self.old.hop) since (pacing self.old.core self.old.moved self.old.mark self.old.picks) }
-    {
-        let passed = since.saturating_sub(self.mark) / 1_000;
-        let resend = u64::from(self.plan.resend(self.hop));
-        if self.moved || self.core.has_acknowledged() || passed < resend {
-            return;
-        }
-        self.mark = since;
-        let _nothing = self.core.step(OutEvent::Timeout);
     }
 
     /// Makes the calls that the core's one leads to, tells it of the answers, and sends what it names then.
@@ -195,6 +187,7 @@ impl<'a> Outlet<'a> {
         &mut self,
         rt: &R,
         now: u64,
+        room: u64,
         action: Option<OutAction<&[u8]>>,
         calls: &mut Calls,
         ends: &mut Ends<L, K, T>,
@@ -204,15 +197,15 @@ impl<'a> Outlet<'a> {
         ensures most { calls.new.most ≡ calls.old.most }
         ensures plan { self.new.plan ≡ self.old.plan }
         ensures hop { self.new.hop ≡ self.old.hop }
-        ensures done { (made : Made) × Did ends.old ends.new (pacing self.new.core self.new.moved self.new.mark self.new.picks)
-            (outlet_on_action (outlet self.old.plan.now self.old.hop) calls.old.most now made
-            (pacing self.old.core false self.old.mark self.old.picks) (option_map out_action_bytes action.entry)) }
+        ensures done { (made : Made) × Did ends.old ends.new self.new.pacing
+            (outlet_on_action (outlet self.old.plan.now self.old.hop) calls.old.most room now made
+            (record self.old.pacing { moved = false }) (option_map out_action_bytes action.entry)) }
     {
-        self.moved = false;
+        self.pacing.moved = false;
         let Some(action) = action else {
             return;
         };
-        let count = self.count(now, action, calls.most);
+        let count = self.count(room, action, calls.most);
         if count > 1 {
             self.ask_all(rt, now, action, count, calls, ends);
         } else if count > 0 {
@@ -220,29 +213,20 @@ impl<'a> Outlet<'a> {
         }
     }
 
-    /// How many calls are made together where the core names this one.
-    fn count(&self, now: u64, action: OutAction<&[u8]>, most: u64) -> u64
-        ensures count { result ≡ call_count most (is_open self.now.plan.now self.now.hop now) (pacing self.now.core self.now.moved self.now.mark self.now.picks) (out_action_bytes action.entry) }
+    /// How many calls are made together where the core names this one and so many messages may go out.
+    fn count(&self, room: u64, action: OutAction<&[u8]>, most: u64) -> u64
+        ensures count { result ≡ call_count most room self.now.pacing (out_action_bytes action.entry) }
         ensures numbers { HasNumbers (out_action_bytes action.entry) result }
     {
+        let core = &self.pacing.core;
         match action {
             OutAction::AskWindow => 1,
             OutAction::Release(number) => most.min(
-                self.picks_beside(now, number).saturating_add(1),
+                self.pacing.picks_beside(room, number).saturating_add(1),
             ),
-            OutAction::Fetch(number) => most.min(self.core.next().saturating_sub(number)),
-            OutAction::Pick => most.min(self.picks).min(self.core.room()),
+            OutAction::Fetch(number) => most.min(room).min(core.next().saturating_sub(number)),
+            OutAction::Pick => most.min(room.min(self.pacing.picks)).min(core.room()),
             OutAction::Send(_) => 0,
-        }
-    }
-
-    /// How many Picks go with the release of all up to this number.
-    fn picks_beside(&self, now: u64, number: u64) -> u64
-        ensures { result ≡ picks_beside (is_open self.now.plan.now self.now.hop now) (pacing self.now.core self.now.moved self.now.mark self.now.picks) number }
-    {
-        match self.plan.is_open(self.hop, now) {
-            true => self.picks.min(self.core.room_after(number)),
-            false => 0,
         }
     }
 
@@ -257,17 +241,16 @@ impl<'a> Outlet<'a> {
         requires call { IsCall (out_action_bytes action) }
         ensures plan { self.new.plan ≡ self.old.plan }
         ensures hop { self.new.hop ≡ self.old.hop }
-        ensures done { (made : Made) × Did ends.old ends.new (pacing self.new.core self.new.moved self.new.mark self.new.picks)
-            (outlet_on_calls (outlet self.old.plan.now self.old.hop) now made
-            (pacing self.old.core self.old.moved self.old.mark self.old.picks) (calls_from (out_action_bytes action.entry) 1)) }
+        ensures done { (made : Made) × Did ends.old ends.new self.new.pacing
+            (outlet_on_calls (outlet self.old.plan.now self.old.hop) now made self.old.pacing (calls_from (out_action_bytes action.entry) 1)) }
     {
         let Some(ask) = self.named_ask(now, action) else {
             return;
         };
         let (outcome, go) = ends.call(rt, Worker::Sender(self.hop), ask);
         let is_open = self.plan.is_open(self.hop, go.now);
-        let moved = self.tell(is_open, call_event(action, &outcome), ends);
-        self.pace(moved, go.since);
+        let event = call_event(action, &outcome);
+        self.pacing.tell(is_open, go.since, event, ends);
     }
 
     /// Makes so many calls together, tells the core of each answer, in order, and sends what it names, if a contact is open
@@ -290,9 +273,8 @@ impl<'a> Outlet<'a> {
         ensures most { calls.new.most ≡ calls.old.most }
         ensures plan { self.new.plan ≡ self.old.plan }
         ensures hop { self.new.hop ≡ self.old.hop }
-        ensures done { (made : Made) × Did ends.old ends.new (pacing self.new.core self.new.moved self.new.mark self.new.picks)
-            (outlet_on_calls (outlet self.old.plan.now self.old.hop) now made
-            (pacing self.old.core self.old.moved self.old.mark self.old.picks) (calls_from (out_action_bytes action.entry) count)) }
+        ensures done { (made : Made) × Did ends.old ends.new self.new.pacing
+            (outlet_on_calls (outlet self.old.plan.now self.old.hop) now made self.old.pacing (calls_from (out_action_bytes action.entry) count)) }
     {
         self.list(now, action, count, &mut calls.asks);
         let worker = Worker::Sender(self.hop);
@@ -300,11 +282,12 @@ impl<'a> Outlet<'a> {
         // Those that weren't put are left.
         calls.asks.clear();
         let is_open = self.plan.is_open(self.hop, go.now);
-        let moved = match outcome {
-            Ok(()) => self.tell_all(is_open, action, &mut calls.answers, ends),
-            Err(error) => self.tell(is_open, error_event(error), ends),
-        };
-        self.pace(moved, go.since);
+        match outcome {
+            Ok(()) => self.tell_all(is_open, go.since, action, &mut calls.answers, ends),
+            Err(error) => self
+                .pacing
+                .tell(is_open, go.since, error_event(error), ends),
+        }
     }
 
     /// Lists what so many calls ask, in order.
@@ -322,65 +305,28 @@ impl<'a> Outlet<'a> {
         }
     }
 
-    /// Tells the core of each answer, in order, and sends what it names then, if a contact is open. Whether that moved
-    /// something.
+    /// Tells the core of each answer, in order, and sends what it names then.
     fn tell_all<L: Link, K: Desk, T: Turn>(
         &mut self,
         is_open: bool,
+        at: u64,
         first: OutAction<&[u8]>,
         answers: &mut Vec<Answer>,
         ends: &mut Ends<L, K, T>,
-    ) -> bool
+    )
         requires numbers { HasNumbers (out_action_bytes first) (length answers.old.items) }
         ensures none { answers.new.items ≡ [] }
         ensures capacity { vec_capacity answers.new ≡ vec_capacity answers.old }
-        ensures same { self.new ≡ record self.old { core = self.new.core; picks = self.new.picks } }
-        ensures told { HasTold is_open ends.old ends.new self.old.core self.new.core self.old.picks self.new.picks result
+        ensures same { self.new ≡ record self.old { pacing = self.new.pacing } }
+        ensures told { HasTold is_open at ends.old ends.new self.old.pacing self.new.pacing
             (outlet_events (calls_from (out_action_bytes first.entry) (length answers.old.items)) (Ok answers.old.items)) }
     {
         // The last of the reversed list is the first answer.
         answers.reverse();
-        let mut moved = false;
         for place in 0..answers.len() as u64 {
             let answer = answers.take_last();
             let event = event_in(call_at(first, place), &answer.reply);
-            let more = self.tell(is_open, event, ends);
-            moved |= more;
-        }
-        moved
-    }
-
-    /// Tells the core this, and sends what it names then, if a contact is open. Whether that moved something.
-    fn tell<L: Link, K: Desk, T: Turn>(
-        &mut self,
-        is_open: bool,
-        event: OutEvent<&[u8]>,
-        ends: &mut Ends<L, K, T>,
-    ) -> bool
-        ensures same { self.new ≡ record self.old { core = self.new.core; picks = self.new.picks } }
-        ensures core { self.new.core ≡ (sending_step self.old.core (out_event_bytes event.entry)).0 }
-        ensures picks { self.new.picks ≡ picks_after self.old.picks (out_event_bytes event.entry) }
-        ensures sent { TellsMore ends.old.sent ends.new.sent (outlet_packets is_open (sending_step self.old.core (out_event_bytes event.entry)).1) }
-        ensures ends { ends.new ≡ record ends.old { sent = ends.new.sent } }
-        ensures moved { result ≡ (is_progress (out_event_bytes event.entry)
-            || has_some (outlet_packets is_open (sending_step self.old.core (out_event_bytes event.entry)).1)) }
-    {
-        let progress = is_progress(&event);
-        self.picks = picks_after(self.picks, &event);
-        let named = self.core.step(event);
-        let sent = send_named(is_open, named, ends);
-        progress || sent
-    }
-
-    /// Calls were answered at these microseconds, and moved something or not.
-    fn pace(&mut self, moved: bool, since: u64)
-        ensures plan { self.new.plan ≡ self.old.plan }
-        ensures hop { self.new.hop ≡ self.old.hop }
-        ensures pacing { pacing self.new.core self.new.moved self.new.mark self.new.picks ≡ paced self.old.core moved self.old.mark since self.old.picks }
-    {
-        self.moved = moved;
-        if moved {
-            self.mark = since;
+            self.pacing.tell(is_open, at, event, ends);
         }
     }
 
@@ -413,43 +359,6 @@ fn call_at<'a>(first: OutAction<&'a [u8]>, place: u64) -> OutAction<&'a [u8]>
         OutAction::Release(_) if place > 0 => OutAction::Pick,
         other => other,
     }
-}
-
-/// How many Picks may be asked together after an answer.
-fn picks_after(picks: u64, event: &OutEvent<&[u8]>) -> u64
-    ensures { result ≡ picks_after picks (out_event_bytes event.now) }
-{
-    match event {
-        OutEvent::Picked(_) => picks.saturating_add(1).min(MAX_CALLS),
-        OutEvent::Nothing | OutEvent::Refused(_) => 1,
-        _ => picks,
-    }
-}
-
-/// Sends the message that an action names, if it names one and a contact is open. Whether a packet went out.
-fn send_named<L: Link, K: Desk, T: Turn>(
-    is_open: bool,
-    action: Option<OutAction<&[u8]>>,
-    ends: &mut Ends<L, K, T>,
-) -> bool
-    ensures told { TellsMore ends.old.sent ends.new.sent (outlet_packets is_open (option_map out_action_bytes action.entry)) }
-    ensures same { ends.new ≡ record ends.old { sent = ends.new.sent } }
-    ensures whether { result ≡ has_some (outlet_packets is_open (option_map out_action_bytes action.entry)) }
-{
-    match action {
-        Some(OutAction::Send(message)) if is_open => ends.send(message),
-        Some(_) | None => false,
-    }
-}
-
-/// Whether an answer by itself moves something.
-fn is_progress(event: &OutEvent<&[u8]>) -> bool
-    ensures { result ≡ is_progress (out_event_bytes event.now) }
-{
-    matches!(
-        event,
-        OutEvent::WindowIs { .. } | OutEvent::Picked(_) | OutEvent::Released
-    )
 }
 
 /// What the core is told of one call.

@@ -1,7 +1,6 @@
-use Rattle.std.proofs.Common.{◌∙◌, ap, sym}
+use Rattle.std.proofs.Common.{◌∙◌, sym}
 use Rattle.rly_hop.specs.Payloads.{out_action_bytes, out_event_bytes}
-use Rattle.rly_threads.specs.declared.sender.Outlet.{Outlet as Worker}
-use Rattle.rly_threads.specs.Outlet.{outlet, paced, pacing}
+use Rattle.rly_threads.specs.Outlet.{outlet}
 use Rattle.rly_threads.specs.Turns.{Made}
 use Rattle.rly_threads.proofs.Senders.{call_asks, called_one, one_outcome}
 use Rattle.rly_threads.proofs.sender.Outlet.ask.Goals as goal
@@ -14,13 +13,11 @@ pub returns-clause-done : goal.returns-clause-done
 returns-clause-done g c =
     let around = c.call-outcome.ensures.told in
     let was = c.args.self.now in
-    let now = c.pace.new.self in
     let made : Made = record { outcome = one_outcome c.call-outcome.result.0; before = around.0; after = c.call-outcome.result.1 } in (
       made,
-      called_one (outlet was.plan.now was.hop) c.args.ends.now c.call-outcome.new.self c.tell-moved.new.ends c.args.now around.0 c.call-outcome.result.1
-          (pacing was.core was.moved was.mark was.picks) (pacing now.core now.moved now.mark now.picks) (out_action_bytes c.args.action) c.in-Some.ask c.call-outcome.result.0
-          (out_event_bytes c.call_event.result) c.is_open-is_open.result c.tell-moved.result c.tell-moved.new.self.core c.tell-moved.new.self.picks
-          (sym c.in-Some.is ∙ c.named_ask.ensures) c.call-outcome.ensures.asked around.1 c.call-outcome.ensures.same c.is_open-is_open.ensures c.call_event.ensures
-          c.tell-moved.ensures.core c.tell-moved.ensures.picks c.tell-moved.ensures.sent c.tell-moved.ensures.ends c.tell-moved.ensures.moved
-          (c.pace.ensures.pacing ∙ ap (λ (o : Worker). paced c.tell-moved.new.self.core c.tell-moved.result o.mark c.call-outcome.result.1.since c.tell-moved.new.self.picks) c.tell-moved.ensures.same),
+      called_one (outlet was.plan.now was.hop) c.args.ends.now c.call-outcome.new.self c.tell.new.ends c.args.now around.0 c.call-outcome.result.1
+          was.pacing c.tell.new.self (out_action_bytes c.args.action) c.in-Some.ask c.call-outcome.result.0
+          (out_event_bytes c.call_event-event.result) c.is_open-is_open.result
+          (sym c.in-Some.is ∙ c.named_ask.ensures) c.call-outcome.ensures.asked around.1 c.call-outcome.ensures.same c.is_open-is_open.ensures c.call_event-event.ensures
+          c.tell.ensures.state c.tell.ensures.sent c.tell.ensures.ends,
     )

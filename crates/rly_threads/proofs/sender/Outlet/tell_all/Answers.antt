@@ -1,4 +1,5 @@
-use Rattle.std.proofs.Common.{◌∙◌, ◌∷◌, ◌||◌, [], ap, arith, length, refl, reverse}
+use Rattle.std.proofs.Common.{◌∙◌, ap, arith, length}
+use Rattle.std.proofs.Common.{◌∷◌, [], reverse}
 use Rattle.std.proofs.lemmas.List.{length-append}
 use Rattle.rly_hop.specs.Payloads.{out_action_bytes, out_event_bytes}
 use Rattle.rly_threads.specs.Outlet.{event_in}
@@ -13,16 +14,15 @@ loop-place-preserved g c =
     let rest = c.take_last-answer.new.self.items in
     let answer = c.take_last-answer.result in
     let was = c.loop-place.self in
-    let now = c.tell-more.new.self in
-    let told = c.tell-more.ensures in
+    let now = c.tell.new.self in
+    let told = c.tell.ensures in
     record {
       left = omega (arith, ap length taken, length-append rest (answer ∷ []), before.left);
       capacity = c.take_last-answer.ensures.capacity ∙ before.capacity;
-      same = told.same ∙ (λ i. record (before.same i) { core = now.core; picks = now.picks });
-      telling = telling_more (out_action_bytes c.args.first) c.args.is_open c.args.ends.now c.loop-place.ends c.tell-more.new.ends c.args.self.now.core was.core now.core
-          c.args.self.now.picks was.picks now.picks c.loop-place.moved c.tell-more.result (c.loop-place.moved || c.tell-more.result)
+      same = λ i. record (before.same i) { pacing = now };
+      telling = telling_more (out_action_bytes c.args.first) c.args.is_open c.args.at c.args.ends.now c.loop-place.ends c.tell.new.ends c.args.self.now.pacing was.pacing now
           c.args.answers.now.items (reverse c.loop-place.answers.items) (reverse rest) c.loop-place.place answer (out_event_bytes c.event_in-event.result)
           before.telling (first_of_reversed c.loop-place.answers.items rest answer taken)
           (c.event_in-event.ensures ∙ ap (λ x. event_in x answer.reply) c.call_at.ensures)
-          told.core told.picks told.sent told.ends told.moved refl;
+          told.state told.sent told.ends;
     }

@@ -8,7 +8,7 @@ abbrev pub invariant-loop-place : goal.invariant-loop-place
 invariant-loop-place g l = record {
   left : length l.answers.items + l.place ≡ length l.fn.answers.items;
   capacity : vec_capacity l.answers ≡ vec_capacity l.fn.answers;
-  same : l.self ≡ record l.fn.self { core = l.self.core; picks = l.self.picks };
-  telling : Telling (out_action_bytes l.first) l.is_open l.fn.ends l.ends l.fn.self.core l.self.core l.fn.self.picks l.self.picks l.moved
+  same : l.self ≡ record l.fn.self { pacing = l.self.pacing };
+  telling : Telling (out_action_bytes l.first) l.is_open l.at l.fn.ends l.ends l.fn.self.pacing l.self.pacing
       l.fn.answers.items (reverse l.answers.items) l.place;
 }

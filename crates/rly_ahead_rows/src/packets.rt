@@ -1,0 +1,17 @@
+//! The packets of these tests, by the bytes of docs/PROTOCOL.md.
+
+/// Data from station 3 to station 7 under a number below 256, payload `000c` and that number.
+pub(crate) fn data(number: u8) -> [u8; 21] {
+    let mut packet =
+        *b"\x52\x4c\x01\x01\x00\x03\x00\x07\x00\x00\x00\x00\x00\x00\x00\x00\x00\x03\x00\x0c\x00";
+    packet[15] = number;
+    packet[20] = number;
+    packet
+}
+
+/// Custody from station 7 to station 3 of all numbers up to one below 256.
+pub(crate) fn custody(last: u8) -> [u8; 16] {
+    let mut packet = *b"\x52\x4c\x01\x02\x00\x07\x00\x03\x00\x00\x00\x00\x00\x00\x00\x00";
+    packet[15] = last;
+    packet
+}

@@ -1,0 +1,18 @@
+-- What the link of a worker keeps of Data that comes ahead of a gap.
+use Rattle.std.specs.Prelude.{Option, option_map}
+use Rattle.rly_daemon.specs.declared.keeping.Keeping.{Keeping}
+use Rattle.rly_early.specs.Early.{EarlyView, new_early}
+use Rattle.rly_plan.specs.declared.neighbour.Neighbour.{Neighbour}
+use Rattle.rly_plan.specs.ContactPlan.{ContactPlan, next_hop_at, peer_at}
+use Rattle.rly_threads.specs.declared.turn.Worker.{Worker}
+use Rattle.rly_threads.specs.declared.turn.Worker.TheVariants as worker
+
+-- between this station and a neighbour, if there is one: this is kept
+abbrev pub keeping_with : ContactPlan → EarlyView → Option Neighbour → Option Keeping
+keeping_with plan early neighbour =
+    option_map (λ n. record { own = record { 0 = plan.station }; peer = record { 0 = n.station }; early = early }) neighbour
+
+-- of a peer up to 64 Data are kept, and of a hop none
+abbrev pub keeping_of : ContactPlan → Worker → Option Keeping
+keeping_of plan (worker.Receiver peer) = keeping_with plan (new_early 64) (peer_at plan peer)
+keeping_of plan (worker.Sender hop) = keeping_with plan (new_early 0) (next_hop_at plan hop)

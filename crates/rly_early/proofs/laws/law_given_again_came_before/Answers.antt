@@ -1,0 +1,13 @@
+use Rattle.rly_early.specs.Early.{new_early}
+use Rattle.rly_early.specs.EarlyRuns.{after_events}
+use Rattle.rly_early.proofs.Came.{due_uncovered, history, is_due}
+use Rattle.rly_early.proofs.laws.law_given_again_came_before.Goals as goal
+
+pub returns-clause-came : goal.returns-clause-came
+returns-clause-came c places events room k is =
+    (is_due events (after_events (new_early places) events) room k (history places events) is).old.came
+
+pub returns-clause-uncovered : goal.returns-clause-uncovered
+returns-clause-uncovered c places events room k is =
+    let h = history places events in
+    due_uncovered events (after_events (new_early places) events) k h (is_due events (after_events (new_early places) events) room k h is)
