@@ -52,7 +52,7 @@ fn a_lost_packet_costs_itself_alone(rt: HostRuntime) -> Result<(), Fail> {
     expect!(rt; link.send(&custody(3)) == Ok(()));
     expect!(rt; link.recv(&mut buffer) == Ok(None));
     let below = link.into_link();
-    expect!(rt; below.delivered().len() == 3);
+    assert!(rt; below.delivered().len() == 3);
     expect!(rt; below.delivered()[2].as_slice() == custody(3).as_slice());
     Ok(())
 }
@@ -114,5 +114,22 @@ fn a_failure_below_is_told(rt: HostRuntime) -> Result<(), Fail> {
     expect!(rt; link.send(&custody(1)) == Ok(()));
     gives(&rt, &mut link, &data(2), 2);
     expect!(rt; link.failures() == 1);
+    Ok(())
+}
+
+/// A Data with the longest payload comes whole, waited for or not, and whole once more when its turn has come.
+#[test]
+fn the_longest_data_is_given_again(rt: HostRuntime) -> Result<(), Fail> {
+    let mut packet = [0; 1_218];
+    packet[..21].copy_from_slice(&data(2));
+    packet[16] = 0x04;
+    packet[17] = 0xb0;
+    let mut link = ahead_over(rt.alloc(), &[&packet, &packet], 0)?;
+    let mut buffer = [0; MAX_PACKET];
+    gives(&rt, &mut link, &packet, 1);
+    expect!(rt; link.recv(&mut buffer) == Ok(Some(1_218)));
+    expect!(rt; link.send(&custody(1)) == Ok(()));
+    gives(&rt, &mut link, &packet, 2);
+    expect!(rt; link.link().calls() == 3);
     Ok(())
 }

@@ -1,13 +1,14 @@
 ghost use Rattle.std.specs.Prelude.{◌≡◌, ◌+◌, ◌<◌, ◌≤◌, ◌↔◌, ◌^◌, All, IsTrue, length, slice_index_or};
-ghost use Rattle.rly_machine.specs.Map.{map_item};
+ghost use Rattle.rly_machine.specs.Map.{map_item, payloads_of};
 ghost use Rattle.rly_machine.specs.Relocate.{relocated};
 ghost use Rattle.rly_machine.specs.State.{has_hop, hop_at, live_line};
 ghost use Rattle.rly_machine.specs.declared.hop.Item.{Item};
-ghost use Rattle.rly_checkpoint.specs.Checkpoint.{entry_spelled, hop_spelled};
+ghost use Rattle.rly_checkpoint.specs.Checkpoint.{entry_spelled, hop_spelled, state_spelled};
 ghost use Rattle.rly_checkpoint.specs.Stored.{stored_form, stored_length};
+ghost use Rattle.rly_places.specs.Room.{drawn_state};
 ghost use Rattle.rly_segment.specs.Settling.{settled, settled_hop};
 ghost use Rattle.rly_moving.specs.HelpersSettling.{HasBytes, IsInline, blank_hop, drawn_blank, with_hop};
-ghost use Rattle.rly_moving.specs.Moving.{MayMove, moved_state};
+ghost use Rattle.rly_moving.specs.Moving.{LiesThere, moved_state, unread};
 
 use rly_checkpoint::{Place, Stored};
 use rly_core::{Geometry, HopId};
@@ -31,11 +32,13 @@ const INLINE_BYTES: u64 = 19;
 const PLACED_BYTES: u64 = 27;
 
 /// Gives a spool the places that its payloads have once the head of the target stands, in which the victim's payloads are inline.
-/// No payload's length changes, and no device is asked. It takes no memory.
+/// Where the victim is no segment, only what is inline gets a place. No payload's length changes, and no device is asked. It takes
+/// no memory.
 pub fn settle_moved(geometry: &Geometry, target: u64, victim: u64, machine: &mut Machine<Stored>)
     requires target { target < 256 }
     requires length { geometry.now.length < 2 ^ 31 }
-    requires may { MayMove geometry.now target victim machine.old.state }
+    requires lies { All (LiesThere geometry.now) (payloads_of machine.old.state) }
+    requires room { 13 + length (state_spelled stored_length stored_form (drawn_state geometry.now victim unread machine.old.state)) ≤ geometry.now.length }
     ensures { machine.new.state ≡ moved_state geometry.now target victim machine.old.state }
 {
     machine.law_sound();

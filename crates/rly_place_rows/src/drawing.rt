@@ -72,21 +72,23 @@ fn disk_of(alloc: Global) -> Result<Watched<MemDisk>, AllocError> {
     Ok(Watched::new(MemDisk::new(alloc, bytes), told))
 }
 
-/// The spool of the body with the payloads of a segment read.
+/// The spool of a head's body with the payloads of a segment read.
 fn drawn_of(
     rt: &impl Abort,
     alloc: Global,
     disk: &mut Watched<MemDisk>,
+    geometry: &Geometry,
+    body: &[u8],
     victim: u64,
 ) -> Result<Machine<Stored>, DrawingFault> {
-    assert!(rt; may_have(&FOUR, disk.size()));
-    let machine: Machine<Stored> = match read_state(alloc, FOUR.params, &BODY) {
+    assert!(rt; may_have(geometry, disk.size()));
+    let machine: Machine<Stored> = match read_state(alloc, geometry.params, body) {
         Ok(machine) => machine,
         Err(DecodeFault::OutOfMemory) => return Err(DrawingFault::OutOfMemory),
         Err(DecodeFault::Malformed) => panic!(rt; "no state"),
     };
-    assert!(rt; is_placed(&FOUR, 0, &machine));
-    draw(alloc, disk, &FOUR, victim, &machine)
+    assert!(rt; is_placed(geometry, 0, &machine));
+    draw(alloc, disk, geometry, victim, &machine)
 }
 
 /// What is told of a read.
@@ -109,7 +111,7 @@ fn is_inline(payload: &Stored, bytes: &[u8]) -> bool {
 fn the_victims_payloads_are_read(rt: HostRuntime) -> Result<(), Fail> {
     let alloc = rt.alloc();
     let mut disk = disk_of(alloc)?;
-    let Ok(copy) = drawn_of(&rt, alloc, &mut disk, 1) else {
+    let Ok(copy) = drawn_of(&rt, alloc, &mut disk, &FOUR, &BODY, 1) else {
         return Err(AllocError.into());
     };
     let reads = [read_of(105_900, 3), read_of(107_000, 4)];
@@ -131,10 +133,109 @@ fn the_victims_payloads_are_read(rt: HostRuntime) -> Result<(), Fail> {
 fn nothing_is_read_of_an_empty_segment(rt: HostRuntime) -> Result<(), Fail> {
     let alloc = rt.alloc();
     let mut disk = disk_of(alloc)?;
-    let Ok(copy) = drawn_of(&rt, alloc, &mut disk, 3) else {
+    let Ok(copy) = drawn_of(&rt, alloc, &mut disk, &FOUR, &BODY, 3) else {
         return Err(AllocError.into());
     };
     expect!(rt; disk.told().is_empty());
     expect!(rt; is_placed(&FOUR, 0, &copy));
+    Ok(())
+}
+
+/// As many hops and peers as may be, and a window as wide, on 128 segments of the least length: 21 bytes, 8 for each peer, 71 for
+/// each hop, 27 for each item, 1,204 for the payloads, and 78,280. The last segment begins at 11,617,135, and the device ends at
+/// 11,708,608.
+const BROAD: Geometry = Geometry {
+    params: Params {
+        hops: 64,
+        peers: 64,
+        window: 64,
+        items: 256,
+        bytes: 153_000,
+        ..Params::DEFAULT
+    },
+    segments: 128,
+    length: 91_473,
+};
+
+const BROAD_SIZE: usize = 11_708_608;
+
+/// The last segment's first place.
+const LAST_SEGMENT: u64 = 11_617_135;
+
+/// The moment of each hop, and each datagram's stamp.
+const MOMENT: u64 = 1_125_899_906_842_624;
+
+/// So many datagrams each hop dropped.
+const DROPPED: u64 = 8_589_934_592;
+
+fn put_numbers(body: &mut Vec<u8>, numbers: &[u64]) -> Result<(), AllocError> {
+    for number in numbers {
+        body.extend_from_slice(&number.to_be_bytes())?;
+    }
+    Ok(())
+}
+
+/// A hop's numbers, with so many datagrams in flight and so many that wait, of which it took those and the dropped ones.
+fn put_hop(body: &mut Vec<u8>, taken: u64, flight: u16, queue: u32) -> Result<(), AllocError> {
+    put_numbers(body, &[MOMENT, 0, 0, 0, 0])?;
+    body.push(0)?;
+    put_numbers(body, &[taken, DROPPED, 0])?;
+    body.extend_from_slice(&flight.to_be_bytes())?;
+    body.extend_from_slice(&queue.to_be_bytes())
+}
+
+/// A datagram whose payload lies at a place.
+fn put_placed(body: &mut Vec<u8>, id: u64, length: u16, place: u64) -> Result<(), AllocError> {
+    put_numbers(body, &[id, MOMENT])?;
+    body.extend_from_slice(&length.to_be_bytes())?;
+    body.push(1)?;
+    put_numbers(body, &[place])
+}
+
+/// A datagram whose payload is inline, all of its bytes 9.
+fn put_inline(body: &mut Vec<u8>, id: u64, length: u16) -> Result<(), AllocError> {
+    put_numbers(body, &[id, MOMENT])?;
+    body.extend_from_slice(&length.to_be_bytes())?;
+    body.push(0)?;
+    for _byte in 0..length {
+        body.push(9)?;
+    }
+    Ok(())
+}
+
+/// 2^40 commands were accepted. Of each of the hops 1 to 63 one datagram is in flight, whose 1,200 bytes lie in the last segment. Of
+/// hop 64 there are 40 in flight, the first two inline, and 50 that wait; the others have 100 bytes each there. Peer 1 gave all.
+fn broad_body(alloc: Global) -> Result<Vec<u8>, AllocError> {
+    let mut body = Vec::new(alloc);
+    put_numbers(&mut body, &[1_099_511_627_776, 64 * DROPPED + 153])?;
+    for _peer in 2..=64 {
+        put_numbers(&mut body, &[0])?;
+    }
+    for hop in 1..=63u64 {
+        put_hop(&mut body, DROPPED + 1, 1, 0)?;
+        put_placed(&mut body, 1, 1_200, LAST_SEGMENT + 1_200 * hop - 1_200)?;
+    }
+    put_hop(&mut body, DROPPED + 90, 40, 50)?;
+    put_inline(&mut body, 1, 1_200)?;
+    put_inline(&mut body, 2, 0)?;
+    for id in 3..=90u64 {
+        put_placed(&mut body, id, 100, LAST_SEGMENT + 75_300 + 100 * id)?;
+    }
+    Ok(body)
+}
+
+/// At these limits a copy is drawn: 63 payloads of the last segment are read, and 88, and no memory is refused.
+#[test]
+fn the_broadest_spool_is_drawn(rt: HostRuntime) -> Result<(), Fail> {
+    let alloc = rt.alloc();
+    let body = broad_body(alloc)?;
+    let bytes = vec![in alloc; 0u8; BROAD_SIZE]?;
+    let told = Vec::with_capacity(alloc, 256)?;
+    let mut disk = Watched::new(MemDisk::new(alloc, bytes), told);
+    let Ok(copy) = drawn_of(&rt, alloc, &mut disk, &BROAD, &body, 127) else {
+        return Err(AllocError.into());
+    };
+    expect!(rt; disk.told().len() == 63 + 88);
+    expect!(rt; copy.item_count() == 153 && copy.byte_count() == 63 * 1_200 + 1_200 + 88 * 100);
     Ok(())
 }

@@ -17,3 +17,7 @@ macro_rules! expect {
 mod drawing;
 #[cfg(test)]
 mod expect;
+#[cfg(test)]
+mod fetching;
+#[cfg(test)]
+mod grouping;

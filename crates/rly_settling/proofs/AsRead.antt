@@ -1,66 +1,65 @@
--- One payload of a head that was read, and whole hops, with the payloads as they are.
-use Rattle.std.proofs.Common.{ℕ, ◌≡◌, ◌+◌, ◌*◌, ◌≤◌, List, [], ◌∷◌, length, map, arith, refl, sym, ap, subst, ◌∙◌}
+-- A head that was read: where no segment gives up its payloads, what is drawn of its state is that state.
+use Rattle.std.proofs.Common.{ℕ, ◌≡◌, Bool, cond, List, [], ◌∷◌, length, map, arith, refl, ap, subst, ◌∙◌}
 use Rattle.std.specs.Prelude.{All}
+use Rattle.std.proofs.Math.Seq.{drop-append_seam, take-append_seam}
+use Rattle.std.proofs.lemmas.Bool.{ne_eqb}
+use Rattle.std.proofs.lemmas.List.Elements.{All-drop, All-head, All-tail, All-take, All-weaker}
 use Rattle.rly_core.specs.declared.params.Geometry.{Geometry}
 use Rattle.rly_machine.specs.Map.{map_hop, map_item, payloads_of}
 use Rattle.rly_machine.specs.State.{HopState, State, live_line}
 use Rattle.rly_machine.specs.declared.hop.Item.{Item}
-use Rattle.rly_checkpoint.specs.Checkpoint.{entry_spelled}
-use Rattle.rly_checkpoint.specs.Stored.{stored_form, stored_length}
 use Rattle.rly_checkpoint.specs.declared.stored.Stored.{Stored}
 use Rattle.rly_checkpoint.specs.declared.stored.Stored.TheVariants.{Inline, Placed}
-use Rattle.rly_checkpoint.proofs.Parts.{length-entry}
 use Rattle.rly_places.specs.Placed.{LiesElsewhere}
-use Rattle.rly_segment.specs.Settling.{settled}
-use Rattle.rly_moving.specs.HelpersSettling.{HasBytes, IsInline}
+use Rattle.rly_places.specs.Places.{segment_of}
+use Rattle.rly_places.specs.Room.{drawn, drawn_state}
+use Rattle.rly_places.proofs.Placing.{of_items, segment_once}
+use Rattle.rly_moving.specs.Moving.{LiesThere, unread}
 
-abbrev pub as_read : Stored → Stored
-as_read p = p
+-- ---- a map that keeps each payload of a state
 
-pub items_as_read : (items : List (Item Stored)) → map (map_item as_read) items ≡ items
-items_as_read [] = refl
-items_as_read (item ∷ items) = ap (λ (l : List (Item Stored)). item ∷ l) (items_as_read items)
+items_held : (f : Stored → Stored) (items : List (Item Stored)) → All (λ item. f item.payload ≡ item.payload) items → map (map_item f) items ≡ items
+items_held f [] same = refl
+items_held f (item ∷ items) same =
+    let Same : Item Stored → Type 0 = λ x. f x.payload ≡ x.payload in
+    ap (λ (p : Stored). let x : Item Stored = record item { payload = p } in x ∷ map (map_item f) items) (All-head Same item items same)
+    ∙ ap (λ (rest : List (Item Stored)). item ∷ rest) (items_held f items (All-tail Same item items same))
 
-pub hop_as_read : (h : HopState Stored) → map_hop as_read h ≡ h
-hop_as_read h =
-    let with_lines : List (Item Stored) → List (Item Stored) → HopState Stored = λ queue flight. record h { queue = queue; flight = flight } in
-    ap (λ (q : List (Item Stored)). with_lines q (map (map_item as_read) h.flight)) (items_as_read h.queue) ∙ ap (with_lines h.queue) (items_as_read h.flight)
+hop_held : (f : Stored → Stored) (h : HopState Stored) → All (λ item. f item.payload ≡ item.payload) (live_line h) → map_hop f h ≡ h
+hop_held f h same =
+    let Same : Item Stored → Type 0 = λ x. f x.payload ≡ x.payload in
+    let flight : All Same h.flight = subst (All Same) (take-append_seam h.flight h.queue) (All-take Same (length h.flight) (live_line h) same) in
+    let queue : All Same h.queue = subst (All Same) (drop-append_seam h.flight h.queue) (All-drop Same (length h.flight) (live_line h) same) in
+    let with_lines : List (Item Stored) → List (Item Stored) → HopState Stored = λ q l. record h { queue = q; flight = l } in
+    ap (λ (q : List (Item Stored)). with_lines q (map (map_item f) h.flight)) (items_held f h.queue queue)
+    ∙ ap (with_lines h.queue) (items_held f h.flight flight)
 
-pub hops_as_read : (hops : List (HopState Stored)) → map (map_hop as_read) hops ≡ hops
-hops_as_read [] = refl
-hops_as_read (h ∷ hops) =
-    ap (λ (k : HopState Stored). k ∷ map (map_hop as_read) hops) (hop_as_read h) ∙ ap (λ (l : List (HopState Stored)). h ∷ l) (hops_as_read hops)
+hops_held : (f : Stored → Stored) (hops : List (HopState Stored)) → All (λ h. All (λ item. f item.payload ≡ item.payload) (live_line h)) hops
+    → map (map_hop f) hops ≡ hops
+hops_held f [] same = refl
+hops_held f (h ∷ hops) same =
+    let Each : HopState Stored → Type 0 = λ x. All (λ (item : Item Stored). f item.payload ≡ item.payload) (live_line x) in
+    ap (λ (k : HopState Stored). k ∷ map (map_hop f) hops) (hop_held f h (All-head Each h hops same))
+    ∙ ap (λ (rest : List (HopState Stored)). h ∷ rest) (hops_held f hops (All-tail Each h hops same))
 
--- ---- a payload
+-- ---- a payload that lies in a segment
 
-pub stays_there : (at : ℕ) (p : Stored) → (IsInline p → ⊥) → settled at p ≡ p
-stays_there at (Inline payload) other = absurd (other tt)
-stays_there at (Placed place) other = refl
+stays : (g : Geometry) (own : ℕ) (p : Stored) → LiesElsewhere g own p → drawn g g.segments unread p ≡ p
+stays g own (Inline payload) lies = refl
+stays g own (Placed place) lies =
+    let apart : segment_of g place.start ≡ g.segments → ⊥ = λ same. omega (arith, same, segment_once g lies.1.0 place lies.0 lies.1.2, lies.1.2.there) in
+    ap (λ (b : Bool). cond b (Inline (unread place)) (Placed place)) (ne_eqb (segment_of g place.start) g.segments apart)
 
-pub empty_stays : (at : ℕ) (p : Stored) → IsInline p → stored_length p ≡ 0 → settled at p ≡ p
-empty_stays at (Inline []) inline none = refl
-empty_stays at (Inline (byte ∷ bytes)) inline none = absurd (omega (arith, none))
-empty_stays at (Placed place) inline none = absurd inline
+there : (g : Geometry) (own : ℕ) (p : Stored) → LiesElsewhere g own p → LiesThere g p
+there g own (Inline payload) lies = tt
+there g own (Placed place) lies = (lies.0, (lies.1.0, lies.1.2))
 
-pub settles : (at : ℕ) (p : Stored) → IsInline p → 1 ≤ stored_length p → settled at p ≡ Placed (record { start = at; length = stored_length p })
-settles at (Inline []) inline some = absurd (omega (arith, some))
-settles at (Inline (byte ∷ bytes)) inline some = refl
-settles at (Placed place) inline some = absurd inline
+pub all_there : (g : Geometry) (own : ℕ) (s : State Stored) → All (LiesElsewhere g own) (payloads_of s) → All (LiesThere g) (payloads_of s)
+all_there g own s elsewhere = All-weaker (LiesElsewhere g own) (LiesThere g) (there g own) (payloads_of s) elsewhere
 
-form_there : (p : Stored) → (IsInline p → ⊥) → length (stored_form p) ≡ 9
-form_there (Inline payload) other = absurd (other tt)
-form_there (Placed place) other = refl
-
-form_here : (p : Stored) → IsInline p → length (stored_form p) ≡ 1 + stored_length p
-form_here (Inline payload) inline = omega arith
-form_here (Placed place) inline = absurd inline
-
-pub size_there : (item : Item Stored) → (IsInline item.payload → ⊥) → length (entry_spelled stored_length stored_form item) ≡ 27
-size_there item other = omega (arith, length-entry stored_length stored_form item, form_there item.payload other)
-
-pub size_here : (item : Item Stored) → IsInline item.payload → length (entry_spelled stored_length stored_form item) ≡ 19 + stored_length item.payload
-size_here item inline = omega (arith, length-entry stored_length stored_form item, form_here item.payload inline)
-
-pub have_bytes : (g : Geometry) (own : ℕ) (p : Stored) → LiesElsewhere g own p → HasBytes p
-have_bytes g own (Inline payload) lies = tt
-have_bytes g own (Placed place) lies = lies.0
+pub none_drawn : (g : Geometry) (own : ℕ) (s : State Stored) → All (LiesElsewhere g own) (payloads_of s) → drawn_state g g.segments unread s ≡ s
+none_drawn g own s elsewhere =
+    let f : Stored → Stored = drawn g g.segments unread in
+    let Same : Stored → Type 0 = λ p. f p ≡ p in
+    ap (λ (hops : List (HopState Stored)). record s { hops = hops })
+    (hops_held f s.hops (of_items Same s.hops (All-weaker (LiesElsewhere g own) Same (stays g own) (payloads_of s) elsewhere)))

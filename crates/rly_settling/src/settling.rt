@@ -1,35 +1,14 @@
-ghost use Rattle.std.specs.Prelude.{◌≡◌, ◌↔◌, ◌+◌, ◌<◌, ◌≤◌, ◌^◌, All, IsTrue, length, slice_index_or};
+ghost use Rattle.std.specs.Prelude.{◌≡◌, ◌<◌, ◌≤◌, ◌^◌, All};
 ghost use Rattle.rly_machine.specs.Map.{payloads_of};
-ghost use Rattle.rly_machine.specs.Relocate.{relocated};
-ghost use Rattle.rly_machine.specs.State.{has_hop, hop_at, live_line};
-ghost use Rattle.rly_machine.specs.declared.hop.Item.{Item};
-ghost use Rattle.rly_checkpoint.specs.Checkpoint.{entry_spelled, hop_spelled};
 ghost use Rattle.rly_checkpoint.specs.Stored.{stored_form, stored_length};
 ghost use Rattle.rly_places.specs.Placed.{LiesElsewhere};
 ghost use Rattle.rly_segment.specs.Heads.{gate_after, segment_end};
-ghost use Rattle.rly_segment.specs.Settling.{settled, settled_hop, settled_state};
-ghost use Rattle.rly_moving.specs.HelpersSettling.{HasBytes, IsInline, with_hop};
+ghost use Rattle.rly_segment.specs.Settling.{settled_state};
 
-use rly_checkpoint::{Place, Stored};
-use rly_core::{Geometry, HopId};
-use rly_machine::{Content, Item, Machine};
-use rly_places::live_at;
-use rly_segment::segment_place;
-
-/// The bytes of a head before the numbers of its peers: its gate, generation, length and count of accepted commands.
-const HEAD_BYTES: u64 = 21;
-
-/// The bytes of a peer's last number.
-const PEER_BYTES: u64 = 8;
-
-/// The bytes of a hop before its entries.
-const HOP_BYTES: u64 = 71;
-
-/// The bytes of an entry before a payload that is inline.
-const INLINE_BYTES: u64 = 19;
-
-/// The bytes of an entry by place.
-const PLACED_BYTES: u64 = 27;
+use rly_checkpoint::Stored;
+use rly_core::Geometry;
+use rly_machine::Machine;
+use rly_moving::settle_moved;
 
 /// Gives a spool that was read of a segment's head the places that its inline payloads have in that head. No payload's length
 /// changes, and no device is asked. It takes no memory.
@@ -40,80 +19,7 @@ pub fn settle_read(geometry: &Geometry, segment: u64, machine: &mut Machine<Stor
     requires room { gate_after stored_length stored_form geometry.now segment machine.old.state ≤ segment_end geometry.now segment }
     ensures { machine.new.state ≡ settled_state geometry.now segment machine.old.state }
 {
-    machine.law_sound();
-    let peers = machine.lasts().len() as u64;
-    let mut at = segment_place(geometry, segment) + HEAD_BYTES + PEER_BYTES * peers;
-    let count = machine.hops().len() as u16;
-    for index in 0..count {
-        at = settle_hop(machine, HopId(index + 1), at);
-    }
-}
-
-/// Gives a hop's inline payloads the places that they have in a head where the hop stands at a place, and answers the place after it.
-fn settle_hop(machine: &mut Machine<Stored>, hop: HopId, at: u64) -> u64
-    requires there { IsTrue (has_hop machine.old.state hop) }
-    requires bytes { All (λ item. HasBytes item.payload) (live_line (hop_at machine.old.state hop)) }
-    requires fits { at + length (hop_spelled stored_length stored_form (hop_at machine.old.state hop)) < 2 ^ 63 }
-    ensures state { machine.new.state ≡ with_hop machine.old.state hop (settled_hop at (hop_at machine.old.state hop)) }
-    ensures next { result ≡ at + length (hop_spelled stored_length stored_form (hop_at machine.old.state hop)) }
-{
-    let mut next = at + HOP_BYTES;
-    let count = live_count(machine, hop);
-    for index in 0..count {
-        next = settle_item(machine, hop, index, next);
-    }
-    next
-}
-
-/// Gives a payload, if it is inline, the place that it has in a head where its entry stands at a place, and answers the place after
-/// the entry.
-fn settle_item(machine: &mut Machine<Stored>, hop: HopId, index: usize, at: u64) -> u64
-    requires there { IsTrue (has_hop machine.old.state hop) }
-    requires live { index < length (live_line (hop_at machine.old.state hop)) }
-    requires bytes { (item : Item Stored) → item ≡ slice_index_or (live_line (hop_at machine.old.state hop)) index item → HasBytes item.payload }
-    requires fits { at + 2 ^ 32 < 2 ^ 64 }
-    ensures { (item : Item Stored) × (item ≡ slice_index_or (live_line (hop_at machine.old.state hop)) index item)
-        × (machine.new.state ≡ relocated machine.old.state hop index (settled (at + 19) item.payload))
-        × (result ≡ at + length (entry_spelled stored_length stored_form item)) }
-{
-    machine.law_sound();
-    let payload = &live_item(machine, hop, index).payload;
-    let length = payload.len() as u16;
-    if !stands_inline(payload) {
-        return at + PLACED_BYTES;
-    }
-    let start = at + INLINE_BYTES;
-    if length > 0 {
-        machine.relocate(hop, index, Stored::Placed(Place { start, length }));
-    }
-    start + u64::from(length)
-}
-
-/// How many live datagrams a hop has.
-fn live_count(machine: &Machine<Stored>, hop: HopId) -> usize
-    requires { IsTrue (has_hop machine.now.state hop) }
-    ensures { result ≡ length (live_line (hop_at machine.now.state hop)) }
-{
-    machine.law_sound();
-    let hop = &machine.hops()[hop.0 as usize - 1];
-    hop.flight.len() + hop.queue.len()
-}
-
-/// A live datagram of a hop, counted from the first in flight.
-fn live_item(machine: &Machine<Stored>, hop: HopId, index: usize) -> &Item<Stored>
-    requires there { IsTrue (has_hop machine.now.state hop) }
-    requires live { index < length (live_line (hop_at machine.now.state hop)) }
-    ensures { result.now ≡ slice_index_or (live_line (hop_at machine.now.state hop)) index result.now }
-{
-    live_at(&machine.hops()[hop.0 as usize - 1], index)
-}
-
-/// Whether a payload is inline.
-fn stands_inline(payload: &Stored) -> bool
-    ensures { IsTrue result ↔ IsInline payload.now }
-{
-    match payload {
-        Stored::Inline(_) => true,
-        Stored::Placed(_) => false,
-    }
+    // Segments are counted from 0, so that this is the number of none.
+    let no_segment = geometry.segments;
+    settle_moved(geometry, segment, no_segment, machine);
 }

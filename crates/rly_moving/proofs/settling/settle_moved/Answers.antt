@@ -42,7 +42,7 @@ settle_hop-at-requires-clause-bytes c =
     let at : ℕ = segment_place c.args.geometry.now c.args.target + 21 + 8 * length s.lasts in
     let lt : c.loop-index.index < length s.hops = omega (arith, c.loop-index-test.true, ap (λ (l : List (HopState Stored)). length l) c.hops.ensures, length-map c.hops.result.now view) in
     subst (λ (h : HopState Stored). All (λ (item : Item Stored). HasBytes item.payload) (live_line h)) (sym (hop_is D s c.loop-index.index at c.loop-index.machine.state c.loop-index.invariant.state))
-    (of_items HasBytes s.hops (λ k d below. have_bytes c.args.geometry.now (get_or (payloads_of s) k d) (c.requires.may.lies k d below)) c.loop-index.index new_hop lt)
+    (of_items HasBytes s.hops (λ k d below. have_bytes c.args.geometry.now (get_or (payloads_of s) k d) (c.requires.lies k d below)) c.loop-index.index new_hop lt)
 
 pub settle_hop-at-requires-clause-fits : goal.settle_hop-at-requires-clause-fits
 settle_hop-at-requires-clause-fits c =
@@ -58,7 +58,7 @@ settle_hop-at-requires-clause-fits c =
       c.loop-index.invariant.next,
       hops_within D c.loop-index.index at s.hops new_hop lt,
       length-parts stored_length stored_form (drawn_state g c.args.victim unread s),
-      c.requires.may.room,
+      c.requires.room,
       c.requires.length,
       place_below g c.args.target c.requires.target c.requires.length,
       c.law_sound.ensures.peer_count,

@@ -1,105 +1,21 @@
-use Rattle.std.proofs.Common.{◌+◌, ◌*◌, ◌<◌, ◌≤◌, ℕ, List, arith, get_or, length, refl, sym, ap, subst, ◌∙◌}
-use Rattle.std.specs.Prelude.{All}
-use Rattle.std.specs.List.{flat_map}
-use Rattle.std.proofs.lemmas.List.{length-map}
-use Rattle.rly_core.specs.declared.ids.HopId.{HopId}
-use Rattle.rly_machine.specs.Map.{payloads_of}
-use Rattle.rly_machine.specs.Kept.{hop_state}
-use Rattle.rly_machine.specs.State.{HopState, State, hop_at, live_line, new_hop}
-use Rattle.rly_machine.specs.declared.hop.Hop.{Hop}
-use Rattle.rly_machine.specs.declared.hop.Item.{Item}
-use Rattle.rly_checkpoint.specs.Checkpoint.{hop_spelled}
+use Rattle.std.proofs.Common.{ℕ, ◌+◌, ◌≤◌, arith, length, ap, ◌∙◌}
+use Rattle.rly_machine.specs.State.{State}
+use Rattle.rly_checkpoint.specs.Checkpoint.{state_spelled}
 use Rattle.rly_checkpoint.specs.Stored.{stored_form, stored_length}
 use Rattle.rly_checkpoint.specs.declared.stored.Stored.{Stored}
-use Rattle.rly_checkpoint.proofs.Sizes.{length-parts}
-use Rattle.rly_places.proofs.Placing.{of_items}
-use Rattle.rly_segment.specs.Heads.{segment_place}
-use Rattle.rly_segment.specs.Settling.{settled_hop, settled_hops}
-use Rattle.rly_moving.specs.HelpersSettling.{HasBytes, with_hop}
-use Rattle.rly_moving.proofs.Payloads.{is_there, place_below}
-use Rattle.rly_moving.proofs.Relocations.{hop_is, hop_settled, hop_size, hops_all, hops_length, hops_past_next, hops_so_far, hops_within}
-use Rattle.rly_settling.proofs.AsRead.{as_read, have_bytes, hop_as_read, hops_as_read}
+use Rattle.rly_segment.specs.Settling.{settled_state}
+use Rattle.rly_settling.proofs.AsRead.{all_there, none_drawn}
 use Rattle.rly_settling.proofs.settling.settle_read.Goals as goal
 
-pub settle_hop-at-requires-clause-there : goal.settle_hop-at-requires-clause-there
-settle_hop-at-requires-clause-there c =
-    let s = c.args.machine.now.state in
-    let D : Stored → Stored = as_read in
-    let view : Hop Stored → HopState Stored = hop_state in
-    let at : ℕ = segment_place c.args.geometry.now c.args.segment + 21 + 8 * length s.lasts in
-    is_there (length c.loop-index.machine.state.hops) (c.loop-index.index + 1) (omega arith)
-    (omega (
-      arith,
-      ap (λ (t : State Stored). length t.hops) c.loop-index.invariant.state,
-      hops_length D c.loop-index.index at s.hops,
-      c.loop-index-test.true,
-      ap (λ (l : List (HopState Stored)). length l) c.hops.ensures,
-      length-map c.hops.result.now view,
-    ))
+pub settle_moved-requires-clause-lies : goal.settle_moved-requires-clause-lies
+settle_moved-requires-clause-lies c = all_there c.args.geometry.now c.args.segment c.args.machine.now.state c.requires.elsewhere
 
-pub settle_hop-at-requires-clause-bytes : goal.settle_hop-at-requires-clause-bytes
-settle_hop-at-requires-clause-bytes c =
-    let s = c.args.machine.now.state in
-    let D : Stored → Stored = as_read in
-    let view : Hop Stored → HopState Stored = hop_state in
-    let at : ℕ = segment_place c.args.geometry.now c.args.segment + 21 + 8 * length s.lasts in
-    let lt : c.loop-index.index < length s.hops = omega (arith, c.loop-index-test.true, ap (λ (l : List (HopState Stored)). length l) c.hops.ensures, length-map c.hops.result.now view) in
-    subst (λ (h : HopState Stored). All (λ (item : Item Stored). HasBytes item.payload) (live_line h)) (sym (hop_is D s c.loop-index.index at c.loop-index.machine.state c.loop-index.invariant.state))
-    (of_items HasBytes s.hops (λ k d below. have_bytes c.args.geometry.now c.args.segment (get_or (payloads_of s) k d) (c.requires.elsewhere k d below)) c.loop-index.index new_hop lt)
-
-pub settle_hop-at-requires-clause-fits : goal.settle_hop-at-requires-clause-fits
-settle_hop-at-requires-clause-fits c =
-    let s = c.args.machine.now.state in
-    let g = c.args.geometry.now in
-    let D : Stored → Stored = as_read in
-    let view : Hop Stored → HopState Stored = hop_state in
-    let at : ℕ = segment_place g c.args.segment + 21 + 8 * length s.lasts in
-    let lt : c.loop-index.index < length s.hops = omega (arith, c.loop-index-test.true, ap (λ (l : List (HopState Stored)). length l) c.hops.ensures, length-map c.hops.result.now view) in
-    omega (
-      arith,
-      ap (λ (h : HopState Stored). length (hop_spelled stored_length stored_form h)) (hop_as_read (hop_at c.loop-index.machine.state (record { 0 = c.loop-index.index + 1 }))),
-      ap (λ (h : HopState Stored). hop_size D h) (hop_is D s c.loop-index.index at c.loop-index.machine.state c.loop-index.invariant.state),
-      c.loop-index.invariant.next,
-      hops_within D c.loop-index.index at s.hops new_hop lt,
-      length-parts stored_length stored_form s,
-      ap (λ (l : List (HopState Stored)). length (flat_map (hop_spelled stored_length stored_form) l)) (hops_as_read s.hops),
-      c.requires.room,
-      c.requires.length,
-      place_below g c.args.segment c.requires.segment c.requires.length,
-      c.law_sound.ensures.peer_count,
-      c.law_sound.ensures.params.peers,
-    )
-
-pub loop-index-init : goal.loop-index-init
-loop-index-init c = record { state = refl; next = omega (arith, c.segment_place.ensures, ap (λ (l : List ℕ). length l) c.lasts.ensures) }
-
-pub loop-index-preserved : goal.loop-index-preserved
-loop-index-preserved c =
-    let s = c.args.machine.now.state in
-    let D : Stored → Stored = as_read in
-    let view : Hop Stored → HopState Stored = hop_state in
-    let at : ℕ = segment_place c.args.geometry.now c.args.segment + 21 + 8 * length s.lasts in
-    let lt : c.loop-index.index < length s.hops = omega (arith, c.loop-index-test.true, ap (λ (l : List (HopState Stored)). length l) c.hops.ensures, length-map c.hops.result.now view) in
-    let hop : HopId = record { 0 = c.loop-index.index + 1 } in
-    record {
-      state = c.settle_hop-at.ensures.state
-          ∙ ap (λ (h : HopState Stored). with_hop c.loop-index.machine.state hop (settled_hop c.loop-index.at h)) (sym (hop_as_read (hop_at c.loop-index.machine.state hop)))
-          ∙ hop_settled D s c.loop-index.index at c.loop-index.machine.state c.loop-index.invariant.state c.loop-index.at c.loop-index.invariant.next lt;
-      next = omega (
-        arith,
-        c.settle_hop-at.ensures.next,
-        ap (λ (h : HopState Stored). length (hop_spelled stored_length stored_form h)) (hop_as_read (hop_at c.loop-index.machine.state hop)),
-        ap (λ (h : HopState Stored). hop_size D h) (hop_is D s c.loop-index.index at c.loop-index.machine.state c.loop-index.invariant.state),
-        c.loop-index.invariant.next,
-        hops_past_next D c.loop-index.index at s.hops new_hop lt,
-      );
-    }
+pub settle_moved-requires-clause-room : goal.settle_moved-requires-clause-room
+settle_moved-requires-clause-room c =
+    let size : State Stored → ℕ = λ s. length (state_spelled stored_length stored_form s) in
+    omega (arith, c.requires.room, ap size (none_drawn c.args.geometry.now c.args.segment c.args.machine.now.state c.requires.elsewhere))
 
 pub returns : goal.returns
 returns c =
-    let s = c.args.machine.now.state in
-    let D : Stored → Stored = as_read in
-    let view : Hop Stored → HopState Stored = hop_state in
-    let at : ℕ = segment_place c.args.geometry.now c.args.segment + 21 + 8 * length s.lasts in
-    let all : length s.hops ≤ c.loop-index.index = omega (arith, c.loop-index-test.false, ap (λ (l : List (HopState Stored)). length l) c.hops.ensures, length-map c.hops.result.now view) in
-    c.loop-index.invariant.state ∙ ap (hops_so_far D s c.loop-index.index at s) (hops_all D c.loop-index.index at s.hops all ∙ ap (λ (l : List (HopState Stored)). settled_hops at l) (hops_as_read s.hops))
+    c.settle_moved.ensures
+    ∙ ap (settled_state c.args.geometry.now c.args.segment) (none_drawn c.args.geometry.now c.args.segment c.args.machine.now.state c.requires.elsewhere)

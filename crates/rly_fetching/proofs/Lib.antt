@@ -1,0 +1,3 @@
+pub mod TriedRows
+pub mod TriedReads
+pub mod Answered

@@ -1,0 +1,105 @@
+ghost use Rattle.std.specs.Prelude.{◌≡◌, ◌+◌, ◌≤◌, ◌++◌, [], All, List, length, map, vec_capacity};
+ghost use Rattle.rly_gate.specs.Reading.{OnlyRead};
+ghost use Rattle.rly_machine.specs.declared.call.Answer.{Answer as AnAnswer};
+ghost use Rattle.rly_fetching.specs.Fetching.{AreAnswersOf, IsAnswerOf, IsThereFor, fetching, refused_as, reply_of, rows_for};
+ghost use Rattle.rly_fetching.specs.Trials.{Tries};
+
+use crate::outcome::Outcome;
+use crate::payloads::read_payload;
+use rly_core::Refusal;
+use rly_disk::Disk;
+use rly_machine::{Answer, Payload, Reply};
+use std::alloc::Global;
+
+/// Answers the calls of a round, whose commands are durable, and reads in their order the payloads that they want. A read that
+/// fails, or memory that is refused, refuses that call alone. The disk keeps all that it has.
+pub fn answer_all<D: Disk>(
+    alloc: Global,
+    disk: &mut D,
+    outcomes: &mut Vec<Outcome>,
+    answers: &mut Vec<Answer>,
+)
+    requires room { length answers.old.items + length outcomes.old.items ≤ vec_capacity answers.old }
+    requires there { All (IsThereFor (D.state disk.old).size) outcomes.old.items }
+    ensures answers { (given : List AnAnswer) × (answers.new.items ≡ answers.old.items ++ given)
+        × AreAnswersOf (D.state disk.old) outcomes.old.items given × Tries D.state (fetching outcomes.old.items given) disk.old disk.new }
+    ensures only { OnlyRead (D.state disk.old) (D.state disk.new) }
+    ensures emptied { outcomes.new.items ≡ [] }
+    ensures outcomes_capacity { vec_capacity outcomes.new ≡ vec_capacity outcomes.old }
+    ensures answers_capacity { vec_capacity answers.new ≡ vec_capacity answers.old }
+{
+    for outcome in outcomes.drain(..) {
+        let answer = answer_one(alloc, disk, outcome);
+        answers.push_reserved(answer);
+    }
+}
+
+/// Refuses the calls of a round, whose commands may not be durable, at one position. Nothing is read.
+pub fn refuse_all(
+    outcomes: &mut Vec<Outcome>,
+    answers: &mut Vec<Answer>,
+    refusal: Refusal,
+    position: u64,
+)
+    requires room { length answers.old.items + length outcomes.old.items ≤ vec_capacity answers.old }
+    ensures answers { answers.new.items ≡ answers.old.items ++ map (refused_as refusal position) outcomes.old.items }
+    ensures emptied { outcomes.new.items ≡ [] }
+    ensures outcomes_capacity { vec_capacity outcomes.new ≡ vec_capacity outcomes.old }
+    ensures answers_capacity { vec_capacity answers.new ≡ vec_capacity answers.old }
+{
+    for outcome in outcomes.drain(..) {
+        let answer = refused(outcome, refusal, position);
+        answers.push_reserved(answer);
+    }
+}
+
+/// Answers one call, and reads the payload that it wants.
+fn answer_one<D: Disk>(alloc: Global, disk: &mut D, outcome: Outcome) -> Answer
+    requires there { IsThereFor (D.state disk.old).size outcome }
+    ensures answer { IsAnswerOf (D.state disk.old) outcome result }
+    ensures trace { Tries D.state (rows_for outcome result) disk.old disk.new }
+{
+    match outcome {
+        Outcome::Answered(answer) => answer,
+        Outcome::Wanted {
+            seat,
+            number,
+            position,
+            place,
+        } => {
+            let reply = reply_of(read_payload(alloc, disk, place));
+            Answer {
+                seat,
+                number,
+                reply,
+                position,
+            }
+        }
+    }
+}
+
+/// What a payload is answered with that was read or refused.
+fn reply_of(found: Result<Payload, Refusal>) -> Reply
+    ensures { result ≡ reply_of found }
+{
+    match found {
+        Ok(payload) => Reply::Bytes(payload),
+        Err(refusal) => Reply::Refused(refusal),
+    }
+}
+
+/// The answer that refuses one call.
+fn refused(outcome: Outcome, refusal: Refusal, position: u64) -> Answer
+    ensures { result ≡ refused_as refusal position outcome }
+{
+    let (seat, number) = match outcome {
+        Outcome::Answered(answer) => (answer.seat, answer.number),
+        Outcome::Wanted { seat, number, .. } => (seat, number),
+    };
+    Answer {
+        seat,
+        number,
+        reply: Reply::Refused(refusal),
+        position,
+    }
+}

@@ -1,0 +1,30 @@
+ghost use Rattle.std.specs.Prelude.{◌∷◌, []};
+ghost use Rattle.rly_fetching.specs.Fetching.{IsFetched, IsThere, reply_of, row_for};
+ghost use Rattle.rly_fetching.specs.Trials.{Tries};
+
+use rly_checkpoint::Place;
+use rly_core::Refusal;
+use rly_disk::Disk;
+use rly_gate::{ReadFault, read_bytes};
+use rly_machine::Payload;
+use std::alloc::Global;
+
+/// Reads a payload into memory of its own: by one read, where it has bytes.
+pub fn read_payload<D: Disk>(
+    alloc: Global,
+    disk: &mut D,
+    place: Option<Place>,
+) -> Result<Payload, Refusal>
+    requires there { IsThere (D.state disk.old).size place }
+    ensures payload { IsFetched (D.state disk.old) place (reply_of result) }
+    ensures trace { Tries D.state (row_for place (reply_of result) ∷ []) disk.old disk.new }
+{
+    let Some(place) = place else {
+        return Ok(Payload::new(Vec::new(alloc)));
+    };
+    match read_bytes(alloc, disk, place.start, usize::from(place.length)) {
+        Ok(bytes) => Ok(Payload::new(bytes)),
+        Err(ReadFault::OutOfMemory) => Err(Refusal::OutOfMemory),
+        Err(ReadFault::Device) => Err(Refusal::DeviceRead),
+    }
+}

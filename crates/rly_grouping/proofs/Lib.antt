@@ -1,0 +1,5 @@
+pub mod Framed
+pub mod Records
+pub mod Lying
+pub mod Brought
+pub mod Gathered

@@ -1,0 +1,120 @@
+-- The commands of a group, and its bytes.
+use Rattle.std.proofs.Common.{◌≡◌, ℕ, ◌+◌, ◌*◌, ◌≤◌, ◌∙◌, List, [], ◌∷◌, ◌++◌, length, refl, ap, sym, arith, length-append}
+use Rattle.std.specs.List.{AllByRecursion, flat_map}
+use Rattle.std.proofs.lemmas.List.{flat_map_more}
+use Rattle.std.proofs.lemmas.List.Concat.{flat_map-cons}
+use Rattle.byteorder.specs.Endian.{big_bytes}
+use Rattle.rly_core.specs.Bounds.{IsIn}
+use Rattle.rly_machine.specs.Map.{map_command}
+use Rattle.rly_machine.specs.declared.command.Command.{Command}
+use Rattle.rly_machine.specs.declared.command.Command.TheVariants.{Take, Pick, Release}
+use Rattle.rly_record.specs.Spelling.{HasRecord, HaveBody, body_of, record_length, record_of}
+use Rattle.rly_record.proofs.Records.{length-record_of}
+use Rattle.rly_checkpoint.specs.Stored.{stored_length}
+use Rattle.rly_checkpoint.specs.declared.stored.Stored.{Stored}
+use Rattle.rly_checkpoint.specs.declared.stored.Stored.TheVariants.{Inline, Placed}
+use Rattle.rly_keeping.specs.Keeping.{IsCommandAlike}
+use Rattle.rly_grouping.specs.Groups.{GroupState, Holds, empty_group, group_body, longest_record, record_place, with_record}
+use Rattle.rly_grouping.specs.Lying.{Commands, lying_at, placed_at, placed_from, placed_group}
+
+-- one more element of which the same holds
+all_push : {X : Type 0} (P : X → Type 0) (xs : List X) (x : X) → AllByRecursion P xs → P x → AllByRecursion P (xs ++ x ∷ [])
+all_push P [] x all one = (one, tt)
+all_push P (y ∷ xs) x all one = (all.0, all_push P xs x all.1 one)
+
+pub holds_none : Holds [] empty_group
+holds_none = record { have = tt; records = refl; count = refl; staged = refl }
+
+pub holds_more : (commands : Commands) (command : Command (List ℕ)) (group : GroupState) → Holds commands group → HasRecord command
+    → Holds (commands ++ command ∷ []) (with_record group command)
+holds_more commands command group holds has = record {
+  have = all_push HasRecord commands command holds.have has;
+  records = ap (λ (l : List ℕ). l ++ record_of command) holds.records ∙ flat_map_more record_of [] commands command;
+  count = omega (arith, holds.count, length-append commands (command ∷ []));
+  staged = refl;
+}
+
+pub holds_body : (commands : Commands) (group : GroupState) → Holds commands group → group_body group ≡ body_of commands
+holds_body commands group holds =
+    ap (λ (n : ℕ). big_bytes 2 n ++ group.records) holds.count ∙ ap (λ (l : List ℕ). big_bytes 2 (length commands) ++ l) holds.records
+
+pub holds_have : (commands : Commands) (group : GroupState) → Holds commands group → IsIn 1 64 (length commands) → HaveBody commands
+holds_have commands group holds count = (count, holds.have)
+
+-- ---- lengths
+
+-- how long a record is at most
+pub record_most : (command : Command (List ℕ)) → HasRecord command → record_length length command ≤ longest_record
+record_most (Take peer number hop stamp payload) has = omega (arith, has.4)
+record_most (Pick hop now) has = omega arith
+record_most (Release hop number) has = omega arith
+
+records_most : (commands : Commands) → AllByRecursion HasRecord commands → length (flat_map record_of commands) ≤ longest_record * length commands
+records_most [] have = omega arith
+records_most (command ∷ commands) have =
+    let one = record_most command have.0 in
+    let rest = records_most commands have.1 in
+    let both = length-append (record_of command) (flat_map record_of commands) in
+    let parts : length (flat_map record_of (command ∷ commands)) ≡ length (record_of command ++ flat_map record_of commands) = ap length (flat_map-cons record_of command commands) in
+    omega (arith, one, rest, both, parts, length-record_of command)
+
+pub body_length : (group : GroupState) → length (group_body group) ≡ 2 + length group.records
+body_length group = length-append (big_bytes 2 group.count) group.records
+
+pub holds_most : (commands : Commands) (group : GroupState) → Holds commands group → length group.records ≤ longest_record * length commands
+holds_most commands group holds =
+    let size : length group.records ≡ length (flat_map record_of commands) = ap length holds.records in
+    omega (arith, size, records_most commands holds.have)
+
+-- ---- places
+
+pub next_place : (gate : ℕ) (command : Command (List ℕ)) (group : GroupState)
+    → record_place gate (with_record group command) ≡ record_place gate group + record_length length command
+next_place gate command group = omega (arith, length-append group.records (record_of command), length-record_of command)
+
+pub place_after : (gate : ℕ) (group : GroupState) → gate + (5 + length (group_body group)) ≡ record_place gate group
+place_after gate group = omega (arith, body_length group)
+
+-- places with one command more
+placed_more : (place : ℕ) (commands : Commands) (command : Command (List ℕ))
+    → placed_from place (commands ++ command ∷ []) ≡ placed_from place commands ++ placed_at (place + length (flat_map record_of commands)) command ∷ []
+placed_more place [] command = ap (λ (n : ℕ). placed_at n command ∷ []) (let e : place ≡ place + 0 = omega arith in e)
+placed_more place (first ∷ commands) command =
+    let after : ℕ = place + record_length length first in
+    let size : length (flat_map record_of (first ∷ commands)) ≡ record_length length first + length (flat_map record_of commands) =
+    ap length (flat_map-cons record_of first commands) ∙ length-append (record_of first) (flat_map record_of commands) ∙ ap (λ (n : ℕ). n + length (flat_map record_of commands)) (length-record_of first) in
+    let same : after + length (flat_map record_of commands) ≡ place + length (flat_map record_of (first ∷ commands)) = omega (arith, size) in
+    ap (λ (l : List (Command Stored)). placed_at place first ∷ l) (placed_more after commands command)
+    ∙ ap (λ (n : ℕ). placed_at place first ∷ placed_from after commands ++ placed_at n command ∷ []) same
+
+pub placed_told : (gate : ℕ) (commands : Commands) (command : Command (List ℕ)) (group : GroupState) → Holds commands group
+    → placed_group gate (commands ++ command ∷ []) ≡ placed_group gate commands ++ placed_at (record_place gate group) command ∷ []
+placed_told gate commands command group holds =
+    placed_more (gate + 7) commands command
+    ∙ ap (λ (l : List ℕ). placed_group gate commands ++ placed_at (gate + 7 + length l) command ∷ []) (sym holds.records)
+
+-- ---- the same but for payloads
+
+lying_long : (place : ℕ) (payload : List ℕ) → stored_length (lying_at place payload) ≡ length payload
+lying_long place [] = refl
+lying_long place (byte ∷ bytes) = refl
+
+pub placed_alike : (place : ℕ) (command : Command (List ℕ)) → IsCommandAlike (placed_at place command) command
+placed_alike place (Take peer number hop stamp payload) = ap (λ (n : ℕ). Take peer number hop stamp n) (lying_long (place + 23) payload)
+placed_alike place (Pick hop now) = refl
+placed_alike place (Release hop number) = refl
+
+pub inline_alike : (command : Command (List ℕ)) → IsCommandAlike (map_command Inline command) command
+inline_alike (Take peer number hop stamp payload) = refl
+inline_alike (Pick hop now) = refl
+inline_alike (Release hop number) = refl
+
+-- ---- a payload that lies at a place
+
+pub lies_none : (place : ℕ) (payload : List ℕ) → length payload ≡ 0 → Inline payload ≡ lying_at place payload
+lies_none place [] none = refl
+lies_none place (byte ∷ bytes) none = absurd (omega (arith, none))
+
+pub lies_some : (place n : ℕ) (payload : List ℕ) → 1 ≤ length payload → n ≡ length payload → Placed (record { start = place; length = n }) ≡ lying_at place payload
+lies_some place n [] some same = absurd (omega (arith, some))
+lies_some place n (byte ∷ bytes) some same = ap (λ (k : ℕ). let p : Stored = Placed (record { start = place; length = k }) in p) same

@@ -1,0 +1,31 @@
+-- Where the payloads of a group lie on the device, once it stands there (docs/DEFINITIONS.md, "Grouping").
+use Rattle.std.specs.Prelude.{ℕ, ◌+◌, List, [], ◌∷◌, length}
+use Rattle.rly_machine.specs.declared.command.Command.{Command}
+use Rattle.rly_machine.specs.declared.command.Command.TheVariants.{Take, Pick, Release}
+use Rattle.rly_record.specs.Spelling.{record_length}
+use Rattle.rly_checkpoint.specs.declared.stored.Stored.{Stored}
+use Rattle.rly_checkpoint.specs.declared.stored.Stored.TheVariants.{Inline, Placed}
+
+-- the commands of one group
+abbrev pub Commands : Type 0
+Commands = List (Command (List ℕ))
+
+-- a payload that lies at a place; one without bytes is inline
+abbrev pub lying_at : ℕ → List ℕ → Stored
+lying_at place [] = Inline []
+lying_at place (byte ∷ bytes) = Placed (record { start = place; length = length (byte ∷ bytes) })
+
+-- a command whose record stands at a place, with its payload by place: after the 23 bytes of a Take's other fields
+abbrev pub placed_at : ℕ → Command (List ℕ) → Command Stored
+placed_at place (Take peer number hop stamp payload) = Take peer number hop stamp (lying_at (place + 23) payload)
+placed_at place (Pick hop now) = Pick hop now
+placed_at place (Release hop number) = Release hop number
+
+-- commands whose records stand one after the other
+abbrev pub placed_from : ℕ → Commands → List (Command Stored)
+placed_from place [] = []
+placed_from place (command ∷ commands) = placed_at place command ∷ placed_from (place + record_length length command) commands
+
+-- the commands of a group at a gate, after which its length stands in 4 bytes, the count in 2, and the records
+abbrev pub placed_group : ℕ → Commands → List (Command Stored)
+placed_group gate commands = placed_from (gate + 7) commands

@@ -1,0 +1,149 @@
+ghost use Rattle.std.specs.Prelude.{◌≡◌, ◌+◌, ◌*◌, ◌<◌, ◌≤◌, ◌^◌, [], ◌++◌, ◌==◌, IfOk, drop, is_ok, length, take, vec_capacity, vec_len};
+ghost use Rattle.byteorder.specs.Endian.{big_bytes};
+ghost use Rattle.rly_disk.specs.Trace.{Makes};
+ghost use Rattle.rly_gate.specs.Calls.{appending};
+ghost use Rattle.rly_gate.specs.Group.{body_in};
+ghost use Rattle.rly_record.specs.Spelling.{HasRecord, IsShort, record_of};
+ghost use Rattle.rly_grouping.specs.Groups.{empty_group, frame_room, group_body, record_place};
+ghost use Rattle.rly_grouping.specs.Lying.{placed_at};
+
+use crate::placing::{TAKE_FIELDS, placed_at};
+use byteorder::{BigEndian, ByteOrder};
+use rly_checkpoint::Stored;
+use rly_core::limits::{MAX_PAYLOAD, MAX_ROUND};
+use rly_disk::{Disk, DiskFault};
+use rly_gate::append_group;
+use rly_machine::{Command, Payload};
+use rly_record::write_command;
+use std::alloc::{AllocError, Global};
+use std::marker::Model;
+
+/// The bytes of the length, before the body.
+const BODY: usize = 4;
+
+/// The bytes before the records: the length, and the count in 2.
+const RECORDS: usize = 6;
+
+/// The bytes of the largest frame: those before the records, the longest records, and a gate.
+const FRAME_ROOM: usize = RECORDS
+    + MAX_ROUND as usize * (TAKE_FIELDS as usize + MAX_PAYLOAD as usize)
+    + 1;
+
+/// The group that a round makes, in the frame in which it is written. Its memory is reserved once,
+/// for the largest group.
+#[derive(Drop)]
+pub struct Group {
+    frame: Vec<u8>,
+    kept: usize,
+    count: u16,
+}
+
+impl Model for Group {
+    ghost use Rattle.std.specs.Prelude.{◌+◌, ◌*◌, ◌≤◌, drop, length, take, vec_capacity};
+    ghost use Rattle.rly_grouping.specs.Groups.{GroupState, frame_room, longest_record};
+
+    ghost Value = { GroupState };
+
+    ghost view = { λ g. record { records = drop 6 (take g.kept g.frame.items); count = g.count; staged = drop g.kept g.frame.items } };
+
+    ghost invariant = { λ g. (6 ≤ g.kept) × (g.kept ≤ length g.frame.items) × (g.kept ≤ 6 + longest_record * g.count)
+        × (length g.frame.items ≤ g.kept + longest_record) × (g.count ≤ 64) × (frame_room ≤ vec_capacity g.frame) };
+}
+
+impl Group {
+    /// A group that holds nothing.
+    pub fn new(alloc: Global) -> Result<Group, AllocError>
+        ensures { IfOk result (λ group. group ≡ empty_group) }
+    {
+        let mut frame = Vec::with_capacity(alloc, FRAME_ROOM)?;
+        frame.extend_from_slice(&[0; RECORDS])?;
+        Ok(Group {
+            frame,
+            kept: RECORDS,
+            count: 0,
+        })
+    }
+
+    /// Whether it holds no record.
+    pub fn is_empty(&self) -> bool
+        ensures { result ≡ (self.now.count == 0) }
+    {
+        self.count == 0
+    }
+
+    /// How many bytes it takes after its gate, with the gate: its length in 4 bytes and its body.
+    pub fn len(&self) -> u64
+        ensures { result ≡ 5 + length (group_body self.now) }
+    {
+        self.kept as u64 + 1
+    }
+
+    /// Gives up all that it holds.
+    fn clear(&mut self)
+        ensures { self.new ≡ empty_group }
+    {
+        self.frame.truncate(RECORDS);
+        self.kept = RECORDS;
+        self.count = 0;
+    }
+
+    /// Writes the record of a command that may become part of the group. Told is the command with its payload by place: where it
+    /// lies once the group stands at its gate.
+    pub fn stage(&mut self, gate: u64, command: Command<Payload>) -> Command<Stored>
+        requires room { self.old.count < 64 }
+        requires nothing { self.old.staged ≡ [] }
+        requires short { IsShort command }
+        requires gate { gate + frame_room < 2 ^ 64 }
+        ensures staged { self.new ≡ record self.old { staged = record_of command } }
+        ensures has { HasRecord command }
+        ensures placed { result ≡ placed_at (record_place gate self.old) command }
+    {
+        let place = gate + 1 + self.kept as u64;
+        write_command(&command, &mut self.frame).unwrap();
+        placed_at(place, command)
+    }
+
+    /// Makes what was staged part of the group.
+    pub fn keep(&mut self)
+        requires room { self.old.count < 64 }
+        ensures { self.new ≡ record { records = self.old.records ++ self.old.staged; count = self.old.count + 1; staged = [] } }
+    {
+        self.kept = self.frame.len();
+        self.count += 1;
+    }
+
+    /// Gives up what was staged, so that the next record stands in its place.
+    pub fn discard(&mut self)
+        ensures { self.new ≡ record self.old { staged = [] } }
+    {
+        self.frame.truncate(self.kept);
+    }
+
+    /// Writes the group at a closed gate, as `append_group` does, and then holds nothing.
+    pub fn write<D: Disk>(&mut self, disk: &mut D, at: u64) -> Result<(), DiskFault>
+        requires something { 1 ≤ self.old.count }
+        requires nothing_staged { self.old.staged ≡ [] }
+        requires place_fits { at + 1 < 2 ^ 64 }
+        requires room { at + 6 + length (group_body self.old) ≤ (D.state disk.old).size }
+        ensures trace { Makes D.state (appending at (group_body self.old)) (is_ok result) disk.old disk.new }
+        ensures emptied { self.new ≡ empty_group }
+    {
+        complete(&mut self.frame, self.count);
+        let written = append_group(disk, at, &mut self.frame);
+        self.clear();
+        written
+    }
+}
+
+/// Fills in the count before the records, and adds the byte in which the gate after them is
+/// written.
+fn complete(frame: &mut Vec<u8>, count: u16)
+    requires long { 6 ≤ length frame.old.items }
+    requires room { vec_len frame.old < vec_capacity frame.old }
+    ensures body { body_in frame.new.items ≡ big_bytes 2 count ++ drop 6 frame.old.items }
+    ensures len { length frame.new.items ≡ length frame.old.items + 1 }
+    ensures capacity { vec_capacity frame.new ≡ vec_capacity frame.old }
+{
+    BigEndian::write_u16(&mut frame[BODY..], count);
+    frame.push_reserved(0);
+}

@@ -1,0 +1,88 @@
+//! Laws of a group and of the places that it tells, each the contract of a function without a body.
+
+ghost use Rattle.std.specs.Prelude.{◌≡◌, ◌+◌, ◌-◌, ◌<◌, ◌≤◌, ◌++◌, ◌∷◌, [], List, length, map, true, ℕ};
+ghost use Rattle.std.specs.List.{AllByRecursion};
+ghost use Rattle.rly_core.specs.Bounds.{IsIn};
+ghost use Rattle.rly_core.specs.declared.params.Geometry.{Geometry};
+ghost use Rattle.rly_disk.specs.DiskModel.{SameOutside};
+ghost use Rattle.rly_disk.specs.Trace.{Makes};
+ghost use Rattle.rly_gate.specs.Calls.{appending};
+ghost use Rattle.rly_gate.specs.Reading.{HoldsGroup};
+ghost use Rattle.rly_machine.specs.Fold.{fold};
+ghost use Rattle.rly_machine.specs.Map.{map_command};
+ghost use Rattle.rly_machine.specs.State.{State};
+ghost use Rattle.rly_machine.specs.declared.command.Command.{Command};
+ghost use Rattle.rly_record.specs.Spelling.{HasRecord, body_of, record_length};
+ghost use Rattle.rly_reclaim.specs.Room.{IsDue};
+ghost use Rattle.rly_checkpoint.specs.Stored.{payload_in, stored_length};
+ghost use Rattle.rly_checkpoint.specs.declared.stored.Stored.{Stored};
+ghost use Rattle.rly_checkpoint.specs.declared.stored.Stored.TheVariants.{Inline};
+ghost use Rattle.rly_segment.specs.Device.{IsLayout};
+ghost use Rattle.rly_segment.specs.Heads.{segment_end, segment_place};
+ghost use Rattle.rly_keeping.specs.Keeping.{IsBrought, IsCommandAlike, IsIndex, IsKept};
+ghost use Rattle.rly_grouping.specs.Groups.{GroupState, Holds, empty_group, group_body, record_place, with_record};
+ghost use Rattle.rly_grouping.specs.Lying.{Commands, placed_at, placed_group};
+
+use rly_disk::Disk;
+
+/// A group holds no commands at first, and one more where a record that was staged is kept. It is written with their body.
+pub fn law_holds()
+    ensures none { Holds [] empty_group }
+    ensures more { (commands : Commands) (command : Command (List ℕ)) (group : GroupState) → Holds commands group → HasRecord command
+        → Holds (commands ++ command ∷ []) (with_record group command) }
+    ensures body { (commands : Commands) (group : GroupState) → Holds commands group → group_body group ≡ body_of commands }
+{}
+
+/// The places that a group tells are those of its commands at its gate, one after the other: each record stands after the one
+/// before, and the gate after the last. A command told so, or with its payload inline, is the same but for the payload.
+pub fn law_places()
+    ensures told { (gate : ℕ) (commands : Commands) (command : Command (List ℕ)) (group : GroupState) → Holds commands group
+        → placed_group gate (commands ++ command ∷ []) ≡ placed_group gate commands ++ placed_at (record_place gate group) command ∷ [] }
+    ensures next { (gate : ℕ) (command : Command (List ℕ)) (group : GroupState)
+        → record_place gate (with_record group command) ≡ record_place gate group + record_length length command }
+    ensures after { (gate : ℕ) (group : GroupState) → gate + (5 + length (group_body group)) ≡ record_place gate group }
+    ensures alike { (place : ℕ) (command : Command (List ℕ)) → IsCommandAlike (placed_at place command) command }
+    ensures inline { (command : Command (List ℕ)) → IsCommandAlike (map_command Inline command) command }
+{}
+
+/// A command that was staged, told with its place, is one that an index may go on by, as its record and the gate after it lie in
+/// the segment, where no new one is due.
+pub fn law_brought()
+    ensures brought { (g : Geometry) (segment used gate : ℕ) (commands : Commands) (command : Command (List ℕ)) (group : GroupState)
+        → segment < g.segments → segment_place g segment ≤ gate → (IsDue g (gate - segment_place g segment) → ⊥)
+        → Holds commands group → length commands < 64 → HasRecord command → segment_place g segment ≤ used → used ≤ record_place gate group
+        → IsBrought g segment used (record_place gate group + record_length length command) (placed_at (record_place gate group) command) }
+    ensures room { (g : Geometry) (segment gate : ℕ) (commands : Commands) (group : GroupState)
+        → segment_place g segment ≤ gate → (IsDue g (gate - segment_place g segment) → ⊥) → Holds commands group → length commands ≤ 64
+        → gate + 6 + length (group_body group) ≤ segment_end g segment }
+{}
+
+/// A group was written. On an honest disk it stands at its gate, all other bytes are as they were, and its commands with their
+/// payloads by place stand for the commands.
+pub fn law_grouped<D: Disk>(old: &D, new: &D)
+    ensures stands { (gate end : ℕ) (commands : Commands) (group : GroupState) → Holds commands group → IsIn 1 64 (length commands)
+        → Makes D.state (appending gate (group_body group)) true old.now new.now → (D.state old.now).honest
+        → gate + 6 + length (group_body group) ≤ end → end ≤ (D.state old.now).size → HoldsGroup (D.state new.now).seen gate end (body_of commands) }
+    ensures outside { (gate : ℕ) (commands : Commands) (group : GroupState) → Holds commands group → IsIn 1 64 (length commands)
+        → Makes D.state (appending gate (group_body group)) true old.now new.now → (D.state old.now).honest
+        → gate + 6 + length (group_body group) ≤ (D.state old.now).size
+        → SameOutside gate (6 + length (group_body group)) (D.state old.now).seen (D.state new.now).seen }
+    ensures commands { (gate : ℕ) (commands : Commands) (group : GroupState) → Holds commands group → IsIn 1 64 (length commands)
+        → Makes D.state (appending gate (group_body group)) true old.now new.now → (D.state old.now).honest
+        → gate + 6 + length (group_body group) ≤ (D.state old.now).size
+        → map (map_command (payload_in (D.state new.now).seen)) (placed_group gate commands) ≡ commands }
+{}
+
+/// The device has a group at a gate. An index goes on by each part of its commands from the first on, and stands for what the
+/// commands make of the spool with bytes: of a group that a round wrote, and of one that an opening reads.
+pub fn law_gathered<D: Disk>(disk: &D)
+    ensures index { (g : Geometry) (segment gate end : ℕ) (commands more : Commands) (s : State Stored) → segment < g.segments
+        → segment_place g segment ≤ gate → end ≤ segment_end g segment → gate + 6 + length (body_of (commands ++ more)) ≤ end → IsIndex g segment gate s
+        → IsIndex g segment (gate + 5 + length (body_of commands)) (fold stored_length s (placed_group gate commands)) }
+    ensures kept { (g : Geometry) (segment gate end : ℕ) (commands more : Commands) (s : State Stored) (t : State (List ℕ))
+        → IsLayout g (D.state disk.now).size → segment < g.segments → segment_place g segment ≤ gate → end ≤ segment_end g segment
+        → gate + 6 + length (body_of (commands ++ more)) ≤ end
+        → ((D.state disk.now).honest → HoldsGroup (D.state disk.now).seen gate end (body_of (commands ++ more)))
+        → IsIndex g segment gate s → IsKept (D.state disk.now) s t
+        → IsKept (D.state disk.now) (fold stored_length s (placed_group gate commands)) (fold length t commands) }
+{}

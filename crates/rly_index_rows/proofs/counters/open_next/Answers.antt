@@ -1,0 +1,57 @@
+use Rattle.std.proofs.Common.{ℕ, ◌≡◌, ◌+◌, ◌≤◌, arith, ap, length, subst, sym, ◌∙◌}
+use Rattle.std.proofs.lemmas.List.{length-replicate}
+use Rattle.rly_core.specs.declared.params.Geometry.{Geometry}
+use Rattle.rly_machine.specs.Sound.{IsSound}
+use Rattle.rly_machine.specs.State.{Spool, State}
+use Rattle.rly_checkpoint.specs.Stored.{stored_form, stored_length}
+use Rattle.rly_checkpoint.specs.declared.stored.Place.{Place}
+use Rattle.rly_checkpoint.specs.declared.stored.Stored.{Stored}
+use Rattle.rly_places.specs.Places.{live_in}
+use Rattle.rly_places.specs.Room.{drawn_state, inline_bytes}
+use Rattle.rly_places.proofs.Rooms.{live_length}
+use Rattle.rly_segment.specs.Heads.{IsHeadOf, gate_after}
+use Rattle.rly_moving.specs.Moving.{unread}
+use Rattle.rly_drawing.specs.Drawing.{IsSameButForBytes}
+use Rattle.rly_index_rows.proofs.Opening.{may_hold, same_gate}
+use Rattle.rly_index_rows.proofs.counters.open_next.Goals as goal
+
+long : (place : Place) → length (unread place) ≡ place.length
+long place = length-replicate place.length 0
+
+pub open_segment-requires-clause-head : goal.open_segment-requires-clause-head
+open_segment-requires-clause-head e c =
+    let g = c.args.index.now.geometry in
+    let s = c.args.index.now.spool.state in
+    let victim : ℕ = c.choose-choice.result.victim in
+    let target : ℕ = c.choose-choice.result.target in
+    let copy : State Stored = c.in-Ok.copy.state in
+    let drawn : State Stored = drawn_state g victim unread s in
+    let holds = c.law_index.ensures.holds in
+    let same : IsSameButForBytes copy drawn =
+    subst (λ (h : Geometry). IsSameButForBytes copy (drawn_state h victim unread s)) c.geometry-geometry.ensures
+    (subst (λ (m : Spool Stored). IsSameButForBytes copy (drawn_state c.geometry-geometry.result victim unread m.state)) c.machine.ensures c.in-Ok.ensures.lengths) in
+    let sound : IsSound stored_length copy = c.law_but_for_bytes.ensures.sound drawn copy (sym same) (c.law_drawn.ensures.sound g victim unread s long c.law_index.ensures.sound) in
+    let bytes : inline_bytes copy ≡ inline_bytes s + live_in g victim s =
+    c.law_but_for_bytes.ensures.inline copy drawn same ∙ c.law_drawn.ensures.bytes g victim unread s long in
+    let most : 2 ≤ copy.seq + 1 = omega (arith, c.seq-seq.ensures) in
+    subst (λ (h : Geometry). IsHeadOf stored_length stored_form h target 2 copy) (sym c.geometry-geometry.ensures)
+    (may_hold g target victim 2 s copy same holds.params c.choose-choice.ensures.room sound bytes holds.index.inline (omega arith) most)
+
+pub moved-requires-clause-victim : goal.moved-requires-clause-victim
+moved-requires-clause-victim e c =
+    omega (arith, c.choose-choice.ensures.victim.there, live_length c.args.index.now.geometry c.args.index.now.spool.state)
+
+pub moved-requires-clause-gate : goal.moved-requires-clause-gate
+moved-requires-clause-gate e c =
+    let g = c.args.index.now.geometry in
+    let s = c.args.index.now.spool.state in
+    let victim : ℕ = c.choose-choice.result.victim in
+    let target : ℕ = c.choose-choice.result.target in
+    let copy : State Stored = c.in-Ok.copy.state in
+    let drawn : State Stored = drawn_state g victim unread s in
+    let same : IsSameButForBytes copy drawn =
+    subst (λ (h : Geometry). IsSameButForBytes copy (drawn_state h victim unread s)) c.geometry-geometry.ensures
+    (subst (λ (m : Spool Stored). IsSameButForBytes copy (drawn_state c.geometry-geometry.result victim unread m.state)) c.machine.ensures c.in-Ok.ensures.lengths) in
+    c.in-Ok-open_segment.ensures.gate
+    ∙ ap (λ (h : Geometry). gate_after stored_length stored_form h target copy) c.geometry-geometry.ensures
+    ∙ same_gate g target victim 2 s copy same (c.law_but_for_bytes.ensures.spelled copy drawn same)

@@ -1,0 +1,280 @@
+//! The live bytes of each segment, from the head that was read to the next opening.
+ghost use Rattle.std.specs.Prelude.{IsTrue};
+ghost use Rattle.rly_keeping.specs.Keeping.{IsBrought, LiesBetween};
+ghost use Rattle.rly_segment.specs.Device.{IsLayout, device_length};
+
+use rly_checkpoint::{Place, Stored};
+use rly_core::limits::{MAX_SEGMENTS, SEGMENT_LENGTH_LIMIT};
+use rly_core::{Geometry, HopId, Params, PeerId, Refusal};
+use rly_disk::{Disk, MemDisk};
+use rly_drawing::{DrawingFault, draw, law_but_for_bytes};
+use rly_index::Index;
+use rly_machine::{Command, Payload, Reply};
+use rly_places::{Choice, law_drawn};
+use rly_reclaim::fits;
+use rly_segment::{HeadFault, OpeningFault, Target, open_segment, read_placed_head, segment_end};
+use std::alloc::{AllocError, Global};
+use std::process::Abort;
+use std::test::Fail;
+
+/// One hop, one peer, a window of 64, 64 items and 76,800 bytes, on four segments of the least length. They begin at 64, 105,772,
+/// 211,480 and 317,188, and the device ends at 422,896. CoDel may drop whenever a byte waits behind a datagram.
+const FOUR: Geometry = Geometry {
+    params: Params {
+        hops: 1,
+        peers: 1,
+        window: 64,
+        items: 64,
+        bytes: 76_800,
+        maxpacket: 0,
+        ..Params::DEFAULT
+    },
+    segments: 4,
+    length: 105_708,
+};
+
+const SIZE: usize = 422_896;
+
+/// What stands after the gate of the first segment: the head of generation 1. One datagram is in flight, whose three bytes lie at
+/// 105,900, in the second segment. Three wait: two bytes of the first lie at 211,600, in the third; those of the others are inline.
+const HEAD: [u8; 196] = [
+    // the generation, and the length of the state: 184 bytes
+    0, 0, 0, 0, 0, 0, 0, 1, 0, 0, 0, 184,
+    // five commands were accepted, and the last number of peer 1 is 4; hop 1's last moment is 20
+    0, 0, 0, 0, 0, 0, 0, 5, 0, 0, 0, 0, 0, 0, 0, 4, 0, 0, 0, 0, 0, 0, 0, 20,
+    // CoDel's state
+    0, 0, 0, 0, 0, 0, 0, 0, 0, 0, 0, 0, 0, 0, 0, 0, 0, 0, 0, 0, 0, 0, 0, 0, 0, 0, 0, 0, 0, 0, 0, 0,
+    0,
+    // four datagrams were taken, none dropped and none released
+    0, 0, 0, 0, 0, 0, 0, 4, 0, 0, 0, 0, 0, 0, 0, 0, 0, 0, 0, 0, 0, 0, 0, 0,
+    // one is in flight, and three wait
+    0, 1, 0, 0, 0, 3,
+    // the id, stamp, length, form and place of two
+    0, 0, 0, 0, 0, 0, 0, 1, 0, 0, 0, 0, 0, 0, 0, 10, 0, 3, 1, 0, 0, 0, 0, 0, 1, 0x9d, 0xac, 0, 0,
+    0, 0, 0, 0, 0, 2, 0, 0, 0, 0, 0, 0, 0, 20, 0, 2, 1, 0, 0, 0, 0, 0, 3, 0x3a, 0x90,
+    // the id, stamp, length and form of two, with their bytes, which lie at 237 and 260
+    0, 0, 0, 0, 0, 0, 0, 3, 0, 0, 0, 0, 0, 0, 0, 20, 0, 4, 0, 0x61, 0x62, 0x63, 0x64, 0, 0, 0, 0,
+    0, 0, 0, 4, 0, 0, 0, 0, 0, 0, 0, 20, 0, 1, 0, 0x65,
+];
+
+/// Whether a device of so many bytes may have that geometry.
+fn may_have(geometry: &Geometry, size: u64) -> bool
+    ensures device { IsTrue result → IsLayout geometry.now size }
+    ensures alone { IsTrue result → IsLayout geometry.now (device_length geometry.now) }
+{
+    geometry.params.check().is_ok()
+        && (2..=MAX_SEGMENTS).contains(&geometry.segments)
+        && geometry.length < SEGMENT_LENGTH_LIMIT
+        && fits(geometry)
+        && 64 + geometry.segments * geometry.length <= size
+}
+
+/// A disk whose first segment has that head.
+fn disk_of(alloc: Global) -> Result<MemDisk, AllocError> {
+    let mut bytes = vec![in alloc; 0u8; SIZE]?;
+    bytes[64] = 0xa5;
+    bytes[65..261].copy_from_slice(&HEAD);
+    Ok(MemDisk::new(alloc, bytes))
+}
+
+/// The index of that head.
+fn index_of(rt: &impl Abort, alloc: Global, disk: &mut MemDisk) -> Result<Index, AllocError> {
+    assert!(rt; may_have(&FOUR, disk.size()));
+    match read_placed_head(alloc, disk, &FOUR, 0) {
+        Ok(head) => Ok(Index::begin(FOUR, 0, head)),
+        Err(HeadFault::OutOfMemory) => Err(AllocError),
+        Err(_) => panic!(rt; "no head"),
+    }
+}
+
+/// Whether a payload has no bytes, or lies by place from one place up to another.
+fn lies_between(from: u64, to: u64, payload: &Stored) -> bool
+    ensures { IsTrue result → LiesBetween from to payload.now }
+{
+    match payload {
+        Stored::Inline(payload) => payload.as_slice().is_empty(),
+        Stored::Placed(place) => {
+            1 <= place.length
+                && from <= place.start
+                && place.start <= to
+                && u64::from(place.length) <= to - place.start
+        }
+    }
+}
+
+/// Whether a command's record may lie in the current segment up to a place.
+fn is_brought(index: &Index, next: u64, command: &Command<Stored>) -> bool
+    ensures { IsTrue result → IsBrought index.now.geometry index.now.segment index.now.used next command.now }
+{
+    index.law_index();
+    let used = index.used();
+    if next < used || segment_end(&index.geometry(), index.segment()) < next {
+        return false;
+    }
+    match command {
+        Command::Take { payload, .. } => lies_between(used, next, payload),
+        Command::Pick { .. } | Command::Release { .. } => true,
+    }
+}
+
+/// Has the index make a step with a command whose record takes so many bytes.
+fn step(
+    rt: &impl Abort,
+    alloc: Global,
+    index: &mut Index,
+    bytes: u64,
+    command: Command<Stored>,
+) -> Result<Reply, AllocError> {
+    let next = index.used().saturating_add(bytes);
+    assert!(rt; is_brought(index, next, &command));
+    let room = index.reserve_for(alloc, &command)?;
+    Ok(index.apply(command, room, next))
+}
+
+/// Opens the next segment, with generation 2, as a journal will: its head holds a copy of the spool in which the victim's payloads are inline.
+fn open_next(
+    rt: &impl Abort,
+    alloc: Global,
+    disk: &mut MemDisk,
+    index: &mut Index,
+) -> Result<(), AllocError> {
+    law_drawn();
+    law_but_for_bytes();
+    index.law_index();
+    let geometry = index.geometry();
+    let choice = index.choose();
+    assert!(rt; may_have(&geometry, disk.size()));
+    let copy = match draw(
+        alloc,
+        disk,
+        &geometry,
+        choice.victim as u64,
+        index.machine(),
+    ) {
+        Ok(copy) => copy,
+        Err(DrawingFault::OutOfMemory) => return Err(AllocError),
+        Err(DrawingFault::Device) => panic!(rt; "a read failed"),
+    };
+    assert!(rt; may_have(&geometry, disk.size()));
+    let seq = copy.seq();
+    assert!(rt; seq >= 1);
+    let target = Target {
+        segment: choice.target as u64,
+        closed: true,
+    };
+    match open_segment(alloc, disk, &geometry, target, 2, &copy) {
+        Ok(gate) => {
+            index.moved(choice, gate);
+            Ok(())
+        }
+        Err(OpeningFault::OutOfMemory) => Err(AllocError),
+        Err(OpeningFault::Device) => panic!(rt; "a write failed"),
+    }
+}
+
+/// Picks at a moment.
+fn pick(now: u64) -> Command<Stored> {
+    Command::Pick { hop: HopId(1), now }
+}
+
+/// Releases what is in flight up to a number.
+fn release(number: u64) -> Command<Stored> {
+    Command::Release {
+        hop: HopId(1),
+        number,
+    }
+}
+
+/// Takes six bytes at a place under a number.
+fn take(number: u64, start: u64) -> Command<Stored> {
+    Command::Take {
+        peer: PeerId(1),
+        number,
+        hop: HopId(1),
+        stamp: 200_000,
+        payload: Stored::Placed(Place { start, length: 6 }),
+    }
+}
+
+/// The live bytes of each segment.
+fn live(index: &Index) -> [u64; 4] {
+    let mut live = [0; 4];
+    for (segment, bytes) in live.iter_mut().enumerate() {
+        if (segment as u64) < index.geometry().segments {
+            *bytes = index.live_in(segment as u64);
+        }
+    }
+    live
+}
+
+/// Whether a datagram went into flight under a number, and one was dropped or none.
+fn is_picked(reply: &Reply, at: u64, of: u64, gone: &[u64]) -> bool {
+    match reply {
+        Reply::Picked {
+            number,
+            id,
+            dropped,
+        } => *number == at && *id == of && dropped.as_slice() == gone,
+        _ => false,
+    }
+}
+
+/// Five bytes that the head has inline lie in its own segment from now on.
+#[test]
+fn a_head_that_was_read_is_counted(rt: HostRuntime) -> Result<(), Fail> {
+    let alloc = rt.alloc();
+    let index = index_of(&rt, alloc, &mut disk_of(alloc)?)?;
+    expect!(rt; live(&index) == [5, 3, 2, 0]);
+    expect!(rt; index.segment() == 0 && index.used() == 261);
+    expect!(rt; index.choose() == Choice { target: 3, victim: 2 });
+    let [hop] = index.machine().hops() else {
+        panic!(rt; "not one hop");
+    };
+    assert!(rt; hop.queue.len() == 3);
+    expect!(rt; matches!(&hop.queue.item(1).payload, Stored::Placed(Place { start: 237, length: 4 })));
+    expect!(rt; matches!(&hop.queue.item(2).payload, Stored::Placed(Place { start: 260, length: 1 })));
+    Ok(())
+}
+
+/// A Pick that drops takes off the bytes of what it drops, a Release those of what it names, and a Take adds its own to the current
+/// segment. A refused command changes nothing.
+#[test]
+fn commands_change_the_counters(rt: HostRuntime) -> Result<(), Fail> {
+    let alloc = rt.alloc();
+    let mut index = index_of(&rt, alloc, &mut disk_of(alloc)?)?;
+    let reply = step(&rt, alloc, &mut index, 20, pick(10_000))?;
+    expect!(rt; is_picked(&reply, 2, 2, &[]) && live(&index) == [5, 3, 2, 0]);
+    let reply = step(&rt, alloc, &mut index, 20, pick(200_000))?;
+    expect!(rt; is_picked(&reply, 3, 4, &[3]) && live(&index) == [1, 3, 2, 0]);
+    let reply = step(&rt, alloc, &mut index, 20, release(2))?;
+    expect!(rt; matches!(&reply, Reply::Released(2)) && live(&index) == [1, 0, 0, 0]);
+    expect!(rt; index.used() == 321);
+    let reply = step(&rt, alloc, &mut index, 20, release(9))?;
+    expect!(rt; matches!(&reply, Reply::Refused(Refusal::NeverSent)) && index.used() == 321);
+    let reply = step(&rt, alloc, &mut index, 100, take(5, 350))?;
+    expect!(rt; matches!(&reply, Reply::Taken(9)) && live(&index) == [7, 0, 0, 0]);
+    let reply = step(&rt, alloc, &mut index, 100, take(9, 430))?;
+    expect!(rt; matches!(&reply, Reply::Refused(Refusal::Gap(6))) && live(&index) == [7, 0, 0, 0]);
+    expect!(rt; index.used() == 421);
+    expect!(rt; index.choose() == Choice { target: 1, victim: 2 });
+    Ok(())
+}
+
+/// The second of the datagrams, whose two bytes lie in the victim, lies in the new head after it: 317,188 with 13 bytes, 87 of the
+/// spool, 27 of the first entry and 19 of its own before it.
+#[test]
+fn the_victims_bytes_move(rt: HostRuntime) -> Result<(), Fail> {
+    let alloc = rt.alloc();
+    let mut disk = disk_of(alloc)?;
+    let mut index = index_of(&rt, alloc, &mut disk)?;
+    open_next(&rt, alloc, &mut disk, &mut index)?;
+    expect!(rt; live(&index) == [5, 3, 0, 2]);
+    expect!(rt; index.segment() == 3 && index.used() == 317_390);
+    expect!(rt; index.choose() == Choice { target: 2, victim: 3 });
+    let [hop] = index.machine().hops() else {
+        panic!(rt; "not one hop");
+    };
+    assert!(rt; hop.queue.len() == 3);
+    expect!(rt; matches!(&hop.queue.item(0).payload, Stored::Placed(Place { start: 317_334, length: 2 })));
+    Ok(())
+}

@@ -1,0 +1,154 @@
+//! The payloads that a round's Fetches ask for are read from the device.
+ghost use Rattle.std.specs.Prelude.{◌↔◌, All, IsTrue};
+ghost use Rattle.rly_fetching.specs.Fetching.{IsThereFor};
+
+use rly_checkpoint::{Place, Stored};
+use rly_core::Refusal;
+use rly_disk::{After, Disk, DiskCall, FaultDisk, MemDisk, ToldCall, Watched};
+use rly_fetching::{Outcome, answer_all, place_of, read_payload, refuse_all};
+use rly_machine::{Answer, Payload, Reply, SeatId};
+use std::alloc::{AllocError, Global};
+use std::test::Fail;
+
+/// A disk in memory of 256 bytes, each the number of its place, of which the second call fails.
+fn disk_of(alloc: Global) -> Result<Watched<FaultDisk<MemDisk>>, AllocError> {
+    let mut bytes = vec![in alloc; 0u8; 256]?;
+    for (place, byte) in bytes.iter_mut().enumerate() {
+        *byte = (place & 0xff) as u8;
+    }
+    let told = Vec::with_capacity(alloc, 8)?;
+    let inner = FaultDisk::new(MemDisk::new(alloc, bytes), 2, 0, After::GoesOn);
+    Ok(Watched::new(inner, told))
+}
+
+/// Whether the place that a call wants, if it wants one, lies on a device of so many bytes.
+fn is_there(outcome: &Outcome, size: u64) -> bool
+    ensures { IsTrue result ↔ IsThereFor size outcome.now }
+{
+    match outcome {
+        Outcome::Wanted {
+            place: Some(place),
+            ..
+        } => place.start <= size && u64::from(place.length) <= size - place.start,
+        Outcome::Wanted { place: None, .. } | Outcome::Answered(_) => true,
+    }
+}
+
+/// Whether those of all calls do.
+fn are_there(outcomes: &[Outcome], size: u64) -> bool
+    ensures { IsTrue result ↔ All (λ outcome. IsThereFor size outcome) outcomes.now }
+{
+    outcomes.iter().all(|outcome| is_there(outcome, size))
+}
+
+/// So many bytes from there on.
+fn place(start: u64, length: u16) -> Option<Place> {
+    Some(Place { start, length })
+}
+
+/// A Fetch under a number, at a position, of a payload that lies at a place, if it has bytes.
+fn wanted(number: u64, position: u64, place: Option<Place>) -> Outcome {
+    Outcome::Wanted {
+        seat: SeatId(7),
+        number,
+        position,
+        place,
+    }
+}
+
+/// A call that is answered already.
+fn answered(number: u64) -> Outcome {
+    Outcome::Answered(Answer {
+        seat: SeatId(8),
+        number,
+        reply: Reply::Nothing,
+        position: 50,
+    })
+}
+
+/// What is told of a read.
+fn read_of(place: u64, count: u64, failed: bool) -> ToldCall {
+    ToldCall {
+        call: DiskCall::Read { place, count },
+        failed,
+    }
+}
+
+/// Whether a reply gives these bytes.
+fn gives(reply: &Reply, bytes: &[u8]) -> bool {
+    match reply {
+        Reply::Bytes(payload) => payload.as_slice() == bytes,
+        _ => false,
+    }
+}
+
+/// The second of three reads fails: its call alone is answered 13. A payload without bytes isn't read.
+#[test]
+fn a_failed_read_refuses_its_call_alone(rt: HostRuntime) -> Result<(), Fail> {
+    let alloc = rt.alloc();
+    let mut disk = disk_of(alloc)?;
+    let mut outcomes = vec![in alloc;
+        wanted(1, 41, place(10, 3)),
+        answered(2),
+        wanted(3, 43, None),
+        wanted(4, 44, place(20, 2)),
+        wanted(5, 45, place(255, 1)),
+    ]?;
+    assert!(rt; are_there(&outcomes, disk.size()));
+    let mut answers = Vec::with_capacity(alloc, 5)?;
+    answer_all(alloc, &mut disk, &mut outcomes, &mut answers);
+    let reads = [
+        read_of(10, 3, false),
+        read_of(20, 2, true),
+        read_of(255, 1, false),
+    ];
+    expect!(rt; disk.told() == reads.as_slice());
+    let [first, second, third, fourth, fifth] = answers.as_slice() else {
+        panic!(rt; "not five answers");
+    };
+    expect!(rt; gives(&first.reply, &[10, 11, 12]));
+    expect!(rt; first.seat == SeatId(7) && first.number == 1 && first.position == 41);
+    expect!(rt; matches!(second.reply, Reply::Nothing) && second.seat == SeatId(8) && second.position == 50);
+    expect!(rt; gives(&third.reply, &[]));
+    expect!(rt; matches!(fourth.reply, Reply::Refused(Refusal::DeviceRead)) && fourth.number == 4 && fourth.position == 44);
+    expect!(rt; gives(&fifth.reply, &[255]));
+    expect!(rt; outcomes.is_empty());
+    Ok(())
+}
+
+/// Where the round's commands may not be durable, each of its calls is refused and nothing is read.
+#[test]
+fn an_unsure_round_reads_nothing(rt: HostRuntime) -> Result<(), Fail> {
+    let alloc = rt.alloc();
+    let mut outcomes = vec![in alloc; wanted(1, 20, None), answered(2)]?;
+    let mut answers = Vec::with_capacity(alloc, 2)?;
+    refuse_all(&mut outcomes, &mut answers, Refusal::Unsure, 30);
+    let [first, second] = answers.as_slice() else {
+        panic!(rt; "not two answers");
+    };
+    expect!(rt; matches!(first.reply, Reply::Refused(Refusal::Unsure)) && first.number == 1 && first.position == 30);
+    expect!(rt; matches!(second.reply, Reply::Refused(Refusal::Unsure)) && second.number == 2 && second.position == 30);
+    expect!(rt; outcomes.is_empty());
+    Ok(())
+}
+
+/// One payload alone.
+#[test]
+fn a_payload_is_read(rt: HostRuntime) -> Result<(), Fail> {
+    let alloc = rt.alloc();
+    let mut disk = disk_of(alloc)?;
+    assert!(rt; disk.size() == 256);
+    let place = Place {
+        start: 1,
+        length: 4,
+    };
+    let there = place_of(&Stored::Placed(place));
+    assert!(rt; there == Some(place));
+    let found = read_payload(alloc, &mut disk, Some(place));
+    expect!(rt; matches!(&found, Ok(payload) if payload.as_slice() == [1, 2, 3, 4].as_slice()));
+    let failed = read_payload(alloc, &mut disk, Some(place));
+    expect!(rt; matches!(failed, Err(Refusal::DeviceRead)));
+    let empty = Stored::Inline(Payload::new(Vec::new(alloc)));
+    expect!(rt; place_of(&empty).is_none());
+    Ok(())
+}
