@@ -32,7 +32,7 @@ fn is_appended(rt: &impl Abort, disk: &mut FaultDisk<MemDisk>) -> bool {
     append_group(disk, 0, &mut frame).is_ok()
 }
 
-/// Reads the group there, if one stands there, and says whether it has that body.
+/// Reads the group there, if one stands there, and says whether it has that body, in less than 64 bytes of memory.
 fn has_body<D: Disk>(
     rt: &impl Abort,
     alloc: Global,
@@ -41,7 +41,7 @@ fn has_body<D: Disk>(
 ) -> Result<Option<bool>, GroupFault> {
     assert!(rt; disk.size() == 256 && place < 256);
     match read_group(alloc, disk, place, 256)? {
-        Some(body) => Ok(Some(body.as_slice() == BODY.as_slice())),
+        Some(body) => Ok(Some(body.as_slice() == BODY.as_slice() && body.capacity() < 64)),
         None => Ok(None),
     }
 }

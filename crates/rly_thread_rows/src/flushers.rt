@@ -29,7 +29,7 @@ fn flusher_on<R: Abort, D: Disk + Drop>(
     requires { (1 ≤ seats) × (seats ≤ 256) }
 {
     let journal = Journal::open(alloc, disk).ok().expect(rt, "a journal");
-    let Ok((seats, line)) = make(alloc, 64, seats) else {
+    let Ok((seats, line)) = make(alloc, 256, seats) else {
         panic!(rt; "memory");
     };
     let flusher = Flusher::new(alloc, journal, line).ok().expect(rt, "memory");
@@ -95,29 +95,29 @@ fn line_row_2(rt: HostRuntime) {
     expect!(rt; finished.journal.position() == 1);
 }
 
-/// A flusher ends once each seat was left, though what is left of them is still there.
+/// A flusher ends once each of 200 seats was left, though what is left of them is still there.
 #[test]
 fn seats_that_are_left_end_the_flusher(rt: HostRuntime) {
     let alloc = rt.alloc();
-    let (seats, flusher) = flusher_on(&rt, alloc, device(&rt, alloc), 3);
+    let (seats, flusher) = flusher_on(&rt, alloc, device(&rt, alloc), 200);
     let mut left = Vec::new(alloc);
     for seat in seats {
         left.push(seat.leave(&rt)).expect(&rt, "memory");
     }
     let finished = flusher.serve(&rt);
-    expect!(rt; left.len() == 3);
+    expect!(rt; left.len() == 200);
     expect!(rt; !finished.broken);
     expect!(rt; finished.journal.position() == 0);
 }
 
-/// It waits for two seats less where it was told that two are gone.
+/// It waits for 199 seats less where it was told that so many are gone.
 #[test]
 fn seats_that_are_gone_are_forgotten(rt: HostRuntime) {
     let alloc = rt.alloc();
-    let (mut seats, mut flusher) = flusher_on(&rt, alloc, device(&rt, alloc), 3);
-    let seat = seats.pop().expect(&rt, "three seats");
+    let (mut seats, mut flusher) = flusher_on(&rt, alloc, device(&rt, alloc), 200);
+    let seat = seats.pop().expect(&rt, "a seat");
     drop(seats);
-    flusher.forget(2);
+    flusher.forget(199);
     let asking = thread::spawn(&rt, move || {
         let mut seat = seat;
         let reply = take_at(&rt, alloc, &mut seat, 1, 1);

@@ -190,3 +190,16 @@ fn an_answer_is_lost(rt: HostRuntime) {
     drop(line);
     expect!(rt; asking.join(&rt));
 }
+
+/// A line that is closed says so to the last of 200 seats, though its end is still there: the call that was taken is lost.
+#[test]
+fn a_closed_line_tells_each_seat(rt: HostRuntime) {
+    let (seat, mut line) = last_of(&rt, rt.alloc(), 200);
+    let asking = thread::spawn(&rt, move || is_lost(&rt, seat))
+        .ok()
+        .expect(&rt, "a thread");
+    let batch = line.wait(&rt).expect(&rt, "a batch");
+    expect!(rt; batch.len() == 1);
+    let _closed = line.close(&rt);
+    expect!(rt; asking.join(&rt));
+}
