@@ -11,7 +11,8 @@ use Rattle.rly_journal.specs.Journal.{JournalState}
 use Rattle.rly_journal.specs.Standing.{Stands}
 use Rattle.rly_machine.specs.State.{State, live_items}
 use Rattle.rly_segment.specs.Calls.{formatting, new_head}
-use Rattle.rly_segment.specs.Device.{IsGeometry, device_length}
+use Rattle.rly_segment.specs.Device.{device_length}
+use Rattle.rly_journal.specs.Layout.{IsGeometry}
 use Rattle.rly_daemon.specs.FileDisk.{file_state}
 use Rattle.rly_daemon.specs.declared.file_disk.FileDisk.{FileDisk}
 use Rattle.rly_daemon.specs.declared.formatting.UseFault.{UseFault}

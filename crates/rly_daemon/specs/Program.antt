@@ -15,7 +15,8 @@ use Rattle.rly_journal.specs.Journal.{JournalState}
 use Rattle.rly_machine.specs.State.{State, new_state}
 use Rattle.rly_reporter.specs.declared.reporter.ReporterEnd.{ReporterEnd}
 use Rattle.rly_reporter.specs.declared.reporter.ReporterEnd.TheVariants.{Closed, Paced}
-use Rattle.rly_segment.specs.Device.{IsGeometry, device_length}
+use Rattle.rly_segment.specs.Device.{device_length}
+use Rattle.rly_journal.specs.Layout.{IsGeometry}
 use Rattle.rly_settings.specs.declared.given.Settings.{Settings}
 use Rattle.rly_settings.specs.declared.given.Settings.TheVariants.{Sim, Format, Play, Audit, Serve, Key, Plan}
 use Rattle.rly_daemon.specs.FileDisk.{file_state}

@@ -1,5 +1,6 @@
 ghost use Rattle.std.specs.Prelude.{◌≡◌, ◌↔◌, IfOk, IsOk, IsOkUnless};
-ghost use Rattle.rly_segment.specs.Device.{IsGeometry, device_length};
+ghost use Rattle.rly_segment.specs.Device.{device_length};
+ghost use Rattle.rly_journal.specs.Layout.{IsGeometry};
 ghost use Rattle.rly_daemon.specs.Formatting.{wanted_geometry};
 
 use rly_core::limits::{SEGMENT_LENGTH_LIMIT, SEGMENTS};

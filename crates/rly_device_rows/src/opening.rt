@@ -1,6 +1,6 @@
 //! Devices that are formatted and segments that are opened, stopped at each call.
 ghost use Rattle.std.specs.Prelude.{IsTrue};
-ghost use Rattle.rly_segment.specs.Device.{IsGeometry};
+ghost use Rattle.rly_segment.specs.Device.{IsLayout};
 
 use rly_core::limits::{SEGMENT_LENGTH_LIMIT, SEGMENTS};
 use rly_core::{Geometry, Params};
@@ -129,12 +129,20 @@ fn a_bad_geometry_is_refused(rt: HostRuntime) -> Result<(), Fail> {
         length: 82_907,
         ..DEVICE_E
     };
-    let three = Geometry {
-        segments: 3,
-        length: 60_000,
+    let one = Geometry {
+        segments: 1,
         ..DEVICE_E
     };
-    for (geometry, size) in [(short, SIZE), (three, SIZE), (DEVICE_E, SIZE - 1)] {
+    let three = Geometry {
+        segments: 3,
+        ..DEVICE_E
+    };
+    for (geometry, size) in [
+        (short, SIZE),
+        (one, SIZE),
+        (three, SIZE),
+        (DEVICE_E, SIZE - 1),
+    ] {
         expect_bad_geometry(&rt, rt.alloc(), &geometry, size)?;
     }
     Ok(())
@@ -188,7 +196,7 @@ fn a_crash_within_a_format(rt: HostRuntime) -> Result<(), Fail> {
 
 /// Whether a device of so many bytes may have a geometry.
 fn may_have(geometry: &Geometry, size: u64) -> bool
-    ensures { IsTrue result → IsGeometry geometry.now size }
+    ensures { IsTrue result → IsLayout geometry.now size }
 {
     geometry.params.check().is_ok()
         && geometry.segments == SEGMENTS

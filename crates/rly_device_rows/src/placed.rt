@@ -1,6 +1,6 @@
 //! Heads whose payloads stand inline or by place, byte by byte.
 ghost use Rattle.std.specs.Prelude.{IsTrue};
-ghost use Rattle.rly_segment.specs.Device.{IsGeometry};
+ghost use Rattle.rly_segment.specs.Device.{IsLayout};
 
 use rly_checkpoint::{DecodeFault, Place, Stored, read_state};
 use rly_core::limits::{SEGMENT_LENGTH_LIMIT, SEGMENTS};
@@ -68,7 +68,7 @@ const START: [u8; 13] = [0xa5, 0, 0, 0, 0, 0, 0, 0, 6, 0, 0, 0, 0x99];
 
 /// Whether a device of so many bytes may have a geometry.
 fn may_have(geometry: &Geometry, size: u64) -> bool
-    ensures { IsTrue result → IsGeometry geometry.now size }
+    ensures { IsTrue result → IsLayout geometry.now size }
 {
     geometry.params.check().is_ok()
         && geometry.segments == SEGMENTS

@@ -13,7 +13,7 @@ use Rattle.rly_gate.proofs.Frames.{length-frame}
 use Rattle.rly_record.specs.Spelling.{HaveBody, body_of}
 use Rattle.rly_reclaim.specs.Room.{group_room}
 use Rattle.rly_segment.specs.Answers.{AreClosed}
-use Rattle.rly_segment.specs.Device.{IsGeometry}
+use Rattle.rly_segment.specs.Device.{IsLayout}
 use Rattle.rly_segment.specs.Heads.{segment_end, segment_place}
 use Rattle.rly_segment.proofs.Segments.{segment_within}
 use Rattle.rly_journal.specs.declared.tail.Tail.{Tail}
@@ -59,7 +59,7 @@ closed_still g segment gate n old new closed above within long before outside u 
 pub logged_within : (old : List ℕ) (tail : Tail) (s : State (List ℕ)) → IsLogged old tail s → segment_end tail.geometry tail.segment ≤ length old
 logged_within old tail s logged =
     segment_within tail.geometry tail.segment (length old)
-    (subst (λ h. IsGeometry h (length old)) (sym logged.ends.geometry) logged.stands.scanned.fits)
+    (subst (λ h. IsLayout h (length old)) (sym logged.ends.geometry) logged.stands.scanned.fits)
     (subst (λ k. k < tail.geometry.segments) (sym logged.ends.segment) (subst (λ h. logged.x.segment < h.segments) (sym logged.ends.geometry) logged.stands.scanned.newest.there))
 
 -- the group of some commands, after what stands for a state
@@ -92,7 +92,7 @@ module _ (tail : Tail) (commands : Commands) (s : State (List ℕ)) (body : Have
       let gate : tail.gate ≡ gate_of x = logged.ends.gate in
       let end = same_end x logged.ends in
       let within : gate_of x + 1 + length (frame_of (body_of commands)) ≤ standing_end x = omega (arith, gate, room, end, length-frame (body_of commands)) in
-      let fits : IsGeometry tail.geometry (length old) = subst (λ h. IsGeometry h (length old)) (sym logged.ends.geometry) logged.stands.scanned.fits in
+      let fits : IsLayout tail.geometry (length old) = subst (λ h. IsLayout h (length old)) (sym logged.ends.geometry) logged.stands.scanned.fits in
       let inside = logged_within old tail s logged in
       let long : length (group_of (body_of commands)) ≡ 6 + length (body_of commands) = omega (arith, length-frame (body_of commands)) in
       let fit : tail.gate + length (group_of (body_of commands)) ≤ length old = omega (arith, long, room, inside) in

@@ -16,7 +16,7 @@ use Rattle.rly_checkpoint.proofs.Sizes.{checkpoint_length}
 use Rattle.rly_gate.specs.Group.{IsClosed, StandsAt, open_gate}
 use Rattle.rly_gate.proofs.Durable.{AreWrites}
 use Rattle.rly_segment.specs.Answers.{AreClosed}
-use Rattle.rly_segment.specs.Device.{IsGeometry}
+use Rattle.rly_segment.specs.Device.{IsLayout}
 use Rattle.rly_segment.specs.Heads.{IsHead, IsOpening, first_gate, opened_head, segment_place}
 use Rattle.rly_segment.specs.Heads.{head_of as head_of_state}
 use Rattle.rly_segment.proofs.Replacing.{opening_end, opening_image, replacing_synced, replacing_writes}
@@ -25,6 +25,7 @@ use Rattle.rly_segment.proofs.Standing.{stands_front}
 use Rattle.rly_journal.specs.declared.tail.Tail.{Tail}
 use Rattle.rly_journal.specs.Calls as calls
 use Rattle.rly_journal.specs.Calls.{renewing}
+use Rattle.rly_journal.specs.Layout.{IsGeometry}
 use Rattle.rly_journal.specs.Log.{EndsAt, IsFull, IsLogged}
 use Rattle.rly_journal.specs.HelpersJournal.{IsShaped}
 use Rattle.rly_journal.specs.Standing.{Standing, Stands, state_in}
@@ -32,6 +33,7 @@ use Rattle.rly_journal.proofs.Frame.{length-head}
 use Rattle.rly_journal.proofs.Inlining.{gate_inline}
 use Rattle.rly_journal.proofs.Agreeing.{other_bytes}
 use Rattle.rly_journal.proofs.Growing.{byte_there, opened, renewed, with_segment}
+use Rattle.rly_journal.proofs.Layouts.{layout_of}
 
 -- a head that holds a state finds room in any segment
 pub head_for : (g : Geometry) (size t n : ℕ) (s : State (List ℕ)) → IsGeometry g size → IsSound length s → s.params ≡ g.params → n ≤ s.seq → IsHead g t (n + 1) s
@@ -84,16 +86,17 @@ head_of tail x s t ends state head =
     (subst (λ r. IsHead tail.geometry t (tail.generation + 1) r) state head))
 
 -- a crash within the opening leaves what stands for the state
-pub renewed_image : (tail : Tail) (s : State (List ℕ)) (t : ℕ) (old image : List ℕ) → IsLogged old tail s → IsSound length s
+pub renewed_image : (tail : Tail) (s : State (List ℕ)) (t : ℕ) (old image : List ℕ) → tail.geometry.segments ≡ 2 → IsLogged old tail s → IsSound length s
     → t < tail.geometry.segments → t ≢ tail.segment → IsHead tail.geometry t (tail.generation + 1) s
     → IsOpening tail.geometry t (tail.generation + 1) s old image → Stands image s
-renewed_image tail s t old image logged sound below other head left =
+renewed_image tail s t old image two logged sound below other head left =
     let x : Standing = logged.x in
+    let two_x : x.geometry.segments ≡ 2 = subst (λ g. g.segments ≡ 2) logged.ends.geometry two in
     let below_x : t < x.geometry.segments = subst (λ g. t < g.segments) logged.ends.geometry below in
     let other_x : t ≢ x.segment = λ e. other (e ∙ sym logged.ends.segment) in
     let sound_x : IsSound length (state_in x) = subst (IsSound length) logged.state sound in
     let head_x = head_of tail x s t logged.ends logged.state head in
-    elim (renewed x t logged.stands below_x other_x sound_x head_x (omega (arith, head_x.most, sound_x.seq)) image (opening_of tail x s t old image logged.ends logged.state left)) [
+    elim (renewed x t two_x logged.stands below_x other_x sound_x head_x (omega (arith, head_x.most, sound_x.seq)) image (opening_of tail x s t old image logged.ends logged.state left)) [
       | inl before ↦ (x, before, logged.state)
       | inr after ↦ (with_segment x t, after, logged.state)
     ]
@@ -129,7 +132,7 @@ renewed_logged tail s t gate old new logged sound below other head is count writ
     let g : Geometry = tail.geometry in
     let place : ℕ = segment_place tail.geometry t in
     let bytes : List ℕ = opened_head (tail.generation + 1) s in
-    let fits : IsGeometry tail.geometry (length old) = subst (λ h. IsGeometry h (length old)) (sym logged.ends.geometry) logged.stands.scanned.fits in
+    let fits : IsLayout tail.geometry (length old) = subst (λ h. IsLayout h (length old)) (sym logged.ends.geometry) logged.stands.scanned.fits in
     let within = segment_within tail.geometry t (length old) fits below in
     let count_bytes : length (opened_head (tail.generation + 1) s) ≡ 14 + length (checkpoint_of s) =
     omega (arith, length-append (head_of_state (tail.generation + 1) s) (0 ∷ []), length-head (tail.generation + 1) s) in
@@ -159,7 +162,7 @@ renewed_logged tail s t gate old new logged sound below other head is count writ
         gate = is ∙ ap (λ h. first_gate h t s) logged.ends.geometry ∙ ap (first_gate x.geometry t) logged.state ∙ sym (gate_inline x.geometry t (state_in x));
       };
       state = logged.state;
-      gates = closed_again tail.geometry t tail.closed old new (omega (arith, count, fits.segments)) below (omega (arith, fits.fits)) logged.gates outside (λ shut. shut gate_open);
+      gates = closed_again tail.geometry t tail.closed old new (omega (arith, count, fits.segments.1)) below (omega (arith, fits.fits)) logged.gates outside (λ shut. shut gate_open);
     }
 
 -- ---- the other of two segments
@@ -194,15 +197,15 @@ module _ {size : ℕ} (tail : Tail) (s : State (List ℕ)) (shaped : IsShaped si
 
   pub renew_image : (old image : List ℕ) → length old ≡ size → IsLogged old tail s → images_within (renewing tail s) old (λ d. d ≡ old) image → Stands image s
   renew_image old image count logged left =
-      renewed_image tail s (other tail) old image logged sound there (other_apart tail) head_there
+      renewed_image tail s (other tail) old image shaped.geometry.segments logged sound there (other_apart tail) head_there
       (opening_image tail.geometry (other tail) (tail.generation + 1) s (get_or tail.closed (other tail) false) old image
-      (subst (IsGeometry tail.geometry) (sym count) shaped.geometry) there head_there (logged.gates (other tail) there) left)
+      (layout_of tail.geometry (length old) (subst (IsGeometry tail.geometry) (sym count) shaped.geometry)) there head_there (logged.gates (other tail) there) left)
 
   pub renew_logged : (old : List ℕ) → length tail.closed ≡ 256 → length old ≡ size → IsLogged old tail s → IsLogged (seen_at_end (renewing tail s) old) (calls.renewed tail s) s
   renew_logged old wide count logged =
       renewed_logged tail s (other tail) (first_gate tail.geometry (other tail) s) old (seen_at_end (renewing tail s) old) logged sound there (other_apart tail) head_there refl wide
       (opening_end tail.geometry (other tail) (tail.generation + 1) s (get_or tail.closed (other tail) false) old
-      (omega (arith, segment_within tail.geometry (other tail) size shaped.geometry there, head_there.room, count)))
+      (omega (arith, segment_within tail.geometry (other tail) size (layout_of tail.geometry size shaped.geometry) there, head_there.room, count)))
 
 pub renewing_synced : (tail : Tail) (s : State (List ℕ)) → AreSynced (renewing tail s)
 renewing_synced tail s =

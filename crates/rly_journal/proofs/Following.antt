@@ -14,7 +14,7 @@ use Rattle.rly_gate.specs.Reading.{OnlyRead}
 use Rattle.rly_gate.specs.declared.read.GroupFault.{GroupFault}
 use Rattle.rly_gate.specs.declared.read.GroupFault.TheVariants as group
 use Rattle.rly_segment.specs.Calls.{generation_reads, head_reads, header_reads}
-use Rattle.rly_segment.specs.Device.{IsGeometry, geometry_in}
+use Rattle.rly_segment.specs.Device.{IsLayout, geometry_in}
 use Rattle.rly_segment.specs.Heads.{segment_place}
 use Rattle.rly_journal.specs.declared.open_fault.OpenFault.{OpenFault}
 use Rattle.rly_journal.specs.declared.open_fault.OpenFault.TheVariants as fault
@@ -255,7 +255,7 @@ module _ {D : Type 0} (state : D → DiskState) {a b : D} {told : Bool} where
       by_length false made = front_first state (head_scan (geometry_in []) 0 0) made
 
   -- the generations were, up to one
-  pub newest_broken : {e : D} (g : Geometry) (size : ℕ) → IsGeometry g size → Makes state (header_reads size) true e a → Makes state (generation_reads g g.segments) told a b
+  pub newest_broken : {e : D} (g : Geometry) (size : ℕ) → IsLayout g size → Makes state (header_reads size) true e a → Makes state (generation_reads g g.segments) told a b
       → (h : Geometry) × (segment n : ℕ) × MakesFront state (head_scan h segment n) told e b
   newest_broken g size geometry header made =
       (g, 0, 0, front_joined state (header_whole state size (omega (arith, geometry.room)) header) (front_first state (head_reads (segment_place g 0) (Some 0)) made))
@@ -265,7 +265,7 @@ module _ {D : Type 0} (state : D → DiskState) {a b : D} {told : Bool} where
   head_front place None made = (0, front_first state (Read (place + 13) 0 ∷ []) made)
   head_front place (Some n) made = (n, front_all state made)
 
-  pub head_unread : {e f : D} (g : Geometry) (segment size : ℕ) (body : Option ℕ) → IsGeometry g size → Makes state (header_reads size) true e f
+  pub head_unread : {e f : D} (g : Geometry) (segment size : ℕ) (body : Option ℕ) → IsLayout g size → Makes state (header_reads size) true e f
       → Makes state (generation_reads g g.segments) true f a → Makes state (head_reads (segment_place g segment) body) told a b
       → (h : Geometry) × (s n : ℕ) × MakesFront state (head_scan h s n) told e b
   head_unread g segment size body geometry header generations made =
@@ -273,7 +273,7 @@ module _ {D : Type 0} (state : D → DiskState) {a b : D} {told : Bool} where
       (g, segment, read.0, front_joined state (header_whole state size (omega (arith, geometry.room)) header) (front_joined state generations read.1))
 
 -- and all of it
-pub head_whole : {D : Type 0} (state : D → DiskState) {a b e f : D} (g : Geometry) (segment size n gate : ℕ) (body : Option ℕ) → IsGeometry g size → body ≡ Some n
+pub head_whole : {D : Type 0} (state : D → DiskState) {a b e f : D} (g : Geometry) (segment size n gate : ℕ) (body : Option ℕ) → IsLayout g size → body ≡ Some n
     → gate ≡ segment_place g segment + 13 + n → Makes state (header_reads size) true e f
     → Makes state (generation_reads g g.segments) true f a → Makes state (head_reads (segment_place g segment) body) true a b
     → (k : ℕ) × (gate ≡ segment_place g segment + 13 + k) × Makes state (head_scan g segment k) true e b

@@ -7,7 +7,7 @@ use Rattle.rly_record.specs.Spelling.{body_of}
 use Rattle.rly_checkpoint.specs.Checkpoint.{checkpoint_of, inline_form, state_spelled}
 use Rattle.rly_checkpoint.specs.Stored.{stored_form, stored_length}
 use Rattle.rly_checkpoint.specs.Stored.{state_in as state_over}
-use Rattle.rly_segment.specs.Device.{IsDevice, IsGeometry, device_mark, geometry_in}
+use Rattle.rly_segment.specs.Device.{IsDevice, IsLayout, device_mark, geometry_in}
 use Rattle.rly_segment.specs.Heads.{IsNewest, IsPassedOver, generation_in, head_of, head_spelled, segment_place}
 use Rattle.rly_segment.specs.PlacedHeads.{HoldsPlaced}
 use Rattle.rly_journal.specs.Standing.{Commands, HoldGroups, IsScanned, IsStanding, Standing, next_gate, standing_end, first_of, gate_behind, gate_of}
@@ -107,7 +107,7 @@ pub frame_scanned : {old new : List ℕ} (x : Standing) → SameReads x old new 
 frame_scanned {old} {new} x same scanned = record {
   device = device_still same.header scanned.device;
   geometry = scanned.geometry ∙ sym (geometry_still same.header);
-  fits = subst (IsGeometry x.geometry) (sym same.header.same_length) scanned.fits;
+  fits = subst (IsLayout x.geometry) (sym same.header.same_length) scanned.fits;
   newest = newest_still x same.heads same.own scanned.newest;
   head = head_still x same.own scanned.head;
   payloads = scanned.payloads ∙ sym same.payloads;

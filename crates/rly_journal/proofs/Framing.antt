@@ -19,7 +19,7 @@ use Rattle.rly_checkpoint.specs.Stored.{state_in as state_over}
 use Rattle.rly_checkpoint.specs.declared.stored.Stored.{Stored}
 use Rattle.rly_checkpoint.specs.declared.stored.Stored.TheVariants.{Inline, Placed}
 use Rattle.rly_places.specs.Placed.{LiesElsewhere}
-use Rattle.rly_segment.specs.Device.{IsGeometry}
+use Rattle.rly_segment.specs.Device.{IsLayout}
 use Rattle.rly_segment.specs.Heads.{IsOpeningOf, IsPassedOver, segment_place}
 use Rattle.rly_segment.proofs.Segments.{segment_within}
 use Rattle.rly_journal.specs.Framing.{IsHeadFor, IsUntouched, SamePayload}
@@ -34,14 +34,14 @@ use Rattle.rly_journal.proofs.Inlining.{elsewhere_still, lies_still, state_same}
 abbrev Whole : List ℕ → Stored → Type 0
 Whole image payload = length (payload_in image payload) ≡ stored_length payload
 
-lies_whole : (image : List ℕ) (g : Geometry) (own : ℕ) (payload : Stored) → IsGeometry g (length image) → LiesElsewhere g own payload → Whole image payload
+lies_whole : (image : List ℕ) (g : Geometry) (own : ℕ) (payload : Stored) → IsLayout g (length image) → LiesElsewhere g own payload → Whole image payload
 lies_whole image g own (Inline payload) fits lies = refl
 lies_whole image g own (Placed place) fits lies =
     let there = lies.1.2 in
     let within : place.start + place.length ≤ length image = omega (arith, there.to, segment_within g lies.1.0 (length image) fits there.there) in
     omega (arith, within, length-take ((place.start + place.length) - place.start) (drop place.start image), length-drop place.start image)
 
-all_whole : (image : List ℕ) (g : Geometry) (own : ℕ) (s : State Stored) → IsGeometry g (length image) → All (LiesElsewhere g own) (payloads_of s)
+all_whole : (image : List ℕ) (g : Geometry) (own : ℕ) (s : State Stored) → IsLayout g (length image) → All (LiesElsewhere g own) (payloads_of s)
     → All (Whole image) (payloads_of s)
 all_whole image g own s fits lie = All-weaker (LiesElsewhere g own) (Whole image) (λ p lies. lies_whole image g own p fits lies) (payloads_of s) lie
 
@@ -133,7 +133,7 @@ state_stored {image} x scanned = ap (λ t. replayed t x.groups) scanned.payloads
 pub untouched : {old new : List ℕ} (x : Standing) → IsStanding old x → IsUntouched x old new → IsStanding new (read_in new x) × (state_in (read_in new x) ≡ state_in x)
 untouched {old} {new} x stands same =
     let scanned = stands.scanned in
-    let fits : IsGeometry x.geometry (length new) = subst (IsGeometry x.geometry) (sym same.header.same_length) scanned.fits in
+    let fits : IsLayout x.geometry (length new) = subst (IsLayout x.geometry) (sym same.header.same_length) scanned.fits in
     let whole_old = head_whole x scanned in
     let whole_new = all_whole new x.geometry x.segment x.head fits scanned.head.placed.elsewhere in
     let now : IsScanned new (read_in new x) = record {

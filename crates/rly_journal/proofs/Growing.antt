@@ -8,6 +8,7 @@ use Rattle.rly_disk.specs.DiskModel.{SameOutside}
 use Rattle.rly_machine.specs.Fold.{fold, AllAccepted}
 use Rattle.rly_machine.specs.Sound.{IsSound}
 use Rattle.rly_machine.specs.State.{State, new_state}
+use Rattle.rly_machine.proofs.Runs.{sound_from_new}
 use Rattle.rly_gate.specs.Group.{IsAppended, IsClosed, StandsAt, frame_of, group_of, open_gate}
 use Rattle.rly_gate.specs.Reading.{HoldsGroup}
 use Rattle.rly_disk.proofs.Ranges.{wider}
@@ -21,11 +22,12 @@ use Rattle.rly_checkpoint.specs.Stored.{state_in as state_over}
 use Rattle.rly_checkpoint.specs.declared.stored.Stored.TheVariants.{Inline}
 use Rattle.rly_checkpoint.proofs.Inlined.{bytes_inline}
 use Rattle.rly_gate.proofs.Frames.{length-frame}
-use Rattle.rly_segment.specs.Device.{IsGeometry, number_in}
+use Rattle.rly_segment.specs.Device.{IsLayout, number_in}
 use Rattle.rly_segment.specs.Formatted.{IsFormatted}
 use Rattle.rly_segment.specs.Heads.{IsHead, IsHeadOf, IsOpening, IsPassedOver, generation_in, head_of, head_spelled, opened_head, opened_spelled, segment_place}
+use Rattle.rly_segment.proofs.HeadWriting.{length-new}
 use Rattle.rly_segment.proofs.Standing.{stands_back, stands_front}
-use Rattle.rly_journal.specs.Standing.{AreAccepted, Commands, HoldGroups, IsScanned, IsStanding, Standing, next_gate, standing_end, first_of, gate_behind, gate_of, replayed, state_in}
+use Rattle.rly_journal.specs.Standing.{AreAccepted, Commands, HoldGroups, IsScanned, IsStanding, Standing, Stands, next_gate, standing_end, first_of, gate_behind, gate_of, replayed, state_in}
 use Rattle.rly_journal.specs.Framing.{SameBytes}
 use Rattle.rly_journal.proofs.Agreeing.{apart, number_of_bytes, number_still, other_bytes, same_before, same_behind}
 use Rattle.rly_journal.proofs.Frame.{SameReads, device_still, frame, frame_scanned, gate_above, geometry_still, length-group, length-head, length-spelled}
@@ -171,7 +173,7 @@ opened_with {old} {new} x t s checkpoint stands below other sound head placed sm
       scanned = record {
         device = device_still header stands.scanned.device;
         geometry = stands.scanned.geometry ∙ sym (geometry_still header);
-        fits = subst (IsGeometry x.geometry) (sym header.same_length) stands.scanned.fits;
+        fits = subst (IsLayout x.geometry) (sym header.same_length) stands.scanned.fits;
         newest = record {
           there = below;
           gate = byte_there new place open_gate gate;
@@ -201,7 +203,7 @@ pub opened : {old new : List ℕ} (x : Standing) (t : ℕ) → IsStanding old x 
 opened {old} {new} x t stands below other sound head small outside whole =
     let s : State (List ℕ) = state_in x in
     opened_with x t (map_state Inline s) s stands below other (inline_sound s sound) (inline_is_head x.geometry t (x.generation + 1) s head)
-    (inline_placed x.geometry t s stands.scanned.fits.segments below) small (sym (bytes_inline new s)) outside
+    (inline_placed x.geometry t s stands.scanned.fits.segments.0) small (sym (bytes_inline new s)) outside
     (subst (λ (text : List ℕ). StandsAt new (segment_place x.geometry t) (open_gate ∷ text ++ 0 ∷ [])) (sym (head_inline (x.generation + 1) s)) whole)
 
 -- the first closed gate lies in the segment
@@ -214,14 +216,14 @@ pub gate_of-within : {image : List ℕ} (x : Standing) → IsScanned image x →
 gate_of-within {image} x scanned = gate_within image (standing_end x) (first_of x) x.groups (omega (arith, scanned.head.head.head.room)) scanned.groups
 
 -- the payloads of the head are as they were: on two segments all are inline
-same_payloads : {old : List ℕ} (new : List ℕ) (x : Standing) → IsScanned old x → state_over new x.head ≡ state_over old x.head
-same_payloads {old} new x scanned =
-    payloads_still old new x.head (inline_payloads x.geometry x.segment x.head scanned.fits.segments scanned.newest.there scanned.head.placed)
+same_payloads : {old : List ℕ} (new : List ℕ) (x : Standing) → x.geometry.segments ≡ 2 → IsScanned old x → state_over new x.head ≡ state_over old x.head
+same_payloads {old} new x two scanned =
+    payloads_still old new x.head (inline_payloads x.geometry x.segment x.head two scanned.newest.there scanned.head.placed)
 
 -- a new head that isn't there, or not whole
-passed : {old new : List ℕ} (x : Standing) (t : ℕ) → IsStanding old x → t ≢ x.segment
+passed : {old new : List ℕ} (x : Standing) (t : ℕ) → x.geometry.segments ≡ 2 → IsStanding old x → t ≢ x.segment
     → SameOutside (segment_place x.geometry t) x.geometry.length old new → IsPassedOver x.geometry t old new → IsStanding new x
-passed {old} {new} x t stands other outside over =
+passed {old} {new} x t two stands other outside over =
     let within = gate_of-within x stands.scanned in
     let own = other_bytes x.geometry x.segment t other outside in
     let above = gate_above (first_of x) x.groups in
@@ -233,16 +235,16 @@ passed {old} {new} x t stands other outside over =
         | inr differs ↦ other_heads x.geometry t u (omega (arith, long_segments stands.scanned)) differs outside
       ];
       own = record { same_length = own.same_length; each = λ i low high. own.each i low (omega (arith, high, within)) };
-      payloads = same_payloads new x stands.scanned;
+      payloads = same_payloads new x two stands.scanned;
     }) (λ now_open. stands.closed (sym gate ∙ now_open)) stands
 
 -- what a crash within the opening of a segment leaves: the standing as it was, or with the new segment
-pub renewed : {old : List ℕ} (x : Standing) (t : ℕ) → IsStanding old x → t < x.geometry.segments → t ≢ x.segment
+pub renewed : {old : List ℕ} (x : Standing) (t : ℕ) → x.geometry.segments ≡ 2 → IsStanding old x → t < x.geometry.segments → t ≢ x.segment
     → IsSound length (state_in x) → IsHead x.geometry t (x.generation + 1) (state_in x) → x.generation + 1 < 2 ^ 64
     → (image : List ℕ) → IsOpening x.geometry t (x.generation + 1) (state_in x) old image → IsStanding image x ⊎ IsStanding image (with_segment x t)
-renewed x t stands below other sound head small image left =
+renewed x t two stands below other sound head small image left =
     elim left.whole [
-      | inl over ↦ inl (passed x t stands other left.outside over)
+      | inl over ↦ inl (passed x t two stands other left.outside over)
       | inr whole ↦ inr (opened x t stands below other sound head small left.outside whole)
     ]
 
@@ -252,7 +254,7 @@ renewed x t stands below other sound head small image left =
 abbrev pub new_standing : Geometry → Standing
 new_standing g = record { geometry = g; segment = 0; generation = 1; head = map_state Inline (new_state g.params); checkpoint = new_state g.params; groups = [] }
 
-pub formatted : {image : List ℕ} (g : Geometry) → IsFormatted g image → IsHead g 0 1 (new_state g.params) → IsSound {P = List ℕ} length (new_state g.params) → IsStanding image (new_standing g)
+formatted : {image : List ℕ} (g : Geometry) → IsFormatted g image → IsHead g 0 1 (new_state g.params) → IsSound {P = List ℕ} length (new_state g.params) → IsStanding image (new_standing g)
 formatted {image} g is head sound =
     let place : ℕ = segment_place g 0 in
     let front : List ℕ = open_gate ∷ head_of 1 (new_state g.params) in
@@ -267,14 +269,24 @@ formatted {image} g is head sound =
         geometry = sym is.geometry;
         fits = is.fits;
         newest = record {
-          there = omega (arith, is.fits.segments);
+          there = omega (arith, is.fits.segments.0);
           gate = byte_there image place open_gate gate;
           newest = λ u small_u apart_u opened_u. absurd (is.others u (omega (arith, apart_u)) small_u opened_u);
         };
-        head = inline_holds image g 0 1 (new_state g.params) is.fits.segments (omega (arith, is.fits.segments)) (record { bytes = bytes; sound = sound; head = head });
+        head = inline_holds image g 0 1 (new_state g.params) is.fits.segments.0 (record { bytes = bytes; sound = sound; head = head });
         payloads = sym (bytes_inline image (new_state g.params));
         groups = tt;
         accepted = tt;
       };
       closed = closed_there image (gate_of (new_standing g)) (subst (λ k. StandsAt image k (0 ∷ [])) ends last);
     }
+
+pub formatted_stands : (g : Geometry) (image : List ℕ) → IsFormatted g image → Stands image (new_state g.params)
+formatted_stands g image is =
+    let head : IsHead g 0 1 (new_state g.params) = record {
+      params = refl;
+      least = omega arith;
+      most = omega arith;
+      room = omega (arith, is.fits.fits, length-new g.params);
+    } in
+    (new_standing g, formatted g is head (sound_from_new length g.params [] is.fits.params), refl)

@@ -1,5 +1,5 @@
 -- Heads whose payloads are inline or lie elsewhere. A device of two segments has no heads but those with every payload inline.
-use Rattle.std.proofs.Common.{◌≡◌, ◌≢◌, ◌<◌, ◌+◌, ◌-◌, ◌++◌, ◌∷◌, [], ◌∙◌, ℕ, List, length, length-append, map, get_or, arith, sym, ap, refl, subst}
+use Rattle.std.proofs.Common.{◌≡◌, ◌≢◌, ◌≤◌, ◌<◌, ◌+◌, ◌-◌, ◌++◌, ◌∷◌, [], ◌∙◌, ℕ, List, length, length-append, map, arith, sym, ap, refl, subst}
 use Rattle.std.specs.Prelude.{All}
 use Rattle.std.specs.List.{flat_map}
 use Rattle.std.proofs.lemmas.List.{get_or_append_left, get_or-append-add, map-append, map-id}
@@ -184,14 +184,14 @@ inline_is_head g segment generation s head = record {
   room = omega (arith, gate_inline g segment s, head.room);
 }
 
-pub inline_placed : (g : Geometry) (segment : ℕ) (s : State (List ℕ)) → g.segments ≡ 2 → segment < g.segments → IsPlaced g segment (map_state Inline s)
-inline_placed g segment s two below = record {
+pub inline_placed : (g : Geometry) (segment : ℕ) (s : State (List ℕ)) → 2 ≤ g.segments → IsPlaced g segment (map_state Inline s)
+inline_placed g segment s two = record {
   elsewhere = state_mapped (LiesElsewhere g segment) Inline (λ payload. tt) s;
   left = (
     1 - segment,
     record {
-      there = omega (arith, two, below);
-      other = λ same. omega (arith, same, two, below);
+      there = omega (arith, two);
+      other = λ same. omega (arith, same);
       none = state_mapped (LiesNotIn g (1 - segment)) Inline (λ payload. tt) s;
     },
   );
@@ -211,15 +211,15 @@ bytes_head image g segment generation s head = record {
 }
 
 -- a head of bytes is one of payloads inline
-pub inline_holds : (image : List ℕ) (g : Geometry) (segment generation : ℕ) (s : State (List ℕ)) → g.segments ≡ 2 → segment < g.segments
+pub inline_holds : (image : List ℕ) (g : Geometry) (segment generation : ℕ) (s : State (List ℕ)) → 2 ≤ g.segments
     → HoldsHead image g segment generation s → HoldsPlaced image g segment generation (map_state Inline s)
-inline_holds image g segment generation s two below head = record {
+inline_holds image g segment generation s two head = record {
   head = record {
     bytes = subst (StandsAt image (segment_place g segment + 1)) (sym (head_inline generation s)) head.bytes;
     sound = inline_sound s head.sound;
     head = inline_is_head g segment generation s head.head;
   };
-  placed = inline_placed g segment s two below;
+  placed = inline_placed g segment s two;
 }
 
 -- and there is no other

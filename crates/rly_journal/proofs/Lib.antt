@@ -4,6 +4,7 @@ pub mod Growing
 pub mod Inlining
 pub mod Framing
 pub mod Lying
+pub mod Layouts
 pub mod Once
 pub mod Gathering
 pub mod Serving

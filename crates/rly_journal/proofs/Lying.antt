@@ -10,7 +10,7 @@ use Rattle.rly_gate.specs.Reading.{HoldsGroup}
 use Rattle.rly_machine.specs.declared.command.Command.{Command}
 use Rattle.rly_machine.specs.declared.command.Command.TheVariants.{Take, Pick, Release}
 use Rattle.rly_machine.specs.Fold.{fold}
-use Rattle.rly_machine.specs.Map.{KeepsLengths, map_command, map_state, payload_of, payloads_of}
+use Rattle.rly_machine.specs.Map.{KeepsLengths, map_command, payload_of, payloads_of}
 use Rattle.rly_machine.specs.State.{State}
 use Rattle.rly_machine.proofs.Lifting.{fold_map}
 use Rattle.rly_record.specs.Spelling.{body_of, record_length, record_of}

@@ -1,5 +1,5 @@
 -- What is read of an image is one standing: no image stands for two states.
-use Rattle.std.proofs.Common.{◌≡◌, ◌<◌, ◌+◌, ◌^◌, ◌++◌, ◌∷◌, [], ◌∙◌, ℕ, List, length, take, drop, arith, sym, ap, refl, subst, inl, inr}
+use Rattle.std.proofs.Common.{◌≡◌, ◌+◌, ◌++◌, ◌∷◌, [], ◌∙◌, ℕ, List, length, take, drop, arith, sym, ap, refl, subst, inl, inr}
 use Rattle.std.proofs.lemmas.Bool.{cases_eq}
 use Rattle.byteorder.specs.Endian.{big_bytes}
 use Rattle.rly_core.specs.declared.params.Geometry.{Geometry}
@@ -16,9 +16,8 @@ use Rattle.rly_checkpoint.proofs.Fitness.{one_spelled}
 use Rattle.rly_checkpoint.proofs.StoredForms.{stored_forms}
 use Rattle.rly_segment.specs.Heads.{IsNewest}
 use Rattle.rly_segment.specs.PlacedHeads.{HoldsPlaced}
-use Rattle.rly_segment.specs.Device.{IsGeometry}
+use Rattle.rly_segment.specs.Device.{IsLayout}
 use Rattle.rly_segment.proofs.PlacedHeads.{forms_of, stored_once}
-use Rattle.rly_segment.proofs.Segments.{layout_of}
 use Rattle.rly_journal.specs.Standing.{Commands, HoldGroups, IsStanding, Standing, Stands, next_gate, standing_end, first_of, gate_behind, state_in}
 use Rattle.rly_segment.proofs.Standing.{stands_back, stands_front}
 use Rattle.rly_journal.proofs.Growing.{byte_there}
@@ -39,12 +38,11 @@ newest_once {image} g s t first second =
     ]
 
 -- two heads of one segment
-pub head_once : {image : List ℕ} (g : Geometry) (segment n m : ℕ) (a b : State Stored) → IsGeometry g (length image)
+pub head_once : {image : List ℕ} (g : Geometry) (segment n m : ℕ) (a b : State Stored) → IsLayout g (length image)
     → HoldsPlaced image g segment n a → HoldsPlaced image g segment m b → (n ≡ m) × (a ≡ b)
 head_once {image} g segment n m a b geometry one other =
-    let layout = layout_of g (length image) geometry in
     stored_once (one_spelled stored_forms) image g segment n m a b geometry.length one.head other.head
-    (forms_of g (length image) segment a layout one.placed) (forms_of g (length image) segment b layout other.placed)
+    (forms_of g (length image) segment a geometry one.placed) (forms_of g (length image) segment b geometry other.placed)
 
 -- two bodies after one gate
 pub body_there_once : {image : List ℕ} (at end : ℕ) (a b : List ℕ) → HoldsGroup image at end a → HoldsGroup image at end b → a ≡ b

@@ -19,17 +19,19 @@ use Rattle.rly_checkpoint.specs.declared.stored.Stored.{Stored}
 use Rattle.rly_checkpoint.specs.declared.stored.Stored.TheVariants.{Inline}
 use Rattle.rly_checkpoint.proofs.Inlined.{bytes_inline}
 use Rattle.rly_segment.specs.Answers.{AreClosed, HoldsNoHead}
-use Rattle.rly_segment.specs.Device.{IsDevice, IsGeometry, geometry_in}
+use Rattle.rly_segment.specs.Device.{IsDevice, geometry_in}
 use Rattle.rly_segment.specs.Heads.{HoldsHead, IsAmbiguous, IsNewest, first_gate, segment_end, segment_place}
 use Rattle.rly_journal.specs.declared.open_fault.OpenFault.TheVariants.{Damaged}
 use Rattle.rly_journal.specs.declared.tail.Tail.{Tail}
-use Rattle.rly_journal.specs.Faults.{HasNewestHead, IsRefused}
+use Rattle.rly_journal.specs.Faults.{HasNewestHead, IsBroken, IsRefused}
+use Rattle.rly_journal.specs.Layout.{IsGeometry}
 use Rattle.rly_journal.specs.Log.{EndsAt}
 use Rattle.rly_journal.specs.HelpersJournal.{IsReplayed, IsShaped}
 use Rattle.rly_segment.specs.PlacedHeads.{HoldsPlaced}
 use Rattle.rly_journal.specs.Standing.{Commands, IsScanned, Standing, standing_end, first_of, gate_of}
 use Rattle.rly_journal.proofs.Growing.{accepted-more, gate_behind-more, groups-more, replayed-more, with_group}
 use Rattle.rly_journal.proofs.Inlining.{gate_inline, holds_none, inline_holds}
+use Rattle.rly_journal.proofs.Layouts.{geometry_of, layout_of}
 use Rattle.rly_journal.proofs.Once.{body_there_once, gate_there}
 
 -- ---- commands that are made again
@@ -146,35 +148,43 @@ replayed_more image tail commands body s t gate so_far holds have spelled accept
 
 -- ---- no group of accepted commands stands at the end
 
-pub refused_at : (image : List ℕ) (tail : Tail) (s : State (List ℕ)) → IsReplayed image tail s → IsOpen image tail.gate
+pub broken_at : (image : List ℕ) (tail : Tail) (s : State (List ℕ)) → IsReplayed image tail s → IsOpen image tail.gate
     → ((commands : Commands) → HaveBody commands → HoldsGroup image tail.gate (segment_end tail.geometry tail.segment) (body_of commands) → AllAccepted length s commands → ⊥)
-    → IsRefused image (Damaged tail.gate)
-refused_at image tail s so_far gate none = (
-  so_far.scanned.device,
-  subst (λ g. IsGeometry g (length image)) so_far.scanned.geometry so_far.scanned.fits,
-  inr (inr (record {
-    x = so_far.x;
-    scanned = so_far.scanned;
-    at = so_far.ends.gate;
-    gate = gate;
-    none = λ commands have holds accepted.
-        none commands have (group_of_tail tail so_far.x (body_of commands) so_far.ends holds) (subst (λ m. AllAccepted length m commands) (sym so_far.state) accepted);
-  })),
-)
+    → IsBroken image tail.gate
+broken_at image tail s so_far gate none = record {
+  x = so_far.x;
+  scanned = so_far.scanned;
+  at = so_far.ends.gate;
+  gate = gate;
+  none = λ commands have holds accepted.
+      none commands have (group_of_tail tail so_far.x (body_of commands) so_far.ends holds) (subst (λ m. AllAccepted length m commands) (sym so_far.state) accepted);
+}
 
 -- no body stands there
-pub refused_body : (image : List ℕ) (tail : Tail) (s : State (List ℕ)) → IsReplayed image tail s → IsOpen image tail.gate
-    → HoldsNone image tail.gate (segment_end tail.geometry tail.segment) → IsRefused image (Damaged tail.gate)
-refused_body image tail s so_far gate none = refused_at image tail s so_far gate (λ commands have holds accepted. none (body_of commands) holds)
+pub broken_body : (image : List ℕ) (tail : Tail) (s : State (List ℕ)) → IsReplayed image tail s → IsOpen image tail.gate
+    → HoldsNone image tail.gate (segment_end tail.geometry tail.segment) → IsBroken image tail.gate
+broken_body image tail s so_far gate none = broken_at image tail s so_far gate (λ commands have holds accepted. none (body_of commands) holds)
 
 -- the body that stands there spells no commands that are all accepted
-pub refused_commands : (image : List ℕ) (tail : Tail) (body : List ℕ) (s : State (List ℕ)) → IsReplayed image tail s
+pub broken_commands : (image : List ℕ) (tail : Tail) (body : List ℕ) (s : State (List ℕ)) → IsReplayed image tail s
     → HoldsGroup image tail.gate (segment_end tail.geometry tail.segment) body
-    → ((commands : Commands) → HaveBody commands → body ≡ body_of commands → AllAccepted length s commands → ⊥) → IsRefused image (Damaged tail.gate)
-refused_commands image tail body s so_far holds none =
+    → ((commands : Commands) → HaveBody commands → body ≡ body_of commands → AllAccepted length s commands → ⊥) → IsBroken image tail.gate
+broken_commands image tail body s so_far holds none =
     let end : ℕ = segment_end tail.geometry tail.segment in
-    refused_at image tail s so_far (gate_there image tail.gate end body holds)
+    broken_at image tail s so_far (gate_there image tail.gate end body holds)
     (λ commands have other accepted. none commands have (body_there_once tail.gate end body (body_of commands) holds other) accepted)
+
+-- so a device of two segments is refused
+pub scanned_geometry : (image : List ℕ) (tail : Tail) (x : Standing) → tail.geometry ≡ x.geometry → tail.geometry.segments ≡ 2 → IsScanned image x → IsGeometry x.geometry (length image)
+scanned_geometry image tail x same two scanned = geometry_of x.geometry (length image) scanned.fits (subst (λ g. g.segments ≡ 2) same two)
+
+pub refused_broken : (image : List ℕ) (tail : Tail) (s : State (List ℕ)) → IsReplayed image tail s → tail.geometry.segments ≡ 2 → IsBroken image tail.gate
+    → IsRefused image (Damaged tail.gate)
+refused_broken image tail s so_far two broken = (
+  so_far.scanned.device,
+  subst (λ g. IsGeometry g (length image)) so_far.scanned.geometry (scanned_geometry image tail so_far.x so_far.ends.geometry two so_far.scanned),
+  inr (inr broken),
+)
 
 -- ---- the shape of the end
 
@@ -207,9 +217,9 @@ head_replayed image g segment generation gate closed s device named fits newest 
   scanned = record {
     device = device;
     geometry = named;
-    fits = fits;
+    fits = layout_of g (length image) fits;
     newest = newest;
-    head = inline_holds image g segment generation s fits.segments newest.there head;
+    head = inline_holds image g segment generation s (omega (arith, fits.segments)) head;
     payloads = sym (bytes_inline image s);
     groups = tt;
     accepted = tt;
@@ -235,8 +245,9 @@ has_newest image g segment device named fits newest = record {
   newest = subst (λ h. IsNewest image h segment) named newest;
 }
 
-pub scanned_newest : (image : List ℕ) (x : Standing) → IsScanned image x → HasNewestHead image
-scanned_newest image x scanned = has_newest image x.geometry x.segment scanned.device scanned.geometry scanned.fits scanned.newest
+pub scanned_newest : (image : List ℕ) (tail : Tail) (x : Standing) → tail.geometry ≡ x.geometry → tail.geometry.segments ≡ 2 → IsScanned image x → HasNewestHead image
+scanned_newest image tail x same two scanned =
+    has_newest image x.geometry x.segment scanned.device scanned.geometry (scanned_geometry image tail x same two scanned) scanned.newest
 
 -- the newest segment has no head that holds a state
 pub refused_head : (image : List ℕ) (g : Geometry) (segment place : ℕ) → IsDevice image → g ≡ geometry_in image → IsGeometry g (length image)

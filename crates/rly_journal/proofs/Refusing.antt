@@ -1,5 +1,5 @@
 -- An image that a check refuses stands for no state.
-use Rattle.std.proofs.Common.{◌≡◌, ◌≢◌, ◌<◌, ◌^◌, ◌++◌, ◌∷◌, [], ◌∙◌, ℕ, List, length, arith, sym, ap, subst, inl, inr}
+use Rattle.std.proofs.Common.{◌≡◌, ◌≢◌, ◌++◌, ◌∷◌, [], ◌∙◌, ℕ, List, length, arith, sym, ap, refl, subst, inl, inr}
 use Rattle.std.proofs.lemmas.Bool.{cases_eq}
 use Rattle.rly_core.specs.declared.params.Geometry.{Geometry}
 use Rattle.rly_gate.specs.Group.{IsClosed, IsOpen}
@@ -9,13 +9,14 @@ use Rattle.rly_machine.specs.State.{State}
 use Rattle.rly_record.specs.Spelling.{HaveBody, body_of}
 use Rattle.rly_record.proofs.Bodies.{body_once}
 use Rattle.rly_checkpoint.specs.Stored.{state_in as state_over}
-use Rattle.rly_segment.specs.Device.{IsGeometry, geometry_in}
+use Rattle.rly_segment.specs.Device.{IsLayout, geometry_in}
 use Rattle.rly_segment.specs.Heads.{IsAmbiguous, IsLastOfTie, IsNewest, generation_in}
 use Rattle.rly_journal.specs.declared.open_fault.OpenFault.{OpenFault}
 use Rattle.rly_journal.specs.declared.open_fault.OpenFault.TheVariants.{OutOfMemory, NotADevice, BadGeometry, Damaged, Device}
 use Rattle.rly_journal.specs.Faults.{IsDamagedAt, IsHeadless, IsOfImage, IsRefused}
 use Rattle.rly_segment.specs.PlacedHeads.{HoldsPlaced}
 use Rattle.rly_journal.specs.Standing.{AreAccepted, Commands, HoldGroups, IsScanned, IsStanding, Standing, Stands, next_gate, standing_end, first_of, gate_behind, gate_of, replayed, state_in}
+use Rattle.rly_journal.proofs.Layouts.{geometry_of}
 use Rattle.rly_journal.proofs.Once.{body_there_once, gate_there, head_once, newest_once}
 
 -- a segment whose head is the newest is none of several
@@ -83,7 +84,7 @@ not_headless {image} g place y same headless second =
     let segment : y.segment ≡ headless.segment = newest_once g y.segment headless.segment newest headless.newest in
     headless.none y.generation y.head (subst (λ k. HoldsPlaced image g k y.generation y.head) segment head)
 
-not_damaged : {image : List ℕ} (place : ℕ) (y : Standing) → IsDamagedAt image (geometry_in image) place → IsStanding image y → ⊥
+pub not_damaged : {image : List ℕ} (place : ℕ) (y : Standing) → IsDamagedAt image (geometry_in image) place → IsStanding image y → ⊥
 not_damaged {image} place y damaged second =
     elim damaged [
       | inl ambiguous ↦ not_ambiguous (geometry_in image) y.segment place (subst (λ h. IsNewest image h y.segment) second.scanned.geometry second.scanned.newest) ambiguous
@@ -92,10 +93,14 @@ not_damaged {image} place y damaged second =
           (λ commands have holds accepted. broken.none commands have (subst (λ k. HoldsGroup image k (standing_end broken.x) (body_of commands)) (sym broken.at) holds) accepted) second
     ]
 
--- an image that a check refuses stands for no state
-pub refused_stands_for_none : (image : List ℕ) (fault : OpenFault) → IsRefused image fault → IsOfImage fault → (s : State (List ℕ)) → Stands image s → ⊥
-refused_stands_for_none image NotADevice refused said s stands = refused stands.1.scanned.device
-refused_stands_for_none image BadGeometry refused said s stands = refused.1 (subst (λ h. IsGeometry h (length image)) stands.1.scanned.geometry stands.1.scanned.fits)
-refused_stands_for_none image (Damaged place) refused said s stands = not_damaged place stands.0 refused.2 stands.1
-refused_stands_for_none image OutOfMemory refused said s stands = said
-refused_stands_for_none image Device refused said s stands = said
+-- an image that a check refuses stands for no state, but for a device of another number of segments
+pub refused_stands_for_none : (image : List ℕ) (fault : OpenFault) → IsRefused image fault → IsOfImage fault → (s : State (List ℕ)) → Stands image s
+    → (fault ≡ BadGeometry) × ((geometry_in image).segments ≢ 2)
+refused_stands_for_none image NotADevice refused said s stands = absurd (refused stands.1.scanned.device)
+refused_stands_for_none image BadGeometry refused said s stands = (
+  refl,
+  λ two. refused.1 (geometry_of (geometry_in image) (length image) (subst (λ h. IsLayout h (length image)) stands.1.scanned.geometry stands.1.scanned.fits) two),
+)
+refused_stands_for_none image (Damaged place) refused said s stands = absurd (not_damaged place stands.0 refused.2 stands.1)
+refused_stands_for_none image OutOfMemory refused said s stands = absurd said
+refused_stands_for_none image Device refused said s stands = absurd said

@@ -7,12 +7,13 @@ use Rattle.rly_machine.specs.Fold.{AllAccepted}
 use Rattle.rly_gate.specs.Group.{IsOpen}
 use Rattle.rly_gate.specs.Reading.{HoldsGroup}
 use Rattle.rly_record.specs.Spelling.{HaveBody, body_of}
-use Rattle.rly_segment.specs.Device.{IsDevice, IsGeometry, geometry_in}
+use Rattle.rly_segment.specs.Device.{IsDevice, geometry_in}
 use Rattle.rly_segment.specs.Heads.{IsAmbiguous, IsNewest, segment_place}
 use Rattle.rly_journal.specs.declared.open_fault.OpenFault.{OpenFault}
 use Rattle.rly_journal.specs.declared.open_fault.OpenFault.TheVariants.{OutOfMemory, NotADevice}
 use Rattle.rly_journal.specs.declared.open_fault.OpenFault.TheVariants.{BadGeometry, Damaged, Device}
 use Rattle.rly_segment.specs.PlacedHeads.{HoldsNonePlaced}
+use Rattle.rly_journal.specs.Layout.{IsGeometry}
 use Rattle.rly_journal.specs.Standing.{Commands, IsScanned, Standing, standing_end, gate_of, state_in}
 
 -- the newest segment has no head that holds a state

@@ -4,9 +4,9 @@ use Rattle.std.specs.Prelude.{◌≡◌, ℕ, ◌+◌, ◌<◌, ◌≤◌, List,
 use Rattle.rly_disk.specs.DiskModel.{DiskState}
 use Rattle.rly_machine.specs.State.{State}
 use Rattle.rly_segment.specs.Answers.{AreClosed}
-use Rattle.rly_segment.specs.Device.{IsGeometry}
 use Rattle.rly_segment.specs.Heads.{segment_end, segment_place}
 use Rattle.rly_journal.specs.declared.tail.Tail.{Tail}
+use Rattle.rly_journal.specs.Layout.{IsGeometry}
 use Rattle.rly_journal.specs.Log.{EndsAt, IsDurable, IsFull}
 use Rattle.rly_journal.specs.Standing.{IsScanned, Standing, state_in}
 

@@ -5,6 +5,7 @@ pub mod HelpersCalls
 pub mod HelpersGroups
 pub mod HelpersJournal
 pub mod Journal
+pub mod Layout
 pub mod Log
 pub mod Lying
 pub mod Rounds

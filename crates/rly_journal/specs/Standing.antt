@@ -13,7 +13,7 @@ use Rattle.rly_checkpoint.specs.Stored.{stored_form, stored_length}
 use Rattle.rly_checkpoint.specs.Stored.{state_in as state_over}
 use Rattle.rly_checkpoint.specs.declared.stored.Stored.{Stored}
 use Rattle.rly_checkpoint.specs.declared.stored.Stored.TheVariants.{Inline}
-use Rattle.rly_segment.specs.Device.{IsDevice, IsGeometry, geometry_in}
+use Rattle.rly_segment.specs.Device.{IsDevice, IsLayout, geometry_in}
 use Rattle.rly_segment.specs.Heads.{IsNewest, gate_after, segment_end}
 use Rattle.rly_segment.specs.PlacedHeads.{HoldsPlaced}
 
@@ -87,7 +87,7 @@ stored_in x = stored_after x.head x.groups
 pub record IsScanned (image : List ℕ) (x : Standing) : Type 0 where
   pub device : IsDevice image
   pub geometry : x.geometry ≡ geometry_in image
-  pub fits : IsGeometry x.geometry (length image)
+  pub fits : IsLayout x.geometry (length image)
   pub newest : IsNewest image x.geometry x.segment
   pub head : HoldsPlaced image x.geometry x.segment x.generation x.head
   pub payloads : x.checkpoint ≡ state_over image x.head

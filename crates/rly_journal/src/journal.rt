@@ -253,9 +253,11 @@ impl<D: Disk> Journal<D> {
     }
 
     /// Where a journal ends that isn't broken, on an honest disk: in the newest segment, at the first closed gate
-    /// after the head there. So a segment is due, as `round` says it, exactly where it is due by what the device reads.
+    /// after the head there. So a segment is due, as `round` says it, exactly where it is due by what the device reads. On any
+    /// disk its device has two segments.
     pub fn law_tail(&self)
-        ensures { (D.state self.now.disk).honest → self.now.broken ≡ false → IsDurable (D.state self.now.disk) self.now.tail self.now.state }
+        ensures tail { (D.state self.now.disk).honest → self.now.broken ≡ false → IsDurable (D.state self.now.disk) self.now.tail self.now.state }
+        ensures segments { self.now.tail.geometry.segments ≡ 2 }
     {
         let _ = &self.tail;
     }

@@ -1,7 +1,7 @@
 //! Laws of what an image stands for, each the contract of a function without a body. `Journal::open` and
 //! `Journal::round` cite the same definitions.
 
-ghost use Rattle.std.specs.Prelude.{◌≡◌, ◌+◌, ◌<◌, ℕ, List, length, map};
+ghost use Rattle.std.specs.Prelude.{◌≡◌, ◌≢◌, ◌+◌, ◌<◌, ℕ, List, length, map};
 ghost use Rattle.rly_core.specs.declared.params.Geometry.{Geometry as AGeometry};
 ghost use Rattle.rly_gate.specs.Reading.{HoldsGroup};
 ghost use Rattle.rly_machine.specs.Fold.{fold};
@@ -12,6 +12,7 @@ ghost use Rattle.rly_checkpoint.specs.Stored.{payload_in, stored_form, stored_le
 ghost use Rattle.rly_checkpoint.specs.Stored.{state_in as state_over};
 ghost use Rattle.rly_checkpoint.specs.declared.stored.Stored.{Stored};
 ghost use Rattle.rly_checkpoint.specs.declared.stored.Stored.TheVariants.{Inline};
+ghost use Rattle.rly_segment.specs.Device.{geometry_in};
 ghost use Rattle.rly_segment.specs.Formatted.{IsFormatted};
 ghost use Rattle.rly_segment.specs.Heads.{HoldsHead, IsOpeningOf};
 ghost use Rattle.rly_journal.specs.declared.open_fault.OpenFault.{OpenFault as AFault};
@@ -26,9 +27,11 @@ pub fn law_stands_for_one()
     ensures { (image : List ℕ) (a b : State (List ℕ)) → Stands image a → Stands image b → a ≡ b }
 {}
 
-/// An image that a check refuses stands for no state: opening answers a state exactly where there is one.
+/// An image that a check refuses stands for no state: on a device of two segments opening answers a state exactly where there is
+/// one. A device of more is told as of bad geometry, whether it stands for a state or not.
 pub fn law_refused_stands_for_none()
-    ensures { (image : List ℕ) (fault : AFault) → IsRefused image fault → IsOfImage fault → (s : State (List ℕ)) → Stands image s → ⊥ }
+    ensures { (image : List ℕ) (fault : AFault) → IsRefused image fault → IsOfImage fault → (s : State (List ℕ)) → Stands image s
+        → (fault ≡ AFault.BadGeometry) × ((geometry_in image).segments ≢ 2) }
 {}
 
 /// A device that was formatted stands for the empty state.

@@ -7,6 +7,7 @@ ghost use Rattle.rly_journal.specs.HelpersJournal.{IsReplayed, IsShaped};
 
 use crate::open_fault::OpenFault;
 use crate::tail::Tail;
+use rly_core::limits::SEGMENTS;
 use rly_disk::Disk;
 use rly_gate::{GroupFault, read_group};
 use rly_machine::{Command, Machine, Payload};
@@ -51,6 +52,9 @@ fn read_newest_head<D: Disk>(alloc: Global, disk: &mut D) -> Result<Recovered, O
         Err(HeaderFault::BadGeometry) => return Err(OpenFault::BadGeometry),
         Err(HeaderFault::Device) => return Err(OpenFault::Device),
     };
+    if geometry.segments != SEGMENTS {
+        return Err(OpenFault::BadGeometry);
+    }
     let newest = match newest(disk, &geometry) {
         Ok(newest) => newest,
         Err(NewestFault::Damaged(place)) => return Err(OpenFault::Damaged(place)),

@@ -208,9 +208,9 @@ OpensDue old new calls answers = IsDueFor old calls → new.broken ≡ false
     → (new.tail.generation ≡ old.tail.generation + 1) ⊎ ((new ≡ old) × (answers ≡ refusals OutOfMemory old.position calls))
 
 abbrev pub RenewsWell : JournalState TheDisk → Type 0
-RenewsWell old = IsFull old.tail
+RenewsWell old = (old.tail.geometry.segments ≡ 2) × (IsFull old.tail
     → IsLogged (seen_at_end (renewing old.tail old.state) (fault_state mem_state old.disk).seen) (renewed old.tail old.state) old.state
-    × (IsFull (renewed old.tail old.state) → ⊥)
+    × (IsFull (renewed old.tail old.state) → ⊥))
 
 pub serves : (old new : JournalState TheDisk) (calls : List Call) (answers given : List Answer)
     → (old.broken ≡ false → IsDurable (fault_state mem_state old.disk) old.tail old.state) → (old.broken ≡ false → RenewsWell old)
@@ -255,7 +255,7 @@ serves old new calls answers given tail renews trace gives round opens w batches
                 (by_shut made shut (λ none. absurd (none (unopened.due.0, (due_here old w batches whole (tail whole) reached_here world_here).1 unopened.due.1))))
             | inr failed ↦
                 went_unopened old new w batches answers whole reached_here world_here (tail whole) made given gives round_here _ failed.0 failed.1
-                (renew_walk old w batches whole (tail whole) reached_here world_here new.state made.given made.served unopened.due (renews whole unopened.due.1))
+                (renew_walk old w batches whole (tail whole) reached_here world_here new.state made.given made.served (renews whole).0 unopened.due ((renews whole).1 unopened.due.1))
           ]
         ]
       where
@@ -297,7 +297,7 @@ serves old new calls answers given tail renews trace gives round opens w batches
             let due = made.due is in
             subst (λ b. Walks (IsPart w batches) (begun w batches) (rounding old.tail old.state b (accepted_of (zip (calls_of batches) made.given)))
             (IsOver w batches made.given (w.accepted ++ accepted_of (zip (calls_of batches) made.given)))) (sym is)
-            (opened_walk old w batches whole (tail whole) reached_here world_here new.state made.given made.served due (renews whole due.1) wanted)
+            (opened_walk old w batches whole (tail whole) reached_here world_here new.state made.given made.served (renews whole).0 due ((renews whole).1 due.1) wanted)
         by_opened made wanted false is = by_shut made is (λ none. wanted)
 
 -- what is said of an answer that is one

@@ -4,10 +4,14 @@ use Rattle.rly_disk.specs.Trace.{Sync}
 use Rattle.rly_gate.specs.Calls.{appending, settling}
 use Rattle.rly_gate.specs.Group.{IsClosed, open_gate}
 use Rattle.rly_machine.specs.declared.call.Answer.{Answer}
+use Rattle.rly_machine.specs.State.{State}
+use Rattle.rly_checkpoint.specs.declared.stored.Stored.{Stored}
 use Rattle.rly_record.specs.Spelling.{body_of}
 use Rattle.rly_segment.specs.Calls.{replacing}
-use Rattle.rly_segment.specs.Heads.{head_of, segment_place}
-use Rattle.rly_journal.specs.Standing.{Commands, IsStanding, Standing, gate_of, state_in}
+use Rattle.rly_segment.specs.Heads.{segment_place}
+use Rattle.rly_journal.specs.Standing.{Commands, IsStanding, Standing, gate_of}
+use Rattle.rly_journal.proofs.Framing.{read_in}
+use Rattle.rly_world.specs.RelayPhases.{next_head}
 use Rattle.rly_world.specs.RelaySteps.{MayCall, after, called}
 use Rattle.rly_world.specs.RelaySteps as event
 use Rattle.rly_world.specs.RelayWorld.{Answering, Batch, Body, Device, Gate, Head, Ready, Seal, Stage, Switch, World, Writing, asked_of, logged, seen_of}
@@ -17,8 +21,8 @@ use Rattle.rly_world.proofs.RelayCalls.{in_phase, round_at}
 use Rattle.rly_world.proofs.RelayEvents.{run_held}
 use Rattle.rly_world.proofs.RelayGoesOn.{goes_on}
 use Rattle.rly_world.proofs.RelayHolds.{IsHeld}
-use Rattle.rly_world.proofs.RelayPhases.{head_next, length-behind, seal_next}
-use Rattle.rly_world.proofs.RelayReplaces.{is_open, settling_some, stands_closed, stands_on}
+use Rattle.rly_world.proofs.RelayPhases.{length-behind}
+use Rattle.rly_world.proofs.RelayReplaces.{head_keeps, is_open, seal_keeps, settling_some, stands_closed, stands_on, written_standing}
 use Rattle.rly_relay.proofs.RelayWalks.{Walks, between_none}
 
 -- a world with a round in hand, whose device and accepted commands may have gone on
@@ -91,49 +95,48 @@ pub record IsReadied (base : World) (batches : List Batch) (answers : List Answe
   pub is : v ≡ in_hand base Ready batches answers device accepted
   pub calm : v.device.since ≡ []
 
-head_walk : (base : World) (segment : ℕ) (batches : List Batch) (answers : List Answer) (device : Device) (accepted : Commands) (x : Standing)
-    → IsHeld (in_hand base (Writing (Head segment)) batches answers device accepted) → IsStanding device.synced x
-    → Walks (IsPart base batches) (in_hand base (Writing (Head segment)) batches answers device accepted)
-    (settling (segment_place x.geometry segment + 1) (head_of (x.generation + 1) (state_in x) ++ 0 ∷ [])
+head_walk : (base : World) (segment : ℕ) (copy : State Stored) (batches : List Batch) (answers : List Answer) (device : Device) (accepted : Commands) (x : Standing)
+    → IsHeld (in_hand base (Writing (Head segment copy)) batches answers device accepted) → IsStanding device.synced x
+    → Walks (IsPart base batches) (in_hand base (Writing (Head segment copy)) batches answers device accepted)
+    (settling (segment_place x.geometry segment + 1) (next_head x copy)
     ++ settling (segment_place x.geometry segment) (open_gate ∷ [])) (IsReadied base batches answers accepted)
-head_walk base segment batches answers device accepted x held stands =
+head_walk base segment copy batches answers device accepted x held stands =
     let w : World = record base { device = device; accepted = accepted } in
-    let v : World = in_phase w (Head segment) batches answers in
-    let mid : World = called v (own_write (Head segment) x (logged w)) in
-    let next : World = after_both v (Head segment) x in
-    let more : World = called next (own_write (Switch segment) x (logged w)) in
-    let new : World = after_both next (Switch segment) x in
-    let first = may_finish v (record { stage = Writing (Head segment); batches = batches; answers = answers })
-    (Head segment) x held refl refl stands in
+    let v : World = in_phase w (Head segment copy) batches answers in
+    let mid : World = called v (own_write (Head segment copy) x (logged w)) in
+    let next : World = after_both v (Head segment copy) x in
+    let y : Standing = written_standing w (Head segment copy) x in
+    let more : World = called next (own_write (Switch segment copy) y (logged w)) in
+    let new : World = after_both next (Switch segment copy) y in
+    let first = may_finish v (record { stage = Writing (Head segment copy); batches = batches; answers = answers })
+    (Head segment copy) x held refl refl stands in
     let held_next : IsHeld next = run_held v next
-    (event.Calls (own_write (Head segment) x (logged w)) ∷ event.Calls Sync ∷ [])
-    (both_run v (Head segment) x [] next first tt refl) held in
-    let after_head = stands_on w (Head segment) batches answers x
-    (λ y commands old seen standing begins image done.
-    (head_next segment y commands old seen standing begins image done).0) held stands tt in
-    let second = may_finish next (record { stage = Writing (Switch segment); batches = batches; answers = answers })
-    (Switch segment) x held_next refl refl after_head in
-    let calls = settling_some (segment_place x.geometry segment + 1) (head_of (x.generation + 1) (state_in x) ++ 0 ∷ [])
-    (omega (arith, length-behind x)) in
+    (event.Calls (own_write (Head segment copy) x (logged w)) ∷ event.Calls Sync ∷ [])
+    (both_run v (Head segment copy) x [] next first tt refl) held in
+    let after_head = stands_on w (Head segment copy) batches answers x (head_keeps segment copy) held stands tt in
+    let second = may_finish next (record { stage = Writing (Switch segment copy); batches = batches; answers = answers })
+    (Switch segment copy) y held_next refl refl after_head in
+    let calls = settling_some (segment_place x.geometry segment + 1) (next_head x copy)
+    (omega (arith, length-behind x copy)) in
     subst (λ l. Walks (IsPart base batches) v (l ++ settling (segment_place x.geometry segment) (open_gate ∷ [])) (IsReadied base batches answers accepted)) (sym calls) (
       v,
       between_none v,
-      part base (Writing (Head segment)) batches answers device accepted,
+      part base (Writing (Head segment copy)) batches answers device accepted,
       first.write tt,
       (
         mid,
         between_none mid,
-        part base (Writing (Head segment)) batches answers mid.device accepted,
+        part base (Writing (Head segment copy)) batches answers mid.device accepted,
         first.then_sync tt,
         (
           next,
           between_none next,
-          part base (Writing (Switch segment)) batches answers next.device accepted,
+          part base (Writing (Switch segment copy)) batches answers next.device accepted,
           second.write tt,
           (
             more,
             between_none more,
-            part base (Writing (Switch segment)) batches answers more.device accepted,
+            part base (Writing (Switch segment copy)) batches answers more.device accepted,
             second.then_sync tt,
             (new, between_none new, record { device = new.device; is = refl; calm = refl }),
           ),
@@ -141,17 +144,17 @@ head_walk base segment batches answers device accepted x held stands =
       ),
     )
 
-pub replaces_walk : (base : World) (segment : ℕ) (closed : Bool) (batches : List Batch) (answers : List Answer) (device : Device) (accepted : Commands) (x : Standing)
-    → IsHeld (in_hand base (Writing (Seal segment)) batches answers device accepted) → IsStanding device.synced x
+pub replaces_walk : (base : World) (segment : ℕ) (copy : State Stored) (closed : Bool) (batches : List Batch) (answers : List Answer) (device : Device) (accepted : Commands) (x : Standing)
+    → IsHeld (in_hand base (Writing (Seal segment copy)) batches answers device accepted) → IsStanding device.synced x
     → (IsTrue closed ↔ IsClosed (seen_of device) (segment_place x.geometry segment))
-    → Walks (IsPart base batches) (in_hand base (Writing (Seal segment)) batches answers device accepted)
-    (replacing (segment_place x.geometry segment) closed (head_of (x.generation + 1) (state_in x) ++ 0 ∷ [])) (IsReadied base batches answers accepted)
-replaces_walk base segment true batches answers device accepted x held stands told =
+    → Walks (IsPart base batches) (in_hand base (Writing (Seal segment copy)) batches answers device accepted)
+    (replacing (segment_place x.geometry segment) closed (next_head x copy)) (IsReadied base batches answers accepted)
+replaces_walk base segment copy true batches answers device accepted x held stands told =
     let w : World = record base { device = device; accepted = accepted } in
-    let v : World = in_phase w (Seal segment) batches answers in
+    let v : World = in_phase w (Seal segment copy) batches answers in
     let shut = told.0 refl in
-    let goes = goes_on v (record { stage = Writing (Seal segment); batches = batches; answers = answers })
-    (Seal segment) held refl refl in
+    let goes = goes_on v (record { stage = Writing (Seal segment copy); batches = batches; answers = answers })
+    (Seal segment copy) held refl refl in
     let same : goes.x ≡ x = one_standing goes.x x goes.stands stands in
     let sync : MayCall v Sync = goes.sync
     (subst (λ y. IsClosed (seen_of device) (segment_place y.geometry segment)) (sym same) shut) in
@@ -159,34 +162,32 @@ replaces_walk base segment true batches answers device accepted x held stands to
     let held_next : IsHeld next = run_held v next (event.Calls Sync ∷ []) (next, inl (sync, refl), refl) held in (
       v,
       between_none v,
-      part base (Writing (Seal segment)) batches answers device accepted,
+      part base (Writing (Seal segment copy)) batches answers device accepted,
       sync,
-      head_walk base segment batches answers (asked_of device Sync) accepted x held_next
-          (stands_closed w segment batches answers x held stands shut),
+      head_walk base segment copy batches answers (asked_of device Sync) accepted (read_in (seen_of device) x) held_next
+          (stands_closed w segment copy batches answers x held stands shut),
     )
-replaces_walk base segment false batches answers device accepted x held stands told =
+replaces_walk base segment copy false batches answers device accepted x held stands told =
     let w : World = record base { device = device; accepted = accepted } in
-    let v : World = in_phase w (Seal segment) batches answers in
-    let mid : World = called v (own_write (Seal segment) x (logged w)) in
+    let v : World = in_phase w (Seal segment copy) batches answers in
+    let mid : World = called v (own_write (Seal segment copy) x (logged w)) in
     let opened = is_open (segment_place x.geometry segment) (seen_of device) told in
-    let next : World = after_both v (Seal segment) x in
-    let may = may_finish v (record { stage = Writing (Seal segment); batches = batches; answers = answers })
-    (Seal segment) x held refl refl stands in
+    let next : World = after_both v (Seal segment copy) x in
+    let may = may_finish v (record { stage = Writing (Seal segment copy); batches = batches; answers = answers })
+    (Seal segment copy) x held refl refl stands in
     let held_next : IsHeld next = run_held v next
-    (event.Calls (own_write (Seal segment) x (logged w)) ∷ event.Calls Sync ∷ [])
-    (both_run v (Seal segment) x [] next may opened refl) held in
-    let after_seal = stands_on w (Seal segment) batches answers x
-    (λ y commands old seen standing begins image done.
-    (seal_next segment y commands old seen standing begins image done).0) held stands opened in (
+    (event.Calls (own_write (Seal segment copy) x (logged w)) ∷ event.Calls Sync ∷ [])
+    (both_run v (Seal segment copy) x [] next may opened refl) held in
+    let after_seal = stands_on w (Seal segment copy) batches answers x (seal_keeps segment copy) held stands opened in (
       v,
       between_none v,
-      part base (Writing (Seal segment)) batches answers device accepted,
+      part base (Writing (Seal segment copy)) batches answers device accepted,
       may.write opened,
       (
         mid,
         between_none mid,
-        part base (Writing (Seal segment)) batches answers mid.device accepted,
+        part base (Writing (Seal segment copy)) batches answers mid.device accepted,
         may.then_sync opened,
-        head_walk base segment batches answers next.device accepted x held_next after_seal,
+        head_walk base segment copy batches answers next.device accepted (written_standing w (Seal segment copy) x) held_next after_seal,
       ),
     )

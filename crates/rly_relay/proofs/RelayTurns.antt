@@ -14,22 +14,31 @@ use Rattle.rly_machine.specs.declared.call.Answer.{Answer}
 use Rattle.rly_machine.specs.declared.call.Call.{Call}
 use Rattle.rly_machine.specs.Fold.{fold}
 use Rattle.rly_machine.specs.History.{accepted_of}
+use Rattle.rly_machine.specs.Map.{map_state}
+use Rattle.rly_machine.specs.Sound.{IsSound}
 use Rattle.rly_machine.specs.State.{State}
 use Rattle.rly_machine.proofs.Histories.{folds, legal_but_for_bytes}
+use Rattle.rly_machine.proofs.Runs.{sound_from_new}
+use Rattle.rly_checkpoint.specs.Stored.{stored_form, stored_length}
+use Rattle.rly_checkpoint.specs.declared.stored.Stored.{Stored}
+use Rattle.rly_checkpoint.specs.declared.stored.Stored.TheVariants.{Inline}
+use Rattle.rly_reclaim.specs.Room.{IsDue}
 use Rattle.rly_record.specs.Spelling.{body_of}
 use Rattle.rly_segment.specs.Calls.{replacing}
-use Rattle.rly_segment.specs.Heads.{head_of, segment_place}
+use Rattle.rly_segment.specs.Heads.{head_of, head_spelled, segment_place}
 use Rattle.rly_journal.specs.declared.tail.Tail.{Tail}
 use Rattle.rly_journal.specs.Calls.{logging, other_segment, renewed, renewing, rounding}
 use Rattle.rly_journal.specs.Journal.{IsDueFor, JournalState}
+use Rattle.rly_journal.specs.Framing.{IsHeadFor}
 use Rattle.rly_journal.specs.Log.{IsDurable, IsFull, IsLogged}
 use Rattle.rly_journal.specs.Rounds.{AreServed, IsRefusedWhereWanted, refusals}
 use Rattle.rly_journal.specs.Standing.{Commands, state_in}
+use Rattle.rly_journal.proofs.Inlining.{head_inline}
 use Rattle.rly_world.specs.RelaySteps as event
 use Rattle.rly_world.specs.RelaySteps.{Event, HasPlace, Run, after}
-use Rattle.rly_world.specs.RelayPhases.{IsDueIn, MayOpen}
+use Rattle.rly_world.specs.RelayPhases.{IsDueIn, MayOpen, next_head}
 use Rattle.rly_world.specs.RelayWorld.{Batch, Ready, Seal, Taking, World, Writing, calls_of, seen_of, state_from}
-use Rattle.rly_world.proofs.RelayBegins.{due_in_image}
+use Rattle.rly_world.proofs.RelayBegins.{due_head, due_in_image, offset_of, one_standing}
 use Rattle.rly_world.proofs.RelayEvents.{run_held}
 use Rattle.rly_world.proofs.RelayHolds.{IsCalm, IsHeld, IsPlaced, core_of}
 use Rattle.rly_relay.specs.HelpersRounds.{IsWorldOf}
@@ -125,24 +134,37 @@ module _ (old : JournalState TheDisk) (w : World) (batches : List Batch) (whole 
           (evaluates w Taking batches w.device w.accepted old.tail old.state t given (world.spool.1 ∙ whole) (inl refl) state_here served due wanted)
 
       -- a segment was opened
-      module _ (due : IsDueFor old (calls_of batches))
+      module _ (two : old.tail.geometry.segments ≡ 2) (due : IsDueFor old (calls_of batches))
           (next : IsLogged (seen_at_end (renewing old.tail old.state) (fault_state mem_state old.disk).seen) (renewed old.tail old.state) old.state
           × (IsFull (renewed old.tail old.state) → ⊥)) where
         abbrev segment : ℕ
         segment = other_segment old.tail
 
-        abbrev opening : World
-        opening = in_hand w (Writing (Seal segment)) batches [] w.device w.accepted
+        -- its head has every payload inline
+        abbrev copy : State Stored
+        copy = map_state Inline old.state
 
-        may_open : MayOpen w.device.synced segment
+        abbrev opening : World
+        opening = in_hand w (Writing (Seal segment copy)) batches [] w.device w.accepted
+
+        two_there : logs.x.geometry.segments ≡ 2
+        two_there = ap (λ g. g.segments) (sym logs.ends.geometry) ∙ two
+
+        sound_there : IsSound length (state_in logs.x)
+        sound_there = subst (IsSound length) (sym state_here ∙ logs.state) (sound_from_new length w.params w.accepted held.within)
+
+        due_there : IsDue logs.x.geometry (offset_of logs.x)
+        due_there = let is = due_here.1 due.1 in subst (λ y. IsDue y.geometry (offset_of y)) (one_standing is.0 logs.x is.1 logs.stands) is.2
+
+        may_open : MayOpen w.device.synced segment copy
         may_open = (
           logs.x,
           logs.stands,
-          omega (arith, logs.stands.scanned.fits.segments),
-          λ same. omega (arith, same, logs.ends.segment),
+          subst (λ s. IsHeadFor w.device.synced logs.x segment (map_state Inline s)) (sym logs.state)
+              (due_head logs.x segment logs.stands due_there two_there (omega (arith, two_there)) (λ same. omega (arith, same, logs.ends.segment)) sound_there),
         )
 
-        opens : HasPlace (begun w batches) (event.Opens segment)
+        opens : HasPlace (begun w batches) (event.Opens segment copy)
         opens = (
           world.spool.1 ∙ whole,
           may_open,
@@ -150,34 +172,33 @@ module _ (old : JournalState TheDisk) (w : World) (batches : List Batch) (whole 
         )
 
         opening_held : IsHeld opening
-        opening_held = run_held (begun w batches) opening (event.Opens segment ∷ []) (opening, inl (opens, refl), refl) held
+        opening_held = run_held (begun w batches) opening (event.Opens segment copy ∷ []) (opening, inl (opens, refl), refl) held
 
         closed_there : IsTrue (slice_index_or old.tail.closed segment false) ↔ IsClosed (seen_of w.device) (segment_place logs.x.geometry segment)
         closed_there =
-            let at = logs.gates segment (omega (arith, logs.stands.scanned.fits.segments, ap (λ g. g.segments) logs.ends.geometry)) in
+            let at = logs.gates segment (omega (arith, two)) in
             let same : IsClosed w.device.synced (segment_place old.tail.geometry segment) ≡ IsClosed (seen_of w.device) (segment_place logs.x.geometry segment) =
             ap (λ i. IsClosed i (segment_place old.tail.geometry segment)) (sym (calm.only (seen_of w.device) held.seen))
             ∙ ap (λ g. IsClosed (seen_of w.device) (segment_place g segment)) logs.ends.geometry in
             (λ is. subst (λ A. A) same (at.0 is), λ is. at.1 (subst (λ A. A) (sym same) is))
 
-        same_calls : replacing (segment_place logs.x.geometry segment) (slice_index_or old.tail.closed segment false)
-            (head_of (logs.x.generation + 1) (state_in logs.x) ++ 0 ∷ []) ≡ renewing old.tail old.state
+        same_calls : replacing (segment_place logs.x.geometry segment) (slice_index_or old.tail.closed segment false) (next_head logs.x copy)
+            ≡ renewing old.tail old.state
         same_calls =
-            ap (λ g. replacing (segment_place g segment) (slice_index_or old.tail.closed segment false)
-            (head_of (logs.x.generation + 1) (state_in logs.x) ++ 0 ∷ [])) (sym logs.ends.geometry)
+            ap (λ g. replacing (segment_place g segment) (slice_index_or old.tail.closed segment false) (next_head logs.x copy)) (sym logs.ends.geometry)
             ∙ ap (λ n. replacing (segment_place old.tail.geometry segment) (slice_index_or old.tail.closed segment false)
-            (head_of (n + 1) (state_in logs.x) ++ 0 ∷ [])) (sym logs.ends.generation)
-            ∙ ap (λ s. replacing (segment_place old.tail.geometry segment) (slice_index_or old.tail.closed segment false)
-            (head_of (old.tail.generation + 1) s ++ 0 ∷ [])) (sym logs.state)
+            (head_spelled stored_length stored_form (n + 1) copy ++ 0 ∷ [])) (sym logs.ends.generation)
+            ∙ ap (λ head. replacing (segment_place old.tail.geometry segment) (slice_index_or old.tail.closed segment false) (head ++ 0 ∷ []))
+            (head_inline (old.tail.generation + 1) old.state)
 
         pub renew_walk : Walks (IsPart w batches) (begun w batches) (renewing old.tail old.state)
             (Known opening (renewing old.tail old.state) (IsReadied w batches [] w.accepted))
         renew_walk = walks_from (IsPart w batches) (begun w batches) opening (renewing old.tail old.state)
             (Known opening (renewing old.tail old.state) (IsReadied w batches [] w.accepted))
-            (between_one (begun w batches) (event.Opens segment) tt opens refl)
+            (between_one (begun w batches) (event.Opens segment copy) tt opens refl)
             (known_more (IsPart w batches) opening (renewing old.tail old.state) (IsReadied w batches [] w.accepted)
             (subst (λ l. Walks (IsPart w batches) opening l (IsReadied w batches [] w.accepted)) same_calls
-            (replaces_walk w segment (slice_index_or old.tail.closed segment false) batches [] w.device w.accepted logs.x opening_held logs.stands closed_there)))
+            (replaces_walk w segment copy (slice_index_or old.tail.closed segment false) batches [] w.device w.accepted logs.x opening_held logs.stands closed_there)))
 
         then_serves : IsRefusedWhereWanted old.state (zip (calls_of batches) given) → (m : World) → Known opening (renewing old.tail old.state) (IsReadied w batches [] w.accepted) m
             → Walks (IsPart w batches) m (logging (renewed old.tail old.state).gate commands) (IsOver w batches given (w.accepted ++ commands))

@@ -25,7 +25,7 @@ Gathers most w (event ∷ events) new =
 
 -- the flusher's own events, once it took its batches
 abbrev pub IsServing : Event → Type 0
-IsServing (Opens segment) = Unit {0}
+IsServing (Opens segment copy) = Unit {0}
 IsServing (Evaluates given) = Unit {0}
 IsServing (Calls call) = Unit {0}
 IsServing Answers = Unit {0}

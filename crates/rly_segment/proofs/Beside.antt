@@ -5,7 +5,7 @@ use Rattle.rly_core.specs.declared.params.Geometry.{Geometry}
 use Rattle.rly_disk.specs.DiskModel.{DiskState, LeavesOnly, SameOutside, Settled}
 use Rattle.rly_disk.specs.Trace.{AllWrites, DeviceEvent, Makes}
 use Rattle.rly_disk.proofs.TraceRanges.{leaves_kept}
-use Rattle.rly_segment.specs.Device.{IsGeometry, device_length}
+use Rattle.rly_segment.specs.Device.{IsLayout, device_length}
 use Rattle.rly_segment.specs.Formatted.{IsSameBeside}
 use Rattle.rly_segment.specs.Heads.{segment_place}
 
@@ -31,14 +31,14 @@ gate_part g segment there long =
     inr (omega arith, omega (arith, mul-le-mul_right g.length next))
 
 -- a range of the first segment is one
-pub head_part : (g : Geometry) (size place n : ℕ) → IsGeometry g size → 64 ≤ place → place + n ≤ 64 + g.length → IsPart g place n
+pub head_part : (g : Geometry) (size place n : ℕ) → IsLayout g size → 64 ≤ place → place + n ≤ 64 + g.length → IsPart g place n
 head_part g size place n geometry above within =
-    let some : 1 ≤ g.segments = omega (arith, geometry.segments) in
+    let some : 1 ≤ g.segments = omega (arith, geometry.segments.0) in
     inr (above, omega (arith, within, mul-le-mul_right g.length some))
 
 -- a row of calls whose writes lie in such ranges
 pub beside_leaves : {D : Type 0} (state : D → DiskState) {a b : D} (g : Geometry) {calls : List DeviceEvent} {whole : Bool} → Makes state calls whole a b → Settled (state a)
-    → IsGeometry g (state a).size → AllWrites (IsPart g) calls → LeavesOnly (state a) (state b) (IsSameBeside g (state a).seen)
+    → IsLayout g (state a).size → AllWrites (IsPart g) calls → LeavesOnly (state a) (state b) (IsSameBeside g (state a).seen)
 beside_leaves state {a} g made settled geometry all =
     let count = settled.consistent.seen_size in
     leaves_kept (IsSameBeside g (state a).seen) (IsPart g)

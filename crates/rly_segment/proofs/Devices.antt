@@ -15,7 +15,7 @@ use Rattle.rly_gate.specs.Calls.{settling}
 use Rattle.rly_gate.specs.Group.{IsClosed, IsOpen, StandsAt, open_gate}
 use Rattle.rly_machine.specs.State.{new_state}
 use Rattle.rly_segment.specs.Calls.{closing, filling, formatting, new_head}
-use Rattle.rly_segment.specs.Device.{IsDevice, IsGeometry, header_of}
+use Rattle.rly_segment.specs.Device.{IsDevice, IsLayout, header_of}
 use Rattle.rly_segment.specs.Formatted.{IsFormatted, IsFormatting, IsSameBeside}
 use Rattle.rly_segment.specs.Heads.{head_of, segment_place}
 use Rattle.rly_segment.specs.HelpersWriting.{IsClosing, IsUnopened}
@@ -33,7 +33,7 @@ no_device image closed device = closed device.gate
 
 module _ (g : Geometry) (head : List ℕ) (is_head : head ≡ head_of 1 (new_state g.params) ++ 0 ∷ []) where
   -- a filled device whose gate is open
-  pub formatted : (old image : List ℕ) → IsGeometry g (length old) → IsUnopened g head old → SameOutside 0 1 old image → IsOpen image 0 → IsFormatted g image
+  pub formatted : (old image : List ℕ) → IsLayout g (length old) → IsUnopened g head old → SameOutside 0 1 old image → IsOpen image 0 → IsFormatted g image
   formatted old image geometry filled same opened =
       let header : StandsAt image 1 (header_of g) = part 0 1 same 1 (length (header_of g)) (inr (omega arith)) ∙ filled.header in
       let first : StandsAt image (segment_place g 0) (open_gate ∷ head) = part 0 1 same (segment_place g 0) (length (open_gate ∷ head)) (inr (omega arith)) ∙ filled.head in
@@ -43,14 +43,14 @@ module _ (g : Geometry) (head : List ℕ) (is_head : head ≡ head_of 1 (new_sta
           gate = opened;
           mark = mark_read g image header;
         };
-        geometry = geometry_read g image geometry.params (omega (arith, geometry.segments)) (omega (arith, geometry.length)) header;
-        fits = subst (IsGeometry g) (sym same.same_length) geometry;
+        geometry = geometry_read g image geometry.params (omega (arith, geometry.segments.1)) (omega (arith, geometry.length)) header;
+        fits = subst (IsLayout g) (sym same.same_length) geometry;
         head = subst (λ (l : List ℕ). StandsAt image (segment_place g 0) (open_gate ∷ l)) is_head first;
         others = λ t above below. stays_closed (segment_place g t) 0 1 old image (inr (omega arith)) same (filled.others t above below);
       }
 
   -- while the header's gate is opened
-  pub while_opened : (first old image : List ℕ) → IsGeometry g (length old) → IsUnopened g head old → SameOutside 0 1 old image → IsFormatting g first image
+  pub while_opened : (first old image : List ℕ) → IsLayout g (length old) → IsUnopened g head old → SameOutside 0 1 old image → IsFormatting g first image
   while_opened first old image geometry filled same =
       elim (cases_eq (get_or image 0 0) open_gate) [
         | inl opened ↦ inr (inr (formatted old image geometry filled same opened))
@@ -66,7 +66,7 @@ while_closed g old image closing =
     ]
 
 -- what is read at the end
-pub format_done : (g : Geometry) (head old new : List ℕ) → head ≡ head_of 1 (new_state g.params) ++ 0 ∷ [] → IsGeometry g (length old) → IsUnopened g head old
+pub format_done : (g : Geometry) (head old new : List ℕ) → head ≡ head_of 1 (new_state g.params) ++ 0 ∷ [] → IsLayout g (length old) → IsUnopened g head old
     → new ≡ overwritten 0 (open_gate ∷ []) old → IsFormatted g new
 format_done g head old new is_head geometry filled is =
     let room : 1 ≤ length old = omega (arith, geometry.room) in
@@ -83,7 +83,7 @@ closed_read seen place = elim (cases_eq (get_or seen place 0) open_gate) [
   | inr shut ↦ (true, (λ same. shut, λ same. refl))
 ]
 
-module _ (g : Geometry) (closed : Bool) (old : List ℕ) (geometry : IsGeometry g (length old)) (told : IsTrue closed ↔ IsClosed old 0) where
+module _ (g : Geometry) (closed : Bool) (old : List ℕ) (geometry : IsLayout g (length old)) (told : IsTrue closed ↔ IsClosed old 0) where
   mid_same : SameOutside 0 1 old (seen_at_end (closing 0 closed) old)
   mid_same = closing_same 0 closed old (omega (arith, geometry.room))
 
@@ -102,9 +102,9 @@ module _ (g : Geometry) (closed : Bool) (old : List ℕ) (geometry : IsGeometry 
       (filling g (new_head g)) mid (λ d. d ≡ mid)
       (filling_all (λ place n. (0 < place) × (place + n ≤ length old)) g (new_head g)
       (λ t below. (omega arith, omega (arith, segment_within g t (length old) geometry below, geometry.fits)))
-      (omega arith, omega (arith, segment_within g 0 (length old) geometry (omega (arith, geometry.segments)), new_head_room g (length old) (new_head g) geometry refl))
+      (omega arith, omega (arith, segment_within g 0 (length old) geometry (omega (arith, geometry.segments.0)), new_head_room g (length old) (new_head g) geometry refl))
       (omega arith, omega (arith, geometry.room))
-      (omega arith, omega (arith, segment_within g 0 (length old) geometry (omega (arith, geometry.segments)), geometry.fits)))
+      (omega arith, omega (arith, segment_within g 0 (length old) geometry (omega (arith, geometry.segments.0)), geometry.fits)))
       here (λ d is. subst (λ d. IsClosed d 0 × (length d ≡ length old)) (sym is) here)
 
   end_synced : AreSynced (filling g (new_head g))
@@ -120,7 +120,7 @@ module _ (g : Geometry) (closed : Bool) (old : List ℕ) (geometry : IsGeometry 
       ⊎_elim (λ now. inl now)
       (λ later. ⊎_elim (while_closed g old c)
       (λ second. ⊎_elim (λ shut. inr (inl (no_device c (still_closed c shut).0)))
-      (λ third. while_opened g (new_head g) refl old end c (subst (IsGeometry g) (sym end_size) geometry) filled_end
+      (λ third. while_opened g (new_head g) refl old end c (subst (IsLayout g) (sym end_size) geometry) filled_end
       (settling_last 0 (open_gate ∷ []) end c (omega (arith, end_size, geometry.room)) third))
       (synced_then (filling g (new_head g)) (settling 0 (open_gate ∷ [])) end_synced mid (λ d. d ≡ mid) c second))
       (closing_then 0 closed (filling g (new_head g) ++ settling 0 (open_gate ∷ [])) old c told later))
@@ -130,14 +130,14 @@ module _ (g : Geometry) (closed : Bool) (old : List ℕ) (geometry : IsGeometry 
   formatting_done =
       let mid : List ℕ = seen_at_end (closing 0 closed) old in
       let end : List ℕ = seen_at_end (filling g (new_head g)) (seen_at_end (closing 0 closed) old) in
-      format_done g (new_head g) end (seen_at_end (formatting g closed (new_head g)) old) refl (subst (IsGeometry g) (sym end_size) geometry) filled_end
+      format_done g (new_head g) end (seen_at_end (formatting g closed (new_head g)) old) refl (subst (IsLayout g) (sym end_size) geometry) filled_end
       (seen_joined (closing 0 closed) (filling g (new_head g) ++ settling 0 (open_gate ∷ [])) old ∙ seen_joined (filling g (new_head g)) (settling 0 (open_gate ∷ [])) mid)
 
 closing_all : (IsRange : ℕ → ℕ → Type 0) (closed : Bool) → IsRange 0 1 → AllWrites IsRange (closing 0 closed)
 closing_all IsRange true range = tt
 closing_all IsRange false range = (range, tt)
 
-formatting_all : (g : Geometry) (size : ℕ) (closed : Bool) → IsGeometry g size → AllWrites (IsPart g) (formatting g closed (new_head g))
+formatting_all : (g : Geometry) (size : ℕ) (closed : Bool) → IsLayout g size → AllWrites (IsPart g) (formatting g closed (new_head g))
 formatting_all g size closed geometry =
     let room = new_head_room g size (new_head g) geometry refl in
     all_joined (IsPart g) (closing 0 closed) (filling g (new_head g) ++ settling 0 (open_gate ∷ [])) (closing_all (IsPart g) closed (inl (omega arith)))
@@ -154,14 +154,14 @@ formatting_synced g closed head =
     (synced_behind (closing 0 closed) (filling g head ++ settling 0 (open_gate ∷ []))
     (synced_behind (filling g head) (settling 0 (open_gate ∷ [])) (settling_synced 0 (open_gate ∷ []))))
 
-module _ {D : Type 0} (state : D → DiskState) {a b : D} (g : Geometry) (geometry : IsGeometry g (state a).size) (settled : Settled (state a)) where
+module _ {D : Type 0} (state : D → DiskState) {a b : D} (g : Geometry) (geometry : IsLayout g (state a).size) (settled : Settled (state a)) where
   -- a crash at any moment
   pub format_leaves : {whole : Bool}
       → (closed : Bool) × ((state a).honest → (IsTrue closed ↔ IsClosed (state a).seen 0)) × Makes state (formatting g closed (new_head g)) whole a b
       → LeavesOnly (state a) (state b) (IsFormatting g (state a).seen)
   format_leaves made =
       makes_leaves state (IsFormatting g (state a).seen) made.2 settled
-      (formatting_image g made.0 (state a).seen (subst (IsGeometry g) (sym settled.consistent.seen_size) geometry) (made.1 settled.honest))
+      (formatting_image g made.0 (state a).seen (subst (IsLayout g) (sym settled.consistent.seen_size) geometry) (made.1 settled.honest))
 
   pub format_beside : {whole : Bool}
       → (closed : Bool) × ((state a).honest → (IsTrue closed ↔ IsClosed (state a).seen 0)) × Makes state (formatting g closed (new_head g)) whole a b
@@ -172,4 +172,4 @@ module _ {D : Type 0} (state : D → DiskState) {a b : D} (g : Geometry) (geomet
       → IsFormatted g (state b).seen
   format_formatted made =
       subst (IsFormatted g) (sym (makes_seen state made.2 settled.honest))
-      (formatting_done g made.0 (state a).seen (subst (IsGeometry g) (sym settled.consistent.seen_size) geometry) (made.1 settled.honest))
+      (formatting_done g made.0 (state a).seen (subst (IsLayout g) (sym settled.consistent.seen_size) geometry) (made.1 settled.honest))

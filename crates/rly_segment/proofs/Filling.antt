@@ -13,7 +13,7 @@ use Rattle.rly_gate.proofs.Appending.{gate_opened}
 use Rattle.rly_gate.proofs.Durable.{settling_all, settling_seen, settling_synced}
 use Rattle.rly_gate.specs.Calls.{settling}
 use Rattle.rly_gate.specs.Group.{IsClosed, StandsAt, open_gate}
-use Rattle.rly_segment.specs.Device.{IsGeometry, header_of}
+use Rattle.rly_segment.specs.Device.{IsLayout, header_of}
 use Rattle.rly_segment.specs.Heads.{NoneIsOpen, segment_place}
 use Rattle.rly_segment.specs.HelpersWriting.{IsUnopened}
 use Rattle.rly_segment.specs.Calls.{closing_gates, filling}
@@ -22,7 +22,7 @@ use Rattle.rly_segment.proofs.HeaderFields.{length-header}
 use Rattle.rly_segment.proofs.Segments.{segment_behind, segment_within}
 
 -- one gate more is closed
-pub closed_next : (g : Geometry) (segment size : ℕ) (old new : List ℕ) → IsGeometry g size → segment < g.segments → 1 ≤ g.length → length old ≡ size
+pub closed_next : (g : Geometry) (segment size : ℕ) (old new : List ℕ) → IsLayout g size → segment < g.segments → 1 ≤ g.length → length old ≡ size
     → new ≡ overwritten (segment_place g segment) (0 ∷ []) old
     → ((t : ℕ) → t < segment → IsClosed old (segment_place g t)) → (t : ℕ) → t < segment + 1 → IsClosed new (segment_place g t)
 closed_next g segment size old new geometry there long count written so_far t below = ⊎_elim
@@ -36,7 +36,7 @@ closed_next g segment size old new geometry there long count written so_far t be
     (cases_lt t segment)
 
 -- all but the header's gate
-pub filled : (g : Geometry) (size : ℕ) (head fields first second third last : List ℕ) → IsGeometry g size → 1 + length head ≤ g.length → length first ≡ size
+pub filled : (g : Geometry) (size : ℕ) (head fields first second third last : List ℕ) → IsLayout g size → 1 + length head ≤ g.length → length first ≡ size
     → fields ≡ header_of g → length (header_of g) ≡ 50 → NoneIsOpen first g
     → second ≡ overwritten 65 head first → third ≡ overwritten 1 fields second → last ≡ overwritten 64 (open_gate ∷ []) third → IsUnopened g head last
 filled g size head fields first second third last geometry room count is_header header_length none is_second is_third is_last = record {
@@ -57,7 +57,7 @@ filled g size head fields first second third last geometry room count is_header 
     first_place = omega arith
 
     long : 64 + g.length ≤ size
-    long = omega (arith, segment_within g 0 size geometry (omega (arith, geometry.segments)))
+    long = omega (arith, segment_within g 0 size geometry (omega (arith, geometry.segments.0)))
 
     first_second : SameOutside 65 (length head) first second
     first_second = subst (SameOutside 65 (length head) first) (sym is_second) (overwritten_outside 65 head first (omega (arith, long, room, count)))
@@ -86,7 +86,7 @@ filled g size head fields first second third last geometry room count is_header 
 
 -- ---- the calls that fill it
 
-module _ (g : Geometry) (size : ℕ) (geometry : IsGeometry g size) where
+module _ (g : Geometry) (size : ℕ) (geometry : IsLayout g size) where
   -- the gates of the first so many segments are closed
   pub gates_closed : (old : List ℕ) → length old ≡ size → (n : ℕ) → n ≤ g.segments
       → ((t : ℕ) → t < n → IsClosed (seen_at_end (closing_gates g n) old) (segment_place g t)) × (length (seen_at_end (closing_gates g n) old) ≡ size)
@@ -126,7 +126,7 @@ module _ (g : Geometry) (size : ℕ) (geometry : IsGeometry g size) where
         let first : List ℕ = seen_at_end (closing_gates g g.segments) old in
         let second : List ℕ = overwritten 65 head first in
         let third : List ℕ = overwritten 1 (header_of g) second in
-        let long : 64 + g.length ≤ size = omega (arith, segment_within g 0 size geometry (omega (arith, geometry.segments))) in
+        let long : 64 + g.length ≤ size = omega (arith, segment_within g 0 size geometry (omega (arith, geometry.segments.0))) in
         let closed = gates_closed old count g.segments (omega arith) in
         let one = (overwritten_outside 65 head first (omega (arith, long, room, closed.1))).same_length in
         let two = (overwritten_outside 1 (header_of g) second (omega (arith, long, one, closed.1, length-header g))).same_length in

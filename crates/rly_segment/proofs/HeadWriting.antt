@@ -6,7 +6,7 @@ use Rattle.rly_core.specs.declared.params.Params.{Params}
 use Rattle.rly_machine.specs.State.{HopState, State, new_hop, new_state}
 use Rattle.rly_checkpoint.specs.Checkpoint.{checkpoint_of, codel_of, hop_spelled, inline_form, state_spelled}
 use Rattle.rly_core.specs.declared.params.Geometry.{Geometry}
-use Rattle.rly_segment.specs.Device.{IsGeometry}
+use Rattle.rly_segment.specs.Device.{IsLayout}
 use Rattle.rly_segment.specs.Heads.{IsHeadOf, head_of, head_spelled}
 
 -- how long a head is
@@ -63,5 +63,5 @@ pub head_room : {P : Type 0} (len : P → ℕ) (form : P → List ℕ) (g : Geom
 head_room len form g segment generation s bytes head is = omega (arith, head.room, ap length is, length-head len form generation s)
 
 -- nor is the first one
-pub new_head_room : (g : Geometry) (size : ℕ) (bytes : List ℕ) → IsGeometry g size → bytes ≡ head_of 1 (new_state g.params) ++ 0 ∷ [] → 1 + length bytes ≤ g.length
+pub new_head_room : (g : Geometry) (size : ℕ) (bytes : List ℕ) → IsLayout g size → bytes ≡ head_of 1 (new_state g.params) ++ 0 ∷ [] → 1 + length bytes ≤ g.length
 new_head_room g size bytes geometry is = omega (arith, geometry.fits, ap length is, length-head length inline_form 1 (new_state g.params), length-new g.params)

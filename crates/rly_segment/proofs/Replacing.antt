@@ -17,12 +17,12 @@ use Rattle.rly_core.specs.declared.params.Geometry.{Geometry}
 use Rattle.rly_machine.specs.State.{State}
 use Rattle.rly_checkpoint.specs.Checkpoint.{inline_form}
 use Rattle.rly_segment.specs.Calls.{closing, replacing}
-use Rattle.rly_segment.specs.Device.{IsGeometry, IsLayout}
+use Rattle.rly_segment.specs.Device.{IsLayout}
 use Rattle.rly_segment.specs.Heads.{IsHead, IsHeadOf, IsOpening, IsOpeningOf, generation_in, head_of, head_spelled, opened_head, opened_spelled, segment_place}
 use Rattle.rly_segment.specs.HelpersWriting.{IsClosing, IsReplacing}
 use Rattle.rly_segment.proofs.Gates.{stays_closed, zero_closes}
 use Rattle.rly_segment.proofs.HeadWriting.{head_room}
-use Rattle.rly_segment.proofs.Segments.{layout_of, layout_within}
+use Rattle.rly_segment.proofs.Segments.{segment_within}
 
 module _ (place : ℕ) (bytes old : List ℕ) where
   -- while the gate is closed
@@ -149,7 +149,7 @@ module _ {P : Type 0} (len : P → ℕ) (form : P → List ℕ) (g : Geometry) (
       → images_within (replacing (segment_place g segment) closed (head_spelled len form generation s ++ 0 ∷ [])) old (λ d. d ≡ old) c → IsOpeningOf len form g segment generation s old c
   image_of_opening old c geometry there head told image =
       let room = head_room len form g segment generation s (head_spelled len form generation s ++ 0 ∷ []) head refl in
-      let fits : segment_place g segment + 1 + length (head_spelled len form generation s ++ 0 ∷ []) ≤ length old = omega (arith, layout_within g segment (length old) geometry there, room) in
+      let fits : segment_place g segment + 1 + length (head_spelled len form generation s ++ 0 ∷ []) ≤ length old = omega (arith, segment_within g segment (length old) geometry there, room) in
       opening len form g segment generation s (head_spelled len form generation s ++ 0 ∷ []) old c refl room
       (replacing_image (segment_place g segment) closed (head_spelled len form generation s ++ 0 ∷ []) old c fits told image)
 
@@ -174,10 +174,10 @@ opening_leaves len form state {a} g segment generation s closed geometry there h
 
 -- the same where every payload is inline
 module _ (g : Geometry) (segment generation : ℕ) (s : State (List ℕ)) (closed : Bool) where
-  pub opening_image : (old c : List ℕ) → IsGeometry g (length old) → segment < g.segments → IsHead g segment generation s → (IsTrue closed ↔ IsClosed old (segment_place g segment))
+  pub opening_image : (old c : List ℕ) → IsLayout g (length old) → segment < g.segments → IsHead g segment generation s → (IsTrue closed ↔ IsClosed old (segment_place g segment))
       → images_within (replacing (segment_place g segment) closed (head_of generation s ++ 0 ∷ [])) old (λ d. d ≡ old) c → IsOpening g segment generation s old c
   opening_image old c geometry there head told image =
-      image_of_opening length inline_form g segment generation s closed old c (layout_of g (length old) geometry) there head told image
+      image_of_opening length inline_form g segment generation s closed old c geometry there head told image
 
   pub opening_end : (old : List ℕ) → segment_place g segment + 1 ≤ length old
       → seen_at_end (replacing (segment_place g segment) closed (head_of generation s ++ 0 ∷ [])) old ≡ overwritten (segment_place g segment) (opened_head generation s) old

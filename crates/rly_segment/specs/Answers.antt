@@ -12,14 +12,14 @@ use Rattle.rly_segment.specs.declared.generations.NewestFault.TheVariants as new
 use Rattle.rly_segment.specs.declared.heads.Head.{Head}
 use Rattle.rly_segment.specs.declared.heads.HeadFault.{HeadFault}
 use Rattle.rly_segment.specs.declared.heads.HeadFault.TheVariants as head
-use Rattle.rly_segment.specs.Device.{IsDevice, IsGeometry, geometry_in}
+use Rattle.rly_segment.specs.Device.{IsDevice, IsLayout, geometry_in}
 use Rattle.rly_segment.specs.Heads.{HoldsHead, HoldsHeadOf, IsAmbiguous, IsNewest, segment_place}
 
 -- of a header: the geometry that it names, that there is none, or that no device of its size has that geometry
 abbrev pub IsReadHeader : List ℕ → Result Geometry HeaderFault → Type 0
-IsReadHeader image (Ok g) = IsDevice image × (g ≡ geometry_in image) × IsGeometry g (length image)
+IsReadHeader image (Ok g) = IsDevice image × (g ≡ geometry_in image) × IsLayout g (length image)
 IsReadHeader image (Err header.NotADevice) = IsDevice image → ⊥
-IsReadHeader image (Err header.BadGeometry) = IsDevice image × (IsGeometry (geometry_in image) (length image) → ⊥)
+IsReadHeader image (Err header.BadGeometry) = IsDevice image × (IsLayout (geometry_in image) (length image) → ⊥)
 IsReadHeader image (Err header.Device) = Unit {0}
 
 -- which gates read closed

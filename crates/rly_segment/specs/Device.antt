@@ -1,5 +1,5 @@
 -- The header of a device: what it is, and its geometry (docs/FORMATS.md, "The device").
-use Rattle.std.specs.Prelude.{◌≡◌, ℕ, ◌+◌, ◌*◌, ◌<◌, ◌≤◌, ◌^◌, List, [], ◌∷◌, ◌++◌, length, take, drop}
+use Rattle.std.specs.Prelude.{ℕ, ◌+◌, ◌*◌, ◌<◌, ◌≤◌, ◌^◌, List, [], ◌∷◌, ◌++◌, length, take, drop}
 use Rattle.byteorder.specs.Endian.{big_bytes, big_number}
 use Rattle.rly_core.specs.Bounds.{IsIn}
 use Rattle.rly_core.specs.Limits.{IsWithinLimits}
@@ -49,18 +49,10 @@ pub record IsDevice (image : List ℕ) : Type 0 where
 abbrev pub device_length : Geometry → ℕ
 device_length g = 64 + g.segments * g.length
 
--- a geometry for which a device of so many bytes has room: 2 to 256 segments, each long enough
+-- a geometry that a device of so many bytes may have: 2 to 256 segments, each long enough
 pub record IsLayout (g : Geometry) (size : ℕ) : Type 0 where
   pub params : IsWithinLimits g.params
   pub segments : IsIn 2 256 g.segments
-  pub length : g.length < 2 ^ 31
-  pub fits : Fits g
-  pub room : device_length g ≤ size
-
--- a geometry that a device of so many bytes may have; the segments are two until the journal has payloads by place
-pub record IsGeometry (g : Geometry) (size : ℕ) : Type 0 where
-  pub params : IsWithinLimits g.params
-  pub segments : g.segments ≡ 2
   pub length : g.length < 2 ^ 31
   pub fits : Fits g
   pub room : device_length g ≤ size

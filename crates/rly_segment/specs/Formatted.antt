@@ -3,14 +3,14 @@ use Rattle.std.specs.Prelude.{◌≡◌, ◌⊎◌, ℕ, ◌<◌, ◌≤◌, Lis
 use Rattle.rly_core.specs.declared.params.Geometry.{Geometry}
 use Rattle.rly_machine.specs.State.{new_state}
 use Rattle.rly_gate.specs.Group.{IsClosed, StandsAt}
-use Rattle.rly_segment.specs.Device.{IsDevice, IsGeometry, device_length, geometry_in}
+use Rattle.rly_segment.specs.Device.{IsDevice, IsLayout, device_length, geometry_in}
 use Rattle.rly_segment.specs.Heads.{opened_head, segment_place}
 
 -- a new device: its header, the head of the empty state in the first segment with no group after it, and no other head
 pub record IsFormatted (g : Geometry) (image : List ℕ) : Type 0 where
   pub device : IsDevice image
   pub geometry : geometry_in image ≡ g
-  pub fits : IsGeometry g (length image)
+  pub fits : IsLayout g (length image)
   pub head : StandsAt image (segment_place g 0) (opened_head 1 (new_state g.params))
   pub others : (t : ℕ) → 0 < t → t < g.segments → IsClosed image (segment_place g t)
 

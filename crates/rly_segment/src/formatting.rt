@@ -5,13 +5,13 @@ ghost use Rattle.rly_gate.specs.Group.{IsClosed};
 ghost use Rattle.rly_core.specs.Limits.{IsWithinLimits};
 ghost use Rattle.rly_machine.specs.State.{new_state};
 ghost use Rattle.rly_segment.specs.Calls.{closing_gates, filling, format_calls, formats, formatting, new_head};
-ghost use Rattle.rly_segment.specs.Device.{IsGeometry, header_of};
+ghost use Rattle.rly_segment.specs.Device.{IsLayout, header_of};
 ghost use Rattle.rly_segment.specs.Formatted.{IsFormatted, IsFormatting, IsSameBeside};
 ghost use Rattle.rly_segment.specs.Heads.{head_of};
 ghost use Rattle.rly_segment.specs.HelpersWriting.{limits_of, shape_of};
 
 use crate::head_bytes::head_bytes;
-use crate::header::{DEVICE_MARK, is_geometry};
+use crate::header::{DEVICE_MARK, is_layout};
 use crate::layout::{FIRST_SEGMENT, segment_place};
 use crate::opening::close_gate;
 use byteorder::{BigEndian, ByteOrder};
@@ -44,7 +44,7 @@ pub enum FormatFault {
 /// Makes a new device with no datagram in it. A crash at any moment of the call leaves the old
 /// device, none, or the new one. Bytes after the header's fields and after the last segment stay.
 pub fn format<D: Disk>(alloc: Global, disk: &mut D, geometry: &Geometry) -> Result<(), FormatFault>
-    ensures geometry { result ≡ Err FormatFault.BadGeometry ↔ ¬ IsGeometry geometry.now (D.state disk.old).size }
+    ensures geometry { result ≡ Err FormatFault.BadGeometry ↔ ¬ IsLayout geometry.now (D.state disk.old).size }
     ensures any_moment { Settled (D.state disk.old)
         → LeavesOnly (D.state disk.old) (D.state disk.new) (IsFormatting geometry.now (D.state disk.old).seen) }
     ensures beside { Settled (D.state disk.old) → LeavesOnly (D.state disk.old) (D.state disk.new) (IsSameBeside geometry.now (D.state disk.old).seen) }
@@ -53,7 +53,7 @@ pub fn format<D: Disk>(alloc: Global, disk: &mut D, geometry: &Geometry) -> Resu
     ensures trace { (closed : Bool) × ((D.state disk.old).honest → (IsTrue closed ↔ IsClosed (D.state disk.old).seen 0))
         × Makes D.state (format_calls result (formatting geometry.now closed (new_head geometry.now))) (formats result) disk.old disk.new }
 {
-    if !is_geometry(geometry, disk.size()) {
+    if !is_layout(geometry, disk.size()) {
         return Err(FormatFault::BadGeometry);
     }
     let Ok(head) = new_head(alloc, geometry) else {
@@ -76,7 +76,7 @@ fn new_head(alloc: Global, geometry: &Geometry) -> Result<Vec<u8>, AllocError>
 
 /// Makes a new device, with these bytes after the first segment's gate.
 fn write_device<D: Disk>(disk: &mut D, geometry: &Geometry, head: &[u8]) -> Result<(), DiskFault>
-    requires geometry { IsGeometry geometry.now (D.state disk.old).size }
+    requires geometry { IsLayout geometry.now (D.state disk.old).size }
     requires head { head.now ≡ head_of 1 (new_state geometry.now.params) ++ 0 ∷ [] }
     ensures { (closed : Bool) × ((D.state disk.old).honest → (IsTrue closed ↔ IsClosed (D.state disk.old).seen 0))
         × Makes D.state (formatting geometry.now closed head.now) (is_ok result) disk.old disk.new }
@@ -89,7 +89,7 @@ fn write_device<D: Disk>(disk: &mut D, geometry: &Geometry, head: &[u8]) -> Resu
 
 /// Writes all of a new device but the header's gate, which stays closed.
 fn write_contents<D: Disk>(disk: &mut D, geometry: &Geometry, head: &[u8]) -> Result<(), DiskFault>
-    requires geometry { IsGeometry geometry.now (D.state disk.old).size }
+    requires geometry { IsLayout geometry.now (D.state disk.old).size }
     requires room { 1 + length head.now ≤ geometry.now.length }
     ensures { Makes D.state (filling geometry.now head.now) (is_ok result) disk.old disk.new }
 {
@@ -102,7 +102,7 @@ fn write_contents<D: Disk>(disk: &mut D, geometry: &Geometry, head: &[u8]) -> Re
 /// Closes the gates of all segments, each by itself. The header's gate is closed, so that a torn
 /// write of a gate does no harm.
 fn close_gates<D: Disk>(disk: &mut D, geometry: &Geometry) -> Result<(), DiskFault>
-    requires { IsGeometry geometry.now (D.state disk.old).size }
+    requires { IsLayout geometry.now (D.state disk.old).size }
     ensures { Makes D.state (closing_gates geometry.now geometry.now.segments) (is_ok result) disk.old disk.new }
 {
     for segment in 0..geometry.segments {

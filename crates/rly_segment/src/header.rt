@@ -3,10 +3,10 @@ ghost use Rattle.rly_disk.specs.Trace.{Makes};
 ghost use Rattle.rly_gate.specs.Group.{IsOpen, StandsAt};
 ghost use Rattle.rly_segment.specs.Answers.{IsReadHeader};
 ghost use Rattle.rly_segment.specs.Calls.{header_reads, reads_header};
-ghost use Rattle.rly_segment.specs.Device.{IsGeometry, device_mark, geometry_in};
+ghost use Rattle.rly_segment.specs.Device.{IsLayout, device_mark, geometry_in};
 
 use crate::layout::{FIRST_SEGMENT, number_in};
-use rly_core::limits::{SEGMENT_LENGTH_LIMIT, SEGMENTS};
+use rly_core::limits::{MAX_SEGMENTS, SEGMENT_LENGTH_LIMIT, SEGMENTS};
 use rly_core::{Geometry, Params};
 use rly_disk::Disk;
 use rly_gate::{OPEN_GATE, fill};
@@ -31,7 +31,7 @@ pub enum HeaderFault {
 
 /// Reads the geometry of a device.
 pub fn read_header<D: Disk>(disk: &mut D) -> Result<Geometry, HeaderFault>
-    ensures geometry { IfOk result (λ geometry. IsGeometry geometry (D.state disk.old).size) }
+    ensures geometry { IfOk result (λ geometry. IsLayout geometry (D.state disk.old).size) }
     ensures read { (D.state disk.old).honest → IsReadHeader (D.state disk.old).seen result }
     ensures trace { Makes D.state (header_reads (D.state disk.old).size) (reads_header result) disk.old disk.new }
 {
@@ -47,7 +47,7 @@ pub fn read_header<D: Disk>(disk: &mut D) -> Result<Geometry, HeaderFault>
         return Err(HeaderFault::NotADevice);
     }
     let geometry = geometry_in(&header);
-    if is_geometry(&geometry, size) {
+    if is_layout(&geometry, size) {
         Ok(geometry)
     } else {
         Err(HeaderFault::BadGeometry)
@@ -82,11 +82,12 @@ fn geometry_in(header: &[u8; HEADER_BYTES]) -> Geometry
 }
 
 /// Whether a device of so many bytes may have a geometry.
-pub(crate) fn is_geometry(geometry: &Geometry, size: u64) -> bool
-    ensures { IsTrue result ↔ IsGeometry geometry.now size }
+pub(crate) fn is_layout(geometry: &Geometry, size: u64) -> bool
+    ensures { IsTrue result ↔ IsLayout geometry.now size }
 {
     geometry.params.check().is_ok()
-        && geometry.segments == SEGMENTS
+        && SEGMENTS <= geometry.segments
+        && geometry.segments <= MAX_SEGMENTS
         && geometry.length < SEGMENT_LENGTH_LIMIT
         && fits(geometry)
         && FIRST_SEGMENT + geometry.segments * geometry.length <= size

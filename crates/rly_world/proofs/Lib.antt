@@ -11,6 +11,7 @@ pub mod RelayPhases
 pub mod RelayRecords
 pub mod RelayReplaces
 pub mod RelayStart
+pub mod RelayStill
 pub mod PairLists
 mod PairRuns
 mod PairFetch

@@ -13,6 +13,7 @@ use Rattle.rly_machine.specs.State.{new_state}
 use Rattle.rly_machine.proofs.Folding.{fold_append}
 use Rattle.rly_journal.specs.Rounds.{refusals}
 use Rattle.rly_journal.specs.Standing.{Commands, IsStanding, Standing, Stands, state_in}
+use Rattle.rly_journal.proofs.Framing.{read_in}
 use Rattle.rly_world.specs.RelayPhases.{IsDone, IsNeeded, MaySync, MayWrite, bytes_of, place_of}
 use Rattle.rly_world.specs.RelaySteps.{after_phase, broke, called, counted_after, on_device}
 use Rattle.rly_world.specs.RelayWorld.{Answering, Batch, Body, Device, Gate, Head, IsImageOf, Phase, Ready, Round, Seal}
@@ -311,18 +312,18 @@ synced_core k position = record k { device = record { synced = seen_of k.device;
 
 module _ (k : Core) (phase : Phase) (w : IsWritten phase k) (seen : IsImageOf k.device (seen_of k.device)) where
   -- the next phase begins
-  next_written : (next : Phase) → IsStanding (seen_of k.device) w.x
-      × Begins next w.x (drop k.position k.accepted) (seen_of k.device) → IsWritten next (synced_core k k.position)
-  next_written next begun = record {
-    x = w.x;
-    stands = begun.0;
-    state = w.state;
+  next_written : (next : Phase) (y : Standing) → state_in y ≡ state_in w.x → IsStanding (seen_of k.device) y
+      → Begins next y (drop k.position k.accepted) (seen_of k.device) → IsWritten next (synced_core k k.position)
+  next_written next y same stands begins = record {
+    x = y;
+    stands = stands;
+    state = same ∙ w.state;
     told = w.told;
     counted = w.counted;
-    begins = begun.1;
+    begins = begins;
     images =
-        λ c is. subst (IsPhaseImage next w.x (drop k.position k.accepted) (seen_of k.device)) (sym is)
-        (first_image next w.x (drop k.position k.accepted) (seen_of k.device));
+        λ c is. subst (IsPhaseImage next y (drop k.position k.accepted) (seen_of k.device)) (sym is)
+        (first_image next y (drop k.position k.accepted) (seen_of k.device));
   }
 
   -- or no phase is left
@@ -350,27 +351,29 @@ next_at : (k : Core) (phase : Phase) (w : IsWritten phase k) → IsImageOf k.dev
     → IsDone phase w.x (drop k.position k.accepted) (seen_of k.device)
     → (v : World) → v.position ≡ k.position → v.accepted ≡ k.accepted
     → IsAt (synced_core k (counted_after phase v)) (after_phase phase)
-next_at k (Seal segment) w seen done v position accepted =
-    subst (λ n. IsWritten (Head segment) (synced_core k n)) (sym position)
-    (next_written k (Seal segment) w seen (Head segment)
-    (seal_next segment w.x (drop k.position k.accepted) k.device.synced (seen_of k.device) w.stands w.begins
-    (w.images (seen_of k.device) seen) done))
-next_at k (Head segment) w seen done v position accepted =
-    subst (λ n. IsWritten (Switch segment) (synced_core k n)) (sym position)
-    (next_written k (Head segment) w seen (Switch segment)
-    (head_next segment w.x (drop k.position k.accepted) k.device.synced (seen_of k.device) w.stands w.begins
-    (w.images (seen_of k.device) seen) done))
-next_at k (Switch segment) w seen done v position accepted =
+next_at k (Seal segment copy) w seen done v position accepted =
+    let next = seal_next segment copy w.x (drop k.position k.accepted) k.device.synced (seen_of k.device) w.stands
+    w.begins (w.images (seen_of k.device) seen) done in
+    subst (λ n. IsWritten (Head segment copy) (synced_core k n)) (sym position)
+    (next_written k (Seal segment copy) w seen (Head segment copy) (read_in (seen_of k.device) w.x) next.0.state
+    next.0.stands next.1)
+next_at k (Head segment copy) w seen done v position accepted =
+    let next = head_next segment copy w.x (drop k.position k.accepted) k.device.synced (seen_of k.device) w.stands
+    w.begins (w.images (seen_of k.device) seen) done in
+    subst (λ n. IsWritten (Switch segment copy) (synced_core k n)) (sym position)
+    (next_written k (Head segment copy) w seen (Switch segment copy) (read_in (seen_of k.device) w.x) next.0.state
+    next.0.stands next.1)
+next_at k (Switch segment copy) w seen done v position accepted =
     let none : drop k.position k.accepted ≡ [] = w.begins.1 in
-    next_calm k (Switch segment) w seen v.position (position ∙ none_left k w.counted none)
+    next_calm k (Switch segment copy) w seen v.position (position ∙ none_left k w.counted none)
     (subst (Stands (seen_of k.device)) (ap (fold length (state_in w.x)) (sym none) ∙ grown_to k w)
-    (switch_next segment w.x (drop k.position k.accepted) k.device.synced (seen_of k.device) w.stands w.begins
+    (switch_next segment copy w.x (drop k.position k.accepted) k.device.synced (seen_of k.device) w.stands w.begins
     (w.images (seen_of k.device) seen)))
 next_at k Body w seen done v position accepted =
+    let next = body_next w.x (drop k.position k.accepted) k.device.synced (seen_of k.device) w.stands w.begins
+    (w.images (seen_of k.device) seen) done in
     subst (λ n. IsWritten Gate (synced_core k n)) (sym position)
-    (next_written k Body w seen Gate
-    (body_next w.x (drop k.position k.accepted) k.device.synced (seen_of k.device) w.stands w.begins
-    (w.images (seen_of k.device) seen) done))
+    (next_written k Body w seen Gate w.x refl next.0 next.1)
 next_at k Gate w seen done v position accepted =
     next_calm k Gate w seen (length v.accepted) (ap length accepted)
     (subst (Stands (seen_of k.device)) (grown_to k w)

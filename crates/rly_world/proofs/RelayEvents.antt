@@ -1,5 +1,5 @@
 -- Each event keeps what holds of a relay.
-use Rattle.std.proofs.Common.{ℕ, ◌≡◌, ◌⊎◌, ◌≤◌, ◌<◌, ◌+◌, ◌++◌, ◌∙◌, nat_le, Bool, true, false, true≢false, List, []}
+use Rattle.std.proofs.Common.{ℕ, ◌≡◌, ◌⊎◌, ◌≤◌, ◌+◌, ◌++◌, ◌∙◌, nat_le, Bool, true, false, true≢false, List, []}
 use Rattle.std.proofs.Common.{◌∷◌, Option, Some, None, length, take, drop, arith, ap, refl, sym, subst, inl, inr}
 use Rattle.std.proofs.Common.{⊎_elim, length-append, length-take}
 use Rattle.std.specs.Prelude.{if◌then◌else◌}
@@ -14,6 +14,7 @@ use Rattle.rly_machine.specs.Fold.{AllAccepted}
 use Rattle.rly_machine.specs.History.{accepted_of, state_after}
 use Rattle.rly_machine.specs.Sound.{IsSound}
 use Rattle.rly_machine.specs.State.{State, new_state}
+use Rattle.rly_checkpoint.specs.declared.stored.Stored.{Stored}
 use Rattle.rly_machine.proofs.Folding.{accepted_append, accepted_parts, seq_fold}
 use Rattle.rly_machine.proofs.Histories.{folds, legal_but_for_bytes}
 use Rattle.rly_machine.proofs.Runs.{sound_from_new}
@@ -31,7 +32,7 @@ use Rattle.rly_world.specs.RelayWorld.{Answering, Batch, Body, IsImageOf, Ready,
 use Rattle.rly_world.specs.RelayWorld.{Writing, asked_of, batches_in, calls_of, logged, seen_of, state_from}
 use Rattle.rly_world.proofs.RelayAnswers.{AreBelow, asked_none, below_drop, below_take, fewer_calls, greatest_below}
 use Rattle.rly_world.proofs.RelayAnswers.{refused_below, refused_none, served_below}
-use Rattle.rly_world.proofs.RelayBegins.{due_target, one_standing, roomy_group}
+use Rattle.rly_world.proofs.RelayBegins.{roomy_group}
 use Rattle.rly_world.proofs.RelayCalls.{broke_held, calm_kept, failed_read_held, failed_sync_held, failed_write_held}
 use Rattle.rly_world.proofs.RelayCalls.{in_phase, placed_from, read_held, round_at, running_at, sync_held, write_held}
 use Rattle.rly_world.proofs.RelayCalls.{written_kept}
@@ -139,21 +140,15 @@ calm_of k true false stage batches answers first whole placed =
 calm_of k false broken stage batches answers first whole placed =
     let e : round_at stage batches answers ≡ None = placed in absurd cc
 
-opens_held : (w : World) (segment : ℕ) (batches : List Batch) (answers : List Answer) → w.is_broken ≡ false
-    → MayOpen w.device.synced segment → IsDueIn w.device.synced
+opens_held : (w : World) (segment : ℕ) (copy : State Stored) (batches : List Batch) (answers : List Answer)
+    → w.is_broken ≡ false → MayOpen w.device.synced segment copy
     → IsHeld (record w { round = round_at Taking batches answers })
-    → IsHeld (record w { round = round_at (Writing (Seal segment)) batches answers })
-opens_held w segment batches answers whole may due held =
-    let k = core_of w in
+    → IsHeld (record w { round = round_at (Writing (Seal segment copy)) batches answers })
+opens_held w segment copy batches answers whole may held =
     let now = calm_of (core_of w) w.is_open w.is_broken Taking batches answers (inl refl) whole held.placed in
     let calm : IsCalm (core_of w) = now.1 in
-    let x : Standing = due.0 in
-    let other = subst (λ y. (segment < y.geometry.segments) × (segment ≡ y.segment → ⊥))
-    (one_standing may.0 due.0 may.1 due.1) (may.2, may.3) in
-    let state : state_in due.0 ≡ whole_state (core_of w) = stands_for_one w.device.synced (state_in due.0)
-    (whole_state (core_of w)) (due.0, due.1, refl) calm.stands in
-    let sound : IsSound length (state_in due.0) = subst (IsSound length) (sym state)
-    (sound_of (core_of w) w.is_open w.is_broken (round_at Taking batches answers) held) in
+    let state : state_in may.0 ≡ whole_state (core_of w) = stands_for_one w.device.synced (state_in may.0)
+    (whole_state (core_of w)) (may.0, may.1, refl) calm.stands in
     let none : drop w.position w.accepted ≡ [] = drop_all w.position w.accepted (omega (arith, calm.counted)) in
     let all : take w.position w.accepted ≡ w.accepted = take_all w.position w.accepted (omega (arith, calm.counted)) in
     record {
@@ -165,10 +160,11 @@ opens_held w segment batches answers whole may due held =
       placed =
           placed_from (core_of w) (core_of w) w.is_open w.is_broken w.is_broken
           (record { stage = Taking; batches = batches; answers = answers })
-          (round_at (Writing (Seal segment)) batches answers) held.placed
-          (λ running. running_at (core_of w) w.is_broken (Writing (Seal segment)) batches answers whole now.0 (record {
-            x = due.0;
-            stands = due.1;
+          (round_at (Writing (Seal segment copy)) batches answers) held.placed
+          (λ running. running_at (core_of w) w.is_broken (Writing (Seal segment copy)) batches answers whole now.0
+          (record {
+            x = may.0;
+            stands = may.1;
             state = state ∙ ap (state_from w.params) (sym all);
             told = omega (
               arith,
@@ -176,10 +172,10 @@ opens_held w segment batches answers whole may due held =
               calm.counted,
             );
             counted = omega (arith, calm.counted);
-            begins = (due_target due.0 segment due.1 sound due.2 other.0 other.1, none);
+            begins = (may.2, none);
             images =
-                λ c image. subst (IsPhaseImage (Seal segment) due.0 (logged w) w.device.synced)
-                (sym (calm.only c image)) (first_image (Seal segment) due.0 (logged w) w.device.synced);
+                λ c image. subst (IsPhaseImage (Seal segment copy) may.0 (logged w) w.device.synced)
+                (sym (calm.only c image)) (first_image (Seal segment copy) may.0 (logged w) w.device.synced);
           }));
     }
 
@@ -506,10 +502,10 @@ called_held w FailedSync may held =
 pub after_held : (w : World) (e : Event) → HasPlace w e → IsHeld w → IsHeld (after w e)
 after_held w (event.Put seat asks) may held = held
 after_held w event.Takes may held = taken_held w w.kept w.line may.0 (may_take w.kept w.line w.round may.1) held
-after_held w (event.Opens segment) may held =
+after_held w (event.Opens segment copy) may held =
     let is = at_stage w may.2.0 Taking may.2.1 may.2.2.0 in
-    from_round (λ v. IsHeld (after v (event.Opens segment))) w (round_at Taking may.2.0.batches may.2.0.answers) is
-    (opens_held w segment may.2.0.batches may.2.0.answers may.0 may.1 may.2.2.1.1
+    from_round (λ v. IsHeld (after v (event.Opens segment copy))) w (round_at Taking may.2.0.batches may.2.0.answers) is
+    (opens_held w segment copy may.2.0.batches may.2.0.answers may.0 may.1
     (in_round IsHeld w (round_at Taking may.2.0.batches may.2.0.answers) is held))
 after_held w (event.Evaluates given) may held =
     let round : Round = may.0 in

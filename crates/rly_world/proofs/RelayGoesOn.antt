@@ -35,11 +35,11 @@ gate_written place seen within =
 done_when : (phase : Phase) (x : Standing) (commands : Commands) (seen : List ℕ)
     → place_of phase x + length (bytes_of phase x commands) ≤ length seen
     → IsDone phase x commands (overwritten (place_of phase x) (bytes_of phase x commands) seen)
-done_when (Seal segment) x commands seen within = zero_closes (segment_place x.geometry segment) seen within
-done_when (Head segment) x commands seen within =
-    part-overwritten (segment_place x.geometry segment + 1) (bytes_of (Head segment) x commands) seen
+done_when (Seal segment copy) x commands seen within = zero_closes (segment_place x.geometry segment) seen within
+done_when (Head segment copy) x commands seen within =
+    part-overwritten (segment_place x.geometry segment + 1) (bytes_of (Head segment copy) x commands) seen
     (omega (arith, within))
-done_when (Switch segment) x commands seen within = gate_written (segment_place x.geometry segment) seen within
+done_when (Switch segment copy) x commands seen within = gate_written (segment_place x.geometry segment) seen within
 done_when Body x commands seen within =
     part-overwritten (gate_of x + 1) (frame_of (body_of commands)) seen (omega (arith, within))
 done_when Gate x commands seen within = gate_written (gate_of x) seen within
@@ -47,9 +47,9 @@ done_when Gate x commands seen within = gate_written (gate_of x) seen within
 -- without the write only where a gate reads closed
 done_already : (phase : Phase) (x : Standing) (commands : Commands) (seen : List ℕ) → (IsNeeded phase x seen → ⊥)
     → IsDone phase x commands seen
-done_already (Seal segment) x commands seen closed = closed
-done_already (Head segment) x commands seen skipped = absurd (skipped tt)
-done_already (Switch segment) x commands seen skipped = absurd (skipped tt)
+done_already (Seal segment copy) x commands seen closed = closed
+done_already (Head segment copy) x commands seen skipped = absurd (skipped tt)
+done_already (Switch segment copy) x commands seen skipped = absurd (skipped tt)
 done_already Body x commands seen skipped = absurd (skipped tt)
 done_already Gate x commands seen skipped = absurd (skipped tt)
 

@@ -1,32 +1,30 @@
 -- What a crash leaves in each phase of a round, and what stands when the phase is over.
-use Rattle.std.proofs.Common.{◌≡◌, ◌≢◌, ◌⊎◌, ◌≤◌, ◌<◌, ◌+◌, ◌^◌, ◌++◌, ◌∷◌, [], ◌∙◌, ℕ, List, length, get_or, arith}
+use Rattle.std.proofs.Common.{◌≡◌, ◌⊎◌, ◌≤◌, ◌<◌, ◌+◌, ◌^◌, ◌++◌, ◌∷◌, [], ◌∙◌, ℕ, List, length, get_or, arith}
 use Rattle.std.proofs.Common.{sym, refl, subst, inl, inr, length-append}
 use Rattle.std.proofs.lemmas.Bool.{cases_eq}
 use Rattle.rly_disk.specs.DiskModel.{SameOutside}
 use Rattle.rly_disk.proofs.Ranges.{same_outside_again, wider}
 use Rattle.rly_machine.specs.Fold.{AllAccepted, fold}
-use Rattle.rly_machine.specs.Sound.{IsSound}
-use Rattle.rly_checkpoint.specs.Checkpoint.{checkpoint_of}
+use Rattle.rly_machine.specs.State.{State}
+use Rattle.rly_checkpoint.specs.Checkpoint.{state_spelled}
+use Rattle.rly_checkpoint.specs.Stored.{stored_form, stored_length}
+use Rattle.rly_checkpoint.specs.declared.stored.Stored.{Stored}
 use Rattle.rly_gate.specs.Group.{IsAppended, IsClosed, IsOpen, StandsAt, frame_of, group_of, open_gate}
 use Rattle.rly_gate.proofs.Appending.{behind_the_gate, gate_opened}
 use Rattle.rly_record.specs.Spelling.{HaveBody, body_of}
-use Rattle.rly_segment.specs.Heads.{IsHead, IsOpening, head_of, segment_place}
+use Rattle.rly_segment.specs.Heads.{IsOpeningOf, head_spelled, segment_place}
 use Rattle.rly_segment.proofs.Segments.{segment_within}
+use Rattle.rly_journal.specs.Framing.{IsHeadFor}
 use Rattle.rly_journal.specs.Standing.{Commands, HoldGroups, IsStanding, Standing, Stands, first_of, gate_behind}
 use Rattle.rly_journal.specs.Standing.{gate_of, next_gate, standing_end, state_in}
 use Rattle.rly_journal.proofs.Agreeing.{number_still, same_behind}
-use Rattle.rly_journal.proofs.Frame.{length-head}
-use Rattle.rly_journal.proofs.Growing.{grown, renewed, replayed-more, with_group, with_segment}
+use Rattle.rly_journal.proofs.Frame.{length-spelled}
+use Rattle.rly_journal.proofs.Framing.{opening_law, read_in}
+use Rattle.rly_journal.proofs.Growing.{grown, replayed-more, with_group}
 use Rattle.rly_journal.proofs.Once.{gate_there}
-use Rattle.rly_world.specs.RelayPhases.{IsDone, IsNeeded, bytes_of, place_of}
+use Rattle.rly_world.specs.RelayPhases.{IsDone, IsNeeded, bytes_of, next_head, place_of}
 use Rattle.rly_world.specs.RelayWorld.{Body, Gate, Head, Phase, Seal, Switch}
-
--- a segment that may be opened
-pub record IsTarget (x : Standing) (segment : ℕ) : Type 0 where
-  pub there : segment < x.geometry.segments
-  pub other : segment ≢ x.segment
-  pub sound : IsSound length (state_in x)
-  pub head : IsHead x.geometry segment (x.generation + 1) (state_in x)
+use Rattle.rly_world.proofs.RelayStill.{IsStill, stays_still}
 
 -- commands that may be appended as one group
 pub record IsGroup (x : Standing) (commands : Commands) : Type 0 where
@@ -37,21 +35,21 @@ pub record IsGroup (x : Standing) (commands : Commands) : Type 0 where
 
 -- what a phase begins with
 abbrev pub Begins : Phase → Standing → Commands → List ℕ → Type 0
-Begins (Seal segment) x commands old = IsTarget x segment × (commands ≡ [])
-Begins (Head segment) x commands old =
-    IsTarget x segment × (commands ≡ []) × IsClosed old (segment_place x.geometry segment)
-Begins (Switch segment) x commands old =
-    IsTarget x segment × (commands ≡ []) × IsClosed old (segment_place x.geometry segment)
-    × StandsAt old (segment_place x.geometry segment + 1) (head_of (x.generation + 1) (state_in x) ++ 0 ∷ [])
+Begins (Seal segment copy) x commands old = IsHeadFor old x segment copy × (commands ≡ [])
+Begins (Head segment copy) x commands old =
+    IsHeadFor old x segment copy × (commands ≡ []) × IsClosed old (segment_place x.geometry segment)
+Begins (Switch segment copy) x commands old =
+    IsHeadFor old x segment copy × (commands ≡ []) × IsClosed old (segment_place x.geometry segment)
+    × StandsAt old (segment_place x.geometry segment + 1) (next_head x copy)
 Begins Body x commands old = IsGroup x commands
 Begins Gate x commands old = IsGroup x commands × StandsAt old (gate_of x + 1) (frame_of (body_of commands))
 
 -- a gate that is to be closed opens in no crash
 abbrev pub StaysShut : Phase → Standing → List ℕ → List ℕ → Type 0
-StaysShut (Seal segment) x old image =
+StaysShut (Seal segment copy) x old image =
     IsOpen image (segment_place x.geometry segment) → IsOpen old (segment_place x.geometry segment)
-StaysShut (Head segment) x old image = Unit {0}
-StaysShut (Switch segment) x old image = Unit {0}
+StaysShut (Head segment copy) x old image = Unit {0}
+StaysShut (Switch segment copy) x old image = Unit {0}
 StaysShut Body x old image = Unit {0}
 StaysShut Gate x old image = Unit {0}
 
@@ -64,9 +62,9 @@ same_list : (place n : ℕ) (old : List ℕ) → SameOutside place n old old
 same_list place n old = record { same_length = refl; each = λ i out. refl }
 
 shut_itself : (phase : Phase) (x : Standing) (old : List ℕ) → StaysShut phase x old old
-shut_itself (Seal segment) x old = λ opened. opened
-shut_itself (Head segment) x old = tt
-shut_itself (Switch segment) x old = tt
+shut_itself (Seal segment copy) x old = λ opened. opened
+shut_itself (Head segment copy) x old = tt
+shut_itself (Switch segment copy) x old = tt
 shut_itself Body x old = tt
 shut_itself Gate x old = tt
 
@@ -82,36 +80,40 @@ first_image phase x commands old =
 
 -- ---- the opening of a segment
 
-pub length-behind : (x : Standing)
-    → length (head_of (x.generation + 1) (state_in x) ++ 0 ∷ []) ≡ 13 + length (checkpoint_of (state_in x))
-length-behind x =
+pub length-behind : (x : Standing) (copy : State Stored)
+    → length (next_head x copy) ≡ 13 + length (state_spelled stored_length stored_form copy)
+length-behind x copy =
     omega (
       arith,
-      length-append (head_of (x.generation + 1) (state_in x)) (0 ∷ []),
-      length-head (x.generation + 1)
-          (state_in x),
+      length-append (head_spelled stored_length stored_form (x.generation + 1) copy) (0 ∷ []),
+      length-spelled stored_length stored_form (x.generation + 1) copy,
     )
 
-module _ {old image : List ℕ} (x : Standing) (segment : ℕ) (target : IsTarget x segment) where
+-- what a crash leaves within the opening
+abbrev IsOpened : Standing → ℕ → State Stored → List ℕ → List ℕ → Type 0
+IsOpened x segment copy = IsOpeningOf stored_length stored_form x.geometry segment (x.generation + 1) copy
+
+module _ {old image : List ℕ} (x : Standing) (segment : ℕ) (copy : State Stored) (for : IsHeadFor old x segment copy) where
   opening_within : (from n : ℕ) → segment_place x.geometry segment ≤ from
-      → from + n ≤ segment_place x.geometry segment + 14 + length (checkpoint_of (state_in x))
+      → from + n ≤ segment_place x.geometry segment + 14 + length (state_spelled stored_length stored_form copy)
       → SameOutside from n old image
       → SameOutside (segment_place x.geometry segment) x.geometry.length old image
   opening_within from n begins ends same =
-      wider (segment_place x.geometry segment) x.geometry.length from n begins (omega (arith, ends, target.head.room))
-      same
+      wider (segment_place x.geometry segment) x.geometry.length from n begins (omega (arith, ends, for.head.room)) same
 
   opening_shut : SameOutside (segment_place x.geometry segment) x.geometry.length old image
-      → IsClosed image (segment_place x.geometry segment)
-      → IsOpening x.geometry segment (x.generation + 1) (state_in x) old image
+      → IsClosed image (segment_place x.geometry segment) → IsOpened x segment copy old image
   opening_shut outside closed = record { outside = outside; whole = inl (λ opened. absurd (closed opened)) }
 
-  seal_opening : IsPhaseImage (Seal segment) x [] old image
-      → IsOpening x.geometry segment (x.generation + 1) (state_in x) old image
+  seal_outside : IsPhaseImage (Seal segment copy) x [] old image
+      → SameOutside (segment_place x.geometry segment) x.geometry.length old image
+  seal_outside left = opening_within (segment_place x.geometry segment) 1 (omega arith) (omega arith) left.outside
+
+  seal_opening : IsPhaseImage (Seal segment copy) x [] old image → IsOpened x segment copy old image
   seal_opening left =
       let place : ℕ = segment_place x.geometry segment in
       record {
-        outside = opening_within place 1 (omega arith) (omega arith) left.outside;
+        outside = seal_outside left;
         whole = inl (λ opened. (
           left.shut opened,
           number_still (place + 1) (place + 9) (place + 1) 8 (omega arith) (omega arith)
@@ -119,61 +121,39 @@ module _ {old image : List ℕ} (x : Standing) (segment : ℕ) (target : IsTarge
         ));
       }
 
-  head_shut : IsClosed old (segment_place x.geometry segment) → IsPhaseImage (Head segment) x [] old image
+  head_shut : IsClosed old (segment_place x.geometry segment) → IsPhaseImage (Head segment copy) x [] old image
       → IsClosed image (segment_place x.geometry segment)
   head_shut closed left opened =
       closed (sym (left.outside.each (segment_place x.geometry segment) (inl (omega arith))) ∙ opened)
 
-  head_opening : IsClosed old (segment_place x.geometry segment) → IsPhaseImage (Head segment) x [] old image
-      → IsOpening x.geometry segment (x.generation + 1) (state_in x) old image
-  head_opening closed left =
-      opening_shut
-      (opening_within (segment_place x.geometry segment + 1)
-      (length (head_of (x.generation + 1) (state_in x) ++ 0 ∷ [])) (omega arith) (omega (arith, length-behind x))
-      left.outside)
-      (head_shut closed left)
+  head_outside : IsPhaseImage (Head segment copy) x [] old image
+      → SameOutside (segment_place x.geometry segment) x.geometry.length old image
+  head_outside left =
+      opening_within (segment_place x.geometry segment + 1) (length (next_head x copy)) (omega arith)
+      (omega (arith, length-behind x copy)) left.outside
+
+  head_opening : IsClosed old (segment_place x.geometry segment) → IsPhaseImage (Head segment copy) x [] old image
+      → IsOpened x segment copy old image
+  head_opening closed left = opening_shut (head_outside left) (head_shut closed left)
 
   switch_opening : segment_place x.geometry segment < length old
-      → StandsAt old (segment_place x.geometry segment + 1) (head_of (x.generation + 1) (state_in x) ++ 0 ∷ [])
-      → IsPhaseImage (Switch segment) x [] old image
-      → IsOpening x.geometry segment (x.generation + 1) (state_in x) old image
+      → StandsAt old (segment_place x.geometry segment + 1) (next_head x copy)
+      → IsPhaseImage (Switch segment copy) x [] old image → IsOpened x segment copy old image
   switch_opening within stands left =
       let place : ℕ = segment_place x.geometry segment in
       let outside = opening_within place 1 (omega arith) (omega arith) left.outside in
       elim (cases_eq (get_or image place 0) open_gate) [
         | inl opened ↦ record {
           outside = outside;
-          whole = inr
-              (gate_opened place (head_of (x.generation + 1) (state_in x) ++ 0 ∷ []) old image within stands
-              left.outside opened);
+          whole = inr (gate_opened place (next_head x copy) old image within stands left.outside opened);
         }
         | inr closed ↦ opening_shut outside closed
       ]
 
-  -- either standing is of the same state
-  opening_stands : IsStanding old x → IsOpening x.geometry segment (x.generation + 1) (state_in x) old image
-      → Stands image (state_in x)
-  opening_stands stands left =
-      elim (renewed x segment stands target.there target.other target.sound target.head
-      (omega (arith, target.head.most, target.sound.seq)) image left) [
-        | inl before ↦ (x, before, refl)
-        | inr after ↦ (with_segment x segment, after, refl)
-      ]
-
-  -- and it is the same while the gate is closed
-  opening_same : IsStanding old x → IsOpening x.geometry segment (x.generation + 1) (state_in x) old image
-      → IsClosed image (segment_place x.geometry segment) → IsStanding image x
-  opening_same stands left closed =
-      elim (renewed x segment stands target.there target.other target.sound target.head
-      (omega (arith, target.head.most, target.sound.seq)) image left) [
-        | inl before ↦ before
-        | inr after ↦ absurd (closed after.scanned.newest.gate)
-      ]
-
-segment_there : {old : List ℕ} (x : Standing) (segment : ℕ) → IsStanding old x → IsTarget x segment
-    → segment_place x.geometry segment < length old
-segment_there {old} x segment stands target =
-    omega (arith, segment_within x.geometry segment (length old) stands.scanned.fits target.there, target.head.room)
+segment_there : {old : List ℕ} (x : Standing) (segment : ℕ) (copy : State Stored) → IsStanding old x
+    → IsHeadFor old x segment copy → segment_place x.geometry segment < length old
+segment_there {old} x segment copy stands for =
+    omega (arith, segment_within x.geometry segment (length old) stands.scanned.fits for.there, for.head.room)
 
 -- ---- a group
 
@@ -251,50 +231,50 @@ pub phase_stands : (phase : Phase) (x : Standing) (commands : Commands) (old ima
     → Begins phase x commands old
     → IsPhaseImage phase x commands old image → Stands image (state_in x)
     ⊎ Stands image (fold length (state_in x) commands)
-phase_stands (Seal segment) x commands old image stands begins left =
-    inl (opening_stands x segment begins.0 stands
-    (seal_opening x segment begins.0 (subst (λ c. IsPhaseImage (Seal segment) x c old image) begins.1 left)))
-phase_stands (Head segment) x commands old image stands begins left =
-    inl (opening_stands x segment begins.0 stands
-    (head_opening x segment begins.0 begins.2
-    (subst (λ c. IsPhaseImage (Head segment) x c old image) begins.1 left)))
-phase_stands (Switch segment) x commands old image stands begins left =
-    inl (opening_stands x segment begins.0 stands
-    (switch_opening x segment begins.0 (segment_there x segment stands begins.0) begins.3
-    (subst (λ c. IsPhaseImage (Switch segment) x c old image) begins.1 left)))
+phase_stands (Seal segment copy) x commands old image stands begins left =
+    inl (opening_law old image x segment copy stands begins.0
+    (seal_opening x segment copy begins.0
+    (subst (λ c. IsPhaseImage (Seal segment copy) x c old image) begins.1 left)))
+phase_stands (Head segment copy) x commands old image stands begins left =
+    inl (opening_law old image x segment copy stands begins.0
+    (head_opening x segment copy begins.0 begins.2
+    (subst (λ c. IsPhaseImage (Head segment copy) x c old image) begins.1 left)))
+phase_stands (Switch segment copy) x commands old image stands begins left =
+    inl (opening_law old image x segment copy stands begins.0
+    (switch_opening x segment copy begins.0 (segment_there x segment copy stands begins.0) begins.3
+    (subst (λ c. IsPhaseImage (Switch segment copy) x c old image) begins.1 left)))
 phase_stands Body x commands old image stands begins left =
     appended_stands x commands begins stands (body_appended x commands begins stands left)
 phase_stands Gate x commands old image stands begins left =
     appended_stands x commands begins.0 stands (gate_appended x commands begins.0 stands begins.1 left)
 
 -- when it is over, what is read is what the next phase begins with, or stands for the state that was to be made
-pub seal_next : (segment : ℕ) (x : Standing) (commands : Commands) (old seen : List ℕ) → IsStanding old x
-    → Begins (Seal segment) x commands old
-    → IsPhaseImage (Seal segment) x commands old seen → IsDone (Seal segment) x commands seen → IsStanding seen x
-    × Begins (Head segment) x commands seen
-seal_next segment x commands old seen stands begins left done =
-    let opening = seal_opening x segment begins.0
-    (subst (λ c. IsPhaseImage (Seal segment) x c old seen) begins.1 left) in
-    (opening_same x segment begins.0 stands opening done, (begins.0, begins.1, done))
+pub seal_next : (segment : ℕ) (copy : State Stored) (x : Standing) (commands : Commands) (old seen : List ℕ)
+    → IsStanding old x → Begins (Seal segment copy) x commands old
+    → IsPhaseImage (Seal segment copy) x commands old seen → IsDone (Seal segment copy) x commands seen
+    → IsStill x segment copy seen × Begins (Head segment copy) (read_in seen x) commands seen
+seal_next segment copy x commands old seen stands begins left done =
+    let image = subst (λ c. IsPhaseImage (Seal segment copy) x c old seen) begins.1 left in
+    let still = stays_still x segment copy stands begins.0 (seal_outside x segment copy begins.0 image) done in
+    (still, (still.head, begins.1, done))
 
-pub head_next : (segment : ℕ) (x : Standing) (commands : Commands) (old seen : List ℕ) → IsStanding old x
-    → Begins (Head segment) x commands old
-    → IsPhaseImage (Head segment) x commands old seen → IsDone (Head segment) x commands seen → IsStanding seen x
-    × Begins (Switch segment) x commands seen
-head_next segment x commands old seen stands begins left done =
-    let image = subst (λ c. IsPhaseImage (Head segment) x c old seen) begins.1 left in
-    let shut = head_shut x segment begins.0 begins.2 image in (
-      opening_same x segment begins.0 stands (head_opening x segment begins.0 begins.2 image) shut,
-      (begins.0, begins.1, shut, done),
-    )
+pub head_next : (segment : ℕ) (copy : State Stored) (x : Standing) (commands : Commands) (old seen : List ℕ)
+    → IsStanding old x → Begins (Head segment copy) x commands old
+    → IsPhaseImage (Head segment copy) x commands old seen → IsDone (Head segment copy) x commands seen
+    → IsStill x segment copy seen × Begins (Switch segment copy) (read_in seen x) commands seen
+head_next segment copy x commands old seen stands begins left done =
+    let image = subst (λ c. IsPhaseImage (Head segment copy) x c old seen) begins.1 left in
+    let shut = head_shut x segment copy begins.0 begins.2 image in
+    let still = stays_still x segment copy stands begins.0 (head_outside x segment copy begins.0 image) shut in
+    (still, (still.head, begins.1, shut, done))
 
-pub switch_next : (segment : ℕ) (x : Standing) (commands : Commands) (old seen : List ℕ) → IsStanding old x
-    → Begins (Switch segment) x commands old
-    → IsPhaseImage (Switch segment) x commands old seen → Stands seen (state_in x)
-switch_next segment x commands old seen stands begins left =
-    opening_stands x segment begins.0 stands
-    (switch_opening x segment begins.0 (segment_there x segment stands begins.0) begins.3
-    (subst (λ c. IsPhaseImage (Switch segment) x c old seen) begins.1 left))
+pub switch_next : (segment : ℕ) (copy : State Stored) (x : Standing) (commands : Commands) (old seen : List ℕ)
+    → IsStanding old x → Begins (Switch segment copy) x commands old
+    → IsPhaseImage (Switch segment copy) x commands old seen → Stands seen (state_in x)
+switch_next segment copy x commands old seen stands begins left =
+    opening_law old seen x segment copy stands begins.0
+    (switch_opening x segment copy begins.0 (segment_there x segment copy stands begins.0) begins.3
+    (subst (λ c. IsPhaseImage (Switch segment copy) x c old seen) begins.1 left))
 
 pub body_next : (x : Standing) (commands : Commands) (old seen : List ℕ) → IsStanding old x → Begins Body x commands old
     → IsPhaseImage Body x commands old seen → IsDone Body x commands seen → IsStanding seen x
@@ -324,9 +304,9 @@ phase_torn phase x commands old seen d image place n from to needed read before 
   where
     shut_torn : (phase : Phase) → IsNeeded phase x seen → IsPhaseImage phase x commands old seen
         → StaysShut phase x old image
-    shut_torn (Seal segment) needed read = λ opened. read.shut needed
-    shut_torn (Head segment) needed read = tt
-    shut_torn (Switch segment) needed read = tt
+    shut_torn (Seal segment copy) needed read = λ opened. read.shut needed
+    shut_torn (Head segment copy) needed read = tt
+    shut_torn (Switch segment copy) needed read = tt
     shut_torn Body needed read = tt
     shut_torn Gate needed read = tt
 
@@ -334,16 +314,18 @@ phase_torn phase x commands old seen d image place n from to needed read before 
 pub phase_within : (phase : Phase) (x : Standing) (commands : Commands) (old : List ℕ) → IsStanding old x
     → Begins phase x commands old
     → place_of phase x + length (bytes_of phase x commands) ≤ length old
-phase_within (Seal segment) x commands old stands begins = omega (arith, segment_there x segment stands begins.0)
-phase_within (Head segment) x commands old stands begins =
+phase_within (Seal segment copy) x commands old stands begins =
+    omega (arith, segment_there x segment copy stands begins.0)
+phase_within (Head segment copy) x commands old stands begins =
     omega (
       arith,
-      length-behind x,
+      length-behind x copy,
       begins.0.head.room,
       segment_within x.geometry segment (length old)
           stands.scanned.fits begins.0.there,
     )
-phase_within (Switch segment) x commands old stands begins = omega (arith, segment_there x segment stands begins.0)
+phase_within (Switch segment copy) x commands old stands begins =
+    omega (arith, segment_there x segment copy stands begins.0)
 phase_within Body x commands old stands begins =
     omega (
       arith,

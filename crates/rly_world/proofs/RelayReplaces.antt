@@ -8,11 +8,14 @@ use Rattle.rly_disk.specs.Trace.{Sync, Write}
 use Rattle.rly_gate.specs.Calls.{settling}
 use Rattle.rly_gate.specs.Group.{IsClosed, IsOpen, open_gate}
 use Rattle.rly_machine.specs.declared.call.Answer.{Answer}
+use Rattle.rly_machine.specs.State.{State}
+use Rattle.rly_checkpoint.specs.declared.stored.Stored.{Stored}
 use Rattle.rly_segment.specs.Calls.{replacing}
 use Rattle.rly_segment.specs.Formatted.{IsFormatted}
-use Rattle.rly_segment.specs.Heads.{head_of, segment_place}
-use Rattle.rly_journal.specs.Standing.{Commands, IsStanding, Standing, state_in}
-use Rattle.rly_world.specs.RelayPhases.{IsDone, IsNeeded}
+use Rattle.rly_segment.specs.Heads.{segment_place}
+use Rattle.rly_journal.specs.Standing.{Commands, IsStanding, Standing}
+use Rattle.rly_journal.proofs.Framing.{read_in}
+use Rattle.rly_world.specs.RelayPhases.{IsDone, IsNeeded, next_head}
 use Rattle.rly_world.specs.RelaySteps.{Event, MayCall, Run, after}
 use Rattle.rly_world.specs.RelaySteps as event
 use Rattle.rly_world.specs.RelayWorld.{Batch, Head, Phase, Ready, Round, Seal, Switch, World, Writing, asked_of}
@@ -26,15 +29,19 @@ use Rattle.rly_world.proofs.RelayHolds.{IsHeld, core_of}
 use Rattle.rly_world.proofs.RelayPhases.{Begins, IsPhaseImage, head_next, length-behind, seal_next}
 use Rattle.rly_world.proofs.RelayStart.{holds}
 
--- what a phase leaves standing
+-- a phase leaves the standing, but for the bytes of payloads that aren't live
 abbrev pub StandsOn : Phase → Type 0
 StandsOn phase = (y : Standing) (commands : Commands) (old seen : List ℕ) → IsStanding old y
     → Begins phase y commands old → IsPhaseImage phase y commands old seen → IsDone phase y commands seen
-    → IsStanding seen y
+    → IsStanding seen (read_in seen y)
+
+-- the standing once the phase's own bytes are written
+abbrev pub written_standing : World → Phase → Standing → Standing
+written_standing w phase x = read_in (seen_of (asked_of w.device (own_write phase x (logged w)))) x
 
 pub stands_on : (w : World) (phase : Phase) (batches : List Batch) (answers : List Answer) (x : Standing) → StandsOn phase
     → IsHeld (in_phase w phase batches answers) → IsStanding w.device.synced x → IsNeeded phase x (seen_of w.device)
-    → IsStanding (seen_of (asked_of w.device (own_write phase x (logged w)))) x
+    → IsStanding (seen_of (asked_of w.device (own_write phase x (logged w)))) (written_standing w phase x)
 stands_on w phase batches answers x next_of held stands needed =
     let v : World = in_phase w phase batches answers in
     let round : Round = record { stage = Writing phase; batches = batches; answers = answers } in
@@ -46,68 +53,76 @@ stands_on w phase batches answers x next_of held stands needed =
     let same : now.x ≡ x = one_standing now.x x now.stands stands in
     let seen : List ℕ = seen_of (asked_of w.device (own_write phase x (logged w))) in
     let done : IsDone phase x (logged w) seen = own_done v round phase held refl refl x stands in
-    subst (IsStanding seen) same
+    subst (λ y. IsStanding seen (read_in seen y)) same
     (next_of now.x (logged w) w.device.synced seen now.stands now.begins (now.images seen written.seen)
     (subst (λ y. IsDone phase y (logged w) seen) (sym same) done))
 
 -- the same where the gate read closed
-pub stands_closed : (w : World) (segment : ℕ) (batches : List Batch) (answers : List Answer) (x : Standing)
-    → IsHeld (in_phase w (Seal segment) batches answers) → IsStanding w.device.synced x
-    → IsClosed (seen_of w.device) (segment_place x.geometry segment) → IsStanding (seen_of w.device) x
-stands_closed w segment batches answers x held stands closed =
-    let now = (writing_of (core_of w) w.is_open w.is_broken (Seal segment) batches answers held.placed).2 in
+pub stands_closed : (w : World) (segment : ℕ) (copy : State Stored) (batches : List Batch) (answers : List Answer)
+    (x : Standing) → IsHeld (in_phase w (Seal segment copy) batches answers) → IsStanding w.device.synced x
+    → IsClosed (seen_of w.device) (segment_place x.geometry segment)
+    → IsStanding (seen_of w.device) (read_in (seen_of w.device) x)
+stands_closed w segment copy batches answers x held stands closed =
+    let now = (writing_of (core_of w) w.is_open w.is_broken (Seal segment copy) batches answers held.placed).2 in
     let same : now.x ≡ x = one_standing now.x x now.stands stands in
-    subst (IsStanding (seen_of w.device)) same
-    (seal_next segment now.x (logged w) w.device.synced (seen_of w.device) now.stands now.begins
+    subst (λ y. IsStanding (seen_of w.device) (read_in (seen_of w.device) y)) same
+    (seal_next segment copy now.x (logged w) w.device.synced (seen_of w.device) now.stands now.begins
     (now.images (seen_of w.device) held.seen)
-    (subst (λ y. IsClosed (seen_of w.device) (segment_place y.geometry segment)) (sym same) closed)).0
+    (subst (λ y. IsClosed (seen_of w.device) (segment_place y.geometry segment)) (sym same) closed)).0.stands
+
+-- closing the gate does, and so does writing the head
+pub seal_keeps : (segment : ℕ) (copy : State Stored) → StandsOn (Seal segment copy)
+seal_keeps segment copy y commands old seen stands begins image done =
+    (seal_next segment copy y commands old seen stands begins image done).0.stands
+
+pub head_keeps : (segment : ℕ) (copy : State Stored) → StandsOn (Head segment copy)
+head_keeps segment copy y commands old seen stands begins image done =
+    (head_next segment copy y commands old seen stands begins image done).0.stands
 
 pub settling_some : (at : ℕ) (bytes : List ℕ) → 1 ≤ length bytes → settling at bytes ≡ Write at bytes ∷ Sync ∷ []
 settling_some at [] some = absurd (omega (arith, some))
 settling_some at (byte ∷ bytes) some = refl
 
 -- from the head on
-abbrev HeadsOn : World → ℕ → Standing → List Batch → List Answer → Type 0
-HeadsOn v segment x batches answers = (new : World)
+abbrev HeadsOn : World → ℕ → State Stored → Standing → List Batch → List Answer → Type 0
+HeadsOn v segment copy x batches answers = (new : World)
     × Run v (map event.Calls
-    (settling (segment_place x.geometry segment + 1) (head_of (x.generation + 1) (state_in x) ++ 0 ∷ [])
+    (settling (segment_place x.geometry segment + 1) (next_head x copy)
     ++ settling (segment_place x.geometry segment) (open_gate ∷ []))) new
     × (new.round ≡ round_at Ready batches answers) × (new.device.since ≡ [])
 
-pub head_on : (w : World) (segment : ℕ) (batches : List Batch) (answers : List Answer) (x : Standing)
-    → IsHeld (in_phase w (Head segment) batches answers) → IsStanding w.device.synced x
-    → HeadsOn (in_phase w (Head segment) batches answers) segment x batches answers
-head_on w segment batches answers x held stands =
-    let v : World = in_phase w (Head segment) batches answers in
-    let next : World = after_both v (Head segment) x in
-    let new : World = after_both next (Switch segment) x in
-    let first = may_finish v (record { stage = Writing (Head segment); batches = batches; answers = answers })
-    (Head segment) x held refl refl stands in
+pub head_on : (w : World) (segment : ℕ) (copy : State Stored) (batches : List Batch) (answers : List Answer) (x : Standing)
+    → IsHeld (in_phase w (Head segment copy) batches answers) → IsStanding w.device.synced x
+    → HeadsOn (in_phase w (Head segment copy) batches answers) segment copy x batches answers
+head_on w segment copy batches answers x held stands =
+    let v : World = in_phase w (Head segment copy) batches answers in
+    let next : World = after_both v (Head segment copy) x in
+    let y : Standing = written_standing w (Head segment copy) x in
+    let new : World = after_both next (Switch segment copy) y in
+    let first = may_finish v (record { stage = Writing (Head segment copy); batches = batches; answers = answers })
+    (Head segment copy) x held refl refl stands in
     let held_next : IsHeld next = run_held v next
-    (event.Calls (own_write (Head segment) x (logged w)) ∷ event.Calls Sync ∷ [])
-    (both_run v (Head segment) x [] next first tt refl) held in
-    let after_head = stands_on w (Head segment) batches answers x
-    (λ y commands old seen standing begins image done.
-    (head_next segment y commands old seen standing begins image done).0) held stands tt in
-    let second = may_finish next (record { stage = Writing (Switch segment); batches = batches; answers = answers })
-    (Switch segment) x held_next refl refl after_head in
-    let calls = settling_some (segment_place x.geometry segment + 1) (head_of (x.generation + 1) (state_in x) ++ 0 ∷ [])
-    (omega (arith, length-behind x)) in (
+    (event.Calls (own_write (Head segment copy) x (logged w)) ∷ event.Calls Sync ∷ [])
+    (both_run v (Head segment copy) x [] next first tt refl) held in
+    let after_head = stands_on w (Head segment copy) batches answers x (head_keeps segment copy) held stands tt in
+    let second = may_finish next (record { stage = Writing (Switch segment copy); batches = batches; answers = answers })
+    (Switch segment copy) y held_next refl refl after_head in
+    let calls = settling_some (segment_place x.geometry segment + 1) (next_head x copy)
+    (omega (arith, length-behind x copy)) in (
       new,
       subst (λ l. Run v (map event.Calls (l ++ settling (segment_place x.geometry segment) (open_gate ∷ []))) new)
           (sym calls)
-          (both_run v (Head segment) x (event.Calls (own_write (Switch segment) x (logged w)) ∷ event.Calls Sync ∷ [])
+          (both_run v (Head segment copy) x (event.Calls (own_write (Switch segment copy) y (logged w)) ∷ event.Calls Sync ∷ [])
           new first tt
-          (both_run next (Switch segment) x [] new second tt refl)),
+          (both_run next (Switch segment copy) y [] new second tt refl)),
       refl,
       refl,
     )
 
 -- from the gate on
-abbrev ReplacesOn : World → ℕ → Bool → Standing → List Batch → List Answer → Type 0
-ReplacesOn v segment closed x batches answers = (new : World)
-    × Run v (map event.Calls
-    (replacing (segment_place x.geometry segment) closed (head_of (x.generation + 1) (state_in x) ++ 0 ∷ []))) new
+abbrev ReplacesOn : World → ℕ → State Stored → Bool → Standing → List Batch → List Answer → Type 0
+ReplacesOn v segment copy closed x batches answers = (new : World)
+    × Run v (map event.Calls (replacing (segment_place x.geometry segment) closed (next_head x copy))) new
     × (new.round ≡ round_at Ready batches answers) × (new.device.since ≡ [])
 
 pub is_open : (place : ℕ) (seen : List ℕ) → (IsTrue false ↔ IsClosed seen place) → IsOpen seen place
@@ -116,56 +131,54 @@ is_open place seen told = elim (cases_eq (get_or seen place 0) open_gate) [
   | inr closed ↦ absurd (false≢true (told.1 closed))
 ]
 
-replaces_on : (w : World) (segment : ℕ) (closed : Bool) (batches : List Batch) (answers : List Answer) (x : Standing)
-    → IsHeld (in_phase w (Seal segment) batches answers) → IsStanding w.device.synced x
+replaces_on : (w : World) (segment : ℕ) (copy : State Stored) (closed : Bool) (batches : List Batch) (answers : List Answer) (x : Standing)
+    → IsHeld (in_phase w (Seal segment copy) batches answers) → IsStanding w.device.synced x
     → (IsTrue closed ↔ IsClosed (seen_of w.device) (segment_place x.geometry segment))
-    → ReplacesOn (in_phase w (Seal segment) batches answers) segment closed x batches answers
-replaces_on w segment true batches answers x held stands told =
-    let v : World = in_phase w (Seal segment) batches answers in
+    → ReplacesOn (in_phase w (Seal segment copy) batches answers) segment copy closed x batches answers
+replaces_on w segment copy true batches answers x held stands told =
+    let v : World = in_phase w (Seal segment copy) batches answers in
     let shut = told.0 refl in
-    let goes = goes_on v (record { stage = Writing (Seal segment); batches = batches; answers = answers })
-    (Seal segment) held refl refl in
+    let goes = goes_on v (record { stage = Writing (Seal segment copy); batches = batches; answers = answers })
+    (Seal segment copy) held refl refl in
     let same : goes.x ≡ x = one_standing goes.x x goes.stands stands in
     let sync : MayCall v Sync = goes.sync
     (subst (λ y. IsClosed (seen_of w.device) (segment_place y.geometry segment)) (sym same) shut) in
     let next : World = after v (event.Calls Sync) in
     let held_next : IsHeld next = run_held v next (event.Calls Sync ∷ []) (next, inl (sync, refl), refl) held in
-    let rest = head_on (record w { device = asked_of w.device Sync }) segment batches answers x held_next
-    (stands_closed w segment batches answers x held stands shut) in
+    let rest = head_on (record w { device = asked_of w.device Sync }) segment copy batches answers
+    (read_in (seen_of w.device) x) held_next (stands_closed w segment copy batches answers x held stands shut) in
     (rest.0, (next, inl (sync, refl), rest.1), rest.2, rest.3)
-replaces_on w segment false batches answers x held stands told =
-    let v : World = in_phase w (Seal segment) batches answers in
+replaces_on w segment copy false batches answers x held stands told =
+    let v : World = in_phase w (Seal segment copy) batches answers in
     let opened = is_open (segment_place x.geometry segment) (seen_of w.device) told in
-    let next : World = after_both v (Seal segment) x in
-    let may = may_finish v (record { stage = Writing (Seal segment); batches = batches; answers = answers })
-    (Seal segment) x held refl refl stands in
+    let next : World = after_both v (Seal segment copy) x in
+    let may = may_finish v (record { stage = Writing (Seal segment copy); batches = batches; answers = answers })
+    (Seal segment copy) x held refl refl stands in
     let held_next : IsHeld next = run_held v next
-    (event.Calls (own_write (Seal segment) x (logged w)) ∷ event.Calls Sync ∷ [])
-    (both_run v (Seal segment) x [] next may opened refl) held in
-    let after_seal = stands_on w (Seal segment) batches answers x
-    (λ y commands old seen standing begins image done.
-    (seal_next segment y commands old seen standing begins image done).0) held stands opened in
-    let rest = head_on (record w { device = asked_of (asked_of w.device (own_write (Seal segment) x (logged w))) Sync })
-    segment batches answers x held_next after_seal in (
+    (event.Calls (own_write (Seal segment copy) x (logged w)) ∷ event.Calls Sync ∷ [])
+    (both_run v (Seal segment copy) x [] next may opened refl) held in
+    let after_seal = stands_on w (Seal segment copy) batches answers x (seal_keeps segment copy) held stands opened in
+    let rest = head_on (record w { device = asked_of (asked_of w.device (own_write (Seal segment copy) x (logged w))) Sync })
+    segment copy batches answers (written_standing w (Seal segment copy) x) held_next after_seal in (
       rest.0,
-      both_run v (Seal segment) x
+      both_run v (Seal segment copy) x
           (map event.Calls
-          (settling (segment_place x.geometry segment + 1) (head_of (x.generation + 1) (state_in x) ++ 0 ∷ [])
+          (settling (segment_place x.geometry segment + 1) (next_head x copy)
           ++ settling (segment_place x.geometry segment) (open_gate ∷ []))) rest.0 may opened rest.1,
       rest.2,
       rest.3,
     )
 
 pub relay_replaces : (g : Geometry) (seats : ℕ) (bytes : List ℕ) (events : List Event) (w : World) (round : Round)
-    (segment : ℕ) (closed : Bool) (x : Standing)
+    (segment : ℕ) (copy : State Stored) (closed : Bool) (x : Standing)
     → IsFormatted g bytes → Run (new_world g.params seats bytes) events w → w.round ≡ Some round
-    → round.stage ≡ Writing (Seal segment) → IsStanding w.device.synced x
+    → round.stage ≡ Writing (Seal segment copy) → IsStanding w.device.synced x
     → (IsTrue closed ↔ IsClosed (seen_of w.device) (segment_place x.geometry segment))
-    → ReplacesOn w segment closed x round.batches round.answers
-relay_replaces g seats bytes events w round segment closed x formatted run is at stands told =
-    let known = at_stage w round (Writing (Seal segment)) is at in
-    from_round (λ v. ReplacesOn v segment closed x round.batches round.answers) w
-    (round_at (Writing (Seal segment)) round.batches round.answers) known
-    (replaces_on w segment closed round.batches round.answers x
-    (in_round IsHeld w (round_at (Writing (Seal segment)) round.batches round.answers) known
+    → ReplacesOn w segment copy closed x round.batches round.answers
+relay_replaces g seats bytes events w round segment copy closed x formatted run is at stands told =
+    let known = at_stage w round (Writing (Seal segment copy)) is at in
+    from_round (λ v. ReplacesOn v segment copy closed x round.batches round.answers) w
+    (round_at (Writing (Seal segment copy)) round.batches round.answers) known
+    (replaces_on w segment copy closed round.batches round.answers x
+    (in_round IsHeld w (round_at (Writing (Seal segment copy)) round.batches round.answers) known
     (holds g seats bytes events w formatted run)) stands told)

@@ -5,23 +5,15 @@ use Rattle.rly_core.specs.declared.params.Geometry.{Geometry}
 use Rattle.rly_machine.specs.Fold.{AllAccepted}
 use Rattle.rly_machine.specs.State.{new_state}
 use Rattle.rly_machine.proofs.Folding.{accepted_parts, seq_fold}
-use Rattle.rly_machine.proofs.Runs.{sound_from_new}
 use Rattle.rly_segment.specs.Formatted.{IsFormatted}
 use Rattle.rly_journal.specs.Standing.{Stands}
-use Rattle.rly_journal.proofs.Ending.{head_for}
-use Rattle.rly_journal.proofs.Growing.{formatted, new_standing}
+use Rattle.rly_journal.proofs.Growing.{formatted_stands}
 use Rattle.rly_world.specs.RelayLaw.{HoldsTold}
 use Rattle.rly_world.specs.RelaySteps.{Event, Run}
 use Rattle.rly_world.specs.RelayWorld.{IsImageOf, World, new_world, state_from}
 use Rattle.rly_world.proofs.RelayBooks.{books_kept}
 use Rattle.rly_world.proofs.RelayEvents.{run_held}
 use Rattle.rly_world.proofs.RelayHolds.{IsHeld}
-
-new_stands : (g : Geometry) (bytes : List ℕ) → IsFormatted g bytes → Stands bytes (new_state g.params)
-new_stands g bytes is =
-    let sound = sound_from_new length g.params [] is.fits.params in
-    let head = head_for g (length bytes) 0 0 (new_state g.params) is.fits sound refl (omega arith) in
-    (new_standing g, formatted g is head sound, refl)
 
 new_held : (g : Geometry) (seats : ℕ) (bytes : List ℕ) → IsFormatted g bytes → IsHeld (new_world g.params seats bytes)
 new_held g seats bytes is = record {
@@ -35,7 +27,7 @@ new_held g seats bytes is = record {
         told = omega arith;
         most = omega arith;
         stands = subst (λ i. Stands i (new_state g.params))
-            (sym same) (new_stands g bytes is);
+            (sym same) (formatted_stands g bytes is);
       };
   placed = refl;
 }

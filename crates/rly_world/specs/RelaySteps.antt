@@ -11,6 +11,7 @@ use Rattle.rly_machine.specs.declared.call.Call.{Call}
 use Rattle.rly_machine.specs.declared.command.Ask.{Ask}
 use Rattle.rly_machine.specs.History.{accepted_of, is_failure, state_after}
 use Rattle.rly_machine.specs.State.{State}
+use Rattle.rly_checkpoint.specs.declared.stored.Stored.{Stored}
 use Rattle.rly_journal.specs.Journal.{holds_command}
 use Rattle.rly_journal.specs.Rounds.{AreServed, IsRefusedWhereWanted, refusals}
 use Rattle.rly_journal.specs.Standing.{Commands, IsStanding, Standing, Stands}
@@ -24,8 +25,8 @@ pub data Event : Type 0 where
   Put : (seat : ℕ) (asks : List Ask) → Event
   -- the flusher takes a batch
   Takes : Event
-  -- it begins to open a segment for its round
-  Opens : (segment : ℕ) → Event
+  -- it begins to open a segment for its round, under a head that is to hold this
+  Opens : (segment : ℕ) (copy : State Stored) → Event
   -- it evaluates its round, which gives these answers
   Evaluates : (given : List Answer) → Event
   -- it makes a call of the device, done or failed
@@ -123,17 +124,17 @@ evaluated w given commands = record w {
 
 -- what comes after a phase
 abbrev pub after_phase : Phase → Stage
-after_phase (Seal segment) = Writing (Head segment)
-after_phase (Head segment) = Writing (Switch segment)
-after_phase (Switch segment) = Ready
+after_phase (Seal segment copy) = Writing (Head segment copy)
+after_phase (Head segment copy) = Writing (Switch segment copy)
+after_phase (Switch segment copy) = Ready
 after_phase Body = Writing Gate
 after_phase Gate = Answering
 
 -- the commands of a round whose last phase is over are counted
 abbrev pub counted_after : Phase → World → ℕ
-counted_after (Seal segment) w = w.position
-counted_after (Head segment) w = w.position
-counted_after (Switch segment) w = w.position
+counted_after (Seal segment copy) w = w.position
+counted_after (Head segment copy) w = w.position
+counted_after (Switch segment copy) w = w.position
 counted_after Body w = w.position
 counted_after Gate w = length w.accepted
 
@@ -260,7 +261,7 @@ MayCall w FailedSync = InPhase w (λ phase. MaySync phase w.device (logged w))
 abbrev pub HasPlace : World → Event → Type 0
 HasPlace w (Put seat asks) = (seat < length w.seats) × ((seat_at w seat).waits ≡ false) × IsIn 1 64 (length asks)
 HasPlace w Takes = (w.is_open ≡ true) × MayTake w.kept w.line w.round
-HasPlace w (Opens segment) = (w.is_broken ≡ false) × MayOpen w.device.synced segment
+HasPlace w (Opens segment copy) = (w.is_broken ≡ false) × MayOpen w.device.synced segment copy
     × InRound w (λ round. (round.stage ≡ Taking) × IsDueFor w (calls_of round.batches))
 HasPlace w (Evaluates given) = InRound w (λ round.
     ((round.stage ≡ Taking) ⊎ (round.stage ≡ Ready)) × IsEvaluated w.is_broken w (calls_of round.batches) given)
@@ -277,7 +278,7 @@ HasPlace w (FailedOpening synced) = w.round ≡ None
 abbrev pub after : World → Event → World
 after w (Put seat asks) = put w seat asks
 after w Takes = taken w w.kept w.line
-after w (Opens segment) = record w { round = staged (Writing (Seal segment)) w.round }
+after w (Opens segment copy) = record w { round = staged (Writing (Seal segment copy)) w.round }
 after w (Evaluates given) = evaluated w given (accepted_of (zip (calls_of (batches_in w.round)) given))
 after w (Calls call) = called w call
 after w Answers = answer_put w w.round

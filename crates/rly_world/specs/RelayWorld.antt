@@ -8,6 +8,7 @@ use Rattle.rly_machine.specs.declared.call.Answer.{Answer}
 use Rattle.rly_machine.specs.declared.call.Call.{Call}
 use Rattle.rly_machine.specs.Fold.{fold}
 use Rattle.rly_machine.specs.State.{State, new_state}
+use Rattle.rly_checkpoint.specs.declared.stored.Stored.{Stored}
 use Rattle.rly_journal.specs.Standing.{Commands}
 
 -- what a seat puts at once: 1 to 64 calls
@@ -44,12 +45,13 @@ asked_of device (FailedWrite place bytes left) =
     record device { since = device.since ++ FailedWrite place bytes left ∷ [] }
 asked_of device FailedSync = record device { since = device.since ++ FailedSync ∷ [] }
 
--- the phases of a round: a segment is opened by closing its gate, writing a head after it and opening the gate; the
--- commands are appended by writing a body after the next gate and opening that
+-- the phases of a round: a segment is opened by closing its gate, writing a head after it, which holds a copy of the
+-- state with each payload inline or by place, and opening the gate; the commands are appended by writing a body after the
+-- next gate and opening that
 pub data Phase : Type 0 where
-  Seal : (segment : ℕ) → Phase
-  Head : (segment : ℕ) → Phase
-  Switch : (segment : ℕ) → Phase
+  Seal : (segment : ℕ) (copy : State Stored) → Phase
+  Head : (segment : ℕ) (copy : State Stored) → Phase
+  Switch : (segment : ℕ) (copy : State Stored) → Phase
   Body : Phase
   Gate : Phase
 

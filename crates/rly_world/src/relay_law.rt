@@ -5,15 +5,16 @@ ghost use Rattle.rly_core.specs.declared.params.Geometry.{Geometry as AGeometry}
 ghost use Rattle.rly_journal.specs.declared.tail.Tail.{Tail as ATail};
 ghost use Rattle.rly_gate.specs.Calls.{appending};
 ghost use Rattle.rly_journal.specs.Log.{IsFull, IsLogged};
-ghost use Rattle.rly_journal.specs.Standing.{IsStanding, Standing, gate_of, state_in};
+ghost use Rattle.rly_journal.specs.Standing.{IsStanding, Standing, gate_of};
 ghost use Rattle.rly_record.specs.Spelling.{body_of};
 ghost use Rattle.rly_disk.specs.Trace.{DeviceEvent, images_after, seen_after};
 ghost use Rattle.rly_machine.specs.State.{State};
 ghost use Rattle.rly_gate.specs.Group.{IsClosed};
 ghost use Rattle.rly_segment.specs.Calls.{replacing};
 ghost use Rattle.rly_segment.specs.Formatted.{IsFormatted};
-ghost use Rattle.rly_segment.specs.Heads.{head_of, segment_place};
-ghost use Rattle.rly_world.specs.RelayPhases.{IsDueIn};
+ghost use Rattle.rly_segment.specs.Heads.{segment_place};
+ghost use Rattle.rly_checkpoint.specs.declared.stored.Stored.{Stored as AStored};
+ghost use Rattle.rly_world.specs.RelayPhases.{IsDueIn, next_head};
 ghost use Rattle.rly_world.specs.RelayLaw.{HoldsTold};
 ghost use Rattle.rly_world.specs.RelaySteps.{Calls, Event, GoesOn, Run};
 ghost use Rattle.rly_world.specs.RelayWorld.{Answering, Body, Device, IsImageOf, Phase, Ready, Round, Seal, World, Writing};
@@ -44,13 +45,14 @@ pub fn law_relay_appends()
         × (new.round ≡ Some (record round { stage = Answering })) × (new.device.since ≡ []) }
 {}
 
-/// And those by which it opens a segment, while its gate is to be closed; they lead to a round that is to be evaluated.
+/// And those by which it opens a segment, while its gate is to be closed, with the head that it was to write. They lead to
+/// a round that is to be evaluated.
 pub fn law_relay_replaces()
     ensures { (g : AGeometry) (seats : ℕ) (bytes : List ℕ) (events : List Event) (w : World) (round : Round) (segment : ℕ)
-        (closed : Bool) (x : Standing) → IsFormatted g bytes → Run (new_world g.params seats bytes) events w
-        → w.round ≡ Some round → round.stage ≡ Writing (Seal segment) → IsStanding w.device.synced x
+        (copy : State AStored) (closed : Bool) (x : Standing) → IsFormatted g bytes → Run (new_world g.params seats bytes) events w
+        → w.round ≡ Some round → round.stage ≡ Writing (Seal segment copy) → IsStanding w.device.synced x
         → (IsTrue closed ↔ IsClosed (seen_of w.device) (segment_place x.geometry segment))
-        → (new : World) × Run w (map Calls (replacing (segment_place x.geometry segment) closed (head_of (x.generation + 1) (state_in x) ++ 0 ∷ []))) new
+        → (new : World) × Run w (map Calls (replacing (segment_place x.geometry segment) closed (next_head x copy))) new
         × (new.round ≡ Some (record round { stage = Ready })) × (new.device.since ≡ []) }
 {}
 

@@ -20,7 +20,7 @@ pub returns-in-Err-new-clause-refused : goal.returns-in-Err-new-clause-refused
 returns-in-Err-new-clause-refused g c honest =
     let synced = quiet_new g.D.Disk.state c.in-Ok.ensures.trace refl honest (g.met.D.Disk.consistent c.args.disk.now honest) in
     let logged = c.in-Ok-recover.ensures.logged synced.honest in
-    subst HasNewestHead synced.seen (scanned_newest _ logged.x logged.stands.scanned)
+    subst HasNewestHead synced.seen (scanned_newest _ c.in-Ok-recover.found.tail logged.x logged.ends.geometry c.in-Ok-recover.ensures.shaped.geometry.segments logged.stands.scanned)
 
 pub returns-in-Err-clause-trace : goal.returns-in-Err-clause-trace
 returns-in-Err-clause-trace g c = read_broken g.D.Disk.state c.in-Ok.ensures.trace c.in-Err.ensures.trace

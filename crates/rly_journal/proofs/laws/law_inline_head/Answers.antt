@@ -1,8 +1,9 @@
+use Rattle.std.proofs.Common.{arith}
 use Rattle.rly_journal.proofs.Inlining.{bytes_hold, inline_holds, inline_payloads, inlined}
 use Rattle.rly_journal.proofs.laws.law_inline_head.Goals as goal
 
 pub returns-clause-inline : goal.returns-clause-inline
-returns-clause-inline c = inline_holds
+returns-clause-inline c image g segment generation s two below head = inline_holds image g segment generation s (omega (arith, two)) head
 
 pub returns-clause-only : goal.returns-clause-only
 returns-clause-only c image g segment generation s two below holds =

@@ -9,44 +9,47 @@ use Rattle.rly_journal.specs.Calls.{group_scan}
 use Rattle.rly_journal.specs.HelpersJournal.{IsShaped}
 use Rattle.rly_journal.specs.declared.open_fault.OpenFault.TheVariants as fault
 use Rattle.rly_journal.proofs.Following.{front_all, group_broken, past_body, refused_tells}
-use Rattle.rly_journal.proofs.Recovering.{refused_body, refused_commands, replayed_more, scanned_newest, shape_more, with_gate}
+use Rattle.rly_journal.proofs.Recovering.{broken_body, broken_commands, refused_broken, replayed_more, scanned_newest, shape_more, with_gate}
 use Rattle.rly_journal.proofs.recovery.replay_group.Goals as goal
 
 pub returns-in-Err-OutOfMemory-clause-refused : goal.returns-in-Err-OutOfMemory-clause-refused
-returns-in-Err-OutOfMemory-clause-refused g c honest so_far = scanned_newest (g.D.Disk.state c.args.disk.now).seen so_far.x so_far.scanned
+returns-in-Err-OutOfMemory-clause-refused g c honest so_far = scanned_newest (g.D.Disk.state c.args.disk.now).seen c.args.found.now.tail so_far.x so_far.ends.geometry c.requires.shaped.geometry.segments so_far.scanned
 
 pub returns-in-Err-OutOfMemory-read_body-clause-refused : goal.returns-in-Err-OutOfMemory-read_body-clause-refused
-returns-in-Err-OutOfMemory-read_body-clause-refused g c honest so_far = scanned_newest (g.D.Disk.state c.args.disk.now).seen so_far.x so_far.scanned
+returns-in-Err-OutOfMemory-read_body-clause-refused g c honest so_far = scanned_newest (g.D.Disk.state c.args.disk.now).seen c.args.found.now.tail so_far.x so_far.ends.geometry c.requires.shaped.geometry.segments so_far.scanned
 
 pub returns-in_err-is_redone-clause-refused : goal.returns-in_err-is_redone-clause-refused
 returns-in_err-is_redone-clause-refused g c honest so_far =
     let told = err_from_is_err_and c.from_residual.result c.from_residual.ensures.1 in
     let starved : c.in_err-is_redone.field-0.0 ≡ fault.OutOfMemory = search rules in
-    rw (told.1, told.2, starved) (scanned_newest (g.D.Disk.state c.args.disk.now).seen so_far.x so_far.scanned)
+    rw (told.1, told.2, starved) (scanned_newest (g.D.Disk.state c.args.disk.now).seen c.args.found.now.tail so_far.x so_far.ends.geometry c.requires.shaped.geometry.segments so_far.scanned)
 
 pub returns-in-Err-Damaged-clause-refused : goal.returns-in-Err-Damaged-clause-refused
 returns-in-Err-Damaged-clause-refused g c honest so_far =
     let read = rw c.in-Err-Damaged.field-0-is at c.in-Err-Damaged.ensures.read in
     let none = read honest in
-    refused_body (g.D.Disk.state c.args.disk.now).seen c.args.found.now.tail c.args.found.now.machine.state so_far none.0
-    (subst (HoldsNone (g.D.Disk.state c.args.disk.now).seen c.args.found.now.tail.gate) c.segment_end-end.ensures none.1)
+    refused_broken (g.D.Disk.state c.args.disk.now).seen c.args.found.now.tail c.args.found.now.machine.state so_far c.requires.shaped.geometry.segments
+    (broken_body (g.D.Disk.state c.args.disk.now).seen c.args.found.now.tail c.args.found.now.machine.state so_far none.0
+    (subst (HoldsNone (g.D.Disk.state c.args.disk.now).seen c.args.found.now.tail.gate) c.segment_end-end.ensures none.1))
 
 pub returns-in-Err-Malformed-clause-refused : goal.returns-in-Err-Malformed-clause-refused
 returns-in-Err-Malformed-clause-refused g c honest so_far =
     let read = rw c.in-Ok-Some.field-0-is at c.in-Ok-Some.ensures.read in
-    refused_commands (g.D.Disk.state c.args.disk.now).seen c.args.found.now.tail c.in-Ok-Some.body.items c.args.found.now.machine.state so_far
+    refused_broken (g.D.Disk.state c.args.disk.now).seen c.args.found.now.tail c.args.found.now.machine.state so_far c.requires.shaped.geometry.segments
+    (broken_commands (g.D.Disk.state c.args.disk.now).seen c.args.found.now.tail c.in-Ok-Some.body.items c.args.found.now.machine.state so_far
     (subst (λ end. HoldsGroup (g.D.Disk.state c.args.disk.now).seen c.args.found.now.tail.gate end c.in-Ok-Some.body.items) c.segment_end-end.ensures (read honest))
-    (λ commands have spelled accepted. let memory = c.in-Err-Malformed.ensures.only commands have (c.deref.ensures.value ∙ spelled) in absurd cc)
+    (λ commands have spelled accepted. let memory = c.in-Err-Malformed.ensures.only commands have (c.deref.ensures.value ∙ spelled) in absurd cc))
 
 pub returns-then-not-is_redone-clause-refused : goal.returns-then-not-is_redone-clause-refused
 returns-then-not-is_redone-clause-refused g c honest so_far =
     let read = rw c.in-Ok-Some.field-0-is at c.in-Ok-Some.ensures.read in
     let told : c.in_ok-is_redone.is_redone ≡ false = search rules in
-    refused_commands (g.D.Disk.state c.args.disk.now).seen c.args.found.now.tail c.in-Ok-Some.body.items c.args.found.now.machine.state so_far
+    refused_broken (g.D.Disk.state c.args.disk.now).seen c.args.found.now.tail c.args.found.now.machine.state so_far c.requires.shaped.geometry.segments
+    (broken_commands (g.D.Disk.state c.args.disk.now).seen c.args.found.now.tail c.in-Ok-Some.body.items c.args.found.now.machine.state so_far
     (subst (λ end. HoldsGroup (g.D.Disk.state c.args.disk.now).seen c.args.found.now.tail.gate end c.in-Ok-Some.body.items) c.segment_end-end.ensures (read honest))
     (λ commands have spelled accepted.
     let same : c.in-Ok.commands.items ≡ commands = c.in-Ok.ensures.only commands have (c.deref.ensures.value ∙ spelled) in
-    c.in_ok-is_redone.ensures.refused (let e : _ = cc in e) (subst (AllAccepted length c.args.found.now.machine.state) (sym same) accepted))
+    c.in_ok-is_redone.ensures.refused (let e : _ = cc in e) (subst (AllAccepted length c.args.found.now.machine.state) (sym same) accepted)))
 
 pub returns-clause-shaped : goal.returns-clause-shaped
 returns-clause-shaped g c =

@@ -13,7 +13,7 @@ returns-clause-served c =
     let ok = made.reserved (omega (arith, ap length c.requires.empty, c.requires.count.1, c.requires.room)) in
     let answered = on_ok c.round-made.result ok made.answers in
     serves c.args.journal.now c.round-made.new.self c.args.calls.now.items c.round-made.new.answers.items answered.0
-    (λ whole. c.law_tail.ensures tt whole) (λ whole. c.law_renewed.ensures tt whole)
+    (λ whole. c.law_tail.ensures.tail tt whole) (λ whole. (c.law_tail.ensures.segments, c.law_renewed.ensures tt whole))
     (λ whole. subst (λ b. MakesRound (fault_state mem_state) c.args.journal.now c.round-made.new.self c.args.calls.now.items b c.round-made.new.answers.items)
     c.requires.empty (on_ok c.round-made.result ok (made.trace whole)))
     (answered.1 ∙ ap (λ l. l ++ answered.0) c.requires.empty) answered.2

@@ -3,7 +3,7 @@ use Rattle.rly_disk.specs.Trace.{Makes}
 use Rattle.rly_disk.proofs.Traces.{makes_nothing}
 use Rattle.rly_segment.specs.Calls.{replacing}
 use Rattle.rly_segment.proofs.HeadWriting.{length-head}
-use Rattle.rly_segment.proofs.Segments.{layout_within}
+use Rattle.rly_segment.proofs.Segments.{segment_within}
 use Rattle.rly_segment.proofs.opening.open_segment.Goals as goal
 
 pub replace-requires-clause-room : goal.replace-requires-clause-room
@@ -11,7 +11,7 @@ replace-requires-clause-room g c =
     let is = c.deref.ensures.value ∙ c.in-Ok.ensures in
     omega (
       arith,
-      layout_within c.args.geometry.now c.args.target.segment _ c.requires.geometry c.requires.target,
+      segment_within c.args.geometry.now c.args.target.segment _ c.requires.geometry c.requires.target,
       c.requires.head.room,
       ap length is,
       length-head g.C.Content.length_of g.C.Form.form c.args.generation c.args.machine.now.state,
