@@ -1,0 +1,10 @@
+pub mod Calls
+pub mod Faults
+pub mod Fetches
+pub mod HelpersJournal
+pub mod HelpersOutcomes
+pub mod HelpersReady
+pub mod HelpersRounds
+pub mod Journal
+pub mod Rounds
+pub mod Showing

@@ -1,0 +1,168 @@
+ghost use Rattle.std.specs.Prelude.{◌≡◌, ◌+◌, ◌<◌, ◌≤◌, ◌^◌, Err, IfErr, IfOk, MatchResult, Ok, OnErr, OnOk, length, true, false};
+ghost use Rattle.rly_machine.specs.Fold.{AllAccepted, fold};
+ghost use Rattle.rly_record.specs.Spelling.{HaveBody, body_of};
+ghost use Rattle.rly_checkpoint.specs.Stored.{stored_length};
+ghost use Rattle.rly_segment.specs.Heads.{segment_end};
+ghost use Rattle.rly_index.specs.Index.{IsAt};
+ghost use Rattle.rly_grouping.specs.Lying.{placed_group};
+ghost use Rattle.rly_journal.specs.HelpersCalls.{IsCutShort, IsGroupRead, IsHeadCut, IsHeadRead, IsRead};
+ghost use Rattle.rly_placed_journal.specs.Faults.{IsRefused};
+ghost use Rattle.rly_placed_journal.specs.HelpersJournal.{IsAtEnd, IsLoggedFor, IsReplayedFor, IsShaped};
+
+use rly_disk::Disk;
+use rly_gate::{GroupFault, read_group};
+use rly_grouping::placed_at;
+use rly_index::Index;
+use rly_journal::{OpenFault, Tail};
+use rly_machine::{Command, Payload};
+use rly_record::{DecodeFault, read_body, record_len};
+use rly_segment::{
+    HeadFault, HeaderFault, NewestFault, newest, read_header, read_placed_head, segment_end,
+    segment_place,
+};
+use std::alloc::Global;
+
+/// The bytes of a group before its body: the gate and the body's length.
+const GROUP_START: u64 = 5;
+
+/// The bytes of a group before its records: those before its body, and the count.
+const RECORDS: u64 = 7;
+
+/// What a device stands for, and where its journal ends.
+#[derive(Drop)]
+pub(crate) struct Recovered {
+    pub(crate) tail: Tail,
+    pub(crate) index: Index,
+}
+
+/// Reads what a device stands for: the newest head, and the groups after it up to the first closed gate. No payload by place is
+/// read.
+pub(crate) fn recover<D: Disk>(alloc: Global, disk: &mut D) -> Result<Recovered, OpenFault>
+    ensures shaped { IfOk result (λ found. IsShaped (D.state disk.old).size found.tail found.index) }
+    ensures ends { IfOk result (λ found. IsAtEnd found.tail found.index) }
+    ensures logged { (D.state disk.old).honest → IfOk result (λ found. IsLoggedFor (D.state disk.old).seen found.tail found.index) }
+    ensures refused { (D.state disk.old).honest → IfErr result (λ fault. IsRefused (D.state disk.old).seen fault) }
+    ensures trace { MatchResult result (λ found. IsRead D.state found.tail disk.old disk.new) (λ fault. IsCutShort D.state fault disk.old disk.new) }
+{
+    let mut found = read_newest_head(alloc, disk)?;
+    'groups: while replay_group(alloc, disk, &mut found)? {}
+    Ok(found)
+}
+
+/// Reads the header and what the newest head holds: what a device without groups stands for.
+fn read_newest_head<D: Disk>(alloc: Global, disk: &mut D) -> Result<Recovered, OpenFault>
+    ensures shaped { IfOk result (λ found. IsShaped (D.state disk.old).size found.tail found.index) }
+    ensures ends { IfOk result (λ found. IsAtEnd found.tail found.index) }
+    ensures replayed { (D.state disk.old).honest → IfOk result (λ found. IsReplayedFor (D.state disk.old).seen found.tail found.index) }
+    ensures refused { (D.state disk.old).honest → IfErr result (λ fault. IsRefused (D.state disk.old).seen fault) }
+    ensures trace { MatchResult result (λ found. IsHeadRead D.state found.tail disk.old disk.new) (λ fault. IsHeadCut D.state fault disk.old disk.new) }
+{
+    let geometry = match read_header(disk) {
+        Ok(geometry) => geometry,
+        Err(HeaderFault::NotADevice) => return Err(OpenFault::NotADevice),
+        Err(HeaderFault::BadGeometry) => return Err(OpenFault::BadGeometry),
+        Err(HeaderFault::Device) => return Err(OpenFault::Device),
+    };
+    let newest = match newest(disk, &geometry) {
+        Ok(newest) => newest,
+        Err(NewestFault::Damaged(place)) => return Err(OpenFault::Damaged(place)),
+        Err(NewestFault::Device) => return Err(OpenFault::Device),
+    };
+    let head = match read_placed_head(alloc, disk, &geometry, newest.segment) {
+        Ok(head) => head,
+        Err(HeadFault::OutOfMemory) => return Err(OpenFault::OutOfMemory),
+        Err(HeadFault::Damaged) => return Err(OpenFault::Damaged(segment_place(
+            &geometry,
+            newest.segment,
+        ))),
+        Err(HeadFault::Device) => return Err(OpenFault::Device),
+    };
+    let closed = newest.closed;
+    let tail = Tail {
+        geometry,
+        segment: newest.segment,
+        generation: head.generation,
+        gate: head.gate,
+        closed,
+    };
+    Ok(Recovered {
+        tail,
+        index: Index::begin(geometry, newest.segment, head),
+    })
+}
+
+/// Makes the commands of the next group again, and says whether there was one.
+fn replay_group<D: Disk>(
+    alloc: Global,
+    disk: &mut D,
+    found: &mut Recovered,
+) -> Result<bool, OpenFault>
+    requires shaped { IsShaped (D.state disk.old).size found.old.tail found.old.index }
+    requires ends { IsAtEnd found.old.tail found.old.index }
+    ensures shaped { OnOk result (IsShaped (D.state disk.new).size found.new.tail found.new.index) }
+    ensures ends { OnOk result (IsAtEnd found.new.tail found.new.index) }
+    ensures replayed { (D.state disk.old).honest → IsReplayedFor (D.state disk.old).seen found.old.tail found.old.index
+        → OnOk result (IsReplayedFor (D.state disk.old).seen found.new.tail found.new.index) }
+    ensures last { (D.state disk.old).honest → IsReplayedFor (D.state disk.old).seen found.old.tail found.old.index
+        → result ≡ Ok false → IsLoggedFor (D.state disk.old).seen found.new.tail found.new.index }
+    ensures refused { (D.state disk.old).honest → IsReplayedFor (D.state disk.old).seen found.old.tail found.old.index
+        → IfErr result (λ fault. IsRefused (D.state disk.old).seen fault) }
+    ensures progress { result ≡ Ok true → (found.old.tail.gate < found.new.tail.gate) × (found.new.tail.gate < 2 ^ 64) }
+    ensures trace { IsGroupRead D.state found.old.tail found.new.tail result disk.old disk.new }
+{
+    found.index.law_index();
+    let at = found.tail.gate;
+    let end = segment_end(&found.tail.geometry, found.tail.segment);
+    let body = match read_group(alloc, disk, at, end) {
+        Ok(Some(body)) => body,
+        Ok(None) => return Ok(false),
+        Err(GroupFault::OutOfMemory) => return Err(OpenFault::OutOfMemory),
+        Err(GroupFault::Damaged) => return Err(OpenFault::Damaged(at)),
+        Err(GroupFault::Device) => return Err(OpenFault::Device),
+    };
+    let commands = match read_body(alloc, &body) {
+        Ok(commands) => commands,
+        Err(DecodeFault::OutOfMemory) => return Err(OpenFault::OutOfMemory),
+        Err(DecodeFault::Malformed) => return Err(OpenFault::Damaged(at)),
+    };
+    let is_redone = redo(alloc, &mut found.index, at, commands)?;
+    if !is_redone {
+        return Err(OpenFault::Damaged(at));
+    }
+    found.tail.gate = at + GROUP_START + body.len() as u64;
+    Ok(true)
+}
+
+/// Makes the commands of a group at a gate one after the other, and says whether each was accepted. The index has their payloads
+/// where the group has them.
+fn redo(
+    alloc: Global,
+    index: &mut Index,
+    gate: u64,
+    commands: Vec<Command<Payload>>,
+) -> Result<bool, OpenFault>
+    requires have { HaveBody commands.items }
+    requires used { index.old.used ≡ gate }
+    requires room { gate + 5 + length (body_of commands.items) ≤ segment_end index.old.geometry index.old.segment }
+    ensures accepted { result ≡ Ok true → AllAccepted stored_length index.old.spool.state (placed_group gate commands.items) }
+    ensures state { result ≡ Ok true → index.new.spool.state ≡ fold stored_length index.old.spool.state (placed_group gate commands.items) }
+    ensures at { result ≡ Ok true → IsAt index.old.geometry index.old.segment (gate + 5 + length (body_of commands.items)) index.new }
+    ensures refused { result ≡ Ok false → AllAccepted stored_length index.old.spool.state (placed_group gate commands.items) → ⊥ }
+    ensures fault { OnErr result (result ≡ Err OpenFault.OutOfMemory) }
+{
+    index.law_index();
+    let mut place = gate + RECORDS;
+    for command in commands {
+        index.law_index();
+        let next = place + record_len(&command) as u64;
+        let placed = placed_at(place, command);
+        let Ok(room) = index.reserve_for(alloc, &placed) else {
+            return Err(OpenFault::OutOfMemory);
+        };
+        if !index.apply(placed, room, next).is_accepted() {
+            return Ok(false);
+        }
+        place = next;
+    }
+    Ok(true)
+}

@@ -1,0 +1,30 @@
+//! Tests of the journal whose payloads stay on the device.
+//!
+//! They compare its answers with rows worked by hand, on disks in memory of three segments. They use
+//! the built libraries, so that these are proved once. The crate has no code but tests, so no crate
+//! may call it.
+#![tactic(auto)]
+
+/// As `assert!`, by one call: the prover then sees one way on where `assert!` has two. `assert!` stands where a later call needs
+/// what was asserted.
+#[cfg(test)]
+macro_rules! expect {
+    ($rt:expr; $cond:expr $(,)?) => {
+        crate::expect::expect(&$rt, $cond, stringify!($cond))
+    };
+}
+
+#[cfg(test)]
+mod cycles;
+#[cfg(test)]
+mod device;
+#[cfg(test)]
+mod expect;
+#[cfg(test)]
+mod growths;
+#[cfg(test)]
+mod opening;
+#[cfg(test)]
+mod rounds;
+#[cfg(test)]
+mod stops;

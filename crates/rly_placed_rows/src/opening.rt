@@ -1,0 +1,103 @@
+//! Devices of three segments that are opened.
+use crate::device::{FIRST_GATE, THREE, device_with};
+use rly_core::{HopId, PeerId, Refusal};
+use rly_journal::OpenFault;
+use rly_machine::Reply;
+use rly_placed_journal::Journal;
+use std::test::Fail;
+
+/// A group of one Take, of the payload "abc" for hop 1, and one of a Pick there.
+pub(crate) const TAKEN_AND_PICKED: [u8; 51] = [
+    // an open gate, the length of the body, and the count of its records
+    0xa5, 0, 0, 0, 28, 0, 1,
+    // a Take: peer 1, number 1, hop 1, stamp 5, and a payload of three bytes
+    1, 0, 1, 0, 0, 0, 0, 0, 0, 0, 1, 0, 1, 0, 0, 0, 0, 0, 0, 0, 5, 0, 3, 0x61, 0x62, 0x63,
+    // a group of one record
+    0xa5, 0, 0, 0, 13, 0, 1,
+    // a Pick: hop 1 at moment 6
+    2, 0, 1, 0, 0, 0, 0, 0, 0, 0, 6,
+];
+
+/// A new device of three segments holds nothing, and it is opened again where it was opened.
+#[test]
+fn a_new_device_of_three_segments_is_opened(rt: HostRuntime) -> Result<(), Fail> {
+    let alloc = rt.alloc();
+    let disk = device_with(&rt, alloc, &[])?;
+    let journal = match Journal::open(alloc, disk) {
+        Ok(journal) => journal,
+        Err(_) => panic!(rt; "not opened"),
+    };
+    expect!(rt; journal.position() == 0 && !journal.is_broken());
+    expect!(rt; journal.params() == THREE.params);
+    expect!(rt; journal.last(PeerId(1)) == Ok(0));
+    expect!(rt; journal.last(PeerId(2)) == Err(Refusal::NoSuchPeer));
+    Ok(())
+}
+
+/// Both groups are made again: the datagram is in flight.
+#[test]
+fn groups_are_made_again(rt: HostRuntime) -> Result<(), Fail> {
+    let alloc = rt.alloc();
+    let disk = device_with(&rt, alloc, &TAKEN_AND_PICKED)?;
+    let journal = match Journal::open(alloc, disk) {
+        Ok(journal) => journal,
+        Err(_) => panic!(rt; "not opened"),
+    };
+    expect!(rt; journal.position() == 2);
+    expect!(rt; journal.last(PeerId(1)) == Ok(1));
+    match journal.ask_show(HopId(1)) {
+        Reply::Shown(status) => {
+            expect!(rt; status.taken == 1 && status.flight == 1 && status.queued == 0);
+        }
+        _ => panic!(rt; "not shown"),
+    }
+    Ok(())
+}
+
+/// What is in flight is read where the group has it.
+#[test]
+fn a_payload_is_fetched_from_its_group(rt: HostRuntime) -> Result<(), Fail> {
+    let alloc = rt.alloc();
+    let disk = device_with(&rt, alloc, &TAKEN_AND_PICKED)?;
+    let mut journal = match Journal::open(alloc, disk) {
+        Ok(journal) => journal,
+        Err(_) => panic!(rt; "not opened"),
+    };
+    match journal.fetch(alloc, HopId(1), 1) {
+        Ok(bytes) => expect!(rt; bytes.as_slice() == b"abc".as_slice()),
+        Err(refusal) => panic!(rt; "{refusal}"),
+    }
+    match journal.fetch(alloc, HopId(1), 2) {
+        Ok(_) => panic!(rt; "fetched"),
+        Err(refusal) => expect!(rt; refusal == Refusal::NeverSent),
+    }
+    Ok(())
+}
+
+/// A group whose body spells no record is damage, at its gate.
+#[test]
+fn a_group_without_commands_is_damage(rt: HostRuntime) -> Result<(), Fail> {
+    let alloc = rt.alloc();
+    let disk = device_with(&rt, alloc, &[0xa5, 0, 0, 0, 2, 0, 0])?;
+    match Journal::open(alloc, disk) {
+        Ok(_) => panic!(rt; "opened"),
+        Err((fault, _)) => expect!(rt; fault == OpenFault::Damaged(FIRST_GATE as u64)),
+    }
+    Ok(())
+}
+
+/// A Pick that the state refuses isn't made again: its group is damage.
+#[test]
+fn a_refused_command_is_damage(rt: HostRuntime) -> Result<(), Fail> {
+    let alloc = rt.alloc();
+    let disk = device_with(
+        &rt,
+        alloc,
+        &[0xa5, 0, 0, 0, 13, 0, 1, 2, 0, 1, 0, 0, 0, 0, 0, 0, 0, 6],
+    )?;
+    match Journal::open(alloc, disk) {
+        Ok(_) => panic!(rt; "opened"),
+        Err((fault, _)) => expect!(rt; fault == OpenFault::Damaged(FIRST_GATE as u64)),
+    }
+    Ok(())
+}
