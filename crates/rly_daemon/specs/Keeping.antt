@@ -1,5 +1,9 @@
 -- What the link of a worker keeps of Data that comes ahead of a gap.
-use Rattle.std.specs.Prelude.{Option, option_map}
+use Rattle.std.specs.Prelude.{◌≡◌, None, Option, option_map}
+use Rattle.rly_core.specs.declared.refusal.Refusal.TheVariants.{OutOfMemory}
+use Rattle.rly_daemon.specs.declared.command_fault.ServeFault.{ServeFault}
+use Rattle.rly_daemon.specs.declared.command_fault.ServeFault.TheVariants as fault
+use Rattle.rly_daemon.specs.declared.file_fault.Cause.TheVariants.{Told}
 use Rattle.rly_daemon.specs.declared.keeping.Keeping.{Keeping}
 use Rattle.rly_early.specs.Early.{EarlyView, new_early}
 use Rattle.rly_plan.specs.declared.neighbour.Neighbour.{Neighbour}
@@ -16,3 +20,12 @@ keeping_with plan early neighbour =
 abbrev pub keeping_of : ContactPlan → Worker → Option Keeping
 keeping_of plan (worker.Receiver peer) = keeping_with plan (new_early 64) (peer_at plan peer)
 keeping_of plan (worker.Sender hop) = keeping_with plan (new_early 0) (next_hop_at plan hop)
+
+-- the neighbour isn't in the plan
+abbrev pub IsNotKept : Option Keeping → ServeFault → Type 0
+IsNotKept keeping told = (keeping ≡ None) × (told ≡ fault.Worker)
+
+-- memory was refused for what is kept of a peer
+abbrev pub IsUnheld : Worker → ServeFault → Type 0
+IsUnheld (worker.Receiver peer) told = told ≡ fault.Refused OutOfMemory Told
+IsUnheld (worker.Sender hop) told = ⊥

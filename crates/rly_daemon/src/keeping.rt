@@ -1,7 +1,7 @@
 //! What the link of a worker keeps of Data that comes ahead of a gap.
 
-ghost use Rattle.std.specs.Prelude.{◌≡◌, IfOk, Some, option_copied};
-ghost use Rattle.rly_daemon.specs.Keeping.{keeping_of, keeping_with};
+ghost use Rattle.std.specs.Prelude.{◌≡◌, ◌⊎◌, IfErr, IfOk, Some, option_copied};
+ghost use Rattle.rly_daemon.specs.Keeping.{IsNotKept, IsUnheld, keeping_of, keeping_with};
 
 use crate::command_fault::ServeFault;
 use rly_early::Early;
@@ -22,7 +22,9 @@ impl Keeping {
     /// What the link of a worker keeps at first. A peer's Data may come early, and there is room for 64. A hop sends none. A worker
     /// whose neighbour isn't in the plan has no link.
     pub(crate) fn new(alloc: Global, plan: &Plan, worker: Worker) -> Result<Keeping, ServeFault>
-        ensures { IfOk result (λ k. Some k ≡ keeping_of plan.now worker) }
+        ensures kept { IfOk result (λ k. Some k ≡ keeping_of plan.now worker) }
+        // Only the Data of a peer need memory.
+        ensures refused { IfErr result (λ fault. IsNotKept (keeping_of plan.now worker) fault ⊎ IsUnheld worker fault) }
     {
         match worker {
             Worker::Receiver(peer) => keeping_with(plan, plan.peer(peer), Early::new(alloc)?),
@@ -37,7 +39,8 @@ fn keeping_with(
     neighbour: Option<&Neighbour>,
     early: Early,
 ) -> Result<Keeping, ServeFault>
-    ensures { IfOk result (λ k. Some k ≡ keeping_with plan.now early (option_copied neighbour.entry)) }
+    ensures kept { IfOk result (λ k. Some k ≡ keeping_with plan.now early (option_copied neighbour.entry)) }
+    ensures refused { IfErr result (λ fault. IsNotKept (keeping_with plan.now early (option_copied neighbour.entry)) fault) }
 {
     let Some(neighbour) = neighbour else {
         return Err(ServeFault::Worker);
