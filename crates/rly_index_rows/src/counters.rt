@@ -58,7 +58,7 @@ const HEAD: [u8; 196] = [
 ];
 
 /// Whether a device of so many bytes may have that geometry.
-fn may_have(geometry: &Geometry, size: u64) -> bool
+pub(crate) fn may_have(geometry: &Geometry, size: u64) -> bool
     ensures device { IsTrue result → IsLayout geometry.now size }
     ensures alone { IsTrue result → IsLayout geometry.now (device_length geometry.now) }
 {
@@ -70,7 +70,7 @@ fn may_have(geometry: &Geometry, size: u64) -> bool
 }
 
 /// A disk whose first segment has that head.
-fn disk_of(alloc: Global) -> Result<MemDisk, AllocError> {
+pub(crate) fn disk_of(alloc: Global) -> Result<MemDisk, AllocError> {
     let mut bytes = vec![in alloc; 0u8; SIZE]?;
     bytes[64] = 0xa5;
     bytes[65..261].copy_from_slice(&HEAD);
@@ -78,7 +78,11 @@ fn disk_of(alloc: Global) -> Result<MemDisk, AllocError> {
 }
 
 /// The index of that head.
-fn index_of(rt: &impl Abort, alloc: Global, disk: &mut MemDisk) -> Result<Index, AllocError> {
+pub(crate) fn index_of(
+    rt: &impl Abort,
+    alloc: Global,
+    disk: &mut MemDisk,
+) -> Result<Index, AllocError> {
     assert!(rt; may_have(&FOUR, disk.size()));
     match read_placed_head(alloc, disk, &FOUR, 0) {
         Ok(head) => Ok(Index::begin(FOUR, 0, head)),
@@ -118,7 +122,7 @@ fn is_brought(index: &Index, next: u64, command: &Command<Stored>) -> bool
 }
 
 /// Has the index make a step with a command whose record takes so many bytes.
-fn step(
+pub(crate) fn step(
     rt: &impl Abort,
     alloc: Global,
     index: &mut Index,
@@ -173,7 +177,7 @@ fn open_next(
 }
 
 /// Picks at a moment.
-fn pick(now: u64) -> Command<Stored> {
+pub(crate) fn pick(now: u64) -> Command<Stored> {
     Command::Pick { hop: HopId(1), now }
 }
 
@@ -186,7 +190,7 @@ fn release(number: u64) -> Command<Stored> {
 }
 
 /// Takes six bytes at a place under a number.
-fn take(number: u64, start: u64) -> Command<Stored> {
+pub(crate) fn take(number: u64, start: u64) -> Command<Stored> {
     Command::Take {
         peer: PeerId(1),
         number,
@@ -197,7 +201,7 @@ fn take(number: u64, start: u64) -> Command<Stored> {
 }
 
 /// The live bytes of each segment.
-fn live(index: &Index) -> [u64; 4] {
+pub(crate) fn live(index: &Index) -> [u64; 4] {
     let mut live = [0; 4];
     for (segment, bytes) in live.iter_mut().enumerate() {
         if (segment as u64) < index.geometry().segments {

@@ -15,6 +15,10 @@ macro_rules! expect {
 }
 
 #[cfg(test)]
+mod broad;
+#[cfg(test)]
 mod counters;
 #[cfg(test)]
 mod expect;
+#[cfg(test)]
+mod growths;

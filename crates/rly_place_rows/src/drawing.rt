@@ -1,5 +1,6 @@
 //! The victim's payloads are read into a copy of the spool.
-ghost use Rattle.std.specs.Prelude.{IsTrue};
+ghost use Rattle.std.specs.Prelude.{◌≡◌, IfOk, IsTrue};
+ghost use Rattle.rly_core.specs.Limits.{IsWithinLimits};
 ghost use Rattle.rly_segment.specs.Device.{IsLayout};
 
 use rly_checkpoint::{DecodeFault, Place, Stored, read_state};
@@ -16,7 +17,7 @@ use std::test::Fail;
 
 /// One hop, one peer, a window of 64, 64 items and 76,800 bytes, on four segments of the least length. They begin at 64, 105,772,
 /// 211,480 and 317,188, and the device ends at 422,896.
-const FOUR: Geometry = Geometry {
+pub(crate) const FOUR: Geometry = Geometry {
     params: Params {
         hops: 1,
         peers: 1,
@@ -33,7 +34,7 @@ const SIZE: usize = 422_896;
 
 /// One datagram is in flight, whose three bytes lie at 105,900. Three wait: two bytes of the first lie at 211,600, four of the second
 /// at 107,000, and the last has none.
-const BODY: [u8; 187] = [
+pub(crate) const BODY: [u8; 187] = [
     // five commands were accepted, and the last number of peer 1 is 4; hop 1's last moment is 20
     0, 0, 0, 0, 0, 0, 0, 5, 0, 0, 0, 0, 0, 0, 0, 4, 0, 0, 0, 0, 0, 0, 0, 20,
     // CoDel's state
@@ -52,7 +53,7 @@ const BODY: [u8; 187] = [
 ];
 
 /// Whether a device of so many bytes may have that geometry.
-fn may_have(geometry: &Geometry, size: u64) -> bool
+pub(crate) fn may_have(geometry: &Geometry, size: u64) -> bool
     ensures { IsTrue result → IsLayout geometry.now size }
 {
     geometry.params.check().is_ok()
@@ -63,13 +64,30 @@ fn may_have(geometry: &Geometry, size: u64) -> bool
 }
 
 /// The disk in memory of which each byte is the low one of its place.
-fn disk_of(alloc: Global) -> Result<Watched<MemDisk>, AllocError> {
+pub(crate) fn disk_of(alloc: Global) -> Result<Watched<MemDisk>, AllocError> {
     let mut bytes = vec![in alloc; 0u8; SIZE]?;
     for (place, byte) in bytes.iter_mut().enumerate() {
         *byte = (place & 0xff) as u8;
     }
     let told = Vec::with_capacity(alloc, 8)?;
     Ok(Watched::new(MemDisk::new(alloc, bytes), told))
+}
+
+/// The spool of a head's body.
+pub(crate) fn spool_of(
+    rt: &impl Abort,
+    alloc: Global,
+    geometry: &Geometry,
+    body: &[u8],
+) -> Result<Machine<Stored>, AllocError>
+    requires { IsWithinLimits geometry.now.params }
+    ensures { IfOk result (λ spool. spool.state.params ≡ geometry.now.params) }
+{
+    match read_state(alloc, geometry.params, body) {
+        Ok(spool) => Ok(spool),
+        Err(DecodeFault::OutOfMemory) => Err(AllocError),
+        Err(DecodeFault::Malformed) => panic!(rt; "no state"),
+    }
 }
 
 /// The spool of a head's body with the payloads of a segment read.
@@ -82,13 +100,11 @@ fn drawn_of(
     victim: u64,
 ) -> Result<Machine<Stored>, DrawingFault> {
     assert!(rt; may_have(geometry, disk.size()));
-    let machine: Machine<Stored> = match read_state(alloc, geometry.params, body) {
-        Ok(machine) => machine,
-        Err(DecodeFault::OutOfMemory) => return Err(DrawingFault::OutOfMemory),
-        Err(DecodeFault::Malformed) => panic!(rt; "no state"),
+    let Ok(spool) = spool_of(rt, alloc, geometry, body) else {
+        return Err(DrawingFault::OutOfMemory);
     };
-    assert!(rt; is_placed(geometry, 0, &machine));
-    draw(alloc, disk, geometry, victim, &machine)
+    assert!(rt; is_placed(geometry, 0, &spool));
+    draw(alloc, disk, geometry, victim, &spool)
 }
 
 /// What is told of a read.

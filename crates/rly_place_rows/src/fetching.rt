@@ -1,7 +1,8 @@
 //! The payloads that a round's Fetches ask for are read from the device.
-ghost use Rattle.std.specs.Prelude.{◌↔◌, All, IsTrue};
+ghost use Rattle.std.specs.Prelude.{◌↔◌, ◌<◌, All, IsTrue};
 ghost use Rattle.rly_fetching.specs.Fetching.{IsThereFor};
 
+use crate::far_disk::FarDisk;
 use rly_checkpoint::{Place, Stored};
 use rly_core::Refusal;
 use rly_disk::{After, Disk, DiskCall, FaultDisk, MemDisk, ToldCall, Watched};
@@ -35,7 +36,7 @@ fn is_there(outcome: &Outcome, size: u64) -> bool
 }
 
 /// Whether those of all calls do.
-fn are_there(outcomes: &[Outcome], size: u64) -> bool
+pub(crate) fn are_there(outcomes: &[Outcome], size: u64) -> bool
     ensures { IsTrue result ↔ All (λ outcome. IsThereFor size outcome) outcomes.now }
 {
     outcomes.iter().all(|outcome| is_there(outcome, size))
@@ -47,7 +48,7 @@ fn place(start: u64, length: u16) -> Option<Place> {
 }
 
 /// A Fetch under a number, at a position, of a payload that lies at a place, if it has bytes.
-fn wanted(number: u64, position: u64, place: Option<Place>) -> Outcome {
+pub(crate) fn wanted(number: u64, position: u64, place: Option<Place>) -> Outcome {
     Outcome::Wanted {
         seat: SeatId(7),
         number,
@@ -75,7 +76,7 @@ fn read_of(place: u64, count: u64, failed: bool) -> ToldCall {
 }
 
 /// Whether a reply gives these bytes.
-fn gives(reply: &Reply, bytes: &[u8]) -> bool {
+pub(crate) fn gives(reply: &Reply, bytes: &[u8]) -> bool {
     match reply {
         Reply::Bytes(payload) => payload.as_slice() == bytes,
         _ => false,
@@ -150,5 +151,71 @@ fn a_payload_is_read(rt: HostRuntime) -> Result<(), Fail> {
     expect!(rt; matches!(failed, Err(Refusal::DeviceRead)));
     let empty = Stored::Inline(Payload::new(Vec::new(alloc)));
     expect!(rt; place_of(&empty).is_none());
+    Ok(())
+}
+
+/// The bytes of the longest device: its header's 64, and 256 segments.
+const LONGEST: u64 = 549_755_813_696;
+
+/// The bytes of its segments.
+const SEGMENT: u64 = 2_147_483_647;
+
+/// Where the payload lies that a Fetch of a round asks for: at the end of every fourth segment, up to the last one. Every second one
+/// has 1,200 bytes.
+fn far_place(index: u16) -> Place
+    requires { index < 64 }
+{
+    let length = if index % 2 == 0 { 1_200 } else { 19 * index };
+    Place {
+        start: 64 + SEGMENT * (4 * u64::from(index) + 4) - u64::from(length),
+        length,
+    }
+}
+
+/// The number of that Fetch.
+fn far_number(index: u16) -> u64
+    requires { index < 64 }
+{
+    1 + 8_589_934_592 * u64::from(index)
+}
+
+/// Whether a reply gives the low byte of each place.
+fn gives_low(reply: &Reply, place: Place) -> bool {
+    let Reply::Bytes(payload) = reply else {
+        return false;
+    };
+    let bytes = payload.as_slice();
+    for (offset, byte) in bytes.iter().enumerate() {
+        if u64::from(*byte) != place.start.wrapping_add(offset as u64) & 0xff {
+            return false;
+        }
+    }
+    bytes.len() == usize::from(place.length)
+}
+
+/// 64 Fetches of a round, of payloads of up to 1,200 bytes all over the longest device, under great numbers and positions.
+#[test]
+fn payloads_of_a_round_are_read_far_away(rt: HostRuntime) -> Result<(), Fail> {
+    let alloc = rt.alloc();
+    let mut disk = FarDisk::new(LONGEST);
+    let mut outcomes = Vec::with_capacity(alloc, 64)?;
+    for index in 0..64u16 {
+        outcomes.push(Outcome::Wanted {
+            seat: SeatId(255 - index),
+            number: far_number(index),
+            position: 1_099_511_627_776 + u64::from(index),
+            place: Some(far_place(index)),
+        })?;
+    }
+    assert!(rt; are_there(&outcomes, disk.size()));
+    let mut answers = Vec::with_capacity(alloc, outcomes.len())?;
+    answer_all(alloc, &mut disk, &mut outcomes, &mut answers);
+    assert!(rt; answers.len() == 64);
+    for index in 0..64u16 {
+        let answer = &answers[usize::from(index)];
+        expect!(rt; gives_low(&answer.reply, far_place(index)));
+        expect!(rt; answer.number == far_number(index));
+    }
+    expect!(rt; disk.calls() == 64 && disk.failures() == 0);
     Ok(())
 }

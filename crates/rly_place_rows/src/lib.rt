@@ -18,6 +18,10 @@ mod drawing;
 #[cfg(test)]
 mod expect;
 #[cfg(test)]
+mod far_disk;
+#[cfg(test)]
 mod fetching;
 #[cfg(test)]
 mod grouping;
+#[cfg(test)]
+mod growths;

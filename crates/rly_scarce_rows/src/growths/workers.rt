@@ -129,22 +129,54 @@ fn three_waiting(rt: &impl Abort, alloc: Global) -> Result<Machine<Payload>, All
     Ok(machine)
 }
 
-/// Each of the three goes out. No custody comes: where memory was refused the first of them goes out then, after the wait at the latest.
+/// Custody of all numbers up to one, from station 9 to station 7.
+fn custody(alloc: Global, last: u8) -> Result<Vec<u8>, AllocError> {
+    let mut packet = b"\x52\x4c\x01\x02\x00\x09\x00\x07\x00\x00\x00\x00\x00\x00\x00".to_vec(alloc)?;
+    packet.push(last)?;
+    Ok(packet)
+}
+
+/// For so many turns custody up to a number comes, or nothing does.
+fn push_turns(
+    alloc: Global,
+    coming: &mut Vec<Option<Vec<u8>>>,
+    turns: u64,
+    last: Option<u8>,
+) -> Result<(), AllocError> {
+    for _turn in 0..turns {
+        if let Some(last) = last {
+            coming.push(Some(custody(alloc, last)?))?;
+        }
+        coming.push(None)?;
+    }
+    Ok(())
+}
+
+/// No custody comes for longer than the first wait, then that of the first datagram, then that of the second.
+fn custody_after_a_wait(alloc: Global) -> Result<MemLink, AllocError> {
+    let mut coming = Vec::new(alloc);
+    push_turns(alloc, &mut coming, 23, None)?;
+    push_turns(alloc, &mut coming, 6, Some(1))?;
+    push_turns(alloc, &mut coming, 12, Some(2))?;
+    Ok(MemLink::new(alloc, coming, 0))
+}
+
+/// Each of the three goes out, whatever was refused: the first after the wait at the latest, and each other one after the custody of
+/// the one before.
 #[test]
 fn a_sender(rt: HostRuntime) -> Result<(), Fail> {
     let alloc = rt.alloc();
     let plan = Plan::from_toml(alloc, PLAN)?;
     let mut ends = Ends {
-        link: MemLink::new(alloc, Vec::new(alloc), 0),
+        link: custody_after_a_wait(alloc)?,
         desk: MemDesk::new(alloc, three_waiting(&rt, alloc)?),
-        turn: MemTurn::new(1_000, 50_000, 24),
+        turn: MemTurn::new(1_000, 50_000, 41),
     };
     before(alloc)?;
     sender_run(&rt, alloc, &plan, HopId(1), 64, &mut ends);
-    let refused = was_refused(alloc);
-    expect!(rt; has_sent(&ends.link, 1, 1));
-    for number in 2..=3 {
-        expect!(rt; refused || has_sent(&ends.link, 1, number));
+    let _ = was_refused(alloc);
+    for number in 1..=3 {
+        expect!(rt; has_sent(&ends.link, 1, number));
     }
     let delivered = ends.link.delivered();
     expect!(rt; delivered.iter().all(|packet| packet.len() == 1_218));

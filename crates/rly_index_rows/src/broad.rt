@@ -1,0 +1,131 @@
+//! An index of 64 hops, at great numbers.
+use crate::counters::{may_have, step};
+use rly_checkpoint::{Place, Stored};
+use rly_core::{Geometry, HopId, Params, PeerId};
+use rly_disk::{Disk, MemDisk};
+use rly_index::Index;
+use rly_machine::{Command, Reply};
+use rly_segment::{HeadFault, read_placed_head};
+use std::alloc::{AllocError, Global};
+use std::process::Abort;
+use std::test::Fail;
+
+/// 64 hops and 64 peers, 256 items and 153,000 bytes, on four segments.
+const BROAD: Geometry = Geometry {
+    params: Params {
+        hops: 64,
+        peers: 64,
+        window: 64,
+        items: 256,
+        bytes: 153_000,
+        ..Params::DEFAULT
+    },
+    segments: 4,
+    length: 200_000,
+};
+
+const SIZE: usize = 800_064;
+
+/// So many commands were accepted.
+const COMMANDS: u64 = 1_099_511_627_776;
+
+/// The moment of each hop, and each datagram's stamp.
+const MOMENT: u64 = 1_125_899_906_842_624;
+
+/// So many datagrams each hop took, and dropped.
+const DROPPED: u64 = 8_589_934_592;
+
+fn put_numbers(bytes: &mut Vec<u8>, numbers: &[u64]) -> Result<(), AllocError> {
+    for number in numbers {
+        bytes.extend_from_slice(&number.to_be_bytes())?;
+    }
+    Ok(())
+}
+
+/// A disk whose first segment has a head of 2^40 commands, with no datagram in it. Peer 1 gave all that the hops took.
+fn broad_disk(alloc: Global) -> Result<MemDisk, AllocError> {
+    let mut bytes = vec![in alloc; 0u8; 64]?;
+    bytes.push(0xa5)?;
+    put_numbers(&mut bytes, &[1])?;
+    bytes.extend_from_slice(&5_064u32.to_be_bytes())?;
+    put_numbers(&mut bytes, &[COMMANDS, 64 * DROPPED])?;
+    for _peer in 2..=64 {
+        put_numbers(&mut bytes, &[0])?;
+    }
+    for _hop in 1..=64 {
+        put_numbers(&mut bytes, &[MOMENT, 0, 0, 0, 0])?;
+        bytes.push(0)?;
+        put_numbers(&mut bytes, &[DROPPED, DROPPED, 0])?;
+        bytes.extend_from_slice(&[0; 6])?;
+    }
+    bytes.resize(SIZE, 0)?;
+    Ok(MemDisk::new(alloc, bytes))
+}
+
+/// The index of that head.
+fn broad_index(rt: &impl Abort, alloc: Global) -> Result<Index, AllocError> {
+    let mut disk = broad_disk(alloc)?;
+    assert!(rt; may_have(&BROAD, disk.size()));
+    match read_placed_head(alloc, &mut disk, &BROAD, 0) {
+        Ok(head) => Ok(Index::begin(BROAD, 0, head)),
+        Err(HeadFault::OutOfMemory) => Err(AllocError),
+        Err(_) => panic!(rt; "no head"),
+    }
+}
+
+/// Takes 1,200 bytes for a hop, under the number after those that were taken.
+fn long_take(hop: u16, start: u64) -> Command<Stored> {
+    Command::Take {
+        peer: PeerId(1),
+        number: (64 * DROPPED).saturating_add(u64::from(hop)),
+        hop: HopId(hop),
+        stamp: MOMENT,
+        payload: Stored::Placed(Place {
+            start,
+            length: 1_200,
+        }),
+    }
+}
+
+/// Each hop takes one more.
+fn take_all(rt: &impl Abort, alloc: Global, index: &mut Index) -> Result<(), AllocError> {
+    for hop in 1..=64u16 {
+        let take = long_take(hop, index.used().saturating_add(23));
+        let reply = step(rt, alloc, index, 1_223, take)?;
+        expect!(rt; matches!(&reply, Reply::Taken(id) if *id == COMMANDS + u64::from(hop)));
+    }
+    Ok(())
+}
+
+/// Each hop picks what it took, its first.
+fn pick_all(rt: &impl Abort, alloc: Global, index: &mut Index) -> Result<(), AllocError> {
+    for hop in 1..=64u16 {
+        let pick = Command::Pick {
+            hop: HopId(hop),
+            now: MOMENT,
+        };
+        let reply = step(rt, alloc, index, 11, pick)?;
+        expect!(rt; matches!(&reply, Reply::Picked { number: 1, id, .. } if *id == COMMANDS + u64::from(hop)));
+    }
+    Ok(())
+}
+
+/// Each hop takes one more, picks it and releases it, and no memory is refused.
+#[test]
+fn each_of_64_hops_takes_one(rt: HostRuntime) -> Result<(), Fail> {
+    let alloc = rt.alloc();
+    let mut index = broad_index(&rt, alloc)?;
+    take_all(&rt, alloc, &mut index)?;
+    expect!(rt; index.machine().item_count() == 64 && index.machine().byte_count() == 76_800);
+    pick_all(&rt, alloc, &mut index)?;
+    for hop in 1..=64u16 {
+        let release = Command::Release {
+            hop: HopId(hop),
+            number: 1,
+        };
+        let reply = step(&rt, alloc, &mut index, 11, release)?;
+        expect!(rt; matches!(&reply, Reply::Released(1)));
+    }
+    expect!(rt; index.machine().item_count() == 0);
+    Ok(())
+}
