@@ -1,4 +1,4 @@
-ghost use Rattle.std.specs.Prelude.{◌≡◌, ◌≢◌, ◌+◌, ◌<◌, ◌≤◌, ◌↔◌, ◌∷◌, [], ℕ, Err, IfOk, IfSome, IsTrue, OnErr, OnOk, drop, is_ok, length, take, vec_len};
+ghost use Rattle.std.specs.Prelude.{◌≡◌, ◌≢◌, ◌+◌, ◌<◌, ◌≤◌, ◌↔◌, ◌∷◌, [], ℕ, Err, IfOk, IfSome, IsTrue, OnErr, OnOk, drop, is_ok, length, take, vec_capacity, vec_len};
 ghost use Rattle.byteorder.specs.Endian.{big_bytes};
 ghost use Rattle.rly_disk.specs.Trace.{Makes, Read};
 ghost use Rattle.rly_gate.specs.Calls.{are_told, bytes_reads, group_reads, is_told, length_reads};
@@ -44,6 +44,7 @@ pub fn read_group<D: Disk>(
     ensures read { (D.state disk.old).honest → IsReadGroup (D.state disk.old).seen at end result }
     ensures within { IfOk result (λ found. IfSome found (λ body. at + 6 + vec_len body ≤ end)) }
     ensures memory { (D.state disk.old).honest → result ≡ Err GroupFault.OutOfMemory → HoldsBytes (D.state disk.old).seen at end }
+    ensures reserved { IfOk result (λ found. IfSome found (λ body. vec_capacity body ≡ vec_len body)) }
     ensures trace { (n : ℕ) × Makes D.state (group_reads at end n result) (is_told result) disk.old disk.new }
 {
     let Ok(opened) = is_open(disk, at) else {
@@ -115,6 +116,7 @@ pub fn read_bytes<D: Disk>(
         → IfOk result (λ bytes. bytes.items ≡ take count (drop place (D.state disk.old).seen)) }
     ensures length { IfOk result (λ bytes. length bytes.items ≡ count) }
     ensures memory { result ≡ Err ReadFault.OutOfMemory → 0 < count }
+    ensures reserved { IfOk result (λ bytes. vec_capacity bytes ≡ count) }
     ensures trace { Makes D.state (bytes_reads place count result) (are_told result) disk.old disk.new }
 {
     let Ok(mut bytes) = zeroes(alloc, count) else {
@@ -126,15 +128,17 @@ pub fn read_bytes<D: Disk>(
     Ok(bytes)
 }
 
-/// So many bytes 0. None takes no memory.
+/// So many bytes 0, in as much memory. None takes no memory.
 fn zeroes(alloc: Global, count: usize) -> Result<Vec<u8>, AllocError>
     ensures length { IfOk result (λ bytes. length bytes.items ≡ count) }
     ensures memory { OnErr result (0 < count) }
+    ensures reserved { IfOk result (λ bytes. vec_capacity bytes ≡ count) }
 {
-    if count == 0 {
-        return Ok(Vec::new(alloc));
+    let mut bytes = Vec::with_capacity(alloc, count)?;
+    for _place in 0..count {
+        bytes.push_reserved(0);
     }
-    vec![in alloc; 0u8; count]
+    Ok(bytes)
 }
 
 /// Fills a buffer from a place on.
