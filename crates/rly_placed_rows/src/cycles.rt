@@ -16,7 +16,7 @@ pub(crate) const HOP: HopId = HopId(1);
 const TAKEN: u64 = 32;
 
 /// How many bytes each has.
-pub(crate) const LENGTH: usize = 1_200;
+const LENGTH: usize = 1_200;
 
 /// What a round asks.
 #[derive(Clone, Copy, PartialEq, Eq)]
@@ -40,7 +40,7 @@ pub(crate) fn has_part(cycle: u64, part: Part) -> bool {
 }
 
 /// A Take of 1,200 bytes, each the number's lowest byte.
-fn take(alloc: Global, number: u64) -> Result<Ask, AllocError> {
+pub(crate) fn take(alloc: Global, number: u64) -> Result<Ask, AllocError> {
     let bytes = vec![in alloc; (number & 0xff) as u8; LENGTH]?;
     Ok(Ask::Command(Command::Take {
         peer: PeerId(1),
@@ -96,8 +96,8 @@ pub(crate) fn answers_to<D: Disk>(
     Ok(answers)
 }
 
-/// Whether two replies are the same, of those that the cycles have.
-fn is_same(one: &Reply, other: &Reply) -> bool {
+/// Whether two replies are the same, of those that the rounds here have.
+pub(crate) fn is_same(one: &Reply, other: &Reply) -> bool {
     match (one, other) {
         (Reply::Taken(a), Reply::Taken(b)) => a == b,
         (
@@ -110,6 +110,8 @@ fn is_same(one: &Reply, other: &Reply) -> bool {
         ) => number == other_number && id == other_id,
         (Reply::Released(a), Reply::Released(b)) => a == b,
         (Reply::Bytes(a), Reply::Bytes(b)) => a.as_slice() == b.as_slice(),
+        (Reply::Nothing, Reply::Nothing) => true,
+        (Reply::Refused(a), Reply::Refused(b)) => a == b,
         _ => false,
     }
 }
@@ -159,6 +161,23 @@ fn expect_cycle<D: Disk>(
     Ok(())
 }
 
+/// Expects these datagrams to be in flight, each with the bytes that it was taken with.
+pub(crate) fn expect_in_flight(
+    rt: &impl Abort,
+    alloc: Global,
+    journal: &mut Journal<MemDisk>,
+    first: u64,
+    last: u64,
+) {
+    for number in first..=last {
+        match journal.fetch(alloc, HOP, number) {
+            Ok(bytes) =>
+                expect!(rt; bytes.len() == LENGTH && bytes.iter().all(|byte| *byte == (number & 0xff) as u8)),
+            Err(refusal) => panic!(rt; "{refusal}"),
+        }
+    }
+}
+
 /// Fifty cycles on a new device, and the last fetches again once it was opened again.
 fn expect_cycles(rt: &impl Abort, alloc: Global, geometry: &Geometry) -> Result<(), AllocError> {
     // both geometries are of one spool
@@ -169,13 +188,7 @@ fn expect_cycles(rt: &impl Abort, alloc: Global, geometry: &Geometry) -> Result<
     }
     let mut again = opened(rt, alloc, journal.into_disk());
     expect!(rt; again.position() == machine.seq());
-    for number in 1_569..=1_600u64 {
-        match again.fetch(alloc, HOP, number) {
-            Ok(bytes) =>
-                expect!(rt; bytes.len() == LENGTH && bytes.iter().all(|byte| *byte == (number & 0xff) as u8)),
-            Err(refusal) => panic!(rt; "{refusal}"),
-        }
-    }
+    expect_in_flight(rt, alloc, &mut again, 1_569, 1_600);
     expect!(rt; again.fetch(alloc, HOP, 1_568) == Err(Refusal::NotInFlight));
     Ok(())
 }

@@ -15,6 +15,8 @@ macro_rules! expect {
 }
 
 #[cfg(test)]
+mod broad;
+#[cfg(test)]
 mod cycles;
 #[cfg(test)]
 mod device;

@@ -1,5 +1,5 @@
 //! The opening of a segment, stopped at each of its calls.
-use crate::cycles::{HOP, LENGTH, Part, answers_to, before_the_picks, calls_of};
+use crate::cycles::{HOP, Part, answers_to, before_the_picks, calls_of, expect_in_flight};
 use crate::device::opened;
 use rly_core::Refusal;
 use rly_disk::{After, Disk, FaultDisk, MemDisk, Torn};
@@ -10,7 +10,7 @@ use std::process::Abort;
 use std::test::Fail;
 
 /// What a crash may leave of the bytes that were written since the last sync.
-const KINDS: [Torn; 5] = [
+pub(crate) const KINDS: [Torn; 5] = [
     Torn::AsRead,
     Torn::AsSynced,
     Torn::Fill(0xa5),
@@ -62,13 +62,7 @@ fn expect_payloads(rt: &impl Abort, alloc: Global, disk: MemDisk) -> Result<bool
     // 64 takes and picks and a release, then 32 takes; and 32 picks
     expect!(rt; position == 161 || position == 193);
     let last = if position == 161 { 64 } else { 96 };
-    for number in 33..=last {
-        match journal.fetch(alloc, HOP, number) {
-            Ok(bytes) =>
-                expect!(rt; bytes.len() == LENGTH && bytes.iter().all(|byte| *byte == (number & 0xff) as u8)),
-            Err(refusal) => panic!(rt; "{refusal}"),
-        }
-    }
+    expect_in_flight(rt, alloc, &mut journal, 33, last);
     expect!(rt; journal.fetch(alloc, HOP, 32) == Err(Refusal::NotInFlight));
     Ok(position == 193)
 }
