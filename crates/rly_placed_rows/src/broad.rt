@@ -1,4 +1,4 @@
-//! A journal of 64 hops and 64 peers at great numbers, whose groups lie past the first MiB: each round asks for every hop. A bound of
+//! A journal of 64 hops and 64 peers at great numbers, whose groups lie far out on its device: each round asks for every hop. A bound of
 //! the code's own would hide there, as a refusal of memory.
 use crate::cycles::answers_to;
 use crate::device::opened;
@@ -11,7 +11,7 @@ use std::alloc::{AllocError, Global};
 use std::process::Abort;
 use std::test::Fail;
 
-/// 64 hops and 64 peers, 256 items and 153,000 bytes, on eight segments. After a head without datagrams one has room for 64 of the
+/// 64 hops and 64 peers, 256 items and 153,000 bytes, on 256 segments. After a head without datagrams one has room for 64 of the
 /// longest Takes and for 64 Picks; then the next is due, since 84,067 and 78,280 exceed 162,000.
 const BROAD: Geometry = Geometry {
     params: Params {
@@ -22,15 +22,15 @@ const BROAD: Geometry = Geometry {
         bytes: 153_000,
         ..Params::DEFAULT
     },
-    segments: 8,
+    segments: 256,
     length: 162_000,
 };
 
 /// A header of 64 bytes and the segments.
-const SIZE: usize = 1_296_064;
+const SIZE: usize = 41_472_064;
 
 /// Where the last segment begins.
-const LAST: u64 = 1_134_064;
+const LAST: u64 = 41_310_064;
 
 /// So many commands were accepted, and this is the generation of the newest head.
 const COMMANDS: u64 = 1_099_511_627_776;
@@ -38,8 +38,11 @@ const COMMANDS: u64 = 1_099_511_627_776;
 /// The moment of each hop, and each datagram's stamp.
 const MOMENT: u64 = 1_125_899_906_842_624;
 
-/// So many datagrams each peer gave, and each hop took and dropped.
-const DROPPED: u64 = 8_589_934_592;
+/// So many datagrams each peer gave, and each hop took.
+const TAKEN: u64 = 17_179_869_184;
+
+/// So many of them each hop dropped, and as many it released.
+const RELEASED: u64 = 8_589_934_592;
 
 fn put_numbers(bytes: &mut Vec<u8>, numbers: &[u64]) -> Result<(), AllocError> {
     for number in numbers {
@@ -54,11 +57,11 @@ fn head(alloc: Global) -> Result<Vec<u8>, AllocError> {
     put_numbers(&mut bytes, &[COMMANDS])?;
     bytes.extend_from_slice(&5_064u32.to_be_bytes())?;
     put_numbers(&mut bytes, &[COMMANDS])?;
-    put_numbers(&mut bytes, &[DROPPED; 64])?;
+    put_numbers(&mut bytes, &[TAKEN; 64])?;
     for _hop in 1..=64 {
         put_numbers(&mut bytes, &[MOMENT, 0, 0, 0, 0])?;
         bytes.push(0)?;
-        put_numbers(&mut bytes, &[DROPPED, DROPPED, 0])?;
+        put_numbers(&mut bytes, &[TAKEN, RELEASED, RELEASED])?;
         bytes.extend_from_slice(&[0; 6])?;
     }
     bytes.push(0)?;
@@ -87,17 +90,24 @@ enum Kind {
 /// What is asked of one hop: a Take of 1,200 bytes from the peer of its number, and a Pick, a Fetch and a Release of that datagram.
 fn ask_of(alloc: Global, kind: Kind, id: u16) -> Result<Ask, AllocError> {
     let hop = HopId(id);
+    let custody = RELEASED + 1;
     Ok(match kind {
         Kind::Take => Ask::Command(Command::Take {
             peer: PeerId(id),
-            number: DROPPED + 1,
+            number: TAKEN + 1,
             hop,
             stamp: MOMENT,
-            payload: Payload::new(vec![in alloc; id as u8; 1_200]?),
+            payload: Payload::new(vec![in alloc; (id & 0xff) as u8; 1_200]?),
         }),
         Kind::Pick => Ask::Command(Command::Pick { hop, now: MOMENT }),
-        Kind::Fetch => Ask::Query(Query::Fetch { hop, number: 1 }),
-        Kind::Release => Ask::Command(Command::Release { hop, number: 1 }),
+        Kind::Fetch => Ask::Query(Query::Fetch {
+            hop,
+            number: custody,
+        }),
+        Kind::Release => Ask::Command(Command::Release {
+            hop,
+            number: custody,
+        }),
     })
 }
 
@@ -120,7 +130,7 @@ fn is_wanted(kind: Kind, id: u16, answer: &Answer) -> bool {
             },
         ) => (
             taken + 64,
-            *number == 1 && *id == taken && dropped.as_slice().is_empty(),
+            *number == RELEASED + 1 && *id == taken && dropped.as_slice().is_empty(),
         ),
         (Kind::Fetch, Reply::Bytes(payload)) => (COMMANDS + 128, are_of(id, payload.as_slice())),
         (Kind::Release, Reply::Released(count)) => (taken + 128, *count == 1),
@@ -163,7 +173,7 @@ fn each_of_64_hops_takes_one(rt: HostRuntime) -> Result<(), Fail> {
     let mut journal = opened(&rt, alloc, journal.into_disk());
     expect!(rt; journal.position() == COMMANDS + 128);
     for id in 1..=64u16 {
-        let found = journal.fetch(alloc, HopId(id), 1);
+        let found = journal.fetch(alloc, HopId(id), RELEASED + 1);
         expect!(rt; matches!(&found, Ok(bytes) if are_of(id, bytes)));
     }
     ask_each(&rt, alloc, &mut journal, Kind::Release)?;
