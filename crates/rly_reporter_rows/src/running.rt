@@ -64,7 +64,7 @@ fn failing<R: Abort>(rt: &R, alloc: Global) -> FaultDisk<MemDisk> {
     FaultDisk::new(disk, opening.wrapping_add(1), 0, After::GoesOn)
 }
 
-/// Eight turns at moment 150. It counts the answers.
+/// Eight turns at moment 150. It counts the answers to the receiver's calls.
 #[derive(Drop)]
 struct Counting<'a> {
     answered: &'a AtomicU64,
@@ -80,12 +80,14 @@ impl<'a> Turn for Counting<'a> {
 
     fn between<R: Wait>(&mut self, rt: &R, worker: Worker, point: Point) -> Go {
         let _ = rt;
-        let _ = worker;
         match point {
             Point::Start => self.turns = self.turns.saturating_add(1),
             Point::Heard | Point::Call | Point::Taken(_) => {}
             Point::Answered => {
-                self.answered.fetch_add(1, Ordering::SeqCst);
+                // The sender's first question may be answered before the Take is.
+                if worker == Worker::Receiver(PeerId(1)) {
+                    self.answered.fetch_add(1, Ordering::SeqCst);
+                }
             }
         }
         Go {
@@ -96,7 +98,7 @@ impl<'a> Turn for Counting<'a> {
     }
 }
 
-/// One report at moment 150: once so many calls of workers were answered, or once the word was said. It waits 1,000 times 10 ms
+/// One report at moment 150: once so many calls of the receiver were answered, or once the word was said. It waits 1,000 times 10 ms
 /// at most.
 #[derive(Drop)]
 struct Once<'a, C: Clock + Drop> {
