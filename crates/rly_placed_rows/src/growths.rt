@@ -137,14 +137,6 @@ fn expect_round(rt: &impl Abort, alloc: Global, due: bool, kind: Torn) -> Result
     Ok(())
 }
 
-#[test]
-fn a_round(rt: HostRuntime) -> Result<(), Fail> {
-    for kind in KINDS {
-        expect_round(&rt, rt.alloc(), false, kind)?;
-    }
-    Ok(())
-}
-
 /// The payloads of 32 datagrams are moved into the head.
 #[test]
 fn a_round_that_opens_a_segment(rt: HostRuntime) -> Result<(), Fail> {
