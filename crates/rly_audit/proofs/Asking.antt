@@ -1,5 +1,5 @@
 -- What an audit asks of the device.
-use Rattle.std.proofs.Common.{◌≡◌, ◌⊎◌, ◌∙◌, true, ap, refl, ⊎_elim}
+use Rattle.std.proofs.Common.{◌≡◌, ◌⊎◌, true, ap, ⊎_elim}
 use Rattle.rly_core.specs.declared.refusal.Refusal.TheVariants.{OutOfMemory}
 use Rattle.rly_audit.specs.declared.fault.AuditFault.{AuditFault}
 use Rattle.rly_audit.specs.declared.fault.AuditFault.TheVariants.{Output, Refused}

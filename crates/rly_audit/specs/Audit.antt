@@ -4,10 +4,11 @@ use Rattle.std.specs.Io.KnownBytes.{Appends}
 use Rattle.rly_core.specs.declared.refusal.Refusal.{Refusal}
 use Rattle.rly_core.specs.declared.refusal.Refusal.TheVariants.{Device}
 use Rattle.rly_disk.specs.DiskModel.{DiskState}
-use Rattle.rly_journal.specs.declared.open_fault.OpenFault.{OpenFault}
-use Rattle.rly_journal.specs.Faults.{IsRefused, opening_refusal}
-use Rattle.rly_journal.specs.Standing.{Stands}
+use Rattle.rly_standing.specs.declared.open_fault.OpenFault.{OpenFault}
+use Rattle.rly_standing.specs.Faults.{opening_refusal}
+use Rattle.rly_standing.specs.Standing.{Stands}
 use Rattle.rly_machine.specs.State.{State}
+use Rattle.rly_journal.specs.Faults.{IsRefused}
 use Rattle.rly_stream.specs.Beginnings.{BreaksOff}
 use Rattle.rly_audit.specs.declared.fault.AuditFault.{AuditFault}
 use Rattle.rly_audit.specs.declared.fault.AuditFault.TheVariants.{Refused}

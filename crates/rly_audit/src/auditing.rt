@@ -4,7 +4,7 @@ ghost use Rattle.rly_core.specs.declared.refusal.Refusal.{Refusal as ARefusal};
 ghost use Rattle.rly_disk.specs.DiskModel.{Settled};
 ghost use Rattle.rly_disk.specs.Trace.{Makes};
 ghost use Rattle.rly_gate.specs.Reading.{OnlyRead};
-ghost use Rattle.rly_journal.specs.Calls.{BreaksOpening, Scan as AScan, opening};
+ghost use Rattle.rly_standing.specs.Calls.{BreaksOpening, Scan as AScan, opening};
 ghost use Rattle.rly_stream.specs.Beginnings.{BreaksOff};
 ghost use Rattle.rly_audit.specs.Audit.{IsBegun, IsRefusal, IsReported, audit_tells};
 ghost use Rattle.rly_audit.specs.Report.{balances, books_of, report_of};

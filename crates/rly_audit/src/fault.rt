@@ -1,5 +1,5 @@
 use rly_core::Refusal;
-use rly_journal::OpenFault;
+use rly_standing::OpenFault;
 use rly_stream::StreamFault;
 use std::alloc::AllocError;
 use thiserror::Error;
@@ -18,7 +18,7 @@ pub enum AuditFault {
 impl From<OpenFault> for AuditFault {
     ghost use Rattle.std.specs.Prelude.{◌≡◌};
     ghost use Rattle.rly_audit.specs.declared.fault.AuditFault.TheVariants.{Refused};
-    ghost use Rattle.rly_journal.specs.Faults.{opening_refusal};
+    ghost use Rattle.rly_standing.specs.Faults.{opening_refusal};
 
     ghost from_gives = { λ cause fault. fault ≡ Refused (opening_refusal cause) };
 

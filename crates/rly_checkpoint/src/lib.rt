@@ -7,7 +7,7 @@
 //! with this checkpoint, and only bytes for which there is none are malformed. Reading takes
 //! memory for the peers and hops that the parameters count, and for no more datagrams than the
 //! bytes have room for. Writing takes none if the caller's buffer has the room. Callers:
-//! `rly_segment` and `rly_journal`.
+//! `rly_segment` and `rly_standing`.
 #![tactic(auto)]
 
 mod form;

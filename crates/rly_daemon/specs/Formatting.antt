@@ -4,15 +4,15 @@ use Rattle.rly_core.specs.declared.params.Geometry.{Geometry}
 use Rattle.rly_core.specs.declared.params.Params.{Params}
 use Rattle.rly_disk.specs.DiskModel.{DiskState}
 use Rattle.rly_disk.specs.Trace.{Makes}
-use Rattle.rly_journal.specs.declared.open_fault.OpenFault.{OpenFault}
-use Rattle.rly_journal.specs.Calls.{BreaksOpening, MakesOpening, tells}
-use Rattle.rly_journal.specs.Faults.{IsOfImage, IsRefused}
+use Rattle.rly_standing.specs.declared.open_fault.OpenFault.{OpenFault}
+use Rattle.rly_standing.specs.Calls.{BreaksOpening, MakesOpening, tells}
+use Rattle.rly_standing.specs.Faults.{IsOfImage}
 use Rattle.rly_journal.specs.Journal.{JournalState}
-use Rattle.rly_journal.specs.Standing.{Stands}
+use Rattle.rly_standing.specs.Standing.{Stands}
 use Rattle.rly_machine.specs.State.{State, live_items}
+use Rattle.rly_journal.specs.Faults.{IsRefused}
 use Rattle.rly_segment.specs.Calls.{formatting, new_head}
-use Rattle.rly_segment.specs.Device.{device_length}
-use Rattle.rly_journal.specs.Layout.{IsGeometry}
+use Rattle.rly_segment.specs.Device.{IsLayout, device_length}
 use Rattle.rly_daemon.specs.FileDisk.{file_state}
 use Rattle.rly_daemon.specs.declared.file_disk.FileDisk.{FileDisk}
 use Rattle.rly_daemon.specs.declared.formatting.UseFault.{UseFault}
@@ -49,7 +49,7 @@ FindsNoneLive {D} state old new =
 -- A new device of a geometry was made on a file: unless that was forced the file was looked at before, and no datagram lived
 -- on it; each read, write and sync of a new device was made, and none failed.
 pub record HasMade (geometry : Geometry) (force : Bool) : Type 0 where
-  pub within : IsGeometry geometry (device_length geometry)
+  pub within : IsLayout geometry (device_length geometry)
   pub opened : FileDisk
   pub before : FileDisk
   pub looked : force ≡ false → FindsNoneLive file_state opened before

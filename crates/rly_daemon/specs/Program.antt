@@ -15,8 +15,7 @@ use Rattle.rly_journal.specs.Journal.{JournalState}
 use Rattle.rly_machine.specs.State.{State, new_state}
 use Rattle.rly_reporter.specs.declared.reporter.ReporterEnd.{ReporterEnd}
 use Rattle.rly_reporter.specs.declared.reporter.ReporterEnd.TheVariants.{Closed, Paced}
-use Rattle.rly_segment.specs.Device.{device_length}
-use Rattle.rly_journal.specs.Layout.{IsGeometry}
+use Rattle.rly_segment.specs.Device.{IsLayout, device_length}
 use Rattle.rly_settings.specs.declared.given.Settings.{Settings}
 use Rattle.rly_settings.specs.declared.given.Settings.TheVariants.{Sim, Format, Play, Audit, Serve, Key, Plan}
 use Rattle.rly_daemon.specs.FileDisk.{file_state}
@@ -113,5 +112,5 @@ IsDone (Plan plan at) before behind left old new told_old told_new =
 abbrev pub IsOutOfLimits : Settings → Type 0
 IsOutOfLimits (Sim params) = ¬ IsWithinLimits params
 IsOutOfLimits (Format file params segments length force) =
-    ¬ IsGeometry (wanted_geometry params segments length) (device_length (wanted_geometry params segments length))
+    ¬ IsLayout (wanted_geometry params segments length) (device_length (wanted_geometry params segments length))
 IsOutOfLimits _ = ⊥

@@ -7,8 +7,9 @@ ghost use Rattle.rly_machine.specs.State.{live_items};
 
 use rly_core::{HopId, Refusal};
 use rly_disk::Disk;
-use rly_journal::{Journal, OpenFault};
+use rly_journal::Journal;
 use rly_machine::Reply;
+use rly_standing::OpenFault;
 use std::alloc::Global;
 
 /// Why a device isn't free to be formatted.

@@ -1,9 +1,8 @@
 ghost use Rattle.std.specs.Prelude.{◌≡◌, ◌↔◌, IfOk, IsOk, IsOkUnless};
-ghost use Rattle.rly_segment.specs.Device.{device_length};
-ghost use Rattle.rly_journal.specs.Layout.{IsGeometry};
+ghost use Rattle.rly_segment.specs.Device.{IsLayout, device_length};
 ghost use Rattle.rly_daemon.specs.Formatting.{wanted_geometry};
 
-use rly_core::limits::{SEGMENT_LENGTH_LIMIT, SEGMENTS};
+use rly_core::limits::{MAX_SEGMENTS, SEGMENT_LENGTH_LIMIT, SEGMENTS};
 use rly_core::{Geometry, Params, Refusal};
 use rly_reclaim::{fits, least_length};
 use rly_segment::segment_end;
@@ -16,11 +15,11 @@ pub(crate) fn geometry_of(
     length: Option<u64>,
 ) -> Result<Geometry, Refusal>
     ensures geometry { IfOk result (λ geometry. geometry ≡ wanted_geometry params segments length) }
-    ensures exactly { IsOk result ↔ IsGeometry (wanted_geometry params segments length) (device_length (wanted_geometry params segments length)) }
+    ensures exactly { IsOk result ↔ IsLayout (wanted_geometry params segments length) (device_length (wanted_geometry params segments length)) }
     ensures refusal { IsOkUnless result Refusal.BadGeometry }
 {
     params.check()?;
-    if segments != SEGMENTS {
+    if segments < SEGMENTS || MAX_SEGMENTS < segments {
         return Err(Refusal::BadGeometry);
     }
     let least = least_length(&Geometry {
@@ -41,7 +40,7 @@ pub(crate) fn geometry_of(
 
 /// How many bytes a device of a geometry takes.
 pub(crate) fn device_size(geometry: &Geometry) -> u64
-    requires { IsGeometry geometry.now (device_length geometry.now) }
+    requires { IsLayout geometry.now (device_length geometry.now) }
     ensures { result ≡ device_length geometry.now }
 {
     segment_end(geometry, geometry.segments - 1)

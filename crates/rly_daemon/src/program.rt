@@ -3,10 +3,9 @@ ghost use Rattle.std.specs.Io.KnownBytes.{Appends, Keeps};
 ghost use Rattle.rly_core.specs.Limits.{IsWithinLimits};
 ghost use Rattle.rly_core.specs.declared.refusal.Refusal.{Refusal as ARefusal};
 ghost use Rattle.rly_machine.specs.State.{new_state};
-ghost use Rattle.rly_journal.specs.Faults.{opening_refusal};
-ghost use Rattle.rly_journal.specs.declared.open_fault.OpenFault.{OpenFault};
-ghost use Rattle.rly_segment.specs.Device.{device_length};
-ghost use Rattle.rly_journal.specs.Layout.{IsGeometry};
+ghost use Rattle.rly_standing.specs.Faults.{opening_refusal};
+ghost use Rattle.rly_standing.specs.declared.open_fault.OpenFault.{OpenFault};
+ghost use Rattle.rly_segment.specs.Device.{IsLayout, device_length};
 ghost use Rattle.rly_settings.specs.CommandLine.{AsksHelp, IsSettings, asked_of, kinds_at};
 ghost use Rattle.rly_settings.specs.declared.given.Settings.{Settings as ASettings};
 ghost use Rattle.rly_daemon.specs.FileDisk.{file_state};
@@ -159,9 +158,9 @@ fn run_sim<R: Read, W: Write>(
 
 /// The geometry that is asked for. Values out of their limits are refused before any file is touched.
 fn wanted(params: Params, segments: u64, length: Option<u64>) -> Result<Geometry, CommandFault>
-    ensures geometry { IfOk result (λ geometry. (geometry ≡ wanted_geometry params segments length) × IsGeometry geometry (device_length geometry)) }
+    ensures geometry { IfOk result (λ geometry. (geometry ≡ wanted_geometry params segments length) × IsLayout geometry (device_length geometry)) }
     ensures refused { IfErr result (λ fault. fault ≡ CommandFault.Refused Refusal.BadGeometry Cause.Options) }
-    ensures limits { IsErr result ↔ ¬ IsGeometry (wanted_geometry params segments length) (device_length (wanted_geometry params segments length)) }
+    ensures limits { IsErr result ↔ ¬ IsLayout (wanted_geometry params segments length) (device_length (wanted_geometry params segments length)) }
 {
     match geometry_of(params, segments, length) {
         Ok(geometry) => Ok(geometry),
@@ -176,7 +175,7 @@ fn format_file<H: AllocGlobal + Files<File = File>>(
     geometry: &Geometry,
     force: bool,
 ) -> Result<u64, CommandFault>
-    requires { IsGeometry geometry.now (device_length geometry.now) }
+    requires { IsLayout geometry.now (device_length geometry.now) }
     ensures size { IfOk result (λ size. size ≡ device_length geometry.now) }
     ensures made { OnOk result (HasMade geometry.now force) }
 {

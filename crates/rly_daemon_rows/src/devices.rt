@@ -32,7 +32,7 @@ pub(super) fn make_small(rt: &(impl Abort + Host), path: &str) {
         "--items=16",
         "--bytes=4096",
     ];
-    expect(rt, &words, b"", 0, b"formatted 165880\n", b"");
+    expect(rt, &words, b"", 0, b"formatted 320772\n", b"");
 }
 
 /// Formats a file as a device of 64 hops, 64 peers, 16 items and 4,096 bytes.
@@ -46,7 +46,7 @@ pub(super) fn make_wide(rt: &(impl Abort + Host), path: &str) {
         "--items=16",
         "--bytes=4096",
     ];
-    expect(rt, &words, b"", 0, b"formatted 175834\n", b"");
+    expect(rt, &words, b"", 0, b"formatted 340680\n", b"");
 }
 
 /// Checks that a run is refused.
@@ -60,12 +60,12 @@ fn expect_play_refused(rt: &(impl Abort + Host), path: &str, errors: &[u8]) {
 }
 
 /// The header of the small device.
-const SMALL_HEADER: &[u8] = b"a5524c594445563031000100010001000800020001\
-43dc0000001000001000000005dc000000000000138800000000000186a0";
+const SMALL_HEADER: &[u8] = b"a5524c594445563031000100010001000800040001\
+39310000001000001000000005dc000000000000138800000000000186a0";
 
 /// Checks the bytes of a new small device.
 fn expect_new(rt: &(impl Abort + AllocGlobal), bytes: &[u8]) -> Result<(), Fail> {
-    assert!(rt; bytes.len() == 165_880);
+    assert!(rt; bytes.len() == 320_772);
     let header = hex::decode(rt.alloc(), SMALL_HEADER)?;
     expect!(rt; bytes.iter().take(51).eq(header.iter()));
     let head = b"\xa5\0\0\0\0\0\0\0\x01\0\0\0\x57".as_slice();
@@ -116,10 +116,10 @@ fn play_goes_on_where_it_stopped(rt: HostRuntime) -> Result<(), Fail> {
 const BAD_GEOMETRIES: [&str; 8] = [
     "--hops=65537",
     "--items=0",
-    "--segments=3",
+    "--segments=257",
     "--segments=1",
     "--segments=18446744073709551615",
-    "--length=1154840",
+    "--length=455789",
     "--length=2147483648",
     "--length=18446744073709551615",
 ];
@@ -143,7 +143,7 @@ fn geometries_out_of_limits_touch_no_file(rt: HostRuntime) -> Result<(), Fail> {
 #[test]
 fn format_never_shortens_a_file(rt: HostRuntime) -> Result<(), Fail> {
     let path = path_of(&rt, "long")?;
-    fs::write(&rt, path.as_str(), vec![in rt.alloc(); 7u8; 200_000]?)?;
+    fs::write(&rt, path.as_str(), vec![in rt.alloc(); 7u8; 400_000]?)?;
     make_small(&rt, path.as_str());
     let bytes = fs::read(&rt, path.as_str())?;
     expect_kept(&rt, bytes.as_slice());
@@ -153,8 +153,8 @@ fn format_never_shortens_a_file(rt: HostRuntime) -> Result<(), Fail> {
 
 /// Checks that what lies after the small device is as it was.
 fn expect_kept(rt: &impl Abort, bytes: &[u8]) {
-    assert!(rt; bytes.len() == 200_000);
-    expect!(rt; bytes.iter().skip(165_880).all(|byte| *byte == 7));
+    assert!(rt; bytes.len() == 400_000);
+    expect!(rt; bytes.iter().skip(320_772).all(|byte| *byte == 7));
 }
 
 /// Checks that `play` is refused on a device with a byte that is 0.
@@ -248,7 +248,7 @@ fn audit_tells_what_play_left(rt: HostRuntime) -> Result<(), Fail> {
     let path = name.as_str();
     expect_refused(&rt, &["rly", "audit", path], NOT_THERE);
     let words = ["rly", "format", path, "--hops=1", "--peers=1"];
-    expect(&rt, &words, b"", 0, b"formatted 2309272\n", b"");
+    expect(&rt, &words, b"", 0, b"formatted 1822276\n", b"");
     let lines = busy_lines(rt.alloc())?;
     let words = ["rly", "play", path, "--batch=7"];
     expect(&rt, &words, lines.as_bytes(), 0, BUSY_REPLIES, b"");
@@ -284,7 +284,7 @@ fn expect_kept_alive(rt: &(impl Abort + Host), path: &str) -> Result<(), Fail> {
     }
     expect_played(rt, path, b"fetch 1 1\n", b"bytes 1 1 41\n");
     let words = ["rly", "format", path, "--hops=1", "--peers=1", "--force"];
-    expect(rt, &words, b"", 0, b"formatted 2309272\n", b"");
+    expect(rt, &words, b"", 0, b"formatted 1822276\n", b"");
     expect_played(rt, path, b"window 1\n", b"window 1 1 1\n");
     Ok(())
 }
@@ -369,6 +369,7 @@ fn expect_long_device(rt: &(impl Abort + Host), path: &str) -> Result<(), Fail> 
         "--peers=1",
         "--items=64",
         "--bytes=4096",
+        "--segments=2",
         "--length=2147483647",
     ];
     expect(rt, &words, b"", 0, b"formatted 4294967358\n", b"");
@@ -378,6 +379,43 @@ fn expect_long_device(rt: &(impl Abort + Host), path: &str) -> Result<(), Fail> 
     expect(rt, &play, lines.as_bytes(), 0, taken.as_bytes(), b"");
     expect(rt, &["rly", "audit", path], b"", 0, MANY_BOOKS, b"");
     expect_refused(rt, &words, MANY_LIVE);
+    Ok(())
+}
+
+/// Numbers of segments, and what `format` prints for a small device of so many.
+const SEGMENTS: [(&str, &[u8]); 3] = [
+    ("--segments=2", b"formatted 165880\n"),
+    ("--segments=3", b"formatted 242644\n"),
+    ("--segments=256", b"formatted 20180032\n"),
+];
+
+/// Checks that a device of so many segments is as any other.
+fn expect_segments(rt: &(impl Abort + Host), path: &str, option: &str, formatted: &[u8]) {
+    let words = [
+        "rly",
+        "format",
+        path,
+        "--hops=1",
+        "--peers=1",
+        "--items=16",
+        "--bytes=4096",
+        "--force",
+        option,
+    ];
+    expect(rt, &words, b"", 0, formatted, b"");
+    for (input, output) in &RUNS {
+        expect_played(rt, path, *input, *output);
+    }
+}
+
+/// A device has 2 to 256 segments.
+#[test]
+fn a_device_has_as_many_segments_as_are_asked_for(rt: HostRuntime) -> Result<(), Fail> {
+    let path = path_of(&rt, "segments")?;
+    for (option, formatted) in &SEGMENTS {
+        expect_segments(&rt, path.as_str(), *option, *formatted);
+    }
+    fs::remove_file(&rt, path.as_str())?;
     Ok(())
 }
 

@@ -4,7 +4,7 @@
 //! `draw` makes it, and tells the reads that it made (`specs/Drawing.antt`; docs/DEFINITIONS.md,
 //! "Drawing"). `law_but_for_bytes` says what holds of the copy whatever was read: on any disk its
 //! head is as long, and once that stands the payloads lie where `rly_moving` has them. It writes
-//! nothing. No journal uses it yet.
+//! nothing. Caller: `rly_journal`.
 #![tactic(auto)]
 
 mod drawing;

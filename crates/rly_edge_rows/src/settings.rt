@@ -30,7 +30,7 @@ fn what_is_left_out_is_the_default(rt: HostRuntime) {
     expect!(rt; format == Some(Settings::Format {
             file,
             params,
-            segments: 2,
+            segments: 4,
             length: None,
             force: false
         }));
@@ -84,7 +84,7 @@ fn what_is_given_is_read(rt: HostRuntime) {
     expect!(rt; forced == Some(Settings::Format {
             file,
             params,
-            segments: 2,
+            segments: 4,
             length: None,
             force: true
         }));

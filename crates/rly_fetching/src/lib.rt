@@ -6,7 +6,7 @@
 //! fails refuses that call alone, and so does memory that is refused (`specs/Fetching.antt`;
 //! docs/DEFINITIONS.md, "Fetching"). What it asks of the device are rows of calls that are tried one
 //! after the other (`specs/Trials.antt`), and the laws of `src/trials.rt` say what follows from
-//! them. It writes nothing. No journal uses it yet.
+//! them. It writes nothing. Caller: `rly_journal`.
 #![tactic(auto)]
 
 mod answering;

@@ -15,17 +15,17 @@ use Rattle.rly_machine.specs.declared.reply.Reply.TheVariants.{Refused}
 use Rattle.rly_machine.specs.Fold.{fold}
 use Rattle.rly_machine.specs.History.{Entry, accepted_of, LegalBy, LegalButForBytes, harm_after, state_after, without_bytes}
 use Rattle.rly_machine.specs.State.{State}
-use Rattle.rly_machine.proofs.Histories.{folds, legal_append, legal_but_for_bytes}
-use Rattle.rly_journal.specs.Journal.{IsRound, JournalState}
+use Rattle.rly_machine.proofs.Histories.{folds, legal_append}
+use Rattle.rly_journal.specs.Journal.{IsRound, JournalState, StaysShut}
 use Rattle.rly_journal.specs.Rounds.{AreServed, refusal_of, refusals}
-use Rattle.rly_journal.specs.Standing.{Stands}
+use Rattle.rly_standing.specs.Standing.{Stands}
 use Rattle.rly_line.specs.Replies.{Teller}
 use Rattle.rly_line.specs.Batches.{BatchView, calls_put}
 use Rattle.rly_line.specs.Responding.{AreLeft, IsResponding, Responding, calls_in}
 use Rattle.rly_line.specs.Submission.{LineId}
 use Rattle.rly_line.proofs.Telling.{with_over}
 use Rattle.rly_flush.specs.HelpersFlushing.{AreCollected, IsFlushing, IsRounded}
-use Rattle.rly_flush.specs.Flushing.{AreHarmless, FlusherState, GrewInRound, IsBreaking, IsCrashSafe, IsLeftIn, IsDoubtful, IsOneHistory, IsOneRound, IsRefusedWhereScarce, answered_state, entries_since, folded, over_now, state_reached}
+use Rattle.rly_flush.specs.Flushing.{AreHarmless, AreLostOrShut, FlusherState, GrewInRound, IsBreaking, IsCrashSafe, IsLeftIn, IsDoubtful, IsOneHistory, IsOneRound, answered_state, entries_since, folded, over_now, state_reached}
 use Rattle.rly_flush.proofs.Joining.{GoesOn, goes_on}
 use Rattle.rly_flush.proofs.Refusing.{accepted_append, all_append, all_broken, all_harmless, all_unsure, broken_accepts_none, calls_in_append, calls_in_zip, unsure_accepts_none}
 
@@ -58,6 +58,20 @@ refused_again : {history : List Entry} {given : List Answer} {p q : ℕ} (before
     → given ≡ refusals Broken p calls → q ≡ p → history ++ zip calls given ≡ before ++ entries_since q broke (behind ++ calls)
 refused_again {history} {given} {p} before broke behind calls whole refused same = rw (whole, refused, same, refusals_append Broken p behind calls) (simp append_assoc)
 
+-- what was served on a disk was served on one that is honest only where that is
+served_on : (a b : DiskState) (calls : List Call) (given : List Answer) (s t : State (List ℕ)) → (b.honest → a.honest) → AreServed a calls given s t → AreServed b calls given s t
+served_on a b calls given s t right served = record {
+  count = served.count;
+  legal = served.legal;
+  exact = λ honest. served.exact (right honest);
+  only = served.only;
+  state = served.state;
+}
+
+-- a journal that stayed shut isn't broken
+pub still_whole : {D : Type 0} (old new : JournalState D) (calls : List Call) → old.broken ≡ false → StaysShut old new calls → {A : Type 0} → new.broken ≡ true → A
+still_whole {D} old new calls whole shut broke = absurd (false≢true (sym (ap (λ (j : JournalState D). j.broken) shut.same ∙ whole) ∙ broke))
+
 module _ {D : Type 0} (state : D → DiskState) (consistent : (disk : D) → (state disk).honest → Consistent (state disk)) where
   -- between rounds, where the journal goes on
   pub at_rest : (f : FlusherState D) → f.journal.state ≡ state_reached f → f.journal.broken ≡ false → Settled (state f.journal.disk) × Stands (state f.journal.disk).seen f.journal.state
@@ -67,22 +81,24 @@ module _ {D : Type 0} (state : D → DiskState) (consistent : (disk : D) → (st
     doubtful = inl (whole, [], sym (append-nil f.line.history), refl, λ broke. absurd (false≢true (sym whole ∙ broke)));
     given = [];
     target = state_reached f;
-    served = record { count = refl; legal = tt; only = tt; state = refl };
+    served = record { count = refl; legal = tt; exact = λ _. tt; only = tt; state = refl };
     leaves = started_settled (state f.journal.disk) (λ image. Stands image (state_reached f) ⊎ Stands image (state_reached f)) stands.0
         (inl (subst (Stands (state f.journal.disk).seen) same stands.1));
     running = λ _. sym same;
   }
 
   -- while it is broken, from one moment to others
-  broken_safe : {a b : FlusherState D} (old new : FlusherState D) (safe : IsCrashSafe state a b) → state_reached a ≡ state_reached old
+  broken_safe : {a b : FlusherState D} (old new : FlusherState D) (safe : IsCrashSafe state a b) → ((state old.journal.disk).honest → (state a.journal.disk).honest)
+      → state_reached a ≡ state_reached old
       → LeavesOnly (state old.journal.disk) (state new.journal.disk) (λ image. Stands image (state_reached a) ⊎ Stands image safe.target) → new.journal.broken ≡ true
       → IsDoubtful old new safe.calls → IsCrashSafe state old new
-  broken_safe old new safe same leaves broke doubtful = record {
+  broken_safe {a} old new safe right same leaves broke doubtful = record {
     calls = safe.calls;
     doubtful = doubtful;
     given = safe.given;
     target = safe.target;
-    served = subst (λ s. AreServed safe.calls safe.given s safe.target) same safe.served;
+    served = subst (λ s. AreServed (state old.journal.disk) safe.calls safe.given s safe.target) same
+        (served_on (state a.journal.disk) (state old.journal.disk) safe.calls safe.given (state_reached a) safe.target right safe.served);
     leaves = subst (λ s. LeavesOnly (state old.journal.disk) (state new.journal.disk) (λ image. Stands image s ⊎ Stands image safe.target)) same leaves;
     running = λ whole. absurd (false≢true (sym whole ∙ broke));
   }
@@ -90,17 +106,21 @@ module _ {D : Type 0} (state : D → DiskState) (consistent : (disk : D) → (st
   -- an image that stands for the history, or for that with the commands of a round, was left in that round
   module _ (old new : FlusherState D) (safe : IsCrashSafe state old new) (was : LegalButForBytes old.line.start old.line.history)
       (is : LegalButForBytes old.line.start new.line.history) (at : new.journal.broken ≡ false → new.journal.state ≡ folded old.line.start new.line.history)
-      (earlier : List Entry) (holds : (more : List (Command (List ℕ))) × (accepted_of old.line.history ≡ accepted_of earlier ++ more)) (none : old.journal.broken ≡ false → AreHarmless old.line.history) where
+      (earlier : List Entry) (holds : (more : List (Command (List ℕ))) × (accepted_of old.line.history ≡ accepted_of earlier ++ more)) (none : old.journal.broken ≡ false → AreHarmless old.line.history)
+      (disk : DiskState) (right : disk.honest → (state old.journal.disk).honest) where
     abbrev start : State (List ℕ)
     start = old.line.start
 
     same : state_reached old ≡ folded start old.line.history
     same = (folds 0 start old.line.history was).0
 
+    served : AreServed disk safe.calls safe.given (state_reached old) safe.target
+    served = served_on (state old.journal.disk) disk safe.calls safe.given (state_reached old) safe.target right safe.served
+
     -- in the round that was made now
     left_now : (round : List Entry) → new.line.history ≡ old.line.history ++ round → calls_in round ≡ safe.calls
         → (answered : (safe.target ≡ folded start (old.line.history ++ round)) ⊎ IsBreaking old.line.history round [])
-        → (image : List ℕ) → Stands image (state_reached old) ⊎ Stands image safe.target → IsLeftIn start earlier new.line.history image
+        → (image : List ℕ) → Stands image (state_reached old) ⊎ Stands image safe.target → IsLeftIn disk start earlier new.line.history image
     left_now round whole calls answered image stands = record {
       before = old.line.history;
       round = round;
@@ -111,7 +131,7 @@ module _ {D : Type 0} (state : D → DiskState) (consistent : (disk : D) → (st
         safe.target,
         record {
           given = safe.given;
-          served = subst (λ (y : List Call × State (List ℕ)). AreServed y.0 safe.given y.1 safe.target) (λ i. (sym calls i, same i)) safe.served;
+          served = subst (λ (y : List Call × State (List ℕ)). AreServed disk y.0 safe.given y.1 safe.target) (λ i. (sym calls i, same i)) served;
           answered = answered;
         },
         held,
@@ -146,7 +166,7 @@ module _ {D : Type 0} (state : D → DiskState) (consistent : (disk : D) → (st
       at_before : folded start old.line.history ≡ folded start before
       at_before = ap (fold length start) fewer
 
-      left_earlier : (image : List ℕ) → Stands image (state_reached old) ⊎ Stands image safe.target → IsLeftIn start earlier new.line.history image
+      left_earlier : (image : List ℕ) → Stands image (state_reached old) ⊎ Stands image safe.target → IsLeftIn disk start earlier new.line.history image
       left_earlier image stands = record {
         before = before;
         round = broke;
@@ -157,8 +177,8 @@ module _ {D : Type 0} (state : D → DiskState) (consistent : (disk : D) → (st
           safe.target,
           record {
             given = safe.given;
-            served = subst (λ (y : List Call × State (List ℕ)). AreServed y.0 safe.given y.1 safe.target)
-                (λ i. (sym (calls_in_zip safe.calls (refusals Unsure old.journal.position safe.calls) (length-map safe.calls (refusal_of Unsure old.journal.position))) i, (same ∙ at_before) i)) safe.served;
+            served = subst (λ (y : List Call × State (List ℕ)). AreServed disk y.0 safe.given y.1 safe.target)
+                (λ i. (sym (calls_in_zip safe.calls (refusals Unsure old.journal.position safe.calls) (length-map safe.calls (refusal_of Unsure old.journal.position))) i, (same ∙ at_before) i)) served;
             answered = inr (record {
               some = as_many_calls old.journal.position safe.calls some;
               unsure = all_unsure old.journal.position safe.calls;
@@ -171,7 +191,7 @@ module _ {D : Type 0} (state : D → DiskState) (consistent : (disk : D) → (st
       }
 
     pub left_in : (rest : List Entry) → new.line.history ≡ old.line.history ++ rest → (old.journal.broken ≡ true → AllByRecursion (λ entry. entry.1.reply ≡ Refused Broken) rest)
-        → (image : List ℕ) → Stands image (state_reached old) ⊎ Stands image safe.target → IsLeftIn start earlier new.line.history image
+        → (image : List ℕ) → Stands image (state_reached old) ⊎ Stands image safe.target → IsLeftIn disk start earlier new.line.history image
     left_in rest grown refused image stands =
         ⊎_elim (λ now. left_now now.1 now.2 now.3 (answered_now new.journal.broken refl now.0 now.1 now.2 now.4) image stands)
         (λ broken. left_earlier rest grown (refused broken.0) broken.1 broken.2 broken.3 broken.4 broken.5 image stands) safe.doubtful
@@ -179,9 +199,9 @@ module _ {D : Type 0} (state : D → DiskState) (consistent : (disk : D) → (st
   -- all that holds at an exit
   pub one_history : (f : FlusherState D) → IsFlushing state f → IsOneHistory state f
   one_history f is =
-      let bytes = legal_but_for_bytes 0 f.line.start f.line.history is.legal in
+      let bytes = is.legal_but_for_bytes in
       let all = folds 0 f.line.start f.line.history bytes in
-      let none : f.journal.broken ≡ false → AreHarmless f.line.history = λ whole. all_harmless (λ reply. reply) 0 f.line.start f.line.history is.legal (is.unharmed whole) in
+      let none : f.journal.broken ≡ false → AreHarmless f.line.history = λ whole. all_harmless without_bytes 0 f.line.start f.line.history bytes (is.unharmed whole) in
       record {
         calls = is.answered;
         start = is.start;
@@ -197,7 +217,7 @@ module _ {D : Type 0} (state : D → DiskState) (consistent : (disk : D) → (st
         told = is.responding.told;
         kept = λ honest sound image left.
             let safe = is.safe honest sound in
-            left_in f f safe bytes bytes (λ whole. is.running whole ∙ all.0) f.line.history ([], sym (append-nil (accepted_of f.line.history))) none [] (sym (append-nil f.line.history)) (λ _. tt) image (at_exit (λ c. Stands c (state_reached f) ⊎ Stands c safe.target) safe.leaves (consistent f.journal.disk honest) image left);
+            left_in f f safe bytes bytes (λ whole. is.running whole ∙ all.0) f.line.history ([], sym (append-nil (accepted_of f.line.history))) none (state f.journal.disk) (λ right. right) [] (sym (append-nil f.line.history)) (λ _. tt) image (at_exit (λ c. Stands c (state_reached f) ⊎ Stands c safe.target) safe.leaves (consistent f.journal.disk honest) image left);
       }
 
   module _ (old : FlusherState D) (kept : IsFlushing state old) where
@@ -206,7 +226,7 @@ module _ {D : Type 0} (state : D → DiskState) (consistent : (disk : D) → (st
       next = next_of old journal left lines came calls given
 
       pub on : GoesOn state old.journal journal old.line.start old.line.history calls given
-      on = goes_on state old.journal journal old.line.start old.line.history calls given now.round kept.position_is kept.running kept.unharmed
+      on = goes_on state old.journal journal old.line.start old.line.history calls given now.round now.unread kept.position_is kept.running kept.unharmed
 
       -- the calls of the history are those before and these
       pub more : calls_in next.line.history ≡ calls_in old.line.history ++ calls
@@ -220,15 +240,16 @@ module _ {D : Type 0} (state : D → DiskState) (consistent : (disk : D) → (st
       after_broken : journal ≡ old.journal → (state old.journal.disk).honest → old.first.broken ≡ false → old.journal.broken ≡ true → IsCrashSafe state old next
       after_broken same honest sound broke =
           let safe = kept.safe honest sound in
-          broken_safe old next safe refl
+          broken_safe old next safe (λ right. right) refl
           (subst (λ (j : JournalState D). LeavesOnly (state old.journal.disk) (state j.disk) (λ image. Stands image (state_reached old) ⊎ Stands image safe.target)) (sym same) safe.leaves)
           (ap (λ (j : JournalState D). j.broken) same ∙ broke) (⊎_elim (λ was. absurd (false≢true (sym was.0 ∙ broke))) (λ was. inr was) safe.doubtful)
 
       -- and of one that was not
       unsure_by : IsRound state old.journal journal calls given → old.journal.broken ≡ false → journal.broken ≡ true → zip calls given ≡ zip calls (refusals Unsure old.journal.position calls)
       unsure_by (inl was) whole broke = absurd (false≢true (sym whole ∙ was.0))
-      unsure_by (inr (inl went)) whole broke = absurd (false≢true (sym went.1.broken ∙ broke))
-      unsure_by (inr (inr breaks)) whole broke = ap (zip calls) breaks.1.unsure
+      unsure_by (inr (inl shut)) whole broke = still_whole old.journal journal calls whole shut.1.0 broke
+      unsure_by (inr (inr (inl went))) whole broke = absurd (false≢true (sym went.1.broken ∙ broke))
+      unsure_by (inr (inr (inr breaks))) whole broke = ap (zip calls) breaks.1.unsure
 
       in_round : (state old.journal.disk).honest → old.journal.broken ≡ false → IsCrashSafe state old next
       in_round honest whole =
@@ -239,15 +260,16 @@ module _ {D : Type 0} (state : D → DiskState) (consistent : (disk : D) → (st
             doubtful = inl (whole, zip calls given, refl, calls_in_zip calls given on.count, λ broke. (some, unsure_by now.round whole broke));
             given = safe.given;
             target = safe.target;
-            served = subst (λ s. AreServed calls safe.given s safe.target) same safe.served;
+            served = subst (λ s. AreServed (state old.journal.disk) calls safe.given s safe.target) same safe.served;
             leaves = subst (λ s. LeavesOnly (state old.journal.disk) (state journal.disk) (λ image. Stands image s ⊎ Stands image safe.target)) same safe.leaves;
             running = safe.running;
           }
 
       round_safe_by : IsRound state old.journal journal calls given → (state old.journal.disk).honest → old.first.broken ≡ false → IsCrashSafe state old next
       round_safe_by (inl was) honest sound = after_broken was.2 honest sound was.0
-      round_safe_by (inr (inl went)) honest sound = in_round honest went.0
-      round_safe_by (inr (inr breaks)) honest sound = in_round honest breaks.0
+      round_safe_by (inr (inl shut)) honest sound = in_round honest shut.0
+      round_safe_by (inr (inr (inl went))) honest sound = in_round honest went.0
+      round_safe_by (inr (inr (inr breaks))) honest sound = in_round honest breaks.0
 
       pub round_safe : (state old.journal.disk).honest → old.first.broken ≡ false → IsCrashSafe state old next
       round_safe honest sound = round_safe_by now.round honest sound
@@ -256,7 +278,7 @@ module _ {D : Type 0} (state : D → DiskState) (consistent : (disk : D) → (st
       broken_rest : (safe : IsCrashSafe state old next) → (state journal.disk).honest → journal.broken ≡ true → IsDoubtful next next safe.calls → IsCrashSafe state next next
       broken_rest safe honest broke =
           let Left : List ℕ → Type 0 = λ image. Stands image (state_reached old) ⊎ Stands image safe.target in
-          broken_safe next next safe (sym (on.stays broke))
+          broken_safe next next safe now.later.honest.0 (sym (on.stays broke))
           (started (state journal.disk) Left (consistent journal.disk honest) (at_exit Left safe.leaves (consistent journal.disk honest))) broke
 
       rest_by : IsRound state old.journal journal calls given → (state journal.disk).honest → old.first.broken ≡ false → journal.broken ≡ true → IsCrashSafe state next next
@@ -274,14 +296,15 @@ module _ {D : Type 0} (state : D → DiskState) (consistent : (disk : D) → (st
             doubt.3,
             doubt.4,
           ))
-      rest_by (inr (inl went)) honest sound broke = absurd (false≢true (sym went.1.broken ∙ broke))
-      rest_by (inr (inr breaks)) honest sound broke = broken_rest (in_round (now.later.honest.0 honest) breaks.0) honest broke (inr (
+      rest_by (inr (inl shut)) honest sound broke = still_whole old.journal journal calls shut.0 shut.1.0 broke
+      rest_by (inr (inr (inl went))) honest sound broke = absurd (false≢true (sym went.1.broken ∙ broke))
+      rest_by (inr (inr (inr breaks))) honest sound broke = broken_rest (in_round (now.later.honest.0 honest) breaks.0) honest broke (inr (
         broke,
         old.line.history,
         [],
         refused_first old.line.history calls breaks.1.unsure breaks.1.position,
         some,
-        all_harmless (λ reply. reply) 0 old.line.start old.line.history kept.legal (kept.unharmed breaks.0),
+        all_harmless without_bytes 0 old.line.start old.line.history kept.legal_but_for_bytes (kept.unharmed breaks.0),
       ))
 
       rest : (broken : Bool) → journal.broken ≡ broken → (state journal.disk).honest → old.first.broken ≡ false → IsCrashSafe state next next
@@ -290,8 +313,9 @@ module _ {D : Type 0} (state : D → DiskState) (consistent : (disk : D) → (st
 
       same_by : IsRound state old.journal journal calls given → old.journal.broken ≡ true → journal ≡ old.journal
       same_by (inl was) broke = was.2
-      same_by (inr (inl went)) broke = absurd (false≢true (sym went.0 ∙ broke))
-      same_by (inr (inr breaks)) broke = absurd (false≢true (sym breaks.0 ∙ broke))
+      same_by (inr (inl shut)) broke = absurd (false≢true (sym shut.0 ∙ broke))
+      same_by (inr (inr (inl went))) broke = absurd (false≢true (sym went.0 ∙ broke))
+      same_by (inr (inr (inr breaks))) broke = absurd (false≢true (sym breaks.0 ∙ broke))
 
       -- all of it goes on
       pub kept_next : calls_put old.kept ++ came ≡ calls ++ calls_put left → IsResponding next.line → IsFlushing state next
@@ -301,7 +325,8 @@ module _ {D : Type 0} (state : D → DiskState) (consistent : (disk : D) → (st
         as_given = kept.as_given;
         answered = ap (λ l. l ++ calls_put left) more ∙ append_assoc (calls_in old.line.history) calls (calls_put left) ∙ ap (λ l. calls_in old.line.history ++ l) (sym in_turn)
             ∙ sym (append_assoc (calls_in old.line.history) (calls_put old.kept) came) ∙ ap (λ l. l ++ came) kept.answered;
-        legal = legal_append (λ reply. reply) 0 old.line.start old.line.history (zip calls given) kept.legal on.legal;
+        legal = λ honest. legal_append (λ reply. reply) 0 old.line.start old.line.history (zip calls given) (kept.legal honest) (on.legal (kept.later.honest.1 honest));
+        legal_but_for_bytes = legal_append without_bytes 0 old.line.start old.line.history (zip calls given) kept.legal_but_for_bytes on.but_for_bytes;
         position_is = on.position_is;
         running = on.running;
         unharmed = on.unharmed;
@@ -340,6 +365,7 @@ with_end_flushing state p {f} is = record {
   as_given = is.as_given;
   answered = is.answered;
   legal = is.legal;
+  legal_but_for_bytes = is.legal_but_for_bytes;
   position_is = is.position_is;
   running = is.running;
   unharmed = is.unharmed;
@@ -377,7 +403,7 @@ module _ {D : Type 0} (state : D → DiskState) (consistent : (disk : D) → (st
     pub may_tell : LegalBy without_bytes (harm_after 0 collected.history) (state_after collected.start collected.history) (zip said given)
     may_tell =
         subst (λ (y : Responding × List Call). LegalBy without_bytes (harm_after 0 y.0.history) (state_after y.0.start y.0.history) (zip y.1 given)) (λ i. (sym taken.line i, sym same i))
-        (legal_but_for_bytes (harm_after 0 old.line.history) (state_after old.line.start old.line.history) (zip calls given) (on state consistent old kept journal left old.line.lines taken.came calls given now some).legal)
+        (on state consistent old kept journal left old.line.lines taken.came calls given now some).but_for_bytes
 
     -- once all were told
     pub went_on : {line : Responding} → line ≡ record collected { history = collected.history ++ zip said given; lines = line.lines } → IsResponding line
@@ -395,15 +421,15 @@ module _ {D : Type 0} (state : D → DiskState) (consistent : (disk : D) → (st
 
     -- which was one round
     pub one_round : {line : Responding} → line ≡ record collected { history = collected.history ++ zip said given; lines = line.lines } → IsIn 1 64 (length calls)
-        → IsRefusedWhereScarce old.journal calls given → IsOneRound state old (record { first = old.first; journal = journal; kept = left; line = line })
-    one_round {line} told count memory = record {
+        → AreLostOrShut old.journal journal calls given → IsOneRound state old (record { first = old.first; journal = journal; kept = left; line = line })
+    one_round {line} told count lost = record {
       calls = calls;
       given = given;
       count = count;
       in_turn = record { came = taken.came; taken = ap (λ (l : Responding). l.taken) told ∙ ap (λ (l : Responding). l.taken) taken.line; in_turn = taken.in_turn; full = taken.full };
       history = ap (λ (l : Responding). l.history) told ∙ (λ i. (taken.line i).history ++ zip (same i) given);
       round = now.round;
-      memory = memory;
+      lost = lost;
     }
 
 -- nothing was taken yet
@@ -421,7 +447,8 @@ at_first {D} state consistent journal of line lines over is responding counted d
       start = refl;
       as_given = same;
       answered = refl;
-      legal = tt;
+      legal = λ _. tt;
+      legal_but_for_bytes = tt;
       position_is = refl;
       running = λ whole. sym (same whole);
       unharmed = λ _. refl;

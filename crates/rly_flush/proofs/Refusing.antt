@@ -1,5 +1,5 @@
 -- Answers that refuse all calls, and those of a served round, after a history.
-use Rattle.std.proofs.Common.{ℕ, ◌≡◌, ◌≤◌, ◌++◌, ◌∷◌, [], List, Bool, true, false, true≢false, cond, length, refl, sym, ap, subst, ◌∙◌, arith, append_assoc}
+use Rattle.std.proofs.Common.{ℕ, ◌≡◌, ◌≤◌, ◌⊎◌, ◌++◌, ◌∷◌, [], List, Bool, true, false, true≢false, cond, length, refl, sym, ap, subst, ⊎_elim, ◌∙◌, arith, append_assoc}
 use Rattle.std.specs.List.{AllByRecursion, zip}
 use Rattle.std.proofs.lemmas.List.{map-append}
 use Rattle.std.proofs.lemmas.Slice.Zip.{firsts-zip}
@@ -16,7 +16,7 @@ use Rattle.rly_machine.specs.declared.command.Ask.TheVariants as asked
 use Rattle.rly_machine.specs.State.{State}
 use Rattle.rly_machine.proofs.Histories.{folds}
 use Rattle.rly_machine.proofs.RealReplies.{harmless}
-use Rattle.rly_journal.specs.Rounds.{OnlyMemory, refusal_of, refusals}
+use Rattle.rly_journal.specs.Rounds.{AreUnreadWhere, IsFetch, OnlyLost, refusal_of, refusals}
 use Rattle.rly_line.specs.Responding.{calls_in}
 use Rattle.rly_flush.specs.Flushing.{AreHarmless, IsTruthful}
 
@@ -72,44 +72,54 @@ pub all_refused : (P : Entry → Type 0) (refusal : Refusal) (p : ℕ) → ((cal
 all_refused P refusal p each [] = tt
 all_refused P refusal p each (call ∷ calls) = (each call, all_refused P refusal p each calls)
 
-pub unsure_truthful : (failed broken : Type 0) (p : ℕ) (calls : List Call) → failed → AllByRecursion (IsTruthful failed broken) (zip calls (refusals Unsure p calls))
-unsure_truthful failed broken p calls rose = all_refused (IsTruthful failed broken) Unsure p (λ call. record {
-  unsure = λ _. rose;
-  broken_before = λ e. absurd (let h : Refused Unsure ≡ Refused Broken = e in cc);
-  readable = λ e. let h : Refused Unsure ≡ Refused DeviceRead = e in cc;
-}) calls
+module _ (failed broken unread : Type 0) where
+  abbrev AreTruthful : List Entry → Type 0
+  AreTruthful entries = AllByRecursion (IsTruthful failed broken unread) entries
 
-pub broken_truthful : (failed broken : Type 0) (p : ℕ) (calls : List Call) → broken → AllByRecursion (IsTruthful failed broken) (zip calls (refusals Broken p calls))
-broken_truthful failed broken p calls was = all_refused (IsTruthful failed broken) Broken p (λ call. record {
-  unsure = λ e. absurd (let h : Refused Broken ≡ Refused Unsure = e in cc);
-  broken_before = λ _. was;
-  readable = λ e. let h : Refused Broken ≡ Refused DeviceRead = e in cc;
-}) calls
+  pub unsure_truthful : (p : ℕ) (calls : List Call) → failed → AreTruthful (zip calls (refusals Unsure p calls))
+  unsure_truthful p calls rose = all_refused (IsTruthful failed broken unread) Unsure p (λ call. record {
+    unsure = λ _. rose;
+    broken_before = λ e. absurd (let h : Refused Unsure ≡ Refused Broken = e in cc);
+    unreadable = λ e. absurd (let h : Refused Unsure ≡ Refused DeviceRead = e in cc);
+  }) calls
 
--- a failure is true for a weaker reason
-pub still_truthful : (failed broken failed' broken' : Type 0) → (failed → failed') → (broken → broken') → (xs : List Entry)
-    → AllByRecursion (IsTruthful failed broken) xs → AllByRecursion (IsTruthful failed' broken') xs
-still_truthful failed broken failed' broken' fails breaks xs all = all_weaker (IsTruthful failed broken) (IsTruthful failed' broken')
-    (λ x t. record { unsure = λ e. fails (t.unsure e); broken_before = λ e. breaks (t.broken_before e); readable = t.readable }) xs all
+  pub broken_truthful : (p : ℕ) (calls : List Call) → broken → AreTruthful (zip calls (refusals Broken p calls))
+  broken_truthful p calls was = all_refused (IsTruthful failed broken unread) Broken p (λ call. record {
+    unsure = λ e. absurd (let h : Refused Broken ≡ Refused Unsure = e in cc);
+    broken_before = λ _. was;
+    unreadable = λ e. absurd (let h : Refused Broken ≡ Refused DeviceRead = e in cc);
+  }) calls
 
--- where want of memory is the only failure, no device failed
-memory_truthful : (failed broken : Type 0) (x : Entry) → OnlyMemory x → IsTruthful failed broken x
-memory_truthful failed broken x only = record {
-  unsure = λ e. absurd (let h : Refused Unsure ≡ Refused OutOfMemory = sym e ∙ only (ap is_failure e) in cc);
-  broken_before = λ e. absurd (let h : Refused Broken ≡ Refused OutOfMemory = sym e ∙ only (ap is_failure e) in cc);
-  readable = λ e. let h : Refused DeviceRead ≡ Refused OutOfMemory = sym e ∙ only (ap is_failure e) in cc;
-}
+  -- a failure is true for a weaker reason
+  pub still_truthful : (failed' broken' unread' : Type 0) → (failed → failed') → (broken → broken') → (unread → unread') → (xs : List Entry)
+      → AreTruthful xs → AllByRecursion (IsTruthful failed' broken' unread') xs
+  still_truthful failed' broken' unread' fails breaks reads xs all = all_weaker (IsTruthful failed broken unread) (IsTruthful failed' broken' unread')
+      (λ x t. record { unsure = λ e. fails (t.unsure e); broken_before = λ e. breaks (t.broken_before e); unreadable = λ e. reads (t.unreadable e) }) xs all
 
-pub served_truthful : (failed broken : Type 0) (xs : List Entry) → AllByRecursion OnlyMemory xs → AllByRecursion (IsTruthful failed broken) xs
-served_truthful failed broken xs only = all_weaker OnlyMemory (IsTruthful failed broken) (memory_truthful failed broken) xs only
+  -- where no harm is told, no write and no sync failed
+  pub harmless_truthful : (xs : List Entry) → AreHarmless xs → AreUnreadWhere unread xs → AreTruthful xs
+  harmless_truthful [] none all = tt
+  harmless_truthful (x ∷ xs) none all = (
+    record {
+      unsure = λ e. absurd (omega (arith, ap harm e, none.0));
+      broken_before = λ e. absurd (omega (arith, ap harm e, none.0));
+      unreadable = all.0;
+    },
+    harmless_truthful xs none.1 all.1,
+  )
 
-harmless_by : (reply : Reply) (fails : Bool) → is_failure reply ≡ fails → (is_failure reply ≡ true → reply ≡ Refused OutOfMemory) → harm reply ≡ 0
-harmless_by reply true is only = ap harm (only is)
-harmless_by reply false is only = harmless reply is
+-- want of memory and a read that failed do no harm
+harmless_by : (Fetches : Type 0) (reply : Reply) (fails : Bool) → is_failure reply ≡ fails
+    → (is_failure reply ≡ true → (reply ≡ Refused OutOfMemory) ⊎ ((reply ≡ Refused DeviceRead) × Fetches)) → harm reply ≡ 0
+harmless_by Fetches reply true is only = ⊎_elim (λ memory. ap harm memory) (λ read. ap harm read.0) (only is)
+harmless_by Fetches reply false is only = harmless reply is
 
-pub served_unharmed : (harmed : ℕ) (xs : List Entry) → AllByRecursion OnlyMemory xs → harmed ≡ 0 → harm_after harmed xs ≡ 0
-served_unharmed harmed [] only none = none
-served_unharmed harmed (x ∷ xs) only none = served_unharmed (harm x.1.reply) xs only.1 (harmless_by x.1.reply (is_failure x.1.reply) refl only.0)
+pub served_harmless : (xs : List Entry) → AllByRecursion OnlyLost xs → AreHarmless xs
+served_harmless xs only = all_weaker OnlyLost (λ x. harm x.1.reply ≡ 0) (λ x lost. harmless_by (IsFetch x.0.ask) x.1.reply (is_failure x.1.reply) refl lost) xs only
+
+pub harmless_after : (harmed : ℕ) (xs : List Entry) → AreHarmless xs → harmed ≡ 0 → harm_after harmed xs ≡ 0
+harmless_after harmed [] all none = none
+harmless_after harmed (x ∷ xs) all none = harmless_after (harm x.1.reply) xs all.1 all.0
 
 -- no harm is above that of a journal that is broken
 most : (reply : Reply) → harm reply ≤ harm (Refused Broken)

@@ -12,12 +12,13 @@ use Rattle.rly_machine.specs.declared.call.Call.{Call}
 use Rattle.rly_machine.specs.declared.reply.Reply.TheVariants.{Refused}
 use Rattle.rly_machine.specs.History.{Entry, LegalButForBytes, accepted_of}
 use Rattle.rly_machine.specs.State.{State}
-use Rattle.rly_journal.specs.Journal.{IsRound, JournalState}
-use Rattle.rly_journal.specs.Standing.{Stands}
+use Rattle.rly_journal.specs.Journal.{HasFailedRead, IsRound, JournalState}
+use Rattle.rly_standing.specs.Standing.{Stands}
 use Rattle.rly_line.specs.EndViews.{names_of}
 use Rattle.rly_flush.specs.Flushing.{AreHarmless, AreRounds, FlusherState, GrewInRound, IsBreaking, IsContinued, IsCrashSafe, IsKeptSince, IsMadeRound, IsOneHistory, IsOneRound, IsLeftIn, IsTruthful, IsWritten, MayFollow, MayGoOn, folded, over_now, state_reached}
-use Rattle.rly_flush.proofs.Crashing.{left_in, with_end}
+use Rattle.rly_flush.proofs.Crashing.{left_in, still_whole, with_end}
 use Rattle.rly_flush.proofs.Refusing.{accepted_append, all_append, all_broken, harmful, still_truthful}
+use Rattle.rly_journal.proofs.Unread.{unread_earlier, unread_later}
 
 all_mapped : {A : Type 0} (P Q : A → Type 0) → ((x : A) → P x → Q x) → (xs : List A) → AllByRecursion P xs → AllByRecursion Q xs
 all_mapped P Q f [] all = tt
@@ -47,7 +48,7 @@ module _ {D : Type 0} (state : D → DiskState) where
       in_turn = record { came = made.one.in_turn.came; taken = made.one.in_turn.taken; in_turn = made.one.in_turn.in_turn; full = made.one.in_turn.full };
       history = made.one.history;
       round = made.one.round;
-      memory = made.one.memory;
+      lost = made.one.lost;
     };
     any_moment = λ honest sound.
         let safe = made.any_moment honest sound in
@@ -88,7 +89,7 @@ module _ {D : Type 0} (state : D → DiskState) (consistent : (disk : D) → (st
     any_moment = λ honest sound. (
       record {
         went_on = ([], sym (append-nil f.line.history));
-        leaves = started (state f.journal.disk) (IsLeftIn f.line.start f.line.history f.line.history) (consistent f.journal.disk honest) (history.kept honest sound);
+        leaves = started (state f.journal.disk) (IsLeftIn (state f.journal.disk) f.line.start f.line.history f.line.history) (consistent f.journal.disk honest) (history.kept honest sound);
       },
       tt,
     );
@@ -107,14 +108,18 @@ module _ {D : Type 0} (state : D → DiskState) (consistent : (disk : D) → (st
     abbrev Broken : Type 0
     Broken = (a.journal.broken ≡ true) ⊎ Failed
 
+    abbrev Unread : Type 0
+    Unread = HasFailedRead (state a.journal.disk) (state e.journal.disk)
+
     -- a journal that was broken, was so at first or broke since
     since : b.journal.broken ≡ true → Broken
     since broke = ⊎_elim (λ was. inl was) (λ rose. inr (rose_later (state a.journal.disk) rose later)) (so_far.broke broke)
 
     broke_in : (calls : List Call) (given : List Answer) → IsRound state b.journal e.journal calls given → e.journal.broken ≡ true → Broken
     broke_in calls given (inl was) broke = since was.0
-    broke_in calls given (inr (inl went)) broke = absurd (false≢true (sym went.1.broken ∙ broke))
-    broke_in calls given (inr (inr breaks)) broke = inr (rose_earlier (state e.journal.disk) so_far.later breaks.2)
+    broke_in calls given (inr (inl shut)) broke = still_whole b.journal e.journal calls shut.0 shut.1.0 broke
+    broke_in calls given (inr (inr (inl went))) broke = absurd (false≢true (sym went.1.broken ∙ broke))
+    broke_in calls given (inr (inr (inr breaks))) broke = inr (rose_earlier (state e.journal.disk) so_far.later breaks.2)
 
     broke_by : (made : Bool) → MatchBool made (IsOneRound state b e) (e ≡ over_now b) → e.journal.broken ≡ true → Broken
     broke_by true one broke = broke_in one.calls one.given one.round broke
@@ -123,8 +128,9 @@ module _ {D : Type 0} (state : D → DiskState) (consistent : (disk : D) → (st
     -- while a journal is broken, each call is refused so
     answered_broken : (calls : List Call) (given : List Answer) → IsRound state b.journal e.journal calls given → b.journal.broken ≡ true → AllByRecursion AsBroken (zip calls given)
     answered_broken calls given (inl was) broke = subst (λ g. AllByRecursion AsBroken (zip calls g)) (sym was.1) (all_broken b.journal.position calls)
-    answered_broken calls given (inr (inl went)) broke = absurd (false≢true (sym went.0 ∙ broke))
-    answered_broken calls given (inr (inr breaks)) broke = absurd (false≢true (sym breaks.0 ∙ broke))
+    answered_broken calls given (inr (inl shut)) broke = absurd (false≢true (sym shut.0 ∙ broke))
+    answered_broken calls given (inr (inr (inl went))) broke = absurd (false≢true (sym went.0 ∙ broke))
+    answered_broken calls given (inr (inr (inr breaks))) broke = absurd (false≢true (sym breaks.0 ∙ broke))
 
     added_broken : (made : Bool) → MatchBool made (IsOneRound state b e) (e ≡ over_now b) → b.journal.broken ≡ true → AllByRecursion AsBroken grew.added
     added_broken true one broke = subst (AllByRecursion AsBroken) (append_cancel_left b.line.history (zip one.calls one.given) grew.added (sym one.history ∙ grew.history))
@@ -133,22 +139,22 @@ module _ {D : Type 0} (state : D → DiskState) (consistent : (disk : D) → (st
         (append_cancel_left b.line.history [] grew.added (append-nil b.line.history ∙ sym (ap (λ (f : FlusherState D). f.line.history) same) ∙ grew.history)) tt
 
     -- what was accepted up to a moment was accepted before this round
-    held : (f : FlusherState D) → IsKeptSince state a.line.start b f → (round : IsCrashSafe state b e) (image : List ℕ) → Stands image (state_reached b) ⊎ Stands image round.target
-        → IsLeftIn a.line.start f.line.history e.line.history image
-    held f kept round image stands =
+    held : (state b.journal.disk).honest → (f : FlusherState D) → IsKeptSince state a.line.start b f → (round : IsCrashSafe state b e) (image : List ℕ) → Stands image (state_reached b) ⊎ Stands image round.target
+        → IsLeftIn (state f.journal.disk) a.line.start f.line.history e.line.history image
+    held right f kept round image stands =
         let left = left_in state consistent b e round so_far.history.legal_but_for_bytes (subst (λ s. LegalButForBytes s e.line.history) start history.legal_but_for_bytes)
         (subst (λ s. e.journal.broken ≡ false → e.journal.state ≡ folded s e.line.history) start history.state_is) f.line.history
-        (accepted_of kept.went_on.0, ap accepted_of kept.went_on.1 ∙ accepted_append f.line.history kept.went_on.0) so_far.history.harmless grew.added grew.history (added_broken made took) image stands in
-        subst (λ s. IsLeftIn s f.line.history e.line.history image) so_far.start left
+        (accepted_of kept.went_on.0, ap accepted_of kept.went_on.1 ∙ accepted_append f.line.history kept.went_on.0) so_far.history.harmless (state f.journal.disk) (λ _. right) grew.added grew.history (added_broken made took) image stands in
+        subst (λ s. IsLeftIn (state f.journal.disk) s f.line.history e.line.history image) so_far.start left
 
     -- where a round before broke the journal, it is broken
     was_broken : (broken : Bool) → b.journal.broken ≡ broken → (before round rest : List Entry) → b.line.history ≡ before ++ (round ++ rest) → IsBreaking before round rest → b.journal.broken ≡ true
     was_broken true broke before round rest whole breaks = broke
     was_broken false goes before round rest whole breaks = harmful before round rest breaks.some breaks.unsure (subst AreHarmless whole (so_far.history.harmless goes))
 
-    still_written : (before round rest : List Entry) (s : State (List ℕ)) → b.line.history ≡ before ++ (round ++ rest) → IsWritten a.line.start before round rest s
-        → IsWritten a.line.start before round (rest ++ grew.added) s
-    still_written before round rest s whole written = record {
+    still_written : (disk : DiskState) (before round rest : List Entry) (s : State (List ℕ)) → b.line.history ≡ before ++ (round ++ rest) → IsWritten disk a.line.start before round rest s
+        → IsWritten disk a.line.start before round (rest ++ grew.added) s
+    still_written disk before round rest s whole written = record {
       given = written.given;
       served = written.served;
       answered = ⊎_elim (λ same. inl same) (λ breaks. inr (record {
@@ -160,29 +166,29 @@ module _ {D : Type 0} (state : D → DiskState) (consistent : (disk : D) → (st
     }
 
     -- an earlier round is one of the longer history
-    longer : (f : FlusherState D) (image : List ℕ) → IsLeftIn a.line.start f.line.history b.line.history image → IsLeftIn a.line.start f.line.history e.line.history image
+    longer : (f : FlusherState D) (image : List ℕ) → IsLeftIn (state f.journal.disk) a.line.start f.line.history b.line.history image → IsLeftIn (state f.journal.disk) a.line.start f.line.history e.line.history image
     longer f image left = record {
       before = left.before;
       round = left.round;
       rest = left.rest ++ grew.added;
       whole = grew.history ∙ ap (λ h. h ++ grew.added) left.whole ∙ append_assoc left.before (left.round ++ left.rest) grew.added ∙ ap (λ h. left.before ++ h) (append_assoc left.round left.rest grew.added);
       holds = left.holds;
-      stands = ⊎_elim (λ held. inl held) (λ held. inr (held.0, still_written left.before left.round left.rest held.0 left.whole held.1, held.2)) left.stands;
+      stands = ⊎_elim (λ held. inl held) (λ held. inr (held.0, still_written (state f.journal.disk) left.before left.round left.rest held.0 left.whole held.1, held.2)) left.stands;
     }
 
-    kept_on : IsCrashSafe state b e → (f : FlusherState D) → IsKeptSince state a.line.start b f → IsKeptSince state a.line.start e f
-    kept_on round f kept = record {
+    kept_on : (state b.journal.disk).honest → IsCrashSafe state b e → (f : FlusherState D) → IsKeptSince state a.line.start b f → IsKeptSince state a.line.start e f
+    kept_on right round f kept = record {
       went_on = (kept.went_on.0 ++ grew.added, grew.history ∙ ap (λ h. h ++ grew.added) kept.went_on.1 ∙ append_assoc f.line.history kept.went_on.0 grew.added);
-      leaves = weaker _ (IsLeftIn a.line.start f.line.history e.line.history) (λ image. ⊎_elim (longer f image) (held f kept round image))
-          (joined (IsLeftIn a.line.start f.line.history b.line.history) (λ image. Stands image (state_reached b) ⊎ Stands image round.target) kept.leaves round.leaves);
+      leaves = weaker _ (IsLeftIn (state f.journal.disk) a.line.start f.line.history e.line.history) (λ image. ⊎_elim (longer f image) (held right f kept round image))
+          (joined (IsLeftIn (state f.journal.disk) a.line.start f.line.history b.line.history) (λ image. Stands image (state_reached b) ⊎ Stands image round.target) kept.leaves round.leaves);
     }
 
     -- from its end on
     kept_now : (state e.journal.disk).honest → e.first.broken ≡ false → IsKeptSince state a.line.start e e
     kept_now honest sound = record {
       went_on = ([], sym (append-nil e.line.history));
-      leaves = subst (λ s. LeavesOnly (state e.journal.disk) (state e.journal.disk) (IsLeftIn s e.line.history e.line.history)) (start ∙ so_far.start)
-          (started (state e.journal.disk) (IsLeftIn e.line.start e.line.history e.line.history) (consistent e.journal.disk honest) (history.kept honest sound));
+      leaves = subst (λ s. LeavesOnly (state e.journal.disk) (state e.journal.disk) (IsLeftIn (state e.journal.disk) s e.line.history e.line.history)) (start ∙ so_far.start)
+          (started (state e.journal.disk) (IsLeftIn (state e.journal.disk) e.line.start e.line.history e.line.history) (consistent e.journal.disk honest) (history.kept honest sound));
     }
 
     abbrev rounds_by : Bool → List (FlusherState D)
@@ -208,10 +214,10 @@ module _ {D : Type 0} (state : D → DiskState) (consistent : (disk : D) → (st
       grew = record {
         added = so_far.grew.added ++ grew.added;
         history = grew.history ∙ ap (λ h. h ++ grew.added) so_far.grew.history ∙ append_assoc a.line.history so_far.grew.added grew.added;
-        truthful = all_append (IsTruthful Failed Broken) so_far.grew.added grew.added
-            (still_truthful _ _ Failed Broken (λ rose. rose_later (state a.journal.disk) rose later)
-            (⊎_elim (λ was. inl was) (λ rose. inr (rose_later (state a.journal.disk) rose later))) so_far.grew.added so_far.grew.truthful)
-            (still_truthful _ _ Failed Broken (rose_earlier (state e.journal.disk) so_far.later) since grew.added grew.truthful);
+        truthful = all_append (IsTruthful Failed Broken Unread) so_far.grew.added grew.added
+            (still_truthful _ _ _ Failed Broken Unread (λ rose. rose_later (state a.journal.disk) rose later)
+            (⊎_elim (λ was. inl was) (λ rose. inr (rose_later (state a.journal.disk) rose later))) (λ rose. unread_later (state a.journal.disk) rose later) so_far.grew.added so_far.grew.truthful)
+            (still_truthful _ _ _ Failed Broken Unread (rose_earlier (state e.journal.disk) so_far.later) since (unread_earlier (state e.journal.disk) so_far.later) grew.added grew.truthful);
       };
       broke = broke_by made took;
       later = later_again so_far.later later;
@@ -220,6 +226,6 @@ module _ {D : Type 0} (state : D → DiskState) (consistent : (disk : D) → (st
       any_moment = λ honest sound.
           let still = so_far.later.honest.1 honest in
           let whole = ap (λ (j : JournalState D). j.broken) so_far.first ∙ sound in
-          all_kept made (all_mapped (IsKeptSince state a.line.start b) (IsKeptSince state a.line.start e) (kept_on (safe still whole)) (a ∷ so_far.rounds) (so_far.any_moment honest sound))
+          all_kept made (all_mapped (IsKeptSince state a.line.start b) (IsKeptSince state a.line.start e) (kept_on still (safe still whole)) (a ∷ so_far.rounds) (so_far.any_moment honest sound))
           (kept_now (later.honest.1 still) (ap (λ (j : JournalState D). j.broken) first ∙ whole));
     }

@@ -1,9 +1,9 @@
 -- The flusher: one history of all calls that it took, what the journal stands at, and what a crash leaves.
 use Rattle.std.specs.Prelude.{ℕ, ◌≡◌, ◌<◌, ◌≤◌, ◌⊎◌, ◌+◌, List, [], ◌∷◌, ◌++◌, length, ⊤}
-use Rattle.std.specs.Prelude.{Option, None, Some, IfSome, true, false}
+use Rattle.std.specs.Prelude.{Option, None, IfSome, true, false}
 use Rattle.std.specs.List.{AllByRecursion, zip}
 use Rattle.rly_core.specs.Bounds.{IsIn}
-use Rattle.rly_core.specs.declared.refusal.Refusal.TheVariants.{Broken, DeviceRead, OutOfMemory, Unsure}
+use Rattle.rly_core.specs.declared.refusal.Refusal.TheVariants.{Broken, DeviceRead, Unsure}
 use Rattle.rly_disk.specs.DiskModel.{DiskState, Later, LeavesOnly, HasFailed}
 use Rattle.rly_machine.specs.declared.call.Answer.{Answer}
 use Rattle.rly_machine.specs.declared.call.Call.{Call}
@@ -12,9 +12,9 @@ use Rattle.rly_machine.specs.declared.reply.Reply.TheVariants.{Refused}
 use Rattle.rly_machine.specs.Fold.{AllAccepted, fold}
 use Rattle.rly_machine.specs.History.{Entry, Legal, LegalButForBytes, accepted_of, harm, state_after}
 use Rattle.rly_machine.specs.State.{State}
-use Rattle.rly_journal.specs.Journal.{IsDueFor, IsRound, JournalState}
-use Rattle.rly_journal.specs.Rounds.{AreServed, IsRefusedWhereWanted, refusals}
-use Rattle.rly_journal.specs.Standing.{Stands}
+use Rattle.rly_journal.specs.Journal.{HasFailedRead, IsRound, IsShut, JournalState}
+use Rattle.rly_journal.specs.Rounds.{AreLostWhereWanted, AreServed, refusals}
+use Rattle.rly_standing.specs.Standing.{Stands}
 use Rattle.rly_line.specs.Batches.{BatchView, calls_put}
 use Rattle.rly_line.specs.EndViews.{EndView, names_of}
 use Rattle.rly_line.specs.Responding.{AreTold, Responding, calls_in}
@@ -61,11 +61,10 @@ pub record IsInTurn {D : Type 0} (old new : FlusherState D) (calls : List Call) 
   pub in_turn : calls_put old.kept ++ came ≡ calls ++ calls_put new.kept
   pub full : IfSome new.kept (λ batch. 64 < length calls + length batch.asks)
 
--- memory was refused only to asks that may want it, or to all calls where a segment is due and its head finds none
-abbrev pub IsRefusedWhereScarce : {D : Type 0} → JournalState D → List Call → List Answer → Type 0
-IsRefusedWhereScarce journal calls given =
-    IsRefusedWhereWanted journal.state (zip calls given)
-    ⊎ (IsDueFor journal calls × (given ≡ refusals OutOfMemory journal.position calls))
+-- 14 was answered only to asks that may want memory, and 13 only to a Fetch of bytes; or either to all calls, where a segment is
+-- due that was not opened
+abbrev pub AreLostOrShut : {D : Type 0} → JournalState D → JournalState D → List Call → List Answer → Type 0
+AreLostOrShut old new calls given = AreLostWhereWanted old.state (zip calls given) ⊎ IsShut old new calls given
 
 -- one round: 1 to 64 calls, that of the batch that was kept first, were answered by one round of the journal
 pub record IsOneRound {D : Type 0} (state : D → DiskState) (old new : FlusherState D) : Type 0 where
@@ -75,33 +74,33 @@ pub record IsOneRound {D : Type 0} (state : D → DiskState) (old new : FlusherS
   pub in_turn : IsInTurn old new calls
   pub history : new.line.history ≡ old.line.history ++ zip calls given
   pub round : IsRound state old.journal new.journal calls given
-  pub memory : IsRefusedWhereScarce old.journal calls given
+  pub lost : AreLostOrShut old.journal new.journal calls given
 
--- why a call is told of a failure: 12 where a device call failed in its round, 11 where the journal was broken before;
--- never 13
-pub record IsTruthful (failed broken : Type 0) (entry : Entry) : Type 0 where
+-- why a call is told of a failure: 12 where a device call failed in its round, 11 where the journal was broken before, 13
+-- where a read failed
+pub record IsTruthful (failed broken unread : Type 0) (entry : Entry) : Type 0 where
   pub unsure : entry.1.reply ≡ Refused Unsure → failed
   pub broken_before : entry.1.reply ≡ Refused Broken → broken
-  pub readable : entry.1.reply ≡ Refused DeviceRead → ⊥
+  pub unreadable : entry.1.reply ≡ Refused DeviceRead → unread
 
 -- the history went on, and each failure in what was added is true
-pub record GrewBy (failed broken : Type 0) (before after : List Entry) : Type 0 where
+pub record GrewBy (failed broken unread : Type 0) (before after : List Entry) : Type 0 where
   pub added : List Entry
   pub history : after ≡ before ++ added
-  pub truthful : AllByRecursion (IsTruthful failed broken) added
+  pub truthful : AllByRecursion (IsTruthful failed broken unread) added
 
--- of a round: a device call failed in it, or the journal was broken at its start
+-- of a round: a device call failed in it, the journal was broken at its start, or a read failed in it
 abbrev pub GrewInRound : {D : Type 0} → (D → DiskState) → FlusherState D → FlusherState D → Type 0
 GrewInRound state old new =
     GrewBy (HasFailed (state old.journal.disk) (state new.journal.disk)) (old.journal.broken ≡ true)
-    old.line.history new.line.history
+    (HasFailedRead (state old.journal.disk) (state new.journal.disk)) old.line.history new.line.history
 
--- of rounds: a device call failed since, or the journal was broken at their start
+-- of rounds: a device call failed since, the journal was broken at their start, or a read failed since
 abbrev pub GrewInRounds : {D : Type 0} → (D → DiskState) → FlusherState D → FlusherState D → Type 0
 GrewInRounds state old new =
     GrewBy (HasFailed (state old.journal.disk) (state new.journal.disk))
     ((old.journal.broken ≡ true) ⊎ HasFailed (state old.journal.disk) (state new.journal.disk))
-    old.line.history new.line.history
+    (HasFailedRead (state old.journal.disk) (state new.journal.disk)) old.line.history new.line.history
 
 -- none of them was refused since the journal broke, or in the round in which it did
 abbrev pub AreHarmless : List Entry → Type 0
@@ -125,7 +124,7 @@ pub record IsCrashSafe {D : Type 0} (state : D → DiskState) (old new : Flusher
   pub doubtful : IsDoubtful old new calls
   pub given : List Answer
   pub target : State (List ℕ)
-  pub served : AreServed calls given (state_reached old) target
+  pub served : AreServed (state old.journal.disk) calls given (state_reached old) target
   pub leaves : LeavesOnly (state old.journal.disk) (state new.journal.disk)
       (λ image. Stands image (state_reached old) ⊎ Stands image target)
   pub running : new.journal.broken ≡ false → target ≡ new.journal.state
@@ -144,34 +143,34 @@ pub record IsBreaking (before round rest : List Entry) : Type 0 where
 
 -- the state after a round that was being written: that of its commands which the machine accepts after the history
 -- before it. It was answered so, or the journal broke in it
-pub record IsWritten (start : State (List ℕ)) (before round rest : List Entry) (s : State (List ℕ)) : Type 0 where
+pub record IsWritten (disk : DiskState) (start : State (List ℕ)) (before round rest : List Entry) (s : State (List ℕ)) : Type 0 where
   pub given : List Answer
-  pub served : AreServed (calls_in round) given (folded start before) s
+  pub served : AreServed disk (calls_in round) given (folded start before) s
   pub answered : (s ≡ folded start (before ++ round)) ⊎ IsBreaking before round rest
 
 -- An image was left in a round of a history: it stands for a prefix of the accepted commands, all those of the history
 -- before that round, with or without those of the round. So it holds each command that was accepted earlier
-pub record IsLeftIn (start : State (List ℕ)) (earlier history : List Entry) (image : List ℕ) : Type 0 where
+pub record IsLeftIn (disk : DiskState) (start : State (List ℕ)) (earlier history : List Entry) (image : List ℕ) : Type 0 where
   pub before : List Entry
   pub round : List Entry
   pub rest : List Entry
   pub whole : history ≡ before ++ (round ++ rest)
   pub holds : (more : List (Command (List ℕ))) × (accepted_of before ≡ accepted_of earlier ++ more)
   pub stands : Stands image (folded start before)
-      ⊎ ((s : State (List ℕ)) × IsWritten start before round rest s × Stands image s)
+      ⊎ ((s : State (List ℕ)) × IsWritten disk start before round rest s × Stands image s)
 
 -- a crash now leaves all that was accepted
 abbrev pub KeepsAccepted : DiskState → State (List ℕ) → List Entry → Type 0
-KeepsAccepted disk start history = (image : List ℕ) → disk.images image → IsLeftIn start history history image
+KeepsAccepted disk start history = (image : List ℕ) → disk.images image → IsLeftIn disk start history history image
 
 -- what holds at each exit: there is one history of the calls that were taken
 pub record IsOneHistory {D : Type 0} (state : D → DiskState) (f : FlusherState D) : Type 0 where
   -- its calls are those, in the order in which they were taken, but for the batch that is kept, which was taken last
   pub calls : calls_in f.line.history ++ calls_put f.kept ≡ f.line.taken
-  -- it is legal from the state of the journal that was given
+  -- it is legal from the state of the journal that was given, on a disk that isn't honest but for the bytes of Fetches
   pub start : f.line.start ≡ answered_state f.first
   pub as_given : f.first.broken ≡ false → f.line.start ≡ f.first.state
-  pub legal : Legal f.line.start f.line.history
+  pub legal : (state f.first.disk).honest → Legal f.line.start f.line.history
   pub legal_but_for_bytes : LegalButForBytes f.line.start f.line.history
   -- the journal is where its accepted commands led to
   pub position_is : f.journal.position ≡ f.line.start.seq + length (accepted_of f.line.history)
@@ -212,7 +211,7 @@ AreRounds state old (next ∷ rounds) last = IsMadeRound state old next × MayFo
 -- the round
 pub record IsKeptSince {D : Type 0} (state : D → DiskState) (start : State (List ℕ)) (last f : FlusherState D) : Type 0 where
   pub went_on : (more : List Entry) × (last.line.history ≡ f.line.history ++ more)
-  pub leaves : LeavesOnly (state f.journal.disk) (state last.journal.disk) (IsLeftIn start f.line.history last.line.history)
+  pub leaves : LeavesOnly (state f.journal.disk) (state last.journal.disk) (IsLeftIn (state f.journal.disk) start f.line.history last.line.history)
 
 -- what rounds made of a flusher
 pub record IsContinued {D : Type 0} (state : D → DiskState) (old new : FlusherState D) : Type 0 where

@@ -1,14 +1,17 @@
 -- Nothing is claimed here: what a flusher keeps, of which only private functions and invariants speak.
 use Rattle.std.specs.Prelude.{◌≡◌, ◌+◌, ◌<◌, ◌≤◌, List, [], ◌++◌, map, length, vec_capacity}
 use Rattle.std.specs.Prelude.{Option, IfSome, true, false}
-use Rattle.std.specs.List.{flat_map}
+use Rattle.std.specs.List.{AllByRecursion, flat_map, zip}
 use Rattle.std.specs.declared.snapshot.Snapshot.{Snapshot}
+use Rattle.rly_core.specs.declared.refusal.Refusal.TheVariants.{DeviceRead}
 use Rattle.rly_disk.specs.DiskModel.{DiskState, Later, Settled}
 use Rattle.rly_machine.specs.declared.call.Answer.{Answer}
 use Rattle.rly_machine.specs.declared.call.Call.{Call}
-use Rattle.rly_machine.specs.History.{Legal, harm_after, position}
-use Rattle.rly_journal.specs.Journal.{IsRound, IsSafe, JournalState}
-use Rattle.rly_journal.specs.Standing.{Stands}
+use Rattle.rly_machine.specs.declared.reply.Reply.TheVariants.{Refused}
+use Rattle.rly_machine.specs.History.{Entry, Legal, LegalButForBytes, harm_after, position}
+use Rattle.rly_journal.specs.Journal.{HasFailedRead, IsRound, IsSafe, JournalState}
+use Rattle.rly_standing.specs.Standing.{Stands}
+use Rattle.rly_journal.specs.Rounds.{AreUnreadWhere}
 use Rattle.rly_line.specs.Batches.{AnswersView, BatchView, calls_in_batch, calls_put, no_answers}
 use Rattle.rly_line.specs.Responding.{IsResponding, Responding, calls_in}
 use Rattle.rly_flush.specs.declared.round_calls.Lists.{Lists}
@@ -49,6 +52,7 @@ pub record AreCollected (old new : Responding) (kept left : Option BatchView) (c
 pub record IsRounded {D : Type 0} (state : D → DiskState) (old new : JournalState D) (calls : List Call)
     (given : List Answer) : Type 0 where
   pub round : IsRound state old new calls given
+  pub unread : AreUnreadWhere (HasFailedRead (state old.disk) (state new.disk)) (zip calls given)
   pub any_moment : (state old.disk).honest → old.broken ≡ false → IsSafe state old new calls
   pub durable : (state new.disk).honest → new.broken ≡ false
       → Settled (state new.disk) × Stands (state new.disk).seen new.state
@@ -61,7 +65,8 @@ pub record IsFlushing {D : Type 0} (state : D → DiskState) (f : FlusherState D
   pub as_given : f.first.broken ≡ false → f.line.start ≡ f.first.state
   -- there is one history, of the calls that were taken, in order, but for the batch that is kept
   pub answered : calls_in f.line.history ++ calls_put f.kept ≡ f.line.taken
-  pub legal : Legal f.line.start f.line.history
+  pub legal : (state f.first.disk).honest → Legal f.line.start f.line.history
+  pub legal_but_for_bytes : LegalButForBytes f.line.start f.line.history
   -- the journal is where the history led to
   pub position_is : f.journal.position ≡ position f.line.start f.line.history
   pub running : f.journal.broken ≡ false → f.journal.state ≡ state_reached f

@@ -5,7 +5,7 @@ ghost use Rattle.rly_disk.specs.DiskModel.{Later};
 ghost use Rattle.rly_line.specs.EndViews.{names_of, new_tellers};
 ghost use Rattle.rly_line.specs.Responding.{IsLeftBy, calls_in};
 ghost use Rattle.rly_line.specs.Submission.{IsBeginning};
-ghost use Rattle.rly_flush.specs.Flushing.{GrewInRound, IsCrashSafe, IsOneHistory, IsOneRound, IsRefusedWhereScarce, IsServed, new_flusher, over_now};
+ghost use Rattle.rly_flush.specs.Flushing.{AreLostOrShut, GrewInRound, IsCrashSafe, IsOneHistory, IsOneRound, IsServed, new_flusher, over_now};
 ghost use Rattle.rly_flush.specs.HelpersFlushing.{IsRounded};
 
 use crate::owned_journal::OwnedJournal;
@@ -213,7 +213,7 @@ fn commit<D: Disk>(
     requires room { 64 ≤ vec_capacity answers.old }
     ensures emptied { calls.new.items ≡ [] }
     ensures round { IsRounded D.state journal.old journal.new calls.old.items answers.new.items }
-    ensures memory { IsRefusedWhereScarce journal.old calls.old.items answers.new.items }
+    ensures lost { AreLostOrShut journal.old journal.new calls.old.items answers.new.items }
     ensures calls_capacity { vec_capacity calls.new ≡ vec_capacity calls.old }
     ensures answers_capacity { vec_capacity answers.old ≤ vec_capacity answers.new }
 {

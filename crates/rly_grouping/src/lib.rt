@@ -4,7 +4,8 @@
 //! memory is reserved once. `stage` tells the command with its payload by place: where it lies
 //! once the group stands at its gate (`specs/Lying.antt`; docs/DEFINITIONS.md, "Grouping"). The
 //! laws say that such a command is one that an index of places may go on by (`IsBrought`), and
-//! that it stands for the command whose record was written. No journal uses it yet.
+//! that it stands for the command whose record was written. Caller:
+//! `rly_journal`.
 #![tactic(auto)]
 
 mod group;

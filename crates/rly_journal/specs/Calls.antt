@@ -1,151 +1,87 @@
--- The calls that a journal makes of its device.
-use Rattle.std.specs.Prelude.{◌≡◌, ◌⊎◌, ◌+◌, ◌-◌, ℕ, Bool, true, false, not, List, [], ◌∷◌, ◌++◌, Some, set, slice_index_or}
-use Rattle.std.specs.List.{AllByRecursion, zip}
+-- The calls that a round makes of its device, where payloads stay there.
+use Rattle.std.specs.Prelude.{◌≡◌, ◌+◌, ℕ, List, [], ◌∷◌, ◌++◌, Bool, false, true, Option, None, Some, All, set, slice_index_or}
 use Rattle.rly_disk.specs.DiskModel.{DiskState}
-use Rattle.rly_core.specs.declared.params.Geometry.{Geometry}
-use Rattle.rly_disk.specs.Trace.{DeviceEvent, Makes, Read, Sync}
-use Rattle.rly_gate.specs.Calls.{appending}
-use Rattle.rly_machine.specs.declared.call.Answer.{Answer}
-use Rattle.rly_machine.specs.declared.call.Call.{Call}
-use Rattle.rly_machine.specs.History.{accepted_of}
+use Rattle.rly_disk.specs.Trace.{DeviceEvent, seen_at_end}
+use Rattle.rly_machine.specs.Map.{payloads_of}
 use Rattle.rly_machine.specs.State.{State}
-use Rattle.rly_record.specs.Spelling.{HasRecord, body_of}
-use Rattle.rly_segment.specs.Calls.{generation_reads, head_reads, replacing}
-use Rattle.rly_segment.specs.Heads.{first_gate, head_of, segment_place}
-use Rattle.rly_journal.specs.declared.open_fault.OpenFault.{OpenFault}
-use Rattle.rly_journal.specs.declared.open_fault.OpenFault.TheVariants as fault
-use Rattle.rly_journal.specs.declared.tail.Tail.{Tail}
-use Rattle.rly_journal.specs.Journal.{IsDueFor, JournalState}
-use Rattle.rly_journal.specs.Rounds.{AreServed, IsRefusedWhereWanted}
-use Rattle.rly_journal.specs.Standing.{Commands}
+use Rattle.rly_reclaim.specs.Reclaiming.{IsFree, IsVictim}
+use Rattle.rly_checkpoint.specs.Stored.{stored_form, stored_length}
+use Rattle.rly_checkpoint.specs.declared.stored.Stored.{Stored}
+use Rattle.rly_places.specs.Placed.{LiesElsewhere}
+use Rattle.rly_places.specs.Places.{live_by_segment}
+use Rattle.rly_places.specs.Room.{drawn_state, inline_bytes}
+use Rattle.rly_segment.specs.Calls.{replacing}
+use Rattle.rly_segment.specs.Heads.{gate_after, head_spelled, segment_place}
+use Rattle.rly_moving.specs.Moving.{LiesThere, unread}
+use Rattle.rly_drawing.specs.Drawing.{IsSameButForBytes, bytes_at, drawing}
+use Rattle.rly_keeping.specs.Keeping.{IsKept}
+use Rattle.rly_grouping.specs.Lying.{Commands}
+use Rattle.rly_fetching.specs.Trials.{Try, row_of}
+use Rattle.rly_standing.specs.declared.tail.Tail.{Tail}
+use Rattle.rly_standing.specs.Calls.{logging}
+use Rattle.rly_standing.specs.Framing.{IsHeadFor}
+use Rattle.rly_standing.specs.Log.{IsFull, IsLogged}
+use Rattle.rly_standing.specs.Standing.{IsStanding, Standing, stored_in}
 
--- the other of two segments
-abbrev pub other_segment : Tail → ℕ
-other_segment tail = 1 - tail.segment
+-- the next segment as it is opened: the spool of places before it, the segment, the one whose payloads move into its head, and what
+-- that holds
+pub record Renewal : Type 0 where
+  pub places : State Stored
+  pub target : ℕ
+  pub victim : ℕ
+  pub copy : State Stored
 
--- where the journal ends after a new head, which holds the state
-abbrev pub renewed : Tail → State (List ℕ) → Tail
-renewed tail s = record {
+-- it is one for a state that is kept on a disk
+pub record IsRenewal (disk : DiskState) (tail : Tail) (s : State (List ℕ)) (r : Renewal) : Type 0 where
+  pub kept : IsKept disk r.places s
+  pub there : All (LiesThere tail.geometry) (payloads_of r.places)
+  -- no payload is inline that has bytes
+  pub inline : inline_bytes r.places ≡ 0
+  pub target : IsFree (live_by_segment tail.geometry r.places) tail.segment r.target
+  -- nor does a live one lie in that segment by what the device reads
+  pub free : disk.honest → (x : Standing) → IsStanding disk.seen x → All (LiesElsewhere x.geometry r.target) (payloads_of (stored_in x))
+  pub victim : IsVictim (live_by_segment tail.geometry r.places) r.target r.victim
+  pub copy : IsSameButForBytes r.copy (drawn_state tail.geometry r.victim unread r.places)
+  pub bytes : disk.honest → r.copy ≡ drawn_state tail.geometry r.victim (bytes_at disk.seen) r.places
+
+-- where the journal ends after the new head
+abbrev pub renewed : Tail → Renewal → Tail
+renewed tail r = record {
   geometry = tail.geometry;
-  segment = other_segment tail;
+  segment = r.target;
   generation = tail.generation + 1;
-  gate = first_gate tail.geometry (other_segment tail) s;
-  closed = set tail.closed (other_segment tail) false;
+  gate = gate_after stored_length stored_form tail.geometry r.target r.copy;
+  closed = set tail.closed r.target false;
 }
 
--- that head is written, into the other segment
-abbrev pub renewing : Tail → State (List ℕ) → List DeviceEvent
-renewing tail s =
-    replacing (segment_place tail.geometry (other_segment tail)) (slice_index_or tail.closed (other_segment tail) false)
-    (head_of (tail.generation + 1) s ++ 0 ∷ [])
+-- the victim's payloads are read
+abbrev pub drawing_for : Tail → Renewal → List DeviceEvent
+drawing_for tail r = drawing tail.geometry r.victim r.places
 
--- accepted commands are appended at a gate as one group; no call is made for none
-abbrev pub logging : ℕ → Commands → List DeviceEvent
-logging gate [] = []
-logging gate (command ∷ commands) = appending gate (body_of (command ∷ commands))
+-- the head is written
+abbrev pub heading : Tail → Renewal → List DeviceEvent
+heading tail r =
+    replacing (segment_place tail.geometry r.target) (slice_index_or tail.closed r.target false)
+    (head_spelled stored_length stored_form (tail.generation + 1) r.copy ++ 0 ∷ [])
 
--- a round: a segment is opened or not, and then its accepted commands are logged
-abbrev pub rounding : Tail → State (List ℕ) → Bool → Commands → List DeviceEvent
-rounding tail s true commands = renewing tail s ++ logging (renewed tail s).gate commands
-rounding tail s false commands = logging tail.gate commands
+-- a segment is opened: first the one, and then the other
+abbrev pub renewing : Tail → Renewal → List DeviceEvent
+renewing tail r = drawing_for tail r ++ heading tail r
 
--- what an opening comes by: the geometry, the segment of the newest head, and how many bytes there are in the body of
--- the head and of each group after it
-pub record Scan : Type 0 where
-  pub geometry : Geometry
-  pub segment : ℕ
-  pub head : ℕ
-  pub groups : List ℕ
+-- what is read of an image lets it be opened so: its head may be written; what is read then stands for the same state, and ends where
+-- the journal does; and the largest group has room there
+pub record MayRenew (image : List ℕ) (tail : Tail) (s : State (List ℕ)) (r : Renewal) : Type 0 where
+  pub head : (x : Standing) → IsStanding image x → IsHeadFor image x r.target r.copy
+  pub logged : IsLogged (seen_at_end (renewing tail r) image) (renewed tail r) s
+  pub room : IsFull (renewed tail r) → ⊥
 
--- the header is read, the generation of each segment, and the newest head
-abbrev pub head_scan : Geometry → ℕ → ℕ → List DeviceEvent
-head_scan g segment n =
-    Read 0 51 ∷ (generation_reads g g.segments ++ head_reads (segment_place g segment) (Some n))
+-- a round up to its Fetches: a segment is opened or not, and then its accepted commands are logged, all of them or up to a call
+-- that failed
+abbrev pub rounding : Tail → Option Renewal → Commands → Bool → List Try
+rounding tail None commands whole = row_of (logging tail.gate commands) whole ∷ []
+rounding tail (Some r) commands whole =
+    row_of (renewing tail r) true ∷ row_of (logging (renewed tail r).gate commands) whole ∷ []
 
--- a group is read: its gate, the length after it, and the body
-abbrev pub group_scan : ℕ → ℕ → List DeviceEvent
-group_scan at n = Read at 1 ∷ Read (at + 1) 4 ∷ Read (at + 5) n ∷ []
-
--- groups that stand one after the other, and the gate after them
-abbrev pub groups_scan : ℕ → List ℕ → List DeviceEvent
-groups_scan at [] = []
-groups_scan at (n ∷ lengths) = group_scan at n ++ groups_scan (at + 5 + n) lengths
-
-abbrev pub gate_past : ℕ → List ℕ → ℕ
-gate_past at [] = at
-gate_past at (n ∷ lengths) = gate_past (at + 5 + n) lengths
-
--- the gate after the head, and the first closed gate
-abbrev pub head_gate : Scan → ℕ
-head_gate x = segment_place x.geometry x.segment + 13 + x.head
-
-abbrev pub last_gate : Scan → ℕ
-last_gate x = gate_past (head_gate x) x.groups
-
--- all up to the first closed gate is read, and then that gate
-abbrev pub scan_before : Scan → List DeviceEvent
-scan_before x = head_scan x.geometry x.segment x.head ++ groups_scan (head_gate x) x.groups
-
-abbrev pub scan : Scan → List DeviceEvent
-scan x = scan_before x ++ Read (last_gate x) 1 ∷ []
-
--- a device is opened: its last writes are made durable, and then it is read
-abbrev pub opening : Scan → List DeviceEvent
-opening x = Sync ∷ scan x
-
--- the journal ends where the scan did
-pub record EndsScan (tail : Tail) (x : Scan) : Type 0 where
-  pub geometry : tail.geometry ≡ x.geometry
-  pub segment : tail.segment ≡ x.segment
-  pub gate : tail.gate ≡ last_gate x
-
--- no call of the device failed
-abbrev pub tells : OpenFault → Bool
-tells fault.OutOfMemory = true
-tells fault.NotADevice = true
-tells fault.BadGeometry = true
-tells (fault.Damaged place) = true
-tells fault.Device = false
-
--- an opening made its calls, and the journal ends there
-abbrev pub MakesOpening : {D : Type 0} → (D → DiskState) → Tail → D → D → Type 0
-MakesOpening state tail old new = (x : Scan) × EndsScan tail x × Makes state (opening x) true old new
-
--- an opening that ended before made the sync, and read what it came to; where a call failed it was the last
-pub record BreaksOpening {D : Type 0} (state : D → DiskState) (told : Bool) (old new : D) : Type 0 where
-  pub x : Scan
-  pub front : List DeviceEvent
-  pub rest : List DeviceEvent
-  pub scan_is : scan x ≡ front ++ rest
-  pub makes : Makes state (Sync ∷ front) told old new
-
--- a payload in flight is fetched from memory
-abbrev pub fetching : List DeviceEvent
-fetching = []
-
--- the calls of a round weren't evaluated: a segment is due, and memory was refused for its head, or the device failed
--- before the head stood
-pub record IsUnopened {D : Type 0} (state : D → DiskState) (old new : JournalState D) (calls : List Call)
-    (opened : Bool) : Type 0 where
-  pub due : IsDueFor old calls
-  pub why : (opened ≡ false)
-      ⊎ ((new.broken ≡ true) × Makes state (renewing old.tail old.state) false old.disk new.disk)
-
--- a round of a journal that isn't broken: its calls were served, and those of the device are its own, all of them where
--- the journal goes on, else those up to the first that failed
-pub record MakesRound {D : Type 0} (state : D → DiskState) (old new : JournalState D) (calls : List Call)
-    (before after : List Answer) : Type 0 where
-  pub given : List Answer
-  -- where it goes on, that is what it answered
-  pub told : new.broken ≡ false → after ≡ before ++ given
-  pub served : AreServed calls given old.state new.state
-  pub recorded : AllByRecursion HasRecord (accepted_of (zip calls given))
-  -- whether a segment was opened
-  pub opened : Bool
-  pub due : opened ≡ true → IsDueFor old calls
-  -- where one is due it was opened, but for want of memory, and then nothing changed
-  pub starved : opened ≡ false → IsDueFor old calls → new ≡ old
-  -- where the calls were evaluated, memory was refused only to those that may want it
-  pub wanted : IsRefusedWhereWanted old.state (zip calls given) ⊎ IsUnopened state old new calls opened
-  pub makes : Makes state (rounding old.tail old.state opened (accepted_of (zip calls given))) (not new.broken) old.disk
-      new.disk
+-- a write or a sync of its head failed, after all was read
+abbrev pub unheaded : Tail → Renewal → List Try
+unheaded tail r = row_of (drawing_for tail r) true ∷ row_of (heading tail r) false ∷ []

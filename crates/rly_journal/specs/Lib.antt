@@ -1,12 +1,10 @@
 pub mod Calls
 pub mod Faults
-pub mod Framing
-pub mod HelpersCalls
-pub mod HelpersGroups
+pub mod Fetches
 pub mod HelpersJournal
+pub mod HelpersOutcomes
+pub mod HelpersReady
+pub mod HelpersRounds
 pub mod Journal
-pub mod Layout
-pub mod Log
-pub mod Lying
 pub mod Rounds
-pub mod Standing
+pub mod Showing

@@ -1,30 +1,45 @@
--- What a round answers.
-use Rattle.std.specs.Prelude.{◌≡◌, ℕ, List, [], ◌∷◌, length, map, true, None}
+-- What a round answers, where payloads are read from the device.
+use Rattle.std.specs.Prelude.{◌≡◌, ◌⊎◌, ◌++◌, ℕ, List, [], ◌∷◌, length, map, true, None}
 use Rattle.std.specs.List.{AllByRecursion, zip}
 use Rattle.rly_core.specs.declared.refusal.Refusal.{Refusal}
-use Rattle.rly_core.specs.declared.refusal.Refusal.TheVariants.{OutOfMemory}
+use Rattle.rly_core.specs.declared.refusal.Refusal.TheVariants.{DeviceRead, OutOfMemory}
+use Rattle.rly_disk.specs.DiskModel.{DiskState}
 use Rattle.rly_machine.specs.declared.call.Answer.{Answer}
 use Rattle.rly_machine.specs.declared.call.Call.{Call}
 use Rattle.rly_machine.specs.declared.command.Ask.{Ask}
 use Rattle.rly_machine.specs.declared.command.Ask.TheVariants as ask
 use Rattle.rly_machine.specs.declared.command.Command.{Command}
 use Rattle.rly_machine.specs.declared.command.Command.TheVariants.{Take, Pick, Release}
+use Rattle.rly_machine.specs.declared.command.Query.TheVariants.{Fetch, Window, Show}
+use Rattle.rly_machine.specs.declared.reply.Reply.{Reply}
 use Rattle.rly_machine.specs.declared.reply.Reply.TheVariants.{Refused}
-use Rattle.rly_machine.specs.History.{Entry, Legal, is_failure, next_state, state_after}
+use Rattle.rly_machine.specs.History.{Entry, Legal, LegalButForBytes, is_failure, next_state, state_after}
 use Rattle.rly_machine.specs.Pick.{pick_refusal}
-use Rattle.rly_machine.specs.Query.{HasBytes, query_reply}
+use Rattle.rly_machine.specs.Query.{HasBytes, fetch_reply, item_of, query_reply}
 use Rattle.rly_machine.specs.State.{State}
 use Rattle.rly_machine.specs.Take.{take_refusal}
+use Rattle.rly_fetching.specs.Trials.{Try}
+use Rattle.rly_journal.specs.Fetches.{AreFetching}
 
--- the only failure that a call is answered with is want of memory
-abbrev pub OnlyMemory : Entry → Type 0
-OnlyMemory entry = is_failure entry.1.reply ≡ true → entry.1.reply ≡ Refused OutOfMemory
+-- a Fetch
+abbrev pub IsFetch : Ask → Type 0
+IsFetch (ask.Command command) = ⊥
+IsFetch (ask.Query (Fetch hop number)) = Unit {0}
+IsFetch (ask.Query (Window hop)) = ⊥
+IsFetch (ask.Query (Show hop)) = ⊥
 
--- calls were answered one after the other from a state: each by the machine in the running state, or refused memory
-pub record AreServed (calls : List Call) (given : List Answer) (s t : State (List ℕ)) : Type 0 where
+-- the failures that a call is answered with are want of memory and, of a Fetch, a read that failed
+abbrev pub OnlyLost : Entry → Type 0
+OnlyLost entry = is_failure entry.1.reply ≡ true
+    → (entry.1.reply ≡ Refused OutOfMemory) ⊎ ((entry.1.reply ≡ Refused DeviceRead) × IsFetch entry.0.ask)
+
+-- calls were answered one after the other from a state: each by the machine in the running state, but for the bytes of a Fetch on a
+-- disk that isn't honest, or by such a failure
+pub record AreServed (disk : DiskState) (calls : List Call) (given : List Answer) (s t : State (List ℕ)) : Type 0 where
   pub count : length given ≡ length calls
-  pub legal : Legal s (zip calls given)
-  pub only : AllByRecursion OnlyMemory (zip calls given)
+  pub legal : LegalButForBytes s (zip calls given)
+  pub exact : disk.honest → Legal s (zip calls given)
+  pub only : AllByRecursion OnlyLost (zip calls given)
   pub state : t ≡ state_after s (zip calls given)
 
 -- a command that memory may be refused to: a Take or a Pick that no check refuses
@@ -38,12 +53,34 @@ abbrev pub MayWantMemory : State (List ℕ) → Ask → Type 0
 MayWantMemory s (ask.Command command) = MayWantRoom s command
 MayWantMemory s (ask.Query query) = HasBytes (query_reply s query)
 
--- calls were answered one after the other from a state, and memory was refused only to asks that may want it
-abbrev pub IsRefusedWhereWanted : State (List ℕ) → List Entry → Type 0
-IsRefusedWhereWanted s [] = Unit {0}
-IsRefusedWhereWanted s (entry ∷ entries) =
+-- an ask that 13 may be answered to: a Fetch of a payload that has bytes
+abbrev pub MayWantBytes : State (List ℕ) → Ask → Type 0
+MayWantBytes s (ask.Command command) = ⊥
+MayWantBytes s (ask.Query query) = HasBytes (query_reply s query)
+
+-- 14 is answered only to asks that may want memory, and 13 only to such a Fetch
+abbrev pub AreLostWhereWanted : State (List ℕ) → List Entry → Type 0
+AreLostWhereWanted s [] = Unit {0}
+AreLostWhereWanted s (entry ∷ entries) =
     (entry.1.reply ≡ Refused OutOfMemory → MayWantMemory s entry.0.ask)
-    × IsRefusedWhereWanted (next_state s entry) entries
+    × (entry.1.reply ≡ Refused DeviceRead → MayWantBytes s entry.0.ask)
+    × AreLostWhereWanted (next_state s entry) entries
+
+-- 13 was answered only where this holds
+abbrev pub AreUnreadWhere : Type 0 → List Entry → Type 0
+AreUnreadWhere Holds entries = AllByRecursion (λ entry. entry.1.reply ≡ Refused DeviceRead → Holds) entries
+
+-- the reads of an ask that was answered so: those of a Fetch
+abbrev pub AreReadsOf : State (List ℕ) → Ask → Reply → List Try → Type 0
+AreReadsOf s (ask.Query (Fetch hop number)) told rows = AreFetching (fetch_reply (item_of s hop number)) told rows
+AreReadsOf s _ told rows = rows ≡ []
+
+-- the reads of calls, in their order, each in the state that those before it left
+abbrev pub AreFetches : State (List ℕ) → List Entry → List Try → Type 0
+AreFetches s [] rows = rows ≡ []
+AreFetches s (entry ∷ entries) rows =
+    (first : List Try) × (rest : List Try) × (rows ≡ first ++ rest) × AreReadsOf s entry.0.ask entry.1.reply first
+    × AreFetches (next_state s entry) entries rest
 
 -- the answer that refuses a call
 abbrev pub refusal_of : Refusal → ℕ → Call → Answer

@@ -1,48 +1,61 @@
-ghost use Rattle.std.specs.Prelude.{◌≡◌, ◌⊎◌, ◌+◌, ◌<◌, ◌≤◌, [], ◌∷◌, ◌++◌, ℕ, List, drop, length, map, take, true, vec_capacity};
-ghost use Rattle.std.specs.List.{zip};
-ghost use Rattle.rly_machine.specs.declared.command.Command.{Command as ACommand};
-ghost use Rattle.rly_machine.specs.declared.call.Answer.{Answer as AnAnswer};
-ghost use Rattle.rly_machine.specs.declared.reply.Reply.{Reply as AReply};
-ghost use Rattle.rly_machine.specs.History.{IsAnswered, accepted_by, accepted_of, next_state};
+ghost use Rattle.std.specs.Prelude.{◌≡◌, ◌⊎◌, ◌+◌, ◌-◌, ◌<◌, ◌≤◌, [], ◌++◌, false, length, List, map, true, vec_capacity, ℕ};
+ghost use Rattle.rly_machine.specs.State.{State};
+ghost use Rattle.rly_machine.specs.Accepted.{is_accepted};
+ghost use Rattle.rly_machine.specs.declared.command.Ask.TheVariants as an_ask;
 ghost use Rattle.rly_record.specs.Spelling.{IsShort};
-ghost use Rattle.rly_journal.specs.HelpersGroups.{Gathers, IsTaken, empty_group};
-ghost use Rattle.rly_journal.specs.Rounds.{AreServed, IsRefusedWhereWanted, MayWantMemory, OnlyMemory, refusals};
-ghost use Rattle.rly_journal.specs.HelpersGroups.{IsOutcome, unsure_at};
+ghost use Rattle.rly_reclaim.specs.Room.{IsDue};
+ghost use Rattle.rly_segment.specs.Heads.{segment_place};
+ghost use Rattle.rly_keeping.specs.Keeping.{IsAlike};
+ghost use Rattle.rly_grouping.specs.Groups.{empty_group};
+ghost use Rattle.rly_journal.specs.Journal.{holds_command, is_command};
+ghost use Rattle.rly_journal.specs.Rounds.{refusals};
+ghost use Rattle.rly_journal.specs.HelpersOutcomes.{IsEvaluated, IsGrouping, IsLeft, IsOutcomeOf, IsTaken, IsTakenOrLeft, IsToldOf, taken_by};
 
-use crate::group::Group;
+use http_server::Log;
 use rly_core::Refusal;
-use rly_core::limits::MAX_PAYLOAD;
-use rly_machine::{Answer, Ask, Call, Command, Content, Machine, Payload, Reply};
+use rly_fetching::{Outcome, place_of};
+use rly_grouping::{Group, inlined, is_short};
+use rly_index::Index;
+use rly_machine::{Answer, Ask, Call, Command, Payload, Query, Reply, SeatId};
+use rly_record::record_len;
 use std::alloc::Global;
+use std::snapshot::Snapshot;
 
-/// Answers the calls of a round in their order, each in the state that the ones before it left. The
-/// records of the accepted commands become the group.
-pub(crate) fn answer_calls(
+/// The commands that were accepted, which only proofs read.
+pub(crate) type Accepted = Log<Snapshot<Command<Payload>>, ()>;
+
+/// Evaluates the calls of a round in their order, each in the state that the ones before it left, and keeps what came of each. The
+/// records of the accepted commands become the group, which will stand at a gate.
+pub(crate) fn evaluate(
     alloc: Global,
-    machine: &mut Machine<Payload>,
+    index: &mut Index,
     group: &mut Group,
+    gate: u64,
+    accepted: &mut Accepted,
     calls: &mut Vec<Call>,
-    answers: &mut Vec<Answer>,
+    outcomes: &mut Vec<Outcome>,
 )
     requires count { length calls.old.items ≤ 64 }
-    requires room { length answers.old.items + length calls.old.items ≤ vec_capacity answers.old }
+    requires room { length calls.old.items ≤ vec_capacity outcomes.old }
+    requires none { outcomes.old.items ≡ [] }
     requires empty { group.old ≡ empty_group }
+    requires above { segment_place index.old.geometry index.old.segment ≤ gate }
+    requires used { index.old.used ≡ gate }
+    requires ready { holds_command calls.old.items ≡ true → IsDue index.old.geometry (gate - segment_place index.old.geometry index.old.segment) → ⊥ }
     ensures emptied { calls.new.items ≡ [] }
+    ensures evaluated { IsEvaluated gate index.old index.new group.new (map (λ e. e.0.value) accepted.old.items) (map (λ e. e.0.value) accepted.new.items)
+        calls.old.items outcomes.new.items }
     ensures calls_capacity { vec_capacity calls.new ≡ vec_capacity calls.old }
-    ensures answers_capacity { vec_capacity answers.new ≡ vec_capacity answers.old }
-    ensures answers { (given : List AnAnswer) × (answers.new.items ≡ answers.old.items ++ given)
-        × AreServed calls.old.items given machine.old.state machine.new.state
-        × Gathers (accepted_of (zip calls.old.items given)) group.new machine.old.state machine.new.state
-        × IsRefusedWhereWanted machine.old.state (zip calls.old.items given) }
+    ensures outcomes_capacity { vec_capacity outcomes.new ≡ vec_capacity outcomes.old }
 {
     for call in calls.drain(..) {
-        let answer = answer_call(alloc, machine, group, call);
-        answers.push_reserved(answer);
+        let outcome = evaluate_call(alloc, index, group, gate, accepted, call);
+        outcomes.push_reserved(outcome);
     }
 }
 
 /// Refuses all calls, at one position.
-pub(crate) fn refuse_all(
+pub(crate) fn refuse_calls(
     calls: &mut Vec<Call>,
     answers: &mut Vec<Answer>,
     refusal: Refusal,
@@ -64,92 +77,125 @@ pub(crate) fn refuse_all(
     }
 }
 
-/// Says of the last answers, from an index on, that it is unsure whether they stand.
-pub(crate) fn make_unsure(answers: &mut Vec<Answer>, from: usize, position: u64)
-    requires { from ≤ length answers.old.items }
-    ensures answers { answers.new.items ≡ take from answers.old.items ++ map (unsure_at position) (drop from answers.old.items) }
-    ensures capacity { vec_capacity answers.new ≡ vec_capacity answers.old }
+/// Evaluates one call.
+fn evaluate_call(
+    alloc: Global,
+    index: &mut Index,
+    group: &mut Group,
+    gate: u64,
+    accepted: &mut Accepted,
+    call: Call,
+) -> Outcome
+    requires room { group.old.count < 64 }
+    requires grouping { IsGrouping gate index.old group.old }
+    requires ready { is_command call.ask ≡ true → IsDue index.old.geometry (gate - segment_place index.old.geometry index.old.segment) → ⊥ }
+    ensures outcome { (t : State (List ℕ)) → IsAlike index.old.spool.state t → IsOutcomeOf index.old.geometry call result index.old.spool.state t }
+    ensures taken { IsTakenOrLeft gate call result index.old index.new group.old group.new
+        (map (λ e. e.0.value) accepted.old.items) (map (λ e. e.0.value) accepted.new.items) }
 {
-    all_unsure(&mut answers[from..], position);
-}
-
-/// Says of all these answers that it is unsure whether they stand.
-fn all_unsure(answers: &mut [Answer], position: u64)
-    ensures { answers.new ≡ map (unsure_at position) answers.old }
-{
-    for answer in answers.iter_mut() {
-        answer.reply = Reply::Refused(Refusal::Unsure);
-        answer.position = position;
+    let Call { seat, number, ask } = call;
+    match ask {
+        Ask::Command(command) => {
+            let reply = answer_command(alloc, index, group, gate, accepted, command);
+            let position = index.machine().seq();
+            Outcome::Answered(Answer {
+                seat,
+                number,
+                reply,
+                position,
+            })
+        }
+        Ask::Query(query) => answer_query(index, seat, number, query),
     }
 }
 
-/// Answers one call on the machine. The record of an accepted command becomes part of the group.
-fn answer_call(
-    alloc: Global,
-    machine: &mut Machine<Payload>,
-    group: &mut Group,
-    call: Call,
-) -> Answer
-    requires room { group.old.count < 64 }
-    requires nothing_staged { group.old.staged ≡ [] }
-    ensures answered { IsAnswered (λ reply. reply) 0 machine.old.state (call, result) }
-    ensures only { OnlyMemory (call, result) }
-    ensures wanted { result.reply ≡ AReply.Refused Refusal.OutOfMemory → MayWantMemory machine.old.state call.ask }
-    ensures state { machine.new.state ≡ next_state machine.old.state (call, result) }
-    ensures group { ((command : ACommand (List ℕ)) × (accepted_by call.ask result.reply ≡ command ∷ [])
-        × IsTaken command group.old group.new machine.old.state machine.new.state)
-        ⊎ ((accepted_by call.ask result.reply ≡ []) × (group.new ≡ group.old) × (machine.new.state ≡ machine.old.state)) }
+/// Answers a question. A Fetch of a datagram in flight wants its payload, wherever that lies.
+fn answer_query(index: &Index, seat: SeatId, number: u64, query: Query) -> Outcome
+    ensures outcome { (t : State (List ℕ)) → IsAlike index.now.spool.state t
+        → IsOutcomeOf index.now.geometry (record { seat = seat; number = number; ask = an_ask.Query query }) result index.now.spool.state t }
+    ensures none { taken_by (record { seat = seat; number = number; ask = an_ask.Query query }) result ≡ [] }
 {
-    let Call { seat, number, ask } = call;
-    let reply = match ask {
-        Ask::Command(command) => answer_command(alloc, machine, group, command),
-        Ask::Query(query) => match machine.answer(alloc, query) {
-            Ok(reply) => reply,
-            Err(_) => Reply::Refused(Refusal::OutOfMemory),
+    index.law_index();
+    let position = index.machine().seq();
+    let reply = match query {
+        Query::Fetch {
+            hop,
+            number: custody,
+        } => match index.item(hop, custody) {
+            Ok(item) => {
+                return Outcome::Wanted {
+                    seat,
+                    number,
+                    position,
+                    place: place_of(&item.payload),
+                };
+            }
+            Err(refusal) => Reply::Refused(refusal),
         },
+        Query::Window { hop } => index.ask_window(hop),
+        Query::Show { hop } => index.ask_show(hop),
     };
-    Answer {
+    Outcome::Answered(Answer {
         seat,
         number,
         reply,
-        position: machine.seq(),
-    }
+        position,
+    })
 }
 
-/// Answers a command on the machine. Its record becomes part of the group if it is accepted.
+/// Answers a command. Its record becomes part of the group if it is accepted, and the index has its payload by place.
 fn answer_command(
     alloc: Global,
-    machine: &mut Machine<Payload>,
+    index: &mut Index,
     group: &mut Group,
+    gate: u64,
+    accepted: &mut Accepted,
     command: Command<Payload>,
 ) -> Reply
     requires room { group.old.count < 64 }
-    requires nothing_staged { group.old.staged ≡ [] }
-    ensures { IsOutcome command result group.old group.new machine.old.state machine.new.state }
+    requires grouping { IsGrouping gate index.old group.old }
+    requires ready { IsDue index.old.geometry (gate - segment_place index.old.geometry index.old.segment) → ⊥ }
+    ensures told { (t : State (List ℕ)) → IsAlike index.old.spool.state t → IsToldOf command result t }
+    ensures taken { ((is_accepted result ≡ true) × IsTaken gate command index.old index.new group.old group.new
+        (map (λ e. e.0.value) accepted.old.items) (map (λ e. e.0.value) accepted.new.items))
+        ⊎ ((is_accepted result ≡ false) × IsLeft index.old index.new group.old group.new
+        (map (λ e. e.0.value) accepted.old.items) (map (λ e. e.0.value) accepted.new.items)) }
 {
-    let Ok(room) = machine.reserve_for(alloc, &command) else {
+    if !is_short(&command) {
+        return answer_long(alloc, index, command);
+    }
+    index.law_index();
+    let said = Snapshot::of(&command);
+    let next = gate + group.len() + record_len(&command) as u64;
+    let placed = group.stage(gate, command);
+    let Ok(room) = index.reserve_for(alloc, &placed) else {
+        group.discard();
         return Reply::Refused(Refusal::OutOfMemory);
     };
-    if !is_short(&command) {
-        return machine.apply(command, room);
-    }
-    group.stage(&command);
-    let reply = machine.apply(command, room);
+    let reply = index.apply(placed, room, next);
     if reply.is_accepted() {
         group.keep();
+        *accepted = accepted.and(&said, &());
     } else {
         group.discard();
     }
     reply
 }
 
-/// Whether a command's payload, if it has one, is short enough for a record.
-fn is_short(command: &Command<Payload>) -> bool
-    ensures yes { result ≡ true → IsShort command.now }
-    ensures no { IsShort command.now → result ≡ true }
+/// Answers a command whose payload is too long for a record: it is refused.
+fn answer_long(alloc: Global, index: &mut Index, command: Command<Payload>) -> Reply
+    requires long { IsShort command → ⊥ }
+    ensures told { (t : State (List ℕ)) → IsAlike index.old.spool.state t → IsToldOf command result t }
+    ensures refused { is_accepted result ≡ false }
+    ensures state { index.new.spool.state ≡ index.old.spool.state }
+    ensures geometry { index.new.geometry ≡ index.old.geometry }
+    ensures segment { index.new.segment ≡ index.old.segment }
+    ensures used { index.new.used ≡ index.old.used }
 {
-    match command {
-        Command::Take { payload, .. } => payload.len() as u64 <= MAX_PAYLOAD,
-        Command::Pick { .. } | Command::Release { .. } => true,
+    let placed = inlined(command);
+    let used = index.used();
+    match index.reserve_for(alloc, &placed) {
+        Ok(room) => index.apply(placed, room, used),
+        Err(_) => Reply::Refused(Refusal::OutOfMemory),
     }
 }

@@ -1,59 +1,82 @@
-ghost use Rattle.std.specs.Prelude.{◌≡◌, ◌≢◌, ◌⊎◌, ◌+◌, ◌≤◌, ◌++◌, [], Err, IfErr, IfOk, IsOk, List, MatchResult, Ok, OnErr, OnOk, length, vec_capacity, true, false, if◌then◌else◌};
+ghost use Rattle.std.specs.Prelude.{◌+◌, ◌++◌, IsOk, OnErr, OnOk, ◌≡◌, ◌≢◌, ◌⊎◌, ◌≤◌, Err, IfErr, IfOk, List, MatchResult, Ok, [], true, false, length, vec_capacity, if◌then◌else◌};
+ghost use Rattle.rly_core.specs.declared.refusal.Refusal.{Refusal as ARefusal};
+ghost use Rattle.rly_core.specs.declared.refusal.Refusal.TheVariants as refusal;
 ghost use Rattle.std.specs.List.{zip};
 ghost use Rattle.rly_core.specs.Bounds.{IsIn};
-ghost use Rattle.rly_disk.specs.DiskModel.{Later, Settled};
-ghost use Rattle.rly_disk.specs.Trace.{Makes, seen_at_end};
-ghost use Rattle.rly_gate.specs.Reading.{OnlyRead};
+ghost use Rattle.rly_disk.specs.DiskModel.{Later, LeavesOnly, Settled};
 ghost use Rattle.rly_machine.specs.declared.call.Answer.{Answer as AnAnswer};
-ghost use Rattle.rly_machine.specs.declared.reply.Reply.{Reply as AReply};
+ghost use Rattle.rly_journal.specs.Journal.{holds_command, IsDueFor, IsRound, IsSafe, IsShut, MakesRound, MakesShut};
+ghost use Rattle.rly_journal.specs.HelpersReady.{IsReadied, IsServed};
+ghost use Rattle.rly_journal.specs.Rounds.{AreLostWhereWanted, refusals};
+ghost use Rattle.rly_gate.specs.Reading.{OnlyRead};
+ghost use Rattle.rly_grouping.specs.Groups.{empty_group};
 ghost use Rattle.rly_machine.specs.Sound.{IsSound};
 ghost use Rattle.rly_machine.specs.State.{has_peer, last_at};
 ghost use Rattle.rly_machine.specs.Query.{HasBytes, fetch_reply, item_of, show_reply};
-ghost use Rattle.rly_journal.specs.Calls.{BreaksOpening, MakesOpening, MakesRound, fetching, renewed, renewing, tells};
+ghost use Rattle.rly_machine.specs.declared.reply.Reply.{Reply as AReply};
+ghost use Rattle.rly_standing.specs.Calls.{BreaksOpening, MakesOpening, tells};
+ghost use Rattle.rly_standing.specs.Log.{IsDurable, IsFull, IsSameHead};
+ghost use Rattle.rly_standing.specs.Standing.{Stands};
+ghost use Rattle.rly_journal.specs.Calls.{IsRenewal, MayRenew, Renewal};
 ghost use Rattle.rly_journal.specs.Faults.{IsRefused};
-ghost use Rattle.rly_journal.specs.HelpersCalls.{IsReadied};
-ghost use Rattle.rly_journal.specs.Journal.{Breaks, Goes, IsDueFor, IsRound, IsSafe, holds_command};
-ghost use Rattle.rly_journal.specs.HelpersGroups.{empty_group};
-ghost use Rattle.rly_journal.specs.Log.{IsDurable, IsFull, IsLogged, IsSameHead};
-ghost use Rattle.rly_journal.specs.HelpersJournal.{IsShaped};
-ghost use Rattle.rly_journal.specs.Rounds.{IsRefusedWhereWanted, refusals};
-ghost use Rattle.rly_journal.specs.Standing.{Stands};
+ghost use Rattle.rly_journal.specs.Fetches.{AreFetching, IsFetchedAs, IsLostRead, told_of};
+ghost use Rattle.rly_fetching.specs.Trials.{Tries, Try};
+ghost use Rattle.rly_journal.specs.HelpersJournal.{IsAtEnd, IsLoggedFor, IsShaped};
 
-use crate::answering::{answer_calls, make_unsure, refuse_all};
-use crate::group::Group;
-use crate::open_fault::OpenFault;
+use crate::answering::{Accepted, evaluate, refuse_calls};
 use crate::recovery::{Recovered, recover};
-use crate::tail::{Tail, append, is_full, renew};
+use crate::tail::{RenewFault, append, is_full, renew};
+use http_server::Log;
+use rly_core::limits::MAX_ROUND;
 use rly_core::{HopId, Params, PeerId, Refusal};
 use rly_disk::Disk;
-use rly_machine::{Answer, Ask, Call, Machine, Payload, Reply};
-use rly_segment::OpeningFault;
+use rly_fetching::{Outcome, answer_all, place_of, read_payload, refuse_all};
+use rly_grouping::Group;
+use rly_index::Index;
+use rly_keeping::law_fetched;
+use rly_machine::{Answer, Ask, Call, Command, Payload, Reply};
+use rly_standing::{OpenFault, Tail};
 use std::alloc::{AllocError, Global};
 use std::marker::Model;
+use std::snapshot::Snapshot;
 
-/// A spool on a device. Contracts see its disk, where it ends there, its running state, and whether it
-/// is broken.
+/// A spool on a device, where its payloads stay. Contracts see its disk, where it ends there, its running state with bytes, and
+/// whether it is broken. That state is named by what only proofs read: the disk and the index when the device was opened, and the
+/// commands that were accepted since.
 #[derive(Drop)]
 pub struct Journal<D: Disk> {
     disk: D,
     tail: Tail,
-    machine: Machine<Payload>,
+    index: Index,
     group: Group,
+    outcomes: Vec<Outcome>,
     position: u64,
     broken: bool,
+    first_disk: Snapshot<D>,
+    first_index: Snapshot<Index>,
+    accepted: Accepted,
 }
 
 impl<D: Disk> Model for Journal<D> {
-    ghost use Rattle.std.specs.Prelude.{◌≡◌};
-    ghost use Rattle.rly_journal.specs.HelpersGroups.{empty_group};
+    ghost use Rattle.std.specs.Prelude.{◌≡◌, ◌≤◌, [], map, vec_capacity};
+    ghost use Rattle.rly_grouping.specs.Groups.{empty_group};
     ghost use Rattle.rly_journal.specs.Journal.{JournalState};
     ghost use Rattle.rly_journal.specs.HelpersJournal.{IsSoundJournal};
+    ghost use Rattle.rly_journal.specs.Showing.{shown_state};
 
     ghost Value = { JournalState D };
 
-    ghost view = { λ j. record { disk = j.disk; tail = j.tail; state = j.machine.state; position = j.position; broken = j.broken } };
+    ghost view = { λ j. record {
+      disk = j.disk;
+      tail = j.tail;
+      state = shown_state (D.state j.first_disk.value).seen j.first_index.value.spool.state (map (λ e. e.0.value) j.accepted.items);
+      position = j.position;
+      broken = j.broken;
+    } };
 
-    ghost invariant = { λ j. IsSoundJournal (D.state j.disk) j.tail j.machine.state j.position j.broken × (j.group ≡ empty_group) };
+    ghost invariant = { λ j. IsSoundJournal (D.state j.disk) j.tail j.index
+        (shown_state (D.state j.first_disk.value).seen j.first_index.value.spool.state (map (λ e. e.0.value) j.accepted.items)) j.position j.broken
+        × (j.group ≡ empty_group) × (j.outcomes.items ≡ []) × (64 ≤ vec_capacity j.outcomes) };
 }
 
 /// What opening a device made.
@@ -61,11 +84,12 @@ impl<D: Disk> Model for Journal<D> {
 struct Begun {
     found: Recovered,
     group: Group,
+    outcomes: Vec<Outcome>,
 }
 
 impl<D: Disk> Journal<D> {
-    /// Opens a device: makes its last writes durable, and reads what it stands for. It writes nothing. At every
-    /// refusal the disk is handed back.
+    /// Opens a device: makes its last writes durable, and reads what it stands for, but no payload by place. It writes nothing. At
+    /// every refusal the disk is handed back.
     pub fn open(alloc: Global, disk: D) -> Result<Journal<D>, (OpenFault, D)>
         // On an honest disk the state is the one that the device stands for.
         ensures stands { (D.state disk).honest → IfOk result (λ journal. Stands (D.state disk).seen journal.state) }
@@ -83,14 +107,21 @@ impl<D: Disk> Journal<D> {
         match begin(alloc, &mut disk) {
             Ok(begun) => {
                 let tail = begun.found.tail;
-                let position = begun.found.machine.seq();
+                let position = begun.found.index.machine().seq();
+                let first_disk = Snapshot::of(&disk);
+                let first_index = Snapshot::of(&begun.found.index);
+                begun.found.index.law_index();
                 Ok(Journal {
                     disk,
                     tail,
-                    machine: begun.found.machine,
+                    index: begun.found.index,
                     group: begun.group,
+                    outcomes: begun.outcomes,
                     position,
                     broken: false,
+                    first_disk,
+                    first_index,
+                    accepted: Log::new(),
                 })
             }
             Err(fault) => Err((fault, disk)),
@@ -111,24 +142,25 @@ impl<D: Disk> Journal<D> {
         ensures emptied { OnOk result (calls.new.items ≡ []) }
         ensures answers { OnOk result ((given : List AnAnswer) × (answers.new.items ≡ answers.old.items ++ given)
             × IsRound D.state self.old self.new calls.old.items given) }
-        // Memory is refused only to a Take or a Pick that no check refuses and to a Fetch of bytes; or to all calls, where a
-        // segment is due and there is none for its head.
-        ensures memory { OnOk result ((given : List AnAnswer) × (answers.new.items ≡ answers.old.items ++ given)
-            × (IsRefusedWhereWanted self.old.state (zip calls.old.items given)
-            ⊎ (IsDueFor self.old calls.old.items × (given ≡ refusals Refusal.OutOfMemory self.old.position calls.old.items)))) }
+        // 14 is answered only to a Take or a Pick that no check refuses and to a Fetch of bytes, and 13 to such a Fetch; or either to all
+        // calls, where a segment is due that was not opened.
+        ensures lost { OnOk result ((given : List AnAnswer) × (answers.new.items ≡ answers.old.items ++ given)
+            × (AreLostWhereWanted self.old.state (zip calls.old.items given) ⊎ IsShut self.old self.new calls.old.items given)) }
         // What it asks of the device: a segment is opened or not, and the commands that its answers accepted are appended as
-        // one group.
-        ensures trace { self.old.broken ≡ false → OnOk result (MakesRound D.state self.old self.new calls.old.items answers.old.items answers.new.items) }
+        // one group; then the payloads of its Fetches are read, each whatever became of those before it. Where a segment is due and
+        // was not opened, it is told how all calls are refused and what failed.
+        ensures trace { self.old.broken ≡ false → OnOk result (MakesRound D.state self.old self.new calls.old.items answers.old.items answers.new.items
+            ⊎ ((self.new.state ≡ self.old.state) × (told : ARefusal) × (answers.new.items ≡ answers.old.items ++ refusals told self.old.position calls.old.items)
+            × MakesShut D.state self.old self.new calls.old.items told)) }
         // A crash at any moment of the round leaves its commands whole or none of them.
         ensures any_moment { (D.state self.old.disk).honest → self.old.broken ≡ false → OnOk result (IsSafe D.state self.old self.new calls.old.items) }
         ensures durable { (D.state self.new.disk).honest → self.new.broken ≡ false → OnOk result (Settled (D.state self.new.disk) × Stands (D.state self.new.disk).seen self.new.state) }
         ensures syncs { (D.state self.new.disk).syncs ≤ (D.state self.old.disk).syncs + 5 }
         ensures few_syncs { (IsDueFor self.old calls.old.items → ⊥) → (D.state self.new.disk).syncs ≤ (D.state self.old.disk).syncs + 2 }
-        // A segment is opened where one is due, also where its commands are then refused, and only there. Where memory is
-        // refused for its head, so is each call, and nothing changed.
+        // A segment is opened where one is due, also where its commands are then refused, and only there.
         ensures opened { IsDueFor self.old calls.old.items → OnOk result (self.new.broken ≡ false
-            → (self.new.tail.generation ≡ self.old.tail.generation + 1) ⊎ ((self.new ≡ self.old)
-            × (answers.new.items ≡ answers.old.items ++ refusals Refusal.OutOfMemory self.old.position calls.old.items))) }
+            → (self.new.tail.generation ≡ self.old.tail.generation + 1)
+            ⊎ ((given : List AnAnswer) × (answers.new.items ≡ answers.old.items ++ given) × IsShut self.old self.new calls.old.items given)) }
         ensures stays { (IsDueFor self.old calls.old.items → ⊥) → IsSameHead self.old.tail self.new.tail }
         ensures later { Later (D.state self.old.disk) (D.state self.new.disk) }
         // Both lists keep the memory that they have.
@@ -138,67 +170,142 @@ impl<D: Disk> Journal<D> {
         answers.reserve(calls.len())?;
         self.law_sound();
         if self.broken {
-            refuse_all(calls, answers, Refusal::Broken, self.position);
+            refuse_calls(calls, answers, Refusal::Broken, self.position);
             return Ok(());
         }
         match self.make_ready(alloc, calls) {
             Ok(()) => self.serve(alloc, calls, answers),
-            Err(refusal) => refuse_all(calls, answers, refusal, self.position),
+            Err(refusal) => refuse_calls(calls, answers, refusal, self.position),
         }
         self.law_durable();
         Ok(())
     }
 
-    /// The payload in flight under a custody number.
+    /// Opens a segment where one is due, or says how all calls are refused.
+    fn make_ready(&mut self, alloc: Global, calls: &[Call]) -> Result<(), Refusal>
+        requires { self.old.broken ≡ false }
+        ensures state { self.new.state ≡ self.old.state }
+        ensures position { self.new.position ≡ self.old.position }
+        ensures ready { OnOk result (IsDueFor self.new calls.now → ⊥) }
+        ensures made { IsReadied D.state self.old self.new calls.now result }
+        ensures any_moment { (D.state self.old.disk).honest → LeavesOnly (D.state self.old.disk) (D.state self.new.disk) (λ image. Stands image self.old.state) }
+        ensures syncs { (D.state self.new.disk).syncs ≤ (D.state self.old.disk).syncs + 3 }
+        ensures later { Later (D.state self.old.disk) (D.state self.new.disk) }
+    {
+        if !holds_command(calls) || !is_full(&self.tail) {
+            return Ok(());
+        }
+        match renew(alloc, &mut self.disk, &mut self.tail, &mut self.index) {
+            Ok(()) => Ok(()),
+            Err(RenewFault::OutOfMemory) => Err(Refusal::OutOfMemory),
+            Err(RenewFault::Read) => Err(Refusal::DeviceRead),
+            Err(RenewFault::Device) => {
+                self.broken = true;
+                Err(Refusal::Unsure)
+            }
+        }
+    }
+
+    /// Evaluates the calls, makes what they changed durable, and then answers them.
+    fn serve(&mut self, alloc: Global, calls: &mut Vec<Call>, answers: &mut Vec<Answer>)
+        requires broken { self.old.broken ≡ false }
+        requires count { length calls.old.items ≤ 64 }
+        requires room { length answers.old.items + length calls.old.items ≤ vec_capacity answers.old }
+        requires ready { IsDueFor self.old calls.old.items → ⊥ }
+        ensures emptied { calls.new.items ≡ [] }
+        ensures served { IsServed D.state self.old self.new calls.old.items answers.old.items answers.new.items }
+        ensures calls_capacity { vec_capacity calls.new ≡ vec_capacity calls.old }
+        ensures answers_capacity { vec_capacity answers.new ≡ vec_capacity answers.old }
+    {
+        self.index.law_index();
+        evaluate(
+            alloc,
+            &mut self.index,
+            &mut self.group,
+            self.tail.gate,
+            &mut self.accepted,
+            calls,
+            &mut self.outcomes,
+        );
+        if self.group.is_empty() {
+            answer_all(alloc, &mut self.disk, &mut self.outcomes, answers);
+            return;
+        }
+        match append(&mut self.disk, &mut self.tail, &mut self.group) {
+            Ok(()) => {
+                self.position = self.index.machine().seq();
+                answer_all(alloc, &mut self.disk, &mut self.outcomes, answers);
+            }
+            Err(_) => {
+                self.broken = true;
+                refuse_all(&mut self.outcomes, answers, Refusal::Unsure, self.position);
+            }
+        }
+    }
+
+    /// The payload in flight under a custody number, by one read of the device where it has bytes.
     pub fn fetch(&mut self, alloc: Global, hop: HopId, number: u64) -> Result<Vec<u8>, Refusal>
-        ensures found { IfOk result (λ bytes. (self.old.broken ≡ false) × (fetch_reply (item_of self.old.state hop number) ≡ AReply.Bytes bytes.items)) }
-        ensures refused { IfErr result (λ refusal. ((self.old.broken ≡ true) × (refusal ≡ Refusal.Broken)) ⊎ ((self.old.broken ≡ false)
-            × ((fetch_reply (item_of self.old.state hop number) ≡ AReply.Refused refusal) ⊎ (refusal ≡ Refusal.OutOfMemory)))) }
-        // Memory is refused only for a payload that has bytes.
-        ensures memory { result ≡ Err Refusal.OutOfMemory → HasBytes (fetch_reply (item_of self.old.state hop number)) }
-        ensures same { self.new ≡ self.old }
-        ensures trace { Makes D.state fetching true self.old.disk self.new.disk }
+        // On any disk it is as long as the machine's, on an honest one it is that.
+        ensures found { IfOk result (λ bytes. (self.old.broken ≡ false)
+            × IsFetchedAs (D.state self.old.disk) (fetch_reply (item_of self.old.state hop number)) bytes.items) }
+        // 13 is answered where the read failed, and 14 where memory was refused: both only for a payload that has bytes.
+        ensures refused { IfErr result (λ told. ((self.old.broken ≡ true) × (told ≡ refusal.Broken)) ⊎ ((self.old.broken ≡ false)
+            × ((fetch_reply (item_of self.old.state hop number) ≡ AReply.Refused told)
+            ⊎ (IsLostRead told × HasBytes (fetch_reply (item_of self.old.state hop number)))))) }
+        // Nothing changes but what the disk counts.
+        ensures same { self.new ≡ record self.old { disk = self.new.disk } }
+        ensures only { OnlyRead (D.state self.old.disk) (D.state self.new.disk) }
+        ensures trace { (rows : List Try) × Tries D.state rows self.old.disk self.new.disk × (self.old.broken ≡ true → rows ≡ [])
+            × (self.old.broken ≡ false → AreFetching (fetch_reply (item_of self.old.state hop number)) (told_of result) rows) }
     {
         if self.broken {
             return Err(Refusal::Broken);
         }
-        let item = self.machine.item(hop, number)?;
-        match Payload::copy_of(alloc, item.payload.as_slice()) {
-            Ok(copy) => Ok(copy.into_bytes()),
-            Err(_) => Err(Refusal::OutOfMemory),
-        }
+        self.index.law_index();
+        law_fetched(&self.disk);
+        let place = match self.index.item(hop, number) {
+            Ok(item) => place_of(&item.payload),
+            Err(refusal) => return Err(refusal),
+        };
+        let payload = match read_payload(alloc, &mut self.disk, place) {
+            Ok(payload) => payload,
+            Err(refusal) => return Err(refusal),
+        };
+        Ok(payload.into_bytes())
     }
 
     /// All numbers of a hop, or that there is no such hop, or that the journal is broken.
     pub fn ask_show(&self, hop: HopId) -> Reply
-        ensures { result ≡ (if self.now.broken then AReply.Refused Refusal.Broken else show_reply self.now.state hop) }
+        ensures { result ≡ (if self.now.broken then AReply.Refused refusal.Broken else show_reply self.now.state hop) }
     {
         if self.broken {
             return Reply::Refused(Refusal::Broken);
         }
-        self.machine.ask_show(hop)
+        law_fetched(&self.disk);
+        self.index.ask_show(hop)
     }
 
     /// The last number taken from a peer, or that there is no such peer, or that the journal is broken.
     pub fn last(&self, peer: PeerId) -> Result<u64, Refusal>
-        ensures { result ≡ (if self.now.broken then Err Refusal.Broken
-            else if has_peer self.now.state peer then Ok (last_at self.now.state peer) else Err Refusal.NoSuchPeer) }
+        ensures { result ≡ (if self.now.broken then Err refusal.Broken
+            else if has_peer self.now.state peer then Ok (last_at self.now.state peer) else Err refusal.NoSuchPeer) }
     {
         if self.broken {
             return Err(Refusal::Broken);
         }
-        self.machine.law_sound();
-        if peer.0 == 0 || u64::from(peer.0) > self.machine.params().peers {
+        let machine = self.index.machine();
+        machine.law_sound();
+        if peer.0 == 0 || u64::from(peer.0) > machine.params().peers {
             return Err(Refusal::NoSuchPeer);
         }
-        Ok(self.machine.last(peer))
+        Ok(machine.last(peer))
     }
 
     /// The parameters of the spool.
     pub fn params(&self) -> Params
         ensures { result ≡ self.now.state.params }
     {
-        self.machine.params()
+        self.index.machine().params()
     }
 
     /// How many commands were accepted, as far as was answered.
@@ -222,10 +329,14 @@ impl<D: Disk> Journal<D> {
         let Journal {
             disk,
             tail: _tail,
-            machine: _machine,
+            index: _index,
             group: _group,
+            outcomes: _outcomes,
             position: _position,
             broken: _broken,
+            first_disk: _first_disk,
+            first_index: _first_index,
+            accepted: _accepted,
         } = self;
         disk
     }
@@ -249,87 +360,36 @@ impl<D: Disk> Journal<D> {
     pub fn law_sound(&self)
         ensures { IsSound length self.now.state }
     {
-        self.machine.law_sound();
+        self.index.law_index();
     }
 
     /// Where a journal ends that isn't broken, on an honest disk: in the newest segment, at the first closed gate
-    /// after the head there. So a segment is due, as `round` says it, exactly where it is due by what the device reads. On any
-    /// disk its device has two segments.
+    /// after the head there. So a segment is due, as `round` says it, exactly where it is due by what the device reads.
     pub fn law_tail(&self)
-        ensures tail { (D.state self.now.disk).honest → self.now.broken ≡ false → IsDurable (D.state self.now.disk) self.now.tail self.now.state }
-        ensures segments { self.now.tail.geometry.segments ≡ 2 }
+        ensures { (D.state self.now.disk).honest → self.now.broken ≡ false → IsDurable (D.state self.now.disk) self.now.tail self.now.state }
     {
         let _ = &self.tail;
     }
 
-    /// A segment that is opened where one is due holds the running state, and has room for the largest group.
+    /// What is true of a segment that is opened where one is due, on an honest disk: its head may be written over what the device
+    /// reads, holds the running state, and has room for the largest group.
     pub fn law_renewed(&self)
-        ensures { (D.state self.now.disk).honest → self.now.broken ≡ false → IsFull self.now.tail
-            → IsLogged (seen_at_end (renewing self.now.tail self.now.state) (D.state self.now.disk).seen) (renewed self.now.tail self.now.state) self.now.state
-            × (IsFull (renewed self.now.tail self.now.state) → ⊥) }
+        ensures { (D.state self.now.disk).honest → self.now.broken ≡ false → IsFull self.now.tail → (r : Renewal)
+            → IsRenewal (D.state self.now.disk) self.now.tail self.now.state r → MayRenew (D.state self.now.disk).seen self.now.tail self.now.state r }
     {
         self.law_sound();
         law_wide(&self.tail);
-    }
-
-    /// Opens a segment where one is due, or says how all calls are refused.
-    fn make_ready(&mut self, alloc: Global, calls: &[Call]) -> Result<(), Refusal>
-        requires { self.old.broken ≡ false }
-        ensures state { self.new.state ≡ self.old.state }
-        ensures position { self.new.position ≡ self.old.position }
-        ensures ready { OnOk result (IsDueFor self.new calls.now → ⊥) }
-        ensures made { IsReadied D.state self.old self.new calls.now result }
-    {
-        if !holds_command(calls) || !is_full(&self.tail) {
-            return Ok(());
-        }
-        match renew(alloc, &mut self.disk, &mut self.tail, &self.machine) {
-            Ok(()) => Ok(()),
-            Err(OpeningFault::OutOfMemory) => Err(Refusal::OutOfMemory),
-            Err(OpeningFault::Device) => {
-                self.broken = true;
-                Err(Refusal::Unsure)
-            }
-        }
-    }
-
-    /// Evaluates the calls, and makes what they changed durable before they are answered.
-    fn serve(&mut self, alloc: Global, calls: &mut Vec<Call>, answers: &mut Vec<Answer>)
-        requires broken { self.old.broken ≡ false }
-        requires count { length calls.old.items ≤ 64 }
-        requires room { length answers.old.items + length calls.old.items ≤ vec_capacity answers.old }
-        requires ready { IsDueFor self.old calls.old.items → ⊥ }
-        ensures emptied { calls.new.items ≡ [] }
-        ensures answers { (given : List AnAnswer) × (answers.new.items ≡ answers.old.items ++ given)
-            × (Goes self.old self.new calls.old.items given ⊎ Breaks self.old self.new calls.old.items given) }
-        ensures wanted { (given : List AnAnswer) × (answers.new.items ≡ answers.old.items ++ given)
-            × IsRefusedWhereWanted self.old.state (zip calls.old.items given) }
-        ensures trace { MakesRound D.state self.old self.new calls.old.items answers.old.items answers.new.items }
-        ensures head { IsSameHead self.old.tail self.new.tail }
-        ensures calls_capacity { vec_capacity calls.new ≡ vec_capacity calls.old }
-        ensures answers_capacity { vec_capacity answers.new ≡ vec_capacity answers.old }
-    {
-        let from = answers.len();
-        answer_calls(alloc, &mut self.machine, &mut self.group, calls, answers);
-        if self.group.is_empty() {
-            return;
-        }
-        match append(&mut self.disk, &mut self.tail, &mut self.group) {
-            Ok(()) => self.position = self.machine.seq(),
-            Err(_) => {
-                self.broken = true;
-                make_unsure(answers, from, self.position);
-            }
-        }
     }
 }
 
 /// Makes a device's last writes durable, and reads what it stands for.
 fn begin<D: Disk>(alloc: Global, disk: &mut D) -> Result<Begun, OpenFault>
-    ensures shaped { IfOk result (λ begun. IsShaped (D.state disk.new).size begun.found.tail begun.found.machine.state) }
+    ensures shaped { IfOk result (λ begun. IsShaped (D.state disk.new).size begun.found.tail begun.found.index) }
+    ensures ends { IfOk result (λ begun. IsAtEnd begun.found.tail begun.found.index) }
     ensures group { IfOk result (λ begun. begun.group ≡ empty_group) }
-    ensures durable { (D.state disk.old).honest → IfOk result (λ begun. IsDurable (D.state disk.new) begun.found.tail begun.found.machine.state) }
-    ensures stands { (D.state disk.old).honest → IfOk result (λ begun. Stands (D.state disk.old).seen begun.found.machine.state) }
+    ensures outcomes { IfOk result (λ begun. begun.outcomes.items ≡ []) }
+    ensures room { IfOk result (λ begun. 64 ≤ vec_capacity begun.outcomes) }
+    ensures logged { (D.state disk.old).honest → IfOk result (λ begun. IsLoggedFor (D.state disk.old).seen begun.found.tail begun.found.index) }
     ensures refused { (D.state disk.old).honest → IfErr result (λ fault. IsRefused (D.state disk.old).seen fault) }
     ensures trace { MatchResult result (λ begun. MakesOpening D.state begun.found.tail disk.old disk.new) (λ fault. BreaksOpening D.state (tells fault) disk.old disk.new) }
 {
@@ -337,19 +397,34 @@ fn begin<D: Disk>(alloc: Global, disk: &mut D) -> Result<Begun, OpenFault>
         return Err(OpenFault::Device);
     };
     match recover(alloc, disk) {
-        Ok(found) => match Group::new(alloc) {
-            Ok(group) => Ok(Begun { found, group }),
+        Ok(found) => match make_room(alloc) {
+            Ok((group, outcomes)) => Ok(Begun {
+                found,
+                group,
+                outcomes,
+            }),
             Err(_) => Err(OpenFault::OutOfMemory),
         },
         Err(fault) => Err(fault),
     }
 }
 
-/// An end tells of so many gates.
+/// The memory that every round needs for its group and for what comes of its calls.
+fn make_room(alloc: Global) -> Result<(Group, Vec<Outcome>), AllocError>
+    ensures group { IfOk result (λ room. room.0 ≡ empty_group) }
+    ensures outcomes { IfOk result (λ room. room.1.items ≡ []) }
+    ensures room { IfOk result (λ room. 64 ≤ vec_capacity room.1) }
+{
+    let group = Group::new(alloc)?;
+    let outcomes = Vec::with_capacity(alloc, MAX_ROUND as usize)?;
+    Ok((group, outcomes))
+}
+
+/// How many gates the end of a journal knows of.
 fn law_wide(tail: &Tail)
     ensures { length tail.now.closed ≡ 256 }
 {
-    let _tail = *tail;
+    let _closed = tail.closed;
 }
 
 /// Whether a round holds a command.

@@ -1,36 +1,46 @@
-ghost use Rattle.std.specs.Prelude.{◌≡◌, ◌<◌, ◌≤◌, ◌^◌, Err, IfErr, IfOk, MatchResult, Ok, OnErr, OnOk, length, true, false};
+ghost use Rattle.std.specs.Prelude.{◌≡◌, ◌+◌, ◌<◌, ◌≤◌, ◌^◌, Err, IfErr, IfOk, MatchResult, Ok, OnErr, OnOk, length, true, false};
 ghost use Rattle.rly_machine.specs.Fold.{AllAccepted, fold};
+ghost use Rattle.rly_record.specs.Spelling.{HaveBody, body_of};
+ghost use Rattle.rly_checkpoint.specs.Stored.{stored_length};
+ghost use Rattle.rly_segment.specs.Heads.{segment_end};
+ghost use Rattle.rly_index.specs.Index.{IsAt};
+ghost use Rattle.rly_grouping.specs.Lying.{placed_group};
+ghost use Rattle.rly_standing.specs.HelpersCalls.{IsCutShort, IsGroupRead, IsHeadCut, IsHeadRead, IsRead};
 ghost use Rattle.rly_journal.specs.Faults.{IsRefused};
-ghost use Rattle.rly_journal.specs.HelpersCalls.{IsCutShort, IsGroupRead, IsHeadCut, IsHeadRead, IsRead};
-ghost use Rattle.rly_journal.specs.Log.{IsLogged};
-ghost use Rattle.rly_journal.specs.HelpersJournal.{IsReplayed, IsShaped};
+ghost use Rattle.rly_journal.specs.HelpersJournal.{IsAtEnd, IsLoggedFor, IsReplayedFor, IsShaped};
 
-use crate::open_fault::OpenFault;
-use crate::tail::Tail;
-use rly_core::limits::SEGMENTS;
 use rly_disk::Disk;
 use rly_gate::{GroupFault, read_group};
-use rly_machine::{Command, Machine, Payload};
-use rly_record::{DecodeFault, read_body};
+use rly_grouping::placed_at;
+use rly_index::Index;
+use rly_machine::{Command, Payload};
+use rly_record::{DecodeFault, read_body, record_len};
 use rly_segment::{
-    HeadFault, HeaderFault, NewestFault, newest, read_head, read_header, segment_end, segment_place,
+    HeadFault, HeaderFault, NewestFault, newest, read_header, read_placed_head, segment_end,
+    segment_place,
 };
+use rly_standing::{OpenFault, Tail};
 use std::alloc::Global;
 
 /// The bytes of a group before its body: the gate and the body's length.
 const GROUP_START: u64 = 5;
 
+/// The bytes of a group before its records: those before its body, and the count.
+const RECORDS: u64 = 7;
+
 /// What a device stands for, and where its journal ends.
 #[derive(Drop)]
 pub(crate) struct Recovered {
     pub(crate) tail: Tail,
-    pub(crate) machine: Machine<Payload>,
+    pub(crate) index: Index,
 }
 
-/// Reads what a device stands for: the newest head, and the groups after it up to the first closed gate.
+/// Reads what a device stands for: the newest head, and the groups after it up to the first closed gate. No payload by place is
+/// read.
 pub(crate) fn recover<D: Disk>(alloc: Global, disk: &mut D) -> Result<Recovered, OpenFault>
-    ensures shaped { IfOk result (λ found. IsShaped (D.state disk.old).size found.tail found.machine.state) }
-    ensures logged { (D.state disk.old).honest → IfOk result (λ found. IsLogged (D.state disk.old).seen found.tail found.machine.state) }
+    ensures shaped { IfOk result (λ found. IsShaped (D.state disk.old).size found.tail found.index) }
+    ensures ends { IfOk result (λ found. IsAtEnd found.tail found.index) }
+    ensures logged { (D.state disk.old).honest → IfOk result (λ found. IsLoggedFor (D.state disk.old).seen found.tail found.index) }
     ensures refused { (D.state disk.old).honest → IfErr result (λ fault. IsRefused (D.state disk.old).seen fault) }
     ensures trace { MatchResult result (λ found. IsRead D.state found.tail disk.old disk.new) (λ fault. IsCutShort D.state fault disk.old disk.new) }
 {
@@ -41,8 +51,9 @@ pub(crate) fn recover<D: Disk>(alloc: Global, disk: &mut D) -> Result<Recovered,
 
 /// Reads the header and what the newest head holds: what a device without groups stands for.
 fn read_newest_head<D: Disk>(alloc: Global, disk: &mut D) -> Result<Recovered, OpenFault>
-    ensures shaped { IfOk result (λ found. IsShaped (D.state disk.old).size found.tail found.machine.state) }
-    ensures replayed { (D.state disk.old).honest → IfOk result (λ found. IsReplayed (D.state disk.old).seen found.tail found.machine.state) }
+    ensures shaped { IfOk result (λ found. IsShaped (D.state disk.old).size found.tail found.index) }
+    ensures ends { IfOk result (λ found. IsAtEnd found.tail found.index) }
+    ensures replayed { (D.state disk.old).honest → IfOk result (λ found. IsReplayedFor (D.state disk.old).seen found.tail found.index) }
     ensures refused { (D.state disk.old).honest → IfErr result (λ fault. IsRefused (D.state disk.old).seen fault) }
     ensures trace { MatchResult result (λ found. IsHeadRead D.state found.tail disk.old disk.new) (λ fault. IsHeadCut D.state fault disk.old disk.new) }
 {
@@ -52,15 +63,12 @@ fn read_newest_head<D: Disk>(alloc: Global, disk: &mut D) -> Result<Recovered, O
         Err(HeaderFault::BadGeometry) => return Err(OpenFault::BadGeometry),
         Err(HeaderFault::Device) => return Err(OpenFault::Device),
     };
-    if geometry.segments != SEGMENTS {
-        return Err(OpenFault::BadGeometry);
-    }
     let newest = match newest(disk, &geometry) {
         Ok(newest) => newest,
         Err(NewestFault::Damaged(place)) => return Err(OpenFault::Damaged(place)),
         Err(NewestFault::Device) => return Err(OpenFault::Device),
     };
-    let head = match read_head(alloc, disk, &geometry, newest.segment) {
+    let head = match read_placed_head(alloc, disk, &geometry, newest.segment) {
         Ok(head) => head,
         Err(HeadFault::OutOfMemory) => return Err(OpenFault::OutOfMemory),
         Err(HeadFault::Damaged) => return Err(OpenFault::Damaged(segment_place(
@@ -79,7 +87,7 @@ fn read_newest_head<D: Disk>(alloc: Global, disk: &mut D) -> Result<Recovered, O
     };
     Ok(Recovered {
         tail,
-        machine: head.machine,
+        index: Index::begin(geometry, newest.segment, head),
     })
 }
 
@@ -89,17 +97,20 @@ fn replay_group<D: Disk>(
     disk: &mut D,
     found: &mut Recovered,
 ) -> Result<bool, OpenFault>
-    requires shaped { IsShaped (D.state disk.old).size found.old.tail found.old.machine.state }
-    ensures shaped { IsShaped (D.state disk.new).size found.new.tail found.new.machine.state }
-    ensures replayed { (D.state disk.old).honest → IsReplayed (D.state disk.old).seen found.old.tail found.old.machine.state
-        → OnOk result (IsReplayed (D.state disk.old).seen found.new.tail found.new.machine.state) }
-    ensures last { (D.state disk.old).honest → IsReplayed (D.state disk.old).seen found.old.tail found.old.machine.state
-        → result ≡ Ok false → IsLogged (D.state disk.old).seen found.new.tail found.new.machine.state }
-    ensures refused { (D.state disk.old).honest → IsReplayed (D.state disk.old).seen found.old.tail found.old.machine.state
+    requires shaped { IsShaped (D.state disk.old).size found.old.tail found.old.index }
+    requires ends { IsAtEnd found.old.tail found.old.index }
+    ensures shaped { OnOk result (IsShaped (D.state disk.new).size found.new.tail found.new.index) }
+    ensures ends { OnOk result (IsAtEnd found.new.tail found.new.index) }
+    ensures replayed { (D.state disk.old).honest → IsReplayedFor (D.state disk.old).seen found.old.tail found.old.index
+        → OnOk result (IsReplayedFor (D.state disk.old).seen found.new.tail found.new.index) }
+    ensures last { (D.state disk.old).honest → IsReplayedFor (D.state disk.old).seen found.old.tail found.old.index
+        → result ≡ Ok false → IsLoggedFor (D.state disk.old).seen found.new.tail found.new.index }
+    ensures refused { (D.state disk.old).honest → IsReplayedFor (D.state disk.old).seen found.old.tail found.old.index
         → IfErr result (λ fault. IsRefused (D.state disk.old).seen fault) }
     ensures progress { result ≡ Ok true → (found.old.tail.gate < found.new.tail.gate) × (found.new.tail.gate < 2 ^ 64) }
     ensures trace { IsGroupRead D.state found.old.tail found.new.tail result disk.old disk.new }
 {
+    found.index.law_index();
     let at = found.tail.gate;
     let end = segment_end(&found.tail.geometry, found.tail.segment);
     let body = match read_group(alloc, disk, at, end) {
@@ -114,7 +125,7 @@ fn replay_group<D: Disk>(
         Err(DecodeFault::OutOfMemory) => return Err(OpenFault::OutOfMemory),
         Err(DecodeFault::Malformed) => return Err(OpenFault::Damaged(at)),
     };
-    let is_redone = redo(alloc, &mut found.machine, commands)?;
+    let is_redone = redo(alloc, &mut found.index, at, commands)?;
     if !is_redone {
         return Err(OpenFault::Damaged(at));
     }
@@ -122,26 +133,36 @@ fn replay_group<D: Disk>(
     Ok(true)
 }
 
-/// Makes commands one after the other, and says whether each was accepted.
+/// Makes the commands of a group at a gate one after the other, and says whether each was accepted. The index has their payloads
+/// where the group has them.
 fn redo(
     alloc: Global,
-    machine: &mut Machine<Payload>,
+    index: &mut Index,
+    gate: u64,
     commands: Vec<Command<Payload>>,
 ) -> Result<bool, OpenFault>
-    ensures accepted { result ≡ Ok true → AllAccepted length machine.old.state commands.items }
-    ensures state { result ≡ Ok true → machine.new.state ≡ fold length machine.old.state commands.items }
-    ensures refused { result ≡ Ok false → AllAccepted length machine.old.state commands.items → ⊥ }
+    requires have { HaveBody commands.items }
+    requires used { index.old.used ≡ gate }
+    requires room { gate + 5 + length (body_of commands.items) ≤ segment_end index.old.geometry index.old.segment }
+    ensures accepted { result ≡ Ok true → AllAccepted stored_length index.old.spool.state (placed_group gate commands.items) }
+    ensures state { result ≡ Ok true → index.new.spool.state ≡ fold stored_length index.old.spool.state (placed_group gate commands.items) }
+    ensures at { result ≡ Ok true → IsAt index.old.geometry index.old.segment (gate + 5 + length (body_of commands.items)) index.new }
+    ensures refused { result ≡ Ok false → AllAccepted stored_length index.old.spool.state (placed_group gate commands.items) → ⊥ }
     ensures fault { OnErr result (result ≡ Err OpenFault.OutOfMemory) }
-    ensures params { machine.new.state.params ≡ machine.old.state.params }
-    ensures seq { machine.old.state.seq ≤ machine.new.state.seq }
 {
+    index.law_index();
+    let mut place = gate + RECORDS;
     for command in commands {
-        let Ok(room) = machine.reserve_for(alloc, &command) else {
+        index.law_index();
+        let next = place + record_len(&command) as u64;
+        let placed = placed_at(place, command);
+        let Ok(room) = index.reserve_for(alloc, &placed) else {
             return Err(OpenFault::OutOfMemory);
         };
-        if !machine.apply(command, room).is_accepted() {
+        if !index.apply(placed, room, next).is_accepted() {
             return Ok(false);
         }
+        place = next;
     }
     Ok(true)
 }

@@ -3,8 +3,8 @@
 //! A spool of places is an index of the device (`IsIndex`), and stands for a spool with bytes
 //! (`IsKept`; `specs/Keeping.antt`, docs/DEFINITIONS.md, "Keeping"). The laws say that both hold
 //! when a head was read, after the next segment is opened, after each command, and after a group
-//! is written, and what a payload is that is fetched. No function of this crate has a body, and no
-//! journal uses it yet.
+//! is written, and what a payload is that is fetched. No function of this crate has a body; the
+//! invariant of `rly_journal` stands on them.
 #![tactic(auto)]
 
 mod commands;

@@ -3,8 +3,8 @@
 //!
 //! `settle_moved` gives a spool those places, once a head stands that has the victim's payloads
 //! inline (`specs/Moving.antt`; docs/DEFINITIONS.md, "Moving"). `law_moved` says that no payload
-//! lies in the victim after it, which may be opened next. Pure; it takes no memory. No journal uses
-//! it yet.
+//! lies in the victim after it, which may be opened next. Pure; it takes no memory. Callers:
+//! `rly_index` and `rly_settling`.
 #![tactic(auto)]
 
 mod laws;

@@ -8,7 +8,7 @@ use Rattle.rly_disk.specs.MemDisk.{mem_state}
 use Rattle.rly_disk.specs.declared.fault_disk.FaultDisk.{FaultDisk}
 use Rattle.rly_disk.specs.declared.mem.MemDisk.{MemDisk}
 use Rattle.rly_journal.specs.Journal.{JournalState}
-use Rattle.rly_journal.specs.Standing.{Stands}
+use Rattle.rly_standing.specs.Standing.{Stands}
 use Rattle.rly_machine.specs.Fold.{AllAccepted, fold}
 use Rattle.rly_machine.specs.State.{State, new_state}
 use Rattle.rly_pair.specs.declared.spool.Spool.{Spool}

@@ -12,7 +12,7 @@ use Rattle.rly_disk.specs.MemDisk.{mem_state}
 use Rattle.rly_disk.specs.declared.fault_disk.FaultDisk.{FaultDisk}
 use Rattle.rly_disk.specs.declared.mem.MemDisk.{MemDisk}
 use Rattle.rly_journal.specs.Journal.{JournalState}
-use Rattle.rly_journal.specs.Standing.{Stands}
+use Rattle.rly_standing.specs.Standing.{Stands}
 use Rattle.rly_machine.specs.declared.command.Ask.{Ask}
 use Rattle.rly_machine.specs.declared.command.Ask.TheVariants as ask
 use Rattle.rly_machine.specs.declared.reply.Reply.{Reply}
@@ -23,11 +23,9 @@ use Rattle.rly_machine.specs.Fold.{AllAccepted, fold}
 use Rattle.rly_machine.specs.History.{accepted_by, harm, is_failure}
 use Rattle.rly_machine.specs.State.{State, new_state}
 use Rattle.rly_machine.proofs.RealReplies.{harmless}
-use Rattle.rly_pair.specs.declared.station.Harm.{Harm}
-use Rattle.rly_pair.specs.declared.station.Harm.TheVariants as station
 use Rattle.rly_pair.specs.declared.spool.Spool.{Spool}
 use Rattle.rly_pair.specs.declared.spool.Spool.TheVariants.{Open, Shut}
-use Rattle.rly_pair.specs.HelpersStation.{Commands, Gives, IsCalled, IsHarmed, IsSafe, IsSoundStation, IsSpool, IsSpoolCalled, Leaves, Stopped, Works, accepted_in, command_of, harm_number, kept_of, state_at, told_of, told_with}
+use Rattle.rly_pair.specs.HelpersStation.{Commands, Gives, IsCalled, IsHarmed, IsLost, IsSafe, IsSoundStation, IsSpool, IsSpoolCalled, Leaves, Stopped, Works, accepted_in, command_of, kept_of, state_at, told_of, told_with}
 use Rattle.rly_world.specs.PairEnd.{Asked, accepted_after, after_call, may_go, may_want, reply_by, with_made, with_told, Broken, DeviceRead, Done, End, OutOfMemory, Outcome, Replied, Unsure, harm_by, reply_at, state_of, told_by}
 use Rattle.rly_pair.specs.PairSteps.{Calls, Makes, can_go, can_make}
 use Rattle.rly_pair.specs.PairSteps.{Serves as Serving}
@@ -122,25 +120,49 @@ module _ (params : Params) (commands : Commands) (told due harmed : ℕ) (asked 
           },
         )
 
+    -- a call that isn't made for want of memory, or as a read failed
+    unmade_safe : (new : JournalState (FaultDisk MemDisk)) → new.broken ≡ false → new.state ≡ old.state → IsSafe params (commands ++ []) due 0 (Some (Open new))
+    unmade_safe new goes state = record {
+      within = within_still within;
+      held = inl (record {
+        working = goes;
+        unharmed = refl;
+        accepted = subst (AllAccepted length (new_state params)) (sym (append-nil commands)) works.accepted;
+        state = state ∙ works.state ∙ ap (fold length (new_state params)) (sym (append-nil commands));
+      });
+    }
+
+    may_lose : may_want old.state an ≡ true → ((harmed == 0) && may_want (state_of before) an) ≡ true
+    may_lose wants =
+        and_from (harmed == 0) (may_want (state_of before) an) (ap (λ (n : ℕ). n == 0) works.unharmed) (ap (λ (s : State (List ℕ)). may_want s an) (sym state_is) ∙ wants)
+
     starved_left : (new : JournalState (FaultDisk MemDisk)) → new.broken ≡ false → new.state ≡ old.state → may_want old.state an ≡ true → Left an (Refused refusal.OutOfMemory) (Some (Open new))
     starved_left new goes state wants = (
       record {
         outcome = OutOfMemory;
-        can = and_from (harmed == 0) (may_want (state_of before) an) (ap (λ (n : ℕ). n == 0) works.unharmed) (ap (λ (s : State (List ℕ)). may_want s an) (sym state_is) ∙ wants);
+        can = may_lose wants;
         reply_is = refl;
         after = same_shown params told asked replied _ _ _ _ none_kept refl;
         tells = refl;
       },
-      record {
-        within = within_still within;
-        held = inl (record {
-          working = goes;
-          unharmed = refl;
-          accepted = subst (AllAccepted length (new_state params)) (sym (append-nil commands)) works.accepted;
-          state = state ∙ works.state ∙ ap (fold length (new_state params)) (sym (append-nil commands));
-        });
-      },
+      unmade_safe new goes state,
     )
+
+    unread_left : (new : JournalState (FaultDisk MemDisk)) → new.broken ≡ false → new.state ≡ old.state → may_want old.state an ≡ true → Left an (Refused refusal.DeviceRead) (Some (Open new))
+    unread_left new goes state wants = (
+      record {
+        outcome = DeviceRead;
+        can = may_lose wants;
+        reply_is = refl;
+        after = same_shown params told asked replied _ _ _ _ none_kept refl;
+        tells = refl;
+      },
+      unmade_safe new goes state,
+    )
+
+    lost_left : (new : JournalState (FaultDisk MemDisk)) (reply : Reply) → IsLost reply → new.broken ≡ false → new.state ≡ old.state → may_want old.state an ≡ true → Left an reply (Some (Open new))
+    lost_left new reply (inl starved) goes state wants = subst (λ (r : Reply). Left an r (Some (Open new))) (sym starved) (starved_left new goes state wants)
+    lost_left new reply (inr unread) goes state wants = subst (λ (r : Reply). Left an r (Some (Open new))) (sym unread) (unread_left new goes state wants)
 
     unsure_left : (new : JournalState (FaultDisk MemDisk)) → Gives (fault_state mem_state) old new an (Refused refusal.Unsure) → Left an (Refused refusal.Unsure) (Some (Open new))
     unsure_left new gives =
@@ -161,7 +183,7 @@ module _ (params : Params) (commands : Commands) (told due harmed : ℕ) (asked 
               record {
                 harmed_so = (omega arith, omega arith);
                 leaves = λ image left.
-                    elim (gives.leaves tt image left) [
+                    elim (gives.leaves image left) [
                       | inl stayed ↦ record {
                         kept = length commands;
                         has_due = omega (arith, within, ap length all_stand);
@@ -187,7 +209,7 @@ module _ (params : Params) (commands : Commands) (told due harmed : ℕ) (asked 
     works_left new reply (inl serves) =
         elim serves.goes [
           | inl goes ↦ done_left new reply serves.works goes.0 goes.1 goes.2
-          | inr starved ↦ subst (λ (r : Reply). Left an r (Some (Open new))) (sym starved.0) (starved_left new serves.works starved.1 starved.2)
+          | inr lost ↦ lost_left new reply lost.0 serves.works lost.1 lost.2
         ]
     works_left new reply (inr (inl gives)) =
         subst (λ (r : Reply). Left an r (Some (Open new))) (sym gives.reply_is)
@@ -323,7 +345,9 @@ can_may e an Done can = and_from (nat_le e.harm 0) true (ap (λ (n : ℕ). nat_l
 can_may e an (Unsure stands) can =
     and_from (nat_le e.harm 1) true (ap (λ (n : ℕ). nat_le n 1) (eqb-true e.harm 0 (and_parts (e.harm == 0) stands can).0)) refl
 can_may e an Broken can = and_from (nat_le e.harm 2) true (and_parts (nat_lt 0 e.harm) (nat_le e.harm 2) can).1 refl
-can_may e an DeviceRead can = absurd (true≢false (sym can))
+can_may e an DeviceRead can =
+    let parts = and_parts (e.harm == 0) (may_want (state_of e) an) can in
+    and_from (nat_le e.harm 0) true (ap (λ (n : ℕ). nat_le n 0) (eqb-true e.harm 0 parts.0)) refl
 can_may e an OutOfMemory can =
     let parts = and_parts (e.harm == 0) (may_want (state_of e) an) can in
     and_from (nat_le e.harm 0) (may_want (state_of e) an) (ap (λ (n : ℕ). nat_le n 0) (eqb-true e.harm 0 parts.0)) parts.1

@@ -13,7 +13,7 @@ use Rattle.rly_disk.specs.declared.fault_disk.FaultDisk.{FaultDisk}
 use Rattle.rly_disk.specs.declared.mem.MemDisk.{MemDisk}
 use Rattle.rly_hop.specs.declared.message.Message.{Message}
 use Rattle.rly_journal.specs.Journal.{JournalState}
-use Rattle.rly_journal.specs.Standing.{Stands}
+use Rattle.rly_standing.specs.Standing.{Stands}
 use Rattle.rly_machine.specs.declared.command.Ask.{Ask}
 use Rattle.rly_machine.specs.declared.command.Ask.TheVariants as ask
 use Rattle.rly_machine.specs.declared.command.Command.{Command}
@@ -31,13 +31,18 @@ use Rattle.rly_pair.specs.declared.spool.Spool.TheVariants.{Open, Shut}
 use Rattle.rly_pair.specs.declared.station.Harm.{Harm}
 use Rattle.rly_pair.specs.declared.station.Harm.TheVariants.{Whole, Failed, Broken}
 
--- a journal that works made a call: it is replied as by the machine, or refused memory
+-- memory was refused, or a read failed
+abbrev pub IsLost : Reply → Type 0
+IsLost reply = (reply ≡ Refused refusal.OutOfMemory) ⊎ (reply ≡ Refused refusal.DeviceRead)
+
+-- a journal that works made a call: it is replied as by the machine; or, if it may want memory, that was refused, or a read
+-- failed
 pub record Serves {D : Type 0} (old new : JournalState D) (an : Ask) (reply : Reply) : Type 0 where
   pub working : old.broken ≡ false
   pub works : new.broken ≡ false
   pub goes : ((is_failure reply ≡ false) × (reply ≡ (ask_step old.state an).1)
       × (new.state ≡ (ask_step old.state an).0))
-      ⊎ ((reply ≡ Refused refusal.OutOfMemory) × (new.state ≡ old.state) × (may_want old.state an ≡ true))
+      ⊎ (IsLost reply × (new.state ≡ old.state) × (may_want old.state an ≡ true))
 
 -- its device failed: the call stands or not
 pub record Gives {D : Type 0} (state : D → DiskState) (old new : JournalState D) (an : Ask) (reply : Reply)
@@ -45,7 +50,7 @@ pub record Gives {D : Type 0} (state : D → DiskState) (old new : JournalState 
   pub working : old.broken ≡ false
   pub broken : new.broken ≡ true
   pub reply_is : reply ≡ Refused refusal.Unsure
-  pub leaves : (state old.disk).honest → (image : List ℕ) → (state new.disk).images image
+  pub leaves : (image : List ℕ) → (state new.disk).images image
       → Stands image old.state ⊎ Stands image (ask_step old.state an).0
 
 -- it was broken before
@@ -54,6 +59,7 @@ pub record Rests {D : Type 0} (old new : JournalState D) (reply : Reply) : Type 
   pub reply_is : reply ≡ Refused refusal.Broken
   pub same : new ≡ old
 
+-- a call of a journal on an honest disk
 abbrev pub IsCalled : {D : Type 0} → (D → DiskState) → JournalState D → JournalState D → Ask → Reply → Type 0
 IsCalled state old new an reply = Serves old new an reply ⊎ Gives state old new an reply ⊎ Rests old new reply
 

@@ -1,5 +1,5 @@
 -- What two real relays do: which of the events of two relays each step of theirs is.
-use Rattle.std.specs.Prelude.{◌≡◌, ◌⊎◌, ◌≤◌, ◌==◌, ◌&&◌, ℕ, Bool, true, false, nat_le, nat_lt, IsTrue}
+use Rattle.std.specs.Prelude.{◌≡◌, ◌⊎◌, ◌≤◌, ◌==◌, ◌&&◌, ℕ, Bool, true, nat_le, nat_lt, IsTrue}
 use Rattle.std.specs.Prelude.{List, [], ◌∷◌, length, Option, Some, None}
 use Rattle.rly_core.specs.declared.params.Params.{Params}
 use Rattle.rly_machine.specs.declared.command.Ask.{Ask}
@@ -15,12 +15,13 @@ use Rattle.rly_pair.specs.declared.step.Step.TheVariants as step
 use Rattle.rly_world.specs.PairEnd.{with_crash, with_made, with_other, with_told}
 
 -- How a call of an end may go. One whose device failed is broken until the next crash. Where it fails in a call, the
--- command counts as accepted, until a crash takes it away. Memory is refused only to an ask that may want it.
+-- command counts as accepted, until a crash takes it away. Only an ask that may want memory is refused it, or told that a
+-- read failed, which breaks nothing.
 abbrev pub can_go : End → Ask → Outcome → Bool
 can_go e ask Done = e.harm == 0
 can_go e ask (Unsure stands) = (e.harm == 0) && stands
 can_go e ask Broken = nat_lt 0 e.harm && nat_le e.harm 2
-can_go e ask DeviceRead = false
+can_go e ask DeviceRead = (e.harm == 0) && may_want (state_of e) ask
 can_go e ask OutOfMemory = (e.harm == 0) && may_want (state_of e) ask
 
 -- how the first call that waits may go, if one does

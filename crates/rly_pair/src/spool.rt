@@ -7,9 +7,10 @@ ghost use Rattle.rly_pair.specs.HelpersStation.{IsCalled, IsDurableSpool, IsNewS
 
 use rly_core::{Geometry, Refusal};
 use rly_disk::{After, Disk, FaultDisk, MemDisk, Torn};
-use rly_journal::{Journal, law_formatted_stands, law_stands_for_one};
+use rly_journal::Journal;
 use rly_machine::{Ask, Call, Reply, SeatId};
 use rly_segment::{FormatFault, format};
+use rly_standing::{law_formatted_stands, law_stands_for_one};
 use std::alloc::{AllocError, Global};
 
 /// The journal of an end, or its device where that didn't open.
@@ -107,7 +108,7 @@ fn call_journal<D: Disk>(
     ask: Ask,
 ) -> Result<Reply, AllocError>
     ensures err { OnErr result (journal.new ≡ journal.old) }
-    ensures called { IfOk result (λ reply. IsCalled D.state journal.old journal.new ask reply) }
+    ensures called { (D.state journal.old.disk).honest → IfOk result (λ reply. IsCalled D.state journal.old journal.new ask reply) }
 {
     let mut calls = Vec::with_capacity(alloc, 1)?;
     let mut answers = Vec::with_capacity(alloc, 1)?;

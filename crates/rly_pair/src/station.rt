@@ -10,8 +10,8 @@ use crate::calls::{MadeCall, WaitingCall, copy_ask, is_failure};
 use crate::spool::{Fault, Spool, call_spool, disk_of, make_spool, reopen};
 use rly_core::{Geometry, Params, Refusal};
 use rly_disk::Torn;
-use rly_journal::law_stands_for_one;
 use rly_machine::{Ask, Command, Payload, Reply};
+use rly_standing::law_stands_for_one;
 use std::alloc::{AllocError, Global};
 use std::marker::Model;
 

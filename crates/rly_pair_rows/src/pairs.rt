@@ -280,3 +280,47 @@ fn unopened(rt: &impl Abort, alloc: Global) -> Result<(), Fail> {
 fn unopened_lower_sends_no_custody(rt: HostRuntime) -> Result<(), Fail> {
     unopened(&rt, rt.alloc())
 }
+
+/// How many calls the upper makes until it sends a datagram again, once it crashed and a call of its device fails, counted from the
+/// opening's first; if it sends one within four.
+fn calls_until_sent(rt: &impl Abort, alloc: Global, at: u64) -> Result<Option<u64>, Fail> {
+    let mut pair = three_sent(rt, alloc)?;
+    let crash = Step::UpperCrashes {
+        torn: Torn::AsSynced,
+        fault: Fault {
+            at,
+            torn: 0,
+            after: After::GoesOn,
+        },
+    };
+    step(alloc, &mut pair, crash)?;
+    for calls in 1..5 {
+        one_call(alloc, &mut pair)?;
+        if pair.packets().len() > THREE.len() {
+            return Ok(Some(calls));
+        }
+    }
+    Ok(None)
+}
+
+/// An upper whose opening fails sends nothing. The first call after those of the opening is the read of a Fetch: it is told 13, and
+/// the core asks it again. A later call isn't made by then.
+#[test]
+fn fetch_whose_read_fails_is_made_again(rt: HostRuntime) -> Result<(), Fail> {
+    let alloc = rt.alloc();
+    let mut at = 1;
+    for _call in 0..32 {
+        if calls_until_sent(&rt, alloc, at)?.is_some() {
+            break;
+        }
+        at = at.saturating_add(1);
+    }
+    expect(
+        &rt,
+        calls_until_sent(&rt, alloc, at)? == Some(3),
+        "a call more",
+    );
+    let later = calls_until_sent(&rt, alloc, at.saturating_add(1))?;
+    expect(&rt, later == Some(2), "the window and the Fetch");
+    Ok(())
+}

@@ -5,7 +5,7 @@
 //! (docs/DEFINITIONS.md, "Places"). By the live bytes of each segment `choose` finds the segment that
 //! is opened next, and the one that gives up its payloads, without a look at the items. `is_placed`
 //! decides whether a head may have its payloads where they are (`specs/Placed.antt`). Pure; it
-//! takes no memory. A journal keeps every payload in memory as yet.
+//! takes no memory. The payloads of `rly_journal` stand so.
 #![tactic(auto)]
 
 mod choosing;

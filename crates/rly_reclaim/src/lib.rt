@@ -2,7 +2,7 @@
 //! which one that is, and whose payloads move into it.
 //!
 //! `specs/Room.antt` and `specs/Reclaiming.antt` say it (docs/DEFINITIONS.md, "Room"). It takes no
-//! memory and no handle. Callers: `rly_segment`, `rly_journal` and `rly_daemon`, which have two
+//! memory and no handle. Callers: `rly_segment`, `rly_standing` and `rly_daemon`, which have two
 //! segments today and so ask for no victim.
 #![tactic(auto)]
 

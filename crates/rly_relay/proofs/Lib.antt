@@ -1,7 +1,11 @@
 mod RelayDisks
+mod RelayEnds
+mod RelayFetches
 mod RelayLogs
+mod RelayReads
 mod RelayReplies
 mod RelayRounded
+mod RelayRows
 mod RelayServed
 mod RelayServes
 mod RelayShows

@@ -8,9 +8,10 @@ use Rattle.rly_disk.specs.Trace.{images_after, images_at_end, seen_after, seen_a
 use Rattle.rly_disk.specs.Trace as trace
 use Rattle.rly_disk.proofs.Traces.{end_grows}
 use Rattle.rly_relay.specs.Relay.{IsDeviceOf}
+use Rattle.rly_world.specs.RelaySteps.{Run}
 use Rattle.rly_world.specs.RelayWorld.{Device, IsImageOf, World, asked_of, seen_of}
 use Rattle.rly_world.proofs.RelayDevice.{asked_seen, image_asked}
-use Rattle.rly_relay.proofs.RelayWalks.{AreWriting, Broke, Led, Walks, asked_all, asked_joined, cut_walk, walked}
+use Rattle.rly_relay.proofs.RelayWalks.{AreWriting, Broke, Led, Walks, asked_all, asked_joined, cut_walk, led_joined, walked}
 
 pub all_seen : (device : Device) (calls : List DeviceEvent) → seen_of (asked_all device calls) ≡ seen_at_end calls (seen_of device)
 all_seen device [] = refl
@@ -88,24 +89,58 @@ quiet_device disk device call writes is = record {
 
 -- ---- a row of calls that was made of a disk, and walked in its world
 
--- what a row came to
-pub record Came (Is : World → Type 0) (w : World) (new : DiskState) (Ends : World → Type 0) : Type 0 where
+-- what events of the flusher came to, in the world of a disk
+pub record Came (w : World) (new : DiskState) (Ends : World → Type 0) : Type 0 where
   pub calls : List DeviceEvent
   pub led : Led w calls Ends
   pub device : IsDeviceOf new led.next.device
 
-module _ (Is : World → Type 0) (w : World) (old new : DiskState) (calls events : List DeviceEvent) (Ends : World → Type 0) (honest : old.honest)
-    (leads : trace.Leads events old new) (is : IsDeviceOf old w.device) (walk : Walks Is w calls Ends) where
-  pub came_whole : events ≡ calls → Came Is w new Ends
+-- and then more of them
+pub came_then : (w : World) (new : DiskState) (Mid Ends : World → Type 0) (one : Came w new Mid)
+    → ((m : World) → Mid m → IsDeviceOf new m.device → Came m new Ends) → Came w new Ends
+came_then w new Mid Ends one next =
+    let two = next one.led.next one.led.ends one.device in
+    let all = led_joined w one.led.next one.calls two.calls one.led.events one.led.serving one.led.run one.led.device Ends two.led in
+    record {
+      calls = one.calls ++ two.calls;
+      led = all.0;
+      device = subst (λ (u : World). IsDeviceOf new u.device) all.1 two.device;
+    }
+
+-- after events that led to a world
+pub came_after : (w m : World) (new : DiskState) (first : List DeviceEvent) (Ends : World → Type 0) → Led w first (λ v. v ≡ m) → Came m new Ends → Came w new Ends
+came_after w m new first Ends led came =
+    let all = led_joined w m first came.calls led.events led.serving (subst (Run w led.events) led.ends led.run)
+    (ap (λ (u : World). u.device) (sym led.ends) ∙ led.device) Ends came.led in
+    record { calls = first ++ came.calls; led = all.0; device = subst (λ (u : World). IsDeviceOf new u.device) all.1 came.device }
+
+-- the same to another end
+pub came_to : (w : World) (new : DiskState) (Ends Others : World → Type 0) → ((v : World) → Ends v → Others v) → Came w new Ends → Came w new Others
+came_to w new Ends Others to came = record {
+  calls = came.calls;
+  led = record {
+    events = came.led.events;
+    serving = came.led.serving;
+    next = came.led.next;
+    run = came.led.run;
+    device = came.led.device;
+    ends = to came.led.next came.led.ends;
+  };
+  device = came.device;
+}
+
+module _ (Is : World → Type 0) (w : World) (new : DiskState) (calls events : List DeviceEvent) (Ends : World → Type 0)
+    (there : IsDeviceOf new (asked_all w.device events)) (walk : Walks Is w calls Ends) where
+  pub came_whole : events ≡ calls → Came w new Ends
   came_whole all =
       let led = walked Is w calls Ends walk in
       record {
         calls = calls;
         led = led;
-        device = subst (IsDeviceOf new) (ap (asked_all w.device) all ∙ sym led.device) (device_goes_on old new w.device events honest leads is);
+        device = subst (IsDeviceOf new) (ap (asked_all w.device) all ∙ sym led.device) there;
       }
 
-  pub came_cut : (spent : Bool) → AllByRecursion AreWriting calls → IsCut spent calls events → Came Is w new (Broke Is)
+  pub came_cut : (spent : Bool) → AllByRecursion AreWriting calls → IsCut spent calls events → Came w new (Broke Is)
   came_cut spent writing cut = ⊎_elim
       (λ failed.
       let led = cut_walk Is w failed.done failed.rest failed.call failed.last Ends (writing_at failed.done failed.call failed.rest (subst (AllByRecursion AreWriting) failed.calls_are writing))
@@ -113,7 +148,7 @@ module _ (Is : World → Type 0) (w : World) (old new : DiskState) (calls events
       record {
         calls = failed.done ++ failed.last ∷ [];
         led = led;
-        device = subst (IsDeviceOf new) (ap (asked_all w.device) failed.events_are ∙ sym led.device) (device_goes_on old new w.device events honest leads is);
+        device = subst (IsDeviceOf new) (ap (asked_all w.device) failed.events_are ∙ sym led.device) there;
       })
       (λ uncounted.
       let last = uncounted.1 in
@@ -123,7 +158,7 @@ module _ (Is : World → Type 0) (w : World) (old new : DiskState) (calls events
         calls = events ++ quiet last.call ∷ [];
         led = led;
         device = subst (IsDeviceOf new) (sym (asked_joined w.device events (quiet last.call ∷ [])) ∙ sym led.device)
-            (quiet_device new (asked_all w.device events) last.call writes (device_goes_on old new w.device events honest leads is));
+            (quiet_device new (asked_all w.device events) last.call writes there);
       })
       cut
     where

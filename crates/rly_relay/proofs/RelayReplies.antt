@@ -1,13 +1,14 @@
 -- Answers are put in the reply lines, batch after batch.
-use Rattle.std.proofs.Common.{ℕ, ◌≡◌, ◌≤◌, ◌<◌, ◌+◌, ◌-◌, ◌++◌, ◌∙◌, suc, zero, List, [], ◌∷◌, Some, None, length, take, drop, map, set, get_or, arith, ap, refl, sym, subst, inl, length-append}
+use Rattle.std.proofs.Common.{ℕ, ◌≡◌, ◌≤◌, ◌<◌, ◌+◌, ◌-◌, ◌++◌, ◌∙◌, suc, zero, Bool, List, [], ◌∷◌, Some, None, length, take, drop, map, set, get_or, arith, ap, refl, sym, subst, inl, length-append}
 use Rattle.std.specs.List.{AllByRecursion}
 use Rattle.std.proofs.lemmas.List.{append-nil, get_or-map, length-drop, length-map, map-set, set_past, take-append-drop, take_all}
+use Rattle.std.proofs.lemmas.List.Edits.{map_over_more}
 use Rattle.std.proofs.Math.Seq.{drop-length, map-set_same}
 use Rattle.rly_machine.specs.declared.call.Answer.{Answer}
-use Rattle.rly_journal.proofs.Serving.{mark_next}
-use Rattle.rly_world.specs.RelaySteps.{Event, HasPlace, Run, after, all_replied, greatest, replied}
+use Rattle.rly_world.specs.RelaySteps.{AreRead, Event, HasPlace, Run, after, all_replied, greatest, replied}
 use Rattle.rly_world.specs.RelaySteps as event
-use Rattle.rly_world.specs.RelayWorld.{Answering, Batch, SeatView, World, calls_of, new_seat}
+use Rattle.rly_world.specs.RelayWorld.{Batch, SeatView, World, calls_of, new_seat}
+use Rattle.rly_relay.specs.HelpersRounds.{to_answer}
 use Rattle.rly_relay.specs.HelpersSeats.{HaveRoom, RoomySeat, views_of}
 use Rattle.rly_relay.specs.RelayRounds.{IsServing}
 
@@ -17,21 +18,29 @@ all_replied_joined seats [] second = refl
 all_replied_joined seats (answer ∷ first) second = all_replied_joined (replied seats answer) first second
 
 -- a round that is to be answered
-abbrev pub answering : World → List Batch → List Answer → World
-answering w batches answers = record w { round = Some (record { stage = Answering; batches = batches; answers = answers }) }
+abbrev pub answering : World → List Batch → List Answer → Bool → World
+answering w batches answers failed = record w { round = Some (to_answer batches answers failed) }
+
+-- so the rest of its answers may be put
+read_after : (batches : List Batch) (answers : List Answer) (failed : Bool) (n : ℕ) → AreRead (to_answer batches answers failed)
+    → AreRead (to_answer batches (drop n answers) failed)
+read_after batches answers failed zero read = read
+read_after batches [] failed (suc n) read = read
+read_after batches (answer ∷ answers) failed (suc n) read = read_after batches answers failed n read.1
 
 -- all answers of a round are put
-pub record Puts (w : World) (batches : List Batch) (answers : List Answer) : Type 0 where
+pub record Puts (w : World) (batches : List Batch) (answers : List Answer) (failed : Bool) : Type 0 where
   pub events : List Event
   pub serving : AllByRecursion IsServing events
   pub told : ℕ
-  pub run : Run (answering w batches answers) events
+  pub run : Run (answering w batches answers failed) events
       (record w { seats = all_replied w.seats answers; round = None; told = told })
 
-pub puts : (w : World) (batch : Batch) (batches : List Batch) (answers : List Answer)
-    → length answers ≡ length (calls_of (batch ∷ batches)) → Puts w (batch ∷ batches) answers
-puts w batch [] answers count =
-    let v : World = answering w (batch ∷ []) answers in
+pub puts : (w : World) (batch : Batch) (batches : List Batch) (answers : List Answer) (failed : Bool)
+    → length answers ≡ length (calls_of (batch ∷ batches)) → AreRead (to_answer (batch ∷ batches) answers failed)
+    → Puts w (batch ∷ batches) answers failed
+puts w batch [] answers failed count read =
+    let v : World = answering w (batch ∷ []) answers failed in
     let most : length answers ≤ length batch = omega (arith, count, ap length (append-nil batch)) in
     let all : take (length batch) answers ≡ answers = take_all (length batch) answers most in
     record {
@@ -40,26 +49,26 @@ puts w batch [] answers count =
       told = greatest w.told (take (length batch) answers);
       run = (
         after v event.Answers,
-        inl ((record { stage = Answering; batches = batch ∷ []; answers = answers }, refl, refl), refl),
+        inl ((to_answer (batch ∷ []) answers failed, refl, (refl, read)), refl),
         ap (λ l. record w { seats = all_replied w.seats l; round = None; told = greatest w.told (take (length batch) answers) }) (sym all),
       );
     }
-puts w batch (next ∷ batches) answers count =
-    let v : World = answering w (batch ∷ next ∷ batches) answers in
+puts w batch (next ∷ batches) answers failed count read =
+    let v : World = answering w (batch ∷ next ∷ batches) answers failed in
     let first : List Answer = take (length batch) answers in
     let others : List Answer = drop (length batch) answers in
     let mid : World = record w { seats = all_replied w.seats first; told = greatest w.told first } in
     let left : length others ≡ length (calls_of (next ∷ batches)) =
     omega (arith, length-drop (length batch) answers, count, length-append batch (calls_of (next ∷ batches))) in
-    let rest = puts mid next batches others left in
+    let rest = puts mid next batches others failed left (read_after (next ∷ batches) answers failed (length batch) read) in
     record {
       events = event.Answers ∷ rest.events;
       serving = (tt, rest.serving);
       told = rest.told;
       run = (
         after v event.Answers,
-        inl ((record { stage = Answering; batches = batch ∷ next ∷ batches; answers = answers }, refl, refl), refl),
-        subst (Run (answering mid (next ∷ batches) others) rest.events)
+        inl ((to_answer (batch ∷ next ∷ batches) answers failed, refl, (refl, read)), refl),
+        subst (Run (answering mid (next ∷ batches) others failed) rest.events)
             (ap (λ s. record w { seats = s; round = None; told = rest.told })
             (all_replied_joined w.seats first others ∙ ap (all_replied w.seats) (take-append-drop (length batch) answers))) rest.run,
       );
@@ -137,12 +146,17 @@ pub room_next : (n : ℕ) (seats : List RoomySeat) (i : ℕ) (seat : RoomySeat) 
 room_next n seats i seat least room =
     subst (λ k. HaveRoom n (take k (set seats i seat))) (let e : suc i ≡ i + 1 = omega arith in e) (room_after n seats i seat least room)
 
+read_again : {A : Type 0} (xs : List A) (i : ℕ) (d : A) → get_or xs i d ≡ get_or xs i (get_or xs i d)
+read_again [] i d = refl
+read_again (x ∷ xs) zero d = refl
+read_again (x ∷ xs) (suc i) d = read_again xs i d
+
 pub forgot_next : (seats : List RoomySeat) (first : List SeatView) (i : ℕ) (seat : RoomySeat) → i < length first → seat.seat ≡ new_seat
     → views_of seats ≡ map (λ s. new_seat) (take i first) ++ drop i first
     → views_of (set seats i seat) ≡ map (λ s. new_seat) (take (i + 1) first) ++ drop (i + 1) first
 forgot_next seats first i seat there is so_far =
-    views_set seats i seat
-    ∙ mark_next (λ (s : SeatView). new_seat) first (views_of seats) i new_seat seat.seat there so_far is
+    views_set seats i seat ∙ ap (λ (v : SeatView). set (views_of seats) i v) is
+    ∙ map_over_more (λ (s : SeatView). new_seat) first (views_of seats) i (get_or (views_of seats) i new_seat) there so_far (read_again (views_of seats) i new_seat)
 
 -- ---- a seat by its index
 

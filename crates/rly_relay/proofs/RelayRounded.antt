@@ -119,11 +119,11 @@ module _ (most : ℕ) (old : RelayState) (journal : JournalState TheDisk) (opene
             position = served.position;
             is_broken = served.broken;
           } in
-          let put = puts ended batch batches answers (count ∙ ap length (sym are)) in
+          let put = puts ended batch batches answers served.failed (count ∙ ap length (sym are)) served.read in
           let next : World = record ended { seats = all_replied w.seats answers; round = None; told = put.told } in
           let run : Run v (served.events ++ put.events) next = run_joined v served.next next served.events put.events served.run
           (subst (λ u. Run u put.events next) (sym served.next_is) put.run) in
-          let world_then : IsWorldOf new (answering ended (batch ∷ batches) answers) = subst (IsWorldOf new) served.next_is served.world in
+          let world_then : IsWorldOf new (answering ended (batch ∷ batches) answers served.failed) = subst (IsWorldOf new) served.next_is served.world in
           record {
             next = next;
             rounds = record {

@@ -15,8 +15,8 @@ use Rattle.rly_machine.specs.State.{State}
 use Rattle.rly_gate.specs.Reading.{OnlyRead}
 use Rattle.rly_segment.specs.Formatted.{IsFormatted}
 use Rattle.rly_journal.specs.Journal.{JournalState}
-use Rattle.rly_journal.specs.Standing.{Stands}
-use Rattle.rly_journal.proofs.Once.{stands_for_one}
+use Rattle.rly_standing.specs.Standing.{Stands}
+use Rattle.rly_standing.proofs.Once.{stands_for_one}
 use Rattle.rly_relay.specs.Relay.{Happened, IsCrash, IsOnly, IsOpening, IsReached, IsSpoolOf, RelayState, Shows, disk_in}
 use Rattle.rly_world.specs.RelaySteps.{Crash, Event, FailedOpening, Happens, HasPlace, Hears, Opening, Put, Run, after, calls_from, heard, put, seat_at}
 use Rattle.rly_world.specs.RelayWorld.{Batch, SeatView, World, new_seat, new_world, seen_of, state_from}

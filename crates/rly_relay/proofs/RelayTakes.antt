@@ -6,7 +6,7 @@ use Rattle.std.proofs.lemmas.Grind.{flat_map-append}
 use Rattle.std.proofs.lemmas.List.{append-nil}
 use Rattle.rly_machine.specs.declared.call.Call.{Call}
 use Rattle.rly_world.specs.RelaySteps.{Event, Happens, MayTake, Takes, joined}
-use Rattle.rly_world.specs.RelayWorld.{Batch, Round, Taking, World, batches_in, calls_of}
+use Rattle.rly_world.specs.RelayWorld.{Batch, Round, Taking, World, batches_in, calls_of, has_failed_read}
 use Rattle.rly_relay.specs.HelpersRounds.{AreSome, Gathered, IsNoneLeft, TakesOne, round_of, taken_world}
 use Rattle.rly_relay.specs.RelayRounds.{Gathers, may_take}
 
@@ -19,7 +19,7 @@ batches_of [] = refl
 batches_of (batch ∷ batches) = refl
 
 round_more : (batches : List Batch) (batch : Batch)
-    → (let r : Option Round = Some (record { stage = Taking; batches = batches_in (round_of batches) ++ batch ∷ []; answers = [] }) in r)
+    → (let r : Option Round = Some (record { stage = Taking; batches = batches_in (round_of batches) ++ batch ∷ []; answers = []; read_failed = has_failed_read (round_of batches) }) in r)
     ≡ round_of (batches ++ batch ∷ [])
 round_more [] batch = refl
 round_more (first ∷ batches) batch = refl
@@ -55,7 +55,7 @@ joined_world w line batches calls batch some one are fits is = by_room fits
 
     joined_by : Bool → World
     joined_by b = if b then record v {
-      round = Some (record { stage = Taking; batches = batches_in (round_of batches) ++ batch ∷ []; answers = [] });
+      round = Some (record { stage = Taking; batches = batches_in (round_of batches) ++ batch ∷ []; answers = []; read_failed = has_failed_read (round_of batches) });
     } else record v { kept = Some batch }
 
     by_room : (b : Bool) → nat_le (length (calls_of (batches_in (round_of batches) ++ batch ∷ []))) 64 ≡ b

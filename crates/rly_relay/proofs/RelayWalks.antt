@@ -77,6 +77,21 @@ led_more w v call calls Ends between may led = record {
   ends = led.ends;
 }
 
+-- events after events, which lead to the same world
+pub led_joined : (w m : World) (first second : List DeviceEvent) (events : List Event) → AllByRecursion IsServing events → Run w events m
+    → m.device ≡ asked_all w.device first → (Ends : World → Type 0) (led : Led m second Ends) → (all : Led w (first ++ second) Ends) × (led.next ≡ all.next)
+led_joined w m first second events serving run device Ends led = (
+  record {
+    events = events ++ led.events;
+    serving = all_joined IsServing events led.events serving led.serving;
+    next = led.next;
+    run = run_joined w m led.next events led.events run led.run;
+    device = led.device ∙ ap (λ d. asked_all d second) device ∙ sym (asked_joined w.device first second);
+    ends = led.ends;
+  },
+  refl,
+)
+
 -- all calls are made
 pub walked : (Is : World → Type 0) (w : World) (calls : List DeviceEvent) (Ends : World → Type 0) → Walks Is w calls Ends → Led w calls Ends
 walked Is w [] Ends walk = record {

@@ -1,6 +1,6 @@
 -- The parts of a round of a relay.
-use Rattle.std.specs.Prelude.{◌≡◌, ◌≢◌, ◌⊎◌, ◌++◌, ℕ, Bool, nat_le, if◌then◌else◌, List, [], ◌∷◌, Option, Some, None}
-use Rattle.std.specs.Prelude.{length}
+use Rattle.std.specs.Prelude.{◌≡◌, ◌≢◌, ◌⊎◌, ◌++◌, ℕ, Bool, false, nat_le, if◌then◌else◌, List, [], ◌∷◌, Option}
+use Rattle.std.specs.Prelude.{Some, None, length}
 use Rattle.std.specs.List.{AllByRecursion}
 use Rattle.rly_core.specs.Bounds.{IsIn}
 use Rattle.rly_disk.specs.FaultDisk.{inner_of}
@@ -10,9 +10,9 @@ use Rattle.rly_disk.specs.declared.mem.MemDisk.{MemDisk}
 use Rattle.rly_machine.specs.declared.call.Answer.{Answer}
 use Rattle.rly_machine.specs.declared.call.Call.{Call}
 use Rattle.rly_journal.specs.Journal.{JournalState}
-use Rattle.rly_world.specs.RelaySteps.{Event, Run}
+use Rattle.rly_world.specs.RelaySteps.{AreRead, Event, Run}
 use Rattle.rly_world.specs.RelayWorld.{Answering, Batch, Device, Round, Taking, World, calls_of}
-use Rattle.rly_journal.specs.Standing.{Commands}
+use Rattle.rly_standing.specs.Standing.{Commands}
 use Rattle.rly_relay.specs.Relay.{IsDeviceOf, IsReached, IsSpoolOf}
 use Rattle.rly_relay.specs.RelayRounds.{Gathers, IsServing}
 use Rattle.rly_relay.specs.declared.spool.Spool.TheVariants.{Opened}
@@ -38,10 +38,14 @@ pub record TakesOne (kept : Option Batch) (line : List Batch) (calls : List Call
   pub kept_is : kept_then ≡ (if nat_le (length (calls ++ batch)) 64 then None else Some batch)
   pub calls_are : calls_then ≡ (if nat_le (length (calls ++ batch)) 64 then calls ++ batch else calls)
 
+-- a round that takes batches, with no read made for it
+abbrev pub taking : List Batch → Round
+taking batches = record { stage = Taking; batches = batches; answers = []; read_failed = false }
+
 -- the round in hand of batches, if there are any
 abbrev pub round_of : List Batch → Option Round
 round_of [] = None
-round_of (batch ∷ batches) = Some (record { stage = Taking; batches = batch ∷ batches; answers = [] })
+round_of (batch ∷ batches) = Some (taking (batch ∷ batches))
 
 -- a world whose flusher took batches
 abbrev pub taken_world : World → Option Batch → List Batch → List Batch → World
@@ -65,6 +69,11 @@ pub record IsWorldOf (journal : JournalState (FaultDisk MemDisk)) (w : World) : 
   pub device : IsDeviceOf (mem_state (inner_of journal.disk)) w.device
   pub spool : IsSpoolOf (Opened journal) w
 
+-- a round that is to be answered
+abbrev pub to_answer : List Batch → List Answer → Bool → Round
+to_answer batches answers failed =
+    record { stage = Answering; batches = batches; answers = answers; read_failed = failed }
+
 -- in the world of a journal, events of the flusher lead to one whose round is to be answered
 pub record Served (new : JournalState (FaultDisk MemDisk)) (batches : List Batch) (answers : List Answer) (w : World)
     : Type 0 where
@@ -76,8 +85,10 @@ pub record Served (new : JournalState (FaultDisk MemDisk)) (batches : List Batch
   pub accepted : Commands
   pub position : ℕ
   pub broken : Bool
+  pub failed : Bool
+  pub read : AreRead (to_answer batches answers failed)
   pub next_is : next ≡ record w {
-    round = Some (record { stage = Answering; batches = batches; answers = answers });
+    round = Some (to_answer batches answers failed);
     device = device;
     accepted = accepted;
     position = position;
@@ -88,5 +99,5 @@ pub record Served (new : JournalState (FaultDisk MemDisk)) (batches : List Batch
 abbrev pub Serves : JournalState (FaultDisk MemDisk) → JournalState (FaultDisk MemDisk) → List Call → List Answer
     → Type 0
 Serves old new calls answers = (w : World) (batches : List Batch) → IsReached w → IsWorldOf old w
-    → w.round ≡ Some (record { stage = Taking; batches = batches; answers = [] }) → calls_of batches ≡ calls
+    → w.round ≡ Some (taking batches) → calls_of batches ≡ calls
     → Served new batches answers w

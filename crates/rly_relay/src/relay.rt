@@ -3,8 +3,7 @@
 ghost use Rattle.std.specs.Prelude.{◌≡◌, ◌<◌, [], ℕ, List, None, Err, IfOk, OnErr, OnOk, map, replicate, slice_index_or};
 ghost use Rattle.rly_disk.specs.DiskModel.{Settled};
 ghost use Rattle.rly_disk.specs.MemDisk.{mem_state};
-ghost use Rattle.rly_segment.specs.Device.{device_length};
-ghost use Rattle.rly_journal.specs.Layout.{IsGeometry};
+ghost use Rattle.rly_segment.specs.Device.{IsLayout, device_length};
 ghost use Rattle.rly_segment.specs.Formatted.{IsFormatted};
 ghost use Rattle.rly_world.specs.RelaySteps.{Hears, Put};
 ghost use Rattle.rly_world.specs.RelayWorld.{new_seat, new_world};
@@ -17,7 +16,7 @@ use crate::round::{MAX_CALLS, gather, reply_all, reserve, serve};
 use crate::seat::Seat;
 use crate::spool::Spool;
 use crate::step::Step;
-use rly_core::limits::SEGMENTS;
+use rly_core::limits::MAX_SEGMENTS;
 use rly_core::{Geometry, Refusal};
 use rly_disk::{After, FaultDisk, MemDisk, Torn};
 use rly_journal::Journal;
@@ -62,7 +61,7 @@ impl Relay {
     pub fn new(alloc: Global, geometry: &Geometry, seats: u16) -> Result<Relay, Refusal>
         ensures world { IfOk result (λ relay. (bytes : List ℕ) × IsFormatted geometry.now bytes
             × Shows relay (new_world geometry.now.params seats bytes)) }
-        ensures refused { result ≡ Err Refusal.BadGeometry → ¬ IsGeometry geometry.now (device_length geometry.now) }
+        ensures refused { result ≡ Err Refusal.BadGeometry → ¬ IsLayout geometry.now (device_length geometry.now) }
     {
         let disk = new_disk(alloc, geometry)?;
         let Ok(seats) = new_seats(alloc, seats) else {
@@ -202,9 +201,9 @@ impl Relay {
 fn new_disk(alloc: Global, geometry: &Geometry) -> Result<MemDisk, Refusal>
     ensures formatted { IfOk result (λ disk. IsFormatted geometry.now (mem_state disk).seen) }
     ensures settled { IfOk result (λ disk. Settled (mem_state disk)) }
-    ensures refused { result ≡ Err Refusal.BadGeometry → ¬ IsGeometry geometry.now (device_length geometry.now) }
+    ensures refused { result ≡ Err Refusal.BadGeometry → ¬ IsLayout geometry.now (device_length geometry.now) }
 {
-    if geometry.segments != SEGMENTS || geometry.length >= SEGMENT_LENGTH_LIMIT {
+    if geometry.segments > MAX_SEGMENTS || geometry.length >= SEGMENT_LENGTH_LIMIT {
         return Err(Refusal::BadGeometry);
     }
     let size = FIRST_SEGMENT + geometry.segments * geometry.length;

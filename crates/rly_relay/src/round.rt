@@ -101,6 +101,7 @@ pub(crate) fn serve(
     ensures count { length answers.new.items ≡ length calls.old.items }
 {
     journal.law_tail();
+    journal.law_counted();
     journal.law_renewed();
     let made = journal.round(alloc, calls, answers);
     prove!(made.is_ok());

@@ -1,5 +1,5 @@
-//! Three cycles on two segments: 32 datagrams are taken, picked and fetched, and from the second cycle on those of the cycle
-//! before are released.
+//! Three cycles, on two segments and on four: 32 datagrams are taken, picked and fetched, and from the second cycle on those of the
+//! cycle before are released.
 use rly_core::{Geometry, HopId, Params, PeerId};
 use rly_disk::{After, Torn};
 use rly_machine::{Ask, Command, HopStatus, Payload, Query, Reply, SeatId};
@@ -24,6 +24,13 @@ pub(crate) const DEVICE: Geometry = Geometry {
     length: 156_908,
 };
 
+/// The least device of four segments for them.
+const BROAD_DEVICE: Geometry = Geometry {
+    segments: 4,
+    length: 105_708,
+    ..DEVICE
+};
+
 /// So many datagrams are taken in a cycle.
 const CYCLE: u64 = 32;
 
@@ -43,7 +50,7 @@ const FIRST_IDS: [u64; 3] = [1, 65, 130];
 
 /// What is asked in a round, of the numbers of a range.
 #[derive(Clone, Copy)]
-enum Kind {
+pub(crate) enum Kind {
     Take,
     Pick,
     Fetch,
@@ -52,7 +59,7 @@ enum Kind {
 }
 
 /// What is asked of a number.
-fn ask(alloc: Global, kind: Kind, number: u64) -> Result<Ask, AllocError> {
+pub(crate) fn ask(alloc: Global, kind: Kind, number: u64) -> Result<Ask, AllocError> {
     Ok(match kind {
         Kind::Take => Ask::Command(Command::Take {
             peer: PEER,
@@ -111,7 +118,7 @@ pub(crate) fn step(rt: &impl Abort, relay: &mut Relay, next: Step) {
 }
 
 /// Asks all numbers from one on in one round, hears the answers, and expects those that are due.
-fn round(
+pub(crate) fn round(
     rt: &impl Abort,
     alloc: Global,
     relay: &mut Relay,
@@ -151,55 +158,39 @@ pub(crate) fn open(rt: &impl Abort, relay: &mut Relay) {
     );
 }
 
-#[test]
-fn three_cycles(rt: HostRuntime) -> Result<(), Fail> {
-    let Ok(mut relay) = Relay::new(rt.alloc(), &DEVICE, 1) else {
+/// Makes three cycles on a new device.
+fn cycle(rt: &impl Abort, alloc: Global, device: &Geometry) -> Result<(), AllocError> {
+    let Ok(mut relay) = Relay::new(alloc, device, 1) else {
         panic!(rt; "no relay");
     };
-    open(&rt, &mut relay);
+    open(rt, &mut relay);
     let mut first = 1u64;
     for first_id in FIRST_IDS {
         let oldest = first.saturating_sub(CYCLE).max(1);
         let flying = first.saturating_add(CYCLE).saturating_sub(oldest);
-        round(
-            &rt,
-            rt.alloc(),
-            &mut relay,
-            Kind::Take,
-            (first, first_id),
-            CYCLE,
-        )?;
-        round(
-            &rt,
-            rt.alloc(),
-            &mut relay,
-            Kind::Pick,
-            (first, first_id),
-            CYCLE,
-        )?;
-        round(
-            &rt,
-            rt.alloc(),
-            &mut relay,
-            Kind::Fetch,
-            (oldest, 0),
-            flying,
-        )?;
+        round(rt, alloc, &mut relay, Kind::Take, (first, first_id), CYCLE)?;
+        round(rt, alloc, &mut relay, Kind::Pick, (first, first_id), CYCLE)?;
+        round(rt, alloc, &mut relay, Kind::Fetch, (oldest, 0), flying)?;
         if first > 1 {
-            round(
-                &rt,
-                rt.alloc(),
-                &mut relay,
-                Kind::Release,
-                (first - 1, 0),
-                1,
-            )?;
+            round(rt, alloc, &mut relay, Kind::Release, (first - 1, 0), 1)?;
         }
         first = first.saturating_add(CYCLE);
     }
-    round(&rt, rt.alloc(), &mut relay, Kind::Show, (1, 0), 1)?;
-    step(&rt, &mut relay, Step::Crash(Torn::AsSynced));
-    open(&rt, &mut relay);
-    round(&rt, rt.alloc(), &mut relay, Kind::Show, (1, 0), 1)?;
+    round(rt, alloc, &mut relay, Kind::Show, (1, 0), 1)?;
+    step(rt, &mut relay, Step::Crash(Torn::AsSynced));
+    open(rt, &mut relay);
+    round(rt, alloc, &mut relay, Kind::Show, (1, 0), 1)?;
+    Ok(())
+}
+
+#[test]
+fn three_cycles(rt: HostRuntime) -> Result<(), Fail> {
+    cycle(&rt, rt.alloc(), &DEVICE)?;
+    Ok(())
+}
+
+#[test]
+fn three_cycles_on_four_segments(rt: HostRuntime) -> Result<(), Fail> {
+    cycle(&rt, rt.alloc(), &BROAD_DEVICE)?;
     Ok(())
 }

@@ -13,7 +13,7 @@ use std::test::Fail;
 const ROUNDS: usize = 9;
 
 /// Those rounds. The second segment is opened before the eighth: the offset 5,074 of the gate and 78,280 exceed 82,908.
-fn steps() -> [Step; ROUNDS] {
+pub(crate) fn steps() -> [Step; ROUNDS] {
     [
         take(1, 0, 1_200),
         take(2, 0, 1_200),

@@ -1,9 +1,10 @@
-//! A journal where a bound of the code's own would hide: 64 of the longest datagrams in a round, a head above 64 KiB, the
-//! greatest spool, a head past the first MiB, generations past 65,535, the last command of a spool's life, and the greatest
-//! numbers.
+//! A journal where a bound of the code's own would hide: 64 of the longest datagrams in a round, heads above 64 KiB, the greatest
+//! spool on two segments and on three, a head past the first MiB, generations past 65,535, the last command of a spool's life, and
+//! the greatest numbers.
 use crate::comparison::{expect_replies, is_same};
 use crate::device::{DEVICE_E, SECOND_GATE, SIZE, bytes_of, device_e, formatted, opened};
 use crate::script::{HOP, Step, ask_all};
+use crate::stored_devices::stand_at;
 use rly_checkpoint::read_checkpoint;
 use rly_core::{Geometry, Params, Refusal};
 use rly_disk::MemDisk;
@@ -63,7 +64,18 @@ fn takes(alloc: Global, first: u64, length: usize) -> Result<Vec<Step>, AllocErr
     Ok(steps)
 }
 
-/// Two rounds of 64 Takes and one of 64 Picks, after which a segment is due. Its head has all 128 datagrams.
+/// Fetches 64 datagrams, from a number on.
+fn fetches(alloc: Global, first: u64) -> Result<Vec<Step>, AllocError> {
+    let mut steps = Vec::new(alloc);
+    for before in 0..64 {
+        let number = first.saturating_add(before);
+        steps.push(Step::Fetch { number })?;
+    }
+    Ok(steps)
+}
+
+/// Two rounds of 64 Takes and one of 64 Picks, after which a segment is due. Its head has 128 datagrams. Those in flight are fetched
+/// from their group, and from the head, each time after an opening.
 #[test]
 fn sixty_four_of_the_longest_in_a_round(rt: HostRuntime) -> Result<(), Fail> {
     let alloc = rt.alloc();
@@ -77,6 +89,9 @@ fn sixty_four_of_the_longest_in_a_round(rt: HostRuntime) -> Result<(), Fail> {
     }
     let picks = [Step::Pick { now: 0 }; 64];
     ask_both(&rt, alloc, (&mut journal, &mut machine), &picks)?;
+    let mut journal = opened(&rt, alloc, journal.into_disk());
+    let fetches = fetches(alloc, 1)?;
+    ask_both(&rt, alloc, (&mut journal, &mut machine), &fetches)?;
     let release = [Step::Release { number: 1 }];
     ask_both(&rt, alloc, (&mut journal, &mut machine), &release)?;
     expect!(rt; machine.item_count() == 127);
@@ -85,11 +100,10 @@ fn sixty_four_of_the_longest_in_a_round(rt: HostRuntime) -> Result<(), Fail> {
     assert!(rt; bytes.len() == WIDE_SIZE);
     expect!(rt; &bytes[235_501..235_513] == WIDE_HEAD.as_slice());
     let mut journal = opened(&rt, alloc, disk);
+    ask_both(&rt, alloc, (&mut journal, &mut machine), &fetches)?;
     let last = [
         Step::Show,
         Step::Window,
-        Step::Fetch { number: 2 },
-        Step::Fetch { number: 64 },
         Step::Release { number: 64 },
         Step::Pick { now: 0 },
         Step::Fetch { number: 65 },
@@ -115,60 +129,104 @@ const FULL: Geometry = Geometry {
     length: 17_297_964,
 };
 
-/// How many bytes that device has.
-const FULL_SIZE: usize = 34_595_992;
+/// The same on three segments of their least length.
+const FULL_THREE: Geometry = Geometry {
+    segments: 3,
+    length: 8_909_356,
+    ..FULL
+};
 
-/// The generation and the length of the head of its second segment: 2, and 17,088,599 bytes, which are 87 and 1,043 for each of
-/// 16,384.
-const FULL_HEAD: [u8; 12] = [0, 0, 0, 0, 0, 0, 0, 2, 0x01, 0x04, 0xc0, 0x57];
+/// What a device is filled by, and the heads that it has then: the place after each gate, and generation and length.
+#[derive(Clone, Copy)]
+struct Filling<'a> {
+    geometry: &'a Geometry,
+    size: usize,
+    turns: u64,
+    heads: &'a [(usize, [u8; 12])],
+}
 
-/// Takes 16,384 datagrams of 1,024 bytes, sends 64 on, and takes 64 more. Then a segment is due: the offset 17,223,684 and
-/// 78,280 exceed 17,297,964.
+/// Takes 16,384 datagrams of 1,024 bytes. Then it sends 64 on and takes 64 more, in so many turns.
 fn fill(
     rt: &impl Abort,
     alloc: Global,
     journal: &mut Journal<MemDisk>,
     machine: &mut Machine<Payload>,
+    turns: u64,
 ) -> Result<(), AllocError> {
     for round in 0..256 {
         let steps = takes(alloc, 64 * round + 1, 1_024)?;
         ask_both(rt, alloc, (&mut *journal, &mut *machine), &steps)?;
     }
     let picks = [Step::Pick { now: 0 }; 64];
-    ask_both(rt, alloc, (&mut *journal, &mut *machine), &picks)?;
-    let release = [Step::Release { number: 64 }];
-    ask_both(rt, alloc, (&mut *journal, &mut *machine), &release)?;
-    let steps = takes(alloc, 16_385, 1_024)?;
-    ask_both(rt, alloc, (journal, machine), &steps)
+    for turn in 1..=turns {
+        let number = 64 * turn.min(5);
+        ask_both(rt, alloc, (&mut *journal, &mut *machine), &picks)?;
+        let release = [Step::Release { number }];
+        ask_both(rt, alloc, (&mut *journal, &mut *machine), &release)?;
+        let steps = takes(alloc, 16_321 + number, 1_024)?;
+        ask_both(rt, alloc, (&mut *journal, &mut *machine), &steps)?;
+    }
+    Ok(())
 }
 
-/// The head that is written has as many datagrams and as many bytes as a spool may have.
-#[test]
-fn the_greatest_spool(rt: HostRuntime) -> Result<(), Fail> {
-    let alloc = rt.alloc();
-    let mut disk = MemDisk::new(alloc, vec![in alloc; 0u8; FULL_SIZE]?);
-    expect!(rt; format(alloc, &mut disk, &FULL) == Ok(()));
-    let mut journal = opened(&rt, alloc, disk);
+/// The last head that is written has as many datagrams and as many bytes as a spool may have.
+fn expect_full(rt: &impl Abort, alloc: Global, filling: Filling) -> Result<(), AllocError> {
+    let mut disk = MemDisk::new(alloc, vec![in alloc; 0u8; filling.size]?);
+    expect!(rt; format(alloc, &mut disk, filling.geometry) == Ok(()));
+    let mut journal = opened(rt, alloc, disk);
     let mut machine = Machine::new(alloc, FULL.params)?;
-    fill(&rt, alloc, &mut journal, &mut machine)?;
+    fill(rt, alloc, &mut journal, &mut machine, filling.turns)?;
     expect!(rt; machine.item_count() == 16_384 && machine.byte_count() == 16_777_216);
-    let steps = [Step::Pick { now: 0 }, Step::Fetch { number: 65 }];
-    ask_both(&rt, alloc, (&mut journal, &mut machine), &steps)?;
+    let next = 64 * filling.turns.min(5) + 1;
+    let steps = [Step::Pick { now: 0 }, Step::Fetch { number: next }];
+    ask_both(rt, alloc, (&mut journal, &mut machine), &steps)?;
     let mut disk = journal.into_disk();
-    let bytes = bytes_of(&rt, alloc, &mut disk)?;
-    assert!(rt; bytes.len() == FULL_SIZE);
-    expect!(rt; &bytes[17_298_029..17_298_041] == FULL_HEAD.as_slice());
-    let mut journal = opened(&rt, alloc, disk);
+    let bytes = bytes_of(rt, alloc, &mut disk)?;
+    for (place, head) in filling.heads {
+        expect!(rt; stand_at(&bytes, *place, head));
+    }
+    let mut journal = opened(rt, alloc, disk);
     let last = [
         Step::Show,
         Step::Window,
-        Step::Fetch { number: 65 },
-        Step::Release { number: 65 },
+        Step::Fetch { number: next },
+        Step::Release { number: next },
         Step::Pick { now: 0 },
-        Step::Fetch { number: 66 },
+        Step::Fetch { number: next + 1 },
         Step::Show,
     ];
-    ask_both(&rt, alloc, (&mut journal, &mut machine), &last)?;
+    ask_both(rt, alloc, (&mut journal, &mut machine), &last)
+}
+
+/// A segment is due after the first turn: the offset 17,223,684 and 78,280 exceed 17,297,964. Its head has 17,088,599 bytes, which are
+/// 87 and 1,043 for each of 16,384.
+#[test]
+fn the_greatest_spool(rt: HostRuntime) -> Result<(), Fail> {
+    let filling = Filling {
+        geometry: &FULL,
+        size: 34_595_992,
+        turns: 1,
+        heads: &[(17_298_029, [0, 0, 0, 0, 0, 0, 0, 2, 0x01, 0x04, 0xc0, 0x57])],
+    };
+    expect_full(&rt, rt.alloc(), filling)?;
+    Ok(())
+}
+
+/// The second segment is opened where 8,448 datagrams lie in the first: a head of 228,183 bytes, which are 87 and 27 for each of them.
+/// The third is after five turns: the offset 8,876,776 and 78,280 exceed 8,909,356. The 8,128 that are left in the first are moved
+/// into its head, of 8,700,503 bytes: 87, 1,043 for each of them, and 27 for each of the other 8,256.
+#[test]
+fn the_greatest_spool_on_three_segments(rt: HostRuntime) -> Result<(), Fail> {
+    let filling = Filling {
+        geometry: &FULL_THREE,
+        size: 26_728_132,
+        turns: 5,
+        heads: &[
+            (8_909_421, [0, 0, 0, 0, 0, 0, 0, 2, 0, 0x03, 0x7b, 0x57]),
+            (17_818_777, [0, 0, 0, 0, 0, 0, 0, 3, 0, 0x84, 0xc2, 0x57]),
+        ],
+    };
+    expect_full(&rt, rt.alloc(), filling)?;
     Ok(())
 }
 

@@ -1,10 +1,10 @@
-//! Tests that cross crates: stored devices byte by byte, worked rounds, and the journal stopped
-//! at each call of its device.
+//! Tests that cross crates: stored devices byte by byte, worked rounds, a journal in scarce memory,
+//! and great ones.
 //!
 //! A contract says what one call does. These tests say of several crates together what a person
 //! wrote down (docs/FORMATS.md, docs/DEFINITIONS.md): the bytes of a device; the answer to each
-//! changed device; and the state of the plain machine after a stop and a crash of each kind.
-//! Devices are in memory. The crate has no code but tests, so no crate may call it.
+//! changed device; and the state of the plain machine after a failed sync or a refused growth, and
+//! a crash of each kind. Devices are in memory, most of them of two segments. The crate has no code but tests, so no crate may call it.
 #![tactic(auto)]
 
 /// As `assert!`, by one call: the prover then sees one way on where `assert!` has two. `assert!` stands where a later call needs
@@ -45,7 +45,5 @@ mod script;
 mod stored_devices;
 #[cfg(test)]
 mod traces;
-#[cfg(test)]
-mod walks;
 #[cfg(test)]
 mod worked_rounds;

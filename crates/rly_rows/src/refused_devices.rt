@@ -2,8 +2,9 @@
 use crate::comparison::expect_state;
 use crate::device::{DEVICE_E, SIZE, bytes_of, formatted, taken};
 use rly_disk::MemDisk;
-use rly_journal::{Journal, OpenFault};
+use rly_journal::Journal;
 use rly_machine::Machine;
+use rly_standing::OpenFault;
 use std::alloc::{AllocError, Global};
 use std::process::Abort;
 use std::test::Fail;

@@ -66,7 +66,7 @@ sim_app = with_param_rules (new_app (codes "sim"))
 
 unfoldable pub format_app : App
 format_app = with_rule (with_rule (with_rule (with_param_rules (with_rule (new_app (codes "format")) (path_rule (codes "file"))))
-    (option_rule (codes "segments") (codes "2"))) (number_rule (codes "length"))) (flag_rule (codes "force"))
+    (option_rule (codes "segments") (codes "4"))) (number_rule (codes "length"))) (flag_rule (codes "force"))
 
 unfoldable pub play_app : App
 play_app = with_rule (with_rule (new_app (codes "play")) (path_rule (codes "file"))) batch_rule
@@ -140,7 +140,7 @@ IsSettings (Some (command, rows)) (Sim params) = (command ≡ codes "sim") × Ha
 IsSettings (Some (command, rows)) (Format file params segments length force) = (command ≡ codes "format")
     × (file.now ≡ path_in (codes "file") rows)
     × HasParams rows params
-    × HasNumber rows (codes "segments") 2 segments
+    × HasNumber rows (codes "segments") 4 segments
     × ReadsNumber (one_of (codes "length") rows) length
     × HasFlag rows (codes "force") force
 IsSettings (Some (command, rows)) (Play file batch) = (command ≡ codes "play")

@@ -6,12 +6,12 @@ use crate::commands::program;
 use crate::given::{Settings, SettingsFault};
 use clap::error::ErrorKind;
 use clap::{ArgMatches, Command};
-use rly_core::{Params, limits};
+use rly_core::Params;
 use std::alloc::Global;
 use std::convert::AsStr;
 
 /// How many segments a device has where none are given.
-const DEFAULT_SEGMENTS: u64 = limits::SEGMENTS;
+const DEFAULT_SEGMENTS: u64 = 4;
 
 /// How many lines make a round where no number is given.
 const DEFAULT_BATCH: u64 = 1;

@@ -120,8 +120,8 @@ fn format<'a>(alloc: Global) -> Result<Command<'a>, AllocError>
         alloc,
         with_options,
         "segments",
-        "2",
-        "Segments of the device; 2 is the only number",
+        "4",
+        "Segments of the device, 2 to 256",
     )?;
     let length = number(
         alloc,

@@ -3,8 +3,8 @@
 //!
 //! `settle_read` gives a spool those places (`settled_state`; docs/DEFINITIONS.md,
 //! "Checkpoints, heads and devices"), and
-//! `law_settled_live` says how many live bytes each segment has then. Pure; it takes no memory. No
-//! journal uses it yet.
+//! `law_settled_live` says how many live bytes each segment has then. Pure; it takes no memory. Caller:
+//! `rly_index`.
 #![tactic(auto)]
 
 mod laws;

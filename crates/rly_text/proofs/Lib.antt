@@ -10,4 +10,10 @@ pub mod Texts
 pub mod Digits
 pub mod Rounds
 pub mod Gathering
+pub mod Answered
+pub mod Told
+pub mod Losing
 pub mod Courses
+pub mod Merging
+pub mod PlayedRounds
+pub mod Plays

@@ -1,17 +1,19 @@
 -- What the functions of `play` tell one another. Nothing here is claimed: it is what a play does (Playing), with what
 -- is read ahead, what is held back, and the lines that are gathered for a round.
 use Rattle.std.specs.Prelude.{◌≡◌, ◌⊎◌, ℕ, List, [], ◌∷◌, ◌++◌, map, false, Option, Some, None, ⊤}
-use Rattle.std.specs.List.{zip}
+use Rattle.std.specs.List.{AllByRecursion, zip}
 use Rattle.rly_core.specs.Bounds.{IsIn}
 use Rattle.rly_core.specs.Refusals.{refusal_line}
-use Rattle.rly_core.specs.declared.refusal.Refusal.TheVariants.{Line, OutOfMemory}
+use Rattle.rly_core.specs.declared.refusal.Refusal.TheVariants.{DeviceRead, Line}
 use Rattle.rly_disk.specs.DiskModel.{DiskState}
-use Rattle.rly_journal.specs.Journal.{IsDueFor, IsRound, JournalState}
-use Rattle.rly_journal.specs.Log.{IsDurable}
-use Rattle.rly_journal.specs.Rounds.{IsRefusedWhereWanted, refusals}
+use Rattle.rly_journal.specs.Journal.{HasFailedRead, IsRound, IsShut, JournalState}
+use Rattle.rly_standing.specs.Log.{IsDurable}
+use Rattle.rly_journal.specs.Rounds.{AreLostWhereWanted, AreUnreadWhere}
 use Rattle.rly_machine.specs.declared.call.Answer.{Answer}
 use Rattle.rly_machine.specs.declared.call.Call.{Call}
 use Rattle.rly_machine.specs.declared.command.Ask.{Ask}
+use Rattle.rly_machine.specs.declared.reply.Reply.TheVariants.{Refused}
+use Rattle.rly_machine.specs.History.{Entry}
 use Rattle.rly_text.specs.Grammar.{ask_in_line}
 use Rattle.rly_text.specs.HelpersOutflow.{Adds, AddsBeginning, Outflow}
 use Rattle.rly_text.specs.Lines.{lines_of}
@@ -101,12 +103,12 @@ pub record IsPut (asked : Option Ask) (old new : Batch) : Type 0 where
   pub answers : new.answers ≡ old.answers
   pub most : new.most ≡ old.most
 
--- memory was refused only to calls that may want it, or to all where a segment is due and there is none for its head;
--- the journal ends where its device does
-pub record IsScarceRound {D : Type 0} (state : D → DiskState) (old : JournalState D) (calls : List Call)
+-- 14 was answered only to calls that may want memory, and 13 only to a Fetch of bytes; or either to all, where a
+-- segment is due that was not opened. 13 was answered only where a read failed; the journal ends where its device does
+pub record IsScarceRound {D : Type 0} (state : D → DiskState) (old new : JournalState D) (calls : List Call)
     (given : List Answer) : Type 0 where
-  pub wanted : IsRefusedWhereWanted old.state (zip calls given)
-      ⊎ (IsDueFor old calls × (given ≡ refusals OutOfMemory old.position calls))
+  pub wanted : AreLostWhereWanted old.state (zip calls given) ⊎ IsShut old new calls given
+  pub unread : AreUnreadWhere (HasFailedRead (state old.disk) (state new.disk)) (zip calls given)
   pub durable : (state old.disk).honest → old.broken ≡ false → IsDurable (state old.disk) old.tail old.state
 
 -- calls were answered, or there was none
@@ -114,4 +116,4 @@ abbrev pub IsAnsweredBy : {D : Type 0} → (D → DiskState) → JournalState D 
     → List Call → List Answer → Type 0
 IsAnsweredBy state old new calls given =
     ((calls ≡ []) × (given ≡ []) × (new ≡ old))
-    ⊎ (IsRound state old new calls given × IsScarceRound state old calls given)
+    ⊎ (IsRound state old new calls given × IsScarceRound state old new calls given)

@@ -5,13 +5,13 @@ use Rattle.std.specs.Io.KnownBytes.{Appends}
 use Rattle.std.specs.List.{AllByRecursion, list_any}
 use Rattle.rly_core.specs.Refusals.{refusal_line}
 use Rattle.rly_core.specs.declared.refusal.Refusal.{Refusal}
-use Rattle.rly_core.specs.declared.refusal.Refusal.TheVariants.{Broken, Line, OutOfMemory, Unsure}
+use Rattle.rly_core.specs.declared.refusal.Refusal.TheVariants.{Broken, DeviceRead, Line, OutOfMemory, Unsure}
 use Rattle.rly_disk.specs.DiskModel.{DiskState, Later, HasFailed}
-use Rattle.rly_journal.specs.Journal.{JournalState, is_command}
-use Rattle.rly_journal.specs.Log.{IsDurable, IsFull}
-use Rattle.rly_journal.specs.Rounds.{MayWantMemory}
+use Rattle.rly_journal.specs.Journal.{HasFailedRead, is_command, JournalState, OnlyReadsFailed}
+use Rattle.rly_standing.specs.Log.{IsDurable, IsFull}
+use Rattle.rly_journal.specs.Rounds.{MayWantBytes, MayWantMemory}
 use Rattle.rly_machine.specs.Ask.{ask_step}
-use Rattle.rly_machine.specs.History.{is_failure}
+use Rattle.rly_machine.specs.History.{is_failure, without_bytes}
 use Rattle.rly_machine.specs.declared.command.Ask.{Ask}
 use Rattle.rly_machine.specs.declared.reply.Reply.{Reply}
 use Rattle.rly_machine.specs.declared.reply.Reply.TheVariants.{Refused}
@@ -40,16 +40,24 @@ abbrev pub state_behind : ByteState → Option Ask → Reply → ByteState
 state_behind s None reply = s
 state_behind s (Some ask) reply = if is_failure reply then s else (ask_step s ask).0
 
--- a line was served: the reply is the machine's, or memory was refused
-abbrev pub IsLineServed : ByteState → Option Ask → Reply → Type 0
-IsLineServed s None reply = reply ≡ Refused Line
-IsLineServed s (Some ask) reply = (reply ≡ (ask_step s ask).1) ⊎ (reply ≡ Refused OutOfMemory)
+-- a reply is the machine's; on a disk that isn't honest a Fetch may have any bytes
+abbrev pub IsMachineReply : DiskState → Reply → Reply → Type 0
+IsMachineReply disk right reply = (without_bytes reply ≡ without_bytes right) × (disk.honest → reply ≡ right)
+
+-- a line is lost: memory was refused for it, or a read failed
+abbrev pub IsLost : Reply → Type 0
+IsLost reply = (reply ≡ Refused OutOfMemory) ⊎ (reply ≡ Refused DeviceRead)
+
+-- a line was served on a disk: the reply is the machine's, or the line is lost
+abbrev pub IsLineServed : DiskState → ByteState → Option Ask → Reply → Type 0
+IsLineServed disk s None reply = reply ≡ Refused Line
+IsLineServed disk s (Some ask) reply = IsMachineReply disk (ask_step s ask).1 reply ⊎ IsLost reply
 
 -- lines were served one after the other, each in the state that those before it left
-abbrev pub AreLinesServed : ByteState → List ServedLine → ByteState → Type 0
-AreLinesServed s [] t = t ≡ s
-AreLinesServed s (first ∷ more) t = IsLineServed s first.0 first.1
-    × AreLinesServed (state_behind s first.0 first.1) more t
+abbrev pub AreLinesServed : DiskState → ByteState → List ServedLine → ByteState → Type 0
+AreLinesServed disk s [] t = t ≡ s
+AreLinesServed disk s (first ∷ more) t = IsLineServed disk s first.0 first.1
+    × AreLinesServed disk (state_behind s first.0 first.1) more t
 
 -- a line was answered by a refusal of the journal
 abbrev pub IsLineRefused : Refusal → Option Ask → Reply → Type 0
@@ -60,16 +68,16 @@ IsLineRefused refusal (Some ask) reply = reply ≡ Refused refusal
 abbrev pub AreLinesRefused : Refusal → List ServedLine → Type 0
 AreLinesRefused refusal told = AllByRecursion (λ one. IsLineRefused refusal one.0 one.1) told
 
--- the device did not fail: all lines were served, and the journal goes on
+-- of the device only reads failed: all lines were served, and the journal goes on
 pub record PlayGoesOn {D : Type 0} (state : D → DiskState) (old new : JournalState D)
     (told : List ServedLine) : Type 0 where
   pub running : old.broken ≡ false
   pub goes : new.broken ≡ false
-  pub served : AreLinesServed old.state told new.state
-  pub calm : (state new.disk).failures ≡ (state old.disk).failures
+  pub served : AreLinesServed (state old.disk) old.state told new.state
+  pub calm : OnlyReadsFailed (state old.disk) (state new.disk)
 
--- the device failed: the lines before that round were served, those of the round, no more than a round has, may or may
--- not stand, and the journal is broken for all after them
+-- a write or a sync failed: the lines before that round were served, those of the round, no more than a round has, may
+-- or may not stand, and the journal is broken for all after them
 pub record PlayBreaks {D : Type 0} (batch : ℕ) (state : D → DiskState) (old new : JournalState D)
     (told : List ServedLine) : Type 0 where
   pub running : old.broken ≡ false
@@ -80,7 +88,7 @@ pub record PlayBreaks {D : Type 0} (batch : ℕ) (state : D → DiskState) (old 
   pub rest : List ServedLine
   pub parts : told ≡ front ++ (round ++ rest)
   pub last : ByteState
-  pub served : AreLinesServed old.state front last
+  pub served : AreLinesServed (state old.disk) old.state front last
   pub unsure : AreLinesRefused Unsure round
   pub after : AreLinesRefused Broken rest
   pub rose : HasFailed (state old.disk) (state new.disk)
@@ -106,69 +114,85 @@ abbrev pub LineMayWantMemory : ByteState → Option Ask → Type 0
 LineMayWantMemory s None = ⊥
 LineMayWantMemory s (Some ask) = MayWantMemory s ask
 
--- of lines that were answered one after the other, memory was refused only to those that may want it
-abbrev pub AreRefusedWhereWanted : ByteState → List ServedLine → Type 0
-AreRefusedWhereWanted s [] = ⊤
-AreRefusedWhereWanted s (first ∷ more) =
+-- a line that asks for a payload that has bytes
+abbrev pub LineMayWantBytes : ByteState → Option Ask → Type 0
+LineMayWantBytes s None = ⊥
+LineMayWantBytes s (Some ask) = MayWantBytes s ask
+
+-- of lines that were answered one after the other, 14 was told only to those that may want memory, and 13 only to a
+-- Fetch of bytes
+abbrev pub AreLinesLostWhereWanted : ByteState → List ServedLine → Type 0
+AreLinesLostWhereWanted s [] = ⊤
+AreLinesLostWhereWanted s (first ∷ more) =
     (first.1 ≡ Refused OutOfMemory → LineMayWantMemory s first.0)
-    × AreRefusedWhereWanted (state_behind s first.0 first.1) more
+    × (first.1 ≡ Refused DeviceRead → LineMayWantBytes s first.0)
+    × AreLinesLostWhereWanted (state_behind s first.0 first.1) more
 
 -- whether a line asked a command
 abbrev pub asked_command : Option Ask → Bool
 asked_command None = false
 asked_command (Some ask) = is_command ask
 
--- the lines of a round, with a command among them, were all refused memory: when their journal was in this state a
--- segment was due, on its device too, and there was no memory for its head
-pub record AreRefusedForHead {D : Type 0} (state : D → DiskState) (old new : JournalState D) (s : ByteState)
-    (round : List ServedLine) : Type 0 where
+-- the lines of a round, with a command among them, were all told 14, or all 13: its journal was in this state, a
+-- segment was due, on its device too, and none was opened
+pub record AreLostForHead {D : Type 0} (state : D → DiskState) (disk : D) (s : ByteState) (round : List ServedLine)
+    : Type 0 where
   pub command : list_any (λ one. asked_command one.0) round ≡ true
-  pub refused : AreLinesRefused OutOfMemory round
+  pub refused : AreLinesRefused OutOfMemory round ⊎ AreLinesRefused DeviceRead round
   pub journal : JournalState D
   pub running : journal.broken ≡ false
+  pub disk_is : journal.disk ≡ disk
   pub state_is : journal.state ≡ s
   pub full : IsFull journal.tail
   pub durable : (state journal.disk).honest → IsDurable (state journal.disk) journal.tail s
-  pub since : Later (state old.disk) (state journal.disk)
-  pub until : Later (state journal.disk) (state new.disk)
 
--- lines were answered in rounds, and in each round memory was refused only to lines that may want it, or to all
-abbrev pub AreRefusedWhereScarce : {D : Type 0} → (D → DiskState) → JournalState D → JournalState D → ByteState
-    → List (List ServedLine) → Type 0
-AreRefusedWhereScarce state old new s [] = ⊤
-AreRefusedWhereScarce state old new s (round ∷ rounds) =
-    (AreRefusedWhereWanted s round ⊎ AreRefusedForHead state old new s round)
-    × AreRefusedWhereScarce state old new (state_behind_all s round) rounds
+-- 13 was told only where this holds
+abbrev pub AreUnreadOnlyWhere : Type 0 → List ServedLine → Type 0
+AreUnreadOnlyWhere Holds told = AllByRecursion (λ one. one.1 ≡ Refused DeviceRead → Holds) told
+
+-- the lines of a round, which led from one disk to another, are lost where they want memory or bytes, or all of them
+-- are; 13 was told only where a read of that round failed
+pub record IsLossyRound {D : Type 0} (state : D → DiskState) (old new : D) (s : ByteState) (round : List ServedLine)
+    : Type 0 where
+  pub wanted : AreLinesLostWhereWanted s round ⊎ AreLostForHead state old s round
+  pub unread : AreUnreadOnlyWhere (HasFailedRead (state old) (state new)) round
+  pub later : Later (state old) (state new)
+
+-- lines were answered in rounds, each on the disk that those before it left
+abbrev pub AreLossyRounds : {D : Type 0} → (D → DiskState) → D → D → ByteState → List (List ServedLine) → Type 0
+AreLossyRounds state old new s [] = new ≡ old
+AreLossyRounds {D} state old new s (round ∷ rounds) =
+    (mid : D) × IsLossyRound state old mid s round × AreLossyRounds state mid new (state_behind_all s round) rounds
 
 -- the lines of rounds
 abbrev pub lines_in : List (List ServedLine) → List ServedLine
 lines_in [] = []
 lines_in (round ∷ rounds) = round ++ lines_in rounds
 
--- 14 came only where memory is wanted: the lines are those of rounds, none longer than a round may be
-pub record IsRefusedInRounds {D : Type 0} (batch : ℕ) (state : D → DiskState) (old new : JournalState D)
+-- lines are lost only where memory or bytes are wanted: they are those of rounds, none longer than a round may be
+pub record IsLostInRounds {D : Type 0} (batch : ℕ) (state : D → DiskState) (old new : JournalState D)
     (told : List ServedLine) : Type 0 where
   pub rounds : List (List ServedLine)
   pub lines : told ≡ lines_in rounds
   pub few : AllByRecursion (λ round. length round ≤ batch) rounds
-  pub scarce : AreRefusedWhereScarce state old new old.state rounds
+  pub lossy : AreLossyRounds state old.disk new.disk old.state rounds
 
 -- no line was refused for want of memory
 abbrev pub NoneStarved : List ServedLine → Type 0
 NoneStarved told = AllByRecursion (λ one. one.1 ≡ Refused OutOfMemory → ⊥) told
 
 -- lines were played on a journal, so many a round, and this is the text for them. Where the journal is whole, its
--- device does not fail and no memory is refused, it is the text of the machine
+-- device honest, no call of it failed and no memory was refused, it is the text of the machine
 pub record Plays {D : Type 0} (batch : ℕ) (state : D → DiskState) (old new : JournalState D)
     (lines : List (List ℕ)) (text : List ℕ) : Type 0 where
   pub told : List ServedLine
   pub asked : map (λ one. one.0) told ≡ map ask_in_line lines
   pub written : text ≡ served_text told
   pub course : PlayCourse batch state old new told
-  pub memory : IsRefusedInRounds batch state old new told
+  pub lost : IsLostInRounds batch state old new told
   pub later : Later (state old.disk) (state new.disk)
-  pub exact : old.broken ≡ false → (HasFailed (state old.disk) (state new.disk) → ⊥) → NoneStarved told
-      → text ≡ replies_from old.state lines
+  pub exact : (state old.disk).honest → old.broken ≡ false → (HasFailed (state old.disk) (state new.disk) → ⊥)
+      → NoneStarved told → text ≡ replies_from old.state lines
 
 -- all lines of the known bytes that were left were played, and their text was written
 abbrev pub PlaysAll : {D : Type 0} → ℕ → (D → DiskState) → JournalState D → JournalState D

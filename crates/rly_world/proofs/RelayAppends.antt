@@ -3,14 +3,13 @@ use Rattle.std.proofs.Common.{◌≡◌, ℕ, List, [], ◌∷◌, Some, map, re
 use Rattle.rly_core.specs.declared.params.Geometry.{Geometry}
 use Rattle.rly_disk.specs.Trace.{DeviceEvent, Sync, Write}
 use Rattle.rly_gate.specs.Calls.{appending}
-use Rattle.rly_machine.specs.declared.call.Answer.{Answer}
 use Rattle.rly_record.specs.Spelling.{body_of}
 use Rattle.rly_segment.specs.Formatted.{IsFormatted}
-use Rattle.rly_journal.specs.Standing.{Commands, IsStanding, Standing, gate_of}
+use Rattle.rly_standing.specs.Standing.{Commands, IsStanding, Standing, gate_of}
 use Rattle.rly_world.specs.RelayPhases.{IsDone, IsNeeded, bytes_of, place_of}
-use Rattle.rly_world.specs.RelaySteps.{Event, GoesOn, MayCall, Run, after}
+use Rattle.rly_world.specs.RelaySteps.{Event, MayCall, Run, after}
 use Rattle.rly_world.specs.RelaySteps as event
-use Rattle.rly_world.specs.RelayWorld.{Answering, Batch, Body, Gate, Phase, Round, World, Writing, asked_of}
+use Rattle.rly_world.specs.RelayWorld.{Answering, Body, Gate, Phase, Round, World, Writing, asked_of}
 use Rattle.rly_world.specs.RelayWorld.{logged, new_world, seen_of}
 use Rattle.rly_world.proofs.RelayBegins.{one_standing}
 use Rattle.rly_world.proofs.RelayCalls.{in_phase, round_at, writing_of}
@@ -50,20 +49,20 @@ both_run w phase x events new may needed rest = (
 )
 
 -- the standing is the same after a body that was written
-pub body_stands : (w : World) (batches : List Batch) (answers : List Answer) (x : Standing)
-    → IsHeld (in_phase w Body batches answers) → IsStanding w.device.synced x
+pub body_stands : (w : World) (round : Round) (x : Standing) → IsHeld (in_phase w Body round)
+    → IsStanding w.device.synced x
     → IsStanding (seen_of (asked_of w.device (own_write Body x (logged w)))) x
-body_stands w batches answers x held stands =
-    let v : World = in_phase w Body batches answers in
-    let round : Round = record { stage = Writing Body; batches = batches; answers = answers } in
-    let may = may_finish (in_phase w Body batches answers) round Body x held refl refl stands in
-    let next : World = after (in_phase w Body batches answers) (event.Calls (own_write Body x (logged w))) in
+body_stands w round x held stands =
+    let v : World = in_phase w Body round in
+    let writing : Round = record round { stage = Writing Body } in
+    let may = may_finish (in_phase w Body round) writing Body x held refl refl stands in
+    let next : World = after (in_phase w Body round) (event.Calls (own_write Body x (logged w))) in
     let written : IsHeld next =
     run_held v next (event.Calls (own_write Body x (logged w)) ∷ []) (next, inl (may.write tt, refl), refl) held in
-    let now = (writing_of (core_of next) w.is_open w.is_broken Body batches answers written.placed).2 in
+    let now = (writing_of (core_of next) w.is_open w.is_broken Body round written.placed).2 in
     let same : now.x ≡ x = one_standing now.x x now.stands stands in
     let seen : List ℕ = seen_of (asked_of w.device (own_write Body x (logged w))) in
-    let done : IsDone Body x (logged w) seen = own_done v round Body held refl refl x stands in
+    let done : IsDone Body x (logged w) seen = own_done v writing Body held refl refl x stands in
     subst (IsStanding seen) same
     (body_next now.x (logged w) w.device.synced seen now.stands now.begins (now.images seen written.seen)
     (subst (λ y. IsDone Body y (logged w) seen) (sym same) done)).0
@@ -73,32 +72,31 @@ pub appends_run : (w : World) (round : Round) (x : Standing) → IsHeld w → w.
     → round.stage ≡ Writing Body
     → IsStanding w.device.synced x → (new : World)
     × Run w (map event.Calls (appending (gate_of x) (body_of (logged w)))) new
-    × (new.round ≡ round_at Answering round.batches round.answers) × (new.device.since ≡ [])
+    × (new.round ≡ round_at Answering round) × (new.device.since ≡ [])
 appends_run w round x held is at stands =
-    from_round Appends w (round_at (Writing Body) round.batches round.answers) known
-    (by_phase (in_round IsHeld w (round_at (Writing Body) round.batches round.answers) known held))
+    from_round Appends w (round_at (Writing Body) round) known
+    (by_phase (in_round IsHeld w (round_at (Writing Body) round) known held))
   where
-    known : w.round ≡ round_at (Writing Body) round.batches round.answers
+    known : w.round ≡ round_at (Writing Body) round
     known = at_stage w round (Writing Body) is at
 
     Appends : World → Type 0
     Appends v = (new : World) × Run v (map event.Calls (appending (gate_of x) (body_of (logged v)))) new
-        × (new.round ≡ round_at Answering round.batches round.answers) × (new.device.since ≡ [])
+        × (new.round ≡ round_at Answering round) × (new.device.since ≡ [])
 
-    by_phase : IsHeld (in_phase w Body round.batches round.answers)
-        → Appends (in_phase w Body round.batches round.answers)
+    by_phase : IsHeld (in_phase w Body round) → Appends (in_phase w Body round)
     by_phase held_so =
-        let v : World = in_phase w Body round.batches round.answers in
+        let v : World = in_phase w Body round in
         let next : World = after_both v Body x in
         let new : World = after_both next Gate x in
-        let writing : Round = record { stage = Writing Body; batches = round.batches; answers = round.answers } in
-        let opening : Round = record { stage = Writing Gate; batches = round.batches; answers = round.answers } in
+        let writing : Round = record round { stage = Writing Body } in
+        let opening : Round = record round { stage = Writing Gate } in
         let first = may_finish v writing Body x held_so refl refl stands in
         let held_next : IsHeld next = run_held v next
         (event.Calls (own_write Body x (logged w)) ∷ event.Calls Sync ∷ [])
         (both_run v Body x [] next first tt refl) held_so in
         let second = may_finish next opening Gate x held_next refl refl
-        (body_stands w round.batches round.answers x held_so stands) in (
+        (body_stands w round x held_so stands) in (
           new,
           both_run v Body x (event.Calls (own_write Gate x (logged w)) ∷ event.Calls Sync ∷ []) new first tt
               (both_run next Gate x [] new second tt refl),
@@ -111,6 +109,6 @@ pub relay_appends : (g : Geometry) (seats : ℕ) (bytes : List ℕ) (events : Li
     → IsFormatted g bytes → Run (new_world g.params seats bytes) events w → w.round ≡ Some round
     → round.stage ≡ Writing Body → IsStanding w.device.synced x
     → (new : World) × Run w (map event.Calls (appending (gate_of x) (body_of (logged w)))) new
-    × (new.round ≡ round_at Answering round.batches round.answers) × (new.device.since ≡ [])
+    × (new.round ≡ round_at Answering round) × (new.device.since ≡ [])
 relay_appends g seats bytes events w round x formatted run is at stands =
     appends_run w round x (holds g seats bytes events w formatted run) is at stands

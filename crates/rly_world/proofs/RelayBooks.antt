@@ -24,7 +24,7 @@ use Rattle.rly_machine.proofs.Folding.{params_fold}
 use Rattle.rly_machine.proofs.RealReplies.{counted}
 use Rattle.rly_machine.proofs.Refusals.{among, may_pick, may_release, may_take}
 use Rattle.rly_machine.proofs.Runs.{sound_from_new}
-use Rattle.rly_journal.specs.Standing.{Commands}
+use Rattle.rly_standing.specs.Standing.{Commands}
 use Rattle.rly_world.specs.RelayLaw.{KeepsBooks, greatest_of, releases_of}
 use Rattle.rly_world.specs.RelayWorld.{state_from}
 use Rattle.rly_world.proofs.RelayRecords.{unrefused}

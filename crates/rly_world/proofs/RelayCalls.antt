@@ -7,18 +7,17 @@ use Rattle.rly_disk.specs.DiskModel.{IsTorn}
 use Rattle.rly_disk.specs.Trace.{DeviceEvent, FailedRead, FailedSync, FailedWrite, Read, Sync, Write}
 use Rattle.rly_disk.proofs.Overwritten.{overwritten_outside}
 use Rattle.rly_disk.proofs.Ranges.{wider}
-use Rattle.rly_machine.specs.declared.call.Answer.{Answer}
 use Rattle.rly_machine.specs.Fold.{fold}
 use Rattle.rly_machine.specs.State.{new_state}
 use Rattle.rly_machine.proofs.Folding.{fold_append}
 use Rattle.rly_journal.specs.Rounds.{refusals}
-use Rattle.rly_journal.specs.Standing.{Commands, IsStanding, Standing, Stands, state_in}
-use Rattle.rly_journal.proofs.Framing.{read_in}
+use Rattle.rly_standing.specs.Standing.{Commands, IsStanding, Standing, Stands, state_in}
+use Rattle.rly_standing.proofs.Framing.{read_in}
 use Rattle.rly_world.specs.RelayPhases.{IsDone, IsNeeded, MaySync, MayWrite, bytes_of, place_of}
-use Rattle.rly_world.specs.RelaySteps.{after_phase, broke, called, counted_after, on_device}
-use Rattle.rly_world.specs.RelayWorld.{Answering, Batch, Body, Device, Gate, Head, IsImageOf, Phase, Ready, Round, Seal}
-use Rattle.rly_world.specs.RelayWorld.{Stage, Switch, Taking, World, Writing, asked_of, calls_of, logged, seen_of}
-use Rattle.rly_world.specs.RelayWorld.{state_from}
+use Rattle.rly_world.specs.RelaySteps.{after_phase, broke, called, counted_after, on_device, unread}
+use Rattle.rly_world.specs.RelayWorld.{Answering, Body, Device, Gate, Head, IsImageOf, Phase, Ready, Round, Seal}
+use Rattle.rly_world.specs.RelayWorld.{Stage, Switch, Taking, World, Writing, asked_of, batches_in, calls_of, logged}
+use Rattle.rly_world.specs.RelayWorld.{seen_of, state_from}
 use Rattle.rly_world.proofs.RelayAnswers.{AreBelow, refused_below}
 use Rattle.rly_world.proofs.RelayBegins.{one_standing}
 use Rattle.rly_world.proofs.RelayDevice.{asked_image, asked_seen, image_asked}
@@ -75,8 +74,8 @@ written_kept phase k w image left =
 
 -- ---- the place of a round in hand
 
-abbrev pub round_at : Stage → List Batch → List Answer → Option Round
-round_at stage batches answers = Some (record { stage = stage; batches = batches; answers = answers })
+abbrev pub round_at : Stage → Round → Option Round
+round_at stage round = Some (record round { stage = stage })
 
 pub placed_from : (k m : Core) (opened broken breaks : Bool) (round : Round) (next : Option Round)
     → IsPlaced k opened broken (Some round)
@@ -85,19 +84,19 @@ placed_from k m true broken breaks round next placed leads = leads placed
 placed_from k m false broken breaks round next placed leads = let e : Some round ≡ None = placed in absurd cc
 
 -- a relay in a phase isn't broken
-pub writing_of : (k : Core) (opened broken : Bool) (phase : Phase) (batches : List Batch) (answers : List Answer)
-    → IsPlaced k opened broken (round_at (Writing phase) batches answers)
-    → (broken ≡ false) × AreBelow (length k.accepted) answers × IsWritten phase k
-writing_of k true true phase batches answers placed = absurd placed
-writing_of k true false phase batches answers placed = (refl, placed.0, placed.1)
-writing_of k false broken phase batches answers placed =
-    let e : round_at (Writing phase) batches answers ≡ None = placed in absurd cc
+pub writing_of : (k : Core) (opened broken : Bool) (phase : Phase) (round : Round)
+    → IsPlaced k opened broken (round_at (Writing phase) round)
+    → (broken ≡ false) × AreBelow (length k.accepted) round.answers × IsWritten phase k
+writing_of k true true phase round placed = absurd placed
+writing_of k true false phase round placed = (refl, placed.0, placed.1)
+writing_of k false broken phase round placed =
+    let e : round_at (Writing phase) round ≡ None = placed in absurd cc
 
-pub running_at : (k : Core) (broken : Bool) (stage : Stage) (batches : List Batch) (answers : List Answer)
-    → broken ≡ false → AreBelow (length k.accepted) answers → IsAt k stage
-    → IsRunning k broken (round_at stage batches answers)
-running_at k true stage batches answers whole below at = absurd (true≢false whole)
-running_at k false stage batches answers whole below at = (below, at)
+pub running_at : (k : Core) (broken : Bool) (stage : Stage) (round : Round)
+    → broken ≡ false → AreBelow (length k.accepted) round.answers → IsAt k stage
+    → IsRunning k broken (round_at stage round)
+running_at k true stage round whole below at = absurd (true≢false whole)
+running_at k false stage round whole below at = (below, at)
 
 -- ---- reads, and calls that settle nothing
 
@@ -165,12 +164,41 @@ read_held w place count held =
     (image_asked w.device (Read place count) (seen_of (asked_of w.device (Read place count)))
     (subst (IsImageOf w.device) (sym (asked_seen w.device (Read place count))) held.seen)) held
 
-pub failed_read_held : (w : World) (place count : ℕ) → IsHeld w → IsHeld (on_device w (FailedRead place count))
+-- what the round knows of failed reads is of no account to it
+unread_running : (k : Core) (broken : Bool) (round : Option Round) → IsRunning k broken round
+    → IsRunning k broken (unread round)
+unread_running k broken None running = running
+unread_running k true (Some round) running = running
+unread_running k false (Some round) running = running
+
+unread_placed : (k : Core) (opened broken : Bool) (round : Option Round) → IsPlaced k opened broken round
+    → IsPlaced k opened broken (unread round)
+unread_placed k true broken round placed = unread_running k broken round placed
+unread_placed k false broken round placed = ap unread placed
+
+unread_few : (round : Option Round) → length (calls_of (batches_in round)) ≤ 64
+    → length (calls_of (batches_in (unread round))) ≤ 64
+unread_few None few = few
+unread_few (Some round) few = few
+
+unread_holds : (k : Core) (opened broken : Bool) (round : Option Round) → Holds k opened broken round
+    → Holds k opened broken (unread round)
+unread_holds k opened broken round held = record {
+  within = held.within;
+  accepted = held.accepted;
+  few = unread_few round held.few;
+  seen = held.seen;
+  kept = held.kept;
+  placed = unread_placed k opened broken round held.placed;
+}
+
+pub failed_read_held : (w : World) (place count : ℕ) → IsHeld w → IsHeld (called w (FailedRead place count))
 failed_read_held w place count held =
-    still_holds (core_of w) (w.device.since ++ FailedRead place count ∷ [])
+    unread_holds (core_of (on_device w (FailedRead place count))) w.is_open w.is_broken w.round
+    (still_holds (core_of w) (w.device.since ++ FailedRead place count ∷ [])
     (asked_image w.device (FailedRead place count)) w.is_open w.is_broken w.round
     (image_asked w.device (FailedRead place count) (seen_of (asked_of w.device (FailedRead place count)))
-    (subst (IsImageOf w.device) (sym (asked_seen w.device (FailedRead place count))) held.seen)) held
+    (subst (IsImageOf w.device) (sym (asked_seen w.device (FailedRead place count))) held.seen)) held)
 
 pub failed_sync_held : (w : World) → IsHeld w → IsHeld (on_device w FailedSync)
 failed_sync_held w held =
@@ -193,8 +221,8 @@ range_of {phase} {device} {commands} {place} {n} x stands may =
     subst (λ y. IsRange phase y commands (seen_of device) place n) (one_standing may.x x may.stands stands)
     (record { from = may.from; to = may.to; needed = may.needed })
 
-module _ (w : World) (phase : Phase) (batches : List Batch) (answers : List Answer)
-    (held : Holds (core_of w) w.is_open w.is_broken (round_at (Writing phase) batches answers)) (place n : ℕ)
+module _ (w : World) (phase : Phase) (round : Round)
+    (held : Holds (core_of w) w.is_open w.is_broken (round_at (Writing phase) round)) (place n : ℕ)
     (may : MayWrite phase w.device (logged w) place n)
     (since : List DeviceEvent)
     (torn : (c : List ℕ) → IsImageOf (record { synced = w.device.synced; since = since }) c
@@ -218,9 +246,9 @@ module _ (w : World) (phase : Phase) (batches : List Batch) (answers : List Answ
 
   pub torn_held : IsImageOf (record { synced = w.device.synced; since = since })
       (seen_of (record { synced = w.device.synced; since = since }))
-      → Holds (later_core (core_of w) since) w.is_open w.is_broken (round_at (Writing phase) batches answers)
+      → Holds (later_core (core_of w) since) w.is_open w.is_broken (round_at (Writing phase) round)
   torn_held seen =
-      let now = writing_of (core_of w) w.is_open w.is_broken phase batches answers held.placed in
+      let now = writing_of (core_of w) w.is_open w.is_broken phase round held.placed in
       let next = torn_written now.2 in
       record {
         within = held.within;
@@ -230,16 +258,16 @@ module _ (w : World) (phase : Phase) (batches : List Batch) (answers : List Answ
         kept = written_kept phase (later_core (core_of w) since) next;
         placed =
             placed_from (core_of w) (later_core (core_of w) since) w.is_open w.is_broken w.is_broken
-            (record { stage = Writing phase; batches = batches; answers = answers })
-            (round_at (Writing phase) batches answers) held.placed
-            (λ running. running_at (later_core (core_of w) since) w.is_broken (Writing phase) batches answers now.0
+            (record round { stage = Writing phase })
+            (round_at (Writing phase) round) held.placed
+            (λ running. running_at (later_core (core_of w) since) w.is_broken (Writing phase) round now.0
             now.1 next);
       }
 
   -- the range lies on the device
   pub range_within : place + n ≤ length (seen_of w.device)
   range_within =
-      let now = (writing_of (core_of w) w.is_open w.is_broken phase batches answers held.placed).2 in
+      let now = (writing_of (core_of w) w.is_open w.is_broken phase round held.placed).2 in
       let range = range_of now.x now.stands may in
       omega (
         arith,
@@ -248,35 +276,35 @@ module _ (w : World) (phase : Phase) (batches : List Batch) (answers : List Answ
         (now.images (seen_of w.device) held.seen).outside.same_length,
       )
 
-abbrev pub in_phase : World → Phase → List Batch → List Answer → World
-in_phase w phase batches answers = record w { round = round_at (Writing phase) batches answers }
+abbrev pub in_phase : World → Phase → Round → World
+in_phase w phase round = record w { round = round_at (Writing phase) round }
 
-pub write_held : (w : World) (phase : Phase) (batches : List Batch) (answers : List Answer) (place : ℕ) (bytes : List ℕ)
-    → IsHeld (in_phase w phase batches answers)
+pub write_held : (w : World) (phase : Phase) (round : Round) (place : ℕ) (bytes : List ℕ)
+    → IsHeld (in_phase w phase round)
     → MayWrite phase w.device (logged w) place (length bytes)
-    → IsHeld (on_device (in_phase w phase batches answers) (Write place bytes))
-write_held w phase batches answers place bytes held may =
-    torn_held w phase batches answers held place (length bytes) may (w.device.since ++ Write place bytes ∷ [])
+    → IsHeld (on_device (in_phase w phase round) (Write place bytes))
+write_held w phase round place bytes held may =
+    torn_held w phase round held place (length bytes) may (w.device.since ++ Write place bytes ∷ [])
     (asked_image w.device (Write place bytes))
     (image_asked w.device (Write place bytes) (seen_of (asked_of w.device (Write place bytes)))
     (subst (IsTorn place (length bytes) (IsImageOf w.device)) (sym (asked_seen w.device (Write place bytes))) (
       seen_of w.device,
       held.seen,
       overwritten_outside place bytes (seen_of w.device)
-          (range_within w phase batches answers held place (length bytes) may (w.device.since ++ Write place bytes ∷ [])
+          (range_within w phase round held place (length bytes) may (w.device.since ++ Write place bytes ∷ [])
           (asked_image w.device (Write place bytes))),
     )))
 
-pub failed_write_held : (w : World) (phase : Phase) (batches : List Batch) (answers : List Answer) (place : ℕ)
-    (bytes left : List ℕ) → IsHeld (in_phase w phase batches answers)
+pub failed_write_held : (w : World) (phase : Phase) (round : Round) (place : ℕ)
+    (bytes left : List ℕ) → IsHeld (in_phase w phase round)
     → MayWrite phase w.device (logged w) place (length bytes)
-    → IsHeld (on_device (in_phase w phase batches answers) (FailedWrite place bytes left))
-failed_write_held w phase batches answers place bytes left held may =
+    → IsHeld (on_device (in_phase w phase round) (FailedWrite place bytes left))
+failed_write_held w phase round place bytes left held may =
     let since : List DeviceEvent = w.device.since ++ FailedWrite place bytes left ∷ [] in
-    let within = range_within w phase batches answers held place (length bytes) may since
+    let within = range_within w phase round held place (length bytes) may since
     (asked_image w.device (FailedWrite place bytes left)) in
     let short : length (take (length bytes) left) ≤ length bytes = omega (arith, length-take (length bytes) left) in
-    torn_held w phase batches answers held place (length bytes) may since
+    torn_held w phase round held place (length bytes) may since
     (asked_image w.device (FailedWrite place bytes left))
     (image_asked w.device (FailedWrite place bytes left) (seen_of (asked_of w.device (FailedWrite place bytes left)))
     (subst (IsTorn place (length bytes) (IsImageOf w.device))
@@ -289,9 +317,9 @@ failed_write_held w phase batches answers place bytes left held may =
 
 -- ---- a relay that broke
 
-pub broke_held : (w : World) (phase : Phase) (batches : List Batch) (answers : List Answer)
-    → IsHeld (in_phase w phase batches answers) → IsHeld (broke (in_phase w phase batches answers))
-broke_held w phase batches answers held = record {
+pub broke_held : (w : World) (phase : Phase) (round : Round)
+    → IsHeld (in_phase w phase round) → IsHeld (broke (in_phase w phase round))
+broke_held w phase round held = record {
   within = held.within;
   accepted = held.accepted;
   few = held.few;
@@ -299,9 +327,9 @@ broke_held w phase batches answers held = record {
   kept = held.kept;
   placed =
       placed_from (core_of w) (core_of w) w.is_open w.is_broken true
-      (record { stage = Writing phase; batches = batches; answers = answers })
-      (round_at Answering batches (refusals Unsure w.position (calls_of batches))) held.placed
-      (λ running n. refused_below Unsure n w.position (calls_of batches) refl);
+      (record round { stage = Writing phase })
+      (round_at Answering (record round { answers = refusals Unsure w.position (calls_of round.batches) })) held.placed
+      (λ running n. refused_below Unsure n w.position (calls_of round.batches) refl);
 }
 
 -- ---- a sync
@@ -380,13 +408,13 @@ next_at k Gate w seen done v position accepted =
     (gate_next w.x (drop k.position k.accepted) k.device.synced (seen_of k.device) w.stands w.begins
     (w.images (seen_of k.device) seen) done))
 
-pub sync_held : (w : World) (phase : Phase) (batches : List Batch) (answers : List Answer)
-    → IsHeld (in_phase w phase batches answers)
-    → MaySync phase w.device (logged w) → IsHeld (called (in_phase w phase batches answers) Sync)
-sync_held w phase batches answers held may =
+pub sync_held : (w : World) (phase : Phase) (round : Round)
+    → IsHeld (in_phase w phase round)
+    → MaySync phase w.device (logged w) → IsHeld (called (in_phase w phase round) Sync)
+sync_held w phase round held may =
     let k = core_of w in
-    let now = writing_of (core_of w) w.is_open w.is_broken phase batches answers held.placed in
-    let v : World = on_device (in_phase w phase batches answers) Sync in
+    let now = writing_of (core_of w) w.is_open w.is_broken phase round held.placed in
+    let v : World = on_device (in_phase w phase round) Sync in
     let next : Core = synced_core (core_of w) (counted_after phase v) in
     let done : IsDone phase now.2.x (logged w) (seen_of w.device) = subst
     (λ y. IsDone phase y (logged w) (seen_of w.device)) (one_standing may.x now.2.x may.stands now.2.stands)
@@ -399,8 +427,8 @@ sync_held w phase batches answers held may =
       kept = next_kept (core_of w) phase now.2 held.seen (counted_after phase v);
       placed =
           placed_from (core_of w) next w.is_open w.is_broken w.is_broken
-          (record { stage = Writing phase; batches = batches; answers = answers })
-          (round_at (after_phase phase) batches answers) held.placed
-          (λ running. running_at next w.is_broken (after_phase phase) batches answers now.0 now.1
+          (record round { stage = Writing phase })
+          (round_at (after_phase phase) round) held.placed
+          (λ running. running_at next w.is_broken (after_phase phase) round now.0 now.1
           (next_at (core_of w) phase now.2 held.seen done v refl refl));
     }

@@ -6,12 +6,14 @@ use Rattle.std.specs.Prelude.{if◌then◌else◌}
 use Rattle.std.specs.List.{zip}
 use Rattle.std.proofs.lemmas.Bool.{leb-true}
 use Rattle.std.proofs.lemmas.List.{append-nil, drop_all, drop_at, take_all, take_at, take-append-drop}
-use Rattle.rly_core.specs.declared.refusal.Refusal.TheVariants.{Broken, OutOfMemory}
+use Rattle.rly_core.specs.declared.refusal.Refusal.{Refusal}
+use Rattle.rly_core.specs.declared.refusal.Refusal.TheVariants.{Broken, DeviceRead, OutOfMemory}
 use Rattle.rly_disk.specs.Trace.{DeviceEvent, FailedRead, FailedSync, FailedWrite, Read, Sync, Write}
 use Rattle.rly_machine.specs.declared.call.Answer.{Answer}
 use Rattle.rly_machine.specs.declared.call.Call.{Call}
 use Rattle.rly_machine.specs.Fold.{AllAccepted}
-use Rattle.rly_machine.specs.History.{accepted_of, state_after}
+use Rattle.rly_machine.specs.declared.reply.Reply.TheVariants.{Refused}
+use Rattle.rly_machine.specs.History.{Legal, accepted_of, is_failure, state_after}
 use Rattle.rly_machine.specs.Sound.{IsSound}
 use Rattle.rly_machine.specs.State.{State, new_state}
 use Rattle.rly_checkpoint.specs.declared.stored.Stored.{Stored}
@@ -19,17 +21,17 @@ use Rattle.rly_machine.proofs.Folding.{accepted_append, accepted_parts, seq_fold
 use Rattle.rly_machine.proofs.Histories.{folds, legal_but_for_bytes}
 use Rattle.rly_machine.proofs.Runs.{sound_from_new}
 use Rattle.rly_journal.specs.Journal.{holds_command}
-use Rattle.rly_journal.specs.Rounds.{AreServed, refusals}
-use Rattle.rly_journal.specs.Standing.{Commands, IsStanding, Standing, Stands, state_in}
-use Rattle.rly_journal.proofs.Once.{stands_for_one}
-use Rattle.rly_journal.proofs.Serving.{few_accepted}
+use Rattle.rly_journal.specs.Rounds.{refusals}
+use Rattle.rly_standing.specs.Standing.{Commands, IsStanding, Standing, Stands, state_in}
+use Rattle.rly_standing.proofs.Once.{stands_for_one}
+use Rattle.rly_standing.proofs.Serving.{few_accepted}
 use Rattle.rly_world.specs.RelayPhases.{IsDueIn, MayOpen}
-use Rattle.rly_world.specs.RelaySteps.{AreEvaluated, Event, HasPlace, IsDueFor, IsEvaluated, MayTake, after}
-use Rattle.rly_world.specs.RelaySteps.{after_evaluation, answer_put, answered_first, broke, called, evaluated, greatest}
-use Rattle.rly_world.specs.RelaySteps.{on_device, rest_of, stopped, taken, joined}
+use Rattle.rly_world.specs.RelaySteps.{AreAnswered, AreShut, Event, HasPlace, IsEvaluated, MayTake, after}
+use Rattle.rly_world.specs.RelaySteps.{answered_first, called, evaluated, greatest, joined, rest_of, stopped, taken}
 use Rattle.rly_world.specs.RelaySteps as event
 use Rattle.rly_world.specs.RelayWorld.{Answering, Batch, Body, IsImageOf, Ready, Round, Seal, Stage, Taking, World}
-use Rattle.rly_world.specs.RelayWorld.{Writing, asked_of, batches_in, calls_of, logged, seen_of, state_from}
+use Rattle.rly_world.specs.RelayWorld.{Writing, asked_of, batches_in, calls_of, has_failed_read, logged, seen_of}
+use Rattle.rly_world.specs.RelayWorld.{state_from}
 use Rattle.rly_world.proofs.RelayAnswers.{AreBelow, asked_none, below_drop, below_take, fewer_calls, greatest_below}
 use Rattle.rly_world.proofs.RelayAnswers.{refused_below, refused_none, served_below}
 use Rattle.rly_world.proofs.RelayBegins.{roomy_group}
@@ -52,7 +54,7 @@ from_round P w round is = subst (λ r. P (record w { round = r })) (sym is)
 
 -- a round that stands somewhere
 pub at_stage : (w : World) (round : Round) (stage : Stage) → w.round ≡ Some round → round.stage ≡ stage
-    → w.round ≡ round_at stage round.batches round.answers
+    → w.round ≡ round_at stage round
 at_stage w round stage is at = is ∙ ap (λ s. Some (record round { stage = s })) at
 
 -- the accepted commands lead to a sound state, which counts them
@@ -71,37 +73,37 @@ told_most k open_ broken round held = let kept = held.kept (seen_of k.device) he
 
 -- ---- taking
 
-before_taking : (k : Core) (broken : Bool) (batches : List Batch) (round : Option Round)
-    → ((round ≡ None) ⊎ ((r : Round) × (round ≡ Some r) × (r.stage ≡ Taking)))
-    → IsRunning k broken round → IsRunning k broken (round_at Taking batches [])
-before_taking k true batches round first running = tt
-before_taking k false batches None first running = (tt, running)
-before_taking k false batches (Some round) first running =
-    elim first [
-      | inl none ↦ (let e : Some round ≡ None = none in absurd cc)
-      | inr taking ↦ (tt, subst (IsAt k) ((let e : round ≡ taking.0 = cc in ap (λ r. r.stage) e) ∙ taking.2) running.1)
-    ]
-
 -- the round may take another batch
 abbrev TakesMore : Option Round → Type 0
 TakesMore round = (round ≡ None) ⊎ ((r : Round) × (round ≡ Some r) × (r.stage ≡ Taking))
 
-taking_placed : (k : Core) (broken : Bool) (batches : List Batch) (round : Option Round) → TakesMore round
-    → IsPlaced k true broken round → IsPlaced k true broken (round_at Taking batches [])
-taking_placed k broken batches round first placed = before_taking k broken batches round first placed
+-- and has it then
+abbrev with_batch : Option Round → Batch → Round
+with_batch round batch = record {
+  stage = Taking;
+  batches = batches_in round ++ batch ∷ [];
+  answers = [];
+  read_failed = has_failed_read round;
+}
+
+taking_placed : (k : Core) (broken : Bool) (batch : Batch) (round : Option Round) → TakesMore round
+    → IsPlaced k true broken round → IsPlaced k true broken (Some (with_batch round batch))
+taking_placed k true batch round first running = tt
+taking_placed k false batch None first running = (tt, running)
+taking_placed k false batch (Some round) first running =
+    elim first [
+      | inl none ↦ (let e : Some round ≡ None = none in absurd cc)
+      | inr taking ↦ (tt, subst (IsAt k) ((let e : round ≡ taking.0 = cc in ap (λ r. r.stage) e) ∙ taking.2) running.1)
+    ]
 
 joined_held : (w : World) (batch : Batch) → w.is_open ≡ true → TakesMore w.round → IsHeld w
     → IsHeld (joined w batch)
 joined_held w batch opened first held =
     by_room (nat_le (length (calls_of (batches_in w.round ++ batch ∷ []))) 64) refl
   where
-    more : List Batch
-    more = batches_in w.round ++ batch ∷ []
-
     by_room : (fits : Bool) → nat_le (length (calls_of (batches_in w.round ++ batch ∷ []))) 64 ≡ fits
         → IsHeld
-        (if fits then record w { round = round_at Taking (batches_in w.round ++ batch ∷ []) [] } else record
-        w { kept = Some batch })
+        (if fits then record w { round = Some (with_batch w.round batch) } else record w { kept = Some batch })
     by_room false full = held
     by_room true fits = record {
       within = held.within;
@@ -109,10 +111,8 @@ joined_held w batch opened first held =
       few = leb-true _ _ fits;
       seen = held.seen;
       kept = held.kept;
-      placed =
-          subst (λ b. IsPlaced (core_of w) b w.is_broken (round_at Taking (batches_in w.round ++ batch ∷ []) []))
-          (sym opened)
-          (taking_placed (core_of w) w.is_broken (batches_in w.round ++ batch ∷ []) w.round first
+      placed = subst (λ b. IsPlaced (core_of w) b w.is_broken (Some (with_batch w.round batch))) (sym opened)
+          (taking_placed (core_of w) w.is_broken batch w.round first
           (subst (λ b. IsPlaced (core_of w) b w.is_broken w.round) opened held.placed));
     }
 
@@ -131,21 +131,22 @@ taken_held w None [] opened first held = held
 
 -- ---- the first phase
 
-calm_of : (k : Core) (opened broken : Bool) (stage : Stage) (batches : List Batch) (answers : List Answer)
-    → (stage ≡ Taking) ⊎ (stage ≡ Ready) → broken ≡ false
-    → IsPlaced k opened broken (round_at stage batches answers) → AreBelow (length k.accepted) answers × IsCalm k
-calm_of k true true stage batches answers first whole placed = absurd (true≢false whole)
-calm_of k true false stage batches answers first whole placed =
+calm_of : (k : Core) (opened broken : Bool) (round : Round)
+    → (round.stage ≡ Taking) ⊎ (round.stage ≡ Ready) → broken ≡ false
+    → IsPlaced k opened broken (Some round) → AreBelow (length k.accepted) round.answers × IsCalm k
+calm_of k true true round first whole placed = absurd (true≢false whole)
+calm_of k true false round first whole placed =
     (placed.0, elim first [ inl taking ↦ subst (IsAt k) taking placed.1 | inr ready ↦ subst (IsAt k) ready placed.1 ])
-calm_of k false broken stage batches answers first whole placed =
-    let e : round_at stage batches answers ≡ None = placed in absurd cc
+calm_of k false broken round first whole placed =
+    let e : Some round ≡ None = placed in absurd cc
 
-opens_held : (w : World) (segment : ℕ) (copy : State Stored) (batches : List Batch) (answers : List Answer)
+opens_held : (w : World) (segment : ℕ) (copy : State Stored) (round : Round)
     → w.is_broken ≡ false → MayOpen w.device.synced segment copy
-    → IsHeld (record w { round = round_at Taking batches answers })
-    → IsHeld (record w { round = round_at (Writing (Seal segment copy)) batches answers })
-opens_held w segment copy batches answers whole may held =
-    let now = calm_of (core_of w) w.is_open w.is_broken Taking batches answers (inl refl) whole held.placed in
+    → IsHeld (record w { round = round_at Taking round })
+    → IsHeld (record w { round = round_at (Writing (Seal segment copy)) round })
+opens_held w segment copy round whole may held =
+    let taking : Round = record round { stage = Taking } in
+    let now = calm_of (core_of w) w.is_open w.is_broken taking (inl refl) whole held.placed in
     let calm : IsCalm (core_of w) = now.1 in
     let state : state_in may.0 ≡ whole_state (core_of w) = stands_for_one w.device.synced (state_in may.0)
     (whole_state (core_of w)) (may.0, may.1, refl) calm.stands in
@@ -159,16 +160,15 @@ opens_held w segment copy batches answers whole may held =
       kept = held.kept;
       placed =
           placed_from (core_of w) (core_of w) w.is_open w.is_broken w.is_broken
-          (record { stage = Taking; batches = batches; answers = answers })
-          (round_at (Writing (Seal segment copy)) batches answers) held.placed
-          (λ running. running_at (core_of w) w.is_broken (Writing (Seal segment copy)) batches answers whole now.0
+          taking (round_at (Writing (Seal segment copy)) round) held.placed
+          (λ running. running_at (core_of w) w.is_broken (Writing (Seal segment copy)) round whole now.0
           (record {
             x = may.0;
             stands = may.1;
             state = state ∙ ap (state_from w.params) (sym all);
             told = omega (
               arith,
-              told_most (core_of w) w.is_open w.is_broken (round_at Taking batches answers) held,
+              told_most (core_of w) w.is_open w.is_broken (round_at Taking round) held,
               calm.counted,
             );
             counted = omega (arith, calm.counted);
@@ -186,28 +186,31 @@ record IsServed (k : Core) (calls : List Call) (given : List Answer) (commands :
   below : AreBelow (length k.accepted + length commands) given
 
 served_of : (k : Core) (calls : List Call) (given : List Answer) → AllAccepted length (new_state k.params) k.accepted
-    → AreServed calls given (whole_state k) (state_after (whole_state k) (zip calls given))
+    → length given ≡ length calls → Legal (whole_state k) (zip calls given)
     → IsServed k calls given (accepted_of (zip calls given))
-served_of k calls given all served =
+served_of k calls given all counted legal =
     let made = folds 0 (whole_state k) (zip calls given)
-    (legal_but_for_bytes 0 (whole_state k) (zip calls given) served.legal) in
+    (legal_but_for_bytes 0 (whole_state k) (zip calls given) legal) in
     let count : (state_after (whole_state k) (zip calls given)).seq ≡ length k.accepted + length
     (accepted_of (zip calls given)) = omega (arith, made.2, count_of k all) in
     record {
       accepted = made.1;
-      below = subst (λ n. AreBelow n given) count
-          (served_below 0 (whole_state k) calls given served.count served.legal);
+      below = subst (λ n. AreBelow n given) count (served_below 0 (whole_state k) calls given counted legal);
     }
 
+-- a round that has other answers
+abbrev giving : Round → List Answer → Round
+giving round given = record round { answers = given }
+
 -- nothing was accepted, and the answers tell nothing new
-evaluated_none : (w : World) (stage : Stage) (batches : List Batch) (answers given : List Answer)
-    → IsHeld (record w { round = round_at stage batches answers })
-    → (IsRunning (core_of w) w.is_broken (round_at stage batches answers)
-    → IsRunning (core_of w) w.is_broken (round_at Answering batches given))
-    → IsHeld (evaluated (record w { round = round_at stage batches answers }) given [])
-evaluated_none w stage batches answers given held leads =
-    subst (λ a. Holds (record (core_of w) { accepted = a }) w.is_open w.is_broken (round_at Answering batches given))
-    (sym (append-nil w.accepted))
+evaluated_none : (w : World) (round : Round) (given : List Answer)
+    → IsHeld (record w { round = Some round })
+    → (IsRunning (core_of w) w.is_broken (Some round)
+    → IsRunning (core_of w) w.is_broken (round_at Answering (giving round given)))
+    → IsHeld (evaluated (record w { round = Some round }) given [])
+evaluated_none w round given held leads =
+    subst (λ a. Holds (record (core_of w) { accepted = a }) w.is_open w.is_broken
+    (round_at Answering (giving round given))) (sym (append-nil w.accepted))
     (record {
       within = held.within;
       accepted = held.accepted;
@@ -216,27 +219,26 @@ evaluated_none w stage batches answers given held leads =
       kept = held.kept;
       placed =
           placed_from (core_of w) (core_of w) w.is_open w.is_broken w.is_broken
-          (record { stage = stage; batches = batches; answers = answers }) (round_at Answering batches given)
-          held.placed leads;
+          round (round_at Answering (giving round given)) held.placed leads;
     })
 
 -- something was accepted, and is written
-evaluated_some : (w : World) (stage : Stage) (batches : List Batch) (answers given : List Answer) (commands : Commands)
-    → (stage ≡ Taking) ⊎ (stage ≡ Ready) → w.is_broken ≡ false
+evaluated_some : (w : World) (round : Round) (given : List Answer) (commands : Commands)
+    → (round.stage ≡ Taking) ⊎ (round.stage ≡ Ready) → w.is_broken ≡ false
     → 1 ≤ length commands → length commands ≤ 64 → (IsDueIn w.device.synced → ⊥)
-    → IsHeld (record w { round = round_at stage batches answers })
-    → IsServed (core_of w) (calls_of batches) given commands
+    → IsHeld (record w { round = Some round })
+    → IsServed (core_of w) (calls_of round.batches) given commands
     → Holds (record (core_of w) { accepted = w.accepted ++ commands }) w.is_open w.is_broken
-    (round_at (Writing Body) batches given)
-evaluated_some w stage batches answers given commands first whole some few roomy held served =
-    let now = calm_of (core_of w) w.is_open w.is_broken stage batches answers first whole held.placed in
+    (round_at (Writing Body) (giving round given))
+evaluated_some w round given commands first whole some few roomy held served =
+    let now = calm_of (core_of w) w.is_open w.is_broken round first whole held.placed in
     let calm : IsCalm (core_of w) = now.1 in
     let next : Core = record (core_of w) { accepted = w.accepted ++ commands } in
     let x : Standing = calm.stands.0 in
     let stands : IsStanding w.device.synced calm.stands.0 = calm.stands.1 in
     let state : state_in calm.stands.0 ≡ whole_state (core_of w) = sym calm.stands.2 in
     let sound : IsSound length (state_in calm.stands.0) = subst (IsSound length) (sym state)
-    (sound_of (core_of w) w.is_open w.is_broken (round_at stage batches answers) held) in
+    (sound_of (core_of w) w.is_open w.is_broken (Some round) held) in
     let front : take w.position (w.accepted ++ commands) ≡ w.accepted = take_at w.accepted commands w.position
     (sym calm.counted) in
     let back : drop w.position (w.accepted ++ commands) ≡ commands = drop_at w.accepted commands w.position
@@ -249,7 +251,7 @@ evaluated_some w stage batches answers given commands first whole some few roomy
       stands = stands;
       state = state ∙ ap (state_from w.params) (sym front);
       told = omega
-          (arith, told_most (core_of w) w.is_open w.is_broken (round_at stage batches answers) held, calm.counted);
+          (arith, told_most (core_of w) w.is_open w.is_broken (Some round) held, calm.counted);
       counted = omega (arith, calm.counted, size);
       begins = subst (λ c. Begins Body calm.stands.0 c w.device.synced) (sym back) group;
       images =
@@ -265,9 +267,8 @@ evaluated_some w stage batches answers given commands first whole some few roomy
       kept = written_kept Body next written;
       placed =
           placed_from (core_of w) next w.is_open w.is_broken w.is_broken
-          (record { stage = stage; batches = batches; answers = answers }) (round_at (Writing Body) batches given)
-          held.placed
-          (λ running. running_at next w.is_broken (Writing Body) batches given whole
+          round (round_at (Writing Body) (giving round given)) held.placed
+          (λ running. running_at next w.is_broken (Writing Body) (giving round given) whole
           (subst (λ n. AreBelow n given) (sym size) served.below) written);
     }
 
@@ -281,70 +282,74 @@ some_asked : (calls : List Call) (given : List Answer) → 1 ≤ length (accepte
 some_asked calls given some =
     by_test (holds_command calls) (λ none. omega (arith, some, ap length (asked_none calls given none)))
 
--- then no segment is due
-not_due : (w : World) (calls : List Call) (given : List Answer) → AreEvaluated w calls given
-    → 1 ≤ length (accepted_of (zip calls given)) → IsDueIn w.device.synced → ⊥
-not_due w calls given evaluated some due =
-    let refused = evaluated.due (some_asked calls given some, due) in
-    omega (
-      arith,
-      some,
-      ap (λ l. length (accepted_of (zip calls l))) refused,
-      ap length
-          (refused_none OutOfMemory w.position calls),
-    )
-
-whole_held : (w : World) (stage : Stage) (batches : List Batch) (answers given : List Answer) → (stage ≡ Taking)
-    ⊎ (stage ≡ Ready) → w.is_broken ≡ false
-    → AreEvaluated w (calls_of batches) given → IsHeld (record w { round = round_at stage batches answers })
-    → IsHeld
-    (evaluated (record w { round = round_at stage batches answers }) given
-    (accepted_of (zip (calls_of batches) given)))
-whole_held w stage batches answers given first whole evaluation held =
-    by_commands (accepted_of (zip (calls_of batches) given)) refl
-    (served_of (core_of w) (calls_of batches) given held.accepted evaluation.served)
+answered_held : (w : World) (round : Round) (given : List Answer)
+    → (round.stage ≡ Taking) ⊎ (round.stage ≡ Ready) → w.is_broken ≡ false
+    → AreAnswered w (calls_of round.batches) given → IsHeld (record w { round = Some round })
+    → IsHeld (evaluated (record w { round = Some round }) given (accepted_of (zip (calls_of round.batches) given)))
+answered_held w round given first whole evaluation held =
+    by_commands (accepted_of (zip (calls_of round.batches) given)) refl
+    (served_of (core_of w) (calls_of round.batches) given held.accepted evaluation.count evaluation.legal)
   where
-    few_commands : (commands : Commands) → accepted_of (zip (calls_of batches) given) ≡ commands → length commands ≤ 64
-    few_commands commands are = omega (arith, few_accepted (calls_of batches) given, held.few, ap length are)
+    few_commands : (commands : Commands) → accepted_of (zip (calls_of round.batches) given) ≡ commands
+        → length commands ≤ 64
+    few_commands commands are = omega (arith, few_accepted (calls_of round.batches) given, held.few, ap length are)
 
-    by_commands : (commands : Commands) → accepted_of (zip (calls_of batches) given) ≡ commands
-        → IsServed (core_of w) (calls_of batches) given commands
-        → IsHeld (evaluated (record w { round = round_at stage batches answers }) given commands)
+    by_commands : (commands : Commands) → accepted_of (zip (calls_of round.batches) given) ≡ commands
+        → IsServed (core_of w) (calls_of round.batches) given commands
+        → IsHeld (evaluated (record w { round = Some round }) given commands)
     by_commands [] are served =
-        let now = calm_of (core_of w) w.is_open w.is_broken stage batches answers first whole held.placed in
-        evaluated_none w stage batches answers given held
-        (λ running. running_at (core_of w) w.is_broken Answering batches given whole
+        let now = calm_of (core_of w) w.is_open w.is_broken round first whole held.placed in
+        evaluated_none w round given held
+        (λ running. running_at (core_of w) w.is_broken Answering (giving round given) whole
         (subst (λ n. AreBelow n given) (let e : length w.accepted + 0 ≡ length w.accepted = omega arith in e)
         served.below) now.1)
     by_commands (command ∷ commands) are served =
-        evaluated_some w stage batches answers given (command ∷ commands) first whole (omega arith)
+        evaluated_some w round given (command ∷ commands) first whole (omega arith)
         (few_commands (command ∷ commands) are)
-        (not_due w (calls_of batches) given evaluation (omega (arith, ap length are))) held served
+        (λ due. evaluation.not_due (some_asked (calls_of round.batches) given (omega (arith, ap length are)), due)) held
+        served
 
-broken_held : (w : World) (stage : Stage) (batches : List Batch) (answers given : List Answer) → w.is_broken ≡ true
-    → given ≡ refusals Broken w.position (calls_of batches)
-    → IsHeld (record w { round = round_at stage batches answers })
-    → IsHeld
-    (evaluated (record w { round = round_at stage batches answers }) given
-    (accepted_of (zip (calls_of batches) given)))
-broken_held w stage batches answers given broken refused held =
-    let none : accepted_of (zip (calls_of batches) given) ≡ [] = ap (λ l. accepted_of (zip (calls_of batches) l))
-    refused ∙ refused_none Broken w.position (calls_of batches) in
-    subst (λ c. IsHeld (evaluated (record w { round = round_at stage batches answers }) given c)) (sym none)
-    (evaluated_none w stage batches answers given held
-    (λ running. subst (λ b. IsRunning (core_of w) b (round_at Answering batches given)) (sym broken)
-    (λ n. subst (AreBelow n) (sym refused) (refused_below Broken n w.position (calls_of batches) refl))))
+-- all calls are refused, for a failure
+refused_held : (w : World) (round : Round) (given : List Answer) (refusal : Refusal)
+    → is_failure (Refused refusal) ≡ true
+    → given ≡ refusals refusal w.position (calls_of round.batches)
+    → IsHeld (record w { round = Some round })
+    → (((n : ℕ) → AreBelow n given) → IsRunning (core_of w) w.is_broken (round_at Answering (giving round given)))
+    → IsHeld (evaluated (record w { round = Some round }) given (accepted_of (zip (calls_of round.batches) given)))
+refused_held w round given refusal fails refused held leads =
+    let none : accepted_of (zip (calls_of round.batches) given) ≡ [] =
+    ap (λ l. accepted_of (zip (calls_of round.batches) l)) refused
+    ∙ refused_none refusal w.position (calls_of round.batches) in
+    subst (λ c. IsHeld (evaluated (record w { round = Some round }) given c)) (sym none)
+    (evaluated_none w round given held
+    (λ running. leads (λ n. subst (AreBelow n) (sym refused)
+    (refused_below refusal n w.position (calls_of round.batches) fails))))
 
-evaluates_held : (w : World) (stage : Stage) (batches : List Batch) (answers given : List Answer) → (stage ≡ Taking)
-    ⊎ (stage ≡ Ready) → (broken : Bool) → w.is_broken ≡ broken
-    → IsEvaluated broken w (calls_of batches) given → IsHeld (record w { round = round_at stage batches answers })
-    → IsHeld
-    (evaluated (record w { round = round_at stage batches answers }) given
-    (accepted_of (zip (calls_of batches) given)))
-evaluates_held w stage batches answers given first true broken refused held =
-    broken_held w stage batches answers given broken refused held
-evaluates_held w stage batches answers given first false whole evaluation held =
-    whole_held w stage batches answers given first whole evaluation held
+shut_held : (w : World) (round : Round) (given : List Answer)
+    → (round.stage ≡ Taking) ⊎ (round.stage ≡ Ready) → w.is_broken ≡ false
+    → AreShut w (calls_of round.batches) given → IsHeld (record w { round = Some round })
+    → IsHeld (evaluated (record w { round = Some round }) given (accepted_of (zip (calls_of round.batches) given)))
+shut_held w round given first whole shut held = ⊎_elim
+    (λ refused. refused_held w round given OutOfMemory refl refused held still)
+    (λ refused. refused_held w round given DeviceRead refl refused held still)
+    shut.1
+  where
+    still : ((n : ℕ) → AreBelow n given) → IsRunning (core_of w) w.is_broken (round_at Answering (giving round given))
+    still below = running_at (core_of w) w.is_broken Answering (giving round given) whole (below (length w.accepted))
+        (calm_of (core_of w) w.is_open w.is_broken round first whole held.placed).1
+
+evaluates_held : (w : World) (round : Round) (given : List Answer)
+    → (round.stage ≡ Taking) ⊎ (round.stage ≡ Ready) → (broken : Bool) → w.is_broken ≡ broken
+    → IsEvaluated broken w (calls_of round.batches) given
+    → IsHeld (record w { round = Some round })
+    → IsHeld (evaluated (record w { round = Some round }) given (accepted_of (zip (calls_of round.batches) given)))
+evaluates_held w round given first true broken refused held =
+    refused_held w round given Broken refl refused held
+    (λ below. subst (λ b. IsRunning (core_of w) b (round_at Answering (giving round given))) (sym broken) below)
+evaluates_held w round given first false whole evaluation held = ⊎_elim
+    (λ answered. answered_held w round given first whole answered held)
+    (λ shut. shut_held w round given first whole shut held)
+    evaluation
 
 -- ---- answers
 
@@ -355,58 +360,57 @@ with_told k told = record k { told = told }
 told_calm : (k : Core) (told : ℕ) → IsCalm k → IsCalm (with_told k told)
 told_calm k told calm = record { only = calm.only; stands = calm.stands; counted = calm.counted }
 
-put_running : (k : Core) (told : ℕ) (broken : Bool) (batches rest : List Batch) (answers : List Answer) (count : ℕ)
-    → IsRunning k broken (round_at Answering batches answers)
-    → IsRunning (with_told k told) broken
-    (rest_of (record { stage = Answering; batches = batches; answers = answers }) rest count)
-put_running k told true batches [] answers count running = tt
-put_running k told true batches (batch ∷ rest) answers count running = λ n. below_drop n count answers (running n)
-put_running k told false batches [] answers count running = told_calm k told running.1
-put_running k told false batches (batch ∷ rest) answers count running =
-    (below_drop (length k.accepted) count answers running.0, told_calm k told running.1)
+put_running : (k : Core) (told : ℕ) (broken : Bool) (round : Round) (rest : List Batch) (count : ℕ)
+    → IsRunning k broken (round_at Answering round)
+    → IsRunning (with_told k told) broken (rest_of (record round { stage = Answering }) rest count)
+put_running k told true round [] count running = tt
+put_running k told true round (batch ∷ rest) count running = λ n. below_drop n count round.answers (running n)
+put_running k told false round [] count running = told_calm k told running.1
+put_running k told false round (batch ∷ rest) count running =
+    (below_drop (length k.accepted) count round.answers running.0, told_calm k told running.1)
 
-put_kept : (k : Core) (opened broken : Bool) (batches : List Batch) (answers : List Answer) (count : ℕ)
-    → Holds k opened broken (round_at Answering batches answers)
-    → (image : List ℕ) → IsImageOf k.device image → IsKept (with_told k (greatest k.told (take count answers))) image
-put_kept k true true batches answers count held image left =
+put_kept : (k : Core) (opened broken : Bool) (round : Round) (count : ℕ)
+    → Holds k opened broken (round_at Answering round)
+    → (image : List ℕ) → IsImageOf k.device image
+    → IsKept (with_told k (greatest k.told (take count round.answers))) image
+put_kept k true true round count held image left =
     let was = held.kept image left in
-    let most = greatest_below k.told k.told (take count answers) (omega arith)
-    (below_take k.told count answers (held.placed k.told)) in
+    let most = greatest_below k.told k.told (take count round.answers) (omega arith)
+    (below_take k.told count round.answers (held.placed k.told)) in
     record { n = was.n; told = omega (arith, most, was.told); most = was.most; stands = was.stands }
-put_kept k true false batches answers count held image left =
-    let most = greatest_below (length k.accepted) k.told (take count answers)
-    (told_most k true false (round_at Answering batches answers) held)
-    (below_take (length k.accepted) count answers held.placed.0) in
-    let kept = calm_kept (with_told k (greatest k.told (take count answers)))
-    (told_calm k (greatest k.told (take count answers)) held.placed.1) most image left in
+put_kept k true false round count held image left =
+    let most = greatest_below (length k.accepted) k.told (take count round.answers)
+    (told_most k true false (round_at Answering round) held)
+    (below_take (length k.accepted) count round.answers held.placed.0) in
+    let kept = calm_kept (with_told k (greatest k.told (take count round.answers)))
+    (told_calm k (greatest k.told (take count round.answers)) held.placed.1) most image left in
     kept
-put_kept k false broken batches answers count held image left =
-    let e : round_at Answering batches answers ≡ None = held.placed in absurd cc
+put_kept k false broken round count held image left =
+    let e : round_at Answering round ≡ None = held.placed in absurd cc
 
 few_left : (round : Round) (batch : Batch) (rest : List Batch) (count : ℕ) → length (calls_of (batch ∷ rest)) ≤ 64
     → length (calls_of (batches_in (rest_of round rest count))) ≤ 64
 few_left round batch [] count few = omega arith
 few_left round batch (next ∷ rest) count few = omega (arith, few, fewer_calls batch (next ∷ rest))
 
-put_held : (w : World) (batches : List Batch) (answers : List Answer)
-    → IsHeld (record w { round = round_at Answering batches answers })
-    → IsHeld (answer_put (record w { round = round_at Answering batches answers }) (round_at Answering batches answers))
-put_held w [] answers held = held
-put_held w (batch ∷ rest) answers held =
-    let told : ℕ = greatest w.told (take (length batch) answers) in
+put_held : (w : World) (round : Round) (batches : List Batch) → round.batches ≡ batches
+    → IsHeld (record w { round = round_at Answering round })
+    → IsHeld
+    (answered_first (record w { round = round_at Answering round }) (record round { stage = Answering }) batches)
+put_held w round [] are held = held
+put_held w round (batch ∷ rest) are held =
+    let told : ℕ = greatest w.told (take (length batch) round.answers) in
     record {
       within = held.within;
       accepted = held.accepted;
-      few = few_left (record { stage = Answering; batches = batch ∷ rest; answers = answers }) batch rest (length batch)
-          held.few;
+      few = few_left (record round { stage = Answering }) batch rest (length batch)
+          (subst (λ l. length (calls_of l) ≤ 64) are held.few);
       seen = held.seen;
-      kept = put_kept (core_of w) w.is_open w.is_broken (batch ∷ rest) answers (length batch) held;
+      kept = put_kept (core_of w) w.is_open w.is_broken round (length batch) held;
       placed =
           placed_from (core_of w) (with_told (core_of w) told) w.is_open w.is_broken w.is_broken
-          (record { stage = Answering; batches = batch ∷ rest; answers = answers })
-          (rest_of (record { stage = Answering; batches = batch ∷ rest; answers = answers }) rest (length batch))
-          held.placed
-          (put_running (core_of w) told w.is_broken (batch ∷ rest) rest answers (length batch));
+          (record round { stage = Answering }) (rest_of (record round { stage = Answering }) rest (length batch))
+          held.placed (put_running (core_of w) told w.is_broken round rest (length batch));
     }
 
 -- ---- crashes and openings
@@ -475,49 +479,41 @@ called_held w (Read place count) may held = read_held w place count held
 called_held w (FailedRead place count) may held = failed_read_held w place count held
 called_held w (Write place bytes) may held =
     let is = at_stage w may.0 (Writing may.2.0) may.1 may.2.1 in
-    from_round (λ v. IsHeld (called v (Write place bytes))) w (round_at (Writing may.2.0) may.0.batches may.0.answers)
-    is
-    (write_held w may.2.0 may.0.batches may.0.answers place bytes
-    (in_round IsHeld w (round_at (Writing may.2.0) may.0.batches may.0.answers) is held) may.2.2)
+    from_round (λ v. IsHeld (called v (Write place bytes))) w (round_at (Writing may.2.0) may.0) is
+    (write_held w may.2.0 may.0 place bytes
+    (in_round IsHeld w (round_at (Writing may.2.0) may.0) is held) may.2.2)
 called_held w (FailedWrite place bytes left) may held =
     let is = at_stage w may.0 (Writing may.2.0) may.1 may.2.1 in
-    from_round (λ v. IsHeld (called v (FailedWrite place bytes left))) w
-    (round_at (Writing may.2.0) may.0.batches may.0.answers) is
-    (broke_held (record w { device = asked_of w.device (FailedWrite place bytes left) }) may.2.0 may.0.batches
-    may.0.answers
-    (failed_write_held w may.2.0 may.0.batches may.0.answers place bytes left
-    (in_round IsHeld w (round_at (Writing may.2.0) may.0.batches may.0.answers) is held) may.2.2))
+    from_round (λ v. IsHeld (called v (FailedWrite place bytes left))) w (round_at (Writing may.2.0) may.0) is
+    (broke_held (record w { device = asked_of w.device (FailedWrite place bytes left) }) may.2.0 may.0
+    (failed_write_held w may.2.0 may.0 place bytes left
+    (in_round IsHeld w (round_at (Writing may.2.0) may.0) is held) may.2.2))
 called_held w Sync may held =
     let is = at_stage w may.0 (Writing may.2.0) may.1 may.2.1 in
-    from_round (λ v. IsHeld (called v Sync)) w (round_at (Writing may.2.0) may.0.batches may.0.answers) is
-    (sync_held w may.2.0 may.0.batches may.0.answers
-    (in_round IsHeld w (round_at (Writing may.2.0) may.0.batches may.0.answers) is held) may.2.2)
+    from_round (λ v. IsHeld (called v Sync)) w (round_at (Writing may.2.0) may.0) is
+    (sync_held w may.2.0 may.0 (in_round IsHeld w (round_at (Writing may.2.0) may.0) is held) may.2.2)
 called_held w FailedSync may held =
     let is = at_stage w may.0 (Writing may.2.0) may.1 may.2.1 in
-    from_round (λ v. IsHeld (called v FailedSync)) w (round_at (Writing may.2.0) may.0.batches may.0.answers) is
-    (broke_held (record w { device = asked_of w.device FailedSync }) may.2.0 may.0.batches may.0.answers
-    (failed_sync_held (in_phase w may.2.0 may.0.batches may.0.answers)
-    (in_round IsHeld w (round_at (Writing may.2.0) may.0.batches may.0.answers) is held)))
+    from_round (λ v. IsHeld (called v FailedSync)) w (round_at (Writing may.2.0) may.0) is
+    (broke_held (record w { device = asked_of w.device FailedSync }) may.2.0 may.0
+    (failed_sync_held (in_phase w may.2.0 may.0) (in_round IsHeld w (round_at (Writing may.2.0) may.0) is held)))
 
 pub after_held : (w : World) (e : Event) → HasPlace w e → IsHeld w → IsHeld (after w e)
 after_held w (event.Put seat asks) may held = held
 after_held w event.Takes may held = taken_held w w.kept w.line may.0 (may_take w.kept w.line w.round may.1) held
 after_held w (event.Opens segment copy) may held =
     let is = at_stage w may.2.0 Taking may.2.1 may.2.2.0 in
-    from_round (λ v. IsHeld (after v (event.Opens segment copy))) w (round_at Taking may.2.0.batches may.2.0.answers) is
-    (opens_held w segment copy may.2.0.batches may.2.0.answers may.0 may.1
-    (in_round IsHeld w (round_at Taking may.2.0.batches may.2.0.answers) is held))
+    from_round (λ v. IsHeld (after v (event.Opens segment copy))) w (round_at Taking may.2.0) is
+    (opens_held w segment copy may.2.0 may.0 may.1 (in_round IsHeld w (round_at Taking may.2.0) is held))
 after_held w (event.Evaluates given) may held =
-    let round : Round = may.0 in
     from_round (λ v. IsHeld (after v (event.Evaluates given))) w (Some may.0) may.1
-    (evaluates_held w may.0.stage may.0.batches may.0.answers given may.2.0 w.is_broken refl may.2.1
+    (evaluates_held w may.0 given may.2.0 w.is_broken refl may.2.1
     (in_round IsHeld w (Some may.0) may.1 held))
 after_held w (event.Calls call) may held = called_held w call may held
 after_held w event.Answers may held =
-    let is = at_stage w may.0 Answering may.1 may.2 in
-    from_round (λ v. IsHeld (after v event.Answers)) w (round_at Answering may.0.batches may.0.answers) is
-    (put_held w may.0.batches may.0.answers
-    (in_round IsHeld w (round_at Answering may.0.batches may.0.answers) is held))
+    let is = at_stage w may.0 Answering may.1 may.2.0 in
+    from_round (λ v. IsHeld (after v event.Answers)) w (round_at Answering may.0) is
+    (put_held w may.0 may.0.batches refl (in_round IsHeld w (round_at Answering may.0) is held))
 after_held w (event.Hears seat) may held = held
 after_held w event.Packet may held = held
 after_held w (event.Crash image) may held = stopped_held w image held (held.kept image may)

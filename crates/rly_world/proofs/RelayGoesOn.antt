@@ -9,7 +9,7 @@ use Rattle.rly_gate.specs.Group.{IsOpen, frame_of, open_gate}
 use Rattle.rly_record.specs.Spelling.{body_of}
 use Rattle.rly_segment.specs.Heads.{segment_place}
 use Rattle.rly_segment.proofs.Gates.{zero_closes}
-use Rattle.rly_journal.specs.Standing.{Commands, IsStanding, Standing, gate_of}
+use Rattle.rly_standing.specs.Standing.{Commands, IsStanding, Standing, gate_of}
 use Rattle.rly_segment.specs.Formatted.{IsFormatted}
 use Rattle.rly_world.proofs.RelayBegins.{one_standing}
 use Rattle.rly_world.specs.RelayPhases.{IsDone, IsNeeded, bytes_of, place_of}
@@ -59,7 +59,7 @@ pub goes_on : (w : World) (round : Round) (phase : Phase) → IsHeld w → w.rou
 goes_on w round phase held is at =
     let placed = subst (IsPlaced (core_of w) w.is_open w.is_broken) (at_stage w round (Writing phase) is at)
     held.placed in
-    let now = (writing_of (core_of w) w.is_open w.is_broken phase round.batches round.answers placed).2 in
+    let now = (writing_of (core_of w) w.is_open w.is_broken phase round placed).2 in
     let x : Standing = now.x in
     let within : place_of phase now.x + length (bytes_of phase now.x (logged w)) ≤ length (seen_of w.device) =
     omega (
@@ -124,7 +124,7 @@ pub own_done : (w : World) (round : Round) (phase : Phase) → IsHeld w → w.ro
 own_done w round phase held is at x stands =
     let placed = subst (IsPlaced (core_of w) w.is_open w.is_broken) (at_stage w round (Writing phase) is at)
     held.placed in
-    let now = (writing_of (core_of w) w.is_open w.is_broken phase round.batches round.answers placed).2 in
+    let now = (writing_of (core_of w) w.is_open w.is_broken phase round placed).2 in
     let within : place_of phase now.x + length (bytes_of phase now.x (logged w)) ≤ length (seen_of w.device) = omega (
       arith,
       phase_within phase now.x (logged w) w.device.synced now.stands now.begins,

@@ -5,7 +5,7 @@ use Rattle.rly_core.specs.declared.params.Params.{Params}
 use Rattle.rly_machine.specs.declared.call.Answer.{Answer}
 use Rattle.rly_machine.specs.Fold.{AllAccepted}
 use Rattle.rly_machine.specs.State.{State, new_state}
-use Rattle.rly_journal.specs.Standing.{Commands, IsStanding, Standing, Stands, state_in}
+use Rattle.rly_standing.specs.Standing.{Commands, IsStanding, Standing, Stands, state_in}
 use Rattle.rly_world.specs.RelayWorld.{Answering, Device, IsImageOf, Phase, Ready, Round, Stage, Taking, World, Writing}
 use Rattle.rly_world.specs.RelayWorld.{batches_in, calls_of, seen_of, state_from}
 use Rattle.rly_world.proofs.RelayAnswers.{AreBelow}

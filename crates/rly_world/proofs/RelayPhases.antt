@@ -14,14 +14,14 @@ use Rattle.rly_gate.proofs.Appending.{behind_the_gate, gate_opened}
 use Rattle.rly_record.specs.Spelling.{HaveBody, body_of}
 use Rattle.rly_segment.specs.Heads.{IsOpeningOf, head_spelled, segment_place}
 use Rattle.rly_segment.proofs.Segments.{segment_within}
-use Rattle.rly_journal.specs.Framing.{IsHeadFor}
-use Rattle.rly_journal.specs.Standing.{Commands, HoldGroups, IsStanding, Standing, Stands, first_of, gate_behind}
-use Rattle.rly_journal.specs.Standing.{gate_of, next_gate, standing_end, state_in}
-use Rattle.rly_journal.proofs.Agreeing.{number_still, same_behind}
-use Rattle.rly_journal.proofs.Frame.{length-spelled}
-use Rattle.rly_journal.proofs.Framing.{opening_law, read_in}
-use Rattle.rly_journal.proofs.Growing.{grown, replayed-more, with_group}
-use Rattle.rly_journal.proofs.Once.{gate_there}
+use Rattle.rly_standing.specs.Framing.{IsHeadFor}
+use Rattle.rly_standing.specs.Standing.{Commands, HoldGroups, IsStanding, Standing, Stands, first_of, gate_behind}
+use Rattle.rly_standing.specs.Standing.{gate_of, next_gate, standing_end, state_in}
+use Rattle.rly_standing.proofs.Agreeing.{number_still, same_behind}
+use Rattle.rly_standing.proofs.Frame.{length-spelled}
+use Rattle.rly_standing.proofs.Framing.{opening_law, read_in}
+use Rattle.rly_standing.proofs.Growing.{grown, replayed-more, with_group}
+use Rattle.rly_standing.proofs.Once.{gate_there}
 use Rattle.rly_world.specs.RelayPhases.{IsDone, IsNeeded, bytes_of, next_head, place_of}
 use Rattle.rly_world.specs.RelayWorld.{Body, Gate, Head, Phase, Seal, Switch}
 use Rattle.rly_world.proofs.RelayStill.{IsStill, stays_still}

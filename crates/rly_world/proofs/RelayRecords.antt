@@ -17,7 +17,7 @@ use Rattle.rly_machine.proofs.RealReplies.{counted}
 use Rattle.rly_machine.proofs.Refusals.{may_pick, may_release, may_take}
 use Rattle.rly_machine.proofs.Runs.{sound_step}
 use Rattle.rly_record.specs.Spelling.{HasRecord}
-use Rattle.rly_journal.specs.Standing.{Commands}
+use Rattle.rly_standing.specs.Standing.{Commands}
 
 -- a step that counts was refused by no check
 pub unrefused : (refusal : Option Reply) (s : State (List ℕ)) (accepted : State (List ℕ) × Reply)

@@ -7,18 +7,17 @@ use Rattle.rly_core.specs.declared.params.Geometry.{Geometry}
 use Rattle.rly_disk.specs.Trace.{Sync, Write}
 use Rattle.rly_gate.specs.Calls.{settling}
 use Rattle.rly_gate.specs.Group.{IsClosed, IsOpen, open_gate}
-use Rattle.rly_machine.specs.declared.call.Answer.{Answer}
 use Rattle.rly_machine.specs.State.{State}
 use Rattle.rly_checkpoint.specs.declared.stored.Stored.{Stored}
 use Rattle.rly_segment.specs.Calls.{replacing}
 use Rattle.rly_segment.specs.Formatted.{IsFormatted}
 use Rattle.rly_segment.specs.Heads.{segment_place}
-use Rattle.rly_journal.specs.Standing.{Commands, IsStanding, Standing}
-use Rattle.rly_journal.proofs.Framing.{read_in}
+use Rattle.rly_standing.specs.Standing.{Commands, IsStanding, Standing}
+use Rattle.rly_standing.proofs.Framing.{read_in}
 use Rattle.rly_world.specs.RelayPhases.{IsDone, IsNeeded, next_head}
 use Rattle.rly_world.specs.RelaySteps.{Event, MayCall, Run, after}
 use Rattle.rly_world.specs.RelaySteps as event
-use Rattle.rly_world.specs.RelayWorld.{Batch, Head, Phase, Ready, Round, Seal, Switch, World, Writing, asked_of}
+use Rattle.rly_world.specs.RelayWorld.{Head, Phase, Ready, Round, Seal, Switch, World, Writing, asked_of}
 use Rattle.rly_world.specs.RelayWorld.{logged, new_world, seen_of}
 use Rattle.rly_world.proofs.RelayAppends.{after_both, both_run, may_finish, own_write}
 use Rattle.rly_world.proofs.RelayBegins.{one_standing}
@@ -39,31 +38,31 @@ StandsOn phase = (y : Standing) (commands : Commands) (old seen : List ℕ) → 
 abbrev pub written_standing : World → Phase → Standing → Standing
 written_standing w phase x = read_in (seen_of (asked_of w.device (own_write phase x (logged w)))) x
 
-pub stands_on : (w : World) (phase : Phase) (batches : List Batch) (answers : List Answer) (x : Standing) → StandsOn phase
-    → IsHeld (in_phase w phase batches answers) → IsStanding w.device.synced x → IsNeeded phase x (seen_of w.device)
+pub stands_on : (w : World) (phase : Phase) (round : Round) (x : Standing) → StandsOn phase
+    → IsHeld (in_phase w phase round) → IsStanding w.device.synced x → IsNeeded phase x (seen_of w.device)
     → IsStanding (seen_of (asked_of w.device (own_write phase x (logged w)))) (written_standing w phase x)
-stands_on w phase batches answers x next_of held stands needed =
-    let v : World = in_phase w phase batches answers in
-    let round : Round = record { stage = Writing phase; batches = batches; answers = answers } in
-    let may = may_finish v round phase x held refl refl stands in
+stands_on w phase round x next_of held stands needed =
+    let v : World = in_phase w phase round in
+    let writing : Round = record round { stage = Writing phase } in
+    let may = may_finish v writing phase x held refl refl stands in
     let next : World = after v (event.Calls (own_write phase x (logged w))) in
     let written : IsHeld next =
     run_held v next (event.Calls (own_write phase x (logged w)) ∷ []) (next, inl (may.write needed, refl), refl) held in
-    let now = (writing_of (core_of next) w.is_open w.is_broken phase batches answers written.placed).2 in
+    let now = (writing_of (core_of next) w.is_open w.is_broken phase round written.placed).2 in
     let same : now.x ≡ x = one_standing now.x x now.stands stands in
     let seen : List ℕ = seen_of (asked_of w.device (own_write phase x (logged w))) in
-    let done : IsDone phase x (logged w) seen = own_done v round phase held refl refl x stands in
+    let done : IsDone phase x (logged w) seen = own_done v writing phase held refl refl x stands in
     subst (λ y. IsStanding seen (read_in seen y)) same
     (next_of now.x (logged w) w.device.synced seen now.stands now.begins (now.images seen written.seen)
     (subst (λ y. IsDone phase y (logged w) seen) (sym same) done))
 
 -- the same where the gate read closed
-pub stands_closed : (w : World) (segment : ℕ) (copy : State Stored) (batches : List Batch) (answers : List Answer)
-    (x : Standing) → IsHeld (in_phase w (Seal segment copy) batches answers) → IsStanding w.device.synced x
+pub stands_closed : (w : World) (segment : ℕ) (copy : State Stored) (round : Round)
+    (x : Standing) → IsHeld (in_phase w (Seal segment copy) round) → IsStanding w.device.synced x
     → IsClosed (seen_of w.device) (segment_place x.geometry segment)
     → IsStanding (seen_of w.device) (read_in (seen_of w.device) x)
-stands_closed w segment copy batches answers x held stands closed =
-    let now = (writing_of (core_of w) w.is_open w.is_broken (Seal segment copy) batches answers held.placed).2 in
+stands_closed w segment copy round x held stands closed =
+    let now = (writing_of (core_of w) w.is_open w.is_broken (Seal segment copy) round held.placed).2 in
     let same : now.x ≡ x = one_standing now.x x now.stands stands in
     subst (λ y. IsStanding (seen_of w.device) (read_in (seen_of w.device) y)) same
     (seal_next segment copy now.x (logged w) w.device.synced (seen_of w.device) now.stands now.begins
@@ -84,28 +83,28 @@ settling_some at [] some = absurd (omega (arith, some))
 settling_some at (byte ∷ bytes) some = refl
 
 -- from the head on
-abbrev HeadsOn : World → ℕ → State Stored → Standing → List Batch → List Answer → Type 0
-HeadsOn v segment copy x batches answers = (new : World)
+abbrev HeadsOn : World → ℕ → State Stored → Standing → Round → Type 0
+HeadsOn v segment copy x round = (new : World)
     × Run v (map event.Calls
     (settling (segment_place x.geometry segment + 1) (next_head x copy)
     ++ settling (segment_place x.geometry segment) (open_gate ∷ []))) new
-    × (new.round ≡ round_at Ready batches answers) × (new.device.since ≡ [])
+    × (new.round ≡ round_at Ready round) × (new.device.since ≡ [])
 
-pub head_on : (w : World) (segment : ℕ) (copy : State Stored) (batches : List Batch) (answers : List Answer) (x : Standing)
-    → IsHeld (in_phase w (Head segment copy) batches answers) → IsStanding w.device.synced x
-    → HeadsOn (in_phase w (Head segment copy) batches answers) segment copy x batches answers
-head_on w segment copy batches answers x held stands =
-    let v : World = in_phase w (Head segment copy) batches answers in
+pub head_on : (w : World) (segment : ℕ) (copy : State Stored) (round : Round) (x : Standing)
+    → IsHeld (in_phase w (Head segment copy) round) → IsStanding w.device.synced x
+    → HeadsOn (in_phase w (Head segment copy) round) segment copy x round
+head_on w segment copy round x held stands =
+    let v : World = in_phase w (Head segment copy) round in
     let next : World = after_both v (Head segment copy) x in
     let y : Standing = written_standing w (Head segment copy) x in
     let new : World = after_both next (Switch segment copy) y in
-    let first = may_finish v (record { stage = Writing (Head segment copy); batches = batches; answers = answers })
+    let first = may_finish v (record round { stage = Writing (Head segment copy) })
     (Head segment copy) x held refl refl stands in
     let held_next : IsHeld next = run_held v next
     (event.Calls (own_write (Head segment copy) x (logged w)) ∷ event.Calls Sync ∷ [])
     (both_run v (Head segment copy) x [] next first tt refl) held in
-    let after_head = stands_on w (Head segment copy) batches answers x (head_keeps segment copy) held stands tt in
-    let second = may_finish next (record { stage = Writing (Switch segment copy); batches = batches; answers = answers })
+    let after_head = stands_on w (Head segment copy) round x (head_keeps segment copy) held stands tt in
+    let second = may_finish next (record round { stage = Writing (Switch segment copy) })
     (Switch segment copy) y held_next refl refl after_head in
     let calls = settling_some (segment_place x.geometry segment + 1) (next_head x copy)
     (omega (arith, length-behind x copy)) in (
@@ -120,10 +119,10 @@ head_on w segment copy batches answers x held stands =
     )
 
 -- from the gate on
-abbrev ReplacesOn : World → ℕ → State Stored → Bool → Standing → List Batch → List Answer → Type 0
-ReplacesOn v segment copy closed x batches answers = (new : World)
+abbrev ReplacesOn : World → ℕ → State Stored → Bool → Standing → Round → Type 0
+ReplacesOn v segment copy closed x round = (new : World)
     × Run v (map event.Calls (replacing (segment_place x.geometry segment) closed (next_head x copy))) new
-    × (new.round ≡ round_at Ready batches answers) × (new.device.since ≡ [])
+    × (new.round ≡ round_at Ready round) × (new.device.since ≡ [])
 
 pub is_open : (place : ℕ) (seen : List ℕ) → (IsTrue false ↔ IsClosed seen place) → IsOpen seen place
 is_open place seen told = elim (cases_eq (get_or seen place 0) open_gate) [
@@ -131,35 +130,35 @@ is_open place seen told = elim (cases_eq (get_or seen place 0) open_gate) [
   | inr closed ↦ absurd (false≢true (told.1 closed))
 ]
 
-replaces_on : (w : World) (segment : ℕ) (copy : State Stored) (closed : Bool) (batches : List Batch) (answers : List Answer) (x : Standing)
-    → IsHeld (in_phase w (Seal segment copy) batches answers) → IsStanding w.device.synced x
+replaces_on : (w : World) (segment : ℕ) (copy : State Stored) (closed : Bool) (round : Round) (x : Standing)
+    → IsHeld (in_phase w (Seal segment copy) round) → IsStanding w.device.synced x
     → (IsTrue closed ↔ IsClosed (seen_of w.device) (segment_place x.geometry segment))
-    → ReplacesOn (in_phase w (Seal segment copy) batches answers) segment copy closed x batches answers
-replaces_on w segment copy true batches answers x held stands told =
-    let v : World = in_phase w (Seal segment copy) batches answers in
+    → ReplacesOn (in_phase w (Seal segment copy) round) segment copy closed x round
+replaces_on w segment copy true round x held stands told =
+    let v : World = in_phase w (Seal segment copy) round in
     let shut = told.0 refl in
-    let goes = goes_on v (record { stage = Writing (Seal segment copy); batches = batches; answers = answers })
+    let goes = goes_on v (record round { stage = Writing (Seal segment copy) })
     (Seal segment copy) held refl refl in
     let same : goes.x ≡ x = one_standing goes.x x goes.stands stands in
     let sync : MayCall v Sync = goes.sync
     (subst (λ y. IsClosed (seen_of w.device) (segment_place y.geometry segment)) (sym same) shut) in
     let next : World = after v (event.Calls Sync) in
     let held_next : IsHeld next = run_held v next (event.Calls Sync ∷ []) (next, inl (sync, refl), refl) held in
-    let rest = head_on (record w { device = asked_of w.device Sync }) segment copy batches answers
-    (read_in (seen_of w.device) x) held_next (stands_closed w segment copy batches answers x held stands shut) in
+    let rest = head_on (record w { device = asked_of w.device Sync }) segment copy round
+    (read_in (seen_of w.device) x) held_next (stands_closed w segment copy round x held stands shut) in
     (rest.0, (next, inl (sync, refl), rest.1), rest.2, rest.3)
-replaces_on w segment copy false batches answers x held stands told =
-    let v : World = in_phase w (Seal segment copy) batches answers in
+replaces_on w segment copy false round x held stands told =
+    let v : World = in_phase w (Seal segment copy) round in
     let opened = is_open (segment_place x.geometry segment) (seen_of w.device) told in
     let next : World = after_both v (Seal segment copy) x in
-    let may = may_finish v (record { stage = Writing (Seal segment copy); batches = batches; answers = answers })
+    let may = may_finish v (record round { stage = Writing (Seal segment copy) })
     (Seal segment copy) x held refl refl stands in
     let held_next : IsHeld next = run_held v next
     (event.Calls (own_write (Seal segment copy) x (logged w)) ∷ event.Calls Sync ∷ [])
     (both_run v (Seal segment copy) x [] next may opened refl) held in
-    let after_seal = stands_on w (Seal segment copy) batches answers x (seal_keeps segment copy) held stands opened in
+    let after_seal = stands_on w (Seal segment copy) round x (seal_keeps segment copy) held stands opened in
     let rest = head_on (record w { device = asked_of (asked_of w.device (own_write (Seal segment copy) x (logged w))) Sync })
-    segment copy batches answers (written_standing w (Seal segment copy) x) held_next after_seal in (
+    segment copy round (written_standing w (Seal segment copy) x) held_next after_seal in (
       rest.0,
       both_run v (Seal segment copy) x
           (map event.Calls
@@ -174,11 +173,11 @@ pub relay_replaces : (g : Geometry) (seats : ℕ) (bytes : List ℕ) (events : L
     → IsFormatted g bytes → Run (new_world g.params seats bytes) events w → w.round ≡ Some round
     → round.stage ≡ Writing (Seal segment copy) → IsStanding w.device.synced x
     → (IsTrue closed ↔ IsClosed (seen_of w.device) (segment_place x.geometry segment))
-    → ReplacesOn w segment copy closed x round.batches round.answers
+    → ReplacesOn w segment copy closed x round
 relay_replaces g seats bytes events w round segment copy closed x formatted run is at stands told =
     let known = at_stage w round (Writing (Seal segment copy)) is at in
-    from_round (λ v. ReplacesOn v segment copy closed x round.batches round.answers) w
-    (round_at (Writing (Seal segment copy)) round.batches round.answers) known
-    (replaces_on w segment copy closed round.batches round.answers x
-    (in_round IsHeld w (round_at (Writing (Seal segment copy)) round.batches round.answers) known
+    from_round (λ v. ReplacesOn v segment copy closed x round) w
+    (round_at (Writing (Seal segment copy)) round) known
+    (replaces_on w segment copy closed round x
+    (in_round IsHeld w (round_at (Writing (Seal segment copy)) round) known
     (holds g seats bytes events w formatted run)) stands told)

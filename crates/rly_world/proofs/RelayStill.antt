@@ -9,13 +9,13 @@ use Rattle.rly_checkpoint.specs.declared.stored.Stored.{Stored}
 use Rattle.rly_gate.specs.Group.{IsClosed}
 use Rattle.rly_places.specs.Placed.{LiesElsewhere}
 use Rattle.rly_segment.specs.Heads.{IsPassedOver, segment_place}
-use Rattle.rly_journal.specs.Framing.{IsHeadFor, IsUntouched, SamePayload}
-use Rattle.rly_journal.specs.Standing.{IsStanding, Standing, first_of, gate_of, state_in, stored_in}
-use Rattle.rly_journal.proofs.Agreeing.{other_bytes, same_before}
-use Rattle.rly_journal.proofs.Frame.{gate_above}
-use Rattle.rly_journal.proofs.Framing.{read_in, untouched}
-use Rattle.rly_journal.proofs.Growing.{gate_of-within, long_segments, other_heads}
-use Rattle.rly_journal.proofs.Inlining.{elsewhere_still, lies_still}
+use Rattle.rly_standing.specs.Framing.{IsHeadFor, IsUntouched, SamePayload}
+use Rattle.rly_standing.specs.Standing.{IsStanding, Standing, first_of, gate_of, state_in, stored_in}
+use Rattle.rly_standing.proofs.Agreeing.{other_bytes, same_before}
+use Rattle.rly_standing.proofs.Frame.{gate_above}
+use Rattle.rly_standing.proofs.Framing.{read_in, untouched}
+use Rattle.rly_standing.proofs.Growing.{gate_of-within, long_segments, other_heads}
+use Rattle.rly_standing.proofs.Inlining.{elsewhere_still, lies_still}
 
 -- on another image it is the same standing, but for the bytes of payloads that aren't live, and the head may be written
 -- there too

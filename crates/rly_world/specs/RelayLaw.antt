@@ -5,7 +5,7 @@ use Rattle.rly_core.specs.declared.params.Params.{Params}
 use Rattle.rly_machine.specs.declared.command.Command.TheVariants.{Pick, Release, Take}
 use Rattle.rly_machine.specs.Custody.{KeepsCustody, account_along}
 use Rattle.rly_machine.specs.State.{has_hop, hop_at, new_state}
-use Rattle.rly_journal.specs.Standing.{Commands, Stands}
+use Rattle.rly_standing.specs.Standing.{Commands, Stands}
 use Rattle.rly_world.specs.RelayWorld.{World, state_from}
 
 -- the numbers up to which the Releases of a hop went, in order

@@ -7,8 +7,8 @@ use Rattle.rly_checkpoint.specs.declared.stored.Stored.{Stored}
 use Rattle.rly_reclaim.specs.Room.{IsDue}
 use Rattle.rly_record.specs.Spelling.{body_of}
 use Rattle.rly_segment.specs.Heads.{head_spelled, segment_place}
-use Rattle.rly_journal.specs.Framing.{IsHeadFor}
-use Rattle.rly_journal.specs.Standing.{Commands, IsStanding, Standing, gate_of}
+use Rattle.rly_standing.specs.Framing.{IsHeadFor}
+use Rattle.rly_standing.specs.Standing.{Commands, IsStanding, Standing, gate_of}
 use Rattle.rly_world.specs.RelayWorld.{Body, Device, Gate, Head, Phase, Seal, Switch, seen_of}
 
 -- where its range begins

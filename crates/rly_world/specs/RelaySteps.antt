@@ -2,23 +2,24 @@
 use Rattle.std.specs.Prelude.{◌≡◌, ◌≢◌, ◌⊎◌, ◌+◌, ◌<◌, ℕ, max, nat_le, Bool, true, false, if◌then◌else◌}
 use Rattle.std.specs.Prelude.{List, [], ◌∷◌, ◌++◌, Option, Some, None, length, map, take, drop, slice_index_or}
 use Rattle.std.specs.Prelude.{slice_set}
-use Rattle.std.specs.List.{zip}
+use Rattle.std.specs.List.{AllByRecursion, zip}
 use Rattle.rly_core.specs.Bounds.{IsIn}
-use Rattle.rly_core.specs.declared.refusal.Refusal.TheVariants.{Broken, OutOfMemory, Unsure}
+use Rattle.rly_core.specs.declared.refusal.Refusal.TheVariants.{Broken, DeviceRead, OutOfMemory, Unsure}
 use Rattle.rly_disk.specs.Trace.{DeviceEvent, FailedRead, FailedSync, FailedWrite, Read, Sync, Write}
 use Rattle.rly_machine.specs.declared.call.Answer.{Answer}
 use Rattle.rly_machine.specs.declared.call.Call.{Call}
 use Rattle.rly_machine.specs.declared.command.Ask.{Ask}
-use Rattle.rly_machine.specs.History.{accepted_of, is_failure, state_after}
+use Rattle.rly_machine.specs.declared.reply.Reply.TheVariants.{Refused}
+use Rattle.rly_machine.specs.History.{Legal, accepted_of, is_failure}
 use Rattle.rly_machine.specs.State.{State}
 use Rattle.rly_checkpoint.specs.declared.stored.Stored.{Stored}
 use Rattle.rly_journal.specs.Journal.{holds_command}
-use Rattle.rly_journal.specs.Rounds.{AreServed, IsRefusedWhereWanted, refusals}
-use Rattle.rly_journal.specs.Standing.{Commands, IsStanding, Standing, Stands}
+use Rattle.rly_journal.specs.Rounds.{AreLostWhereWanted, OnlyLost, refusals}
+use Rattle.rly_standing.specs.Standing.{Commands, IsStanding, Standing, Stands}
 use Rattle.rly_world.specs.RelayPhases.{IsDueIn, IsNeeded, MayOpen, MaySync, MayWrite, bytes_of, place_of}
 use Rattle.rly_world.specs.RelayWorld.{Answering, Batch, Body, Device, Gate, Head, IsImageOf, Phase, Ready, Round, Seal}
 use Rattle.rly_world.specs.RelayWorld.{SeatView, Stage, Switch, Taking, World, Writing, asked_of, batches_in, calls_of}
-use Rattle.rly_world.specs.RelayWorld.{logged, new_seat, seen_of, state_from}
+use Rattle.rly_world.specs.RelayWorld.{has_failed_read, logged, new_seat, seen_of, state_from}
 
 pub data Event : Type 0 where
   -- a seat puts a batch of asks in the line
@@ -92,7 +93,12 @@ abbrev pub joined : World → Batch → World
 joined w batch =
     if nat_le (length (calls_of (batches_in w.round ++ batch ∷ []))) 64
     then record w {
-      round = Some (record { stage = Taking; batches = batches_in w.round ++ batch ∷ []; answers = [] });
+      round = Some (record {
+        stage = Taking;
+        batches = batches_in w.round ++ batch ∷ [];
+        answers = [];
+        read_failed = has_failed_read w.round;
+      });
     }
     else record w { kept = Some batch }
 
@@ -160,9 +166,14 @@ broke w = record w {
 abbrev pub on_device : World → DeviceEvent → World
 on_device w call = record w { device = asked_of w.device call }
 
+-- a read failed that was made for the round in hand
+abbrev pub unread : Option Round → Option Round
+unread None = None
+unread (Some round) = Some (record round { read_failed = true })
+
 abbrev pub called : World → DeviceEvent → World
 called w (Read place count) = on_device w (Read place count)
-called w (FailedRead place count) = on_device w (FailedRead place count)
+called w (FailedRead place count) = record (on_device w (FailedRead place count)) { round = unread w.round }
 called w (Write place bytes) = on_device w (Write place bytes)
 called w (FailedWrite place bytes left) = broke (on_device w (FailedWrite place bytes left))
 called w Sync = synced_in (on_device w Sync) w.round
@@ -236,17 +247,31 @@ MayTake None (batch ∷ line) (Some round) = round.stage ≡ Taking
 abbrev pub IsDueFor : World → List Call → Type 0
 IsDueFor w calls = (holds_command calls ≡ true) × IsDueIn w.device.synced
 
--- the calls are answered one after the other by the machine, or refused memory where they may want it; all of them are
--- refused memory where it was refused for the segment that is due
-pub record AreEvaluated (w : World) (calls : List Call) (given : List Answer) : Type 0 where
-  pub served : AreServed calls given (state_from w.params w.accepted)
-      (state_after (state_from w.params w.accepted) (zip calls given))
-  pub due : IsDueFor w calls → given ≡ refusals OutOfMemory w.position calls
-  pub wanted : (IsDueFor w calls → ⊥) → IsRefusedWhereWanted (state_from w.params w.accepted) (zip calls given)
+-- no segment is due: the calls are answered one after the other by the machine, but some that may want memory or bytes
+-- are refused memory, or told that a read failed
+pub record AreAnswered (w : World) (calls : List Call) (given : List Answer) : Type 0 where
+  pub not_due : IsDueFor w calls → ⊥
+  pub count : length given ≡ length calls
+  pub legal : Legal (state_from w.params w.accepted) (zip calls given)
+  pub only : AllByRecursion OnlyLost (zip calls given)
+  pub wanted : AreLostWhereWanted (state_from w.params w.accepted) (zip calls given)
+
+-- a segment is due and isn't opened: all of them are refused memory, or told that a read failed
+abbrev pub AreShut : World → List Call → List Answer → Type 0
+AreShut w calls given =
+    IsDueFor w calls
+    × ((given ≡ refusals OutOfMemory w.position calls) ⊎ (given ≡ refusals DeviceRead w.position calls))
+
+abbrev pub AreEvaluated : World → List Call → List Answer → Type 0
+AreEvaluated w calls given = AreAnswered w calls given ⊎ AreShut w calls given
 
 abbrev pub IsEvaluated : Bool → World → List Call → List Answer → Type 0
 IsEvaluated true w calls given = given ≡ refusals Broken w.position calls
 IsEvaluated false w calls given = AreEvaluated w calls given
+
+-- a call is told that a read failed only if one did that was made for its round
+abbrev pub AreRead : Round → Type 0
+AreRead round = AllByRecursion (λ answer. answer.reply ≡ Refused DeviceRead → round.read_failed ≡ true) round.answers
 
 -- reads may be made in any round; of a phase, writes in its range, and a sync once it is done
 abbrev pub MayCall : World → DeviceEvent → Type 0
@@ -266,7 +291,7 @@ HasPlace w (Opens segment copy) = (w.is_broken ≡ false) × MayOpen w.device.sy
 HasPlace w (Evaluates given) = InRound w (λ round.
     ((round.stage ≡ Taking) ⊎ (round.stage ≡ Ready)) × IsEvaluated w.is_broken w (calls_of round.batches) given)
 HasPlace w (Calls call) = MayCall w call
-HasPlace w Answers = InRound w (λ round. round.stage ≡ Answering)
+HasPlace w Answers = InRound w (λ round. (round.stage ≡ Answering) × AreRead round)
 HasPlace w (Hears seat) = (seat < length w.seats) × ((seat_at w seat).replies ≢ [])
 HasPlace w Packet = Unit {0}
 HasPlace w (Crash image) = IsImageOf w.device image

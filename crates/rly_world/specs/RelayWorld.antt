@@ -9,7 +9,7 @@ use Rattle.rly_machine.specs.declared.call.Call.{Call}
 use Rattle.rly_machine.specs.Fold.{fold}
 use Rattle.rly_machine.specs.State.{State, new_state}
 use Rattle.rly_checkpoint.specs.declared.stored.Stored.{Stored}
-use Rattle.rly_journal.specs.Standing.{Commands}
+use Rattle.rly_standing.specs.Standing.{Commands}
 
 -- what a seat puts at once: 1 to 64 calls
 abbrev pub Batch : Type 0
@@ -62,11 +62,13 @@ pub data Stage : Type 0 where
   Ready : Stage
   Answering : Stage
 
--- the round in hand: where it stands, its batches that aren't answered yet, and the answers to these
+-- the round in hand: where it stands, its batches that aren't answered yet, the answers to these, and whether a read
+-- that was made for it failed
 pub record Round : Type 0 where
   pub stage : Stage
   pub batches : List Batch
   pub answers : List Answer
+  pub read_failed : Bool
 
 -- a relay: its parameters, its seats, the batches in its line and the one that was taken and kept for the next round,
 -- the round in hand, its device, whether it is open and whether it broke, the commands that were accepted, how many of
@@ -102,6 +104,11 @@ new_world params seats bytes = record {
   position = 0;
   told = 0;
 }
+
+-- whether a read failed that was made for the round in hand
+abbrev pub has_failed_read : Option Round → Bool
+has_failed_read None = false
+has_failed_read (Some round) = round.read_failed
 
 -- the calls of batches, in order
 abbrev pub calls_of : List Batch → List Call

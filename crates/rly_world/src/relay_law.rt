@@ -2,10 +2,10 @@
 
 ghost use Rattle.std.specs.Prelude.{◌≡◌, ◌↔◌, ◌+◌, ◌++◌, ◌∷◌, [], Bool, IsTrue, List, Some, map, ℕ};
 ghost use Rattle.rly_core.specs.declared.params.Geometry.{Geometry as AGeometry};
-ghost use Rattle.rly_journal.specs.declared.tail.Tail.{Tail as ATail};
+ghost use Rattle.rly_standing.specs.declared.tail.Tail.{Tail as ATail};
 ghost use Rattle.rly_gate.specs.Calls.{appending};
-ghost use Rattle.rly_journal.specs.Log.{IsFull, IsLogged};
-ghost use Rattle.rly_journal.specs.Standing.{IsStanding, Standing, gate_of};
+ghost use Rattle.rly_standing.specs.Log.{IsFull, IsLogged};
+ghost use Rattle.rly_standing.specs.Standing.{IsStanding, Standing, gate_of};
 ghost use Rattle.rly_record.specs.Spelling.{body_of};
 ghost use Rattle.rly_disk.specs.Trace.{DeviceEvent, images_after, seen_after};
 ghost use Rattle.rly_machine.specs.State.{State};

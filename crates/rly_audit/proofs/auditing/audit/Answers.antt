@@ -1,6 +1,6 @@
 use Rattle.std.proofs.Common.{subst, sym}
-use Rattle.rly_journal.specs.Calls.{BreaksOpening}
-use Rattle.rly_journal.proofs.Following.{opening_broken}
+use Rattle.rly_standing.specs.Calls.{BreaksOpening}
+use Rattle.rly_standing.proofs.Following.{opening_broken}
 use Rattle.rly_audit.specs.Audit.{audit_tells}
 use Rattle.rly_audit.proofs.Asking.{told_by_report}
 use Rattle.rly_audit.proofs.auditing.audit.Goals as goal

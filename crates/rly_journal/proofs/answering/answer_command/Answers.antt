@@ -1,15 +1,72 @@
-use Rattle.std.proofs.Common.{◌≡◌, ◌∙◌, true, sym}
-use Rattle.rly_journal.proofs.Serving.{left_done, long_done}
+use Rattle.std.proofs.Common.{◌≡◌, ◌+◌, ◌∙◌, arith, ap, inl, inr, map, refl, rules, subst, sym, true}
+use Rattle.rly_machine.specs.Step.{NeedsRoom}
+use Rattle.rly_checkpoint.specs.Stored.{stored_length}
+use Rattle.rly_grouping.specs.Groups.{record_place}
+use Rattle.rly_grouping.proofs.Records.{place_after}
+use Rattle.rly_journal.proofs.Outcomes.{brought_at, map_push, place_small, staged_left, staged_taken, staged_told}
+use Rattle.rly_journal.proofs.Wanting.{placed_wants}
+use Rattle.rly_journal.proofs.answering.answer_command.Goals.{then-is_accepted, else-is_accepted}
 use Rattle.rly_journal.proofs.answering.answer_command.Goals as goal
 
-pub returns-then-not-is_short : goal.returns-then-not-is_short
-returns-then-not-is_short c =
-    let no = c.if-not-is_short.true in
-    long_done c.args.command c.apply.result c.args.group.now c.args.machine.now.state c.reserve_for.new.self.state c.apply.new.self.state
-    c.reserve_for.ensures.state (λ short. let yes : c.is_short.result ≡ true = c.is_short.ensures.no short in cc) c.apply.ensures.state c.apply.ensures.reply
+pub overflow_add-next : goal.overflow_add-next
+overflow_add-next c =
+    let yes : c.is_short.result ≡ true = search rules in
+    let small = place_small c.args.gate c.args.index.now c.args.group.now c.requires.grouping c.requires.room c.law_index.ensures.holds c.requires.ready c.args.command
+    (c.is_short.ensures.yes yes) in
+    omega (arith, small, c.len.ensures)
 
-pub returns-else-is_accepted : goal.returns-else-is_accepted
-returns-else-is_accepted c =
-    left_done c.args.command c.apply-reply.result c.args.group.now c.stage.new.self c.discard.new.self c.args.machine.now.state c.reserve_for.new.self.state
-    c.apply-reply.new.self.state c.reserve_for.ensures.state c.requires.nothing_staged c.stage.ensures.staged c.discard.ensures
-    (sym c.is_accepted.ensures ∙ c.if-is_accepted.false) c.apply-reply.ensures.state c.apply-reply.ensures.reply
+pub overflow_add-next-2 : goal.overflow_add-next-2
+overflow_add-next-2 c =
+    let yes : c.is_short.result ≡ true = search rules in
+    let small = place_small c.args.gate c.args.index.now c.args.group.now c.requires.grouping c.requires.room c.law_index.ensures.holds c.requires.ready c.args.command
+    (c.is_short.ensures.yes yes) in
+    omega (arith, small, c.len.ensures, c.record_len.ensures)
+
+pub returns-in_default-clause-told : goal.returns-in_default-clause-told
+returns-in_default-clause-told c = λ t alike.
+    inr (
+      refl,
+      placed_wants c.args.command c.args.index.now.spool t alike (record_place c.args.gate c.args.group.now)
+          (subst (NeedsRoom stored_length c.args.index.now.spool) c.stage-placed.ensures.placed c.in_default.ensures.memory),
+    )
+
+pub apply-reply-requires-clause-brought : goal.apply-reply-requires-clause-brought
+apply-reply-requires-clause-brought c = λ _.
+    brought_at c.args.gate c.args.index.now c.args.group.now c.requires.grouping c.requires.room c.law_index.ensures.holds c.requires.ready c.reserve_for.new.self c.args.command
+    (c.args.gate + c.len.result + c.record_len.result) c.stage-placed.result c.stage-placed.ensures.has c.in-Ok.ensures.at
+    (omega (arith, place_after c.args.gate c.args.group.now, c.len.ensures, c.record_len.ensures)) c.stage-placed.ensures.placed
+
+pub returns-clause-told : goal.returns-clause-told
+returns-clause-told c =
+    staged_told c.args.gate c.args.index.now c.reserve_for.new.self c.apply-reply.new.self c.args.group.now c.args.command c.stage-placed.result c.apply-reply.result
+    (c.args.gate + c.len.result + c.record_len.result) c.stage-placed.ensures.placed c.in-Ok.ensures.state c.in-Ok.ensures.at
+    c.apply-reply.ensures.state c.apply-reply.ensures.reply c.apply-reply.ensures.at
+
+pub returns-clause-taken : goal.returns-clause-taken
+returns-clause-taken c =
+    elim c.if-is_accepted.branch [
+      | then-is_accepted w ↦
+          let accepts = sym c.is_accepted.ensures ∙ w.if-is_accepted.true in
+          inl (
+            accepts,
+            staged_taken c.args.gate c.args.index.now c.reserve_for.new.self c.apply-reply.new.self c.args.group.now c.args.command c.stage-placed.result c.apply-reply.result
+                (c.args.gate + c.len.result + c.record_len.result) c.stage-placed.ensures.placed c.in-Ok.ensures.state c.in-Ok.ensures.at
+                c.apply-reply.ensures.state c.apply-reply.ensures.reply c.apply-reply.ensures.at
+                c.stage-placed.new.self c.if-is_accepted.group (map (λ e. e.0.value) c.args.accepted.now.items) (map (λ e. e.0.value) c.if-is_accepted.accepted.items)
+                accepts c.stage-placed.ensures.has (omega (arith, place_after c.args.gate c.args.group.now, c.len.ensures, c.record_len.ensures))
+                c.stage-placed.ensures.staged (w.group-is ∙ w.keep.ensures)
+                (map_push (λ e. e.0.value) c.args.accepted.now.items c.if-is_accepted.accepted.items (c.of-said.result, tt) c.args.command
+                (ap (λ a. a.items) w.accepted-is ∙ w.and.ensures) c.of-said.ensures),
+          )
+      | else-is_accepted w ↦
+          let leaves = sym c.is_accepted.ensures ∙ w.if-is_accepted.false in
+          inr (
+            leaves,
+            staged_left c.args.gate c.args.index.now c.reserve_for.new.self c.apply-reply.new.self c.args.group.now c.args.command c.stage-placed.result c.apply-reply.result
+                (c.args.gate + c.len.result + c.record_len.result) c.stage-placed.ensures.placed c.in-Ok.ensures.state c.in-Ok.ensures.at
+                c.apply-reply.ensures.state c.apply-reply.ensures.reply c.apply-reply.ensures.at
+                c.stage-placed.new.self c.if-is_accepted.group (map (λ e. e.0.value) c.args.accepted.now.items) (map (λ e. e.0.value) c.if-is_accepted.accepted.items)
+                leaves c.requires.grouping.holds.staged c.stage-placed.ensures.staged (w.group-is ∙ w.discard-else-is_accepted.ensures)
+                (ap (λ a. map (λ e. e.0.value) a.items) w.accepted-is),
+          )
+    ]

@@ -1,22 +1,23 @@
 use Rattle.std.proofs.Common.{◌∙◌, Ok, ap, subst, sym}
 use Rattle.std.proofs.lemmas.Result.{err_from_is_err_and}
 use Rattle.rly_disk.proofs.Making.{makes_later}
-use Rattle.rly_journal.specs.Calls.{EndsScan}
-use Rattle.rly_journal.specs.HelpersJournal.{IsReplayed, IsShaped}
-use Rattle.rly_journal.specs.Log.{IsLogged}
-use Rattle.rly_journal.proofs.Following.{before_quiet, head_broken, head_scanned, only_made, scan_broken, scanned_all, scanned_group}
+use Rattle.rly_standing.specs.Calls.{EndsScan}
+use Rattle.rly_standing.proofs.Following.{before_quiet, head_broken, head_scanned, only_made, scan_broken, scanned_all, scanned_group}
+use Rattle.rly_journal.specs.HelpersJournal.{IsLoggedFor, IsReplayedFor, IsShaped}
 use Rattle.rly_journal.proofs.recovery.recover.Goals as goal
 
 pub groups-init : goal.groups-init
 groups-init g c = record {
   shaped = c.in_ok-found.ensures.shaped;
+  ends = c.in_ok-found.ensures.ends;
   replayed = c.in_ok-found.ensures.replayed;
   scanned = head_scanned g.D.Disk.state c.in_ok-found.found.tail c.in_ok-found.ensures.trace.0 c.in_ok-found.ensures.trace.1 c.in_ok-found.ensures.trace.2;
 }
 
 pub replay_group-requires : goal.replay_group-requires
 replay_group-requires g c = record {
-  shaped = subst (λ size. IsShaped size c.groups.found.tail c.groups.found.machine.state) (sym (makes_later g.D.Disk.state c.groups.invariant.scanned.2).size) c.groups.invariant.shaped;
+  shaped = subst (λ size. IsShaped size c.groups.found.tail c.groups.found.index) (sym (makes_later g.D.Disk.state c.groups.invariant.scanned.2).size) c.groups.invariant.shaped;
+  ends = c.groups.invariant.ends;
 }
 
 pub returns-in_err-found-clause-trace : goal.returns-in_err-found-clause-trace
@@ -29,7 +30,7 @@ pub returns-in_err-replay_group-clause-refused : goal.returns-in_err-replay_grou
 returns-in_err-replay_group-clause-refused g c honest =
     let scanned = c.groups.invariant.scanned in
     let same = (only_made g.D.Disk.state g.met.D.Disk.consistent (before_quiet scanned.0) scanned.2).crash honest in
-    let before = subst (λ image. IsReplayed image c.groups.found.tail c.groups.found.machine.state) (sym same.seen) (c.groups.invariant.replayed honest) in
+    let before = subst (λ image. IsReplayedFor image c.groups.found.tail c.groups.found.index) (sym same.seen) (c.groups.invariant.replayed honest) in
     let refused = c.in_err-replay_group.ensures.refused same.honest before in
     let told = err_from_is_err_and c.from_residual-in_err-replay_group.result c.from_residual-in_err-replay_group.ensures.1 in
     rw (told.1, told.2) (rw same.seen at refused)
@@ -48,12 +49,13 @@ groups-preserved g c =
     let read = rw c.if-branch.true at c.in_ok-replay_group.ensures.trace in
     let next = scanned_group g.D.Disk.state c.groups.found.tail scanned.0 scanned.1 scanned.2 read.0 read.2 in
     record {
-      shaped = subst (λ size. IsShaped size c.replay_group.new.found.tail c.replay_group.new.found.machine.state) (makes_later g.D.Disk.state next.2).size c.replay_group.ensures.shaped;
+      shaped = subst (λ size. IsShaped size c.replay_group.new.found.tail c.replay_group.new.found.index) (makes_later g.D.Disk.state next.2).size c.in_ok-replay_group.ensures.shaped;
+      ends = c.in_ok-replay_group.ensures.ends;
       replayed = λ honest.
           let same = only.crash honest in
-          let before = subst (λ image. IsReplayed image c.groups.found.tail c.groups.found.machine.state) (sym same.seen) (c.groups.invariant.replayed honest) in
+          let before = subst (λ image. IsReplayedFor image c.groups.found.tail c.groups.found.index) (sym same.seen) (c.groups.invariant.replayed honest) in
           let after = c.in_ok-replay_group.ensures.replayed same.honest before in
-          subst (λ image. IsReplayed image c.replay_group.new.found.tail c.replay_group.new.found.machine.state) same.seen after;
+          subst (λ image. IsReplayedFor image c.replay_group.new.found.tail c.replay_group.new.found.index) same.seen after;
       scanned = (next.0, subst (λ tail. EndsScan tail next.0) (sym read.1) next.1, next.2);
     }
 
@@ -61,15 +63,15 @@ pub returns-clause-shaped : goal.returns-clause-shaped
 returns-clause-shaped g c =
     let scanned = c.groups.invariant.scanned in
     let read = rw c.if-branch.false at c.in_ok-replay_group.ensures.trace in
-    subst (λ size. IsShaped size c.replay_group.new.found.tail c.replay_group.new.found.machine.state)
-    ((makes_later g.D.Disk.state read.1).size ∙ (makes_later g.D.Disk.state scanned.2).size) c.replay_group.ensures.shaped
+    subst (λ size. IsShaped size c.replay_group.new.found.tail c.replay_group.new.found.index)
+    ((makes_later g.D.Disk.state read.1).size ∙ (makes_later g.D.Disk.state scanned.2).size) c.in_ok-replay_group.ensures.shaped
 
 pub returns-clause-logged : goal.returns-clause-logged
 returns-clause-logged g c honest =
     let scanned = c.groups.invariant.scanned in
     let same = (only_made g.D.Disk.state g.met.D.Disk.consistent (before_quiet scanned.0) scanned.2).crash honest in
-    let before = subst (λ image. IsReplayed image c.groups.found.tail c.groups.found.machine.state) (sym same.seen) (c.groups.invariant.replayed honest) in
-    subst (λ image. IsLogged image c.replay_group.new.found.tail c.replay_group.new.found.machine.state) same.seen
+    let before = subst (λ image. IsReplayedFor image c.groups.found.tail c.groups.found.index) (sym same.seen) (c.groups.invariant.replayed honest) in
+    subst (λ image. IsLoggedFor image c.replay_group.new.found.tail c.replay_group.new.found.index) same.seen
     (c.in_ok-replay_group.ensures.last same.honest before (ap Ok c.if-branch.false))
 
 pub returns-clause-trace : goal.returns-clause-trace

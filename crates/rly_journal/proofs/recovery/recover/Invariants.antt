@@ -1,13 +1,14 @@
 use Rattle.std.proofs.Common.{◌-◌, ◌^◌, true}
 use Rattle.rly_disk.specs.Trace.{Makes}
-use Rattle.rly_journal.specs.Calls.{EndsScan, Scan, scan_before}
-use Rattle.rly_journal.specs.HelpersJournal.{IsReplayed, IsShaped}
+use Rattle.rly_standing.specs.Calls.{EndsScan, Scan, scan_before}
+use Rattle.rly_journal.specs.HelpersJournal.{IsAtEnd, IsReplayedFor, IsShaped}
 use Rattle.rly_journal.proofs.recovery.recover.Given as goal
 
 abbrev pub invariant-groups : goal.invariant-groups
 invariant-groups g l = record {
-  shaped : IsShaped (g.D.Disk.state l.fn.disk).size l.found.tail l.found.machine.state;
-  replayed : (g.D.Disk.state l.fn.disk).honest → IsReplayed (g.D.Disk.state l.fn.disk).seen l.found.tail l.found.machine.state;
+  shaped : IsShaped (g.D.Disk.state l.fn.disk).size l.found.tail l.found.index;
+  ends : IsAtEnd l.found.tail l.found.index;
+  replayed : (g.D.Disk.state l.fn.disk).honest → IsReplayedFor (g.D.Disk.state l.fn.disk).seen l.found.tail l.found.index;
   scanned : (x : Scan) × EndsScan l.found.tail x × Makes g.D.Disk.state (scan_before x) true l.fn.disk l.disk;
 }
 

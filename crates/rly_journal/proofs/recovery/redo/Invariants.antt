@@ -1,9 +1,9 @@
 use Rattle.std_alloc.specs.Vec.Iter.{into_iter_items}
-use Rattle.rly_journal.proofs.Recovering.{IsRedoing}
+use Rattle.rly_journal.proofs.Redone.{IsRedoing}
 use Rattle.rly_journal.proofs.recovery.redo.Given as goal
 
 abbrev pub invariant-loop-command : goal.invariant-loop-command
 invariant-loop-command l =
     (goal.iterator-loop-command).can_next l.command-iterator
     × (goal.iterator-loop-command).is_finite l.command-iterator
-    × IsRedoing l.fn.commands.items (into_iter_items l.command-iterator) l.fn.machine.state l.machine.state
+    × IsRedoing l.fn.index l.fn.gate l.fn.commands.items (into_iter_items l.command-iterator) l.place l.index

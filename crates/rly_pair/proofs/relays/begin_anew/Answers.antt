@@ -1,14 +1,15 @@
-use Rattle.std.proofs.Common.{arith, ◌∙◌}
+use Rattle.std.proofs.Common.{arith, ◌∙◌, ap, set}
+use Rattle.std.proofs.lemmas.List.Edits.{map_over_more}
 use Rattle.rly_hop.specs.Receiver.{Receiver}
 use Rattle.rly_hop.specs.Receiving.{receiver}
-use Rattle.rly_journal.proofs.Serving.{mark_next}
 use Rattle.rly_pair.proofs.PairRelays.{all_anew}
 use Rattle.rly_pair.proofs.relays.begin_anew.Goals as goal
 
 pub loop-core-preserved : goal.loop-core-preserved
 loop-core-preserved c =
-    mark_next (λ (_ : Receiver). receiver (record { 0 = 2 }) (record { 0 = 1 })) c.args.cores.now c.loop-core.cores c.loop-core.core-index c.core-item.result c.new.result
-    (omega (arith, c.loop-core-test.true)) c.loop-core.invariant c.new.ensures
+    ap (λ (r : Receiver). set c.loop-core.cores c.loop-core.core-index r) c.new.ensures
+    ∙ map_over_more (λ (_ : Receiver). receiver (record { 0 = 2 }) (record { 0 = 1 })) c.args.cores.now c.loop-core.cores c.loop-core.core-index c.core-item.result
+    (omega (arith, c.loop-core-test.true)) c.loop-core.invariant c.core-item.is
 
 pub returns : goal.returns
 returns c =

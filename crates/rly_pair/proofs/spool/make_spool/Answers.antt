@@ -1,4 +1,4 @@
-use Rattle.std.proofs.Common.{◌≡◌, List, ℕ, sym, subst}
+use Rattle.std.proofs.Common.{List, ℕ, sym, subst}
 use Rattle.rly_disk.specs.DiskModel.{Settled}
 use Rattle.rly_disk.specs.FaultDisk.{fault_state}
 use Rattle.rly_disk.specs.HelpersFaultDisk.{fault_consistent}

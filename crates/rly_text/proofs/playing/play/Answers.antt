@@ -2,7 +2,7 @@ use Rattle.std.proofs.Common.{◌≡◌, [], ap}
 use Rattle.std.specs.Io.KnownBytes.{prepend_known}
 use Rattle.std.specs.String.{string_bytes}
 use Rattle.std.proofs.lemmas.Result.{err_from_is_err_and}
-use Rattle.rly_text.proofs.Courses.{all_written, begins_all_lines, front_start, front_written}
+use Rattle.rly_text.proofs.Plays.{all_written, begins_all_lines, front_start, front_written}
 use Rattle.rly_text.proofs.Outflows.{both_ok, either_err}
 use Rattle.rly_text.specs.HelpersOutflow.{outflow_of}
 use Rattle.rly_text.proofs.playing.play.Goals as goal

@@ -3,7 +3,7 @@ use Rattle.std.specs.Io.KnownBytes.{prepend_known}
 use Rattle.std.specs.String.{string_bytes}
 use Rattle.std.proofs.lemmas.Result.{err_from_is_err_and}
 use Rattle.rly_text.specs.HelpersOutflow.{outflow_of}
-use Rattle.rly_text.proofs.Courses.{some_all, some_front, some_more, some_none}
+use Rattle.rly_text.proofs.Plays.{some_all, some_front, some_more, some_none}
 use Rattle.rly_text.proofs.playing.play_lines.Goals as goal
 
 pub rounds-init : goal.rounds-init

@@ -3,7 +3,7 @@ use Rattle.std.specs.Io.KnownBytes.{prepend_known}
 use Rattle.std.specs.String.{string_bytes}
 use Rattle.std.proofs.lemmas.Result.{err_from_is_err_and}
 use Rattle.rly_text.specs.HelpersOutflow.{outflow_of}
-use Rattle.rly_text.proofs.Courses.{front_none, front_round, some_round}
+use Rattle.rly_text.proofs.Plays.{front_none, front_round, some_round}
 use Rattle.rly_text.proofs.Outflows.{begins_added}
 use Rattle.rly_text.proofs.playing.play_round.Goals as goal
 

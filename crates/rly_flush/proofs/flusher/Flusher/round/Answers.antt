@@ -40,7 +40,7 @@ invariant_of-self-2 g c = (
 pub returns-clause-took : goal.returns-clause-took
 returns-clause-took g c =
     subst (λ (f : FlusherState g.row.D.Denot). IsOneRound g.D.Disk.state f (record { first = c.self.inside.first.value.journal; journal = c.commit.new.journal; kept = c.collect.new.kept; line = c.answer_all.new.line })) c.self.view_is
-    (one_round g.D.Disk.state g.met.D.Disk.consistent c.self.invariant.0 (c.if-not-collect.ensures.collected refl) c.collect.ensures.said c.commit.ensures.round c.if-not-collect.ensures.count.0 c.answer_all.ensures.line c.if-not-collect.ensures.count c.commit.ensures.memory)
+    (one_round g.D.Disk.state g.met.D.Disk.consistent c.self.invariant.0 (c.if-not-collect.ensures.collected refl) c.collect.ensures.said c.commit.ensures.round c.if-not-collect.ensures.count.0 c.answer_all.ensures.line c.if-not-collect.ensures.count c.commit.ensures.lost)
 
 pub returns-clause-history : goal.returns-clause-history
 returns-clause-history g c =

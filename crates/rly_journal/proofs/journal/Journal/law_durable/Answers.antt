@@ -1,6 +1,6 @@
 use Rattle.std.proofs.Common.{◌∙◌, ap, subst, sym}
 use Rattle.rly_disk.specs.DiskModel.{Settled}
-use Rattle.rly_journal.specs.Standing.{Stands}
+use Rattle.rly_standing.specs.Standing.{Stands}
 use Rattle.rly_journal.proofs.journal.Journal.law_durable.Goals as goal
 
 pub returns : goal.returns

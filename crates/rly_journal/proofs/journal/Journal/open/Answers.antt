@@ -1,18 +1,34 @@
-use Rattle.std.proofs.Common.{subst}
+use Rattle.std.proofs.Common.{map, ap, subst, sym, ◌∙◌}
 use Rattle.rly_disk.proofs.Making.{makes_later}
-use Rattle.rly_journal.specs.Calls.{BreaksOpening}
-use Rattle.rly_journal.proofs.Following.{broken_only, broken_settled, opening_only, opening_settled, told_when}
+use Rattle.rly_standing.specs.Calls.{BreaksOpening}
+use Rattle.rly_standing.proofs.Following.{broken_only, broken_settled, opening_only, opening_settled, told_when}
+use Rattle.rly_journal.specs.HelpersJournal.{IsLoggedFor}
+use Rattle.rly_journal.proofs.Opening.{opened_sound, opened_stands}
 use Rattle.rly_journal.proofs.journal.Journal.open.Goals as goal
 
 pub invariant_of-result : goal.invariant_of-result
-invariant_of-result g c = (
-  record {
-    shaped = c.in-Ok.ensures.shaped;
-    durable = λ whole honest. c.in-Ok.ensures.durable ((makes_later g.D.Disk.state c.in-Ok.ensures.trace.2).honest.0 honest);
-    counted = λ whole. c.seq-position.ensures;
-  },
-  c.in-Ok.ensures.group,
-)
+invariant_of-result g c =
+    let later = makes_later g.D.Disk.state c.in-Ok.ensures.trace.2 in
+    let only = opening_only g.D.Disk.state g.met.D.Disk.consistent c.in-Ok.ensures.trace.0 c.in-Ok.ensures.trace.2 in (
+      opened_sound c.in-Ok.begun.found.tail c.in-Ok.begun.found.index (g.D.Disk.state c.of-first_disk.result.value).seen c.of-first_index.result.value.spool.state
+          (map (λ e. e.0.value) c.new.result.items) (ap (λ x. x.spool.state) c.of-first_index.ensures) (ap (map (λ e. e.0.value)) c.new.ensures)
+          (g.D.Disk.state c.begin.new.disk) (g.met.D.Disk.consistent c.begin.new.disk) c.in-Ok.ensures.shaped c.in-Ok.ensures.ends c.law_index.ensures.holds
+          (ap (λ d. (g.D.Disk.state d).seen) c.of-first_disk.ensures) c.seq-position.result
+          (λ honest. opening_settled g.D.Disk.state g.met.D.Disk.consistent c.in-Ok.ensures.trace.0 c.in-Ok.ensures.trace.2 (later.honest.0 honest))
+          (λ honest. subst (λ image. IsLoggedFor image c.in-Ok.begun.found.tail c.in-Ok.begun.found.index) (sym (only.crash (later.honest.0 honest)).seen)
+          (c.in-Ok.ensures.logged (later.honest.0 honest))) (c.seq-position.ensures ∙ ap (λ m. m.state.seq) c.machine.ensures),
+      c.in-Ok.ensures.group,
+      c.in-Ok.ensures.outcomes,
+      c.in-Ok.ensures.room,
+    )
+
+pub returns-in-Ok-clause-stands : goal.returns-in-Ok-clause-stands
+returns-in-Ok-clause-stands g c honest =
+    opened_stands c.in-Ok.begun.found.tail c.in-Ok.begun.found.index (g.D.Disk.state c.of-first_disk.result.value).seen c.of-first_index.result.value.spool.state
+    (map (λ e. e.0.value) c.new.result.items) (ap (λ x. x.spool.state) c.of-first_index.ensures) (ap (map (λ e. e.0.value)) c.new.ensures)
+    (g.D.Disk.state c.begin.new.disk) (g.met.D.Disk.consistent c.begin.new.disk) c.in-Ok.ensures.shaped c.in-Ok.ensures.ends c.law_index.ensures.holds
+    (ap (λ d. (g.D.Disk.state d).seen) c.of-first_disk.ensures) (g.D.Disk.state c.args.disk)
+    (opening_only g.D.Disk.state g.met.D.Disk.consistent c.in-Ok.ensures.trace.0 c.in-Ok.ensures.trace.2) honest (c.in-Ok.ensures.logged honest)
 
 pub returns-in-Ok-clause-only : goal.returns-in-Ok-clause-only
 returns-in-Ok-clause-only g c = opening_only g.D.Disk.state g.met.D.Disk.consistent c.in-Ok.ensures.trace.0 c.in-Ok.ensures.trace.2

@@ -1,101 +1,150 @@
-use Rattle.std.proofs.Common.{◌≡◌, ◌∙◌, ◌++◌, false, true, ap, inl, inr, length, refl, rules, subst, sym}
+use Rattle.std.proofs.Common.{◌≡◌, ◌⊎◌, ◌∙◌, ◌++◌, arith, false, ap, inl, inr, subst, sym}
 use Rattle.std.specs.List.{zip}
-use Rattle.rly_core.specs.declared.refusal.Refusal.TheVariants.{Broken, OutOfMemory, Unsure}
-use Rattle.rly_machine.specs.declared.reply.Reply.TheVariants.{Refused}
-use Rattle.rly_journal.specs.HelpersCalls.{IsReady, IsUnready}
-use Rattle.rly_journal.specs.HelpersJournal.{IsShaped}
-use Rattle.rly_journal.specs.Journal.{IsDueFor, IsRound, holds_command}
-use Rattle.rly_journal.specs.Log.{IsDurable, IsSameHead}
-use Rattle.rly_journal.specs.Rounds.{IsRefusedWhereWanted, refusals}
-use Rattle.rly_journal.proofs.Rounding.{made_as, round_few_syncs, round_later, round_made, round_refused, round_safe, round_served, round_syncs, round_unmade}
-use Rattle.rly_journal.proofs.Serving.{refused_where_wanted}
+use Rattle.rly_core.specs.declared.refusal.Refusal.TheVariants.{Broken}
+use Rattle.rly_disk.specs.DiskModel.{Later}
+use Rattle.rly_journal.specs.Journal.{IsDueFor, IsRound, IsSafe, IsShut, MakesShut}
+use Rattle.rly_standing.specs.Log.{IsSameHead}
+use Rattle.rly_journal.specs.Rounds.{AreLostWhereWanted, refusals}
+use Rattle.rly_journal.specs.HelpersReady.{IsReady, IsUnready}
+use Rattle.rly_journal.proofs.Rounded.{made_as, round_made, round_safe, round_served, unready_lost, unready_round, unready_safe, unready_shut}
+use Rattle.rly_journal.proofs.Rounding.{later_joined, refused_unlost}
 use Rattle.rly_journal.proofs.journal.Journal.round.Goals.{in-Ok, in-Err}
 use Rattle.rly_journal.proofs.journal.Journal.round.Goals as goal
 
 pub returns-clause-trace : goal.returns-clause-trace
 returns-clause-trace g c whole =
-    let counted : c.args.self.now.position ≡ c.args.self.now.state.seq =
-    sym (ap (λ j. j.position) c.self.view_is) ∙ c.self.invariant.0.counted c.if-self.false ∙ ap (λ j. j.state.seq) c.self.view_is in
     elim c.match-make_ready.branch [
       | in-Ok w ↦
-          made_as g.D.Disk.state c.args.self.now w.serve.new.self _ c.args.calls.now.items c.args.answers.now.items _ w.self-is c.reserve.ensures.items (ap (λ v. v.items) w.answers-is)
-          (round_made g.D.Disk.state c.args.self.now c.make_ready.new.self c.args.calls.now.items c.make_ready.ensures.state w.serve.new.self
+          inl (made_as g.D.Disk.state c.args.self.now w.serve.new.self _ c.args.calls.now.items c.args.answers.now.items _ w.self-is c.reserve.ensures.items (ap (λ v. v.items) w.answers-is)
+          (round_made g.D.Disk.state c.args.self.now c.make_ready.new.self w.serve.new.self c.args.calls.now.items _ _ c.make_ready.ensures.state
           (subst (IsReady g.D.Disk.state c.args.self.now c.make_ready.new.self) c.deref.ensures.value w.in-Ok.ensures.made.1)
-          (subst (λ l. IsDueFor c.make_ready.new.self l → ⊥) c.deref.ensures.value w.in-Ok.ensures.ready) w.serve.ensures.trace)
+          (subst (λ l. IsDueFor c.make_ready.new.self l → ⊥) c.deref.ensures.value w.in-Ok.ensures.ready) w.serve.ensures.served.done))
       | in-Err w ↦
-          made_as g.D.Disk.state c.args.self.now c.make_ready.new.self _ c.args.calls.now.items c.args.answers.now.items _ w.self-is c.reserve.ensures.items (ap (λ v. v.items) w.answers-is)
-          (round_unmade g.D.Disk.state c.args.self.now c.make_ready.new.self c.args.calls.now.items w.in-Err.refusal whole c.make_ready.ensures.state
-          (subst (λ l. IsUnready g.D.Disk.state c.args.self.now c.make_ready.new.self l w.in-Err.refusal) c.deref.ensures.value w.in-Err.ensures.made)
-          c.reserve.new.self.items w.refuse_all-in-Err.new.answers.items w.self-in-Err.inside.position w.refuse_all-in-Err.ensures.answers
-          (ap (λ j. j.position) w.self-in-Err.view_is ∙ c.make_ready.ensures.position ∙ counted))
+          inr (
+            ap (λ j. j.state) w.self-is ∙ c.make_ready.ensures.state,
+            w.in-Err.refusal,
+            ap (λ v. v.items) w.answers-is ∙ w.refuse_calls-in-Err.ensures.answers
+                ∙ ap (λ l. l ++ refusals w.in-Err.refusal w.self-in-Err.inside.position c.args.calls.now.items) c.reserve.ensures.items
+                ∙ ap (λ n. c.args.answers.now.items ++ refusals w.in-Err.refusal n c.args.calls.now.items) (ap (λ j. j.position) w.self-in-Err.view_is ∙ c.make_ready.ensures.position),
+            subst (λ j. MakesShut g.D.Disk.state c.args.self.now j c.args.calls.now.items w.in-Err.refusal) (sym w.self-is)
+                (subst (λ l. MakesShut g.D.Disk.state c.args.self.now c.make_ready.new.self l w.in-Err.refusal) c.deref.ensures.value w.in-Err.ensures.made.0),
+          )
     ]
 
 pub returns-clause-answers : goal.returns-clause-answers
 returns-clause-answers g c =
     let whole : c.args.self.now.broken ≡ false = sym (ap (λ j. j.broken) c.self.view_is) ∙ c.if-self.false in
-    let counted = sym (ap (λ j. j.position) c.self.view_is) ∙ c.self.invariant.0.counted c.if-self.false ∙ ap (λ j. j.state.seq) c.self.view_is in
-    let made = returns-clause-trace g c whole in
     elim c.match-make_ready.branch [
       | in-Ok w ↦
-          let served = w.serve.ensures.answers in (
-            served.0,
-            ap (λ v. v.items) w.answers-is ∙ served.1 ∙ ap (λ l. l ++ served.0) c.reserve.ensures.items,
-            subst (λ j. IsRound g.D.Disk.state c.args.self.now j c.args.calls.now.items served.0) (sym w.self-is)
-                (round_served g.D.Disk.state c.args.self.now c.make_ready.new.self w.serve.new.self c.args.calls.now.items served.0 whole c.make_ready.ensures.state
-                c.make_ready.ensures.position (made_as g.D.Disk.state c.args.self.now _ w.serve.new.self c.args.calls.now.items c.args.answers.now.items _ (sym w.self-is) refl refl made) served.2),
+          let served = w.serve.ensures.served in (
+            served.answers.0,
+            ap (λ v. v.items) w.answers-is ∙ served.answers.1 ∙ ap (λ l. l ++ served.answers.0) c.reserve.ensures.items,
+            subst (λ j. IsRound g.D.Disk.state c.args.self.now j c.args.calls.now.items served.answers.0) (sym w.self-is)
+                (round_served g.D.Disk.state c.args.self.now c.make_ready.new.self w.serve.new.self c.args.calls.now.items _ _ c.make_ready.ensures.state
+                (subst (IsReady g.D.Disk.state c.args.self.now c.make_ready.new.self) c.deref.ensures.value w.in-Ok.ensures.made.1)
+                (subst (λ l. IsDueFor c.make_ready.new.self l → ⊥) c.deref.ensures.value w.in-Ok.ensures.ready) w.serve.ensures.served.done
+                served.answers.0 whole c.make_ready.ensures.position served.failed served.answers.2),
           )
       | in-Err w ↦ (
         refusals w.in-Err.refusal w.self-in-Err.inside.position c.args.calls.now.items,
-        ap (λ v. v.items) w.answers-is ∙ w.refuse_all-in-Err.ensures.answers
+        ap (λ v. v.items) w.answers-is ∙ w.refuse_calls-in-Err.ensures.answers
             ∙ ap (λ l. l ++ refusals w.in-Err.refusal w.self-in-Err.inside.position c.args.calls.now.items) c.reserve.ensures.items,
         subst (λ j. IsRound g.D.Disk.state c.args.self.now j c.args.calls.now.items (refusals w.in-Err.refusal w.self-in-Err.inside.position c.args.calls.now.items)) (sym w.self-is)
-            (round_refused g.D.Disk.state c.args.self.now c.make_ready.new.self c.args.calls.now.items w.in-Err.refusal whole c.make_ready.ensures.state
-            (subst (λ l. IsUnready g.D.Disk.state c.args.self.now c.make_ready.new.self l w.in-Err.refusal) c.deref.ensures.value w.in-Err.ensures.made) w.self-in-Err.inside.position
-            (ap (λ j. j.position) w.self-in-Err.view_is ∙ c.make_ready.ensures.position) counted c.make_ready.ensures.position),
+            (unready_round g.D.Disk.state c.args.self.now c.make_ready.new.self c.args.calls.now.items w.in-Err.refusal w.self-in-Err.inside.position whole c.make_ready.ensures.position
+            (ap (λ j. j.position) w.self-in-Err.view_is ∙ c.make_ready.ensures.position)
+            (subst (λ l. IsUnready g.D.Disk.state c.args.self.now c.make_ready.new.self l w.in-Err.refusal) c.deref.ensures.value w.in-Err.ensures.made)),
       )
     ]
 
+pub returns-clause-lost : goal.returns-clause-lost
+returns-clause-lost g c =
+    let whole : c.args.self.now.broken ≡ false = sym (ap (λ j. j.broken) c.self.view_is) ∙ c.if-self.false in
+    elim c.match-make_ready.branch [
+      | in-Ok w ↦
+          let served = w.serve.ensures.served in (
+            served.wanted.0,
+            ap (λ v. v.items) w.answers-is ∙ served.wanted.1 ∙ ap (λ l. l ++ served.wanted.0) c.reserve.ensures.items,
+            inl (subst (λ s. AreLostWhereWanted s (zip c.args.calls.now.items served.wanted.0)) c.make_ready.ensures.state served.wanted.2),
+          )
+      | in-Err w ↦ (
+        refusals w.in-Err.refusal w.self-in-Err.inside.position c.args.calls.now.items,
+        ap (λ v. v.items) w.answers-is ∙ w.refuse_calls-in-Err.ensures.answers
+            ∙ ap (λ l. l ++ refusals w.in-Err.refusal w.self-in-Err.inside.position c.args.calls.now.items) c.reserve.ensures.items,
+        subst (λ j. AreLostWhereWanted c.args.self.now.state (zip c.args.calls.now.items (refusals w.in-Err.refusal w.self-in-Err.inside.position c.args.calls.now.items))
+            ⊎ IsShut c.args.self.now j c.args.calls.now.items (refusals w.in-Err.refusal w.self-in-Err.inside.position c.args.calls.now.items)) (sym w.self-is)
+            (unready_lost g.D.Disk.state c.args.self.now c.make_ready.new.self c.args.calls.now.items w.in-Err.refusal w.self-in-Err.inside.position whole c.make_ready.ensures.position
+            (ap (λ j. j.position) w.self-in-Err.view_is ∙ c.make_ready.ensures.position)
+            (subst (λ l. IsUnready g.D.Disk.state c.args.self.now c.make_ready.new.self l w.in-Err.refusal) c.deref.ensures.value w.in-Err.ensures.made)),
+      )
+    ]
+
+pub returns-then-self-clause-lost : goal.returns-then-self-clause-lost
+returns-then-self-clause-lost g c = (
+  refusals Broken c.self.inside.position c.args.calls.now.items,
+  c.refuse_calls.ensures.answers ∙ ap (λ l. l ++ refusals Broken c.self.inside.position c.args.calls.now.items) c.reserve.ensures.items,
+  inl (refused_unlost Broken c.self.inside.position c.args.self.now.state c.args.calls.now.items (λ same. cc) (λ same. cc)),
+)
+
 pub returns-clause-any_moment : goal.returns-clause-any_moment
 returns-clause-any_moment g c honest whole =
-    let invariant = c.self.invariant.0 in
-    let durable = invariant.durable (ap (λ j. j.broken) c.self.view_is ∙ whole) (subst (λ j. (g.D.Disk.state j.disk).honest) (sym c.self.view_is) honest) in
-    let wide : length c.self.inside.tail.closed ≡ 256 = search rules in
-    round_safe g.D.Disk.state c.args.self.now c.match-make_ready.self c.args.calls.now.items (returns-clause-trace g c whole) c.requires.1
-    (subst (λ j. IsShaped (g.D.Disk.state j.disk).size j.tail j.state) c.self.view_is invariant.shaped) c.law_sound.ensures
-    (subst (λ j. length j.tail.closed ≡ 256) c.self.view_is wide) (subst (λ j. IsDurable (g.D.Disk.state j.disk) j.tail j.state) c.self.view_is durable)
-
-pub returns-clause-syncs : goal.returns-clause-syncs
-returns-clause-syncs g c =
-    round_syncs g.D.Disk.state c.args.self.now c.match-make_ready.self c.args.calls.now.items (returns-clause-trace g c (sym (ap (λ j. j.broken) c.self.view_is) ∙ c.if-self.false))
-
-pub returns-clause-few_syncs : goal.returns-clause-few_syncs
-returns-clause-few_syncs g c none =
-    round_few_syncs g.D.Disk.state c.args.self.now c.match-make_ready.self c.args.calls.now.items (returns-clause-trace g c (sym (ap (λ j. j.broken) c.self.view_is) ∙ c.if-self.false)) none
+    elim c.match-make_ready.branch [
+      | in-Ok w ↦
+          subst (λ j. IsSafe g.D.Disk.state c.args.self.now j c.args.calls.now.items) (sym w.self-is)
+          (round_safe g.D.Disk.state c.args.self.now c.make_ready.new.self w.serve.new.self c.args.calls.now.items _ _ c.make_ready.ensures.state
+          (subst (IsReady g.D.Disk.state c.args.self.now c.make_ready.new.self) c.deref.ensures.value w.in-Ok.ensures.made.1)
+          (subst (λ l. IsDueFor c.make_ready.new.self l → ⊥) c.deref.ensures.value w.in-Ok.ensures.ready) w.serve.ensures.served.done
+          (c.make_ready.ensures.any_moment honest) (w.serve.ensures.served.safe (c.make_ready.ensures.later.honest.1 honest)))
+      | in-Err w ↦
+          subst (λ j. IsSafe g.D.Disk.state c.args.self.now j c.args.calls.now.items) (sym w.self-is)
+          (unready_safe g.D.Disk.state c.args.self.now c.make_ready.new.self c.args.calls.now.items c.make_ready.ensures.state (c.make_ready.ensures.any_moment honest))
+    ]
 
 pub returns-clause-later : goal.returns-clause-later
 returns-clause-later g c =
-    round_later g.D.Disk.state c.args.self.now c.match-make_ready.self c.args.calls.now.items (returns-clause-trace g c (sym (ap (λ j. j.broken) c.self.view_is) ∙ c.if-self.false))
+    elim c.match-make_ready.branch [
+      | in-Ok w ↦
+          subst (λ j. Later (g.D.Disk.state c.args.self.now.disk) (g.D.Disk.state j.disk)) (sym w.self-is)
+          (later_joined (g.D.Disk.state c.args.self.now.disk) (g.D.Disk.state c.make_ready.new.self.disk) (g.D.Disk.state w.serve.new.self.disk) c.make_ready.ensures.later w.serve.ensures.served.later)
+      | in-Err w ↦ subst (λ j. Later (g.D.Disk.state c.args.self.now.disk) (g.D.Disk.state j.disk)) (sym w.self-is) c.make_ready.ensures.later
+    ]
+
+pub returns-clause-syncs : goal.returns-clause-syncs
+returns-clause-syncs g c =
+    elim c.match-make_ready.branch [
+      | in-Ok w ↦ omega (arith, ap (λ j. (g.D.Disk.state j.disk).syncs) w.self-is, c.make_ready.ensures.syncs, w.serve.ensures.served.syncs)
+      | in-Err w ↦ omega (arith, ap (λ j. (g.D.Disk.state j.disk).syncs) w.self-is, c.make_ready.ensures.syncs)
+    ]
+
+pub returns-clause-few_syncs : goal.returns-clause-few_syncs
+returns-clause-few_syncs g c none =
+    elim c.match-make_ready.branch [
+      | in-Ok w ↦ elim (subst (IsReady g.D.Disk.state c.args.self.now c.make_ready.new.self) c.deref.ensures.value w.in-Ok.ensures.made.1) [
+        | inl calm ↦ omega (arith, ap (λ j. (g.D.Disk.state j.disk).syncs) w.self-is, ap (λ j. (g.D.Disk.state j.disk).syncs) calm.1, w.serve.ensures.served.syncs)
+        | inr opened ↦ absurd (none opened.due)
+      ]
+      | in-Err w ↦ absurd (none (subst (λ l. IsUnready g.D.Disk.state c.args.self.now c.make_ready.new.self l w.in-Err.refusal) c.deref.ensures.value w.in-Err.ensures.made).0.due)
+    ]
 
 pub returns-clause-opened : goal.returns-clause-opened
 returns-clause-opened g c due whole =
+    let calm : c.args.self.now.broken ≡ false = sym (ap (λ j. j.broken) c.self.view_is) ∙ c.if-self.false in
     elim c.match-make_ready.branch [
       | in-Ok w ↦
-          elim w.in-Ok.ensures.made.1 [
-            | inl calm ↦ absurd (calm.0 (ap holds_command c.deref.ensures.value ∙ due.0, due.1))
-            | inr opened ↦ inl (ap (λ j. j.tail.generation) w.self-is ∙ w.serve.ensures.head.generation ∙ ap (λ t. t.generation) opened.1)
+          elim (subst (IsReady g.D.Disk.state c.args.self.now c.make_ready.new.self) c.deref.ensures.value w.in-Ok.ensures.made.1) [
+            | inl calm ↦ absurd (calm.0 due)
+            | inr opened ↦ inl (ap (λ j. j.tail.generation) w.self-is ∙ w.serve.ensures.served.head.generation ∙ ap (λ t. t.generation) opened.tail)
           ]
       | in-Err w ↦
-          elim w.in-Err.ensures.made [
-            | inl starved ↦
-                inr (
-                  w.self-is ∙ starved.1,
-                  ap (λ v. v.items) w.answers-is ∙ w.refuse_all-in-Err.ensures.answers
-                      ∙ ap (λ l. l ++ refusals w.in-Err.refusal w.self-in-Err.inside.position c.args.calls.now.items) c.reserve.ensures.items
-                      ∙ ap (λ r. c.args.answers.now.items ++ refusals r w.self-in-Err.inside.position c.args.calls.now.items) starved.0
-                      ∙ ap (λ n. c.args.answers.now.items ++ refusals OutOfMemory n c.args.calls.now.items) (ap (λ j. j.position) w.self-in-Err.view_is ∙ c.make_ready.ensures.position),
-                )
-            | inr failed ↦ let e : true ≡ false = sym failed.1 ∙ sym (ap (λ j. j.broken) w.self-is) ∙ whole in absurd cc
-          ]
+          inr (
+            refusals w.in-Err.refusal w.self-in-Err.inside.position c.args.calls.now.items,
+            ap (λ v. v.items) w.answers-is ∙ w.refuse_calls-in-Err.ensures.answers
+                ∙ ap (λ l. l ++ refusals w.in-Err.refusal w.self-in-Err.inside.position c.args.calls.now.items) c.reserve.ensures.items,
+            subst (λ j. IsShut c.args.self.now j c.args.calls.now.items (refusals w.in-Err.refusal w.self-in-Err.inside.position c.args.calls.now.items)) (sym w.self-is)
+                (unready_shut g.D.Disk.state c.args.self.now c.make_ready.new.self c.args.calls.now.items w.in-Err.refusal w.self-in-Err.inside.position calm c.make_ready.ensures.position
+                (ap (λ j. j.position) w.self-in-Err.view_is ∙ c.make_ready.ensures.position)
+                (subst (λ l. IsUnready g.D.Disk.state c.args.self.now c.make_ready.new.self l w.in-Err.refusal) c.deref.ensures.value w.in-Err.ensures.made)
+                (sym (ap (λ j. j.broken) w.self-is) ∙ whole)),
+          )
     ]
 
 pub returns-clause-stays : goal.returns-clause-stays
@@ -103,48 +152,9 @@ returns-clause-stays g c none =
     elim c.match-make_ready.branch [
       | in-Ok w ↦
           subst (λ j. IsSameHead c.args.self.now.tail j.tail) (sym w.self-is)
-          (elim w.in-Ok.ensures.made.1 [
-            | inl calm ↦ subst (λ j. IsSameHead j.tail w.serve.new.self.tail) calm.1 w.serve.ensures.head
-            | inr opened ↦ absurd (none (ap holds_command (sym c.deref.ensures.value) ∙ opened.0.0, opened.0.1))
+          (elim (subst (IsReady g.D.Disk.state c.args.self.now c.make_ready.new.self) c.deref.ensures.value w.in-Ok.ensures.made.1) [
+            | inl calm ↦ subst (λ j. IsSameHead j.tail w.serve.new.self.tail) calm.1 w.serve.ensures.served.head
+            | inr opened ↦ absurd (none opened.due)
           ])
-      | in-Err w ↦
-          subst (λ j. IsSameHead c.args.self.now.tail j.tail) (sym w.self-is)
-          (elim w.in-Err.ensures.made [
-            | inl starved ↦ subst (λ j. IsSameHead c.args.self.now.tail j.tail) (sym starved.1) (record { segment = refl; generation = refl })
-            | inr failed ↦ absurd (none (ap holds_command (sym c.deref.ensures.value) ∙ failed.2.0, failed.2.1))
-          ])
+      | in-Err w ↦ absurd (none (subst (λ l. IsUnready g.D.Disk.state c.args.self.now c.make_ready.new.self l w.in-Err.refusal) c.deref.ensures.value w.in-Err.ensures.made).0.due)
     ]
-
-pub returns-clause-memory : goal.returns-clause-memory
-returns-clause-memory g c =
-    elim c.match-make_ready.branch [
-      | in-Ok w ↦
-          let served = w.serve.ensures.wanted in (
-            served.0,
-            ap (λ v. v.items) w.answers-is ∙ served.1 ∙ ap (λ l. l ++ served.0) c.reserve.ensures.items,
-            inl (subst (λ s. IsRefusedWhereWanted s (zip c.args.calls.now.items served.0)) c.make_ready.ensures.state served.2),
-          )
-      | in-Err w ↦ (
-        refusals w.in-Err.refusal w.self-in-Err.inside.position c.args.calls.now.items,
-        ap (λ v. v.items) w.answers-is ∙ w.refuse_all-in-Err.ensures.answers
-            ∙ ap (λ l. l ++ refusals w.in-Err.refusal w.self-in-Err.inside.position c.args.calls.now.items) c.reserve.ensures.items,
-        elim w.in-Err.ensures.made [
-          | inl starved ↦
-              inr (
-                (ap holds_command (sym c.deref.ensures.value) ∙ starved.2.0, starved.2.1),
-                ap (λ r. refusals r w.self-in-Err.inside.position c.args.calls.now.items) starved.0
-                    ∙ ap (λ n. refusals OutOfMemory n c.args.calls.now.items) (ap (λ j. j.position) w.self-in-Err.view_is ∙ c.make_ready.ensures.position),
-              )
-          | inr failed ↦
-              inl (refused_where_wanted w.in-Err.refusal w.self-in-Err.inside.position c.args.self.now.state c.args.calls.now.items
-              (λ same. let e : Refused Unsure ≡ Refused OutOfMemory = ap Refused (sym failed.0) ∙ same in cc))
-        ],
-      )
-    ]
-
-pub returns-then-self-clause-memory : goal.returns-then-self-clause-memory
-returns-then-self-clause-memory g c = (
-  refusals Broken c.self.inside.position c.args.calls.now.items,
-  c.refuse_all.ensures.answers ∙ ap (λ l. l ++ refusals Broken c.self.inside.position c.args.calls.now.items) c.reserve.ensures.items,
-  inl (refused_where_wanted Broken c.self.inside.position c.args.self.now.state c.args.calls.now.items (λ same. cc)),
-)

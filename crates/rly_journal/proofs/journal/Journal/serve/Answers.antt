@@ -1,133 +1,170 @@
-use Rattle.std.proofs.Common.{◌≡◌, ◌++◌, ◌∙◌, true, false, ap, arith, inr, refl, subst, sym, map}
-use Rattle.std.specs.Prelude.{not}
+use Rattle.std.proofs.Common.{◌≡◌, ◌+◌, ◌∙◌, arith, ap, false, length, map, refl, subst, sym, true}
+use Rattle.std.specs.Prelude.{All}
 use Rattle.std.specs.List.{zip}
-use Rattle.rly_disk.specs.Trace.{Makes}
 use Rattle.rly_disk.proofs.Making.{makes_later}
-use Rattle.rly_machine.specs.History.{accepted_of}
-use Rattle.rly_journal.specs.Calls.{MakesRound, logging}
-use Rattle.rly_journal.specs.Journal.{Breaks, IsDueFor}
-use Rattle.rly_journal.specs.Log.{IsFull}
-use Rattle.rly_journal.specs.HelpersGroups.{unsure_at}
-use Rattle.rly_journal.proofs.Gathering.{body_most}
-use Rattle.rly_journal.proofs.Rounding.{logging_group, logging_none, positive, serve_made, unsure_answers, was_asked}
-use Rattle.rly_journal.specs.Rounds.{IsRefusedWhereWanted, refusals}
-use Rattle.rly_core.specs.declared.refusal.Refusal.TheVariants.{Unsure}
-use Rattle.rly_journal.proofs.Serving.{few_accepted, made_unsure, refused_where_wanted}
+use Rattle.rly_machine.specs.Fold.{fold}
+use Rattle.rly_grouping.specs.Groups.{group_body}
+use Rattle.rly_fetching.specs.Fetching.{IsThereFor}
+use Rattle.rly_standing.specs.Log.{IsDurable, IsFull}
+use Rattle.rly_journal.specs.HelpersJournal.{IsSoundJournal}
+use Rattle.rly_journal.specs.HelpersOutcomes.{taken_of}
+use Rattle.rly_journal.specs.Showing.{shown_state}
+use Rattle.rly_journal.proofs.Asking.{above_there, ready_there}
+use Rattle.rly_journal.proofs.Ending.{broken_served, broken_sound, none_served, none_sound, served_as, served_broken, some_ready, some_served, some_sound, sound_as, whole_sound}
+use Rattle.rly_journal.proofs.Serving.{group_none, group_room, group_there, wanted_there}
 use Rattle.rly_journal.proofs.journal.Journal.serve.Goals as goal
+
+pub evaluate-requires-clause-room : goal.evaluate-requires-clause-room
+evaluate-requires-clause-room g c =
+    omega (arith, c.requires.count, c.self.invariant.3)
+
+pub evaluate-requires-clause-none : goal.evaluate-requires-clause-none
+evaluate-requires-clause-none g c =
+    c.self.invariant.2
+
+pub evaluate-requires-clause-empty : goal.evaluate-requires-clause-empty
+evaluate-requires-clause-empty g c =
+    c.self.invariant.1
+
+pub evaluate-requires-clause-above : goal.evaluate-requires-clause-above
+evaluate-requires-clause-above g c =
+    let whole : c.self.inside.broken ≡ false = ap (λ j. j.broken) c.self.view_is ∙ c.requires.broken in
+    let sound = whole_sound (g.D.Disk.state c.self.inside.disk) c.self.inside.tail c.self.inside.index (shown_state (g.D.Disk.state c.self.inside.first_disk.value).seen c.self.inside.first_index.value.spool.state (map (λ e. e.0.value) c.self.inside.accepted.items)) c.self.inside.position c.self.inside.broken whole c.self.invariant.0 in
+    above_there (g.D.Disk.state c.self.inside.disk).size c.self.inside.tail c.self.inside.index sound.shaped (sound.ends refl)
+
+pub evaluate-requires-clause-used : goal.evaluate-requires-clause-used
+evaluate-requires-clause-used g c =
+    let whole : c.self.inside.broken ≡ false = ap (λ j. j.broken) c.self.view_is ∙ c.requires.broken in
+    let sound = whole_sound (g.D.Disk.state c.self.inside.disk) c.self.inside.tail c.self.inside.index (shown_state (g.D.Disk.state c.self.inside.first_disk.value).seen c.self.inside.first_index.value.spool.state (map (λ e. e.0.value) c.self.inside.accepted.items)) c.self.inside.position c.self.inside.broken whole c.self.invariant.0 in
+    (sound.ends refl).used
+
+pub evaluate-requires-clause-ready : goal.evaluate-requires-clause-ready
+evaluate-requires-clause-ready g c =
+    let whole : c.self.inside.broken ≡ false = ap (λ j. j.broken) c.self.view_is ∙ c.requires.broken in
+    let sound = whole_sound (g.D.Disk.state c.self.inside.disk) c.self.inside.tail c.self.inside.index (shown_state (g.D.Disk.state c.self.inside.first_disk.value).seen c.self.inside.first_index.value.spool.state (map (λ e. e.0.value) c.self.inside.accepted.items)) c.self.inside.position c.self.inside.broken whole c.self.invariant.0 in
+    ready_there c.self.inside.tail c.self.inside.index c.args.calls.now.items (sound.ends refl) (λ asks full. c.requires.ready (asks, subst (λ j. IsFull j.tail) c.self.view_is full))
+
+pub answer_all-requires-clause-room : goal.answer_all-requires-clause-room
+answer_all-requires-clause-room g c =
+    omega (arith, c.evaluate.ensures.evaluated.count, c.requires.room)
+
+pub answer_all-requires-clause-there : goal.answer_all-requires-clause-there
+answer_all-requires-clause-there g c =
+    let whole : c.self.inside.broken ≡ false = ap (λ j. j.broken) c.self.view_is ∙ c.requires.broken in
+    let sound = whole_sound (g.D.Disk.state c.self.inside.disk) c.self.inside.tail c.self.inside.index (shown_state (g.D.Disk.state c.self.inside.first_disk.value).seen c.self.inside.first_index.value.spool.state (map (λ e. e.0.value) c.self.inside.accepted.items)) c.self.inside.position c.self.inside.broken whole c.self.invariant.0 in
+    wanted_there (g.D.Disk.state c.self.inside.disk).size c.self.inside.tail c.self.inside.index c.evaluate.new.index c.evaluate.new.group (map (λ e. e.0.value) c.self.inside.accepted.items) (map (λ e. e.0.value) c.evaluate.new.accepted.items) c.args.calls.now.items c.evaluate.new.outcomes.items (shown_state (g.D.Disk.state c.self.inside.first_disk.value).seen c.self.inside.first_index.value.spool.state (map (λ e. e.0.value) c.self.inside.accepted.items)) sound.shaped (sound.ends refl) sound.alike c.evaluate.ensures.evaluated
+
+pub invariant_of-self : goal.invariant_of-self
+invariant_of-self g c =
+    let whole : c.self.inside.broken ≡ false = ap (λ j. j.broken) c.self.view_is ∙ c.requires.broken in
+    let sound = whole_sound (g.D.Disk.state c.self.inside.disk) c.self.inside.tail c.self.inside.index (shown_state (g.D.Disk.state c.self.inside.first_disk.value).seen c.self.inside.first_index.value.spool.state (map (λ e. e.0.value) c.self.inside.accepted.items)) c.self.inside.position c.self.inside.broken whole c.self.invariant.0 in (
+      sound_as (g.D.Disk.state c.answer_all.new.disk) c.self.inside.tail c.self.inside.tail c.evaluate.new.index (shown_state (g.D.Disk.state c.self.inside.first_disk.value).seen c.self.inside.first_index.value.spool.state (map (λ e. e.0.value) c.evaluate.new.accepted.items)) c.self.inside.position c.self.inside.broken whole refl
+          (none_sound g.D.Disk.state g.met.D.Disk.consistent c.self.inside.tail c.self.inside.index c.evaluate.new.index c.evaluate.new.group
+          (g.D.Disk.state c.self.inside.first_disk.value).seen c.self.inside.first_index.value.spool.state (map (λ e. e.0.value) c.self.inside.accepted.items) (map (λ e. e.0.value) c.evaluate.new.accepted.items) c.self.inside.position c.args.calls.now.items c.evaluate.new.outcomes.items c.self.inside.disk sound c.evaluate.ensures.evaluated (sym c.is_empty.ensures ∙ c.if-is_empty.true) c.answer_all.ensures.only),
+      group_none (g.D.Disk.state c.self.inside.disk).size c.self.inside.tail c.self.inside.index c.evaluate.new.index c.evaluate.new.group (map (λ e. e.0.value) c.self.inside.accepted.items) (map (λ e. e.0.value) c.evaluate.new.accepted.items) c.args.calls.now.items c.evaluate.new.outcomes.items (shown_state (g.D.Disk.state c.self.inside.first_disk.value).seen c.self.inside.first_index.value.spool.state (map (λ e. e.0.value) c.self.inside.accepted.items)) sound.shaped (sound.ends refl) sound.alike c.evaluate.ensures.evaluated (sym c.is_empty.ensures ∙ c.if-is_empty.true),
+      c.answer_all.ensures.emptied,
+      omega (arith, c.self.invariant.3, c.evaluate.ensures.outcomes_capacity, c.answer_all.ensures.outcomes_capacity),
+    )
+
+pub returns-then-is_empty-clause-served : goal.returns-then-is_empty-clause-served
+returns-then-is_empty-clause-served g c =
+    let whole : c.self.inside.broken ≡ false = ap (λ j. j.broken) c.self.view_is ∙ c.requires.broken in
+    let sound = whole_sound (g.D.Disk.state c.self.inside.disk) c.self.inside.tail c.self.inside.index (shown_state (g.D.Disk.state c.self.inside.first_disk.value).seen c.self.inside.first_index.value.spool.state (map (λ e. e.0.value) c.self.inside.accepted.items)) c.self.inside.position c.self.inside.broken whole c.self.invariant.0 in
+    let answered = c.answer_all.ensures.answers in
+    served_as g.D.Disk.state c.self.inside.disk c.answer_all.new.disk c.self.inside.tail c.self.inside.tail c.self.inside.tail (shown_state (g.D.Disk.state c.self.inside.first_disk.value).seen c.self.inside.first_index.value.spool.state (map (λ e. e.0.value) c.self.inside.accepted.items)) (shown_state (g.D.Disk.state c.self.inside.first_disk.value).seen c.self.inside.first_index.value.spool.state (map (λ e. e.0.value) c.evaluate.new.accepted.items)) c.self.inside.position c.self.inside.position c.self.inside.broken c.args.self.now c.args.calls.now.items c.args.answers.now.items c.answer_all.new.answers.items
+    whole c.self.view_is refl
+    (none_served g.D.Disk.state g.met.D.Disk.consistent c.self.inside.tail c.self.inside.index c.evaluate.new.index c.evaluate.new.group
+    (g.D.Disk.state c.self.inside.first_disk.value).seen c.self.inside.first_index.value.spool.state (map (λ e. e.0.value) c.self.inside.accepted.items) (map (λ e. e.0.value) c.evaluate.new.accepted.items) c.self.inside.position c.args.calls.now.items c.evaluate.new.outcomes.items c.self.inside.disk sound c.evaluate.ensures.evaluated (sym c.is_empty.ensures ∙ c.if-is_empty.true) c.answer_all.ensures.only c.args.answers.now.items c.answer_all.new.answers.items answered.0 answered.1 answered.2 answered.3)
 
 pub append-requires-clause-something : goal.append-requires-clause-something
 append-requires-clause-something g c =
-    let answered = c.answer_calls.ensures.answers in
-    let few = few_accepted c.args.calls.now.items answered.0 in
-    (positive c.answer_calls.new.group.count (sym c.is_empty.ensures ∙ c.if-is_empty.false), omega (arith, few, answered.3.count, c.requires.count))
+    let whole : c.self.inside.broken ≡ false = ap (λ j. j.broken) c.self.view_is ∙ c.requires.broken in
+    let sound = whole_sound (g.D.Disk.state c.self.inside.disk) c.self.inside.tail c.self.inside.index (shown_state (g.D.Disk.state c.self.inside.first_disk.value).seen c.self.inside.first_index.value.spool.state (map (λ e. e.0.value) c.self.inside.accepted.items)) c.self.inside.position c.self.inside.broken whole c.self.invariant.0 in
+    group_there (g.D.Disk.state c.self.inside.disk).size c.self.inside.tail c.self.inside.index c.evaluate.new.index c.evaluate.new.group (map (λ e. e.0.value) c.self.inside.accepted.items) (map (λ e. e.0.value) c.evaluate.new.accepted.items) c.args.calls.now.items c.evaluate.new.outcomes.items (shown_state (g.D.Disk.state c.self.inside.first_disk.value).seen c.self.inside.first_index.value.spool.state (map (λ e. e.0.value) c.self.inside.accepted.items)) sound.shaped (sound.ends refl) sound.alike c.evaluate.ensures.evaluated (sym c.is_empty.ensures ∙ c.if-is_empty.false) c.requires.count c.law_index.ensures.holds (some_ready g.D.Disk.state g.met.D.Disk.consistent c.self.inside.tail c.self.inside.index c.evaluate.new.index c.evaluate.new.group
+    (g.D.Disk.state c.self.inside.first_disk.value).seen c.self.inside.first_index.value.spool.state (map (λ e. e.0.value) c.self.inside.accepted.items) (map (λ e. e.0.value) c.evaluate.new.accepted.items) c.self.inside.position c.args.calls.now.items c.evaluate.new.outcomes.items c.self.inside.disk sound c.evaluate.ensures.evaluated (sym c.is_empty.ensures ∙ c.if-is_empty.false) c.requires.count c.law_index.ensures.holds (λ asks full. c.requires.ready (asks, subst (λ j. IsFull j.tail) c.self.view_is full)))
 
-pub append-requires-clause-body : goal.append-requires-clause-body
-append-requires-clause-body g c =
-    let answered = c.answer_calls.ensures.answers in
-    let few = few_accepted c.args.calls.now.items answered.0 in
-    body_most (accepted_of (zip c.args.calls.now.items answered.0)) c.answer_calls.new.group c.self.inside.machine.state c.answer_calls.new.machine.state answered.3
-    (omega (arith, few, c.requires.count))
+pub append-requires-clause-nothing_staged : goal.append-requires-clause-nothing_staged
+append-requires-clause-nothing_staged g c =
+    c.evaluate.ensures.evaluated.holds.staged
 
 pub append-requires-clause-room : goal.append-requires-clause-room
-append-requires-clause-room g c full =
-    let answered = c.answer_calls.ensures.answers in
-    let asked = was_asked c.args.calls.now.items answered.0 (accepted_of (zip c.args.calls.now.items answered.0)) c.answer_calls.new.group c.self.inside.machine.state c.answer_calls.new.machine.state
-    answered.2 answered.3 (sym c.is_empty.ensures ∙ c.if-is_empty.false) in
-    c.requires.ready (asked, subst (λ j. IsFull j.tail) c.self.view_is full)
+append-requires-clause-room g c =
+    let whole : c.self.inside.broken ≡ false = ap (λ j. j.broken) c.self.view_is ∙ c.requires.broken in
+    let sound = whole_sound (g.D.Disk.state c.self.inside.disk) c.self.inside.tail c.self.inside.index (shown_state (g.D.Disk.state c.self.inside.first_disk.value).seen c.self.inside.first_index.value.spool.state (map (λ e. e.0.value) c.self.inside.accepted.items)) c.self.inside.position c.self.inside.broken whole c.self.invariant.0 in
+    group_room (g.D.Disk.state c.self.inside.disk).size c.self.inside.tail c.self.inside.index c.evaluate.new.index c.evaluate.new.group (map (λ e. e.0.value) c.self.inside.accepted.items) (map (λ e. e.0.value) c.evaluate.new.accepted.items) c.args.calls.now.items c.evaluate.new.outcomes.items (shown_state (g.D.Disk.state c.self.inside.first_disk.value).seen c.self.inside.first_index.value.spool.state (map (λ e. e.0.value) c.self.inside.accepted.items)) sound.shaped (sound.ends refl) sound.alike c.evaluate.ensures.evaluated (sym c.is_empty.ensures ∙ c.if-is_empty.false) c.requires.count c.law_index.ensures.holds (some_ready g.D.Disk.state g.met.D.Disk.consistent c.self.inside.tail c.self.inside.index c.evaluate.new.index c.evaluate.new.group
+    (g.D.Disk.state c.self.inside.first_disk.value).seen c.self.inside.first_index.value.spool.state (map (λ e. e.0.value) c.self.inside.accepted.items) (map (λ e. e.0.value) c.evaluate.new.accepted.items) c.self.inside.position c.args.calls.now.items c.evaluate.new.outcomes.items c.self.inside.disk sound c.evaluate.ensures.evaluated (sym c.is_empty.ensures ∙ c.if-is_empty.false) c.requires.count c.law_index.ensures.holds (λ asks full. c.requires.ready (asks, subst (λ j. IsFull j.tail) c.self.view_is full)))
+
+pub append-requires-clause-geometry : goal.append-requires-clause-geometry
+append-requires-clause-geometry g c =
+    let whole : c.self.inside.broken ≡ false = ap (λ j. j.broken) c.self.view_is ∙ c.requires.broken in
+    let sound = whole_sound (g.D.Disk.state c.self.inside.disk) c.self.inside.tail c.self.inside.index (shown_state (g.D.Disk.state c.self.inside.first_disk.value).seen c.self.inside.first_index.value.spool.state (map (λ e. e.0.value) c.self.inside.accepted.items)) c.self.inside.position c.self.inside.broken whole c.self.invariant.0 in
+    sound.shaped.geometry
+
+pub append-requires-clause-segment : goal.append-requires-clause-segment
+append-requires-clause-segment g c =
+    let whole : c.self.inside.broken ≡ false = ap (λ j. j.broken) c.self.view_is ∙ c.requires.broken in
+    let sound = whole_sound (g.D.Disk.state c.self.inside.disk) c.self.inside.tail c.self.inside.index (shown_state (g.D.Disk.state c.self.inside.first_disk.value).seen c.self.inside.first_index.value.spool.state (map (λ e. e.0.value) c.self.inside.accepted.items)) c.self.inside.position c.self.inside.broken whole c.self.invariant.0 in
+    sound.shaped.segment
+
+pub answer_all-requires-in-Ok-clause-room : goal.answer_all-requires-in-Ok-clause-room
+answer_all-requires-in-Ok-clause-room g c =
+    omega (arith, c.evaluate.ensures.evaluated.count, c.requires.room)
+
+pub answer_all-requires-in-Ok-clause-there : goal.answer_all-requires-in-Ok-clause-there
+answer_all-requires-in-Ok-clause-there g c =
+    let whole : c.self.inside.broken ≡ false = ap (λ j. j.broken) c.self.view_is ∙ c.requires.broken in
+    let sound = whole_sound (g.D.Disk.state c.self.inside.disk) c.self.inside.tail c.self.inside.index (shown_state (g.D.Disk.state c.self.inside.first_disk.value).seen c.self.inside.first_index.value.spool.state (map (λ e. e.0.value) c.self.inside.accepted.items)) c.self.inside.position c.self.inside.broken whole c.self.invariant.0 in
+    subst (λ n. All (IsThereFor n) c.evaluate.new.outcomes.items) (sym (makes_later g.D.Disk.state c.in-Ok.ensures.trace).size) (wanted_there (g.D.Disk.state c.self.inside.disk).size c.self.inside.tail c.self.inside.index c.evaluate.new.index c.evaluate.new.group (map (λ e. e.0.value) c.self.inside.accepted.items) (map (λ e. e.0.value) c.evaluate.new.accepted.items) c.args.calls.now.items c.evaluate.new.outcomes.items (shown_state (g.D.Disk.state c.self.inside.first_disk.value).seen c.self.inside.first_index.value.spool.state (map (λ e. e.0.value) c.self.inside.accepted.items)) sound.shaped (sound.ends refl) sound.alike c.evaluate.ensures.evaluated)
 
 pub invariant_of-self-in-Ok : goal.invariant_of-self-in-Ok
 invariant_of-self-in-Ok g c =
-    let answered = c.answer_calls.ensures.answers in
-    let commands = accepted_of (zip c.args.calls.now.items answered.0) in (
-      record {
-        shaped = c.append.ensures.shaped commands c.self.inside.machine.state c.answer_calls.new.machine.state c.self.invariant.0.shaped answered.3;
-        durable = λ whole honest. c.in-Ok.ensures.durable commands c.self.inside.machine.state c.answer_calls.new.machine.state
-            (c.self.invariant.0.durable whole ((makes_later g.D.Disk.state c.append.ensures.trace).honest.0 honest)) answered.3;
-        counted = λ whole. c.seq-self-inside.ensures;
-      },
+    let whole : c.self.inside.broken ≡ false = ap (λ j. j.broken) c.self.view_is ∙ c.requires.broken in
+    let sound = whole_sound (g.D.Disk.state c.self.inside.disk) c.self.inside.tail c.self.inside.index (shown_state (g.D.Disk.state c.self.inside.first_disk.value).seen c.self.inside.first_index.value.spool.state (map (λ e. e.0.value) c.self.inside.accepted.items)) c.self.inside.position c.self.inside.broken whole c.self.invariant.0 in (
+      sound_as (g.D.Disk.state c.answer_all-in-Ok.new.disk) (record c.self.inside.tail { gate = c.self.inside.tail.gate + (5 + length (group_body c.evaluate.new.group)) }) c.append.new.tail c.evaluate.new.index (shown_state (g.D.Disk.state c.self.inside.first_disk.value).seen c.self.inside.first_index.value.spool.state (map (λ e. e.0.value) c.evaluate.new.accepted.items)) c.seq-self-inside.result c.self.inside.broken whole c.in-Ok.ensures.gate
+          (some_sound g.D.Disk.state g.met.D.Disk.consistent c.self.inside.tail c.self.inside.index c.evaluate.new.index c.evaluate.new.group
+          (g.D.Disk.state c.self.inside.first_disk.value).seen c.self.inside.first_index.value.spool.state (map (λ e. e.0.value) c.self.inside.accepted.items) (map (λ e. e.0.value) c.evaluate.new.accepted.items) c.self.inside.position c.args.calls.now.items c.evaluate.new.outcomes.items c.self.inside.disk sound c.evaluate.ensures.evaluated (sym c.is_empty.ensures ∙ c.if-is_empty.false) c.requires.count c.law_index.ensures.holds (λ asks full. c.requires.ready (asks, subst (λ j. IsFull j.tail) c.self.view_is full)) c.in-Ok.ensures.trace
+          (λ s before held accepted. subst (λ u. IsDurable (g.D.Disk.state c.append.new.disk) u (fold length s (taken_of (zip c.args.calls.now.items c.evaluate.new.outcomes.items)))) c.in-Ok.ensures.gate
+          (c.in-Ok.ensures.durable (taken_of (zip c.args.calls.now.items c.evaluate.new.outcomes.items)) s before held accepted))
+          (λ s before held accepted was. c.in-Ok.ensures.tagged (taken_of (zip c.args.calls.now.items c.evaluate.new.outcomes.items)) s c.self.inside.index.spool.state before held accepted was) c.answer_all-in-Ok.ensures.only c.seq-self-inside.result (c.seq-self-inside.ensures ∙ ap (λ m. m.state.seq) c.machine.ensures)),
       c.append.ensures.emptied,
+      c.answer_all-in-Ok.ensures.emptied,
+      omega (arith, c.self.invariant.3, c.evaluate.ensures.outcomes_capacity, c.answer_all-in-Ok.ensures.outcomes_capacity),
     )
+
+pub returns-in-Ok-clause-served : goal.returns-in-Ok-clause-served
+returns-in-Ok-clause-served g c =
+    let whole : c.self.inside.broken ≡ false = ap (λ j. j.broken) c.self.view_is ∙ c.requires.broken in
+    let sound = whole_sound (g.D.Disk.state c.self.inside.disk) c.self.inside.tail c.self.inside.index (shown_state (g.D.Disk.state c.self.inside.first_disk.value).seen c.self.inside.first_index.value.spool.state (map (λ e. e.0.value) c.self.inside.accepted.items)) c.self.inside.position c.self.inside.broken whole c.self.invariant.0 in
+    let answered = c.answer_all-in-Ok.ensures.answers in
+    served_as g.D.Disk.state c.self.inside.disk c.answer_all-in-Ok.new.disk c.self.inside.tail (record c.self.inside.tail { gate = c.self.inside.tail.gate + (5 + length (group_body c.evaluate.new.group)) }) c.append.new.tail (shown_state (g.D.Disk.state c.self.inside.first_disk.value).seen c.self.inside.first_index.value.spool.state (map (λ e. e.0.value) c.self.inside.accepted.items)) (shown_state (g.D.Disk.state c.self.inside.first_disk.value).seen c.self.inside.first_index.value.spool.state (map (λ e. e.0.value) c.evaluate.new.accepted.items)) c.self.inside.position c.seq-self-inside.result c.self.inside.broken c.args.self.now c.args.calls.now.items
+    c.args.answers.now.items c.answer_all-in-Ok.new.answers.items whole c.self.view_is c.in-Ok.ensures.gate
+    (some_served g.D.Disk.state g.met.D.Disk.consistent c.self.inside.tail c.self.inside.index c.evaluate.new.index c.evaluate.new.group
+    (g.D.Disk.state c.self.inside.first_disk.value).seen c.self.inside.first_index.value.spool.state (map (λ e. e.0.value) c.self.inside.accepted.items) (map (λ e. e.0.value) c.evaluate.new.accepted.items) c.self.inside.position c.args.calls.now.items c.evaluate.new.outcomes.items c.self.inside.disk sound c.evaluate.ensures.evaluated (sym c.is_empty.ensures ∙ c.if-is_empty.false) c.requires.count c.law_index.ensures.holds (λ asks full. c.requires.ready (asks, subst (λ j. IsFull j.tail) c.self.view_is full)) c.in-Ok.ensures.trace
+    (λ s before held accepted. subst (λ u. IsDurable (g.D.Disk.state c.append.new.disk) u (fold length s (taken_of (zip c.args.calls.now.items c.evaluate.new.outcomes.items)))) c.in-Ok.ensures.gate
+    (c.in-Ok.ensures.durable (taken_of (zip c.args.calls.now.items c.evaluate.new.outcomes.items)) s before held accepted))
+    (λ s before held accepted was. c.in-Ok.ensures.tagged (taken_of (zip c.args.calls.now.items c.evaluate.new.outcomes.items)) s c.self.inside.index.spool.state before held accepted was) c.answer_all-in-Ok.ensures.only c.seq-self-inside.result (c.seq-self-inside.ensures ∙ ap (λ m. m.state.seq) c.machine.ensures) c.args.answers.now.items c.answer_all-in-Ok.new.answers.items answered.0 answered.1 answered.2 answered.3)
+
+pub refuse_all-requires : goal.refuse_all-requires
+refuse_all-requires g c =
+    record { room = omega (arith, c.evaluate.ensures.evaluated.count, c.requires.room) }
 
 pub invariant_of-self-in-Err : goal.invariant_of-self-in-Err
 invariant_of-self-in-Err g c =
-    let answered = c.answer_calls.ensures.answers in (
-      record {
-        shaped = c.append.ensures.shaped (accepted_of (zip c.args.calls.now.items answered.0)) c.self.inside.machine.state c.answer_calls.new.machine.state c.self.invariant.0.shaped answered.3;
-        durable = λ whole honest. absurd (let e : true ≡ false = whole in cc);
-        counted = λ whole. absurd (let e : true ≡ false = whole in cc);
-      },
+    let whole : c.self.inside.broken ≡ false = ap (λ j. j.broken) c.self.view_is ∙ c.requires.broken in
+    let sound = whole_sound (g.D.Disk.state c.self.inside.disk) c.self.inside.tail c.self.inside.index (shown_state (g.D.Disk.state c.self.inside.first_disk.value).seen c.self.inside.first_index.value.spool.state (map (λ e. e.0.value) c.self.inside.accepted.items)) c.self.inside.position c.self.inside.broken whole c.self.invariant.0 in (
+      subst (λ u. IsSoundJournal (g.D.Disk.state c.append.new.disk) u c.evaluate.new.index (shown_state (g.D.Disk.state c.self.inside.first_disk.value).seen c.self.inside.first_index.value.spool.state (map (λ e. e.0.value) c.evaluate.new.accepted.items)) c.self.inside.position true) (sym c.in-Err.ensures.err)
+          (broken_sound g.D.Disk.state g.met.D.Disk.consistent c.self.inside.tail c.self.inside.index c.evaluate.new.index c.evaluate.new.group
+          (g.D.Disk.state c.self.inside.first_disk.value).seen c.self.inside.first_index.value.spool.state (map (λ e. e.0.value) c.self.inside.accepted.items) (map (λ e. e.0.value) c.evaluate.new.accepted.items) c.self.inside.position c.args.calls.now.items c.evaluate.new.outcomes.items c.self.inside.disk sound c.evaluate.ensures.evaluated (sym c.is_empty.ensures ∙ c.if-is_empty.false) c.requires.count c.law_index.ensures.holds (λ asks full. c.requires.ready (asks, subst (λ j. IsFull j.tail) c.self.view_is full)) c.in-Err.ensures.trace),
       c.append.ensures.emptied,
+      c.refuse_all.ensures.emptied,
+      omega (arith, c.self.invariant.3, c.evaluate.ensures.outcomes_capacity, c.refuse_all.ensures.outcomes_capacity),
     )
 
-pub returns-then-is_empty-clause-trace : goal.returns-then-is_empty-clause-trace
-returns-then-is_empty-clause-trace g c =
-    let answered = c.answer_calls.ensures.answers in
+pub returns-in-Err-clause-served : goal.returns-in-Err-clause-served
+returns-in-Err-clause-served g c =
     let whole : c.self.inside.broken ≡ false = ap (λ j. j.broken) c.self.view_is ∙ c.requires.broken in
-    let none = logging_none g.D.Disk.state c.self.inside.disk c.self.inside.tail.gate c.answer_calls.new.group (accepted_of (zip c.args.calls.now.items answered.0))
-    c.self.inside.machine.state c.answer_calls.new.machine.state answered.3 (sym c.is_empty.ensures ∙ c.if-is_empty.true) in
-    subst (λ j. MakesRound g.D.Disk.state j (record { disk = c.self.inside.disk; tail = c.self.inside.tail; state = c.answer_calls.new.machine.state; position = c.self.inside.position; broken = c.self.inside.broken }) c.args.calls.now.items c.args.answers.now.items c.answer_calls.new.answers.items) c.self.view_is
-    (serve_made g.D.Disk.state (record { disk = c.self.inside.disk; tail = c.self.inside.tail; state = c.self.inside.machine.state; position = c.self.inside.position; broken = c.self.inside.broken })
-    (record { disk = c.self.inside.disk; tail = c.self.inside.tail; state = c.answer_calls.new.machine.state; position = c.self.inside.position; broken = c.self.inside.broken }) c.args.calls.now.items answered.0 c.answer_calls.new.group answered.2 answered.3
-    (λ due. c.requires.ready (subst (λ j. IsDueFor j c.args.calls.now.items) c.self.view_is due)) answered.4
-    (subst (λ b. Makes g.D.Disk.state (logging c.self.inside.tail.gate (accepted_of (zip c.args.calls.now.items answered.0))) (not b) c.self.inside.disk c.self.inside.disk) (sym whole) none) c.args.answers.now.items c.answer_calls.new.answers.items (λ _. answered.1))
-
-pub returns-in-Ok-clause-trace : goal.returns-in-Ok-clause-trace
-returns-in-Ok-clause-trace g c =
-    let answered = c.answer_calls.ensures.answers in
-    let whole : c.self.inside.broken ≡ false = ap (λ j. j.broken) c.self.view_is ∙ c.requires.broken in
-    let made = logging_group g.D.Disk.state c.self.inside.tail.gate c.answer_calls.new.group (accepted_of (zip c.args.calls.now.items answered.0))
-    c.self.inside.machine.state c.answer_calls.new.machine.state answered.3 (sym c.is_empty.ensures ∙ c.if-is_empty.false) c.in-Ok.ensures.trace in
-    subst (λ j. MakesRound g.D.Disk.state j (record { disk = c.append.new.disk; tail = c.append.new.tail; state = c.answer_calls.new.machine.state; position = c.seq-self-inside.result; broken = c.self.inside.broken }) c.args.calls.now.items c.args.answers.now.items c.answer_calls.new.answers.items) c.self.view_is
-    (serve_made g.D.Disk.state (record { disk = c.self.inside.disk; tail = c.self.inside.tail; state = c.self.inside.machine.state; position = c.self.inside.position; broken = c.self.inside.broken })
-    (record { disk = c.append.new.disk; tail = c.append.new.tail; state = c.answer_calls.new.machine.state; position = c.seq-self-inside.result; broken = c.self.inside.broken }) c.args.calls.now.items answered.0 c.answer_calls.new.group answered.2 answered.3
-    (λ due. c.requires.ready (subst (λ j. IsDueFor j c.args.calls.now.items) c.self.view_is due)) answered.4
-    (subst (λ b. Makes g.D.Disk.state (logging c.self.inside.tail.gate (accepted_of (zip c.args.calls.now.items answered.0))) (not b) c.self.inside.disk c.append.new.disk) (sym whole) made) c.args.answers.now.items c.answer_calls.new.answers.items (λ _. answered.1))
-
-pub returns-in-Err-clause-answers : goal.returns-in-Err-clause-answers
-returns-in-Err-clause-answers g c =
-    let answered = c.answer_calls.ensures.answers in (
-      map (unsure_at c.self.inside.position) answered.0,
-      c.make_unsure.ensures.answers
-          ∙ unsure_answers c.args.answers.now.items c.answer_calls.new.answers.items answered.0 c.len-from.result c.self.inside.position answered.1
-          (omega (arith, c.len-from.ensures, c.args.answers.now.ok.0)),
-      inr (subst (λ j. Breaks j (record { disk = c.append.new.disk; tail = c.append.new.tail; state = c.answer_calls.new.machine.state; position = c.self.inside.position; broken = true })
-          c.args.calls.now.items (map (unsure_at c.self.inside.position) answered.0)) c.self.view_is
-          (record {
-            broken = refl;
-            unsure = made_unsure c.args.calls.now.items answered.0 c.self.inside.machine.state c.answer_calls.new.machine.state c.self.inside.position answered.2;
-            position = refl;
-          })),
-    )
-
-pub returns-in-Err-clause-trace : goal.returns-in-Err-clause-trace
-returns-in-Err-clause-trace g c =
-    let answered = c.answer_calls.ensures.answers in
-    let made = logging_group g.D.Disk.state c.self.inside.tail.gate c.answer_calls.new.group (accepted_of (zip c.args.calls.now.items answered.0))
-    c.self.inside.machine.state c.answer_calls.new.machine.state answered.3 (sym c.is_empty.ensures ∙ c.if-is_empty.false) c.in-Err.ensures.trace in
-    subst (λ j. MakesRound g.D.Disk.state j (record { disk = c.append.new.disk; tail = c.append.new.tail; state = c.answer_calls.new.machine.state; position = c.self.inside.position; broken = true }) c.args.calls.now.items c.args.answers.now.items c.make_unsure.new.answers.items) c.self.view_is
-    (serve_made g.D.Disk.state (record { disk = c.self.inside.disk; tail = c.self.inside.tail; state = c.self.inside.machine.state; position = c.self.inside.position; broken = c.self.inside.broken })
-    (record { disk = c.append.new.disk; tail = c.append.new.tail; state = c.answer_calls.new.machine.state; position = c.self.inside.position; broken = true }) c.args.calls.now.items answered.0 c.answer_calls.new.group answered.2 answered.3
-    (λ due. c.requires.ready (subst (λ j. IsDueFor j c.args.calls.now.items) c.self.view_is due)) answered.4 made
-    c.args.answers.now.items c.make_unsure.new.answers.items (λ going. let e : true ≡ false = going in absurd cc))
-
-pub returns-then-is_empty-clause-wanted : goal.returns-then-is_empty-clause-wanted
-returns-then-is_empty-clause-wanted g c =
-    let answered = c.answer_calls.ensures.answers in
-    (answered.0, answered.1, subst (λ j. IsRefusedWhereWanted j.state (zip c.args.calls.now.items answered.0)) c.self.view_is answered.4)
-
-pub returns-in-Ok-clause-wanted : goal.returns-in-Ok-clause-wanted
-returns-in-Ok-clause-wanted g c =
-    let answered = c.answer_calls.ensures.answers in
-    (answered.0, answered.1, subst (λ j. IsRefusedWhereWanted j.state (zip c.args.calls.now.items answered.0)) c.self.view_is answered.4)
-
-pub returns-in-Err-clause-wanted : goal.returns-in-Err-clause-wanted
-returns-in-Err-clause-wanted g c =
-    let answered = c.answer_calls.ensures.answers in (
-      refusals Unsure c.self.inside.position c.args.calls.now.items,
-      c.make_unsure.ensures.answers
-          ∙ unsure_answers c.args.answers.now.items c.answer_calls.new.answers.items answered.0 c.len-from.result c.self.inside.position answered.1
-          (omega (arith, c.len-from.ensures, c.args.answers.now.ok.0))
-          ∙ ap (λ l. c.args.answers.now.items ++ l)
-          (made_unsure c.args.calls.now.items answered.0 c.self.inside.machine.state c.answer_calls.new.machine.state c.self.inside.position answered.2),
-      refused_where_wanted Unsure c.self.inside.position c.args.self.now.state c.args.calls.now.items (λ same. cc),
-    )
+    let sound = whole_sound (g.D.Disk.state c.self.inside.disk) c.self.inside.tail c.self.inside.index (shown_state (g.D.Disk.state c.self.inside.first_disk.value).seen c.self.inside.first_index.value.spool.state (map (λ e. e.0.value) c.self.inside.accepted.items)) c.self.inside.position c.self.inside.broken whole c.self.invariant.0 in
+    served_broken g.D.Disk.state c.self.inside.disk c.append.new.disk c.self.inside.tail c.append.new.tail (shown_state (g.D.Disk.state c.self.inside.first_disk.value).seen c.self.inside.first_index.value.spool.state (map (λ e. e.0.value) c.self.inside.accepted.items)) (shown_state (g.D.Disk.state c.self.inside.first_disk.value).seen c.self.inside.first_index.value.spool.state (map (λ e. e.0.value) c.evaluate.new.accepted.items)) c.self.inside.position c.self.inside.broken c.args.self.now c.args.calls.now.items
+    c.args.answers.now.items c.refuse_all.new.answers.items whole c.self.view_is c.in-Err.ensures.err
+    (broken_served g.D.Disk.state g.met.D.Disk.consistent c.self.inside.tail c.self.inside.index c.evaluate.new.index c.evaluate.new.group
+    (g.D.Disk.state c.self.inside.first_disk.value).seen c.self.inside.first_index.value.spool.state (map (λ e. e.0.value) c.self.inside.accepted.items) (map (λ e. e.0.value) c.evaluate.new.accepted.items) c.self.inside.position c.args.calls.now.items c.evaluate.new.outcomes.items c.self.inside.disk sound c.evaluate.ensures.evaluated (sym c.is_empty.ensures ∙ c.if-is_empty.false) c.requires.count c.law_index.ensures.holds (λ asks full. c.requires.ready (asks, subst (λ j. IsFull j.tail) c.self.view_is full)) c.in-Err.ensures.trace c.args.answers.now.items c.refuse_all.new.answers.items c.refuse_all.ensures.answers)

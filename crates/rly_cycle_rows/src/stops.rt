@@ -1,0 +1,264 @@
+//! A script on a device that is stopped at each of its calls in turn, and then crashes, or goes on.
+use crate::comparison::{expect_numbers, expect_state};
+use crate::device::{bytes_of, new_device, opened};
+use crate::faults::{Ended, run, standing};
+use crate::script::{HOP, PEER, Script, Step};
+use rly_core::Geometry;
+use rly_disk::{After, Disk, FaultDisk, MemDisk, Torn};
+use rly_journal::Journal;
+use rly_machine::{Machine, Payload, Reply};
+use std::alloc::{AllocError, Global};
+use std::process::Abort;
+
+/// What a crash may leave of the bytes that were written since the last sync.
+pub(crate) const KINDS: [Torn; 5] = [
+    Torn::AsRead,
+    Torn::AsSynced,
+    Torn::Fill(0xa5),
+    Torn::Fill(0),
+    Torn::Split(1),
+];
+
+/// How many bytes a failing write puts.
+const TORN_WRITES: [u64; 3] = [0, 1, 1_000];
+
+/// No script here makes so many device calls.
+const MOST_CALLS: u64 = 300;
+
+/// What a script without a failure asks of its device.
+#[derive(Clone, Copy)]
+pub(crate) struct Costs<'a> {
+    /// How many calls it makes, its opening's among them.
+    pub(crate) calls: u64,
+    /// How many of them are syncs.
+    pub(crate) syncs: u64,
+    /// The generation of each segment in the end, 0 where its gate is closed.
+    pub(crate) generations: &'a [u8],
+}
+
+/// Walks a script on a new device: without a failure, stopped at each device call, and with each call failing.
+pub(crate) fn walk(
+    rt: &impl Abort,
+    alloc: Global,
+    geometry: Geometry,
+    rounds: &[Vec<Step>],
+    costs: Costs,
+) -> Result<(), AllocError> {
+    let script = Script { geometry, rounds };
+    let mut disk = new_device(rt, alloc, &geometry)?;
+    let image = bytes_of(rt, alloc, &mut disk)?;
+    expect_costs(rt, alloc, script, &image, costs)?;
+    expect!(rt; stop_at_each_call(rt, alloc, script, &image)? == costs.calls);
+    expect!(rt; go_on_at_each_call(rt, alloc, script, &image)? == costs.calls);
+    Ok(())
+}
+
+/// The plain machine before a script.
+fn new_machine(
+    rt: &impl Abort,
+    alloc: Global,
+    script: Script,
+) -> Result<Machine<Payload>, AllocError> {
+    assert!(rt; script.geometry.params.check().is_ok());
+    Machine::new(alloc, script.geometry.params)
+}
+
+/// A device with these bytes that fails at a call.
+fn failing(
+    alloc: Global,
+    image: &[u8],
+    at: u64,
+    torn: u64,
+    after: After,
+) -> Result<FaultDisk<MemDisk>, AllocError> {
+    let disk = MemDisk::new(alloc, Vec::from_slice(alloc, image)?);
+    Ok(FaultDisk::new(disk, at, torn, after))
+}
+
+/// Expects of a script without a failure what it asks of its device.
+fn expect_costs(
+    rt: &impl Abort,
+    alloc: Global,
+    script: Script,
+    image: &[u8],
+    costs: Costs,
+) -> Result<(), AllocError> {
+    let disk = failing(alloc, image, 0, 0, After::Stops)?;
+    let machine = new_machine(rt, alloc, script)?;
+    let mut ended = run(rt, alloc, disk, script, (0, machine))?;
+    expect!(rt; ended.answered == script.rounds.len() && ended.disk.failures() == 0);
+    expect!(rt; ended.disk.calls() == costs.calls && ended.disk.syncs() == costs.syncs);
+    let bytes = bytes_of(rt, alloc, &mut ended.disk)?;
+    let mut gate = 64;
+    for generation in costs.generations {
+        let is_open = bytes.get(gate) == Some(&0xa5);
+        expect!(rt; is_open == (*generation != 0));
+        // the lowest byte of the generation
+        expect!(rt; !is_open || bytes.get(gate.saturating_add(8)) == Some(generation));
+        gate = gate.saturating_add(script.geometry.length as usize);
+    }
+    Ok(())
+}
+
+/// The call of a device that failed.
+#[derive(Clone, Copy, PartialEq, Eq)]
+enum Failed {
+    /// None did.
+    Nothing,
+    /// A read: nothing was put, however many bytes a failing write puts.
+    Read,
+    /// A write or a sync.
+    Settling,
+}
+
+/// The call that failed, the first one at least.
+fn failed_call(disk: &FaultDisk<MemDisk>) -> Failed {
+    if disk.failures() == 0 {
+        Failed::Nothing
+    } else if disk.failed_reads() > 0 {
+        Failed::Read
+    } else {
+        Failed::Settling
+    }
+}
+
+/// Stops a script at each device call in turn, with each torn write, and crashes in each way. Answers how many there are.
+fn stop_at_each_call(
+    rt: &impl Abort,
+    alloc: Global,
+    script: Script,
+    image: &[u8],
+) -> Result<u64, AllocError> {
+    let mut left = [false; 2];
+    for at in 1..MOST_CALLS {
+        let mut failed = Failed::Settling;
+        for torn in TORN_WRITES {
+            if failed == Failed::Settling {
+                failed = stop_in_each_way(rt, alloc, script, image, at, torn, &mut left)?;
+            }
+        }
+        if failed == Failed::Nothing {
+            // a round that was stopped stands now and then
+            expect!(rt; left == [true; 2]);
+            return Ok(at - 1);
+        }
+    }
+    panic!(rt; "no run without a failure")
+}
+
+/// Stops the script at a call with one torn write, and crashes in each way. Tells `left` whether a round stood that was not
+/// answered, and answers what failed.
+fn stop_in_each_way(
+    rt: &impl Abort,
+    alloc: Global,
+    script: Script,
+    image: &[u8],
+    at: u64,
+    torn: u64,
+    left: &mut [bool; 2],
+) -> Result<Failed, AllocError> {
+    let mut failed = Failed::Nothing;
+    for kind in KINDS {
+        let disk = failing(alloc, image, at, torn, After::Stops)?;
+        let machine = new_machine(rt, alloc, script)?;
+        let ended = run(rt, alloc, disk, script, (0, machine))?;
+        failed = failed_call(&ended.disk);
+        expect!(rt; (failed != Failed::Nothing) == (ended.disk.calls() >= at));
+        expect!(rt; failed != Failed::Nothing || ended.answered == script.rounds.len());
+        let answered = ended.answered;
+        let stand = expect_crashed(rt, alloc, script, ended, kind)?;
+        left[usize::from(stand > answered)] = true;
+    }
+    Ok(failed)
+}
+
+/// Crashes the device of a run that ended, opens what is left, and expects the state of the rounds that stand. Answers how many
+/// these are.
+fn expect_crashed(
+    rt: &impl Abort,
+    alloc: Global,
+    script: Script,
+    ended: Ended,
+    kind: Torn,
+) -> Result<usize, AllocError> {
+    let Ended {
+        disk,
+        machine,
+        answered,
+        unsure,
+    } = ended;
+    let mut journal = opened(rt, alloc, disk.into_inner().crash(kind));
+    expect_balance(rt, &journal);
+    let before = (answered, machine);
+    let (stand, mut machine) = standing(rt, alloc, &journal, script, before, unsure)?;
+    expect_state(rt, alloc, &mut journal, &mut machine)?;
+    Ok(stand)
+}
+
+/// Expects that the books of a spool of one hop and one peer balance.
+fn expect_balance<D: Disk>(rt: &impl Abort, journal: &Journal<D>) {
+    let Reply::Shown(status) = journal.ask_show(HOP) else {
+        panic!(rt; "no hop");
+    };
+    let left = u128::from(status.queued) + u128::from(status.flight);
+    let gone = u128::from(status.dropped) + u128::from(status.released);
+    expect!(rt; u128::from(status.taken) == left + gone);
+    expect!(rt; journal.last(PEER) == Ok(status.taken));
+}
+
+/// Fails the device at each call of a script in turn, with each torn write, and goes on. Answers how many there are.
+fn go_on_at_each_call(
+    rt: &impl Abort,
+    alloc: Global,
+    script: Script,
+    image: &[u8],
+) -> Result<u64, AllocError> {
+    for at in 1..MOST_CALLS {
+        let mut failed = Failed::Settling;
+        for torn in TORN_WRITES {
+            if failed == Failed::Settling {
+                let disk = failing(alloc, image, at, torn, After::GoesOn)?;
+                failed = go_on(rt, alloc, script, disk, at)?;
+            }
+        }
+        if failed == Failed::Nothing {
+            return Ok(at - 1);
+        }
+    }
+    panic!(rt; "no run without a failure")
+}
+
+/// Fails the device at one call, opens it again, and goes on from the state that was found to the end of the script. Answers what
+/// failed, which it does once.
+fn go_on(
+    rt: &impl Abort,
+    alloc: Global,
+    script: Script,
+    disk: FaultDisk<MemDisk>,
+    at: u64,
+) -> Result<Failed, AllocError> {
+    let machine = new_machine(rt, alloc, script)?;
+    let ended = run(rt, alloc, disk, script, (0, machine))?;
+    let failed = failed_call(&ended.disk);
+    expect!(rt; ended.disk.failures() == u64::from(ended.disk.calls() >= at));
+    if failed == Failed::Nothing {
+        return Ok(failed);
+    }
+    // after a read the script goes on by itself, but for one of the opening
+    expect!(rt; ended.answered == script.rounds.len() || ended.disk.calls() == at);
+    let Ended {
+        disk,
+        machine,
+        answered,
+        unsure,
+    } = ended;
+    let mut journal = opened(rt, alloc, disk);
+    let before = (answered, machine);
+    let (from, mut machine) = standing(rt, alloc, &journal, script, before, unsure)?;
+    expect_numbers(rt, alloc, &mut journal, &mut machine)?;
+    let ended = run(rt, alloc, journal.into_disk(), script, (from, machine))?;
+    expect!(rt; ended.answered == script.rounds.len() && ended.disk.failures() == 1);
+    let stand = expect_crashed(rt, alloc, script, ended, Torn::AsSynced)?;
+    expect!(rt; stand == script.rounds.len());
+    Ok(failed)
+}

@@ -1,0 +1,190 @@
+//! Scripts that are walked: without a failure, stopped at each call of the device, and with each call failing.
+use crate::device::{FOUR, SMALL, THREE};
+use crate::script::{Step, in_rounds, take};
+use crate::stops::{Costs, walk};
+use std::alloc::{AllocError, Global};
+use std::test::Fail;
+
+/// Commands one by one: three datagrams are taken, CoDel begins to drop, and segments are opened. On two segments these are two,
+/// the first where three datagrams are live, the second where one is in flight and its gate is open from before.
+fn commands() -> [Step; 15] {
+    [
+        take(1, 0, 1_200),
+        take(2, 100, 1_200),
+        take(3, 200, 1_200),
+        Step::Pick { now: 10_000 },
+        Step::Release { number: 1 },
+        take(4, 10_000, 1_200),
+        take(5, 20_000, 400),
+        Step::Pick { now: 120_000 },
+        take(5, 20_000, 400),
+        Step::Pick { now: 130_000 },
+        Step::Release { number: 2 },
+        take(6, 140_000, 1_200),
+        take(8, 140_000, 1),
+        Step::Release { number: 3 },
+        Step::Pick { now: 500_000 },
+    ]
+}
+
+#[test]
+fn rounds_of_one_call(rt: HostRuntime) -> Result<(), Fail> {
+    let alloc = rt.alloc();
+    let rounds = in_rounds(alloc, &commands(), 1)?;
+    let costs = Costs {
+        calls: 76,
+        syncs: 33,
+        generations: &[3, 2],
+    };
+    walk(&rt, alloc, SMALL, &rounds, costs)?;
+    let costs = Costs {
+        calls: 77,
+        syncs: 36,
+        generations: &[4, 2, 3, 0],
+    };
+    walk(&rt, alloc, FOUR, &rounds, costs)?;
+    Ok(())
+}
+
+/// Step number `index` of full rounds. Three datagrams of each ten steps are taken, picked and released.
+fn mixed(index: u8, length: usize) -> Step {
+    let first = 3 * u64::from(index / 10);
+    let moment = 1_000 * u64::from(index);
+    match index % 10 {
+        0 => take(first + 1, moment, length),
+        1 => take(first + 2, moment, length),
+        2 | 6 | 8 => Step::Pick { now: moment },
+        3 => Step::Window,
+        4 | 5 => take(first + 3, moment, length),
+        7 => Step::Release { number: first + 2 },
+        _ => take(first + 5, moment, length),
+    }
+}
+
+/// So many of these steps, in rounds of so many.
+fn many_mixed(
+    alloc: Global,
+    count: u8,
+    length: usize,
+    calls: usize,
+) -> Result<Vec<Vec<Step>>, AllocError> {
+    let mut steps = Vec::new(alloc);
+    for index in 0..count {
+        steps.push(mixed(index, length))?;
+    }
+    in_rounds(alloc, &steps, calls)
+}
+
+#[test]
+fn rounds_of_seven_calls(rt: HostRuntime) -> Result<(), Fail> {
+    let alloc = rt.alloc();
+    let rounds = many_mixed(alloc, 35, 900, 7)?;
+    let costs = Costs {
+        calls: 43,
+        syncs: 17,
+        generations: &[3, 2],
+    };
+    walk(&rt, alloc, SMALL, &rounds, costs)?;
+    let costs = Costs {
+        calls: 51,
+        syncs: 23,
+        generations: &[4, 5, 3, 0],
+    };
+    walk(&rt, alloc, FOUR, &rounds, costs)?;
+    Ok(())
+}
+
+#[test]
+fn rounds_of_sixty_four_calls(rt: HostRuntime) -> Result<(), Fail> {
+    let alloc = rt.alloc();
+    let rounds = many_mixed(alloc, 180, 300, 64)?;
+    let costs = Costs {
+        calls: 34,
+        syncs: 13,
+        generations: &[3, 2],
+    };
+    walk(&rt, alloc, SMALL, &rounds, costs)?;
+    let costs = Costs {
+        calls: 32,
+        syncs: 13,
+        generations: &[3, 2, 0, 0],
+    };
+    walk(&rt, alloc, FOUR, &rounds, costs)?;
+    Ok(())
+}
+
+/// Rounds that each take two datagrams of 250 bytes, pick two that were taken seven before, and release two that were taken 14 before: 14
+/// or more are live once as many were taken, and lie in three segments.
+fn held(alloc: Global) -> Result<Vec<Vec<Step>>, AllocError> {
+    let mut steps = Vec::new(alloc);
+    for number in 1..=30 {
+        steps.push(take(number, 0, 250))?;
+        steps.push(if number > 7 {
+            Step::Pick { now: 0 }
+        } else {
+            Step::Window
+        })?;
+        steps.push(if number > 14 {
+            Step::Release {
+                number: number - 14,
+            }
+        } else {
+            Step::Show
+        })?;
+    }
+    in_rounds(alloc, &steps, 6)
+}
+
+/// Six segments are opened, four of them with payloads that are moved: two, and three times four.
+#[test]
+fn payloads_in_three_segments(rt: HostRuntime) -> Result<(), Fail> {
+    let alloc = rt.alloc();
+    let costs = Costs {
+        calls: 116,
+        syncs: 49,
+        generations: &[7, 6, 3, 4],
+    };
+    walk(&rt, alloc, FOUR, &held(alloc)?, costs)?;
+    Ok(())
+}
+
+/// The rounds of a worked cycle, which takes 32 datagrams from a number on, picks them, and fetches all in flight. From the second on
+/// the older 32 are released then.
+fn cycle(alloc: Global, rounds: &mut Vec<Vec<Step>>, first: u64) -> Result<(), AllocError> {
+    let after = first.saturating_add(32);
+    let mut takes = Vec::new(alloc);
+    for number in first..after {
+        takes.push(take(number, 0, 1_200))?;
+    }
+    rounds.push(takes)?;
+    rounds.push(vec![in alloc; Step::Pick { now: 0 }; 32]?)?;
+    let mut fetches = Vec::new(alloc);
+    for number in first.saturating_sub(32).max(1)..after {
+        fetches.push(Step::Fetch { number })?;
+    }
+    rounds.push(fetches)?;
+    if first > 1 {
+        let number = first - 1;
+        rounds.push(vec![in alloc; Step::Release { number }]?)?;
+    }
+    Ok(())
+}
+
+/// The first three of the worked cycles, in eleven rounds. Three segments are opened: before the picks of the second, where nothing
+/// is moved, before those of the third, and before its release, where 32 payloads are.
+#[test]
+fn three_cycles(rt: HostRuntime) -> Result<(), Fail> {
+    let alloc = rt.alloc();
+    let mut rounds = Vec::new(alloc);
+    for first in [1, 33, 65] {
+        cycle(alloc, &mut rounds, first)?;
+    }
+    expect!(rt; rounds.len() == 11);
+    let costs = Costs {
+        calls: 280,
+        syncs: 26,
+        generations: &[4, 2, 3],
+    };
+    walk(&rt, alloc, THREE, &rounds, costs)?;
+    Ok(())
+}

@@ -1,0 +1,90 @@
+-- A group was appended at the end of the journal.
+use Rattle.std.proofs.Common.{◌≡◌, ◌⊎◌, ◌≤◌, ◌+◌, ◌∙◌, ℕ, Bool, true, List, length, arith, sym, ap, subst}
+use Rattle.rly_core.specs.Bounds.{IsIn}
+use Rattle.rly_disk.specs.DiskModel.{Consistent, DiskState, LeavesOnly, overwritten}
+use Rattle.rly_disk.specs.Trace.{Makes}
+use Rattle.rly_disk.proofs.Making.{makes_leaves}
+use Rattle.rly_gate.specs.Calls.{appending}
+use Rattle.rly_gate.specs.Group.{IsClosed, group_of}
+use Rattle.rly_gate.proofs.Appending.{appending_image, appending_seen, appending_settled}
+use Rattle.rly_machine.specs.Fold.{AllAccepted, fold}
+use Rattle.rly_machine.specs.State.{State}
+use Rattle.rly_machine.proofs.Folding.{params_fold, seq_fold}
+use Rattle.rly_record.specs.Spelling.{HaveBody, body_of}
+use Rattle.rly_checkpoint.specs.Stored.{stored_length}
+use Rattle.rly_checkpoint.specs.declared.stored.Stored.{Stored}
+use Rattle.rly_segment.specs.Heads.{segment_end}
+use Rattle.rly_index.specs.Index.{IndexState}
+use Rattle.rly_grouping.specs.Groups.{GroupState, Holds, group_body}
+use Rattle.rly_grouping.specs.Lying.{Commands, placed_group}
+use Rattle.rly_grouping.proofs.Records.{body_length, holds_body, holds_have, holds_most}
+use Rattle.rly_standing.specs.declared.tail.Tail.{Tail}
+use Rattle.rly_standing.specs.Log.{IsDurable, IsLogged}
+use Rattle.rly_standing.specs.Standing.{Stands}
+use Rattle.rly_standing.proofs.Appending.{append_image, append_logged, appended_tail, logged_within}
+use Rattle.rly_journal.specs.HelpersJournal.{IsShaped, IsTaggedIn}
+use Rattle.rly_journal.proofs.Tagging.{tagged_appended}
+
+module _ {D : Type 0} (state : D → DiskState) {a : D} (tail : Tail) (group : GroupState) (commands : Commands) (s : State (List ℕ))
+    (durable : IsDurable (state a) tail s) (holds : Holds commands group) (count : IsIn 1 64 group.count) (accepted : AllAccepted length s commands)
+    (room : tail.gate + 6 + length (group_body group) ≤ segment_end tail.geometry tail.segment) where
+  same : group_body group ≡ body_of commands
+  same = holds_body commands group holds
+
+  have : HaveBody commands
+  have = holds_have commands group holds (omega (arith, holds.count, count.0), omega (arith, holds.count, count.1))
+
+  few : length (body_of commands) ≤ 78274
+  few = omega (arith, ap length same, body_length group, holds_most commands group holds, holds.count, count.1)
+
+  fits : tail.gate + 6 + length (body_of commands) ≤ segment_end tail.geometry tail.segment
+  fits = omega (arith, ap length same, room)
+
+  within : tail.gate + 6 + length (body_of commands) ≤ length (state a).seen
+  within = omega (arith, fits, logged_within (state a).seen tail s durable.logged)
+
+  -- a crash at any moment leaves what stands for the state before the group or after it
+  pub append_leaves : {b : D} {whole : Bool} → Makes state (appending tail.gate (group_body group)) whole a b
+      → LeavesOnly (state a) (state b) (λ image. Stands image s ⊎ Stands image (fold length s commands))
+  append_leaves {b} {whole} made =
+      makes_leaves state (λ image. Stands image s ⊎ Stands image (fold length s commands))
+      (subst (λ (bytes : List ℕ). Makes state (appending tail.gate bytes) whole a b) same made) durable.settled
+      (λ c image.
+      append_image tail commands s have accepted few fits (state a).seen c durable.logged
+      (appending_image tail.gate (body_of commands) (state a).seen c
+      (subst (IsClosed (state a).seen) (sym durable.logged.ends.gate) durable.logged.stands.closed) within image))
+
+  module _ {b : D} (made : Makes state (appending tail.gate (group_body group)) true a b) where
+    written : (state b).seen ≡ overwritten tail.gate (group_of (body_of commands)) (state a).seen
+    written =
+        appending_seen state tail.gate (group_body group) made durable.settled.honest (omega (arith, within, ap length same))
+        ∙ ap (λ (bytes : List ℕ). overwritten tail.gate (group_of bytes) (state a).seen) same
+
+    pub append_durable : ((state b).honest → Consistent (state b)) → IsDurable (state b) (appended_tail tail (group_body group)) (fold length s commands)
+    append_durable facts = record {
+      settled = appending_settled state tail.gate (group_body group) made durable.settled.honest facts;
+      logged = subst (λ (bytes : List ℕ). IsLogged (state b).seen (appended_tail tail bytes) (fold length s commands)) (sym same)
+          (append_logged tail commands s have accepted few fits (state a).seen (state b).seen durable.logged written);
+    }
+
+    pub append_tagged : (places : State Stored) → IsTaggedIn (state a).seen places
+        → IsTaggedIn (state b).seen (fold stored_length places (placed_group tail.gate commands))
+    append_tagged places before =
+        tagged_appended (state a).seen (state b).seen tail commands s places durable.logged have accepted few fits written before
+
+-- what holds of the end where the group was not written
+pub shape_kept : (size gate : ℕ) (tail : Tail) (commands : Commands) (x y : IndexState) → IsShaped size tail x
+    → AllAccepted stored_length x.spool.state (placed_group gate commands) → y.spool.state ≡ fold stored_length x.spool.state (placed_group gate commands)
+    → IsShaped size tail y
+shape_kept size gate tail commands x y shaped accepted state =
+    let counted = seq_fold stored_length x.spool.state (placed_group gate commands) accepted in
+    let more : y.spool.state.seq ≡ (fold stored_length x.spool.state (placed_group gate commands)).seq = ap (λ (m : State Stored). m.seq) state in
+    record {
+      geometry = shaped.geometry;
+      segment = shaped.segment;
+      params = ap (λ (m : State Stored). m.params) state ∙ params_fold stored_length x.spool.state (placed_group gate commands) ∙ shaped.params;
+      above = shaped.above;
+      within = shaped.within;
+      generation = omega (arith, shaped.generation, counted, more);
+      full = λ full. omega (arith, shaped.full full, counted, more);
+    }

@@ -1,0 +1,139 @@
+-- Helpers: what came of the calls of a round before payloads are read, in a spool of places and one with bytes. Nothing here is
+-- claimed: what a round answers is said by `Rounds`.
+use Rattle.std.specs.Prelude.{◌≡◌, ◌⊎◌, ℕ, ◌≤◌, List, [], ◌∷◌, ◌++◌, length, true, IsTrue, Option, Ok}
+use Rattle.std.specs.List.{zip}
+use Rattle.rly_core.specs.declared.ids.HopId.{HopId}
+use Rattle.rly_core.specs.declared.params.Geometry.{Geometry}
+use Rattle.rly_core.specs.declared.refusal.Refusal.TheVariants.{OutOfMemory}
+use Rattle.rly_machine.specs.declared.call.Answer.{Answer}
+use Rattle.rly_machine.specs.declared.call.Call.{Call}
+use Rattle.rly_machine.specs.declared.call.SeatId.{SeatId}
+use Rattle.rly_machine.specs.declared.command.Ask.TheVariants as ask
+use Rattle.rly_machine.specs.declared.command.Command.{Command}
+use Rattle.rly_machine.specs.declared.command.Query.TheVariants.{Fetch}
+use Rattle.rly_machine.specs.declared.hop.Item.{Item}
+use Rattle.rly_machine.specs.declared.reply.Reply.{Reply}
+use Rattle.rly_machine.specs.declared.reply.Reply.TheVariants.{Refused}
+use Rattle.rly_machine.specs.Accepted.{is_accepted}
+use Rattle.rly_machine.specs.Fold.{AllAccepted, fold}
+use Rattle.rly_machine.specs.History.{Entry, IsAnswered, accepted_by, is_failure}
+use Rattle.rly_machine.specs.Query.{item_of}
+use Rattle.rly_machine.specs.State.{State}
+use Rattle.rly_machine.specs.Step.{step}
+use Rattle.rly_record.specs.Spelling.{HasRecord}
+use Rattle.rly_checkpoint.specs.Stored.{stored_length}
+use Rattle.rly_checkpoint.specs.declared.stored.Place.{Place}
+use Rattle.rly_checkpoint.specs.declared.stored.Stored.{Stored}
+use Rattle.rly_segment.specs.Heads.{segment_place}
+use Rattle.rly_moving.specs.Moving.{LiesThere}
+use Rattle.rly_keeping.specs.Keeping.{IsAlike}
+use Rattle.rly_index.specs.Index.{IndexState, IsAt}
+use Rattle.rly_grouping.specs.Groups.{GroupState, Holds, record_place, with_record}
+use Rattle.rly_grouping.specs.Lying.{Commands, placed_at, placed_group}
+use Rattle.rly_fetching.specs.Fetching.{lying}
+use Rattle.rly_fetching.specs.declared.outcome.Outcome.{Outcome}
+use Rattle.rly_fetching.specs.declared.outcome.Outcome.TheVariants.{Answered, Wanted}
+use Rattle.rly_journal.specs.Rounds.{AreReadsOf, MayWantMemory, MayWantRoom}
+
+-- ---- one command
+
+-- a group is made that will stand at a gate in the current segment, which isn't used where the next record will stand
+pub record IsGrouping (gate : ℕ) (x : IndexState) (group : GroupState) : Type 0 where
+  pub commands : Commands
+  pub holds : Holds commands group
+  pub above : segment_place x.geometry x.segment ≤ gate
+  pub below : x.used ≤ record_place gate group
+
+-- a command is answered by the machine, or refused memory that it may want
+abbrev pub IsToldOf : Command (List ℕ) → Reply → State (List ℕ) → Type 0
+IsToldOf command told t =
+    (told ≡ (step length t command).1) ⊎ ((told ≡ Refused OutOfMemory) × MayWantRoom t command)
+
+-- a command was accepted: the index went on by it, with its payload by place, its record is in the group, and it is in the log
+pub record IsTaken (gate : ℕ) (command : Command (List ℕ)) (x y : IndexState) (old new : GroupState) (before after : Commands)
+    : Type 0 where
+  pub accepted : IsTrue (is_accepted (step stored_length x.spool.state (placed_at (record_place gate old) command)).1)
+  pub state : y.spool.state ≡ (step stored_length x.spool.state (placed_at (record_place gate old) command)).0
+  pub has : HasRecord command
+  pub group : new ≡ with_record old command
+  pub at : IsAt x.geometry x.segment (record_place gate new) y
+  pub log : after ≡ before ++ command ∷ []
+
+-- nothing changed
+pub record IsLeft (x y : IndexState) (old new : GroupState) (before after : Commands) : Type 0 where
+  pub state : y.spool.state ≡ x.spool.state
+  pub group : new ≡ old
+  pub at : IsAt x.geometry x.segment x.used y
+  pub log : after ≡ before
+
+-- ---- one call
+
+-- the only failure that a call is answered with is want of memory
+abbrev pub OnlyMemory : Entry → Type 0
+OnlyMemory entry = is_failure entry.1.reply ≡ true → entry.1.reply ≡ Refused OutOfMemory
+
+-- a call is answered without a look at the device
+pub record IsKnown (call : Call) (answer : Answer) (t : State (List ℕ)) : Type 0 where
+  pub answered : IsAnswered (λ reply. reply) 0 t (call, answer)
+  pub only : OnlyMemory (call, answer)
+  pub wanted : answer.reply ≡ Refused OutOfMemory → MayWantMemory t call.ask
+  pub unread : AreReadsOf t call.ask answer.reply []
+
+-- a call asks for a payload in flight, which lies at a place if it has bytes
+pub record IsWanted (g : Geometry) (call : Call) (seat : SeatId) (number at : ℕ) (place : Option Place) (s : State Stored)
+    (t : State (List ℕ)) : Type 0 where
+  pub same_seat : seat ≡ call.seat
+  pub same_number : number ≡ call.number
+  pub position : at ≡ t.seq
+  pub hop : HopId
+  pub custody : ℕ
+  pub asks : call.ask ≡ ask.Query (Fetch hop custody)
+  pub item : Item Stored
+  pub found : item_of s hop custody ≡ Ok item
+  pub lies : lying place ≡ item.payload
+  pub there : LiesThere g item.payload
+
+-- what came of a call, in a spool of places and in the one with bytes
+abbrev pub IsOutcomeOf : Geometry → Call → Outcome → State Stored → State (List ℕ) → Type 0
+IsOutcomeOf g call (Answered answer) s t = IsKnown call answer t
+IsOutcomeOf g call (Wanted seat number at place) s t = IsWanted g call seat number at place s t
+
+-- its command, if it was accepted
+abbrev pub taken_by : Call → Outcome → Commands
+taken_by call (Answered answer) = accepted_by call.ask answer.reply
+taken_by call (Wanted seat number at place) = []
+
+-- it is in the group, or nothing changed
+abbrev pub IsTakenOrLeft : ℕ → Call → Outcome → IndexState → IndexState → GroupState → GroupState → Commands → Commands → Type 0
+IsTakenOrLeft gate call outcome x y old new before after =
+    ((command : Command (List ℕ)) × (taken_by call outcome ≡ command ∷ []) × IsTaken gate command x y old new before after)
+    ⊎ ((taken_by call outcome ≡ []) × IsLeft x y old new before after)
+
+-- ---- all calls
+
+-- the commands that were accepted, in order
+abbrev pub taken_of : List (Call × Outcome) → Commands
+taken_of [] = []
+taken_of (x ∷ xs) = taken_by x.0 x.1 ++ taken_of xs
+
+-- what came of calls, one after the other, after some commands: each in the spools that the commands before it left
+abbrev pub AreOutcomes : Geometry → ℕ → State Stored → State (List ℕ) → Commands → List (Call × Outcome) → Type 0
+AreOutcomes g gate s t done [] = Unit {0}
+AreOutcomes g gate s t done (x ∷ xs) =
+    IsOutcomeOf g x.0 x.1 (fold stored_length s (placed_group gate done)) (fold length t done)
+    × AreOutcomes g gate s t (done ++ taken_by x.0 x.1) xs
+
+-- calls were evaluated from an index: their accepted commands are those of the group, which will stand at a gate, and those that
+-- the log grew by, and the index went on by them
+pub record IsEvaluated (gate : ℕ) (old new : IndexState) (group : GroupState) (before after : Commands) (calls : List Call)
+    (outcomes : List Outcome) : Type 0 where
+  pub count : length outcomes ≡ length calls
+  pub each : (t : State (List ℕ)) → IsAlike old.spool.state t
+      → AreOutcomes old.geometry gate old.spool.state t [] (zip calls outcomes)
+  pub holds : Holds (taken_of (zip calls outcomes)) group
+  pub accepted : AllAccepted stored_length old.spool.state (placed_group gate (taken_of (zip calls outcomes)))
+  pub state : new.spool.state ≡ fold stored_length old.spool.state (placed_group gate (taken_of (zip calls outcomes)))
+  pub geometry : new.geometry ≡ old.geometry
+  pub segment : new.segment ≡ old.segment
+  pub used : ((taken_of (zip calls outcomes) ≡ []) × (new.used ≡ gate)) ⊎ ((1 ≤ group.count) × (new.used ≡ record_place gate group))
+  pub log : after ≡ before ++ taken_of (zip calls outcomes)

@@ -1,0 +1,12 @@
+pub mod Agreeing
+pub mod Frame
+pub mod Growing
+pub mod Inlining
+pub mod Framing
+pub mod Once
+pub mod Gathering
+pub mod Serving
+pub mod Appending
+pub mod Recovering
+pub mod Refusing
+pub mod Following

@@ -1,0 +1,54 @@
+-- How many commands of a round are accepted, and which never are.
+use Rattle.std.proofs.Common.{◌≡◌, ℕ, ◌+◌, ◌≤◌, List, [], ◌∷◌, length, Bool, true, false, Option, Some, None, refl, arith, length-append}
+use Rattle.std.specs.Prelude.{if◌then◌else◌}
+use Rattle.std.specs.List.{zip}
+use Rattle.rly_machine.specs.declared.call.Answer.{Answer}
+use Rattle.rly_machine.specs.declared.call.Call.{Call}
+use Rattle.rly_machine.specs.declared.command.Ask.{Ask}
+use Rattle.rly_machine.specs.declared.command.Ask.TheVariants as ask
+use Rattle.rly_machine.specs.declared.command.Command.{Command}
+use Rattle.rly_machine.specs.declared.command.Command.TheVariants.{Take, Pick, Release}
+use Rattle.rly_machine.specs.declared.command.Query.{Query}
+use Rattle.rly_machine.specs.declared.reply.Reply.{Reply}
+use Rattle.rly_machine.specs.Accepted.{is_accepted, unless}
+use Rattle.rly_machine.specs.History.{accepted_by, accepted_of}
+use Rattle.rly_machine.specs.State.{State}
+use Rattle.rly_machine.specs.Step.{step}
+use Rattle.rly_machine.specs.Take.{take_refusal}
+use Rattle.rly_machine.proofs.RealReplies.{counted}
+use Rattle.rly_machine.proofs.Refusals.{may_take}
+use Rattle.rly_record.specs.Spelling.{IsShort}
+
+-- how many commands are accepted
+accepted_once : (an : Ask) (reply : Reply) → length (accepted_by an reply) ≤ 1
+accepted_once (ask.Command command) reply = at_most (is_accepted reply)
+  where
+    at_most : (b : Bool) → length (if b then command ∷ [] else []) ≤ 1
+    at_most true = omega arith
+    at_most false = omega arith
+accepted_once (ask.Query query) reply = omega arith
+
+pub few_accepted : (calls : List Call) (given : List Answer) → length (accepted_of (zip calls given)) ≤ length calls
+few_accepted [] given = omega arith
+few_accepted (call ∷ calls) [] = omega arith
+few_accepted (call ∷ calls) (answer ∷ given) =
+    omega (arith, accepted_once call.ask answer.reply, few_accepted calls given, length-append (accepted_by call.ask answer.reply) (accepted_of (zip calls given)))
+
+-- a command that some check refuses isn't accepted
+accepted_none : (refusal : Option Reply) (s : State (List ℕ)) (accepted : State (List ℕ) × Reply)
+    → (is_accepted (unless refusal s accepted).1 ≡ true → (unless refusal s accepted).0.seq ≡ s.seq + 1)
+    → is_accepted (unless refusal s accepted).1 ≡ true → refusal ≡ None
+accepted_none None s accepted more accepts = refl
+accepted_none (Some reply) s accepted more accepts = let counts : s.seq ≡ s.seq + 1 = more accepts in absurd (omega (arith, counts))
+
+never_true : (b : Bool) → (b ≡ true → ⊥) → b ≡ false
+never_true true never = absurd (never refl)
+never_true false _ = refl
+
+-- a payload that is too long for a record isn't taken
+pub long_leaves : (s : State (List ℕ)) (command : Command (List ℕ)) → (IsShort command → ⊥) → is_accepted (step length s command).1 ≡ false
+long_leaves s (Take peer number hop stamp payload) long = never_true _ (λ accepts.
+    long (may_take length s peer number hop stamp (length payload)
+    (accepted_none (take_refusal length s peer number hop stamp (length payload)) s _ (counted length s (Take peer number hop stamp payload)) accepts)).short)
+long_leaves s (Pick hop now) long = absurd (long tt)
+long_leaves s (Release hop number) long = absurd (long tt)
