@@ -2,11 +2,11 @@
 use crate::comparison::{expect_numbers, expect_state};
 use crate::device::{bytes_of, new_device, opened};
 use crate::faults::{Ended, run, standing};
-use crate::script::{HOP, PEER, Script, Step};
+use crate::script::{Script, Step};
+use rly_audit::audit;
 use rly_core::Geometry;
 use rly_disk::{After, Disk, FaultDisk, MemDisk, Torn};
-use rly_journal::Journal;
-use rly_machine::{Machine, Payload, Reply};
+use rly_machine::{Machine, Payload};
 use std::alloc::{AllocError, Global};
 use std::process::Abort;
 
@@ -187,23 +187,24 @@ fn expect_crashed(
         answered,
         unsure,
     } = ended;
-    let mut journal = opened(rt, alloc, disk.into_inner().crash(kind));
-    expect_balance(rt, &journal);
+    let disk = expect_balance(rt, alloc, disk.into_inner().crash(kind))?;
+    let mut journal = opened(rt, alloc, disk);
     let before = (answered, machine);
     let (stand, mut machine) = standing(rt, alloc, &journal, script, before, unsure)?;
     expect_state(rt, alloc, &mut journal, &mut machine)?;
     Ok(stand)
 }
 
-/// Expects that the books of a spool of one hop and one peer balance.
-fn expect_balance<D: Disk>(rt: &impl Abort, journal: &Journal<D>) {
-    let Reply::Shown(status) = journal.ask_show(HOP) else {
-        panic!(rt; "no hop");
-    };
-    let left = u128::from(status.queued) + u128::from(status.flight);
-    let gone = u128::from(status.dropped) + u128::from(status.released);
-    expect!(rt; u128::from(status.taken) == left + gone);
-    expect!(rt; journal.last(PEER) == Ok(status.taken));
+/// Expects that an audit reports of a device that its books balance. Answers the disk.
+fn expect_balance(rt: &impl Abort, alloc: Global, disk: MemDisk) -> Result<MemDisk, AllocError> {
+    let mut report = Vec::new(alloc);
+    match audit(alloc, disk, &mut report) {
+        Ok(disk) => {
+            expect!(rt; report.ends_with(b"\nbalance ok\n"));
+            Ok(disk)
+        }
+        Err(_) => panic!(rt; "no report"),
+    }
 }
 
 /// Fails the device at each call of a script in turn, with each torn write, and goes on. Answers how many there are.

@@ -322,7 +322,7 @@ fn failing(rt: &(impl Abort + AllocGlobal)) -> Result<FaultDisk<MemDisk>, Fail> 
 }
 
 /// What is told once it is served.
-const BEGUN: &[u8] = b"rly: serving station 7, 1 peers, 1 hops, device 320772 bytes, 0 of 16 live\n\
+const BEGUN: &[u8] = b"rly: serving station 7, 1 peers, 1 hops, device 165880 bytes, 0 of 16 live\n\
 rly: anyone can speak on peer 1, hop 1\n";
 
 /// The plan of a relay at other addresses, by a file.

@@ -1,5 +1,5 @@
-//! Three cycles, on two segments and on four: 32 datagrams are taken, picked and fetched, and from the second cycle on those of the
-//! cycle before are released.
+//! Three cycles, on two segments, on three and on four: 32 datagrams are taken, picked and fetched, and
+//! from the second cycle on those of the cycle before are released.
 use rly_core::{Geometry, HopId, Params, PeerId};
 use rly_disk::{After, Torn};
 use rly_machine::{Ask, Command, HopStatus, Payload, Query, Reply, SeatId};
@@ -24,12 +24,20 @@ pub(crate) const DEVICE: Geometry = Geometry {
     length: 156_908,
 };
 
-/// The least device of four segments for them.
-const BROAD_DEVICE: Geometry = Geometry {
-    segments: 4,
-    length: 105_708,
-    ..DEVICE
-};
+/// The least devices of two, three and four segments for them.
+const DEVICES: [Geometry; 3] = [
+    DEVICE,
+    Geometry {
+        segments: 3,
+        length: 118_508,
+        ..DEVICE
+    },
+    Geometry {
+        segments: 4,
+        length: 105_708,
+        ..DEVICE
+    },
+];
 
 /// So many datagrams are taken in a cycle.
 const CYCLE: u64 = 32;
@@ -185,12 +193,9 @@ fn cycle(rt: &impl Abort, alloc: Global, device: &Geometry) -> Result<(), AllocE
 
 #[test]
 fn three_cycles(rt: HostRuntime) -> Result<(), Fail> {
-    cycle(&rt, rt.alloc(), &DEVICE)?;
-    Ok(())
-}
-
-#[test]
-fn three_cycles_on_four_segments(rt: HostRuntime) -> Result<(), Fail> {
-    cycle(&rt, rt.alloc(), &BROAD_DEVICE)?;
+    let alloc = rt.alloc();
+    for device in &DEVICES {
+        cycle(&rt, alloc, device)?;
+    }
     Ok(())
 }

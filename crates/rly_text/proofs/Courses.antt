@@ -6,9 +6,9 @@ use Rattle.rly_disk.specs.DiskModel.{DiskState, HasFailed, Later}
 use Rattle.rly_disk.proofs.Composition.{later_again, rose_earlier, rose_later}
 use Rattle.rly_journal.specs.Journal.{JournalState}
 use Rattle.rly_text.specs.Grammar.{ask_in_line}
-use Rattle.rly_text.specs.Playing.{AreLinesRefused, AreLossyRounds, AreUnreadOnlyWhere, IsLostInRounds, PlayCourse, PlayGoesOn, Plays, ServedLine, lines_in, served_text, state_behind_all}
+use Rattle.rly_text.specs.Playing.{AreLinesRefused, AreLossyRounds, AreMachineLines, AreUnreadOnlyWhere, IsLostInRounds, NoneStarved, PlayCourse, PlayGoesOn, Plays, ServedLine, lines_in, served_text, state_behind_all}
 use Rattle.rly_text.proofs.Losing.{failed_by_read, few_append, later_same, lines_append, none_unread, rounds_append, rounds_broken}
-use Rattle.rly_text.proofs.Told.{refused_append, served_append, served_behind, served_on, text_append, text_exact}
+use Rattle.rly_text.proofs.Told.{machine_lines, refused_append, served_append, served_behind, served_on, text_append, text_exact}
 
 pub by_flag : (broken : Bool) → (broken ≡ true) ⊎ (broken ≡ false)
 by_flag true = inl refl
@@ -22,6 +22,17 @@ module _ {D : Type 0} (batch : ℕ) (state : D → DiskState) where
       subst (AreUnreadOnlyWhere ⊥) (sym lost.lines)
       (none_unread state old.disk new.disk old.state lost.rounds lost.lossy (λ rose. calm (failed_by_read (state old.disk) (state new.disk) goes.calm rose)))
 
+  -- and the machine answered all lines
+  all_right : (old new : JournalState D) (told : List ServedLine) → PlayCourse batch state old new told → IsLostInRounds batch state old new told → old.broken ≡ false
+      → (HasFailed (state old.disk) (state new.disk) → ⊥) → NoneStarved told → AreMachineLines (state old.disk) old.state told
+  all_right old new told course lost running calm fed = elim course [
+    | inl goes ↦ machine_lines (state old.disk) old.state new.state told goes.served fed (all_read old new told goes lost calm)
+    | inr others ↦ elim others [
+      | inl breaks ↦ absurd (calm breaks.rose)
+      | inr rejects ↦ absurd (true≢false (sym rejects.broken ∙ running))
+    ]
+  ]
+
   pub plays_of : (old new : JournalState D) (lines : List (List ℕ)) (text : List ℕ) (told : List ServedLine) → map (λ one. one.0) told ≡ map ask_in_line lines
       → text ≡ served_text told → PlayCourse batch state old new told → IsLostInRounds batch state old new told → Later (state old.disk) (state new.disk)
       → Plays batch state old new lines text
@@ -32,14 +43,9 @@ module _ {D : Type 0} (batch : ℕ) (state : D → DiskState) where
     course = course;
     lost = lost;
     later = later;
-    exact = λ honest running calm fed. elim course [
-      | inl goes ↦
-          written ∙ text_exact (state old.disk) honest old.state new.state lines told asked goes.served fed (all_read old new told goes lost calm)
-      | inr others ↦ elim others [
-        | inl breaks ↦ absurd (calm breaks.rose)
-        | inr rejects ↦ absurd (true≢false (sym rejects.broken ∙ running))
-      ]
-    ];
+    right = all_right old new told course lost;
+    exact = λ honest running calm fed.
+        written ∙ text_exact (state old.disk) honest old.state lines told asked (all_right old new told course lost running calm fed);
   }
 
   pub plays_none : (j : JournalState D) → Plays batch state j j [] []

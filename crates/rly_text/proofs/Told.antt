@@ -5,13 +5,13 @@ use Rattle.rly_core.specs.declared.refusal.Refusal.{Refusal}
 use Rattle.rly_core.specs.declared.refusal.Refusal.TheVariants.{Broken, DeviceRead, Line, OutOfMemory}
 use Rattle.rly_disk.specs.DiskModel.{DiskState}
 use Rattle.rly_machine.specs.Ask.{ask_step}
-use Rattle.rly_machine.specs.History.{is_failure}
+use Rattle.rly_machine.specs.History.{is_failure, without_bytes}
 use Rattle.rly_machine.specs.declared.command.Ask.{Ask}
 use Rattle.rly_machine.specs.declared.reply.Reply.{Reply}
-use Rattle.rly_machine.specs.declared.reply.Reply.TheVariants.{Refused}
+use Rattle.rly_machine.specs.declared.reply.Reply.TheVariants.{Bytes, Refused}
 use Rattle.rly_machine.proofs.RealReplies.{real_reply}
 use Rattle.rly_text.specs.Grammar.{ask_in_line}
-use Rattle.rly_text.specs.Playing.{AreLinesRefused, AreLinesServed, AreUnreadOnlyWhere, IsLineRefused, IsLineServed, IsLost, NoneStarved, ServedLine, reply_line, served_text, state_behind, state_behind_all}
+use Rattle.rly_text.specs.Playing.{AreLinesRefused, AreLinesServed, AreMachineLines, AreUnreadOnlyWhere, IsLineRefused, IsLineServed, IsLost, IsMachineLine, NoneStarved, ServedLine, reply_line, served_text, state_behind, state_behind_all}
 use Rattle.rly_text.specs.Replies.{reply_text, subject_of}
 use Rattle.rly_text.specs.Text.{ByteState, answer_of, ask_answer, replies_from}
 
@@ -89,7 +89,7 @@ lost_served disk refusal fails lost s (one ∷ told) refused = (
   subst (λ r. AreLinesServed disk r told s) (sym (line_stays refusal fails s one.0 one.1 refused.0)) (lost_served disk refusal fails lost s told refused.1),
 )
 
--- ---- on an honest disk a line that isn't lost has the machine's reply line
+-- ---- a line that isn't lost was answered by the machine
 
 abbrev NoneLost : List ServedLine → Type 0
 NoneLost told = AllByRecursion (λ one. IsLost one.1 → ⊥) told
@@ -104,32 +104,49 @@ none_lost (one ∷ told) fed read = (
   none_lost told fed.1 read.1,
 )
 
-line_exact : (disk : DiskState) → disk.honest → (s : ByteState) (asked : Option Ask) (reply : Reply) → IsLineServed disk s asked reply → (IsLost reply → ⊥)
-    → (reply_line asked reply ≡ (ask_answer s asked).1) × (state_behind s asked reply ≡ (ask_answer s asked).0)
-line_exact disk honest s None reply h kept = (refl, refl)
-line_exact disk honest s (Some ask) reply h kept =
+-- a failure has no bytes
+shown_failure : (reply : Reply) → is_failure (without_bytes reply) ≡ is_failure reply
+shown_failure (Bytes payload) = refl
+shown_failure reply = refl
+
+line_right : (disk : DiskState) (s : ByteState) (asked : Option Ask) (reply : Reply) → IsLineServed disk s asked reply → (IsLost reply → ⊥)
+    → IsMachineLine disk s asked reply × (state_behind s asked reply ≡ (ask_answer s asked).0)
+line_right disk s None reply h kept = (h, refl)
+line_right disk s (Some ask) reply h kept =
     elim h [
       | inl right ↦
-          let same : reply ≡ (ask_step s ask).1 = right.1 honest in
-          let real : is_failure reply ≡ false = ap is_failure same ∙ real_reply s ask in
-          (ap (reply_text (subject_of ask)) same, ap (λ b. cond b s (ask_step s ask).0) real)
+          let real : is_failure reply ≡ false =
+          sym (shown_failure reply) ∙ ap is_failure right.0 ∙ shown_failure (ask_step s ask).1 ∙ real_reply s ask in
+          (right, ap (λ b. cond b s (ask_step s ask).0) real)
       | inr lost ↦ absurd (kept lost)
     ]
 
-lines_exact : (disk : DiskState) → disk.honest → (s t : ByteState) (lines : List (List ℕ)) (told : List ServedLine) → map (λ one. one.0) told ≡ map ask_in_line lines
-    → AreLinesServed disk s told t → NoneLost told → served_text told ≡ replies_from s lines
-lines_exact disk honest s t [] [] asked h kept = refl
-lines_exact disk honest s t [] (one ∷ told) asked h kept = absurd (omega (arith, ap length asked))
-lines_exact disk honest s t (line ∷ lines) [] asked h kept = absurd (omega (arith, ap length asked))
-lines_exact disk honest s t (line ∷ lines) (one ∷ told) asked h kept =
+lines_right : (disk : DiskState) (s t : ByteState) (told : List ServedLine) → AreLinesServed disk s told t → NoneLost told → AreMachineLines disk s told
+lines_right disk s t [] h kept = tt
+lines_right disk s t (one ∷ told) h kept =
+    let first = line_right disk s one.0 one.1 h.0 kept.0 in
+    (first.0, subst (λ r. AreMachineLines disk r told) first.1 (lines_right disk (state_behind s one.0 one.1) t told h.1 kept.1))
+
+pub machine_lines : (disk : DiskState) (s t : ByteState) (told : List ServedLine) → AreLinesServed disk s told t → NoneStarved told → AreUnreadOnlyWhere ⊥ told
+    → AreMachineLines disk s told
+machine_lines disk s t told h fed read = lines_right disk s t told h (none_lost told fed read)
+
+-- on an honest disk their text is the machine's
+
+line_exact : (disk : DiskState) → disk.honest → (s : ByteState) (asked : Option Ask) (reply : Reply) → IsMachineLine disk s asked reply
+    → reply_line asked reply ≡ (ask_answer s asked).1
+line_exact disk honest s None reply h = refl
+line_exact disk honest s (Some ask) reply h = ap (reply_text (subject_of ask)) (h.1 honest)
+
+pub text_exact : (disk : DiskState) → disk.honest → (s : ByteState) (lines : List (List ℕ)) (told : List ServedLine) → map (λ one. one.0) told ≡ map ask_in_line lines
+    → AreMachineLines disk s told → served_text told ≡ replies_from s lines
+text_exact disk honest s [] [] asked h = refl
+text_exact disk honest s [] (one ∷ told) asked h = absurd (omega (arith, ap length asked))
+text_exact disk honest s (line ∷ lines) [] asked h = absurd (omega (arith, ap length asked))
+text_exact disk honest s (line ∷ lines) (one ∷ told) asked h =
     let head : one.0 ≡ ask_in_line line = cc in
     let tail : map (λ one. one.0) told ≡ map ask_in_line lines = cc in
-    let exact = line_exact disk honest s one.0 one.1 h.0 kept.0 in
-    let first : reply_line one.0 one.1 ≡ (answer_of s line).1 = exact.0 ∙ ap (λ a. (ask_answer s a).1) head in
-    let state : state_behind s one.0 one.1 ≡ (answer_of s line).0 = exact.1 ∙ ap (λ a. (ask_answer s a).0) head in
-    let more = lines_exact disk honest (state_behind s one.0 one.1) t lines told tail h.1 kept.1 in
+    let first : reply_line one.0 one.1 ≡ (answer_of s line).1 = line_exact disk honest s one.0 one.1 h.0 ∙ ap (λ a. (ask_answer s a).1) head in
+    let state : (ask_answer s one.0).0 ≡ (answer_of s line).0 = ap (λ a. (ask_answer s a).0) head in
+    let more = text_exact disk honest (ask_answer s one.0).0 lines told tail h.1 in
     ap (λ l. l ++ 10 ∷ served_text told) first ∙ ap (λ l. (answer_of s line).1 ++ 10 ∷ l) (more ∙ ap (λ r. replies_from r lines) state)
-
-pub text_exact : (disk : DiskState) → disk.honest → (s t : ByteState) (lines : List (List ℕ)) (told : List ServedLine) → map (λ one. one.0) told ≡ map ask_in_line lines
-    → AreLinesServed disk s told t → NoneStarved told → AreUnreadOnlyWhere ⊥ told → served_text told ≡ replies_from s lines
-text_exact disk honest s t lines told asked h fed read = lines_exact disk honest s t lines told asked h (none_lost told fed read)

@@ -19,7 +19,7 @@ use Rattle.rly_stream.specs.Beginnings.{AppendsBeginning}
 use Rattle.rly_text.specs.Grammar.{ask_in_line}
 use Rattle.rly_text.specs.Lines.{lines_of}
 use Rattle.rly_text.specs.Replies.{subject_of, reply_text}
-use Rattle.rly_text.specs.Text.{ByteState, replies_from}
+use Rattle.rly_text.specs.Text.{ByteState, ask_answer, replies_from}
 
 -- what a line asked, if it is a command or a question, and the reply that it got
 abbrev pub ServedLine : Type 0
@@ -177,12 +177,24 @@ pub record IsLostInRounds {D : Type 0} (batch : ℕ) (state : D → DiskState) (
   pub few : AllByRecursion (λ round. length round ≤ batch) rounds
   pub lossy : AreLossyRounds state old.disk new.disk old.state rounds
 
+-- a line was answered by the machine
+abbrev pub IsMachineLine : DiskState → ByteState → Option Ask → Reply → Type 0
+IsMachineLine disk s None reply = reply ≡ Refused Line
+IsMachineLine disk s (Some ask) reply = IsMachineReply disk (ask_step s ask).1 reply
+
+-- all lines were, one after the other
+abbrev pub AreMachineLines : DiskState → ByteState → List ServedLine → Type 0
+AreMachineLines disk s [] = ⊤
+AreMachineLines disk s (first ∷ more) =
+    IsMachineLine disk s first.0 first.1 × AreMachineLines disk (ask_answer s first.0).0 more
+
 -- no line was refused for want of memory
 abbrev pub NoneStarved : List ServedLine → Type 0
 NoneStarved told = AllByRecursion (λ one. one.1 ≡ Refused OutOfMemory → ⊥) told
 
--- lines were played on a journal, so many a round, and this is the text for them. Where the journal is whole, its
--- device honest, no call of it failed and no memory was refused, it is the text of the machine
+-- lines were played on a journal, so many a round, and this is the text for them. Where the journal is whole, no call
+-- of its device failed and no memory was refused, the machine answered all lines; on an honest device it is the
+-- machine's text
 pub record Plays {D : Type 0} (batch : ℕ) (state : D → DiskState) (old new : JournalState D)
     (lines : List (List ℕ)) (text : List ℕ) : Type 0 where
   pub told : List ServedLine
@@ -191,6 +203,8 @@ pub record Plays {D : Type 0} (batch : ℕ) (state : D → DiskState) (old new :
   pub course : PlayCourse batch state old new told
   pub lost : IsLostInRounds batch state old new told
   pub later : Later (state old.disk) (state new.disk)
+  pub right : old.broken ≡ false → (HasFailed (state old.disk) (state new.disk) → ⊥) → NoneStarved told
+      → AreMachineLines (state old.disk) old.state told
   pub exact : (state old.disk).honest → old.broken ≡ false → (HasFailed (state old.disk) (state new.disk) → ⊥)
       → NoneStarved told → text ≡ replies_from old.state lines
 
