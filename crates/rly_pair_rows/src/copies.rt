@@ -53,6 +53,51 @@ fn heard_by(alloc: Global, core: &mut Receiving, seat: u16) -> Result<Call, Fail
     })
 }
 
+/// How many calls of the device an opening makes.
+fn calls_of_opening(alloc: Global) -> Result<u64, Fail> {
+    Ok(opened(alloc, 0)?.into_disk().calls())
+}
+
+/// A journal whose device fails at the first sync of its first round: the round writes, syncs, writes and syncs.
+fn failing(alloc: Global) -> Result<Journal<FaultDisk<MemDisk>>, Fail> {
+    let at = calls_of_opening(alloc)?.saturating_add(2);
+    opened(alloc, at)
+}
+
+/// The calls of both cores, in a round.
+fn heard_by_both(
+    alloc: Global,
+    first: &mut Receiving,
+    second: &mut Receiving,
+) -> Result<Vec<Call>, Fail> {
+    let first = heard_by(alloc, first, 1)?;
+    let second = heard_by(alloc, second, 2)?;
+    Ok(vec![in alloc; first, second]?)
+}
+
+/// The journal's answers to a round of these calls.
+fn round(
+    rt: &impl Abort,
+    alloc: Global,
+    journal: &mut Journal<FaultDisk<MemDisk>>,
+    calls: &mut Vec<Call>,
+) -> Result<Vec<Answer>, Fail> {
+    let mut answers = Vec::new(alloc);
+    assert!(rt; calls.len() == 2, "two calls");
+    journal.round(alloc, calls, &mut answers)?;
+    Ok(answers)
+}
+
+/// The answers to a round in which the device fails.
+fn failing_round(
+    rt: &impl Abort,
+    alloc: Global,
+    calls: &mut Vec<Call>,
+) -> Result<Vec<Answer>, Fail> {
+    let mut journal = failing(alloc)?;
+    round(rt, alloc, &mut journal, calls)
+}
+
 /// The answer is 12, and its core sends nothing on it.
 fn expect_unsure(rt: &impl Abort, core: &mut Receiving, answer: &Answer) {
     let is_unsure = matches!(answer.reply, Reply::Refused(Refusal::Unsure));
@@ -61,23 +106,26 @@ fn expect_unsure(rt: &impl Abort, core: &mut Receiving, answer: &Answer) {
     expect(rt, core.step(told).is_none(), "nothing is sent");
 }
 
-/// A round writes, syncs, writes and syncs, and the first of the syncs fails. An Already 1 for the second copy would send
-/// a custody of what isn't durable.
+/// Both answers are.
+fn expect_both_unsure(
+    rt: &impl Abort,
+    first: &mut Receiving,
+    second: &mut Receiving,
+    answers: &[Answer],
+) {
+    assert!(rt; answers.len() == 2, "two answers");
+    expect_unsure(rt, first, &answers[0]);
+    expect_unsure(rt, second, &answers[1]);
+}
+
+/// The first of a round's two syncs fails. An Already 1 for the second copy would send a custody of what isn't durable.
 #[test]
 fn copies_in_a_round_whose_sync_fails(rt: HostRuntime) -> Result<(), Fail> {
     let alloc = rt.alloc();
-    let calls_of_opening = opened(alloc, 0)?.into_disk().calls();
-    let mut journal = opened(alloc, calls_of_opening.saturating_add(2))?;
     let mut first = Receiving::new(LOWER, UPPER);
     let mut second = Receiving::new(LOWER, UPPER);
-    let mut calls = vec![in alloc;
-        heard_by(alloc, &mut first, 1)?,
-        heard_by(alloc, &mut second, 2)?,
-    ]?;
-    let mut answers = Vec::new(alloc);
-    journal.round(alloc, &mut calls, &mut answers)?;
-    assert!(rt; answers.len() == 2, "two answers");
-    expect_unsure(&rt, &mut first, &answers[0]);
-    expect_unsure(&rt, &mut second, &answers[1]);
+    let mut calls = heard_by_both(alloc, &mut first, &mut second)?;
+    let answers = failing_round(&rt, alloc, &mut calls)?;
+    expect_both_unsure(&rt, &mut first, &mut second, &answers);
     Ok(())
 }

@@ -1,4 +1,6 @@
 //! Two relays whose packets come too early, come again, or find an end that crashed.
+//!
+//! A test is a row of stages, and a stage is a table: what is done, and the packets that are sent on it.
 use crate::expect::{SMALL, expect};
 use rly_core::{HopId, PeerId};
 use rly_disk::{After, Torn};
@@ -9,12 +11,31 @@ use std::alloc::Global;
 use std::process::Abort;
 use std::test::Fail;
 
-/// A device none of whose calls fails.
-const SOUND: Fault = Fault {
-    at: 0,
-    torn: 0,
-    after: After::GoesOn,
-};
+/// What is done to two relays. A packet is named by its place in the order of sending.
+#[derive(Clone, Copy)]
+enum Act {
+    /// The upper takes the datagram of this number from its own peer.
+    ComesIn(u64),
+    /// The sending core has its turn with the contact open, and the call that it names waits.
+    Turn,
+    /// A datagram is picked before the core asks for one.
+    PicksAhead,
+    /// The first call that waits at the upper is made, or answered.
+    UpperMakes,
+    UpperAnswers,
+    /// The sending core names a call with the contact open, which is made and answered.
+    OneCall,
+    /// A packet arrives at the upper.
+    UpperHears(usize),
+    /// A packet arrives at the lower, whose Take isn't made yet.
+    LowerHears(usize),
+    LowerMakes,
+    /// A packet arrives at the lower, whose Take is made and answered.
+    LowerTakes(usize),
+    /// An end crashes. It is opened again on a device whose call of this number fails; 0 is none.
+    UpperCrashes(Torn, u64),
+    LowerCrashes(Torn, u64),
+}
 
 /// What a packet says, by its number.
 #[derive(Clone, Copy, Debug, PartialEq, Eq)]
@@ -23,6 +44,132 @@ enum Said {
     Custody(u64),
     Refused(u64),
 }
+
+/// What is done, and the packets that are sent on it, in this order.
+#[derive(Clone, Copy)]
+struct Stage {
+    acts: &'static [Act],
+    sent: &'static [Said],
+}
+
+/// Three datagrams at the upper, each picked, fetched and sent: packets 0, 1 and 2.
+const THREE_SENT: Stage = Stage {
+    acts: &[
+        Act::ComesIn(1),
+        Act::ComesIn(2),
+        Act::ComesIn(3),
+        Act::OneCall,
+        Act::OneCall,
+        Act::OneCall,
+        Act::OneCall,
+        Act::OneCall,
+        Act::OneCall,
+        Act::OneCall,
+    ],
+    sent: &[Said::Data(1), Said::Data(2), Said::Data(3)],
+};
+
+/// How many they are.
+const THREE: usize = 3;
+
+/// Number 2 comes first: a gap, and the upper does nothing on hearing it.
+const COMES_EARLY: Stage = Stage {
+    acts: &[Act::LowerTakes(1), Act::UpperHears(3)],
+    sent: &[Said::Custody(0)],
+};
+
+/// Number 1 comes, and comes again. The upper hears both custodies.
+const COMES_AGAIN: Stage = Stage {
+    acts: &[
+        Act::LowerTakes(0),
+        Act::LowerTakes(0),
+        Act::UpperHears(4),
+        Act::OneCall,
+        Act::UpperHears(5),
+    ],
+    sent: &[Said::Custody(1), Said::Custody(1)],
+};
+
+/// The lower crashes before it makes the Take of number 2. A copy of number 1 shows what it has then.
+const CRASHES_WITHOUT_IT: Stage = Stage {
+    acts: &[
+        Act::LowerHears(1),
+        Act::LowerCrashes(Torn::AsSynced, 0),
+        Act::LowerTakes(0),
+    ],
+    sent: &[Said::Custody(1)],
+};
+
+/// The lower crashes once it made the Take of number 2, before it answers it.
+const CRASHES_WITH_IT: Stage = Stage {
+    acts: &[
+        Act::LowerHears(1),
+        Act::LowerMakes,
+        Act::LowerCrashes(Torn::AsSynced, 0),
+        Act::LowerTakes(0),
+    ],
+    sent: &[Said::Custody(2)],
+};
+
+/// Number 2 comes again, and the upper releases it.
+const IS_RELEASED: Stage = Stage {
+    acts: &[Act::LowerTakes(1), Act::UpperHears(7), Act::OneCall],
+    sent: &[Said::Custody(2)],
+};
+
+/// The upper crashes: its window is 3 to below 4.
+const UPPER_CRASHES: Stage = Stage {
+    acts: &[
+        Act::UpperCrashes(Torn::AsSynced, 0),
+        Act::OneCall,
+        Act::OneCall,
+    ],
+    sent: &[Said::Data(3)],
+};
+
+/// Two more datagrams wait while the three are taken.
+const THREE_TAKEN: Stage = Stage {
+    acts: &[
+        Act::ComesIn(4),
+        Act::ComesIn(5),
+        Act::LowerTakes(0),
+        Act::LowerTakes(1),
+        Act::LowerTakes(2),
+    ],
+    sent: &[Said::Custody(1), Said::Custody(2), Said::Custody(3)],
+};
+
+/// Three datagrams are released, and the two that wait are picked beside the release: the core learns their numbers from
+/// the answers that come after the release's.
+const PICKED_BESIDE_A_RELEASE: Stage = Stage {
+    acts: &[
+        Act::UpperHears(5),
+        Act::Turn,
+        Act::PicksAhead,
+        Act::PicksAhead,
+        Act::UpperMakes,
+        Act::UpperMakes,
+        Act::UpperMakes,
+        Act::UpperAnswers,
+        Act::UpperAnswers,
+        Act::UpperAnswers,
+        Act::OneCall,
+        Act::OneCall,
+    ],
+    sent: &[Said::Data(4), Said::Data(5)],
+};
+
+/// The lower's device fails as it is opened, which begins with a sync: no call is made and no custody sent.
+const STAYS_SHUT: Stage = Stage {
+    acts: &[Act::LowerCrashes(Torn::AsSynced, 1), Act::LowerTakes(0)],
+    sent: &[],
+};
+
+/// The lower crashes again, and its device is opened.
+const OPENS: Stage = Stage {
+    acts: &[Act::LowerCrashes(Torn::AsRead, 0), Act::LowerTakes(0)],
+    sent: &[Said::Custody(1)],
+};
 
 fn said_by(message: &Message<Payload>) -> Said {
     match message {
@@ -45,13 +192,12 @@ fn new_pair(alloc: Global) -> Result<Pair, Fail> {
     Ok(Pair::new(alloc, &SMALL, &SMALL).ok().ok_or("a pair")?)
 }
 
-/// The pair makes a step. No clause says what it leaves, so that a test of many steps is proved as soon as one of few.
+/// The pair makes a step. No clause says what it leaves, so that what makes many is proved as soon as what makes few.
 fn step(alloc: Global, pair: &mut Pair, step: Step) -> Result<(), Fail> {
     pair.step(alloc, step)?;
     Ok(())
 }
 
-/// The upper takes this datagram from its own peer.
 fn comes_in(alloc: Global, pair: &mut Pair, number: u64) -> Result<(), Fail> {
     let payload = Payload::new(vec![in alloc; number.to_le_bytes()[0]; 1]?);
     let take = Command::Take {
@@ -68,239 +214,184 @@ fn comes_in(alloc: Global, pair: &mut Pair, number: u64) -> Result<(), Fail> {
     step(alloc, pair, serves)
 }
 
-/// The sending core names a call with the contact open, which is made and answered.
+/// The turn of a sending core whose contact is open.
+const TURN: Step = Step::Turns {
+    is_open: true,
+    moment: 0,
+};
+
 fn one_call(alloc: Global, pair: &mut Pair) -> Result<(), Fail> {
-    let turn = Step::Turns {
-        is_open: true,
-        moment: 0,
-    };
-    step(alloc, pair, turn)?;
+    step(alloc, pair, TURN)?;
     step(alloc, pair, Step::UpperMakes)?;
     step(alloc, pair, Step::UpperAnswers { is_sent: true })
 }
 
-/// A packet arrives at the lower, whose Take isn't made yet.
-fn lower_hears(alloc: Global, pair: &mut Pair, packet: usize) -> Result<(), Fail> {
-    let heard = Step::LowerHears {
+/// A packet arrives at the lower's first core.
+fn heard(packet: usize) -> Step {
+    Step::LowerHears {
         packet,
         core: 0,
         hop: HopId(1),
         stamp: 0,
-    };
-    step(alloc, pair, heard)
+    }
 }
 
-/// A packet arrives at the lower, whose Take is made and answered.
 fn lower_takes(alloc: Global, pair: &mut Pair, packet: usize) -> Result<(), Fail> {
-    lower_hears(alloc, pair, packet)?;
+    step(alloc, pair, heard(packet))?;
     step(alloc, pair, Step::LowerMakes)?;
     step(alloc, pair, Step::LowerAnswers { is_sent: true })
 }
 
-/// The packets of three datagrams.
-const THREE: [Said; 3] = [Said::Data(1), Said::Data(2), Said::Data(3)];
-
-/// Three datagrams at the upper, each picked, fetched and sent: packets 0, 1 and 2.
-fn three_sent(rt: &impl Abort, alloc: Global) -> Result<Pair, Fail> {
-    let mut pair = new_pair(alloc)?;
-    for number in 1..4 {
-        comes_in(alloc, &mut pair, number)?;
+/// A device whose call of this number fails, and no other.
+const fn fault(at: u64) -> Fault {
+    Fault {
+        at,
+        torn: 0,
+        after: After::GoesOn,
     }
-    for _call in 0..7 {
-        one_call(alloc, &mut pair)?;
-    }
-    expect_packets(rt, &pair, &THREE);
-    Ok(pair)
 }
 
-/// The exchange, where the lower crashes before it answers the Take of packet 1. `last` is the last number that it has
-/// then.
-fn exchange(rt: &impl Abort, alloc: Global, is_made: bool, last: u64) -> Result<(), Fail> {
-    let mut pair = three_sent(rt, alloc)?;
-    // Number 2 comes first: a gap, and the upper does nothing on hearing it.
-    lower_takes(alloc, &mut pair, 1)?;
-    step(alloc, &mut pair, Step::UpperHears { packet: 3 })?;
-    // Number 1 comes, and comes again. The upper hears both custodies.
-    lower_takes(alloc, &mut pair, 0)?;
-    lower_takes(alloc, &mut pair, 0)?;
-    step(alloc, &mut pair, Step::UpperHears { packet: 4 })?;
-    one_call(alloc, &mut pair)?;
-    step(alloc, &mut pair, Step::UpperHears { packet: 5 })?;
-    // The lower crashes before it answers number 2. A copy of number 1 shows what it has then.
-    lower_hears(alloc, &mut pair, 1)?;
-    if is_made {
-        step(alloc, &mut pair, Step::LowerMakes)?;
+fn make(alloc: Global, pair: &mut Pair, act: Act) -> Result<(), Fail> {
+    let one = match act {
+        Act::ComesIn(number) => return comes_in(alloc, pair, number),
+        Act::OneCall => return one_call(alloc, pair),
+        Act::LowerTakes(packet) => return lower_takes(alloc, pair, packet),
+        Act::Turn => TURN,
+        Act::PicksAhead => Step::PicksAhead { moment: 0 },
+        Act::UpperMakes => Step::UpperMakes,
+        Act::UpperAnswers => Step::UpperAnswers { is_sent: true },
+        Act::UpperHears(packet) => Step::UpperHears { packet },
+        Act::LowerHears(packet) => heard(packet),
+        Act::LowerMakes => Step::LowerMakes,
+        Act::UpperCrashes(torn, at) => Step::UpperCrashes {
+            torn,
+            fault: fault(at),
+        },
+        Act::LowerCrashes(torn, at) => Step::LowerCrashes {
+            torn,
+            fault: fault(at),
+        },
+    };
+    step(alloc, pair, one)
+}
+
+/// The acts of a stage, one after another.
+fn make_all(alloc: Global, pair: &mut Pair, acts: &[Act]) -> Result<(), Fail> {
+    for act in acts {
+        make(alloc, pair, *act)?;
     }
-    let crash = Step::LowerCrashes {
-        torn: Torn::AsSynced,
-        fault: SOUND,
-    };
-    step(alloc, &mut pair, crash)?;
-    lower_takes(alloc, &mut pair, 0)?;
-    // Number 2 comes again, and the upper releases it.
-    lower_takes(alloc, &mut pair, 1)?;
-    step(alloc, &mut pair, Step::UpperHears { packet: 7 })?;
-    one_call(alloc, &mut pair)?;
-    // The upper crashes: its window is 3 to below 4.
-    let crash = Step::UpperCrashes {
-        torn: Torn::AsSynced,
-        fault: SOUND,
-    };
-    step(alloc, &mut pair, crash)?;
-    one_call(alloc, &mut pair)?;
-    one_call(alloc, &mut pair)?;
-    expect_packets(
-        rt,
-        &pair,
-        &[
-            Said::Data(1),
-            Said::Data(2),
-            Said::Data(3),
-            Said::Custody(0),
-            Said::Custody(1),
-            Said::Custody(1),
-            Said::Custody(last),
-            Said::Custody(2),
-            Said::Data(3),
-        ],
-    );
     Ok(())
+}
+
+/// The pair goes through a stage, after which the packets of it and of those before it were sent, and no other.
+fn go_through(
+    rt: &impl Abort,
+    alloc: Global,
+    pair: &mut Pair,
+    sent: &mut Vec<Said>,
+    stage: &Stage,
+) -> Result<(), Fail> {
+    make_all(alloc, pair, stage.acts)?;
+    sent.extend_from_slice(stage.sent)?;
+    expect_packets(rt, pair, sent);
+    Ok(())
+}
+
+/// The pair goes through these stages, one after another.
+fn go_through_all(
+    rt: &impl Abort,
+    alloc: Global,
+    pair: &mut Pair,
+    stages: &[Stage],
+) -> Result<(), Fail> {
+    let mut sent = Vec::new(alloc);
+    for stage in stages {
+        go_through(rt, alloc, pair, &mut sent, stage)?;
+    }
+    Ok(())
+}
+
+/// A new pair goes through these stages.
+fn expect_stages(rt: &impl Abort, alloc: Global, stages: &[Stage]) -> Result<(), Fail> {
+    let mut pair = new_pair(alloc)?;
+    go_through_all(rt, alloc, &mut pair, stages)
 }
 
 #[test]
 fn lower_crashes_without_the_command(rt: HostRuntime) -> Result<(), Fail> {
-    exchange(&rt, rt.alloc(), false, 1)
+    let stages = [
+        THREE_SENT,
+        COMES_EARLY,
+        COMES_AGAIN,
+        CRASHES_WITHOUT_IT,
+        IS_RELEASED,
+        UPPER_CRASHES,
+    ];
+    expect_stages(&rt, rt.alloc(), &stages)
 }
 
 #[test]
 fn lower_crashes_with_the_command(rt: HostRuntime) -> Result<(), Fail> {
-    exchange(&rt, rt.alloc(), true, 2)
-}
-
-/// The lower takes packets 0, 1 and 2.
-fn all_taken(alloc: Global, pair: &mut Pair) -> Result<(), Fail> {
-    for packet in 0..3 {
-        lower_takes(alloc, pair, packet)?;
-    }
-    Ok(())
-}
-
-/// The upper makes three calls.
-fn three_made(alloc: Global, pair: &mut Pair) -> Result<(), Fail> {
-    for _call in 0..3 {
-        step(alloc, pair, Step::UpperMakes)?;
-    }
-    Ok(())
-}
-
-/// The upper is told three answers.
-fn three_answered(alloc: Global, pair: &mut Pair) -> Result<(), Fail> {
-    for _call in 0..3 {
-        step(alloc, pair, Step::UpperAnswers { is_sent: true })?;
-    }
-    Ok(())
-}
-
-/// Three datagrams are released, and the two that wait are picked beside the release: the core learns their numbers from the answers
-/// that come after the release's.
-fn released_and_picked(rt: &impl Abort, alloc: Global) -> Result<(), Fail> {
-    let mut pair = three_sent(rt, alloc)?;
-    comes_in(alloc, &mut pair, 4)?;
-    comes_in(alloc, &mut pair, 5)?;
-    all_taken(alloc, &mut pair)?;
-    step(alloc, &mut pair, Step::UpperHears { packet: 5 })?;
-    let turn = Step::Turns {
-        is_open: true,
-        moment: 0,
-    };
-    step(alloc, &mut pair, turn)?;
-    step(alloc, &mut pair, Step::PicksAhead { moment: 0 })?;
-    step(alloc, &mut pair, Step::PicksAhead { moment: 0 })?;
-    three_made(alloc, &mut pair)?;
-    three_answered(alloc, &mut pair)?;
-    one_call(alloc, &mut pair)?;
-    one_call(alloc, &mut pair)?;
-    expect_packets(
-        rt,
-        &pair,
-        &[
-            Said::Data(1),
-            Said::Data(2),
-            Said::Data(3),
-            Said::Custody(1),
-            Said::Custody(2),
-            Said::Custody(3),
-            Said::Data(4),
-            Said::Data(5),
-        ],
-    );
-    Ok(())
+    let stages = [
+        THREE_SENT,
+        COMES_EARLY,
+        COMES_AGAIN,
+        CRASHES_WITH_IT,
+        IS_RELEASED,
+        UPPER_CRASHES,
+    ];
+    expect_stages(&rt, rt.alloc(), &stages)
 }
 
 #[test]
 fn picks_are_made_beside_a_release(rt: HostRuntime) -> Result<(), Fail> {
-    released_and_picked(&rt, rt.alloc())
-}
-
-/// The lower's device fails as it is opened: no call is made and no custody sent, until it crashes again.
-fn unopened(rt: &impl Abort, alloc: Global) -> Result<(), Fail> {
-    let mut pair = three_sent(rt, alloc)?;
-    // Opening begins with a sync, which fails.
-    let crash = Step::LowerCrashes {
-        torn: Torn::AsSynced,
-        fault: Fault {
-            at: 1,
-            torn: 0,
-            after: After::GoesOn,
-        },
-    };
-    step(alloc, &mut pair, crash)?;
-    lower_takes(alloc, &mut pair, 0)?;
-    expect_packets(rt, &pair, &THREE);
-    let crash = Step::LowerCrashes {
-        torn: Torn::AsRead,
-        fault: SOUND,
-    };
-    step(alloc, &mut pair, crash)?;
-    lower_takes(alloc, &mut pair, 0)?;
-    expect_packets(
-        rt,
-        &pair,
-        &[
-            Said::Data(1),
-            Said::Data(2),
-            Said::Data(3),
-            Said::Custody(1),
-        ],
-    );
-    Ok(())
+    let stages = [THREE_SENT, THREE_TAKEN, PICKED_BESIDE_A_RELEASE];
+    expect_stages(&rt, rt.alloc(), &stages)
 }
 
 #[test]
 fn unopened_lower_sends_no_custody(rt: HostRuntime) -> Result<(), Fail> {
-    unopened(&rt, rt.alloc())
+    expect_stages(&rt, rt.alloc(), &[THREE_SENT, STAYS_SHUT, OPENS])
 }
 
-/// How many calls the upper makes until it sends a datagram again, once it crashed and a call of its device fails, counted from the
-/// opening's first; if it sends one within four.
-fn calls_until_sent(rt: &impl Abort, alloc: Global, at: u64) -> Result<Option<u64>, Fail> {
-    let mut pair = three_sent(rt, alloc)?;
-    let crash = Step::UpperCrashes {
-        torn: Torn::AsSynced,
-        fault: Fault {
-            at,
-            torn: 0,
-            after: After::GoesOn,
-        },
-    };
-    step(alloc, &mut pair, crash)?;
+/// How many calls the upper makes until it sends a datagram again, if it sends one within four.
+fn calls_of(alloc: Global, pair: &mut Pair) -> Result<Option<u64>, Fail> {
     for calls in 1..5 {
-        one_call(alloc, &mut pair)?;
-        if pair.packets().len() > THREE.len() {
+        one_call(alloc, pair)?;
+        if pair.packets().len() > THREE {
             return Ok(Some(calls));
         }
     }
     Ok(None)
+}
+
+/// The upper sends three datagrams and crashes, and this call of its device fails then, counted from the opening's first. How many
+/// calls it makes until it sends a datagram again, if it sends one within four.
+fn calls_after_crash(
+    rt: &impl Abort,
+    alloc: Global,
+    pair: &mut Pair,
+    at: u64,
+) -> Result<Option<u64>, Fail> {
+    go_through_all(rt, alloc, pair, &[THREE_SENT])?;
+    make(alloc, pair, Act::UpperCrashes(Torn::AsSynced, at))?;
+    calls_of(alloc, pair)
+}
+
+/// The same of a new pair.
+fn calls_until_sent(rt: &impl Abort, alloc: Global, at: u64) -> Result<Option<u64>, Fail> {
+    let mut pair = new_pair(alloc)?;
+    calls_after_crash(rt, alloc, &mut pair, at)
+}
+
+/// The first call of the device that fails and lets the upper send a datagram again, of 32: the first after those of the opening.
+fn first_after_opening(rt: &impl Abort, alloc: Global) -> Result<u64, Fail> {
+    for at in 1..33 {
+        if calls_until_sent(rt, alloc, at)?.is_some() {
+            return Ok(at);
+        }
+    }
+    Ok(33)
 }
 
 /// An upper whose opening fails sends nothing. The first call after those of the opening is the read of a Fetch: it is told 13, and
@@ -308,18 +399,9 @@ fn calls_until_sent(rt: &impl Abort, alloc: Global, at: u64) -> Result<Option<u6
 #[test]
 fn fetch_whose_read_fails_is_made_again(rt: HostRuntime) -> Result<(), Fail> {
     let alloc = rt.alloc();
-    let mut at = 1;
-    for _call in 0..32 {
-        if calls_until_sent(&rt, alloc, at)?.is_some() {
-            break;
-        }
-        at = at.saturating_add(1);
-    }
-    expect(
-        &rt,
-        calls_until_sent(&rt, alloc, at)? == Some(3),
-        "a call more",
-    );
+    let at = first_after_opening(&rt, alloc)?;
+    let found = calls_until_sent(&rt, alloc, at)?;
+    expect(&rt, found == Some(3), "a call more");
     let later = calls_until_sent(&rt, alloc, at.saturating_add(1))?;
     expect(&rt, later == Some(2), "the window and the Fetch");
     Ok(())
