@@ -3,7 +3,7 @@ use crate::device::opened;
 use rly_core::{Geometry, HopId, Params, PeerId};
 use rly_disk::MemDisk;
 use rly_journal::Journal;
-use rly_machine::{Ask, Call, Command, Payload, Reply, SeatId};
+use rly_machine::{Answer, Ask, Call, Command, Payload, Reply, SeatId};
 use rly_segment::format;
 use std::alloc::{AllocError, Global};
 use std::process::Abort;
@@ -67,13 +67,8 @@ fn is_wanted(kind: Kind, reply: &Reply) -> bool {
     }
 }
 
-/// Asks the same of each hop, in one round.
-fn ask_each(
-    rt: &impl Abort,
-    alloc: Global,
-    journal: &mut Journal<MemDisk>,
-    kind: Kind,
-) -> Result<(), AllocError> {
+/// A call for each hop, of the same kind.
+fn calls_of(alloc: Global, kind: Kind) -> Result<Vec<Call>, AllocError> {
     let mut calls = Vec::new(alloc);
     for id in 1..=64 {
         calls.push(Call {
@@ -82,13 +77,29 @@ fn ask_each(
             ask: ask_of(alloc, kind, id)?,
         })?;
     }
+    Ok(calls)
+}
+
+/// Each hop has the reply that is wanted.
+fn expect_wanted(rt: &impl Abort, kind: Kind, answers: &[Answer]) {
+    expect!(rt; answers.len() == 64);
+    for answer in answers {
+        expect!(rt; is_wanted(kind, &answer.reply), answer.number);
+    }
+}
+
+/// Asks the same of each hop, in one round.
+fn ask_each(
+    rt: &impl Abort,
+    alloc: Global,
+    journal: &mut Journal<MemDisk>,
+    kind: Kind,
+) -> Result<(), AllocError> {
+    let mut calls = calls_of(alloc, kind)?;
     let mut answers = Vec::new(alloc);
     assert!(rt; 1 <= calls.len() && calls.len() <= 64);
     journal.round(alloc, &mut calls, &mut answers)?;
-    expect!(rt; answers.len() == 64);
-    for answer in &answers {
-        expect!(rt; is_wanted(kind, &answer.reply), answer.number);
-    }
+    expect_wanted(rt, kind, &answers);
     Ok(())
 }
 
@@ -106,18 +117,42 @@ fn expect_in_flight(
     Ok(())
 }
 
+/// A journal on a new device.
+fn new_journal(rt: &impl Abort, alloc: Global) -> Result<Journal<MemDisk>, AllocError> {
+    let mut disk = MemDisk::new(alloc, vec![in alloc; 0u8; BROAD_SIZE]?);
+    expect!(rt; format(alloc, &mut disk, &BROAD) == Ok(()));
+    Ok(opened(rt, alloc, disk))
+}
+
+/// Each hop's datagram is taken, picked and fetched.
+fn send_all(
+    rt: &impl Abort,
+    alloc: Global,
+    journal: &mut Journal<MemDisk>,
+) -> Result<(), AllocError> {
+    ask_each(rt, alloc, journal, Kind::Take)?;
+    ask_each(rt, alloc, journal, Kind::Pick)?;
+    expect_in_flight(rt, alloc, journal)
+}
+
+/// Each is fetched again, and released.
+fn release_all(
+    rt: &impl Abort,
+    alloc: Global,
+    journal: &mut Journal<MemDisk>,
+) -> Result<(), AllocError> {
+    expect_in_flight(rt, alloc, journal)?;
+    ask_each(rt, alloc, journal, Kind::Release)?;
+    expect!(rt; journal.position() == 192);
+    Ok(())
+}
+
 #[test]
 fn sixty_four_hops_and_peers(rt: HostRuntime) -> Result<(), Fail> {
     let alloc = rt.alloc();
-    let mut disk = MemDisk::new(alloc, vec![in alloc; 0u8; BROAD_SIZE]?);
-    expect!(rt; format(alloc, &mut disk, &BROAD) == Ok(()));
-    let mut journal = opened(&rt, alloc, disk);
-    ask_each(&rt, alloc, &mut journal, Kind::Take)?;
-    ask_each(&rt, alloc, &mut journal, Kind::Pick)?;
-    expect_in_flight(&rt, alloc, &mut journal)?;
+    let mut journal = new_journal(&rt, alloc)?;
+    send_all(&rt, alloc, &mut journal)?;
     let mut journal = opened(&rt, alloc, journal.into_disk());
-    expect_in_flight(&rt, alloc, &mut journal)?;
-    ask_each(&rt, alloc, &mut journal, Kind::Release)?;
-    expect!(rt; journal.position() == 192);
+    release_all(&rt, alloc, &mut journal)?;
     Ok(())
 }

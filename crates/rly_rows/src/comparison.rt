@@ -16,11 +16,21 @@ pub(crate) fn machine_after(
 ) -> Result<Machine<Payload>, AllocError> {
     let mut machine = Machine::new(alloc, DEVICE_E.params)?;
     for index in 0..rounds {
-        for step in script.round(index) {
-            let _ = reply_of(alloc, &mut machine, *step)?;
-        }
+        make_all(alloc, &mut machine, script.round(index))?;
     }
     Ok(machine)
+}
+
+/// The plain machine makes these steps, whatever it replies.
+pub(crate) fn make_all(
+    alloc: Global,
+    machine: &mut Machine<Payload>,
+    steps: &[Step],
+) -> Result<(), AllocError> {
+    for step in steps {
+        let _ = reply_of(alloc, machine, *step)?;
+    }
+    Ok(())
 }
 
 /// The plain machine's reply to a step, which it makes.
@@ -115,6 +125,26 @@ pub(crate) fn expect_state<D: Disk>(
     panic!(rt; "something is always left")
 }
 
+/// The numbers in flight of a machine: the first, and the one after the last.
+fn window_of(rt: &impl Abort, machine: &Machine<Payload>) -> (u64, u64) {
+    match machine.ask_window(HOP) {
+        Reply::WindowIs { first, next } => (first, next),
+        _ => panic!(rt; "no window"),
+    }
+}
+
+/// Asks a round of both.
+fn expect_round<D: Disk>(
+    rt: &impl Abort,
+    alloc: Global,
+    journal: &mut Journal<D>,
+    machine: &mut Machine<Payload>,
+    steps: &[Step],
+) -> Result<(), AllocError> {
+    let answers = ask_all(rt, alloc, journal, steps)?;
+    expect_replies(rt, alloc, machine, steps, &answers)
+}
+
 /// Picks, fetches and releases one datagram of both.
 fn expect_turn<D: Disk>(
     rt: &impl Abort,
@@ -123,9 +153,7 @@ fn expect_turn<D: Disk>(
     machine: &mut Machine<Payload>,
     turn: u64,
 ) -> Result<(), AllocError> {
-    let Reply::WindowIs { first, .. } = machine.ask_window(HOP) else {
-        panic!(rt; "no window");
-    };
+    let (first, _) = window_of(rt, machine);
     let steps = [
         Step::Pick {
             now: 1_000_000 + 60_000 * turn.min(40),
@@ -135,8 +163,7 @@ fn expect_turn<D: Disk>(
         Step::Release { number: first },
         Step::Show,
     ];
-    let answers = ask_all(rt, alloc, journal, &steps)?;
-    expect_replies(rt, alloc, machine, &steps, &answers)
+    expect_round(rt, alloc, journal, machine, &steps)
 }
 
 /// Expects of a journal a machine's numbers and payloads in flight.
@@ -149,17 +176,14 @@ pub(crate) fn expect_numbers<D: Disk>(
     expect!(rt; journal.position() == machine.seq());
     expect!(rt; journal.last(PEER).ok().as_ref() == machine.lasts().first());
     expect!(rt; is_same(&journal.ask_show(HOP), &machine.ask_show(HOP)));
-    let Reply::WindowIs { first, next } = machine.ask_window(HOP) else {
-        panic!(rt; "no window");
-    };
+    let (first, next) = window_of(rt, machine);
     let steps = [
         Step::Show,
         Step::Window,
         Step::Fetch { number: first },
         Step::Fetch { number: next },
     ];
-    let answers = ask_all(rt, alloc, journal, &steps)?;
-    expect_replies(rt, alloc, machine, &steps, &answers)?;
+    expect_round(rt, alloc, journal, machine, &steps)?;
     for number in 0..=next {
         expect!(rt; is_fetched(alloc, journal, machine, number), number);
     }
@@ -198,10 +222,20 @@ pub(crate) fn expect_broken<D: Disk>(
 ) -> Result<(), AllocError> {
     let answers = ask_all(rt, alloc, journal, steps)?;
     expect_refused(rt, &answers, Refusal::Broken, position);
+    expect_all_refused(rt, alloc, journal, position);
+    Ok(())
+}
+
+/// Every call but a round is refused.
+fn expect_all_refused<D: Disk>(
+    rt: &impl Abort,
+    alloc: Global,
+    journal: &mut Journal<D>,
+    position: u64,
+) {
     expect!(rt; journal.is_broken());
     expect!(rt; journal.position() == position);
     expect!(rt; journal.last(PEER) == Err(Refusal::Broken));
     expect!(rt; journal.fetch(alloc, HOP, 1).err() == Some(Refusal::Broken));
     expect!(rt; is_same(&journal.ask_show(HOP), &Reply::Refused(Refusal::Broken)));
-    Ok(())
 }

@@ -1,7 +1,7 @@
 //! Each call that takes memory, where one of its growths is refused (`bench/scarce_memory`): it says so, and keeps what it
 //! promises; or it is made all the same, since a list whose growth is refused may grow by less. Where none was refused, nothing
 //! is told as refused memory.
-use crate::comparison::{expect_state, is_same, machine_after, reply_of};
+use crate::comparison::{expect_state, is_same, machine_after, make_all, reply_of};
 use crate::device::{DEVICE_E, SIZE, bytes_of, formatted, opened};
 use crate::faults::KINDS;
 use crate::script::{HOP, Script, Step, ask_all, calls_of, take};
@@ -66,13 +66,24 @@ const ROUND: [Step; 9] = [
     Step::Show,
 ];
 
-/// A journal on device E after the first steps, and one more round that fills the segment if one is to be due.
+/// Asks the first steps, and one more round that fills the segment if one is to be due.
+fn prepare(
+    rt: &impl Abort,
+    alloc: Global,
+    journal: &mut Journal<MemDisk>,
+    due: bool,
+) -> Result<(), AllocError> {
+    let _ = ask_all(rt, alloc, journal, &FRONT)?;
+    if due {
+        let _ = ask_all(rt, alloc, journal, &FILLING)?;
+    }
+    Ok(())
+}
+
+/// A journal on device E after that.
 fn prepared(rt: &impl Abort, alloc: Global, due: bool) -> Result<Journal<MemDisk>, AllocError> {
     let mut journal = opened(rt, alloc, MemDisk::new(alloc, formatted(rt, alloc)?));
-    let _ = ask_all(rt, alloc, &mut journal, &FRONT)?;
-    if due {
-        let _ = ask_all(rt, alloc, &mut journal, &FILLING)?;
-    }
+    prepare(rt, alloc, &mut journal, due)?;
     Ok(journal)
 }
 
@@ -92,11 +103,40 @@ fn prepared_machine(alloc: Global, due: bool) -> Result<Machine<Payload>, AllocE
     };
     let mut machine = machine_after(alloc, script, 1)?;
     if due {
-        for step in &FILLING {
-            let _ = reply_of(alloc, &mut machine, *step)?;
-        }
+        make_all(alloc, &mut machine, &FILLING)?;
     }
     Ok(machine)
+}
+
+/// What a device reads after a format: all of it, or nothing.
+fn expect_told(
+    rt: &impl Abort,
+    told: Result<(), FormatFault>,
+    disk: &MemDisk,
+    read: &[u8],
+    wanted: &[u8],
+) {
+    match told {
+        Ok(()) => expect!(rt; read == wanted),
+        Err(FormatFault::OutOfMemory) => expect!(rt; read.iter().all(|byte| *byte == 0)),
+        Err(fault) => expect!(rt; fault == FormatFault::Device && disk.failures() == 1),
+    }
+}
+
+/// Formats a disk of zeroes, which reads like this where no memory was refused.
+fn expect_formatted(
+    rt: &impl Abort,
+    alloc: Global,
+    disk: &mut MemDisk,
+    wanted: &[u8],
+) -> Result<(), AllocError> {
+    before(alloc)?;
+    let told = format(alloc, disk, &DEVICE_E);
+    let refused = was_refused(alloc);
+    expect!(rt; refused || told.is_ok());
+    let read = bytes_of(rt, alloc, disk)?;
+    expect_told(rt, told, disk, &read, wanted);
+    Ok(())
 }
 
 #[test]
@@ -104,17 +144,15 @@ fn formatting(rt: HostRuntime) -> Result<(), Fail> {
     let alloc = rt.alloc();
     let wanted = formatted(&rt, alloc)?;
     let mut disk = MemDisk::new(alloc, vec![in alloc; 0u8; SIZE]?);
-    before(alloc)?;
-    let told = format(alloc, &mut disk, &DEVICE_E);
-    let refused = was_refused(alloc);
-    expect!(rt; refused || told.is_ok());
-    let read = bytes_of(&rt, alloc, &mut disk)?;
-    match told {
-        Ok(()) => expect!(rt; read.as_slice() == wanted.as_slice()),
-        Err(FormatFault::OutOfMemory) => expect!(rt; read.iter().all(|byte| *byte == 0)),
-        Err(fault) => expect!(rt; fault == FormatFault::Device && disk.failures() == 1),
-    }
+    expect_formatted(&rt, alloc, &mut disk, &wanted)?;
     Ok(())
+}
+
+/// A device on which a segment is due opens to the state of the plain machine.
+fn expect_due_state(rt: &impl Abort, alloc: Global, disk: MemDisk) -> Result<(), AllocError> {
+    let mut machine = prepared_machine(alloc, true)?;
+    let mut journal = opened(rt, alloc, disk);
+    expect_state(rt, alloc, &mut journal, &mut machine)
 }
 
 /// What is refused is handed back as it was, with nothing pending: a crash leaves what is read.
@@ -128,32 +166,42 @@ fn expect_handed_back(
     let mut disk = disk.crash(kind);
     let read = bytes_of(rt, alloc, &mut disk)?;
     expect!(rt; read.as_slice() == bytes);
-    expect_state(
-        rt,
-        alloc,
-        &mut opened(rt, alloc, disk),
-        &mut prepared_machine(alloc, true)?,
-    )
+    expect_due_state(rt, alloc, disk)
+}
+
+/// Opens a device that reads like this, and hands it back.
+fn expect_opening(
+    rt: &impl Abort,
+    alloc: Global,
+    disk: MemDisk,
+    bytes: &[u8],
+    kind: Torn,
+) -> Result<(), AllocError> {
+    let told = Journal::open(alloc, disk);
+    let refused = was_refused(alloc);
+    expect!(rt; refused || told.is_ok());
+    match told {
+        Ok(journal) => expect_handed_back(rt, alloc, journal.into_disk(), bytes, kind),
+        Err((fault, disk)) => {
+            let failed = disk.failures() > 0;
+            expect!(rt; fault == OpenFault::OutOfMemory && !failed || fault == OpenFault::Device && failed);
+            expect_handed_back(rt, alloc, disk, bytes, kind)
+        }
+    }
+}
+
+/// The same of a device on which a segment is due.
+fn expect_due_opening(rt: &impl Abort, alloc: Global, kind: Torn) -> Result<(), AllocError> {
+    let mut disk = prepared(rt, alloc, true)?.into_disk();
+    let bytes = bytes_of(rt, alloc, &mut disk)?;
+    before(alloc)?;
+    expect_opening(rt, alloc, disk, &bytes, kind)
 }
 
 #[test]
 fn opening(rt: HostRuntime) -> Result<(), Fail> {
-    let alloc = rt.alloc();
     for kind in &KINDS {
-        let mut disk = prepared(&rt, alloc, true)?.into_disk();
-        let bytes = bytes_of(&rt, alloc, &mut disk)?;
-        before(alloc)?;
-        let told = Journal::open(alloc, disk);
-        let refused = was_refused(alloc);
-        expect!(rt; refused || told.is_ok());
-        match told {
-            Ok(journal) => expect_handed_back(&rt, alloc, journal.into_disk(), &bytes, *kind)?,
-            Err((fault, disk)) => {
-                let failed = disk.failures() > 0;
-                expect!(rt; fault == OpenFault::OutOfMemory && !failed || fault == OpenFault::Device && failed);
-                expect_handed_back(&rt, alloc, disk, &bytes, *kind)?;
-            }
-        }
+        expect_due_opening(&rt, rt.alloc(), *kind)?;
     }
     Ok(())
 }
@@ -169,8 +217,30 @@ fn may_want(step: Step, reply: &Reply) -> bool {
     }
 }
 
-/// Expects each answer to be the plain machine's, or, of an ask that may want memory, the refusal of memory. The machine makes
-/// the steps that weren't refused. Says whether one was.
+/// Expects an answer to be the plain machine's, or, of an ask that may want memory, the refusal of memory. The machine makes a
+/// step that wasn't refused. Says whether it was.
+fn expect_answer(
+    rt: &impl Abort,
+    alloc: Global,
+    machine: &mut Machine<Payload>,
+    step: Step,
+    answer: &Answer,
+) -> Result<bool, AllocError> {
+    let is_starved = is_same(&answer.reply, &Reply::Refused(Refusal::OutOfMemory));
+    let mut body = Vec::new(alloc);
+    write_checkpoint(machine, &mut body)?;
+    let reply = reply_of(alloc, machine, step)?;
+    if is_starved {
+        expect!(rt; may_want(step, &reply));
+        *machine = read_again(rt, alloc, &body);
+    } else {
+        expect!(rt; is_same(&answer.reply, &reply), machine.seq());
+    }
+    expect!(rt; answer.position == machine.seq());
+    Ok(is_starved)
+}
+
+/// Expects the answers to the round. Says whether a step was refused.
 fn expect_answers(
     rt: &impl Abort,
     alloc: Global,
@@ -179,18 +249,9 @@ fn expect_answers(
 ) -> Result<bool, AllocError> {
     let mut starved = false;
     for (step, answer) in ROUND.iter().zip(answers) {
-        let is_starved = is_same(&answer.reply, &Reply::Refused(Refusal::OutOfMemory));
-        let mut body = Vec::new(alloc);
-        write_checkpoint(machine, &mut body)?;
-        let reply = reply_of(alloc, machine, *step)?;
-        if is_starved {
-            expect!(rt; may_want(*step, &reply));
-            *machine = read_again(rt, alloc, &body);
+        if expect_answer(rt, alloc, machine, *step, answer)? {
             starved = true;
-        } else {
-            expect!(rt; is_same(&answer.reply, &reply), machine.seq());
         }
-        expect!(rt; answer.position == machine.seq());
     }
     Ok(starved)
 }
@@ -217,34 +278,50 @@ fn expect_standing(
     expect_state(rt, alloc, &mut journal, other)
 }
 
-/// A round that was asked while a growth might be refused.
-#[derive(Drop)]
-struct Asked {
-    journal: Journal<MemDisk>,
-    answers: Vec<Answer>,
+/// What became of a round.
+#[derive(Clone, Copy)]
+struct Outcome {
     /// Whether a growth was refused.
     refused: bool,
     /// Whether that was the one for the answers, so that nothing was done.
     undone: bool,
 }
 
+/// A round that was asked while a growth might be refused.
+#[derive(Drop)]
+struct Asked {
+    journal: Journal<MemDisk>,
+    answers: Vec<Answer>,
+    outcome: Outcome,
+}
+
 /// Asks the round of a journal.
-fn ask_in_scarce_memory(rt: &impl Abort, alloc: Global, due: bool) -> Result<Asked, AllocError> {
-    let mut journal = prepared(rt, alloc, due)?;
+fn ask(
+    rt: &impl Abort,
+    alloc: Global,
+    journal: &mut Journal<MemDisk>,
+    answers: &mut Vec<Answer>,
+) -> Result<Outcome, AllocError> {
     let mut calls = calls_of(alloc, &ROUND)?;
-    let mut answers = Vec::new(alloc);
     assert!(rt; 1 <= calls.len() && calls.len() <= 64);
     before(alloc)?;
-    let told = journal.round(alloc, &mut calls, &mut answers);
+    let told = journal.round(alloc, &mut calls, answers);
     let refused = was_refused(alloc);
     let undone = told.is_err();
     expect!(rt; calls.is_empty() != undone);
     expect!(rt; answers.len() == if undone { 0 } else { ROUND.len() });
+    Ok(Outcome { refused, undone })
+}
+
+/// Asks the round of a new journal.
+fn ask_in_scarce_memory(rt: &impl Abort, alloc: Global, due: bool) -> Result<Asked, AllocError> {
+    let mut journal = prepared(rt, alloc, due)?;
+    let mut answers = Vec::new(alloc);
+    let outcome = ask(rt, alloc, &mut journal, &mut answers)?;
     Ok(Asked {
         journal,
         answers,
-        refused,
-        undone,
+        outcome,
     })
 }
 
@@ -255,41 +332,63 @@ fn are_all(answers: &[Answer], refusal: Refusal) -> bool {
         .all(|answer| is_same(&answer.reply, &Reply::Refused(refusal)))
 }
 
-/// The plain machine after a round that no memory was refused to.
-fn served_machine(alloc: Global, due: bool) -> Result<Machine<Payload>, AllocError> {
-    let mut machine = prepared_machine(alloc, due)?;
-    for step in &ROUND {
-        let _ = reply_of(alloc, &mut machine, *step)?;
+/// Each answer is the machine's or refused memory. Where the disk in memory could not grow, all are told unsure, and the device
+/// stands for the state before or after: these are the two states then, and else both are that after the round.
+fn expect_asked(
+    rt: &impl Abort,
+    alloc: Global,
+    asked: &Asked,
+    due: bool,
+    (first, other): (&mut Machine<Payload>, &mut Machine<Payload>),
+) -> Result<(), AllocError> {
+    let Outcome { refused, undone } = asked.outcome;
+    if asked.journal.is_broken() {
+        expect!(rt; refused && are_all(&asked.answers, Refusal::Unsure));
+        return make_all(alloc, other, &ROUND);
     }
-    Ok(machine)
+    if undone || are_all(&asked.answers, Refusal::OutOfMemory) {
+        expect!(rt; refused && (undone || due));
+        return Ok(());
+    }
+    let starved = expect_answers(rt, alloc, first, &asked.answers)?;
+    expect!(rt; refused || !starved);
+    let _ = expect_answers(rt, alloc, other, &asked.answers)?;
+    Ok(())
 }
 
-/// A round whose growths are refused in turn. Each answer is the machine's or refused memory, and the device stands for what
-/// was accepted, whatever a crash leaves. Where the disk in memory could not grow, all are told unsure, and the device stands
-/// for the state before or after.
-fn expect_round(rt: &impl Abort, alloc: Global, due: bool, kind: Torn) -> Result<(), AllocError> {
-    let Asked {
-        journal,
-        answers,
-        refused,
-        undone,
-    } = ask_in_scarce_memory(rt, alloc, due)?;
-    let mut first = prepared_machine(alloc, due)?;
-    let mut other = prepared_machine(alloc, due)?;
+/// What a crash leaves of the device of a journal stands for one of two states.
+fn expect_left(
+    rt: &impl Abort,
+    alloc: Global,
+    journal: Journal<MemDisk>,
+    kind: Torn,
+    (first, other): (&mut Machine<Payload>, &mut Machine<Payload>),
+) -> Result<(), AllocError> {
     let broken = journal.is_broken();
-    if broken {
-        expect!(rt; refused && are_all(&answers, Refusal::Unsure));
-        other = served_machine(alloc, due)?;
-    } else if undone || are_all(&answers, Refusal::OutOfMemory) {
-        expect!(rt; refused && (undone || due));
-    } else {
-        let starved = expect_answers(rt, alloc, &mut first, &answers)?;
-        expect!(rt; refused || !starved);
-        let _ = expect_answers(rt, alloc, &mut other, &answers)?;
-    }
     let disk = journal.into_disk();
     expect!(rt; broken == (disk.failures() > 0));
-    expect_standing(rt, alloc, disk.crash(kind), (&mut first, &mut other))
+    expect_standing(rt, alloc, disk.crash(kind), (first, other))
+}
+
+/// A round that was asked, and what a crash leaves then.
+fn expect_round_and_crash(
+    rt: &impl Abort,
+    alloc: Global,
+    asked: Asked,
+    (due, kind): (bool, Torn),
+    (first, other): (&mut Machine<Payload>, &mut Machine<Payload>),
+) -> Result<(), AllocError> {
+    expect_asked(rt, alloc, &asked, due, (&mut *first, &mut *other))?;
+    let Asked { journal, .. } = asked;
+    expect_left(rt, alloc, journal, kind, (first, other))
+}
+
+/// A round whose growths are refused in turn. The device stands for what was accepted, whatever a crash leaves.
+fn expect_round(rt: &impl Abort, alloc: Global, due: bool, kind: Torn) -> Result<(), AllocError> {
+    let mut first = prepared_machine(alloc, due)?;
+    let mut other = prepared_machine(alloc, due)?;
+    let asked = ask_in_scarce_memory(rt, alloc, due)?;
+    expect_round_and_crash(rt, alloc, asked, (due, kind), (&mut first, &mut other))
 }
 
 #[test]
@@ -308,10 +407,12 @@ fn a_round_that_opens_a_segment(rt: HostRuntime) -> Result<(), Fail> {
     Ok(())
 }
 
-#[test]
-fn a_fetch(rt: HostRuntime) -> Result<(), Fail> {
-    let alloc = rt.alloc();
-    let mut journal = prepared(&rt, alloc, false)?;
+/// A payload that is fetched, or memory was refused for it.
+fn expect_fetch(
+    rt: &impl Abort,
+    alloc: Global,
+    journal: &mut Journal<MemDisk>,
+) -> Result<(), AllocError> {
     before(alloc)?;
     let told = journal.fetch(alloc, HOP, 2);
     let refused = was_refused(alloc);
@@ -322,12 +423,16 @@ fn a_fetch(rt: HostRuntime) -> Result<(), Fail> {
         }
         Err(refusal) => expect!(rt; refused && refusal == Refusal::OutOfMemory),
     }
-    expect_state(
-        &rt,
-        alloc,
-        &mut journal,
-        &mut prepared_machine(alloc, false)?,
-    )?;
+    Ok(())
+}
+
+#[test]
+fn a_fetch(rt: HostRuntime) -> Result<(), Fail> {
+    let alloc = rt.alloc();
+    let mut machine = prepared_machine(alloc, false)?;
+    let mut journal = prepared(&rt, alloc, false)?;
+    expect_fetch(&rt, alloc, &mut journal)?;
+    expect_state(&rt, alloc, &mut journal, &mut machine)?;
     Ok(())
 }
 
@@ -341,28 +446,51 @@ fn a_new_machine(rt: HostRuntime) -> Result<(), Fail> {
     Ok(())
 }
 
-/// What is refused leaves the machine as it was, and is answered when it is asked again.
+/// The plain machine's reply to a step. What is refused leaves it as it was, and is answered when it is asked again.
+fn expect_evaluated(
+    rt: &impl Abort,
+    alloc: Global,
+    machine: &mut Machine<Payload>,
+    step: Step,
+) -> Result<Reply, AllocError> {
+    let seq = machine.seq();
+    let ask = step.ask(alloc)?;
+    let again = step.ask(alloc)?;
+    before(alloc)?;
+    let told = machine.evaluate(alloc, ask);
+    let refused = was_refused(alloc);
+    expect!(rt; refused || told.is_ok());
+    match told {
+        Ok(reply) => Ok(reply),
+        Err(_) => {
+            expect!(rt; machine.seq() == seq);
+            machine.evaluate(alloc, again)
+        }
+    }
+}
+
+/// The reply to a step is that of a machine that no memory is refused to.
+fn expect_step(
+    rt: &impl Abort,
+    alloc: Global,
+    machine: &mut Machine<Payload>,
+    same: &mut Machine<Payload>,
+    step: Step,
+) -> Result<(), AllocError> {
+    let seq = machine.seq();
+    let reply = expect_evaluated(rt, alloc, machine, step)?;
+    let wanted = reply_of(alloc, same, step)?;
+    expect!(rt; is_same(&reply, &wanted), seq);
+    Ok(())
+}
+
 #[test]
 fn steps_of_a_machine(rt: HostRuntime) -> Result<(), Fail> {
     let alloc = rt.alloc();
     let mut machine = prepared_machine(alloc, false)?;
     let mut same = prepared_machine(alloc, false)?;
     for step in &ROUND {
-        let seq = machine.seq();
-        let ask = step.ask(alloc)?;
-        let again = step.ask(alloc)?;
-        before(alloc)?;
-        let told = machine.evaluate(alloc, ask);
-        let refused = was_refused(alloc);
-        expect!(rt; refused || told.is_ok());
-        let reply = match told {
-            Ok(reply) => reply,
-            Err(_) => {
-                expect!(rt; machine.seq() == seq);
-                machine.evaluate(alloc, again)?
-            }
-        };
-        expect!(rt; is_same(&reply, &reply_of(alloc, &mut same, *step)?), seq);
+        expect_step(&rt, alloc, &mut machine, &mut same, *step)?;
     }
     Ok(())
 }

@@ -246,33 +246,53 @@ fn expect_reopening(
     expect!(rt; disk.failures() > 0);
     let journal = expect_opening(rt, alloc, disk)?;
     if journal.position() != position {
-        for step in steps {
-            let _ = expected(alloc, machine, *step)?;
-        }
+        expect_all(alloc, machine, steps)?;
     }
     Ok(journal)
 }
 
-/// Expects of a journal a machine's numbers and payloads in flight, asked twice.
+/// The plain machine makes these steps.
+fn expect_all(
+    alloc: Global,
+    machine: &mut Machine<Payload>,
+    steps: &[Step],
+) -> Result<(), AllocError> {
+    for step in steps {
+        let _ = expected(alloc, machine, *step)?;
+    }
+    Ok(())
+}
+
+/// What a journal is asked.
+const QUESTIONS: [Step; 4] = [
+    Step::Show,
+    Step::Window,
+    Step::Fetch { number: 2 },
+    Step::Fetch { number: 1 },
+];
+
+/// Expects of a journal a machine's numbers and payloads in flight.
+fn expect_same_once(
+    rt: &impl Abort,
+    alloc: Global,
+    journal: Journal<MemDisk>,
+    machine: &mut Machine<Payload>,
+) -> Result<Journal<MemDisk>, AllocError> {
+    expect!(rt; journal.position() == machine.seq());
+    let mut journal = expect_served(rt, alloc, journal, machine, &QUESTIONS)?;
+    expect!(rt; is_in_flight_for_both(alloc, &mut journal, machine));
+    Ok(journal)
+}
+
+/// The same, asked twice.
 fn expect_same(
     rt: &impl Abort,
     alloc: Global,
     journal: Journal<MemDisk>,
     machine: &mut Machine<Payload>,
 ) -> Result<Journal<MemDisk>, AllocError> {
-    let mut journal = journal;
-    let questions = [
-        Step::Show,
-        Step::Window,
-        Step::Fetch { number: 2 },
-        Step::Fetch { number: 1 },
-    ];
-    for _ in 0..2 {
-        expect!(rt; journal.position() == machine.seq());
-        journal = expect_served(rt, alloc, journal, machine, &questions)?;
-        expect!(rt; is_in_flight_for_both(alloc, &mut journal, machine));
-    }
-    Ok(journal)
+    let journal = expect_same_once(rt, alloc, journal, machine)?;
+    expect_same_once(rt, alloc, journal, machine)
 }
 
 /// Whether a journal gives the payload that a machine has in flight as number 2, or memory was refused for it.
@@ -289,54 +309,109 @@ fn is_in_flight_for_both(
     }
 }
 
-#[test]
-fn a_journal_in_scarce_memory(rt: HostRuntime) -> Result<(), Fail> {
-    let alloc = rt.alloc();
+/// The plain machine after the first rounds of a script.
+fn expect_machine(
+    alloc: Global,
+    script: Script,
+    rounds: usize,
+) -> Result<Machine<Payload>, AllocError> {
+    match machine_after(alloc, script, rounds) {
+        Ok(machine) => Ok(machine),
+        Err(_) => machine_after(alloc, script, rounds),
+    }
+}
+
+/// Asks four rounds of three calls.
+fn expect_four(
+    rt: &impl Abort,
+    alloc: Global,
+    journal: Journal<MemDisk>,
+    machine: &mut Machine<Payload>,
+) -> Result<Journal<MemDisk>, AllocError> {
+    let mut journal = journal;
     let steps = steps();
     let script = Script {
         steps: &steps,
         calls: 3,
     };
-    let mut machine = match machine_after(alloc, script, 0) {
-        Ok(machine) => machine,
-        Err(_) => machine_after(alloc, script, 0)?,
-    };
-    let disk = expect_format(&rt, alloc)?;
-    let mut journal = expect_opening(&rt, alloc, disk)?;
     for index in 0..4 {
-        let round = script.round(index);
-        journal = expect_served(&rt, alloc, journal, &mut machine, round)?;
+        journal = expect_served(rt, alloc, journal, machine, script.round(index))?;
     }
-    journal = expect_same(&rt, alloc, journal, &mut machine)?;
-    journal = expect_opening(&rt, alloc, journal.into_disk())?;
-    let _ = expect_same(&rt, alloc, journal, &mut machine)?;
+    Ok(journal)
+}
+
+/// The same of a journal on a new device.
+fn expect_new(
+    rt: &impl Abort,
+    alloc: Global,
+    machine: &mut Machine<Payload>,
+) -> Result<Journal<MemDisk>, AllocError> {
+    let disk = expect_format(rt, alloc)?;
+    let journal = expect_opening(rt, alloc, disk)?;
+    expect_four(rt, alloc, journal, machine)
+}
+
+/// Expects of a journal a machine's numbers and payloads, before it is opened again and after that.
+fn expect_both(
+    rt: &impl Abort,
+    alloc: Global,
+    journal: Journal<MemDisk>,
+    machine: &mut Machine<Payload>,
+) -> Result<(), AllocError> {
+    let journal = expect_same(rt, alloc, journal, machine)?;
+    let journal = expect_opening(rt, alloc, journal.into_disk())?;
+    let _ = expect_same(rt, alloc, journal, machine)?;
     Ok(())
+}
+
+#[test]
+fn a_journal_in_scarce_memory(rt: HostRuntime) -> Result<(), Fail> {
+    let alloc = rt.alloc();
+    let none = Script {
+        steps: &[],
+        calls: 3,
+    };
+    let mut machine = expect_machine(alloc, none, 0)?;
+    let journal = expect_new(&rt, alloc, &mut machine)?;
+    expect_both(&rt, alloc, journal, &mut machine)?;
+    Ok(())
+}
+
+/// Writes a machine. Where memory is refused, nothing is written, and the next try succeeds.
+fn expect_written(
+    rt: &impl Abort,
+    alloc: Global,
+    machine: &Machine<Payload>,
+) -> Result<Vec<u8>, AllocError> {
+    let mut out = Vec::new(alloc);
+    if write_checkpoint(machine, &mut out).is_err() {
+        expect!(rt; out.is_empty());
+        write_checkpoint(machine, &mut out)?;
+    }
+    Ok(out)
+}
+
+/// Reads a machine. Where memory is refused, the next try succeeds.
+fn expect_read(rt: &impl Abort, alloc: Global, body: &[u8]) -> Result<Machine<Payload>, Fail> {
+    match read_checkpoint(alloc, DEVICE_E.params, body) {
+        Ok(machine) => Ok(machine),
+        Err(fault) => {
+            expect!(rt; fault == DecodeFault::OutOfMemory);
+            Ok(read_checkpoint(alloc, DEVICE_E.params, body)?)
+        }
+    }
 }
 
 #[test]
 fn a_checkpoint_in_scarce_memory(rt: HostRuntime) -> Result<(), Fail> {
     let alloc = rt.alloc();
-    let steps = steps();
     let script = Script {
-        steps: &steps,
+        steps: &steps(),
         calls: 7,
     };
-    let machine = match machine_after(alloc, script, 1) {
-        Ok(machine) => machine,
-        Err(_) => machine_after(alloc, script, 1)?,
-    };
-    let mut out = Vec::new(alloc);
-    if write_checkpoint(&machine, &mut out).is_err() {
-        expect!(rt; out.is_empty());
-        write_checkpoint(&machine, &mut out)?;
-    }
-    let again = match read_checkpoint(alloc, DEVICE_E.params, &out) {
-        Ok(machine) => machine,
-        Err(fault) => {
-            expect!(rt; fault == DecodeFault::OutOfMemory);
-            read_checkpoint(alloc, DEVICE_E.params, &out)?
-        }
-    };
+    let machine = expect_machine(alloc, script, 1)?;
+    let out = expect_written(&rt, alloc, &machine)?;
+    let again = expect_read(&rt, alloc, &out)?;
     expect!(rt; again.seq() == machine.seq());
     expect!(rt; is_same(&again.ask_show(HOP), &machine.ask_show(HOP)));
     Ok(())

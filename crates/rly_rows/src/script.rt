@@ -121,3 +121,16 @@ pub(crate) fn ask_all<D: Disk>(
     }
     Ok(answers)
 }
+
+/// Asks these steps, each in a round of its own.
+pub(crate) fn ask_each<D: Disk>(
+    rt: &impl Abort,
+    alloc: Global,
+    journal: &mut Journal<D>,
+    steps: &[Step],
+) -> Result<(), AllocError> {
+    for step in steps {
+        let _ = ask_all(rt, alloc, journal, &[*step])?;
+    }
+    Ok(())
+}

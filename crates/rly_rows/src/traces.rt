@@ -1,39 +1,79 @@
 //! What a format, a round and an opening ask of the device, call by call, as docs/ARCHITECTURE.md shows them.
 use crate::carried_device::steps;
 use crate::device::{DEVICE_E, FIRST_TAKE, SECOND_GATE, SIZE, device_e, opened};
-use crate::script::{HOP, Step, ask_all, take};
+use crate::script::{HOP, Step, ask_all, ask_each, take};
 use rly_disk::{After, Disk, DiskCall, FaultDisk, MemDisk, ToldCall, Watched};
+use rly_journal::Journal;
 use rly_segment::format;
+use std::alloc::{AllocError, Global};
+use std::process::Abort;
 use std::test::Fail;
 
 /// The most calls that a row has.
-const MOST: usize = 20;
+const MOST: usize = 100;
 
-fn read(place: u64, count: u64) -> ToldCall {
-    ToldCall {
-        call: DiskCall::Read { place, count },
-        failed: false,
+/// A call of a device that doesn't fail, with its place and its count.
+#[derive(Clone, Copy)]
+enum Made {
+    Read(u64, u64),
+    Write(u64, u64),
+    Sync,
+}
+
+impl Made {
+    fn told(self) -> ToldCall {
+        let call = match self {
+            Made::Read(place, count) => DiskCall::Read { place, count },
+            Made::Write(place, count) => DiskCall::Write { place, count },
+            Made::Sync => DiskCall::Sync,
+        };
+        ToldCall {
+            call,
+            failed: false,
+        }
     }
 }
 
-fn write(place: u64, count: u64) -> ToldCall {
-    ToldCall {
-        call: DiskCall::Write { place, count },
-        failed: false,
-    }
+/// Whether a disk told exactly these calls, after so many.
+fn are_told<D: Disk>(disk: &Watched<D>, before: usize, want: &[Made]) -> bool {
+    let told = disk.told();
+    let mut rest = told.iter().skip(before).zip(want);
+    told.len() == before.saturating_add(want.len()) && rest.all(|(call, made)| *call == made.told())
 }
 
-fn sync() -> ToldCall {
-    ToldCall {
-        call: DiskCall::Sync,
-        failed: false,
-    }
+/// The journal of a disk whose calls are told.
+fn watched<D: Disk + Drop>(
+    rt: &impl Abort,
+    alloc: Global,
+    disk: D,
+) -> Result<Journal<Watched<D>>, AllocError> {
+    let told = Vec::with_capacity(alloc, MOST)?;
+    Ok(opened(rt, alloc, Watched::new(disk, told)))
 }
 
-/// Whether a disk told exactly these calls.
-fn is_told<D: Disk>(disk: &Watched<D>, want: &[ToldCall]) -> bool {
-    disk.told().iter().eq(want.iter())
+/// The same of a new device E.
+fn watched_e(rt: &impl Abort, alloc: Global) -> Result<Journal<Watched<MemDisk>>, AllocError> {
+    let disk = device_e(rt, alloc)?;
+    watched(rt, alloc, disk)
 }
+
+/// The header's gate, which reads closed; the gates of both segments; the first head; the header; and the two gates.
+const FORMATTED: [Made; 14] = [
+    Made::Read(0, 1),
+    Made::Sync,
+    Made::Write(64, 1),
+    Made::Sync,
+    Made::Write(SECOND_GATE as u64, 1),
+    Made::Sync,
+    Made::Write(65, 100),
+    Made::Sync,
+    Made::Write(1, 50),
+    Made::Sync,
+    Made::Write(64, 1),
+    Made::Sync,
+    Made::Write(0, 1),
+    Made::Sync,
+];
 
 #[test]
 fn a_format(rt: HostRuntime) -> Result<(), Fail> {
@@ -41,86 +81,78 @@ fn a_format(rt: HostRuntime) -> Result<(), Fail> {
     let zeroed = MemDisk::new(alloc, vec![in alloc; 0u8; SIZE]?);
     let mut disk = Watched::new(zeroed, Vec::with_capacity(alloc, MOST)?);
     expect!(rt; format(alloc, &mut disk, &DEVICE_E) == Ok(()));
-    // The header's gate, which reads closed; the gates of both segments; the first head; the header; and the two gates.
-    let want = [
-        read(0, 1),
-        sync(),
-        write(64, 1),
-        sync(),
-        write(SECOND_GATE as u64, 1),
-        sync(),
-        write(65, 100),
-        sync(),
-        write(1, 50),
-        sync(),
-        write(64, 1),
-        sync(),
-        write(0, 1),
-        sync(),
-    ];
-    expect!(rt; is_told(&disk, &want));
+    expect!(rt; are_told(&disk, 0, &FORMATTED));
     Ok(())
+}
+
+/// An opening of a new device, and a round.
+const OPENED_AND_TAKEN: [Made; 11] = [
+    // The header, both generations, the head and its body, and the closed gate after it.
+    Made::Sync,
+    Made::Read(0, 51),
+    Made::Read(64, 9),
+    Made::Read(SECOND_GATE as u64, 9),
+    Made::Read(65, 12),
+    Made::Read(77, 87),
+    Made::Read(164, 1),
+    // The frame after the gate, and then the gate.
+    Made::Write(165, 31),
+    Made::Sync,
+    Made::Write(164, 1),
+    Made::Sync,
+];
+
+/// An opening after that.
+const OPENED: [Made; 10] = [
+    Made::Sync,
+    Made::Read(0, 51),
+    Made::Read(64, 9),
+    Made::Read(SECOND_GATE as u64, 9),
+    Made::Read(65, 12),
+    Made::Read(77, 87),
+    // The group's gate, its length and its body, and the closed gate after it.
+    Made::Read(164, 1),
+    Made::Read(165, 4),
+    Made::Read(169, 26),
+    Made::Read(195, 1),
+];
+
+/// The device after the opening and the round.
+fn taken(rt: &impl Abort, alloc: Global) -> Result<Watched<MemDisk>, AllocError> {
+    let mut journal = watched_e(rt, alloc)?;
+    ask_each(rt, alloc, &mut journal, &[FIRST_TAKE])?;
+    Ok(journal.into_disk())
 }
 
 #[test]
 fn a_round_and_an_opening(rt: HostRuntime) -> Result<(), Fail> {
     let alloc = rt.alloc();
-    let disk = Watched::new(device_e(&rt, alloc)?, Vec::with_capacity(alloc, MOST)?);
-    let mut journal = opened(&rt, alloc, disk);
-    ask_all(&rt, alloc, &mut journal, &[FIRST_TAKE])?;
-    let disk = journal.into_disk();
-    let want = [
-        // The header, both generations, the head and its body, and the closed gate after it.
-        sync(),
-        read(0, 51),
-        read(64, 9),
-        read(SECOND_GATE as u64, 9),
-        read(65, 12),
-        read(77, 87),
-        read(164, 1),
-        // The frame after the gate, and then the gate.
-        write(165, 31),
-        sync(),
-        write(164, 1),
-        sync(),
-    ];
-    expect!(rt; is_told(&disk, &want));
-
-    let disk = Watched::new(disk.into_inner(), Vec::with_capacity(alloc, MOST)?);
-    let disk = opened(&rt, alloc, disk).into_disk();
-    let want = [
-        sync(),
-        read(0, 51),
-        read(64, 9),
-        read(SECOND_GATE as u64, 9),
-        read(65, 12),
-        read(77, 87),
-        // The group's gate, its length and its body, and the closed gate after it.
-        read(164, 1),
-        read(165, 4),
-        read(169, 26),
-        read(195, 1),
-    ];
-    expect!(rt; is_told(&disk, &want));
+    let disk = taken(&rt, alloc)?;
+    expect!(rt; are_told(&disk, 0, &OPENED_AND_TAKEN));
+    let disk = watched(&rt, alloc, disk.into_inner())?.into_disk();
+    expect!(rt; are_told(&disk, 0, &OPENED));
     Ok(())
+}
+
+/// A device that fails at the first sync of a round, after it. The opening makes 7 calls.
+fn failed(rt: &impl Abort, alloc: Global) -> Result<Watched<FaultDisk<MemDisk>>, AllocError> {
+    let failing = FaultDisk::new(device_e(rt, alloc)?, 9, 0, After::GoesOn);
+    let mut journal = watched(rt, alloc, failing)?;
+    ask_each(rt, alloc, &mut journal, &[FIRST_TAKE])?;
+    expect!(rt; journal.is_broken());
+    Ok(journal.into_disk())
 }
 
 #[test]
 fn a_round_whose_first_sync_fails(rt: HostRuntime) -> Result<(), Fail> {
-    let alloc = rt.alloc();
-    // The opening makes 7 calls.
-    let failing = FaultDisk::new(device_e(&rt, alloc)?, 9, 0, After::GoesOn);
-    let disk = Watched::new(failing, Vec::with_capacity(alloc, MOST)?);
-    let mut journal = opened(&rt, alloc, disk);
-    ask_all(&rt, alloc, &mut journal, &[FIRST_TAKE])?;
-    expect!(rt; journal.is_broken());
-    let disk = journal.into_disk();
+    let disk = failed(&rt, rt.alloc())?;
     let last = ToldCall {
         call: DiskCall::Sync,
         failed: true,
     };
     expect!(rt; disk.told().len() == 9);
-    expect!(rt; disk.told().iter().skip(7).eq([write(165, 31), last].iter()));
+    let want = [Made::Write(165, 31).told(), last];
+    expect!(rt; disk.told().iter().skip(7).eq(want.iter()));
     Ok(())
 }
 
@@ -147,69 +179,83 @@ const FETCHING: [Step; 9] = [
     Step::Fetch { number: 3 },
 ];
 
+/// What two rounds and two fetches ask of the device.
+const FETCHED: [Made; 10] = [
+    Made::Write(165, 89),
+    Made::Sync,
+    Made::Write(164, 1),
+    Made::Sync,
+    Made::Read(194, 3),
+    // The second group, and its payload after 7 and 23 bytes.
+    Made::Write(254, 46),
+    Made::Sync,
+    Made::Write(253, 1),
+    Made::Sync,
+    Made::Read(283, 5),
+];
+
+/// Asks two rounds.
+fn ask_fetching(
+    rt: &impl Abort,
+    alloc: Global,
+    journal: &mut Journal<Watched<MemDisk>>,
+) -> Result<(), AllocError> {
+    let _ = ask_all(rt, alloc, journal, &FETCHING)?;
+    let _ = ask_all(rt, alloc, journal, &[take(3, 0, 5), Step::Pick { now: 0 }])?;
+    Ok(())
+}
+
+/// Fetches the third datagram, the one without bytes, and the one that was released.
+fn expect_fetched(rt: &impl Abort, alloc: Global, journal: &mut Journal<Watched<MemDisk>>) {
+    let third = journal.fetch(alloc, HOP, 3);
+    expect!(rt; matches!(&third, Ok(bytes) if bytes.as_slice() == [3; 5].as_slice()));
+    let second = journal.fetch(alloc, HOP, 2);
+    expect!(rt; matches!(&second, Ok(bytes) if bytes.is_empty()));
+    expect!(rt; journal.fetch(alloc, HOP, 1).is_err());
+}
+
 /// A Fetch of bytes is one read of them, where the group has them, once that is durable; and so where they are released in the same
 /// round. A refused one and one of no bytes are none.
 #[test]
 fn fetches(rt: HostRuntime) -> Result<(), Fail> {
     let alloc = rt.alloc();
-    let disk = Watched::new(device_e(&rt, alloc)?, Vec::with_capacity(alloc, MOST)?);
-    let mut journal = opened(&rt, alloc, disk);
-    ask_all(&rt, alloc, &mut journal, &FETCHING)?;
-    ask_all(
-        &rt,
-        alloc,
-        &mut journal,
-        &[take(3, 0, 5), Step::Pick { now: 0 }],
-    )?;
-    expect!(rt; matches!(journal.fetch(alloc, HOP, 3), Ok(bytes) if bytes.as_slice() == [3; 5].as_slice()));
-    expect!(rt; matches!(journal.fetch(alloc, HOP, 2), Ok(bytes) if bytes.is_empty()));
-    expect!(rt; journal.fetch(alloc, HOP, 1).is_err());
+    let mut journal = watched_e(&rt, alloc)?;
+    ask_fetching(&rt, alloc, &mut journal)?;
+    expect_fetched(&rt, alloc, &mut journal);
     let disk = journal.into_disk();
     // The opening makes 7 calls.
-    let want = [
-        write(165, 89),
-        sync(),
-        write(164, 1),
-        sync(),
-        read(194, 3),
-        // The second group, and its payload after 7 and 23 bytes.
-        write(254, 46),
-        sync(),
-        write(253, 1),
-        sync(),
-        read(283, 5),
-    ];
-    expect!(rt; disk.told().iter().skip(7).eq(want.iter()));
+    expect!(rt; are_told(&disk, 7, &FETCHED));
     Ok(())
 }
+
+/// The round in which a segment is opened.
+const MOVED: [Made; 12] = [
+    Made::Read(1_424, 1_200),
+    Made::Read(2_654, 1_200),
+    Made::Read(3_938, 1_200),
+    // The second segment's gate reads closed. Its head of 3,757 bytes but for the gate, a closed gate after it, and then the gate.
+    Made::Sync,
+    Made::Write(SECOND_GATE as u64 + 1, 3_757),
+    Made::Sync,
+    Made::Write(SECOND_GATE as u64, 1),
+    Made::Sync,
+    // The group.
+    Made::Write(86_730, 30),
+    Made::Sync,
+    Made::Write(86_729, 1),
+    Made::Sync,
+];
 
 /// A segment is opened: the victim's three payloads are read, those in flight and then the one that waits.
 #[test]
 fn a_round_that_opens_a_segment(rt: HostRuntime) -> Result<(), Fail> {
     let alloc = rt.alloc();
-    let disk = Watched::new(device_e(&rt, alloc)?, Vec::with_capacity(alloc, 100)?);
-    let mut journal = opened(&rt, alloc, disk);
-    for step in steps().iter().take(8) {
-        let _ = ask_all(&rt, alloc, &mut journal, &[*step])?;
-    }
+    let mut journal = watched_e(&rt, alloc)?;
+    let steps = steps();
+    let (first, _) = steps.split_at(8);
+    ask_each(&rt, alloc, &mut journal, first)?;
     let disk = journal.into_disk();
     // The opening makes 7 calls, and seven rounds make four each.
-    let want = [
-        read(1_424, 1_200),
-        read(2_654, 1_200),
-        read(3_938, 1_200),
-        // The second segment's gate reads closed. Its head of 3,757 bytes but for the gate, a closed gate after it, and then the gate.
-        sync(),
-        write(SECOND_GATE as u64 + 1, 3_757),
-        sync(),
-        write(SECOND_GATE as u64, 1),
-        sync(),
-        // The group.
-        write(86_730, 30),
-        sync(),
-        write(86_729, 1),
-        sync(),
-    ];
-    expect!(rt; disk.told().iter().skip(35).eq(want.iter()));
+    expect!(rt; are_told(&disk, 35, &MOVED));
     Ok(())
 }
