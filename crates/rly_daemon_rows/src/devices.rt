@@ -1,25 +1,14 @@
 //! Whole runs of the program on files.
 
+use crate::files::{path_of, read, remove, write};
 use crate::programs::{BAD_OPTIONS, expect, expect_stuck};
-use crate::spools::{small_disk, takes};
+use crate::spools::{journal_on, small_disk, takes};
 use rly_daemon::{FileDisk, Host, UseFault, play, unused};
+use rly_disk::MemDisk;
 use rly_journal::Journal;
-use std::alloc::Global;
+use std::alloc::{AllocError, Global};
+use std::fs;
 use std::process::Abort;
-use std::test::Fail;
-use std::{fs, process};
-
-/// A path for the file of a test, which is not there yet.
-pub(super) fn path_of(rt: &HostRuntime, name: &str) -> Result<String, Fail> {
-    let folder = std::env::temp_dir(rt)?;
-    let path = format!(in rt.alloc();
-        "{}/rly-{}-{name}",
-        folder.as_str(),
-        process::id(rt.process())
-    )?;
-    let _gone = fs::remove_file(rt, path.as_str());
-    Ok(path)
-}
 
 /// Formats a file as the small device: one hop, one peer, 16 items, 4,096 bytes.
 pub(super) fn make_small(rt: &(impl Abort + Host), path: &str) {
@@ -63,26 +52,31 @@ fn expect_play_refused(rt: &(impl Abort + Host), path: &str, errors: &[u8]) {
 const SMALL_HEADER: &[u8] = b"a5524c594445563031000100010001000800040001\
 39310000001000001000000005dc000000000000138800000000000186a0";
 
-/// Checks the bytes of a new small device.
-fn expect_new(rt: &(impl Abort + AllocGlobal), bytes: &[u8]) -> Result<(), Fail> {
-    assert!(rt; bytes.len() == 320_772);
-    let header = hex::decode(rt.alloc(), SMALL_HEADER)?;
-    expect!(rt; bytes.iter().take(51).eq(header.iter()));
+/// Checks the header of a new small device.
+fn expect_header(rt: &(impl Abort + AllocGlobal), bytes: &[u8]) {
+    let header = hex::decode(rt.alloc(), SMALL_HEADER)
+        .ok()
+        .expect(rt, "a header");
+    expect!(*rt; bytes.iter().take(51).eq(header.iter()));
+}
+
+/// Checks the rest of its first bytes.
+fn expect_head(rt: &impl Abort, bytes: &[u8]) {
     let head = b"\xa5\0\0\0\0\0\0\0\x01\0\0\0\x57".as_slice();
-    expect!(rt; bytes.iter().skip(64).take(13).eq(head.iter()));
-    expect!(rt; bytes.iter().skip(77).take(87).all(|byte| *byte == 0));
-    expect!(rt; bytes.get(164) == Some(&0));
-    Ok(())
+    expect!(*rt; bytes.iter().skip(64).take(13).eq(head.iter()));
+    expect!(*rt; bytes.iter().skip(77).take(87).all(|byte| *byte == 0));
+    expect!(*rt; bytes.get(164) == Some(&0));
 }
 
 #[test]
-fn a_new_device_is_as_the_format_says(rt: HostRuntime) -> Result<(), Fail> {
-    let path = path_of(&rt, "new")?;
+fn a_new_device_is_as_the_format_says(rt: HostRuntime) {
+    let path = path_of(&rt, rt, "new");
     make_small(&rt, path.as_str());
-    let bytes = fs::read(&rt, path.as_str())?;
-    expect_new(&rt, bytes.as_slice())?;
-    fs::remove_file(&rt, path.as_str())?;
-    Ok(())
+    let bytes = read(&rt, path.as_str());
+    expect!(rt; bytes.len() == 320_772);
+    expect_header(&rt, bytes.as_slice());
+    expect_head(&rt, bytes.as_slice());
+    remove(&rt, path.as_str());
 }
 
 /// Lines of several runs of `play` on one device, and what each writes.
@@ -95,21 +89,18 @@ const RUNS: [(&[u8], &[u8]); 5] = [
 ];
 
 #[test]
-fn play_goes_on_where_it_stopped(rt: HostRuntime) -> Result<(), Fail> {
-    let path = path_of(&rt, "stopped")?;
+fn play_goes_on_where_it_stopped(rt: HostRuntime) {
+    let path = path_of(&rt, rt, "stopped");
     make_small(&rt, path.as_str());
+    expect_runs(&rt, path.as_str());
+    remove(&rt, path.as_str());
+}
+
+/// Checks these runs on a device.
+fn expect_runs(rt: &(impl Abort + Host), path: &str) {
     for (input, output) in &RUNS {
-        expect(
-            &rt,
-            &["rly", "play", path.as_str()],
-            *input,
-            0,
-            *output,
-            b"",
-        );
+        expect_played(rt, path, *input, *output);
     }
-    fs::remove_file(&rt, path.as_str())?;
-    Ok(())
 }
 
 /// Options of geometries that are out of their limits.
@@ -132,63 +123,50 @@ fn expect_untouched(rt: &(impl Abort + Host), path: &str, option: &str) {
 }
 
 #[test]
-fn geometries_out_of_limits_touch_no_file(rt: HostRuntime) -> Result<(), Fail> {
-    let path = path_of(&rt, "refused")?;
+fn geometries_out_of_limits_touch_no_file(rt: HostRuntime) {
+    let path = path_of(&rt, rt, "refused");
     for option in &BAD_GEOMETRIES {
         expect_untouched(&rt, path.as_str(), *option);
     }
-    Ok(())
 }
 
 #[test]
-fn format_never_shortens_a_file(rt: HostRuntime) -> Result<(), Fail> {
-    let path = path_of(&rt, "long")?;
-    fs::write(&rt, path.as_str(), vec![in rt.alloc(); 7u8; 400_000]?)?;
+fn format_never_shortens_a_file(rt: HostRuntime) {
+    let path = path_of(&rt, rt, "long");
+    let long = Vec::from_elem(rt.alloc(), 7u8, 400_000).expect(&rt, "memory");
+    write(&rt, path.as_str(), long.as_slice());
     make_small(&rt, path.as_str());
-    let bytes = fs::read(&rt, path.as_str())?;
+    let bytes = read(&rt, path.as_str());
     expect_kept(&rt, bytes.as_slice());
-    fs::remove_file(&rt, path.as_str())?;
-    Ok(())
+    remove(&rt, path.as_str());
 }
 
 /// Checks that what lies after the small device is as it was.
 fn expect_kept(rt: &impl Abort, bytes: &[u8]) {
-    assert!(rt; bytes.len() == 400_000);
-    expect!(rt; bytes.iter().skip(320_772).all(|byte| *byte == 7));
+    expect!(*rt; bytes.len() == 400_000);
+    expect!(*rt; bytes.iter().skip(320_772).all(|byte| *byte == 7));
 }
 
 /// Checks that `play` is refused on a device with a byte that is 0.
-fn expect_damage(
-    rt: &(impl Abort + Host),
-    path: &str,
-    device: &[u8],
-    place: usize,
-    errors: &[u8],
-) -> Result<(), Fail> {
-    let mut bytes = Vec::from_slice(rt.alloc(), device)?;
+fn expect_damage(rt: &(impl Abort + Host), path: &str, device: &[u8], place: usize, errors: &[u8]) {
+    let mut bytes = device.to_vec(rt.alloc()).expect(rt, "memory");
     if let Some(byte) = bytes.get_mut(place) {
         *byte = 0;
     }
-    fs::write(rt, path, bytes.as_slice())?;
+    write(rt, path, bytes.as_slice());
     expect_play_refused(rt, path, errors);
-    Ok(())
 }
 
-/// Checks what `play` says of a file that is none, of one that is too short, and of changed devices.
-fn expect_no_device(rt: &(impl Abort + Host), path: &str) -> Result<(), Fail> {
-    expect_play_refused(rt, path, NOT_THERE);
-    fs::write(rt, path, [0xa5u8; 63].as_slice())?;
-    expect_play_refused(rt, path, b"refused 20 notadevice\n");
-    make_small(rt, path);
-    let device = fs::read(rt, path)?;
-    let bytes = device.as_slice();
-    expect_damage(rt, path, bytes, 64, b"refused 22 damaged 64\n")?;
-    expect_damage(rt, path, bytes, 0, b"refused 20 notadevice\n")?;
-    fs::write(rt, path, &bytes[..bytes.len().saturating_sub(1)])?;
-    let short =
-        b"refused 21 badgeometry\nrly: device: its header has a value out of its limits, or its file is too short\n";
-    expect_play_refused(rt, path, short);
-    Ok(())
+/// What is told of a device that is a byte too short.
+const SHORT: &[u8] =
+    b"refused 21 badgeometry\nrly: device: its header has a value out of its limits, or its file is too short\n";
+
+/// Checks what `play` says of changed devices.
+fn expect_damaged(rt: &(impl Abort + Host), path: &str, device: &[u8]) {
+    expect_damage(rt, path, device, 64, b"refused 22 damaged 64\n");
+    expect_damage(rt, path, device, 0, b"refused 20 notadevice\n");
+    write(rt, path, &device[..device.len().saturating_sub(1)]);
+    expect_play_refused(rt, path, SHORT);
 }
 
 /// What is told of a file that isn't there.
@@ -196,30 +174,41 @@ pub(super) const NOT_THERE: &[u8] =
     b"refused 23 device\nrly: device: No such file or directory (os error 2)\n";
 
 #[test]
-fn a_file_that_is_no_device_is_refused(rt: HostRuntime) -> Result<(), Fail> {
-    let path = path_of(&rt, "damaged")?;
-    expect_no_device(&rt, path.as_str())?;
-    fs::remove_file(&rt, path.as_str())?;
-    Ok(())
+fn a_file_that_is_no_device_is_refused(rt: HostRuntime) {
+    let path = path_of(&rt, rt, "damaged");
+    expect_play_refused(&rt, path.as_str(), NOT_THERE);
+    write(&rt, path.as_str(), [0xa5u8; 63].as_slice());
+    expect_play_refused(&rt, path.as_str(), b"refused 20 notadevice\n");
+    make_small(&rt, path.as_str());
+    let device = read(&rt, path.as_str());
+    expect_damaged(&rt, path.as_str(), device.as_slice());
+    remove(&rt, path.as_str());
+}
+
+/// What is told of a device that another process has.
+const HELD: &[u8] = b"refused 23 device\nrly: lock: another program has it\n";
+
+/// Checks that a device which another process has is neither played, nor audited, nor formatted.
+fn expect_held(rt: &(impl Abort + Host), path: &str) {
+    expect_play_refused(rt, path, HELD);
+    expect_audit_refused(rt, path, HELD);
+    expect_refused(rt, &["rly", "format", path, "--force"], HELD);
 }
 
 #[test]
-fn a_device_is_one_process_s(rt: HostRuntime) -> Result<(), Fail> {
-    let path = path_of(&rt, "locked")?;
+fn a_device_is_one_process_s(rt: HostRuntime) {
+    let path = path_of(&rt, rt, "locked");
     make_small(&rt, path.as_str());
-    let disk = FileDisk::open(&rt, path.as_str()).ok().ok_or("a device")?;
-    let held = b"refused 23 device\nrly: lock: another program has it\n";
-    expect_play_refused(&rt, path.as_str(), held);
-    expect_refused(&rt, &["rly", "audit", path.as_str()], held);
-    let words = ["rly", "format", path.as_str(), "--force"];
-    expect_refused(&rt, &words, held);
+    let disk = FileDisk::open(&rt, path.as_str())
+        .ok()
+        .expect(&rt, "a device");
+    expect_held(&rt, path.as_str());
     drop(disk);
-    fs::remove_file(&rt, path.as_str())?;
-    Ok(())
+    remove(&rt, path.as_str());
 }
 
 /// Six takes of 1,000 bytes and three picks.
-fn busy_lines(alloc: Global) -> Result<String, Fail> {
+fn busy_lines(alloc: Global) -> Result<String, AllocError> {
     let mut lines = takes(alloc, 6, 1_000)?;
     lines.push_str("pick 1 10000\npick 1 110000\npick 1 210000\n")?;
     Ok(lines)
@@ -234,30 +223,42 @@ const BUSY_BOOKS: &[u8] = b"hop 1 taken 6 queued 1 flight 3 dropped 2 released 0
 peer 1 last 6\nseq 9\nbalance ok\n";
 
 /// Cuts a device within its header.
-fn cut(rt: &HostRuntime, path: &str) -> Result<(), Fail> {
-    let mut bytes = fs::read(rt, path)?;
+fn cut(rt: &(impl Abort + Host), path: &str) {
+    let mut bytes = read(rt, path);
     bytes.truncate(63);
-    fs::write(rt, path, bytes.as_slice())?;
-    Ok(())
+    write(rt, path, bytes.as_slice());
+}
+
+/// Checks what `audit` tells of a device.
+fn expect_books(rt: &(impl Abort + Host), path: &str, books: &[u8]) {
+    expect(rt, &["rly", "audit", path], b"", 0, books, b"");
+}
+
+/// Checks that `audit` is refused on a device.
+fn expect_audit_refused(rt: &(impl Abort + Host), path: &str, errors: &[u8]) {
+    expect_refused(rt, &["rly", "audit", path], errors);
+}
+
+/// Formats a device, and plays the lines on it.
+fn make_busy(rt: &(impl Abort + Host), path: &str) {
+    let words = ["rly", "format", path, "--hops=1", "--peers=1"];
+    expect(rt, &words, b"", 0, b"formatted 1822276\n", b"");
+    let lines = busy_lines(rt.alloc()).ok().expect(rt, "memory");
+    let words = ["rly", "play", path, "--batch=7"];
+    expect(rt, &words, lines.as_bytes(), 0, BUSY_REPLIES, b"");
 }
 
 /// The books of a device are what `play` left, whatever runs there were; other files have none.
 #[test]
-fn audit_tells_what_play_left(rt: HostRuntime) -> Result<(), Fail> {
-    let name = path_of(&rt, "audited")?;
-    let path = name.as_str();
-    expect_refused(&rt, &["rly", "audit", path], NOT_THERE);
-    let words = ["rly", "format", path, "--hops=1", "--peers=1"];
-    expect(&rt, &words, b"", 0, b"formatted 1822276\n", b"");
-    let lines = busy_lines(rt.alloc())?;
-    let words = ["rly", "play", path, "--batch=7"];
-    expect(&rt, &words, lines.as_bytes(), 0, BUSY_REPLIES, b"");
-    expect(&rt, &["rly", "audit", path], b"", 0, BUSY_BOOKS, b"");
-    expect_stuck(&rt, &["rly", "audit", path]);
-    cut(&rt, path)?;
-    expect_refused(&rt, &["rly", "audit", path], b"refused 20 notadevice\n");
-    fs::remove_file(&rt, path)?;
-    Ok(())
+fn audit_tells_what_play_left(rt: HostRuntime) {
+    let path = path_of(&rt, rt, "audited");
+    expect_audit_refused(&rt, path.as_str(), NOT_THERE);
+    make_busy(&rt, path.as_str());
+    expect_books(&rt, path.as_str(), BUSY_BOOKS);
+    expect_stuck(&rt, &["rly", "audit", path.as_str()]);
+    cut(&rt, path.as_str());
+    expect_audit_refused(&rt, path.as_str(), b"refused 20 notadevice\n");
+    remove(&rt, path.as_str());
 }
 
 /// What is told where a device that holds a live datagram would be formatted.
@@ -269,81 +270,98 @@ fn expect_played(rt: &(impl Abort + Host), path: &str, input: &[u8], output: &[u
     expect(rt, &["rly", "play", path], input, 0, output, b"");
 }
 
-/// Checks that a device on which a datagram waits, and one on which it is in flight, is formatted by force alone.
-fn expect_kept_alive(rt: &(impl Abort + Host), path: &str) -> Result<(), Fail> {
-    make_small(rt, path);
+/// Lines after which a datagram waits on a device, and after which it is in flight, and what `play` writes.
+const ALIVE: [(&[u8], &[u8]); 2] = [
+    (b"take 1 1 1 0 41\n", b"taken 1 1\n"),
+    (b"pick 1 5\n", b"picked 1 1 1\n"),
+];
+
+/// Checks that a device is not formatted without force, and stays as it was.
+fn expect_not_formatted(rt: &(impl Abort + Host), path: &str) {
+    let before = read(rt, path);
     let words = ["rly", "format", path, "--hops=1", "--peers=1"];
-    for (input, output) in [
-        (b"take 1 1 1 0 41\n".as_slice(), b"taken 1 1\n".as_slice()),
-        (b"pick 1 5\n".as_slice(), b"picked 1 1 1\n".as_slice()),
-    ] {
-        expect_played(rt, path, input, output);
-        let before = fs::read(rt, path)?;
-        expect_refused(rt, &words, ONE_LIVES);
-        expect!(rt; fs::read(rt, path)?.as_slice() == before.as_slice());
+    expect_refused(rt, &words, ONE_LIVES);
+    expect!(*rt; read(rt, path).as_slice() == before.as_slice());
+}
+
+/// Checks that a device on which a datagram waits, and one on which it is in flight, is not formatted without force.
+fn expect_kept_alive(rt: &(impl Abort + Host), path: &str) {
+    make_small(rt, path);
+    for (input, output) in &ALIVE {
+        expect_played(rt, path, *input, *output);
+        expect_not_formatted(rt, path);
     }
     expect_played(rt, path, b"fetch 1 1\n", b"bytes 1 1 41\n");
+}
+
+/// Checks that a device is formatted by force.
+fn expect_forced(rt: &(impl Abort + Host), path: &str) {
     let words = ["rly", "format", path, "--hops=1", "--peers=1", "--force"];
     expect(rt, &words, b"", 0, b"formatted 1822276\n", b"");
     expect_played(rt, path, b"window 1\n", b"window 1 1 1\n");
-    Ok(())
 }
 
 /// A device that holds live datagrams is formatted by force alone, and else stays as it was.
 #[test]
-fn live_datagrams_are_lost_by_force_alone(rt: HostRuntime) -> Result<(), Fail> {
-    let path = path_of(&rt, "alive")?;
-    expect_kept_alive(&rt, path.as_str())?;
-    fs::remove_file(&rt, path.as_str())?;
-    Ok(())
+fn live_datagrams_are_lost_by_force_alone(rt: HostRuntime) {
+    let path = path_of(&rt, rt, "alive");
+    expect_kept_alive(&rt, path.as_str());
+    expect_forced(&rt, path.as_str());
+    remove(&rt, path.as_str());
 }
 
-/// Checks that a device is formatted without a question once its datagram was let go, and a damaged one where one lived.
-fn expect_freed(rt: &(impl Abort + Host), path: &str) -> Result<(), Fail> {
-    make_small(rt, path);
-    let lines = b"take 1 1 1 0 41\npick 1 5\ndone 1 1\n";
-    expect_played(rt, path, lines, b"taken 1 1\npicked 1 1 1\nreleased 1 1\n");
-    make_small(rt, path);
-    expect_played(rt, path, b"take 1 1 1 0 41\n", b"taken 1 1\n");
-    let mut bytes = fs::read(rt, path)?;
+/// Puts 0 where a device's first gate stands.
+fn damage(rt: &(impl Abort + Host), path: &str) {
+    let mut bytes = read(rt, path);
     if let Some(gate) = bytes.get_mut(64) {
         *gate = 0;
     }
-    fs::write(rt, path, bytes.as_slice())?;
-    make_small(rt, path);
-    Ok(())
+    write(rt, path, bytes.as_slice());
 }
+
+/// Lines that let a datagram go, and what `play` writes.
+const LETS_GO: &[u8] = b"take 1 1 1 0 41\npick 1 5\ndone 1 1\n";
+
+const LET_GO: &[u8] = b"taken 1 1\npicked 1 1 1\nreleased 1 1\n";
 
 /// A device with nothing live is formatted as a new one is, and so is one that is damaged.
 #[test]
-fn a_device_with_nothing_live_is_formatted(rt: HostRuntime) -> Result<(), Fail> {
-    let path = path_of(&rt, "freed")?;
-    expect_freed(&rt, path.as_str())?;
-    fs::remove_file(&rt, path.as_str())?;
-    Ok(())
+fn a_device_with_nothing_live_is_formatted(rt: HostRuntime) {
+    let path = path_of(&rt, rt, "freed");
+    make_small(&rt, path.as_str());
+    expect_played(&rt, path.as_str(), LETS_GO, LET_GO);
+    make_small(&rt, path.as_str());
+    expect_played(&rt, path.as_str(), b"take 1 1 1 0 41\n", b"taken 1 1\n");
+    damage(&rt, path.as_str());
+    make_small(&rt, path.as_str());
+    remove(&rt, path.as_str());
+}
+
+/// A free disk in memory, as it is handed back, and two datagrams that are taken on it.
+fn journal_of_two(rt: &(impl Abort + AllocGlobal)) -> Journal<MemDisk> {
+    let disk = unused(rt.alloc(), small_disk(rt))
+        .ok()
+        .expect(rt, "a free disk");
+    let mut journal = journal_on(rt, disk);
+    let mut output = Vec::new(rt.alloc());
+    let mut lines = b"take 1 1 1 0 41\ntake 1 2 1 0 42\n".as_slice();
+    let played = play(rt.alloc(), &mut lines, &mut output, &mut journal, 64);
+    expect!(*rt; played.is_ok());
+    expect!(*rt; output.as_slice() == b"taken 1 1\ntaken 1 2\n".as_slice());
+    journal
 }
 
 /// A disk in memory on which a datagram lives is not free, and is handed back as it was.
 #[test]
-fn a_disk_is_looked_at(rt: HostRuntime) -> Result<(), Fail> {
-    let disk = unused(rt.alloc(), small_disk(&rt)?)
-        .ok()
-        .ok_or("a free disk")?;
-    let mut journal = Journal::open(rt.alloc(), disk).ok().ok_or("a journal")?;
-    let mut output = Vec::new(rt.alloc());
-    let mut lines = b"take 1 1 1 0 41\ntake 1 2 1 0 42\n".as_slice();
-    play(rt.alloc(), &mut lines, &mut output, &mut journal, 64)?;
-    expect!(rt; output.as_slice() == b"taken 1 1\ntaken 1 2\n".as_slice());
-    let (fault, disk) = unused(rt.alloc(), journal.into_disk())
-        .err()
-        .ok_or("a fault")?;
+fn a_disk_is_looked_at(rt: HostRuntime) {
+    let disk = journal_of_two(&rt).into_disk();
+    let (fault, disk) = unused(rt.alloc(), disk).err().expect(&rt, "a fault");
     expect!(rt; fault == UseFault::Live(2));
     expect!(rt; Journal::open(rt.alloc(), disk).is_ok());
-    Ok(())
 }
 
 /// What `play` writes for so many takes of peer 1 that are all taken.
-fn all_taken(alloc: Global, count: u64) -> Result<String, Fail> {
+fn all_taken(alloc: Global, count: u64) -> Result<String, AllocError> {
     let mut text = String::new(alloc);
     for number in 1..=count {
         writeln!(text, "taken 1 {number}")?;
@@ -359,8 +377,16 @@ const MANY_LIVE: &[u8] =
 const MANY_BOOKS: &[u8] = b"hop 1 taken 64 queued 64 flight 0 dropped 0 released 0\n\
 peer 1 last 64\nseq 64\nbalance ok\n";
 
+/// Plays 64 takes in one round, which are all taken.
+fn expect_full_round(rt: &(impl Abort + Host), path: &str) {
+    let lines = takes(rt.alloc(), 64, 1).ok().expect(rt, "memory");
+    let taken = all_taken(rt.alloc(), 64).ok().expect(rt, "memory");
+    let words = ["rly", "play", path, "--batch=64"];
+    expect(rt, &words, lines.as_bytes(), 0, taken.as_bytes(), b"");
+}
+
 /// Checks that a device of two segments of the greatest length, whose second begins past 2 GiB, is as any other.
-fn expect_long_device(rt: &(impl Abort + Host), path: &str) -> Result<(), Fail> {
+fn expect_long_device(rt: &(impl Abort + Host), path: &str) {
     let words = [
         "rly",
         "format",
@@ -373,13 +399,9 @@ fn expect_long_device(rt: &(impl Abort + Host), path: &str) -> Result<(), Fail> 
         "--length=2147483647",
     ];
     expect(rt, &words, b"", 0, b"formatted 4294967358\n", b"");
-    let lines = takes(rt.alloc(), 64, 1)?;
-    let taken = all_taken(rt.alloc(), 64)?;
-    let play = ["rly", "play", path, "--batch=64"];
-    expect(rt, &play, lines.as_bytes(), 0, taken.as_bytes(), b"");
-    expect(rt, &["rly", "audit", path], b"", 0, MANY_BOOKS, b"");
+    expect_full_round(rt, path);
+    expect_books(rt, path, MANY_BOOKS);
     expect_refused(rt, &words, MANY_LIVE);
-    Ok(())
 }
 
 /// Numbers of segments, and what `format` prints for a small device of so many.
@@ -403,35 +425,36 @@ fn expect_segments(rt: &(impl Abort + Host), path: &str, option: &str, formatted
         option,
     ];
     expect(rt, &words, b"", 0, formatted, b"");
-    for (input, output) in &RUNS {
-        expect_played(rt, path, *input, *output);
-    }
+    expect_runs(rt, path);
 }
 
 /// A device has 2 to 256 segments.
 #[test]
-fn a_device_has_as_many_segments_as_are_asked_for(rt: HostRuntime) -> Result<(), Fail> {
-    let path = path_of(&rt, "segments")?;
+fn a_device_has_as_many_segments_as_are_asked_for(rt: HostRuntime) {
+    let path = path_of(&rt, rt, "segments");
     for (option, formatted) in &SEGMENTS {
         expect_segments(&rt, path.as_str(), *option, *formatted);
     }
-    fs::remove_file(&rt, path.as_str())?;
-    Ok(())
+    remove(&rt, path.as_str());
 }
 
 /// A device may be longer than 4 GiB, and is reached by a path of 3,900 bytes.
 #[test]
-fn the_longest_device_is_as_any_other(rt: HostRuntime) -> Result<(), Fail> {
-    let path = path_of(&rt, "longest")?;
-    let long = lengthened(rt.alloc(), path.as_str())?;
-    expect_long_device(&rt, long.as_str())?;
-    fs::remove_file(&rt, path.as_str())?;
-    Ok(())
+fn the_longest_device_is_as_any_other(rt: HostRuntime) {
+    let path = path_of(&rt, rt, "longest");
+    let long = lengthened(&rt, path.as_str());
+    expect_long_device(&rt, long.as_str());
+    remove(&rt, path.as_str());
 }
 
 /// The same path by 1,900 steps more, each of which stays in its folder.
-pub(super) fn lengthened(alloc: Global, path: &str) -> Result<String, Fail> {
-    let (folder, name) = path.rsplit_once('/').ok_or("a folder")?;
+pub(super) fn lengthened(rt: &(impl Abort + AllocGlobal), path: &str) -> String {
+    let (folder, name) = path.rsplit_once('/').expect(rt, "a folder");
+    longer(rt.alloc(), folder, name).ok().expect(rt, "memory")
+}
+
+/// The path of a name in a folder, by 1,900 steps more.
+fn longer(alloc: Global, folder: &str, name: &str) -> Result<String, AllocError> {
     let mut long = String::from_str(alloc, folder)?;
     for _step in 0..1_900 {
         long.push_str("/.")?;

@@ -1,31 +1,21 @@
 //! Keys and their files.
 
-use crate::devices::path_of;
+use crate::files::{make_file, path_of, remove, write};
 use crate::programs::finish;
 use crate::serving::{expect_end, plan_with};
 use rly_daemon::{Host, KeyWord, NewKeyFault, key_in, write_key};
 use rly_tag::Key;
-use std::fs::{File, Permissions};
-use std::io::{Error, ErrorKind, Write};
-use std::os::unix::fs::PermissionsExt;
+use std::alloc::{AllocError, Global};
+use std::io;
+use std::io::{Error, ErrorKind};
 use std::process::Abort;
 use std::random::RandomSource;
-use std::test::Fail;
-use std::{fs, io};
 
 /// The worked key of docs/PROTOCOL.md.
 pub(super) const LINE: &str = "000102030405060708090a0b0c0d0e0f101112131415161718191a1b1c1d1e1f\n";
 
 /// Another key.
 pub(super) const OTHER: &str = "f0e1d2c3b4a5968778695a4b3c2d1e0ff0e1d2c3b4a5968778695a4b3c2d1e0f\n";
-
-/// Makes a file of a text, with these permissions.
-pub(super) fn make_file(rt: &impl Host, path: &str, text: &str, mode: u32) -> Result<(), Fail> {
-    let mut file = File::create(rt, path)?;
-    file.write_all(text.as_bytes())?;
-    file.set_permissions(Permissions::from_mode(mode))?;
-    Ok(())
-}
 
 /// A source that gives 0, 1, 2, ..
 #[derive(Drop)]
@@ -92,18 +82,22 @@ const MODES: [(u32, bool); 8] = [
     (0o100_644, false),
 ];
 
+/// Checks whether a key of a file with these permissions may be used.
+fn expect_mode(rt: &impl Abort, mode: u32, is_taken: bool) {
+    let found = key_in(mode, LINE.as_bytes());
+    assert!(rt; found.is_ok() == is_taken, "{mode:o}");
+    let is_shared = matches!(found, Err(KeyWord::Shared(_)));
+    assert!(rt; is_taken || is_shared, "{mode:o}");
+}
+
 /// A key is taken only from a file that nobody but its owner can use.
 #[test]
 fn a_key_is_its_owners(rt: HostRuntime) {
     for (mode, is_taken) in &MODES {
-        let found = key_in(*mode, LINE.as_bytes());
-        assert!(rt; found.is_ok() == *is_taken, "{mode:o}");
-        if !*is_taken {
-            assert!(rt; matches!(found, Err(KeyWord::Shared(_))), "{mode:o}");
-        }
+        expect_mode(&rt, *mode, *is_taken);
     }
-    assert!(rt; matches!(key_in(0o100_600, b"key"), Err(KeyWord::Form)));
-    assert!(rt; matches!(key_in(0o100_644, b"key"), Err(KeyWord::Shared(0o44))));
+    expect!(rt; matches!(key_in(0o100_600, b"key"), Err(KeyWord::Form)));
+    expect!(rt; matches!(key_in(0o100_644, b"key"), Err(KeyWord::Shared(0o44))));
 }
 
 /// Files that hold no key for a link: their text, their permissions, and what is told of them.
@@ -128,60 +122,71 @@ f0e1d2c3b4a5968778695a4b3c2d1e0ff0e1d2c3b4a5968778695a4b3c2d1e0f\n\n",
     ),
 ];
 
+/// What is told where a key's file isn't there, and where a relay's keys are right and its device isn't there.
+const NO_FILE: &str = "No such file or directory (os error 2)";
+
+const NO_DEVICE: &str = "refused 23 device\nrly: device: No such file or directory (os error 2)\n";
+
 /// Checks what is told of a key's file, of a relay whose device isn't there: the keys are looked at before it.
-fn expect_fault(rt: &(impl Abort + Host), plan: &str, key: &str, told: &str) -> Result<(), Fail> {
-    let errors = format!(in rt.alloc(); "rly: key failed\nrly: hop 1: key {key}: {told}\n")?;
+fn expect_fault(rt: &(impl Abort + Host), plan: &str, key: &str, told: &str) {
+    let errors = format!(in rt.alloc(); "rly: key failed\nrly: hop 1: key {key}: {told}\n");
+    let errors = errors.ok().expect(rt, "memory");
     expect_end(rt, "/nowhere/device", plan, 1, errors.as_str());
-    Ok(())
 }
 
-/// Writes a plan whose hop has a key in this file.
-fn write_plan(rt: &impl Host, plan: &str, key: &str) -> Result<(), Fail> {
-    let mut text = plan_with(rt.alloc(), 1, 1, "127.0.0.1:4049", "127.0.0.1:4049")?;
+/// A plan whose hop has a key in this file.
+fn keyed_plan(alloc: Global, key: &str) -> Result<String, AllocError> {
+    let mut text = plan_with(alloc, 1, 1, "127.0.0.1:4049", "127.0.0.1:4049")?;
     writeln!(text, "key = \"{key}\"")?;
-    fs::write(rt, plan, text.as_str())?;
-    Ok(())
+    Ok(text)
+}
+
+/// Writes that plan.
+fn write_plan(rt: &(impl Abort + Host), plan: &str, key: &str) {
+    let text = keyed_plan(rt.alloc(), key).ok().expect(rt, "memory");
+    write(rt, plan, text.as_bytes());
+}
+
+/// Checks what is told of a plan whose key isn't there, and where its file holds none.
+fn expect_faults(rt: &(impl Abort + Host), plan: &str, key: &str) {
+    write_plan(rt, plan, key);
+    expect_fault(rt, plan, key, NO_FILE);
+    for (text, mode, told) in &FAULTS {
+        make_file(rt, key, *text, *mode);
+        expect_fault(rt, plan, key, *told);
+        remove(rt, key);
+    }
+}
+
+/// Checks that a relay gets as far as its device with a key in a file of these permissions, which its plan calls so. Both files are
+/// removed.
+fn expect_right(rt: &(impl Abort + Host), plan: &str, key: &str, name: &str, mode: u32) {
+    make_file(rt, key, LINE, mode);
+    write_plan(rt, plan, name);
+    expect_end(rt, "/nowhere/device", plan, 1, NO_DEVICE);
+    remove(rt, key);
+    remove(rt, plan);
 }
 
 /// A relay isn't started where a key's file isn't there, isn't of a key's form, or isn't its owner's alone. What is told names the
 /// file.
 #[test]
-fn a_relay_needs_its_keys(rt: HostRuntime) -> Result<(), Fail> {
-    let plan = path_of(&rt, "keyed-plan")?;
-    let key = path_of(&rt, "hop.key")?;
-    write_plan(&rt, plan.as_str(), key.as_str())?;
-    let none = "No such file or directory (os error 2)";
-    expect_fault(&rt, plan.as_str(), key.as_str(), none)?;
-    for (text, mode, told) in &FAULTS {
-        make_file(&rt, key.as_str(), *text, *mode)?;
-        expect_fault(&rt, plan.as_str(), key.as_str(), *told)?;
-        fs::remove_file(&rt, key.as_str())?;
-    }
-    write_plan(&rt, plan.as_str(), "/")?;
-    let folder = "Is a directory (os error 21)";
-    expect_fault(&rt, plan.as_str(), "/", folder)?;
-    make_file(&rt, key.as_str(), LINE, 0o600)?;
-    write_plan(&rt, plan.as_str(), key.as_str())?;
-    let device = "refused 23 device\nrly: device: No such file or directory (os error 2)\n";
-    expect_end(&rt, "/nowhere/device", plan.as_str(), 1, device);
-    fs::remove_file(&rt, key.as_str())?;
-    fs::remove_file(&rt, plan.as_str())?;
-    Ok(())
+fn a_relay_needs_its_keys(rt: HostRuntime) {
+    let plan = path_of(&rt, rt, "keyed-plan");
+    let key = path_of(&rt, rt, "hop.key");
+    expect_faults(&rt, plan.as_str(), key.as_str());
+    write_plan(&rt, plan.as_str(), "/");
+    expect_fault(&rt, plan.as_str(), "/", "Is a directory (os error 21)");
+    expect_right(&rt, plan.as_str(), key.as_str(), key.as_str(), 0o600);
 }
 
 /// A path that isn't absolute begins at the plan's folder.
 #[test]
-fn a_key_lies_beside_its_plan(rt: HostRuntime) -> Result<(), Fail> {
-    let plan = path_of(&rt, "beside-plan")?;
-    let key = path_of(&rt, "beside.key")?;
-    let (_folder, name) = key.as_str().rsplit_once('/').ok_or("a folder")?;
-    write_plan(&rt, plan.as_str(), name)?;
-    let none = "No such file or directory (os error 2)";
-    expect_fault(&rt, plan.as_str(), key.as_str(), none)?;
-    make_file(&rt, key.as_str(), LINE, 0o400)?;
-    let device = "refused 23 device\nrly: device: No such file or directory (os error 2)\n";
-    expect_end(&rt, "/nowhere/device", plan.as_str(), 1, device);
-    fs::remove_file(&rt, key.as_str())?;
-    fs::remove_file(&rt, plan.as_str())?;
-    Ok(())
+fn a_key_lies_beside_its_plan(rt: HostRuntime) {
+    let plan = path_of(&rt, rt, "beside-plan");
+    let key = path_of(&rt, rt, "beside.key");
+    let (_folder, name) = key.as_str().rsplit_once('/').expect(&rt, "a folder");
+    write_plan(&rt, plan.as_str(), name);
+    expect_fault(&rt, plan.as_str(), key.as_str(), NO_FILE);
+    expect_right(&rt, plan.as_str(), key.as_str(), name, 0o400);
 }

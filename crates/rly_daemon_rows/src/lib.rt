@@ -21,6 +21,7 @@ mod devices;
 #[cfg(test)]
 mod expect;
 #[cfg(test)]
+mod files;
 #[cfg(test)]
 mod keys;
 #[cfg(test)]

@@ -8,36 +8,61 @@ use rly_threads::{Link, MAX_PACKET, Point, Turn, Worker};
 use std::net::UdpSocket;
 use std::process::Abort;
 use std::sync::Wait;
-use std::test::Fail;
 use std::time::{Clock, Duration};
 
+/// A plan whose links have these addresses.
+fn plan_of(rt: &(impl Abort + AllocGlobal), listen: &str, remote: &str) -> Plan {
+    let text = plan_with(rt.alloc(), 1, 1, listen, remote)
+        .ok()
+        .expect(rt, "memory");
+    Plan::from_toml(rt.alloc(), text.as_str())
+        .ok()
+        .expect(rt, "a plan")
+}
+
 /// A link that receives at one address and sends to another.
-fn link_of(rt: HostRuntime, listen: &str, remote: &str) -> Result<UdpLink<HostRuntime>, Fail> {
-    let text = plan_with(rt.alloc(), 1, 1, listen, remote)?;
-    let plan = Plan::from_toml(rt.alloc(), text.as_str())?;
-    let neighbour = plan.peer(PeerId(1)).ok_or("peer 1")?;
-    Ok(UdpLink::open(&rt, rt, &neighbour.addresses)?)
+fn link_of(
+    rt: &(impl Abort + Host),
+    clock: HostRuntime,
+    listen: &str,
+    remote: &str,
+) -> UdpLink<HostRuntime> {
+    let plan = plan_of(rt, listen, remote);
+    let neighbour = plan.peer(PeerId(1)).expect(rt, "peer 1");
+    UdpLink::open(rt, clock, &neighbour.addresses)
+        .ok()
+        .expect(rt, "a link")
 }
 
 /// At which end the system refuses a link's addresses.
-fn refused_end(rt: HostRuntime, listen: &str, remote: &str) -> Result<End, Fail> {
-    let text = plan_with(rt.alloc(), 1, 1, listen, remote)?;
-    let plan = Plan::from_toml(rt.alloc(), text.as_str())?;
-    let neighbour = plan.peer(PeerId(1)).ok_or("peer 1")?;
-    let fault = UdpLink::open(&rt, rt, &neighbour.addresses)
+fn refused_end(rt: &(impl Abort + Host), clock: HostRuntime, listen: &str, remote: &str) -> End {
+    let plan = plan_of(rt, listen, remote);
+    let neighbour = plan.peer(PeerId(1)).expect(rt, "peer 1");
+    let fault = UdpLink::open(rt, clock, &neighbour.addresses)
         .err()
-        .ok_or("a fault")?;
-    Ok(fault.end)
+        .expect(rt, "a fault");
+    fault.end
 }
 
 /// A link receives at a port that its neighbour can know, so at none that the system picks, and sends to an address that there is.
 #[test]
-fn a_link_has_two_addresses(rt: HostRuntime) -> Result<(), Fail> {
+fn a_link_has_two_addresses(rt: HostRuntime) {
     let there = "127.0.0.1:4029";
-    expect!(rt; refused_end(rt, "127.0.0.1:0", there)? == End::Listen);
-    expect!(rt; refused_end(rt, "nowhere", there)? == End::Listen);
-    expect!(rt; refused_end(rt, there, "nowhere")? == End::Remote);
-    Ok(())
+    expect!(rt; refused_end(&rt, rt, "127.0.0.1:0", there) == End::Listen);
+    expect!(rt; refused_end(&rt, rt, "nowhere", there) == End::Listen);
+    expect!(rt; refused_end(&rt, rt, there, "nowhere") == End::Remote);
+}
+
+/// A socket at an address.
+fn bound(rt: &(impl Abort + Host), address: &str) -> UdpSocket {
+    UdpSocket::bind(rt, address).ok().expect(rt, "a socket")
+}
+
+/// Sends a packet from a socket of its own.
+fn put(rt: &(impl Abort + Host), packet: &[u8], address: &str) {
+    let other = bound(rt, "127.0.0.1:0");
+    let sent = other.send_to(packet, address);
+    expect!(*rt; sent.is_ok());
 }
 
 /// Checks that a link gives a packet of so many bytes for one that another socket sends.
@@ -46,38 +71,47 @@ fn expect_heard(
     link: &mut UdpLink<HostRuntime>,
     sent: &[u8],
     count: usize,
-) -> Result<(), Fail> {
+) {
     let mut buffer = [0; MAX_PACKET];
-    let other = UdpSocket::bind(rt, "127.0.0.1:0")?;
-    other.send_to(sent, "127.0.0.1:4021")?;
-    expect!(rt; link.recv(&mut buffer) == Ok(Some(count)));
-    expect!(rt; buffer.get(..count) == sent.get(..count));
-    Ok(())
+    put(rt, sent, "127.0.0.1:4021");
+    expect!(*rt; link.recv(&mut buffer) == Ok(Some(count)));
+    expect!(*rt; buffer.get(..count) == sent.get(..count));
 }
 
-/// Checks that a packet comes to the neighbour's socket, and so does one of 1,234 bytes: the longest, with its tag.
-fn expect_sent(rt: &(impl Abort + Host), link: &mut UdpLink<HostRuntime>) -> Result<(), Fail> {
+/// Checks that a packet comes to the neighbour's socket.
+fn expect_sent(
+    rt: &(impl Abort + Host),
+    link: &mut UdpLink<HostRuntime>,
+    remote: &UdpSocket,
+    packet: &[u8],
+) {
     let mut buffer = [0; MAX_PACKET];
-    let remote = UdpSocket::bind(rt, "127.0.0.1:4022")?;
-    remote.set_read_timeout(Some(Duration::from_millis(1_000)))?;
-    for packet in [b"xyz".as_slice(), [7; 1_234].as_slice()] {
-        expect!(rt; link.send(packet) == Ok(()));
-        expect!(rt; remote.recv(&mut buffer)? == packet.len());
-        expect!(rt; buffer.starts_with(packet));
-    }
-    Ok(())
+    expect!(*rt; link.send(packet) == Ok(()));
+    let count = remote.recv(&mut buffer).ok().expect(rt, "a packet");
+    expect!(*rt; count == packet.len());
+    expect!(*rt; buffer.starts_with(packet));
 }
 
-/// A link hears packets from any address, and sends to its neighbour's. A packet that is too long for its buffer is cut.
+/// The neighbour's socket, which waits a second for a packet.
+fn neighbour_s(rt: &(impl Abort + Host)) -> UdpSocket {
+    let remote = bound(rt, "127.0.0.1:4022");
+    let set = remote.set_read_timeout(Some(Duration::from_millis(1_000)));
+    expect!(*rt; set.is_ok());
+    remote
+}
+
+/// A link hears packets from any address, and sends to its neighbour's. A packet that is too long for its buffer is cut. The longest
+/// that it sends has 1,234 bytes, with its tag.
 #[test]
-fn a_link_carries_packets(rt: HostRuntime) -> Result<(), Fail> {
-    let mut link = link_of(rt, "127.0.0.1:4021", "127.0.0.1:4022")?;
+fn a_link_carries_packets(rt: HostRuntime) {
+    let mut link = link_of(&rt, rt, "127.0.0.1:4021", "127.0.0.1:4022");
     expect!(rt; link.recv(&mut [0; MAX_PACKET]) == Ok(None));
-    expect_heard(&rt, &mut link, b"abc", 3)?;
-    expect_heard(&rt, &mut link, &[7; 1_400], MAX_PACKET)?;
-    expect_sent(&rt, &mut link)?;
+    expect_heard(&rt, &mut link, b"abc", 3);
+    expect_heard(&rt, &mut link, &[7; 1_400], MAX_PACKET);
+    let remote = neighbour_s(&rt);
+    expect_sent(&rt, &mut link, &remote, b"xyz");
+    expect_sent(&rt, &mut link, &remote, &[7; 1_234]);
     expect!(rt; link.failures() == 0);
-    Ok(())
 }
 
 /// Checks that each send of a packet that UDP can't carry fails, and is counted.
@@ -86,66 +120,87 @@ fn expect_counted(rt: &(impl Abort + Host), link: &mut UdpLink<HostRuntime>, pac
         expect!(rt; link.send(packet).is_err());
         expect!(rt; link.failures() == count);
     }
-    assert!(rt; link.send(b"abc").is_ok());
+    expect!(*rt; link.send(b"abc").is_ok());
     expect!(rt; link.failures() == 3);
 }
 
-/// Checks that a link gives a packet to a receive that doesn't wait, if one is there, and waits again then.
-fn expect_tried(rt: &(impl Abort + Host), link: &mut UdpLink<HostRuntime>) -> Result<(), Fail> {
+/// The time since the machine started.
+fn now(rt: &(impl Abort + Host)) -> Duration {
+    rt.monotonic().ok().expect(rt, "a clock")
+}
+
+/// Checks that a link gives a packet to a receive that doesn't wait, if one is there.
+fn expect_tried(rt: &(impl Abort + Host), link: &mut UdpLink<HostRuntime>) {
     let mut buffer = [0; MAX_PACKET];
-    let other = UdpSocket::bind(rt, "127.0.0.1:0")?;
-    other.send_to(b"abc", "127.0.0.1:4025")?;
-    expect!(rt; link.try_recv(&mut buffer) == Ok(Some(3)));
-    expect!(rt; &buffer[..3] == b"abc".as_slice());
-    let before = rt.monotonic()?;
+    put(rt, b"abc", "127.0.0.1:4025");
+    expect!(*rt; link.try_recv(&mut buffer) == Ok(Some(3)));
+    expect!(*rt; &buffer[..3] == b"abc".as_slice());
+}
+
+/// Checks that 200 receives that don't wait end in less than a second, where nothing comes.
+fn expect_no_wait(rt: &(impl Abort + Host), link: &mut UdpLink<HostRuntime>) {
+    let mut buffer = [0; MAX_PACKET];
+    let before = now(rt);
     for _receive in 0..200 {
-        expect!(rt; link.try_recv(&mut buffer) == Ok(None));
+        expect!(*rt; link.try_recv(&mut buffer) == Ok(None));
     }
-    let tried = rt.monotonic()?;
-    expect!(rt; tried.saturating_sub(before) < Duration::from_millis(1_000));
-    expect!(rt; link.recv(&mut buffer) == Ok(None));
-    expect!(rt; rt.monotonic()?.saturating_sub(tried) >= Duration::from_millis(5));
-    Ok(())
+    expect!(*rt; now(rt).saturating_sub(before) < Duration::from_millis(1_000));
 }
 
-/// A receive that doesn't wait answers at once: 200 that waited would take two seconds.
+/// Checks that a link waits for 5 ms at least, where nothing comes.
+fn expect_wait(rt: &(impl Abort + Host), link: &mut UdpLink<HostRuntime>) {
+    let before = now(rt);
+    expect!(*rt; link.recv(&mut [0; MAX_PACKET]) == Ok(None));
+    expect!(*rt; now(rt).saturating_sub(before) >= Duration::from_millis(5));
+}
+
+/// A receive that doesn't wait answers at once: 200 that waited would take two seconds. One after them waits again.
 #[test]
-fn a_link_is_tried(rt: HostRuntime) -> Result<(), Fail> {
-    let mut link = link_of(rt, "127.0.0.1:4025", "127.0.0.1:4026")?;
-    expect_tried(&rt, &mut link)?;
+fn a_link_is_tried(rt: HostRuntime) {
+    let mut link = link_of(&rt, rt, "127.0.0.1:4025", "127.0.0.1:4026");
+    expect_tried(&rt, &mut link);
+    expect_no_wait(&rt, &mut link);
+    expect_wait(&rt, &mut link);
     expect!(rt; link.failures() == 0);
-    Ok(())
 }
 
-/// Checks that each of many empty packets ends a wait, and gives nothing.
-fn expect_woken(rt: &(impl Abort + Host), link: &mut UdpLink<HostRuntime>) -> Result<(), Fail> {
-    let other = UdpSocket::bind(rt, "127.0.0.1:0")?;
-    let before = rt.monotonic()?;
-    for _packet in 0..200 {
-        other.send_to(b"", "127.0.0.1:4027")?;
-        expect!(rt; link.recv(&mut [0; MAX_PACKET]) == Ok(None));
-    }
-    let woken = rt.monotonic()?;
-    expect!(rt; woken.saturating_sub(before) < Duration::from_millis(1_000));
-    Ok(())
+/// Checks that an empty packet ends a wait, and gives nothing.
+fn expect_woken(rt: &(impl Abort + Host), link: &mut UdpLink<HostRuntime>, other: &UdpSocket) {
+    let sent = other.send_to(b"", "127.0.0.1:4027");
+    expect!(*rt; sent.is_ok());
+    expect!(*rt; link.recv(&mut [0; MAX_PACKET]) == Ok(None));
 }
 
 /// An empty packet ends a wait and isn't heard: 200 waits take two seconds.
 #[test]
-fn an_empty_packet_ends_a_wait(rt: HostRuntime) -> Result<(), Fail> {
-    let mut link = link_of(rt, "127.0.0.1:4027", "127.0.0.1:4028")?;
-    expect_woken(&rt, &mut link)?;
+fn an_empty_packet_ends_a_wait(rt: HostRuntime) {
+    let mut link = link_of(&rt, rt, "127.0.0.1:4027", "127.0.0.1:4028");
+    let other = bound(&rt, "127.0.0.1:0");
+    let before = now(&rt);
+    for _packet in 0..200 {
+        expect_woken(&rt, &mut link, &other);
+    }
+    expect!(rt; now(&rt).saturating_sub(before) < Duration::from_millis(1_000));
     expect!(rt; link.failures() == 0);
-    Ok(())
 }
 
 /// Each send of a packet that UDP can't carry fails, and is counted.
 #[test]
-fn failures_of_a_link_are_counted(rt: HostRuntime) -> Result<(), Fail> {
-    let mut link = link_of(rt, "127.0.0.1:4023", "127.0.0.1:4024")?;
-    let packet = vec![in rt.alloc(); 0u8; 65_536]?;
+fn failures_of_a_link_are_counted(rt: HostRuntime) {
+    let mut link = link_of(&rt, rt, "127.0.0.1:4023", "127.0.0.1:4024");
+    let packet = Vec::from_elem(rt.alloc(), 0u8, 65_536).expect(&rt, "memory");
     expect_counted(&rt, &mut link, packet.as_slice());
-    Ok(())
+}
+
+/// The system's moments in microseconds: since 1970, and since the machine started.
+fn moments(rt: &(impl Abort + Host)) -> (u128, u128) {
+    let wall = rt.since_1970().ok().expect(rt, "a clock");
+    (wall.as_micros(), now(rt).as_micros())
+}
+
+/// Whether a moment is from one to another.
+fn is_from(first: u128, moment: u64, last: u128) -> bool {
+    first <= u128::from(moment) && u128::from(moment) <= last
 }
 
 /// The moments at a point are the system's, in microseconds. At the next point they are the same, if it reads no clock.
@@ -154,31 +209,35 @@ fn expect_moments(
     turn: &mut WallClock<HostRuntime>,
     point: Point,
     next: Point,
-) -> Result<(), Fail> {
+) {
     let worker = Worker::Receiver(PeerId(1));
-    let before = (rt.since_1970()?.as_micros(), rt.monotonic()?.as_micros());
+    let before = moments(rt);
     let go = turn.between(rt, worker, point);
-    let after = (rt.since_1970()?.as_micros(), rt.monotonic()?.as_micros());
-    expect!(rt; before.0 <= u128::from(go.now) && u128::from(go.now) <= after.0);
-    expect!(rt; before.1 <= u128::from(go.since) && u128::from(go.since) <= after.1);
+    let after = moments(rt);
+    expect!(*rt; is_from(before.0, go.now, after.0));
+    expect!(*rt; is_from(before.1, go.since, after.1));
     let held = turn.between(rt, worker, next);
-    expect!(rt; (held.now, held.since) == (go.now, go.since));
-    Ok(())
+    expect!(*rt; (held.now, held.since) == (go.now, go.since));
 }
 
 /// The moments are those after a packet or an answer was waited for, and the turns end.
 #[test]
-fn a_wall_clock_ends_its_worker(rt: HostRuntime) -> Result<(), Fail> {
+fn a_wall_clock_ends_its_worker(rt: HostRuntime) {
     let worker = Worker::Receiver(PeerId(1));
     let mut turn = WallClock::new(rt, 3);
     for on in [true, true, true, false, false] {
         expect!(rt; turn.between(&rt, worker, Point::Start).on == on);
-        expect_moments(&rt, &mut turn, Point::Heard, Point::Call)?;
-        expect_moments(&rt, &mut turn, Point::Answered, Point::Call)?;
+        expect_moments(&rt, &mut turn, Point::Heard, Point::Call);
+        expect_moments(&rt, &mut turn, Point::Answered, Point::Call);
     }
+}
+
+/// Turns without a number don't end.
+#[test]
+fn an_endless_wall_clock_goes_on(rt: HostRuntime) {
+    let worker = Worker::Receiver(PeerId(1));
     let mut endless = WallClock::new(rt, 0);
     for _turn in 0..100 {
         expect!(rt; endless.between(&rt, worker, Point::Start).on);
     }
-    Ok(())
 }

@@ -1,13 +1,13 @@
 //! `rly plan`: a plan in a file as text, up to the status.
 
-use crate::devices::{lengthened, path_of};
-use crate::keys::{LINE, make_file};
+use crate::devices::lengthened;
+use crate::files::{make_file, path_of, remove, write};
+use crate::keys::LINE;
 use crate::programs::{expect, finish};
 use rly_daemon::Host;
-use std::alloc::Global;
+use std::alloc::{AllocError, Global};
 use std::fs;
 use std::process::Abort;
-use std::test::Fail;
 
 /// A hop that is open from 100 to 200 and from 300 to 350, and one that is never open.
 const PLAN: &str = "station = 7
@@ -57,62 +57,93 @@ hop 2 contact closed
 route 12 hop 2
 ";
 
-/// Checks what is told of a plan at moments, and now, which is after its contacts.
-fn expect_told(rt: &(impl Abort + Host), plan: &str) {
-    let words = ["rly", "plan", plan, "--at", "150"];
-    expect(rt, &words, b"", 0, OPEN.as_bytes(), b"");
-    let words = ["rly", "plan", plan, "--at", "250"];
-    expect(rt, &words, b"", 0, CLOSED.as_bytes(), b"");
-    let now = finish(rt, &["rly", "plan", plan], b"");
-    assert!(rt; now.status == 0 && now.errors.is_empty());
-    assert!(rt; now.output.starts_with(b"at 20") && now.output.ends_with(PASSED.as_bytes()));
+/// Checks what is told of a plan at a moment.
+fn expect_at(rt: &(impl Abort + Host), plan: &str, moment: &str, told: &str) {
+    let words = ["rly", "plan", plan, "--at", moment];
+    expect(rt, &words, b"", 0, told.as_bytes(), b"");
 }
 
-/// A folder with the plan in it, and the paths of the plan and of the key that it names.
-fn made_folder(rt: &HostRuntime, name: &str) -> Result<(String, String, String), Fail> {
-    let folder = path_of(rt, name)?;
-    let plan = format!(in rt.alloc(); "{}/plan.toml", folder.as_str())?;
-    let key = format!(in rt.alloc(); "{}/ten.key", folder.as_str())?;
-    fs::create_dir(rt, folder.as_str())?;
-    fs::write(rt, plan.as_str(), PLAN)?;
-    Ok((folder, plan, key))
+/// Checks what is told of a plan now, which is after its contacts.
+fn expect_now(rt: &(impl Abort + Host), plan: &str) {
+    let now = finish(rt, &["rly", "plan", plan], b"");
+    expect!(*rt; now.status == 0 && now.errors.is_empty());
+    expect!(*rt; now.output.starts_with(b"at 20"));
+    expect!(*rt; now.output.ends_with(PASSED.as_bytes()));
+}
+
+/// Checks what is told of a plan at moments, and now.
+fn expect_told(rt: &(impl Abort + Host), plan: &str) {
+    expect_at(rt, plan, "150", OPEN);
+    expect_at(rt, plan, "250", CLOSED);
+    expect_now(rt, plan);
+}
+
+/// The path of a file in a folder.
+fn path_in(rt: &(impl Abort + Host), folder: &str, name: &str) -> String {
+    let path = format!(in rt.alloc(); "{folder}/{name}");
+    path.ok().expect(rt, "memory")
+}
+
+/// Makes a folder with the plan in it. The path of the plan.
+fn made_plan(rt: &(impl Abort + Host), folder: &str) -> String {
+    let made = fs::create_dir(rt, folder);
+    expect!(*rt; made.is_ok());
+    let plan = path_in(rt, folder, "plan.toml");
+    write(rt, plan.as_str(), PLAN.as_bytes());
+    plan
+}
+
+/// Removes a folder and what is in it.
+fn remove_folder(rt: &(impl Abort + Host), folder: &str) {
+    let removed = fs::remove_dir_all(rt, folder);
+    expect!(*rt; removed.is_ok());
 }
 
 /// Keys of links are read from beside the plan, and aren't told. The plan's path may have 3,900 bytes.
 #[test]
-fn a_plan_is_told(rt: HostRuntime) -> Result<(), Fail> {
-    let (folder, plan, key) = made_folder(&rt, "told")?;
-    make_file(&rt, key.as_str(), LINE, 0o600)?;
+fn a_plan_is_told(rt: HostRuntime) {
+    let folder = path_of(&rt, rt, "told");
+    let plan = made_plan(&rt, folder.as_str());
+    let key = path_in(&rt, folder.as_str(), "ten.key");
+    make_file(&rt, key.as_str(), LINE, 0o600);
     expect_told(&rt, plan.as_str());
-    let long = lengthened(rt.alloc(), plan.as_str())?;
+    let long = lengthened(&rt, plan.as_str());
     expect_told(&rt, long.as_str());
-    fs::remove_dir_all(&rt, folder.as_str())?;
-    Ok(())
+    remove_folder(&rt, folder.as_str());
 }
 
 /// Checks what is told of a plan whose hop 2 has no key in its file, and that nothing is put out.
-fn expect_no_key(rt: &(impl Abort + Host), plan: &str, key: &str, told: &str) -> Result<(), Fail> {
-    let errors = format!(in rt.alloc(); "rly: key failed\nrly: hop 2: key {key}: {told}\n")?;
+fn expect_no_key(rt: &(impl Abort + Host), plan: &str, key: &str, told: &str) {
+    let errors = format!(in rt.alloc(); "rly: key failed\nrly: hop 2: key {key}: {told}\n");
+    let errors = errors.ok().expect(rt, "memory");
     let words = ["rly", "plan", plan, "--at=150"];
     expect(rt, &words, b"", 1, b"", errors.as_bytes());
-    Ok(())
 }
+
+/// Files that hold no key for hop 2: their text, their permissions, and what is told of them.
+const KEYS: [(&str, u32, &str); 2] = [
+    ("00\n", 0o600, "it isn't one line of 64 hex digits, or two"),
+    (
+        LINE,
+        0o640,
+        "it has permissions 40 for others than its owner",
+    ),
+];
 
 /// A plan whose keys `serve` would refuse is refused.
 #[test]
-fn a_plan_needs_its_keys(rt: HostRuntime) -> Result<(), Fail> {
-    let (folder, plan, key) = made_folder(&rt, "keyless")?;
+fn a_plan_needs_its_keys(rt: HostRuntime) {
+    let folder = path_of(&rt, rt, "keyless");
+    let plan = made_plan(&rt, folder.as_str());
+    let key = path_in(&rt, folder.as_str(), "ten.key");
     let none = "No such file or directory (os error 2)";
-    expect_no_key(&rt, plan.as_str(), key.as_str(), none)?;
-    make_file(&rt, key.as_str(), "00\n", 0o600)?;
-    let form = "it isn't one line of 64 hex digits, or two";
-    expect_no_key(&rt, plan.as_str(), key.as_str(), form)?;
-    fs::remove_file(&rt, key.as_str())?;
-    make_file(&rt, key.as_str(), LINE, 0o640)?;
-    let shared = "it has permissions 40 for others than its owner";
-    expect_no_key(&rt, plan.as_str(), key.as_str(), shared)?;
-    fs::remove_dir_all(&rt, folder.as_str())?;
-    Ok(())
+    expect_no_key(&rt, plan.as_str(), key.as_str(), none);
+    for (text, mode, told) in &KEYS {
+        make_file(&rt, key.as_str(), *text, *mode);
+        expect_no_key(&rt, plan.as_str(), key.as_str(), *told);
+        remove(&rt, key.as_str());
+    }
+    remove_folder(&rt, folder.as_str());
 }
 
 /// Plans that are refused, and what is told.
@@ -126,23 +157,28 @@ const REFUSED: [(&str, &str); 4] = [
     ("", "refused 50 plan\nrly: plan: at station\n"),
 ];
 
+/// What is told of a plan that isn't there.
+const NO_PLAN: &[u8] = b"rly: plan failed\nrly: plan: No such file or directory (os error 2)\n";
+
+/// Checks that a plan isn't told, and what is said of it.
+fn expect_refused(rt: &(impl Abort + Host), plan: &str, errors: &[u8]) {
+    expect(rt, &["rly", "plan", plan], b"", 1, b"", errors);
+}
+
 /// Nothing is put out of a plan that is refused, or isn't there.
 #[test]
-fn a_plan_that_is_none_is_refused(rt: HostRuntime) -> Result<(), Fail> {
-    let plan = path_of(&rt, "refused-plan")?;
-    let words = ["rly", "plan", plan.as_str()];
+fn a_plan_that_is_none_is_refused(rt: HostRuntime) {
+    let plan = path_of(&rt, rt, "refused-plan");
     for (text, errors) in &REFUSED {
-        fs::write(&rt, plan.as_str(), *text)?;
-        expect(&rt, &words, b"", 1, b"", errors.as_bytes());
+        write(&rt, plan.as_str(), text.as_bytes());
+        expect_refused(&rt, plan.as_str(), errors.as_bytes());
     }
-    fs::remove_file(&rt, plan.as_str())?;
-    let none = "rly: plan failed\nrly: plan: No such file or directory (os error 2)\n";
-    expect(&rt, &words, b"", 1, b"", none.as_bytes());
-    Ok(())
+    remove(&rt, plan.as_str());
+    expect_refused(&rt, plan.as_str(), NO_PLAN);
 }
 
 /// A plan of 64 peers and 64 hops, each with the key of this file.
-fn keyed_plan(alloc: Global, key: &str) -> Result<String, Fail> {
+fn keyed_plan(alloc: Global, key: &str) -> Result<String, AllocError> {
     let mut text = String::new(alloc);
     writeln!(text, "station = 7")?;
     for id in 1..=64 {
@@ -160,20 +196,28 @@ fn keyed_plan(alloc: Global, key: &str) -> Result<String, Fail> {
     Ok(text)
 }
 
+/// Writes the plan of 64 peers and 64 hops.
+fn write_greatest(rt: &(impl Abort + Host), plan: &str, key: &str) {
+    let text = keyed_plan(rt.alloc(), key).ok().expect(rt, "memory");
+    write(rt, plan, text.as_bytes());
+}
+
+/// Checks what is told of it: the moment, the station, 64 peers, and three lines for each of 64 hops.
+fn expect_greatest(rt: &(impl Abort + Host), plan: &str) {
+    let told = finish(rt, &["rly", "plan", plan, "--at=0"], b"");
+    expect!(*rt; told.status == 0 && told.errors.is_empty());
+    expect!(*rt; told.output.iter().filter(|byte| **byte == b'\n').count() == 258);
+    expect!(*rt; told.output.ends_with(b"\nhop 64 resend 160 contacts 0 open 0\nhop 64 contact closed\n"));
+}
+
 /// Each of 128 links of a plan may have a key, and all are told.
 #[test]
-fn the_greatest_plan_is_told(rt: HostRuntime) -> Result<(), Fail> {
-    let plan = path_of(&rt, "greatest-plan")?;
-    let key = path_of(&rt, "greatest.key")?;
-    make_file(&rt, key.as_str(), LINE, 0o600)?;
-    let text = keyed_plan(rt.alloc(), key.as_str())?;
-    fs::write(&rt, plan.as_str(), text.as_str())?;
-    let told = finish(&rt, &["rly", "plan", plan.as_str(), "--at=0"], b"");
-    expect!(rt; told.status == 0 && told.errors.is_empty());
-    // The moment, the station, 64 peers, and three lines for each of 64 hops.
-    expect!(rt; told.output.iter().filter(|byte| **byte == b'\n').count() == 258);
-    expect!(rt; told.output.ends_with(b"\nhop 64 resend 160 contacts 0 open 0\nhop 64 contact closed\n"));
-    fs::remove_file(&rt, key.as_str())?;
-    fs::remove_file(&rt, plan.as_str())?;
-    Ok(())
+fn the_greatest_plan_is_told(rt: HostRuntime) {
+    let plan = path_of(&rt, rt, "greatest-plan");
+    let key = path_of(&rt, rt, "greatest.key");
+    make_file(&rt, key.as_str(), LINE, 0o600);
+    write_greatest(&rt, plan.as_str(), key.as_str());
+    expect_greatest(&rt, plan.as_str());
+    remove(&rt, key.as_str());
+    remove(&rt, plan.as_str());
 }

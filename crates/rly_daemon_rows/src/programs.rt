@@ -36,19 +36,22 @@ pub(super) fn expect(
     errors: &[u8],
 ) {
     let run = finish(rt, words, input);
-    assert!(rt; run.status == status, "{words:?}");
-    assert!(rt; run.output.as_slice() == output, "{words:?}");
-    assert!(rt; run.errors.as_slice() == errors, "{words:?}");
+    expect_of(rt, words, run.status == status, "status");
+    expect_of(rt, words, run.output.as_slice() == output, "output");
+    expect_of(rt, words, run.errors.as_slice() == errors, "errors");
+}
+
+/// Checks what holds of a command line.
+fn expect_of(rt: &impl Abort, words: &[&str], holds: bool, what: &str) {
+    assert!(rt; holds, "{what} of {words:?}");
 }
 
 /// Checks that a command line is called bad: nothing is put out, and something is told.
 fn expect_bad(rt: &(impl Abort + Host), words: &[&str]) {
     let run = finish(rt, words, b"");
-    assert!(rt; run.status == 2, "{words:?}");
-    assert!(rt;
-        run.output.is_empty() && !run.errors.is_empty(),
-        "{words:?}"
-    );
+    expect_of(rt, words, run.status == 2, "status");
+    expect_of(rt, words, run.output.is_empty(), "output");
+    expect_of(rt, words, !run.errors.is_empty(), "errors");
 }
 
 #[test]
@@ -155,11 +158,9 @@ pub(super) fn expect_stuck(rt: &(impl Abort + Host), words: &[&str]) {
     let mut errors = Vec::new(rt.alloc());
     let mut reader = b"".as_slice();
     let status = run(rt, words, &mut reader, &mut Stuck, &mut errors);
-    assert!(rt; status == 1, "{words:?}");
-    assert!(rt;
-        errors.as_slice() == b"rly: output failed\n".as_slice(),
-        "{words:?}"
-    );
+    let told = b"rly: output failed\n".as_slice();
+    expect_of(rt, words, status == 1, "status");
+    expect_of(rt, words, errors.as_slice() == told, "errors");
 }
 
 /// Help that isn't shown has status 1.

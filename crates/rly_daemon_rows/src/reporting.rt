@@ -1,13 +1,13 @@
 //! `rly serve --report`, over loopback and on files.
 
-use crate::devices::{make_small, path_of};
-use crate::keys::{LINE, make_file};
-use crate::programs::{Finished, finish};
-use crate::serving::{hears_custody, socket_at};
+use crate::devices::make_small;
+use crate::files::{make_file, path_of, remove, write};
+use crate::keys::LINE;
+use crate::programs::finish;
+use crate::serving::neighbour;
 use rly_daemon::Host;
 use std::process::Abort;
-use std::test::Fail;
-use std::{fs, str, thread};
+use std::str;
 
 /// Station 7 at addresses of its own, with station 3 upstream and station 9 as the next hop.
 const PLAN: &str = r#"station = 7
@@ -50,20 +50,41 @@ peer 1 heard 0 custody 0 refused 0 malformed 0 wrong 0
 device seq 0 rounds 0 segments 0
 ";
 
-/// A run of a relay that reports, by a plan on a new small device, whose files are at these paths.
+/// The output of a run of a relay that reports, by a plan on a new small device, with these two options.
 fn reported(
     rt: &(impl Abort + Host),
-    (device, plan): (&str, &str),
+    device: &str,
     text: &str,
-    words: [&str; 2],
-) -> Result<Finished, Fail> {
+    turns: &str,
+    report: &str,
+) -> Vec<u8> {
+    let plan = format!(in rt.alloc(); "{device}-plan");
+    let plan = plan.ok().expect(rt, "memory");
     make_small(rt, device);
-    fs::write(rt, plan, text)?;
-    let words = ["rly", "serve", device, plan, words[0], words[1]];
+    write(rt, plan.as_str(), text.as_bytes());
+    let output = served(rt, device, plan.as_str(), turns, report);
+    remove(rt, plan.as_str());
+    remove(rt, device);
+    output
+}
+
+/// The output of a run of a relay that ends well.
+fn served(
+    rt: &(impl Abort + Host),
+    device: &str,
+    plan: &str,
+    turns: &str,
+    report: &str,
+) -> Vec<u8> {
+    let words = ["rly", "serve", device, plan, turns, report];
     let run = finish(rt, &words, b"");
-    fs::remove_file(rt, plan)?;
-    fs::remove_file(rt, device)?;
-    Ok(run)
+    expect!(*rt; run.status == 0);
+    run.output
+}
+
+/// The text of an output.
+fn text_of<'a>(rt: &impl Abort, output: &'a [u8]) -> &'a str {
+    str::from_utf8(output).ok().expect(rt, "a text")
 }
 
 /// Whether the last line of a text that begins with one word has another in it.
@@ -77,68 +98,65 @@ fn last_has(text: &str, begins: &str, word: &str) -> bool {
     has
 }
 
+/// Checks that an output is the first report of a new device.
+fn expect_first(rt: &impl Abort, output: &[u8]) {
+    let (moment, rest) = text_of(rt, output).split_once('\n').expect(rt, "a line");
+    expect!(*rt; moment.starts_with("report 1"));
+    expect!(*rt; rest == FIRST);
+}
+
 /// A report is written at once, and no other before its time. Where no reports are asked for there are none.
 #[test]
-fn a_report_is_written_at_once(rt: HostRuntime) -> Result<(), Fail> {
-    let (device, plan) = (path_of(&rt, "told-once")?, path_of(&rt, "told-once-plan")?);
-    let paths = (device.as_str(), plan.as_str());
-    let run = reported(&rt, paths, PLAN, ["--turns=5", "--report=3600"])?;
-    expect!(rt; run.status == 0);
-    let text = str::from_utf8(run.output.as_slice()).ok().ok_or("a text")?;
-    let (moment, rest) = text.split_once('\n').ok_or("a line")?;
-    expect!(rt; moment.starts_with("report 1"));
-    expect!(rt; rest == FIRST);
-    let run = reported(&rt, paths, PLAN, ["--turns=5", "--report=0"])?;
-    expect!(rt; run.status == 0);
-    expect!(rt; run.output.is_empty());
-    Ok(())
+fn a_report_is_written_at_once(rt: HostRuntime) {
+    let device = path_of(&rt, rt, "told-once");
+    let output = reported(&rt, device.as_str(), PLAN, "--turns=5", "--report=3600");
+    expect_first(&rt, output.as_slice());
+    let output = reported(&rt, device.as_str(), PLAN, "--turns=5", "--report=0");
+    expect!(rt; output.is_empty());
+}
+
+/// Checks what the last report tells of a datagram that was taken and acknowledged.
+fn expect_taken(rt: &impl Abort, text: &str) {
+    expect!(*rt; last_has(text, "hop 1 ", "taken 1 queued 1 flight 0"));
+    expect!(*rt; !last_has(text, "peer 1 ", " custody 0 "));
+    expect!(*rt; last_has(text, "peer 1 ", " refused 0 malformed 0 wrong 0 last "));
+    expect!(*rt; last_has(text, "device ", "seq 1 rounds 1 "));
 }
 
 /// What is taken and acknowledged while it is served stands in the next report.
 #[test]
-fn what_was_taken_is_reported(rt: HostRuntime) -> Result<(), Fail> {
-    let (device, plan) = (
-        path_of(&rt, "told-taken")?,
-        path_of(&rt, "told-taken-plan")?,
-    );
-    let paths = (device.as_str(), plan.as_str());
-    let socket = socket_at(&rt, "127.0.0.1:4062")?;
-    let neighbour = thread::spawn(&rt, move || hears_custody(&socket, "127.0.0.1:4061", 90))
-        .ok()
-        .ok_or("a thread")?;
-    let run = reported(&rt, paths, PLAN, ["--turns=200", "--report=1"])?;
+fn what_was_taken_is_reported(rt: HostRuntime) {
+    let device = path_of(&rt, rt, "told-taken");
+    let neighbour = neighbour(&rt, "127.0.0.1:4062", "127.0.0.1:4061", 90);
+    let output = reported(&rt, device.as_str(), PLAN, "--turns=200", "--report=1");
     expect!(rt; neighbour.join(&rt));
-    expect!(rt; run.status == 0);
-    let text = str::from_utf8(run.output.as_slice()).ok().ok_or("a text")?;
-    expect!(rt; last_has(text, "hop 1 ", "taken 1 queued 1 flight 0"));
-    expect!(rt; !last_has(text, "peer 1 ", " custody 0 "));
-    expect!(rt; last_has(text, "peer 1 ", " refused 0 malformed 0 wrong 0 last "));
-    expect!(rt; last_has(text, "device ", "seq 1 rounds 1 "));
-    Ok(())
+    expect_taken(&rt, text_of(&rt, output.as_slice()));
+}
+
+/// Checks what the last report tells of packets without a right tag.
+fn expect_wrong(rt: &impl Abort, text: &str) {
+    expect!(*rt; last_has(text, "hop 1 ", " wrong 0"));
+    expect!(*rt; last_has(text, "peer 1 ", " heard 0 custody 0 refused 0 malformed 0 wrong "));
+    expect!(*rt; !last_has(text, "peer 1 ", " wrong 0"));
+}
+
+/// The output of a relay whose peer has a key in this file.
+fn reported_keyed(rt: &(impl Abort + Host), device: &str, key: &str) -> Vec<u8> {
+    make_file(rt, key, LINE, 0o600);
+    let keyed = KEYED.replace(rt.alloc(), "KEY", key);
+    let keyed = keyed.ok().expect(rt, "memory");
+    let output = reported(rt, device, keyed.as_str(), "--turns=200", "--report=1");
+    remove(rt, key);
+    output
 }
 
 /// Packets without a right tag are counted by their peer, and as not heard.
 #[test]
-fn wrong_tags_are_reported(rt: HostRuntime) -> Result<(), Fail> {
-    let (device, plan) = (
-        path_of(&rt, "told-wrong")?,
-        path_of(&rt, "told-wrong-plan")?,
-    );
-    let paths = (device.as_str(), plan.as_str());
-    let key = path_of(&rt, "reported-key")?;
-    make_file(&rt, key.as_str(), LINE, 0o600)?;
-    let socket = socket_at(&rt, "127.0.0.1:4066")?;
-    let neighbour = thread::spawn(&rt, move || hears_custody(&socket, "127.0.0.1:4065", 90))
-        .ok()
-        .ok_or("a thread")?;
-    let keyed = KEYED.replace(rt.alloc(), "KEY", key.as_str())?;
-    let run = reported(&rt, paths, keyed.as_str(), ["--turns=200", "--report=1"])?;
+fn wrong_tags_are_reported(rt: HostRuntime) {
+    let device = path_of(&rt, rt, "told-wrong");
+    let key = path_of(&rt, rt, "reported-key");
+    let neighbour = neighbour(&rt, "127.0.0.1:4066", "127.0.0.1:4065", 90);
+    let output = reported_keyed(&rt, device.as_str(), key.as_str());
     expect!(rt; !neighbour.join(&rt));
-    expect!(rt; run.status == 0);
-    let text = str::from_utf8(run.output.as_slice()).ok().ok_or("a text")?;
-    expect!(rt; last_has(text, "hop 1 ", " wrong 0"));
-    expect!(rt; last_has(text, "peer 1 ", " heard 0 custody 0 refused 0 malformed 0 wrong "));
-    expect!(rt; !last_has(text, "peer 1 ", " wrong 0"));
-    fs::remove_file(&rt, key.as_str())?;
-    Ok(())
+    expect_wrong(&rt, text_of(&rt, output.as_slice()));
 }

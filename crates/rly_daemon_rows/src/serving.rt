@@ -1,11 +1,11 @@
 //! `rly serve`, over loopback and on files.
 
-ghost use Rattle.std.specs.Prelude.{IfOk};
 ghost use Rattle.rly_plan.specs.Sound.{IsSoundPlan};
 
-use crate::devices::{make_small, make_wide, path_of};
+use crate::devices::{make_small, make_wide};
+use crate::files::{path_of, remove, write};
 use crate::programs::{expect, finish};
-use crate::spools::small_disk;
+use crate::spools::{journal_on, small_disk};
 use rly_core::Refusal;
 use rly_daemon::{Cause, Host, ServeFault, read_keys, read_plan, serve};
 use rly_disk::{After, Disk, FaultDisk, MemDisk};
@@ -14,9 +14,9 @@ use rly_plan::Plan;
 use std::alloc::{AllocError, Global};
 use std::net::UdpSocket;
 use std::process::Abort;
-use std::test::Fail;
+use std::thread;
+use std::thread::JoinHandle;
 use std::time::Duration;
-use std::{fs, thread};
 
 /// Station 7, with station 3 upstream and station 9 as the next hop.
 const PLAN: &str = r#"station = 7
@@ -58,22 +58,32 @@ pub(super) fn hears_custody(socket: &UdpSocket, relay: &str, times: u64) -> bool
 }
 
 /// The socket of a neighbour, which waits 10 ms for a packet.
-pub(super) fn socket_at(rt: &impl Host, address: &str) -> Result<UdpSocket, Fail> {
-    let socket = UdpSocket::bind(rt, address)?;
-    socket.set_read_timeout(Some(Duration::from_millis(10)))?;
-    Ok(socket)
+fn socket_at(rt: &(impl Abort + Host), address: &str) -> UdpSocket {
+    let socket = UdpSocket::bind(rt, address).ok().expect(rt, "a socket");
+    let set = socket.set_read_timeout(Some(Duration::from_millis(10)));
+    expect!(*rt; set.is_ok());
+    socket
+}
+
+/// A neighbour in a thread of its own, which sends to a relay so many times at most. Whether it hears the datagram's custody.
+pub(super) fn neighbour(
+    rt: &(impl Abort + Host),
+    address: &str,
+    relay: &'static str,
+    times: u64,
+) -> JoinHandle<bool> {
+    let socket = socket_at(rt, address);
+    thread::spawn(rt, move || hears_custody(&socket, relay, times))
+        .ok()
+        .expect(rt, "a thread")
 }
 
 /// Runs a relay beside a neighbour that sends a datagram, and checks that it hears the datagram's custody.
-fn expect_custody(rt: &(impl Abort + Host), device: &str, plan: &str) -> Result<(), Fail> {
-    let socket = socket_at(rt, "127.0.0.1:4002")?;
-    let neighbour = thread::spawn(rt, move || hears_custody(&socket, "127.0.0.1:4001", 100))
-        .ok()
-        .ok_or("a thread")?;
+fn expect_custody(rt: &(impl Abort + Host), device: &str, plan: &str) {
+    let neighbour = neighbour(rt, "127.0.0.1:4002", "127.0.0.1:4001", 100);
     let words = ["rly", "serve", device, plan, "--turns", "20"];
     expect(rt, &words, b"", 0, b"", SERVED);
-    expect!(rt; neighbour.join(rt));
-    Ok(())
+    expect!(*rt; neighbour.join(rt));
 }
 
 /// What is told of a relay of 20 turns on a new small device.
@@ -88,23 +98,16 @@ peer 1 last 1\nseq 1\nbalance ok\n";
 
 /// A datagram that comes over UDP is taken and its custody sent.
 #[test]
-fn serve_custody(rt: HostRuntime) -> Result<(), Fail> {
-    let device = path_of(&rt, "served")?;
-    let plan = path_of(&rt, "plan")?;
+fn serve_custody(rt: HostRuntime) {
+    let device = path_of(&rt, rt, "served");
+    let plan = path_of(&rt, rt, "plan");
     make_small(&rt, device.as_str());
-    fs::write(&rt, plan.as_str(), PLAN)?;
-    expect_custody(&rt, device.as_str(), plan.as_str())?;
-    expect(
-        &rt,
-        &["rly", "audit", device.as_str()],
-        b"",
-        0,
-        ONE_TAKEN,
-        b"",
-    );
-    fs::remove_file(&rt, plan.as_str())?;
-    fs::remove_file(&rt, device.as_str())?;
-    Ok(())
+    write(&rt, plan.as_str(), PLAN.as_bytes());
+    expect_custody(&rt, device.as_str(), plan.as_str());
+    let words = ["rly", "audit", device.as_str()];
+    expect(&rt, &words, b"", 0, ONE_TAKEN, b"");
+    remove(&rt, plan.as_str());
+    remove(&rt, device.as_str());
 }
 
 /// A plan of so many peers and hops, whose links all have these addresses.
@@ -118,13 +121,16 @@ pub(super) fn plan_with(
     let mut text = String::new(alloc);
     writeln!(text, "station = 7")?;
     for id in 1..=peers {
-        writeln!(text, "[[peer]]\nid = {id}\nstation = {id}")?;
-        writeln!(text, "listen = \"{listen}\"\nremote = \"{remote}\"")?;
+        writeln!(
+            text,
+            "[[peer]]\nid = {id}\nstation = {id}\nlisten = \"{listen}\"\nremote = \"{remote}\""
+        )?;
     }
     for id in 1..=hops {
-        writeln!(text, "[[hop]]\nid = {id}\nstation = {id}")?;
-        writeln!(text, "listen = \"{listen}\"\nremote = \"{remote}\"")?;
-        writeln!(text, "contacts = []")?;
+        writeln!(
+            text,
+            "[[hop]]\nid = {id}\nstation = {id}\nlisten = \"{listen}\"\nremote = \"{remote}\"\ncontacts = []"
+        )?;
     }
     Ok(text)
 }
@@ -154,30 +160,36 @@ const PLANS: [(&str, &str); 3] = [
 /// What is told of a plan that isn't there.
 const NO_PLAN: &str = "rly: plan failed\nrly: plan: No such file or directory (os error 2)\n";
 
-/// Checks in which order a relay looks at its plan and its device.
-fn expect_needs(rt: &(impl Abort + Host), device: &str, plan: &str) -> Result<(), Fail> {
-    expect_end(rt, device, plan, 1, NO_PLAN);
-    fs::write(rt, plan, b"station = 7 # \xff\n".as_slice())?;
-    let told = "rly: plan failed\nrly: plan: stream did not contain valid UTF-8\n";
-    expect_end(rt, device, plan, 1, told);
-    for (text, errors) in &PLANS {
-        fs::write(rt, plan, *text)?;
-        expect_end(rt, device, plan, 1, *errors);
-    }
-    fs::write(rt, device, b"no device".as_slice())?;
+/// What is told of a plan that is no text.
+const NO_TEXT: &str = "rly: plan failed\nrly: plan: stream did not contain valid UTF-8\n";
+
+/// Checks what is told of a relay whose plan is this, and which has no device.
+fn expect_plan(rt: &(impl Abort + Host), device: &str, plan: &str, text: &[u8], errors: &str) {
+    write(rt, plan, text);
+    expect_end(rt, device, plan, 1, errors);
+}
+
+/// Checks what is told of a file that is no device, with the last of the plans and without it.
+fn expect_no_device(rt: &(impl Abort + Host), device: &str, plan: &str) {
+    write(rt, device, b"no device");
     expect_end(rt, device, plan, 1, "refused 20 notadevice\n");
-    fs::remove_file(rt, plan)?;
+    remove(rt, plan);
     expect_end(rt, device, plan, 1, NO_PLAN);
-    fs::remove_file(rt, device)?;
-    Ok(())
+    remove(rt, device);
 }
 
 /// The plan is looked at first, then the file, then the device in it.
 #[test]
-fn a_relay_needs_a_plan_and_a_device(rt: HostRuntime) -> Result<(), Fail> {
-    let device = path_of(&rt, "unserved")?;
-    let plan = path_of(&rt, "unserved-plan")?;
-    expect_needs(&rt, device.as_str(), plan.as_str())
+fn a_relay_needs_a_plan_and_a_device(rt: HostRuntime) {
+    let device = path_of(&rt, rt, "unserved");
+    let plan = path_of(&rt, rt, "unserved-plan");
+    let (device, plan) = (device.as_str(), plan.as_str());
+    expect_end(&rt, device, plan, 1, NO_PLAN);
+    expect_plan(&rt, device, plan, b"station = 7 # \xff\n", NO_TEXT);
+    for (text, errors) in &PLANS {
+        expect_plan(&rt, device, plan, text.as_bytes(), *errors);
+    }
+    expect_no_device(&rt, device, plan);
 }
 
 /// An address whose port the system picks, one that is free, and one at which this machine doesn't receive.
@@ -225,26 +237,36 @@ const LINKS: [(u16, u16, &str, &str, &str); 6] = [
     ),
 ];
 
+/// Writes a plan of so many peers and hops with these addresses.
+fn write_links(
+    rt: &(impl Abort + Host),
+    plan: &str,
+    (peers, hops): (u16, u16),
+    (listen, remote): (&str, &str),
+) {
+    let text = plan_with(rt.alloc(), peers, hops, listen, remote);
+    let text = text.ok().expect(rt, "memory");
+    write(rt, plan, text.as_bytes());
+}
+
 /// Checks how relays end on a small device.
-fn expect_links(rt: &(impl Abort + Host), device: &str, plan: &str) -> Result<(), Fail> {
+fn expect_links(rt: &(impl Abort + Host), device: &str, plan: &str) {
     for (peers, hops, listen, remote, errors) in &LINKS {
-        let text = plan_with(rt.alloc(), *peers, *hops, *listen, *remote)?;
-        fs::write(rt, plan, text.as_str())?;
+        write_links(rt, plan, (*peers, *hops), (*listen, *remote));
         expect_end(rt, device, plan, 1, *errors);
     }
-    fs::remove_file(rt, plan)?;
-    fs::remove_file(rt, device)?;
-    Ok(())
 }
 
 /// The device needs each peer and each hop of the plan, before any link is opened; then the system judges the
 /// addresses of the links, none of which is there twice.
 #[test]
-fn a_relay_needs_room_and_links(rt: HostRuntime) -> Result<(), Fail> {
-    let device = path_of(&rt, "narrow")?;
-    let plan = path_of(&rt, "narrow-plan")?;
+fn a_relay_needs_room_and_links(rt: HostRuntime) {
+    let device = path_of(&rt, rt, "narrow");
+    let plan = path_of(&rt, rt, "narrow-plan");
     make_small(&rt, device.as_str());
-    expect_links(&rt, device.as_str(), plan.as_str())
+    expect_links(&rt, device.as_str(), plan.as_str());
+    remove(&rt, plan.as_str());
+    remove(&rt, device.as_str());
 }
 
 /// A plan of 64 peers and 64 hops, each with a loopback address of its own at this port, and a comment of 70,000 bytes.
@@ -252,73 +274,81 @@ fn greatest_plan(alloc: Global, port: u16) -> Result<String, AllocError> {
     let mut text = String::new(alloc);
     writeln!(text, "station = 7")?;
     for id in 1..=64 {
-        writeln!(text, "[[peer]]\nid = {id}\nstation = {id}")?;
         writeln!(
             text,
-            "listen = \"127.0.1.{id}:{port}\"\nremote = \"127.0.0.1:9\""
+            "[[peer]]\nid = {id}\nstation = {id}\nlisten = \"127.0.1.{id}:{port}\"\nremote = \"127.0.0.1:9\""
         )?;
     }
     for id in 1..=64 {
-        writeln!(text, "[[hop]]\nid = {id}\nstation = {id}\ncontacts = []")?;
         writeln!(
             text,
-            "listen = \"127.0.2.{id}:{port}\"\nremote = \"127.0.0.1:9\""
+            "[[hop]]\nid = {id}\nstation = {id}\ncontacts = []\nlisten = \"127.0.2.{id}:{port}\"\nremote = \"127.0.0.1:9\""
         )?;
     }
+    add_comment(&mut text)?;
+    Ok(text)
+}
+
+/// Adds a comment of 70,000 bytes to a plan.
+fn add_comment(text: &mut String) -> Result<(), AllocError> {
     text.push('#')?;
     for _byte in 0..70_000 {
         text.push('n')?;
     }
-    Ok(text)
+    Ok(())
 }
 
-/// Runs a relay of the greatest plan, on a new device and at this port, for one turn and with one option more. Its output.
-fn greatest_run(
-    rt: &(impl Abort + Host),
-    device: &str,
-    port: u16,
-    option: &str,
-) -> Result<Vec<u8>, Fail> {
-    let plan = format!(in rt.alloc(); "{device}-plan")?;
-    let text = greatest_plan(rt.alloc(), port)?;
-    fs::write(rt, plan.as_str(), text.as_str())?;
-    make_wide(rt, device);
-    let words = ["rly", "serve", device, plan.as_str(), "--turns=1", option];
+/// Writes that plan.
+fn write_greatest(rt: &(impl Abort + Host), plan: &str, port: u16) {
+    let text = greatest_plan(rt.alloc(), port).ok().expect(rt, "memory");
+    write(rt, plan, text.as_bytes());
+}
+
+/// The output of a relay of one turn that ends well, with one option more.
+fn served(rt: &(impl Abort + Host), device: &str, plan: &str, option: &str) -> Vec<u8> {
+    let words = ["rly", "serve", device, plan, "--turns=1", option];
     let run = finish(rt, &words, b"");
     expect!(*rt; run.status == 0);
     expect!(*rt; run.errors.ends_with(b"\nrly: ended after 1 turns\n"));
-    fs::remove_file(rt, plan.as_str())?;
-    fs::remove_file(rt, device)?;
-    Ok(run.output)
+    run.output
+}
+
+/// Runs a relay of the greatest plan, on a new device and at this port, for one turn and with one option more. Its output.
+fn greatest_run(rt: &(impl Abort + Host), device: &str, port: u16, option: &str) -> Vec<u8> {
+    let plan = format!(in rt.alloc(); "{device}-plan");
+    let plan = plan.ok().expect(rt, "memory");
+    write_greatest(rt, plan.as_str(), port);
+    make_wide(rt, device);
+    let output = served(rt, device, plan.as_str(), option);
+    remove(rt, plan.as_str());
+    remove(rt, device);
+    output
 }
 
 /// A relay may have as many workers as a plan has neighbours.
 #[test]
-fn the_greatest_relay_is_served(rt: HostRuntime) -> Result<(), Fail> {
-    let device = path_of(&rt, "wide")?;
-    let output = greatest_run(&rt, device.as_str(), 4001, "--report=0")?;
+fn the_greatest_relay_is_served(rt: HostRuntime) {
+    let device = path_of(&rt, rt, "wide");
+    let output = greatest_run(&rt, device.as_str(), 4001, "--report=0");
     expect!(rt; output.is_empty());
-    Ok(())
 }
 
 /// A reporter beside as many workers tells of each neighbour.
 #[test]
-fn the_greatest_relay_reports(rt: HostRuntime) -> Result<(), Fail> {
-    let device = path_of(&rt, "told-wide")?;
-    let output = greatest_run(&rt, device.as_str(), 4071, "--report=100000")?;
-    let report = str::from_utf8(output.as_slice()).ok().ok_or("a text")?;
+fn the_greatest_relay_reports(rt: HostRuntime) {
+    let device = path_of(&rt, rt, "told-wide");
+    let output = greatest_run(&rt, device.as_str(), 4071, "--report=100000");
+    let report = str::from_utf8(output.as_slice()).ok().expect(&rt, "a text");
     expect!(rt; report.contains("\nhop 64 ") && report.contains("\npeer 64 "));
-    Ok(())
 }
 
 /// A small device whose first write after its opening fails.
-fn failing(rt: &(impl Abort + AllocGlobal)) -> Result<FaultDisk<MemDisk>, Fail> {
-    let disk = small_disk(rt)?;
+fn failing(rt: &(impl Abort + AllocGlobal)) -> FaultDisk<MemDisk> {
+    let disk = small_disk(rt);
     let before = disk.calls();
-    let journal = Journal::open(rt.alloc(), disk).ok().ok_or("a journal")?;
-    let disk = journal.into_disk();
+    let disk = journal_on(rt, disk).into_disk();
     let opening = disk.calls().wrapping_sub(before);
-    Ok(FaultDisk::new(disk, opening.wrapping_add(1), 0, After::GoesOn))
+    FaultDisk::new(disk, opening.wrapping_add(1), 0, After::GoesOn)
 }
 
 /// What is told once it is served.
@@ -326,39 +356,50 @@ const BEGUN: &[u8] = b"rly: serving station 7, 1 peers, 1 hops, device 165880 by
 rly: anyone can speak on peer 1, hop 1\n";
 
 /// The plan of a relay at other addresses, by a file.
-fn other_plan(rt: &HostRuntime, path: &str) -> Result<Plan, Fail>
-    ensures { IfOk result (λ plan. IsSoundPlan plan) }
+fn other_plan(rt: &(impl Abort + Host), path: &str) -> Plan
+    ensures { IsSoundPlan result }
 {
-    let text = PLAN.replace(rt.alloc(), "127.0.0.1:400", "127.0.0.1:403")?;
-    fs::write(rt, path, text.as_str())?;
-    let plan = read_plan(rt, path)?;
-    fs::remove_file(rt, path)?;
-    Ok(plan)
+    let text = PLAN.replace(rt.alloc(), "127.0.0.1:400", "127.0.0.1:403");
+    let text = text.ok().expect(rt, "memory");
+    write(rt, path, text.as_bytes());
+    let Ok(plan) = read_plan(rt, path) else {
+        panic!(rt; "no plan");
+    };
+    remove(rt, path);
+    plan
 }
 
-/// Where a write of the device fails, nothing is acknowledged, and the relay ends broken by itself: its turns are without
-/// end, and the sender never has anything to ask that is written.
-#[test]
-fn a_failed_write_ends_a_relay_broken(rt: HostRuntime) -> Result<(), Fail> {
-    let path = path_of(&rt, "broken-plan")?;
-    let plan = other_plan(&rt, path.as_str())?;
-    let keys = read_keys(&rt, &plan, path.as_str())?;
-    let journal = Journal::open(rt.alloc(), failing(&rt)?)
-        .ok()
-        .ok_or("a journal")?;
-    let socket = socket_at(&rt, "127.0.0.1:4032")?;
-    let neighbour = thread::spawn(&rt, move || hears_custody(&socket, "127.0.0.1:4031", 20))
-        .ok()
-        .ok_or("a thread")?;
+/// Checks that a relay over this journal ends broken. Its turns are without end.
+fn expect_broken(
+    rt: &(impl Abort + Host),
+    plan: &Plan,
+    path: &str,
+    journal: Journal<FaultDisk<MemDisk>>,
+)
+    requires { IsSoundPlan plan.now }
+{
+    let Ok(keys) = read_keys(rt, plan, path) else {
+        panic!(rt; "no keys");
+    };
     let mut errors = Vec::new(rt.alloc());
-    let ended = serve(&rt, journal, &plan, keys, 0, 165_880, &mut errors);
+    let ended = serve(rt, journal, plan, keys, 0, 165_880, &mut errors);
     assert!(rt;
         matches!(
             ended,
             Err((ServeFault::Refused(Refusal::Broken, Cause::Told), _))
         )
     );
-    expect!(rt; errors.as_slice() == BEGUN);
-    assert!(rt; !neighbour.join(&rt));
-    Ok(())
+    expect!(*rt; errors.as_slice() == BEGUN);
+}
+
+/// Where a write of the device fails, nothing is acknowledged, and the relay ends broken by itself: its turns are without
+/// end, and the sender never has anything to ask that is written.
+#[test]
+fn a_failed_write_ends_a_relay_broken(rt: HostRuntime) {
+    let path = path_of(&rt, rt, "broken-plan");
+    let plan = other_plan(&rt, path.as_str());
+    let journal = journal_on(&rt, failing(&rt));
+    let neighbour = neighbour(&rt, "127.0.0.1:4032", "127.0.0.1:4031", 20);
+    expect_broken(&rt, &plan, path.as_str(), journal);
+    expect!(rt; !neighbour.join(&rt));
 }

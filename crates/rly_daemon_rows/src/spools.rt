@@ -1,12 +1,12 @@
 //! A small device in memory, and lines that take datagrams.
 
 use rly_core::{Geometry, Params};
-use rly_disk::MemDisk;
+use rly_disk::{Disk, MemDisk};
+use rly_journal::Journal;
 use rly_reclaim::least_length;
 use rly_segment::format;
-use std::alloc::Global;
+use std::alloc::{AllocError, Global};
 use std::process::Abort;
-use std::test::Fail;
 
 /// One hop and one peer, 16 items and 4,096 bytes on two segments.
 const SMALL: Params = Params {
@@ -18,7 +18,7 @@ const SMALL: Params = Params {
 };
 
 /// A new small device, of two segments of the least length.
-pub(super) fn small_disk(rt: &(impl Abort + AllocGlobal)) -> Result<MemDisk, Fail> {
+pub(super) fn small_disk(rt: &(impl Abort + AllocGlobal)) -> MemDisk {
     assert!(rt; SMALL.check().is_ok());
     let mut geometry = Geometry {
         params: SMALL,
@@ -27,13 +27,20 @@ pub(super) fn small_disk(rt: &(impl Abort + AllocGlobal)) -> Result<MemDisk, Fai
     };
     geometry.length = least_length(&geometry);
     let size = 64u64.saturating_add(geometry.length.saturating_mul(2));
-    let mut disk = MemDisk::new(rt.alloc(), vec![in rt.alloc(); 0u8; size as usize]?);
-    assert!(rt; format(rt.alloc(), &mut disk, &geometry).is_ok());
-    Ok(disk)
+    let bytes = Vec::from_elem(rt.alloc(), 0u8, size as usize).expect(rt, "memory");
+    let mut disk = MemDisk::new(rt.alloc(), bytes);
+    let formatted = format(rt.alloc(), &mut disk, &geometry);
+    expect!(*rt; formatted.is_ok());
+    disk
+}
+
+/// The journal on a disk.
+pub(super) fn journal_on<D: Disk + Drop>(rt: &(impl Abort + AllocGlobal), disk: D) -> Journal<D> {
+    Journal::open(rt.alloc(), disk).ok().expect(rt, "a journal")
 }
 
 /// Takes 1 to `count` of `bytes` zero bytes each, from peer 1 to hop 1 at moment 0.
-pub(super) fn takes(alloc: Global, count: u64, bytes: usize) -> Result<String, Fail> {
+pub(super) fn takes(alloc: Global, count: u64, bytes: usize) -> Result<String, AllocError> {
     let mut text = String::new(alloc);
     for number in 1..=count {
         write!(text, "take 1 {number} 1 0 ")?;
