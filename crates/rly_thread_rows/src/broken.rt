@@ -2,18 +2,18 @@
 
 ghost use Rattle.std.specs.Prelude.{None, false};
 
-use crate::devices::device;
+use crate::devices::{device, journal_on};
 use crate::overlap::{DATA, PLAN, WORKERS};
 use crate::workers::link_with;
 use rly_core::PeerId;
 use rly_disk::{After, Disk, FaultDisk, MemDisk};
-use rly_journal::Journal;
 use rly_plan::Plan;
 use rly_threads::{Go, MemLink, Point, Post, Relayed, Turn, Worker, run_relay};
 use std::alloc::Global;
 use std::process::Abort;
 use std::sync::Wait;
 use std::thread;
+use std::thread::Threads;
 use std::time::{Clock, Duration};
 
 /// So many turns of a millisecond each: a minute, so that a test ends also where no worker is cut.
@@ -53,8 +53,7 @@ impl<C: Clock + Drop> Turn for Long<C> {
 fn failing<R: Abort>(rt: &R, alloc: Global, call: u64) -> FaultDisk<MemDisk> {
     let disk = device(rt, alloc);
     let before = disk.calls();
-    let journal = Journal::open(alloc, disk).ok().expect(rt, "a journal");
-    let disk = journal.into_disk();
+    let disk = journal_on(rt, alloc, disk).into_disk();
     let opening = disk.calls().wrapping_sub(before);
     FaultDisk::new(disk, opening.wrapping_add(call), 0, After::GoesOn)
 }
@@ -86,21 +85,29 @@ fn expect_cut<R: Abort>(rt: &R, relayed: &Relayed<FaultDisk<MemDisk>, MemLink, L
     }
 }
 
+/// Runs a relay of three posts to its end, on a device whose call of this number fails.
+fn relayed<R: Abort + Threads + Wait + Sync>(
+    rt: &R,
+    alloc: Global,
+    call: u64,
+    posts: Vec<Post<MemLink, Long<HostRuntime>>>,
+) -> Relayed<FaultDisk<MemDisk>, MemLink, Long<HostRuntime>> {
+    let plan = Plan::from_toml(alloc, PLAN).ok().expect(rt, "a plan");
+    let journal = journal_on(rt, alloc, failing(rt, alloc, call));
+    if posts.len() != 3 {
+        panic!(rt; "three posts");
+    }
+    run_relay(rt, alloc, journal, &plan, posts)
+        .ok()
+        .expect(rt, "a relay")
+}
+
 /// A round has four calls of its device: the body and the gate are written, each with a sync. Whichever of them fails, each
 /// worker ends at its next turn, also those that never had anything to ask.
 #[test]
 fn a_relay_ends_once_its_journal_broke(rt: HostRuntime) {
-    let alloc = rt.alloc();
-    let plan = Plan::from_toml(alloc, PLAN).ok().expect(&rt, "a plan");
     for call in 1..=4 {
-        let posts = posts(&rt, rt);
-        assert!(rt; posts.len() == 3);
-        let journal = Journal::open(alloc, failing(&rt, alloc, call))
-            .ok()
-            .expect(&rt, "a journal");
-        let relayed = run_relay(&rt, alloc, journal, &plan, posts)
-            .ok()
-            .expect(&rt, "a relay");
+        let relayed = relayed(&rt, rt.alloc(), call, posts(&rt, rt));
         expect_cut(&rt, &relayed);
     }
 }

@@ -2,10 +2,10 @@
 
 ghost use Rattle.std.specs.Prelude.{◌≤◌, IfSome, None, length};
 
-use crate::workers::{expect_counts_of, plan, take};
-use rly_core::{HopId, Params};
+use crate::senders::queue_of;
+use crate::workers::{expect_counts_of, plan};
+use rly_core::HopId;
 use rly_hop::{MAX_MESSAGE, Message, StationId, read_message, write_message};
-use rly_machine::Machine;
 use rly_threads::{Ends, Link, LinkFault, MemDesk, MemTurn, sender_run};
 use std::alloc::Global;
 use std::process::Abort;
@@ -34,6 +34,21 @@ struct Far {
 }
 
 impl Far {
+    /// A station that has nothing yet.
+    fn new(alloc: Global, way: u64, lost: usize, stray: Option<&'static [u8]>) -> Far {
+        Far {
+            way,
+            lost,
+            stray,
+            last: 0,
+            turn: 1,
+            came: 0,
+            waits: 0,
+            answers: Vec::new(alloc),
+            numbers: Vec::new(alloc),
+        }
+    }
+
     /// A Data goes out. It is taken if it is the next one, and answered. (A row fails where memory is refused.)
     fn carry(&mut self, number: u64) {
         let _kept = self.numbers.push(number);
@@ -166,27 +181,9 @@ fn hand_over<R: Abort + Wait>(
     lost: usize,
     stray: Option<&'static [u8]>,
 ) -> FarEnds {
-    let params = Params {
-        window: 64,
-        ..Params::DEFAULT
-    };
-    let mut machine = Machine::new(alloc, params).expect(rt, "memory");
-    for number in 1..=way.datagrams {
-        take(rt, alloc, &mut machine, 1, number);
-    }
-    let link = Far {
-        way: way.turns,
-        lost,
-        stray,
-        last: 0,
-        turn: 1,
-        came: 0,
-        waits: 0,
-        answers: Vec::new(alloc),
-        numbers: Vec::new(alloc),
-    };
+    let machine = queue_of(rt, alloc, way.datagrams);
     let mut ends = Ends {
-        link,
+        link: Far::new(alloc, way.turns, lost, stray),
         desk: MemDesk::new(alloc, machine),
         turn: MemTurn::new(1_000, way.step, 1_500),
     };

@@ -1,7 +1,8 @@
 //! A device in memory.
 
 use rly_core::{Geometry, Params};
-use rly_disk::MemDisk;
+use rly_disk::{Disk, MemDisk};
+use rly_journal::Journal;
 use rly_segment::format;
 use std::alloc::Global;
 use std::process::Abort;
@@ -56,4 +57,14 @@ fn formatted<R: Abort>(rt: &R, alloc: Global, geometry: &Geometry) -> MemDisk {
     let formatted = format(alloc, &mut disk, geometry);
     expect!(*rt; formatted.is_ok());
     disk
+}
+
+/// The journal on a device.
+pub(super) fn journal_on<R: Abort, D: Disk + Drop>(rt: &R, alloc: Global, disk: D) -> Journal<D> {
+    Journal::open(alloc, disk).ok().expect(rt, "a journal")
+}
+
+/// The journal on a device that was formatted and not used.
+pub(super) fn new_journal<R: Abort>(rt: &R, alloc: Global) -> Journal<MemDisk> {
+    journal_on(rt, alloc, device(rt, alloc))
 }

@@ -1,40 +1,20 @@
 //! The flusher: it answers seats in threads of their own, out of a journal in memory.
 
-ghost use Rattle.std.specs.Prelude.{◌≤◌};
-
 use crate::asks::{take, take_again, take_at, take_first};
-use crate::devices::device;
+use crate::devices::{device, journal_on, new_journal};
+use crate::served::{flusher_on, flusher_over, round, served, spawned, two_seats};
 use rly_core::{HopId, PeerId};
-use rly_disk::{After, Disk, FaultDisk};
+use rly_disk::{After, Disk, FaultDisk, MemDisk};
 use rly_flush::{Finished, Flusher};
-use rly_journal::Journal;
-use rly_line::{Seat, make};
-use rly_machine::Reply;
+use rly_line::{LeftSeat, Seat};
+use rly_machine::{Answer, Ask, Reply};
 use std::alloc::Global;
 use std::process::Abort;
 use std::sync::Wait;
-use std::thread;
-use std::thread::Threads;
+use std::thread::{JoinHandle, Threads};
 
 /// So many takes each seat makes.
 const TAKES: u64 = 100;
-
-/// A flusher over a device, and so many seats.
-fn flusher_on<R: Abort, D: Disk + Drop>(
-    rt: &R,
-    alloc: Global,
-    disk: D,
-    seats: u16,
-) -> (Vec<Seat>, Flusher<D>)
-    requires { (1 ≤ seats) × (seats ≤ 256) }
-{
-    let journal = Journal::open(alloc, disk).ok().expect(rt, "a journal");
-    let Ok((seats, line)) = make(alloc, 256, seats) else {
-        panic!(rt; "memory");
-    };
-    let flusher = Flusher::new(alloc, journal, line).ok().expect(rt, "memory");
-    (seats, flusher)
-}
 
 /// Takes of one peer, one after the other, up to the first that is not taken. How many were taken.
 fn takes_at<R: Abort + Wait>(rt: &R, alloc: Global, mut seat: Seat, peer: u16) -> u64 {
@@ -48,6 +28,29 @@ fn takes_at<R: Abort + Wait>(rt: &R, alloc: Global, mut seat: Seat, peer: u16) -
     taken
 }
 
+/// Seats in threads of their own, each with takes of its own peer.
+fn asking_takes<R: Abort + Threads + Wait + Copy + Send + 'static>(
+    rt: R,
+    alloc: Global,
+    seats: Vec<Seat>,
+) -> Vec<JoinHandle<u64>> {
+    let mut asking = Vec::new(alloc);
+    for (seat, peer) in seats.into_iter().zip(1..=4) {
+        let asked = spawned(&rt, move || takes_at(&rt, alloc, seat, peer));
+        asking.push(asked).expect(&rt, "memory");
+    }
+    asking
+}
+
+/// What these threads give, together.
+fn sum_of<R: Threads>(rt: &R, asking: Vec<JoinHandle<u64>>) -> u64 {
+    let mut sum = 0u64;
+    for asked in asking {
+        sum = sum.saturating_add(asked.join(rt));
+    }
+    sum
+}
+
 /// Four seats in threads of their own, each with takes of its own peer. How many were taken of them all, and what the
 /// flusher left.
 fn four_seats<D: Disk + Drop, R: Abort + Threads + Wait + Copy + Send + 'static>(
@@ -55,77 +58,99 @@ fn four_seats<D: Disk + Drop, R: Abort + Threads + Wait + Copy + Send + 'static>
     alloc: Global,
     disk: D,
 ) -> (u64, Finished<D>) {
-    let (seats, flusher) = flusher_on(&rt, alloc, disk, 4);
-    let mut asking = Vec::new(alloc);
-    for (seat, peer) in seats.into_iter().zip(1..=4) {
-        let asked = thread::spawn(&rt, move || takes_at(&rt, alloc, seat, peer))
-            .ok()
-            .expect(&rt, "a thread");
-        asking.push(asked).expect(&rt, "memory");
-    }
-    let finished = flusher.serve(&rt);
-    let mut taken = 0u64;
-    for asked in asking {
-        taken = taken.saturating_add(asked.join(&rt));
-    }
-    (taken, finished)
+    let journal = journal_on(&rt, alloc, disk);
+    let (seats, flusher) = flusher_over(&rt, alloc, journal, 256, 4);
+    let asking = asking_takes(rt, alloc, seats);
+    let finished = served(&rt, flusher);
+    (sum_of(&rt, asking), finished)
+}
+
+/// Checks that a flusher serves its seats to their end, and has made so many commands durable then.
+fn expect_served<R: Abort + Wait>(rt: &R, flusher: Flusher<MemDisk>, position: u64) {
+    let finished = served(rt, flusher);
+    expect!(*rt; !finished.broken);
+    expect!(*rt; finished.journal.position() == position);
+}
+
+/// Checks that a round takes what the first of two seats asks. The second seat.
+fn expect_taken<R: Abort + Threads + Wait + Copy + Send + 'static>(
+    rt: R,
+    alloc: Global,
+    flusher: &mut Flusher<MemDisk>,
+    first: Seat,
+    second: Seat,
+) -> Seat {
+    let asking = spawned(&rt, move || take_first(&rt, alloc, first, second));
+    expect!(rt; round(&rt, flusher));
+    let (reply, second) = asking.join(&rt);
+    expect!(rt; matches!(&reply, Reply::Taken(1)));
+    second
+}
+
+/// Checks that a round answers the same take at the second seat, which was taken before.
+fn expect_already<R: Abort + Threads + Wait + Copy + Send + 'static>(
+    rt: R,
+    alloc: Global,
+    flusher: &mut Flusher<MemDisk>,
+    second: Seat,
+) {
+    let asking = spawned(&rt, move || take_again(&rt, alloc, second));
+    expect!(rt; round(&rt, flusher));
+    expect!(rt; matches!(&asking.join(&rt), Reply::Already(1)));
 }
 
 /// Two seats, each in a thread of its own. The second asks after the first was answered.
 #[test]
 fn line_row_2(rt: HostRuntime) {
     let alloc = rt.alloc();
-    let (mut seats, mut flusher) = flusher_on(&rt, alloc, device(&rt, alloc), 2);
-    let second = seats.pop().expect(&rt, "two seats");
-    let first = seats.pop().expect(&rt, "two seats");
-    let asking = thread::spawn(&rt, move || take_first(&rt, alloc, first, second))
-        .ok()
-        .expect(&rt, "a thread");
-    expect!(rt; flusher.round(&rt));
-    let (reply, second) = asking.join(&rt);
-    expect!(rt; matches!(&reply, Reply::Taken(1)));
-    let asking = thread::spawn(&rt, move || take_again(&rt, alloc, second))
-        .ok()
-        .expect(&rt, "a thread");
-    expect!(rt; flusher.round(&rt));
-    expect!(rt; matches!(&asking.join(&rt), Reply::Already(1)));
-    expect!(rt; !flusher.round(&rt));
-    let finished = flusher.serve(&rt);
-    expect!(rt; !finished.broken);
-    expect!(rt; finished.journal.position() == 1);
+    let (first, second, mut flusher) = two_seats(&rt, alloc, new_journal(&rt, alloc), 256);
+    let second = expect_taken(rt, alloc, &mut flusher, first, second);
+    expect_already(rt, alloc, &mut flusher, second);
+    expect!(rt; !round(&rt, &mut flusher));
+    expect_served(&rt, flusher, 1);
+}
+
+/// What is left of seats that were left.
+fn all_left<R: Abort + Wait>(rt: &R, alloc: Global, seats: Vec<Seat>) -> Vec<LeftSeat> {
+    let mut left = Vec::new(alloc);
+    for seat in seats {
+        left.push(seat.leave(rt)).expect(rt, "memory");
+    }
+    left
 }
 
 /// A flusher ends once each of 200 seats was left, though what is left of them is still there.
 #[test]
 fn seats_that_are_left_end_the_flusher(rt: HostRuntime) {
     let alloc = rt.alloc();
-    let (seats, flusher) = flusher_on(&rt, alloc, device(&rt, alloc), 200);
-    let mut left = Vec::new(alloc);
-    for seat in seats {
-        left.push(seat.leave(&rt)).expect(&rt, "memory");
-    }
-    let finished = flusher.serve(&rt);
+    let (seats, flusher) = flusher_on(&rt, alloc, device(&rt, alloc), 256, 200);
+    let left = all_left(&rt, alloc, seats);
+    expect_served(&rt, flusher, 0);
     expect!(rt; left.len() == 200);
-    expect!(rt; !finished.broken);
-    expect!(rt; finished.journal.position() == 0);
+}
+
+/// Whether a take at a seat, which is left then, was taken, and what is left of the seat.
+fn take_and_leave<R: Abort + Wait>(rt: &R, alloc: Global, mut seat: Seat) -> (bool, LeftSeat) {
+    let reply = take_at(rt, alloc, &mut seat, 1, 1);
+    (matches!(&reply, Reply::Taken(1)), seat.leave(rt))
+}
+
+/// One of 200 seats, whose flusher was told that the others are gone.
+fn seat_left_over<R: Abort>(rt: &R, alloc: Global) -> (Seat, Flusher<MemDisk>) {
+    let (mut seats, mut flusher) = flusher_on(rt, alloc, device(rt, alloc), 256, 200);
+    let seat = seats.pop().expect(rt, "a seat");
+    drop(seats);
+    flusher.forget(199);
+    (seat, flusher)
 }
 
 /// It waits for 199 seats less where it was told that so many are gone.
 #[test]
 fn seats_that_are_gone_are_forgotten(rt: HostRuntime) {
     let alloc = rt.alloc();
-    let (mut seats, mut flusher) = flusher_on(&rt, alloc, device(&rt, alloc), 200);
-    let seat = seats.pop().expect(&rt, "a seat");
-    drop(seats);
-    flusher.forget(199);
-    let asking = thread::spawn(&rt, move || {
-        let mut seat = seat;
-        let reply = take_at(&rt, alloc, &mut seat, 1, 1);
-        (matches!(&reply, Reply::Taken(1)), seat.leave(&rt))
-    })
-    .ok()
-    .expect(&rt, "a thread");
-    let finished = flusher.serve(&rt);
+    let (seat, flusher) = seat_left_over(&rt, alloc);
+    let asking = spawned(&rt, move || take_and_leave(&rt, alloc, seat));
+    let finished = served(&rt, flusher);
     let (is_taken, _left) = asking.join(&rt);
     expect!(rt; is_taken);
     expect!(rt; finished.journal.position() == 1);
@@ -167,35 +192,79 @@ fn calls_share_a_round(rt: HostRuntime) {
     panic!(rt; "each run met the failure")
 }
 
-/// Two batches of takes of one peer, so many each, asked at a seat one after the other. How many were taken, in order,
-/// each with its answer.
-fn batches_at<R: Abort + Wait>(rt: &R, alloc: Global, mut seat: Seat, peer: u16, size: u64) -> u64 {
+/// Takes of one peer, under so many numbers from the first on.
+fn takes_from<R: Abort>(rt: &R, alloc: Global, peer: u16, first: u64, size: u64) -> Vec<Ask> {
     let mut asks = Vec::new(alloc);
-    let mut answers = Vec::with_capacity(alloc, 64).expect(rt, "memory");
-    let mut taken = 0u64;
-    for batch in 0..2u64 {
-        for place in 1..=size {
-            let number = batch.saturating_mul(size).saturating_add(place);
-            let ask = take(rt, alloc, peer, number);
-            asks.push(ask).ok().expect(rt, "memory");
-        }
-        if asks.is_empty() || asks.len() > 64 {
-            panic!(rt; "a batch has 1 to 64 asks");
-        }
-        if !answers.is_empty() || answers.capacity() < 64 {
-            panic!(rt; "no room for the answers");
-        }
-        seat.call_all(rt, &mut asks, &mut answers)
-            .expect(rt, "answers");
-        for answer in answers.drain(..) {
-            if answer.number == taken.saturating_add(1)
-                && matches!(&answer.reply, Reply::Taken(_))
-            {
-                taken = answer.number;
-            }
+    for place in 0..size {
+        let ask = take(rt, alloc, peer, first.saturating_add(place));
+        asks.push(ask).ok().expect(rt, "memory");
+    }
+    asks
+}
+
+/// Puts a batch at a seat.
+fn put_batch<R: Abort + Wait>(
+    rt: &R,
+    seat: &mut Seat,
+    asks: &mut Vec<Ask>,
+    answers: &mut Vec<Answer>,
+) {
+    if asks.is_empty() || asks.len() > 64 {
+        panic!(rt; "a batch has 1 to 64 asks");
+    }
+    if !answers.is_empty() || answers.capacity() < 64 {
+        panic!(rt; "no room for the answers");
+    }
+    seat.call_all(rt, asks, answers).expect(rt, "answers");
+}
+
+/// The last number that was taken, where that was the last one before these answers and each is to the take of the next.
+fn last_taken(answers: &[Answer], before: u64) -> u64 {
+    let mut taken = before;
+    for answer in answers {
+        if answer.number == taken.saturating_add(1) && matches!(&answer.reply, Reply::Taken(_)) {
+            taken = answer.number;
         }
     }
     taken
+}
+
+/// Two batches of takes of one peer, so many each, asked at a seat one after the other. How many were taken, in order,
+/// each with its answer.
+fn batches_at<R: Abort + Wait>(rt: &R, alloc: Global, mut seat: Seat, peer: u16, size: u64) -> u64 {
+    let mut answers = Vec::with_capacity(alloc, 64).expect(rt, "memory");
+    let mut taken = 0u64;
+    for batch in 0..2u64 {
+        let first = batch.saturating_mul(size).saturating_add(1);
+        let mut asks = takes_from(rt, alloc, peer, first, size);
+        put_batch(rt, &mut seat, &mut asks, &mut answers);
+        expect!(*rt; asks.is_empty());
+        taken = last_taken(answers.as_slice(), taken);
+        answers.clear();
+    }
+    taken
+}
+
+/// Seats in threads of their own, each with two batches of its own peer: 31 takes each at the first seat, 32 at the second, and so on.
+fn asking_batches<R: Abort + Threads + Wait + Copy + Send + 'static>(
+    rt: R,
+    alloc: Global,
+    seats: Vec<Seat>,
+) -> Vec<JoinHandle<u64>> {
+    let mut asking = Vec::new(alloc);
+    for (seat, peer) in seats.into_iter().zip(1..=4) {
+        let size = 30 + u64::from(peer);
+        let asked = spawned(&rt, move || batches_at(&rt, alloc, seat, peer, size));
+        asking.push(asked).expect(&rt, "memory");
+    }
+    asking
+}
+
+/// Checks that all takes of each seat were taken.
+fn expect_batches<R: Abort + Threads>(rt: &R, asking: Vec<JoinHandle<u64>>) {
+    for (asked, size) in asking.into_iter().zip(31..=34) {
+        expect!(*rt; asked.join(rt) == 2u64.saturating_mul(size));
+    }
 }
 
 /// Four seats in threads of their own, each with two batches that don't fit into one round with another's: all takes
@@ -203,19 +272,8 @@ fn batches_at<R: Abort + Wait>(rt: &R, alloc: Global, mut seat: Seat, peer: u16,
 #[test]
 fn batches_are_answered_in_order(rt: HostRuntime) {
     let alloc = rt.alloc();
-    let (seats, flusher) = flusher_on(&rt, alloc, device(&rt, alloc), 4);
-    let mut asking = Vec::new(alloc);
-    for (seat, peer) in seats.into_iter().zip(1..=4) {
-        let size = 30 + u64::from(peer);
-        let asked = thread::spawn(&rt, move || batches_at(&rt, alloc, seat, peer, size))
-            .ok()
-            .expect(&rt, "a thread");
-        asking.push(asked).expect(&rt, "memory");
-    }
-    let finished = flusher.serve(&rt);
-    for (asked, size) in asking.into_iter().zip(31..=34) {
-        expect!(rt; asked.join(&rt) == 2u64.saturating_mul(size));
-    }
-    expect!(rt; !finished.broken);
-    expect!(rt; finished.journal.position() == 2 * (31 + 32 + 33 + 34));
+    let (seats, flusher) = flusher_on(&rt, alloc, device(&rt, alloc), 256, 4);
+    let asking = asking_batches(rt, alloc, seats);
+    expect_served(&rt, flusher, 2 * (31 + 32 + 33 + 34));
+    expect_batches(&rt, asking);
 }

@@ -1,8 +1,10 @@
-//! Tests of what runs in threads: seats and their line, the flusher, the workers, and a relay of them.
+//! Tests of what runs in threads: seats and their line, the flusher, the workers, and a relay of
+//! them.
 //!
-//! A contract says what one call does for all inputs, and none says that a thread runs or that a message comes. These tests run
-//! threads to their end and compare what came of them with what a person wrote down (docs/DEFINITIONS.md, docs/PROTOCOL.md). They
-//! stand over the built libraries, so that these are proved once. No crate may call it: it has no code but tests.
+//! A contract says what one call does for all inputs, and none says that a thread runs or that a
+//! message comes. These tests run threads to their end and compare what came of them with what a
+//! person wrote down (docs/DEFINITIONS.md, docs/PROTOCOL.md). They stand over the built libraries,
+//! so that these are proved once. No crate may call it: it has no code but tests.
 #![tactic(auto)]
 
 /// As `assert!`, by one call: the prover then sees one way on where `assert!` has two. `assert!` stands where a later call needs
@@ -46,6 +48,8 @@ mod relays;
 mod rounds;
 #[cfg(test)]
 mod senders;
+#[cfg(test)]
+mod served;
 #[cfg(test)]
 mod unsure;
 #[cfg(test)]

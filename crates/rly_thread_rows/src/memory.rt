@@ -5,34 +5,51 @@ use crate::receivers::empty;
 use rly_core::HopId;
 use rly_machine::{Ask, Query, Reply};
 use rly_threads::{Desk, Link, MAX_PACKET, MemDesk, MemLink};
+use std::alloc::Global;
+use std::process::Abort;
 
 /// More calls than a bound of 1,000 or 1,024 would let through.
 const MANY: u64 = 1_100;
 
+/// Many short packets that come, and then one that fills a worker's buffer.
+fn coming<R: Abort>(rt: &R, alloc: Global, longest: &[u8]) -> Vec<Option<Vec<u8>>> {
+    let mut coming = Vec::new(alloc);
+    for _packet in 0..MANY {
+        let given = Some(b"abc".to_vec(alloc).expect(rt, "memory"));
+        coming.push(given).expect(rt, "memory");
+    }
+    let given = Some(longest.to_vec(alloc).expect(rt, "memory"));
+    coming.push(given).expect(rt, "memory");
+    coming
+}
+
+/// Checks that a link gives a short packet, and sends one.
+fn expect_short<R: Abort>(rt: &R, link: &mut MemLink) {
+    let mut buffer = [0; 8];
+    expect!(*rt; link.try_recv(&mut buffer) == Ok(Some(3)));
+    expect!(*rt; buffer.starts_with(b"abc"));
+    expect!(*rt; link.send(b"abc") == Ok(()));
+}
+
+/// Checks that a link gives the longest packet and sends it, and gives nothing after that.
+fn expect_longest<R: Abort>(rt: &R, link: &mut MemLink, longest: &[u8]) {
+    let mut buffer = [0; MAX_PACKET];
+    expect!(*rt; link.try_recv(&mut buffer) == Ok(Some(MAX_PACKET)));
+    expect!(*rt; buffer.as_slice() == longest);
+    expect!(*rt; link.send(longest) == Ok(()));
+    expect!(*rt; link.try_recv(&mut buffer) == Ok(None));
+}
+
 /// A link gives each packet, and keeps each that is sent: many short ones, and then one that fills a worker's buffer.
 #[test]
 fn a_link_carries_many_packets(rt: HostRuntime) {
-    let alloc = rt.alloc();
     let longest = [7u8; MAX_PACKET];
-    let mut coming = Vec::new(alloc);
+    let coming = coming(&rt, rt.alloc(), &longest);
+    let mut link = MemLink::new(rt.alloc(), coming, 0);
     for _packet in 0..MANY {
-        let given = Some(b"abc".to_vec(alloc).expect(&rt, "memory"));
-        coming.push(given).expect(&rt, "memory");
+        expect_short(&rt, &mut link);
     }
-    let given = Some(longest.to_vec(alloc).expect(&rt, "memory"));
-    coming.push(given).expect(&rt, "memory");
-    let mut link = MemLink::new(alloc, coming, 0);
-    for _packet in 0..MANY {
-        let mut buffer = [0; 8];
-        expect!(rt; link.try_recv(&mut buffer) == Ok(Some(3)));
-        expect!(rt; buffer.starts_with(b"abc"));
-        expect!(rt; link.send(b"abc") == Ok(()));
-    }
-    let mut buffer = [0; MAX_PACKET];
-    expect!(rt; link.try_recv(&mut buffer) == Ok(Some(MAX_PACKET)));
-    expect!(rt; buffer.as_slice() == longest.as_slice());
-    expect!(rt; link.send(&longest) == Ok(()));
-    expect!(rt; link.try_recv(&mut buffer) == Ok(None));
+    expect_longest(&rt, &mut link, &longest);
     expect!(rt; link.failures() == 0);
     expect!(rt; link.delivered().len() as u64 == MANY + 1);
     expect!(rt; link.delivered().iter().take(1_000).all(|sent| sent.as_slice() == b"abc".as_slice()));

@@ -2,11 +2,10 @@
 
 ghost use Rattle.std.specs.Prelude.{None, false};
 
-use crate::devices::device;
+use crate::devices::new_journal;
 use crate::workers::link_with;
 use rly_core::{HopId, PeerId};
 use rly_disk::MemDisk;
-use rly_journal::Journal;
 use rly_plan::Plan;
 use rly_threads::{Go, MemLink, Point, Post, Relayed, Turn, Worker, run_relay};
 use std::alloc::Global;
@@ -14,6 +13,7 @@ use std::process::Abort;
 use std::sync::Wait;
 use std::sync::atomic::{AtomicU64, Ordering};
 use std::thread;
+use std::thread::Threads;
 use std::time::{Clock, Duration};
 
 /// Station 7, with stations 3 and 4 upstream and station 9 as the next hop.
@@ -154,25 +154,37 @@ fn expect_taken<R: Abort>(rt: &R, relayed: &Relayed<MemDisk, MemLink, Held<'_, H
     }
 }
 
+/// Runs a relay of three posts to its end.
+fn relayed<'a, R: Abort + Threads + Wait + Sync>(
+    rt: &R,
+    alloc: Global,
+    posts: Vec<Post<MemLink, Held<'a, HostRuntime>>>,
+) -> Relayed<MemDisk, MemLink, Held<'a, HostRuntime>> {
+    let plan = Plan::from_toml(alloc, PLAN).ok().expect(rt, "a plan");
+    if posts.len() != 3 {
+        panic!(rt; "three posts");
+    }
+    run_relay(rt, alloc, new_journal(rt, alloc), &plan, posts)
+        .ok()
+        .expect(rt, "a relay")
+}
+
+/// Checks that the other two are answered while this worker is held.
+fn expect_overlap<R: Abort + Threads + Wait + Sync>(rt: &R, clock: HostRuntime, held: Worker) {
+    let answered = AtomicU64::new(0);
+    let gave_up = AtomicU64::new(0);
+    let posts = posts(rt, clock, held, &answered, &gave_up);
+    let relayed = relayed(rt, clock.alloc(), posts);
+    expect_taken(rt, &relayed);
+    expect!(*rt; gave_up.load(Ordering::SeqCst) == 0);
+    expect!(*rt; answered.load(Ordering::SeqCst) == 3);
+}
+
 /// Two receivers and a sender run side by side: whichever is held before its first call, the other two are answered
 /// meanwhile, and then it is.
 #[test]
 fn receivers_overlap(rt: HostRuntime) {
-    let alloc = rt.alloc();
-    let plan = Plan::from_toml(alloc, PLAN).ok().expect(&rt, "a plan");
     for held in WORKERS {
-        let answered = AtomicU64::new(0);
-        let gave_up = AtomicU64::new(0);
-        let posts = posts(&rt, rt, held, &answered, &gave_up);
-        assert!(rt; posts.len() == 3);
-        let journal = Journal::open(alloc, device(&rt, alloc))
-            .ok()
-            .expect(&rt, "a journal");
-        let relayed = run_relay(&rt, alloc, journal, &plan, posts)
-            .ok()
-            .expect(&rt, "a relay");
-        expect_taken(&rt, &relayed);
-        expect!(rt; gave_up.load(Ordering::SeqCst) == 0);
-        expect!(rt; answered.load(Ordering::SeqCst) == 3);
+        expect_overlap(&rt, rt, held);
     }
 }

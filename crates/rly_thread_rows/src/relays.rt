@@ -2,12 +2,12 @@
 
 ghost use Rattle.std.specs.Prelude.{◌≤◌, None, false, length};
 
-use crate::devices::{device, wide_device};
+use crate::devices::{journal_on, new_journal, wide_device};
 use crate::overlap::PLAN;
 use crate::receivers::numbered;
 use crate::rounds::broken_journal;
 use rly_core::PeerId;
-use rly_disk::Disk;
+use rly_disk::{Disk, MemDisk};
 use rly_journal::Journal;
 use rly_plan::Plan;
 use rly_threads::{Go, MemLink, Point, Post, Relayed, Turn, Worker, run_relay};
@@ -99,47 +99,52 @@ fn alone<R: Abort + Threads + Wait + Sync, D: Disk + Drop>(
     relayed(rt, alloc, journal, posts)
 }
 
-/// One worker takes 70 datagrams in two turns, of which the first has 64. A relay over the journal that this one leaves takes the
-/// next.
-#[test]
-fn a_worker_alone_takes_full_batches(rt: HostRuntime) {
-    let alloc = rt.alloc();
-    let journal = Journal::open(alloc, device(&rt, alloc))
-        .ok()
-        .expect(&rt, "a journal");
+/// The journal of a relay of one worker, which took 70 datagrams in two turns.
+fn journal_of_70<R: Abort + Threads + Wait + Sync>(rt: &R, alloc: Global) -> Journal<MemDisk> {
     let Relayed {
         finished,
         ended,
         is_cut,
         complete,
-    } = alone(&rt, alloc, journal, 1, 70);
-    expect!(rt; complete && !is_cut);
-    expect!(rt; matches!(finished.journal.last(PeerId(1)), Ok(70)));
+    } = alone(rt, alloc, new_journal(rt, alloc), 1, 70);
+    expect!(*rt; complete && !is_cut);
+    expect!(*rt; matches!(finished.journal.last(PeerId(1)), Ok(70)));
     for worker in &ended {
-        expect!(rt; matches!(worker, Some(worker) if worker.post.link.delivered().len() == 2));
+        expect!(*rt; matches!(worker, Some(worker) if worker.post.link.delivered().len() == 2));
     }
-    let second = alone(&rt, alloc, finished.journal, 71, 71);
+    finished.journal
+}
+
+/// One worker takes 70 datagrams in two turns, of which the first has 64. A relay over the journal that this one leaves takes the
+/// next.
+#[test]
+fn a_worker_alone_takes_full_batches(rt: HostRuntime) {
+    let journal = journal_of_70(&rt, rt.alloc());
+    let second = alone(&rt, rt.alloc(), journal, 71, 71);
     expect!(rt; second.complete && !second.finished.broken);
     expect!(rt; matches!(second.finished.journal.last(PeerId(1)), Ok(71)));
+}
+
+/// The posts of 256 workers, of which the first hears a datagram.
+fn many_posts<R: Abort>(rt: &R, alloc: Global) -> Vec<Post<MemLink, Turns>> {
+    let mut posts = Vec::new(alloc);
+    for peer in 1..=256 {
+        let last = if peer == 1 { 1 } else { 0 };
+        let post = post(rt, alloc, peer, 1, last, 2);
+        posts.push(post).expect(rt, "memory");
+    }
+    posts
 }
 
 /// A relay may have 256 workers, over a journal of 64 hops and peers. Those whose peer isn't in the plan end at once.
 #[test]
 fn as_many_workers_as_a_line_has_seats(rt: HostRuntime) {
     let alloc = rt.alloc();
-    let journal = Journal::open(alloc, wide_device(&rt, alloc))
-        .ok()
-        .expect(&rt, "a journal");
-    let mut posts = Vec::new(alloc);
-    for peer in 1..=256 {
-        let last = if peer == 1 { 1 } else { 0 };
-        posts
-            .push(post(&rt, alloc, peer, 1, last, 2))
-            .expect(&rt, "memory");
-    }
+    let posts = many_posts(&rt, alloc);
     if posts.is_empty() || posts.len() > 256 {
         panic!(rt; "256 posts");
     }
+    let journal = journal_on(&rt, alloc, wide_device(&rt, alloc));
     let left = relayed(&rt, alloc, journal, posts);
     expect!(rt; left.complete && !left.is_cut);
     expect!(rt; left.ended.len() == 256);

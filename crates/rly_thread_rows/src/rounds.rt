@@ -4,19 +4,20 @@
 ghost use Rattle.std.specs.Prelude.{◌≤◌, length};
 
 use crate::asks::{take, take_at, window};
-use crate::devices::{device, wide_device};
+use crate::devices::{device, new_journal, wide_device};
+use crate::served::{flusher_on, one_seat, round, served, spawned, two_seats};
 use rly_core::Refusal;
 use rly_disk::{After, Disk, FaultDisk, MemDisk};
 use rly_flush::Flusher;
 use rly_journal::Journal;
-use rly_line::{CallError, Seat, make};
-use rly_machine::Reply;
+use rly_line::{CallError, Seat};
+use rly_machine::{Answer, Ask, Reply};
 use rly_threads::Desk;
 use std::alloc::Global;
 use std::process::Abort;
 use std::sync::Wait;
 use std::thread;
-use std::thread::Threads;
+use std::thread::{JoinHandle, Threads};
 use std::time::{Clock, Duration};
 
 /// Above the numbers at which an answer might be kept back or a seat shut: 1,000, 1,024 and 2,048.
@@ -37,22 +38,36 @@ fn questions_at<R: Abort + Wait, K: Desk + Drop>(rt: &R, mut desk: K, count: u64
 #[test]
 fn a_seat_is_answered_on_and_on(rt: HostRuntime) {
     let alloc = rt.alloc();
-    let journal = Journal::open(alloc, device(&rt, alloc))
-        .ok()
-        .expect(&rt, "a journal");
-    let Ok((mut seats, line)) = make(alloc, 1, 1) else {
-        panic!(rt; "memory");
-    };
-    let flusher = Flusher::new(alloc, journal, line)
-        .ok()
-        .expect(&rt, "memory");
-    let seat = seats.pop().expect(&rt, "a seat");
-    let asking = thread::spawn(&rt, move || questions_at(&rt, seat, MANY))
-        .ok()
-        .expect(&rt, "a thread");
-    let finished = flusher.serve(&rt);
+    let (seat, flusher) = one_seat(&rt, alloc, new_journal(&rt, alloc));
+    let asking = spawned(&rt, move || questions_at(&rt, seat, MANY));
+    let finished = served(&rt, flusher);
     expect!(rt; asking.join(&rt) == MANY);
     expect!(rt; !finished.broken);
+}
+
+/// So many questions, to be asked together.
+fn windows<R: Abort>(rt: &R, alloc: Global, size: usize) -> Vec<Ask> {
+    let mut asks = Vec::new(alloc);
+    for _ask in 0..size {
+        asks.push(window()).ok().expect(rt, "memory");
+    }
+    asks
+}
+
+/// Puts a batch at a desk.
+fn put_batch<R: Abort + Wait, K: Desk>(
+    rt: &R,
+    desk: &mut K,
+    asks: &mut Vec<Ask>,
+    answers: &mut Vec<Answer>,
+) {
+    if asks.is_empty() || asks.len() > 64 {
+        panic!(rt; "a batch has 1 to 64 asks");
+    }
+    if !answers.is_empty() || answers.capacity() < 64 {
+        panic!(rt; "no room for the answers");
+    }
+    desk.call_all(rt, asks, answers).expect(rt, "answers");
 }
 
 /// So many questions at a seat together. How many were answered.
@@ -62,19 +77,9 @@ fn batch_at<R: Abort + Wait, K: Desk + Drop>(
     mut desk: K,
     size: usize,
 ) -> usize {
-    let mut asks = Vec::new(alloc);
+    let mut asks = windows(rt, alloc, size);
     let mut answers = Vec::with_capacity(alloc, 64).expect(rt, "memory");
-    for _ask in 0..size {
-        asks.push(window()).ok().expect(rt, "memory");
-    }
-    if asks.is_empty() || asks.len() > 64 {
-        panic!(rt; "a batch has 1 to 64 asks");
-    }
-    if !answers.is_empty() || answers.capacity() < 64 {
-        panic!(rt; "no room for the answers");
-    }
-    desk.call_all(rt, &mut asks, &mut answers)
-        .expect(rt, "answers");
+    put_batch(rt, &mut desk, &mut asks, &mut answers);
     answers.len()
 }
 
@@ -82,12 +87,35 @@ fn batch_at<R: Abort + Wait, K: Desk + Drop>(
 fn rounds_to_end<R: Wait, D: Disk + Drop>(rt: &R, flusher: &mut Flusher<D>) -> u64 {
     let mut rounds = 0u64;
     for _round in 0..=64 {
-        if !flusher.round(rt) {
+        if !round(rt, flusher) {
             break;
         }
         rounds = rounds.saturating_add(1);
     }
     rounds
+}
+
+/// Seats in threads of their own, each with a batch of its size.
+fn asking_batches<R: Abort + Threads + Wait + Copy + Send + 'static>(
+    rt: R,
+    alloc: Global,
+    seats: Vec<Seat>,
+    sizes: &[usize],
+) -> Vec<JoinHandle<usize>> {
+    let mut asking = Vec::new(alloc);
+    for (seat, size) in seats.into_iter().zip(sizes) {
+        let size = *size;
+        let asked = spawned(&rt, move || batch_at(&rt, alloc, seat, size));
+        asking.push(asked).expect(&rt, "memory");
+    }
+    asking
+}
+
+/// Checks that each batch was answered whole.
+fn expect_sizes<R: Abort + Threads>(rt: &R, asking: Vec<JoinHandle<usize>>, sizes: &[usize]) {
+    for (asked, size) in asking.into_iter().zip(sizes) {
+        expect!(*rt; asked.join(rt) == *size);
+    }
 }
 
 /// So many rounds a flusher makes that begins after so many milliseconds, where each of some seats asks a batch of its size.
@@ -99,28 +127,12 @@ fn rounds_of<R: Abort + Threads + Wait + Clock + Copy + Send + 'static>(
 ) -> u64
     requires { (1 ≤ length sizes.now) × (length sizes.now ≤ 64) }
 {
-    let journal = Journal::open(alloc, device(&rt, alloc))
-        .ok()
-        .expect(&rt, "a journal");
-    let Ok((seats, line)) = make(alloc, sizes.len() as u16, sizes.len() as u16) else {
-        panic!(rt; "memory");
-    };
-    let mut flusher = Flusher::new(alloc, journal, line)
-        .ok()
-        .expect(&rt, "memory");
-    let mut asking = Vec::new(alloc);
-    for (seat, size) in seats.into_iter().zip(sizes) {
-        let size = *size;
-        let asked = thread::spawn(&rt, move || batch_at(&rt, alloc, seat, size))
-            .ok()
-            .expect(&rt, "a thread");
-        asking.push(asked).expect(&rt, "memory");
-    }
+    let count = sizes.len() as u16;
+    let (seats, mut flusher) = flusher_on(&rt, alloc, device(&rt, alloc), count, count);
+    let asking = asking_batches(rt, alloc, seats, sizes);
     thread::sleep(&rt, Duration::from_millis(begins_after));
     let rounds = rounds_to_end(&rt, &mut flusher);
-    for (asked, size) in asking.into_iter().zip(sizes) {
-        expect!(rt; asked.join(&rt) == *size);
-    }
+    expect_sizes(&rt, asking, sizes);
     rounds
 }
 
@@ -158,19 +170,11 @@ fn a_round_takes_64_asks(rt: HostRuntime) {
 #[test]
 fn a_flusher_of_the_widest_journal(rt: HostRuntime) {
     let alloc = rt.alloc();
-    let journal = Journal::open(alloc, wide_device(&rt, alloc))
-        .ok()
-        .expect(&rt, "a journal");
-    let Ok((seats, line)) = make(alloc, 256, 256) else {
-        panic!(rt; "memory");
-    };
-    let flusher = Flusher::new(alloc, journal, line)
-        .ok()
-        .expect(&rt, "memory");
+    let (seats, flusher) = flusher_on(&rt, alloc, wide_device(&rt, alloc), 256, 256);
     for seat in seats {
         let _left = seat.leave(&rt);
     }
-    let finished = flusher.serve(&rt);
+    let finished = served(&rt, flusher);
     expect!(rt; !finished.broken);
     expect!(rt; finished.journal.params().window == 64);
 }
@@ -194,33 +198,43 @@ fn refusal_in(reply: &Reply) -> Option<Refusal> {
     }
 }
 
+/// A flusher and its one seat over a device whose call of this number fails, and all after it. None where no journal opens on it.
+fn failing<R: Abort>(
+    rt: &R,
+    alloc: Global,
+    fails_at: u64,
+) -> Option<(Seat, Flusher<FaultDisk<MemDisk>>)> {
+    let disk = FaultDisk::new(device(rt, alloc), fails_at, 0, After::Stops);
+    let journal = Journal::open(alloc, disk).ok()?;
+    Some(one_seat(rt, alloc, journal))
+}
+
+/// How two takes were refused that a flusher answers in a round each, after which no seat is left.
+fn told_in_rounds<R: Abort + Threads + Wait + Copy + Send + 'static>(
+    rt: R,
+    alloc: Global,
+    seat: Seat,
+    mut flusher: Flusher<FaultDisk<MemDisk>>,
+) -> (Option<Refusal>, Option<Refusal>) {
+    let asking = spawned(&rt, move || two_takes(&rt, alloc, seat));
+    expect!(rt; round(&rt, &mut flusher));
+    expect!(rt; round(&rt, &mut flusher));
+    let told = asking.join(&rt);
+    expect!(rt; !round(&rt, &mut flusher));
+    told
+}
+
 /// A round takes a call and answers it also where the journal broke in the round before: 12 of the round that broke it, and
 /// 11 of the next. Then one more finds that no seat is left. A round has four calls of its device, and the first round is met
 /// by four of the runs.
 #[test]
 fn a_round_of_a_broken_journal_answers(rt: HostRuntime) {
-    let alloc = rt.alloc();
     let mut broken = 0u64;
     for fails_at in 1..100 {
-        let disk = FaultDisk::new(device(&rt, alloc), fails_at, 0, After::Stops);
-        let Ok(journal) = Journal::open(alloc, disk) else {
+        let Some((seat, flusher)) = failing(&rt, rt.alloc(), fails_at) else {
             continue;
         };
-        let Ok((mut seats, line)) = make(alloc, 1, 1) else {
-            panic!(rt; "memory");
-        };
-        let mut flusher = Flusher::new(alloc, journal, line)
-            .ok()
-            .expect(&rt, "memory");
-        let seat = seats.pop().expect(&rt, "a seat");
-        let asking = thread::spawn(&rt, move || two_takes(&rt, alloc, seat))
-            .ok()
-            .expect(&rt, "a thread");
-        expect!(rt; flusher.round(&rt));
-        expect!(rt; flusher.round(&rt));
-        let told = asking.join(&rt);
-        expect!(rt; !flusher.round(&rt));
-        match told {
+        match told_in_rounds(rt, rt.alloc(), seat, flusher) {
             (Some(first), second) => {
                 expect!(rt; first == Refusal::Unsure);
                 expect!(rt; second == Some(Refusal::Broken));
@@ -240,30 +254,32 @@ fn take_once<R: Abort + Wait>(rt: &R, alloc: Global, mut seat: Seat) {
     let _told = seat.call(rt, take(rt, alloc, 1, 1));
 }
 
+/// The journal that a flusher leaves after a take at its seat, if it broke.
+fn broken_by_a_take<R: Abort + Threads + Wait + Copy + Send + 'static>(
+    rt: R,
+    alloc: Global,
+    seat: Seat,
+    flusher: Flusher<FaultDisk<MemDisk>>,
+) -> Option<Journal<FaultDisk<MemDisk>>> {
+    let asking = spawned(&rt, move || take_once(&rt, alloc, seat));
+    let finished = served(&rt, flusher);
+    asking.join(&rt);
+    match finished.broken {
+        true => Some(finished.journal),
+        false => None,
+    }
+}
+
 /// A journal that broke in its first round.
 pub(super) fn broken_journal<R: Abort + Threads + Wait + Copy + Send + 'static>(
     rt: R,
     alloc: Global,
 ) -> Journal<FaultDisk<MemDisk>> {
     for fails_at in 1..100 {
-        let disk = FaultDisk::new(device(&rt, alloc), fails_at, 0, After::Stops);
-        let Ok(journal) = Journal::open(alloc, disk) else {
-            continue;
-        };
-        let Ok((mut seats, line)) = make(alloc, 1, 1) else {
-            panic!(rt; "memory");
-        };
-        let flusher = Flusher::new(alloc, journal, line)
-            .ok()
-            .expect(&rt, "memory");
-        let seat = seats.pop().expect(&rt, "a seat");
-        let asking = thread::spawn(&rt, move || take_once(&rt, alloc, seat))
-            .ok()
-            .expect(&rt, "a thread");
-        let finished = flusher.serve(&rt);
-        asking.join(&rt);
-        if finished.broken {
-            return finished.journal;
+        if let Some((seat, flusher)) = failing(&rt, alloc, fails_at) {
+            if let Some(journal) = broken_by_a_take(rt, alloc, seat, flusher) {
+                return journal;
+            }
         }
     }
     panic!(rt; "no journal broke")
@@ -291,31 +307,37 @@ fn question_at<R: Wait>(rt: &R, mut seat: Seat) -> Told {
     }
 }
 
+/// A thread that asks once at a seat.
+fn asking_once<R: Abort + Threads + Wait + Copy + Send + 'static>(
+    rt: R,
+    seat: Seat,
+) -> JoinHandle<Told> {
+    spawned(&rt, move || question_at(&rt, seat))
+}
+
+/// What became of two questions at the seats of a flusher over a broken journal, which begins after so many milliseconds. Its end of
+/// the lines is kept until both are told.
+fn told_of_the_end<R: Abort + Threads + Wait + Clock + Copy + Send + 'static>(
+    rt: R,
+    alloc: Global,
+    begins_after: u64,
+) -> (Told, Told) {
+    let (first, second, flusher) = two_seats(&rt, alloc, broken_journal(rt, alloc), 2);
+    let one = asking_once(rt, first);
+    let other = asking_once(rt, second);
+    thread::sleep(&rt, Duration::from_millis(begins_after));
+    let finished = served(&rt, flusher);
+    let told = (one.join(&rt), other.join(&rt));
+    expect!(rt; finished.broken);
+    told
+}
+
 /// Of two questions that wait for a flusher over a broken journal one is answered, and the other is left in the line. Its seat
 /// is told that no answers come, though the lines are kept. The flusher begins later each time, until both wait.
 #[test]
 fn a_seat_that_waits_is_told_of_the_end(rt: HostRuntime) {
-    let alloc = rt.alloc();
     for begins_after in &[10, 20, 40, 80, 160, 320, 640, 1_280, 2_560, 5_120] {
-        let Ok((mut seats, line)) = make(alloc, 2, 2) else {
-            panic!(rt; "memory");
-        };
-        let flusher = Flusher::new(alloc, broken_journal(rt, alloc), line)
-            .ok()
-            .expect(&rt, "memory");
-        let second = seats.pop().expect(&rt, "two seats");
-        let first = seats.pop().expect(&rt, "two seats");
-        let one = thread::spawn(&rt, move || question_at(&rt, first))
-            .ok()
-            .expect(&rt, "a thread");
-        let other = thread::spawn(&rt, move || question_at(&rt, second))
-            .ok()
-            .expect(&rt, "a thread");
-        thread::sleep(&rt, Duration::from_millis(*begins_after));
-        let finished = flusher.serve(&rt);
-        let told = (one.join(&rt), other.join(&rt));
-        expect!(rt; finished.broken);
-        match told {
+        match told_of_the_end(rt, rt.alloc(), *begins_after) {
             (Told::Broken, Told::Lost) | (Told::Lost, Told::Broken) => return,
             (Told::Broken, Told::Closed) | (Told::Closed, Told::Broken) => {}
             _ => panic!(rt; "one is answered, and the other told of the end"),

@@ -4,20 +4,19 @@ ghost use Rattle.std.specs.Prelude.{None};
 
 use crate::devices::device;
 use crate::receivers::{CUSTODY, DATA};
+use crate::served::{served, spawned, two_seats};
 use crate::workers::{link_with, plan};
 use rly_core::{PeerId, Refusal};
 use rly_disk::{After, FaultDisk, MemDisk};
-use rly_flush::Flusher;
 use rly_journal::Journal;
-use rly_line::{BatchError, CallError, Seat, make};
+use rly_line::{BatchError, CallError, Seat};
 use rly_machine::{Answer, Ask, Reply};
-use rly_plan::Plan;
-use rly_threads::{Desk, Ends, MemTurn, receiver_run};
+use rly_threads::{Desk, Ends, MemLink, MemTurn, receiver_run};
 use std::alloc::Global;
 use std::process::Abort;
 use std::sync::Wait;
 use std::thread;
-use std::thread::Threads;
+use std::thread::{JoinHandle, Threads};
 use std::time::{Clock, Duration};
 
 /// How a take was answered.
@@ -73,27 +72,42 @@ fn told_by(reply: &Reply) -> Told {
     }
 }
 
-/// A receiver hears the datagram once and asks for it at a seat. How it was answered. It sends custody exactly if the datagram
-/// is kept.
-fn receive<R: Abort + Wait>(rt: &R, alloc: Global, plan: &Plan, seat: Seat) -> Told {
+/// A receiver hears the datagram once and asks for it at a seat. Its link, and how it was answered.
+fn hear<R: Abort + Wait>(rt: &R, alloc: Global, seat: Seat) -> (MemLink, Told) {
+    let desk = Noting {
+        seat,
+        told: Told::Nothing,
+    };
     let mut ends = Ends {
         link: link_with(rt, alloc, 1, &[0], DATA, 0),
-        desk: Noting {
-            seat,
-            told: Told::Nothing,
-        },
+        desk,
         turn: MemTurn::new(150, 1, 1),
     };
-    receiver_run(rt, alloc, plan, PeerId(1), &mut ends);
-    let delivered = ends.link.delivered();
-    match ends.desk.told {
+    receiver_run(rt, alloc, &plan(rt, alloc), PeerId(1), &mut ends);
+    (ends.link, ends.desk.told)
+}
+
+/// How that receiver was answered. It sends custody exactly if the datagram is kept.
+fn receive<R: Abort + Wait>(rt: &R, alloc: Global, seat: Seat) -> Told {
+    let (link, told) = hear(rt, alloc, seat);
+    let delivered = link.delivered();
+    match told {
         Told::Kept => {
-            expect!(rt; delivered.len() == 1);
-            expect!(rt; delivered.iter().all(|packet| packet.as_slice() == CUSTODY));
+            expect!(*rt; delivered.len() == 1);
+            expect!(*rt; delivered.iter().all(|packet| packet.as_slice() == CUSTODY));
         }
-        _ => expect!(rt; delivered.is_empty()),
+        _ => expect!(*rt; delivered.is_empty()),
     }
-    ends.desk.told
+    told
+}
+
+/// A thread in which that receiver runs.
+fn receiving<R: Abort + Threads + Wait + Copy + Send + 'static>(
+    rt: R,
+    alloc: Global,
+    seat: Seat,
+) -> JoinHandle<Told> {
+    spawned(&rt, move || receive(&rt, alloc, seat))
 }
 
 /// Two receivers, each in a thread of its own, over a journal, whose flusher begins after so many milliseconds. How each was
@@ -104,23 +118,11 @@ fn copies_over<R: Abort + Threads + Wait + Clock + Copy + Send + 'static>(
     journal: Journal<FaultDisk<MemDisk>>,
     begins_after: u64,
 ) -> (Told, Told) {
-    let Ok((mut seats, line)) = make(alloc, 2, 2) else {
-        panic!(rt; "memory");
-    };
-    let flusher = Flusher::new(alloc, journal, line)
-        .ok()
-        .expect(&rt, "memory");
-    let second = seats.pop().expect(&rt, "two seats");
-    let first = seats.pop().expect(&rt, "two seats");
-    let (one, other) = (plan(&rt, alloc), plan(&rt, alloc));
-    let one = thread::spawn(&rt, move || receive(&rt, alloc, &one, first))
-        .ok()
-        .expect(&rt, "a thread");
-    let other = thread::spawn(&rt, move || receive(&rt, alloc, &other, second))
-        .ok()
-        .expect(&rt, "a thread");
+    let (first, second, flusher) = two_seats(&rt, alloc, journal, 2);
+    let one = receiving(rt, alloc, first);
+    let other = receiving(rt, alloc, second);
     thread::sleep(&rt, Duration::from_millis(begins_after));
-    let finished = flusher.serve(&rt);
+    let finished = served(&rt, flusher);
     let told = (one.join(&rt), other.join(&rt));
     expect!(rt; finished.broken == (told != (Told::Kept, Told::Kept)));
     told
