@@ -32,6 +32,8 @@ mod expect;
 #[cfg(test)]
 mod extremes;
 #[cfg(test)]
+mod far_numbers;
+#[cfg(test)]
 mod faults;
 #[cfg(test)]
 mod growths;
