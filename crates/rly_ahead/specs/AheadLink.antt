@@ -19,8 +19,8 @@ pub record AheadView (L : Type 0) : Type 0 where
 abbrev pub new_ahead : {L : Type 0} → L → StationId → StationId → EarlyView → AheadView L
 new_ahead link own peer early = record { link = link; own = own; peer = peer; early = early; given = [] }
 
--- What it heard is what it gave, whether that came now or earlier. What it sent, and how many of its calls failed, is what the link
--- below tells.
+-- What it heard is what it gave, whether that came now or earlier. What it sent, and how many of its calls
+-- failed, is what the link below tells.
 abbrev pub ahead_heard : {L : Type 0} → AheadView L → Option (List Hearing)
 ahead_heard a = Some a.given
 
@@ -32,7 +32,8 @@ ahead_failed failed a = failed a.link
 
 -- the number of a Data from the peer to this station, if the message is one
 abbrev pub data_in : StationId → StationId → Option (Message (List ℕ)) → Option ℕ
-data_in own peer (Some (Data from to number payload)) = if (from.0 == peer.0) && (to.0 == own.0) then Some number else None
+data_in own peer (Some (Data from to number payload)) =
+    if (from.0 == peer.0) && (to.0 == own.0) then Some number else None
 data_in own peer (Some (Custody from to last)) = None
 data_in own peer (Some (Refused from to number refusal)) = None
 data_in own peer None = None

@@ -31,8 +31,11 @@ pub fn audit<D: Disk, W: Write>(
     // Where the writer fails, a prefix of that report was written, and never all.
     ensures begun { IfErr result (λ failed. failed.0 ≡ AuditFault.Output → IsBegun (D.state disk) (W.contents writer.old) (W.contents writer.new)) }
     // At a refusal nothing was written; it is that of the first check of opening that fails, or 14 or 23.
-    ensures silent { IfErr result (λ failed. (refusal : ARefusal) → failed.0 ≡ AuditFault.Refused refusal → Keeps (W.contents writer.old) (W.contents writer.new)) }
-    ensures refused { (D.state disk).honest → IfErr result (λ failed. (refusal : ARefusal) → failed.0 ≡ AuditFault.Refused refusal → IsRefusal (D.state disk).seen refusal) }
+    ensures silent { IfErr result (λ failed. (refusal : ARefusal) → failed.0 ≡ AuditFault.Refused refusal
+        → Keeps (W.contents writer.old) (W.contents writer.new)) }
+    ensures refused { (D.state disk).honest
+        → IfErr result (λ failed. (refusal : ARefusal) → failed.0 ≡ AuditFault.Refused refusal
+        → IsRefusal (D.state disk).seen refusal) }
     // The device was opened, and nothing else was asked of it. 23 is answered where a call of it failed, which was the last.
     ensures trace { MatchResult result (λ left. (x : AScan) × Makes D.state (opening x) true disk left)
         (λ failed. BreaksOpening D.state (audit_tells failed.0) disk failed.1) }
@@ -62,7 +65,8 @@ fn report<D: Disk, W: Write>(
     requires counted { journal.now.position ≡ journal.now.state.seq }
     ensures written { OnOk result (Appends (W.contents writer.old) (W.contents writer.new) (report_of journal.now.state)) }
     ensures balance { balances (books_of journal.now.state) ≡ true }
-    ensures fault { IfErr result (λ fault. ((fault ≡ AuditFault.Output) × BreaksOff (W.contents writer.old) (W.contents writer.new) (report_of journal.now.state))
+    ensures fault { IfErr result (λ fault. ((fault ≡ AuditFault.Output)
+        × BreaksOff (W.contents writer.old) (W.contents writer.new) (report_of journal.now.state))
         ⊎ ((fault ≡ AuditFault.Refused Refusal.OutOfMemory) × Keeps (W.contents writer.old) (W.contents writer.new))) }
 {
     journal.law_sound();

@@ -3,10 +3,13 @@ use Rattle.std.specs.Prelude.{◌≡◌, ℕ, ◌+◌, ◌<◌, ◌≤◌, List,
 use Rattle.rly_machine.specs.State.{HopState, live_line}
 use Rattle.rly_record.specs.HelpersReading.{Reader}
 
--- forms are read as they are spelled, of what can be spelled. Each has a byte, and at most 9 more than its content is long
-pub record AreForms {P : Type 0} (len : P → ℕ) (form : P → List ℕ) (HasForm : P → Type 0) (form_at : ℕ → Reader P) : Type 0 where
+-- forms are read as they are spelled, of what can be spelled. Each has a byte, and at
+-- most 9 more than its content is long
+pub record AreForms {P : Type 0} (len : P → ℕ) (form : P → List ℕ) (HasForm : P → Type 0) (form_at : ℕ → Reader P)
+    : Type 0 where
   pub takes : (size : ℕ) (bytes : List ℕ) (payload : P) (rest : List ℕ) → ((i : ℕ) → slice_index bytes i < 256)
-      → form_at size bytes ≡ Some (payload, rest) → (bytes ≡ form payload ++ rest) × (len payload ≡ size) × HasForm payload
+      → form_at size bytes ≡ Some (payload, rest)
+      → (bytes ≡ form payload ++ rest) × (len payload ≡ size) × HasForm payload
   pub again : (payload : P) (rest : List ℕ) → HasForm payload
       → form_at (len payload) (form payload ++ rest) ≡ Some (payload, rest)
   pub some : (payload : P) → 1 ≤ length (form payload)

@@ -46,7 +46,8 @@ entries_at form_at count bytes =
 -- what is in flight and what waits, after the counts of both
 unfoldable pub lines_at : {P : Type 0} → (ℕ → Reader P) → Reader (List (Item P) × List (Item P))
 lines_at form_at = made_at (λ (in_flight, (waiting, lines)). lines)
-    (then_at (field_at 2) (λ in_flight. then_at (field_at 4) (λ waiting. entries_at form_at in_flight ⊗ entries_at form_at waiting)))
+    (then_at (field_at 2) (λ in_flight. then_at (field_at 4)
+    (λ waiting. entries_at form_at in_flight ⊗ entries_at form_at waiting)))
 
 -- a hop's counts: what it took, dropped and released
 unfoldable pub counts_at : Reader (ℕ × (ℕ × ℕ))

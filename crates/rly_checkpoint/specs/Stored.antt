@@ -1,5 +1,5 @@
--- What a head has for a payload: its bytes, or the place on the device where they lie (docs/FORMATS.md, "Heads"). What an
--- image of the device stands for takes the bytes from there.
+-- What a head has for a payload: its bytes, or the place on the device where they lie (docs/FORMATS.md, "Heads"). What
+-- an image of the device stands for takes the bytes from there.
 use Rattle.std.specs.Prelude.{ℕ, ◌+◌, ◌<◌, ◌≤◌, ◌^◌, List, ◌∷◌, length, slice_range}
 use Rattle.byteorder.specs.Endian.{big_bytes}
 use Rattle.rly_machine.specs.Map.{map_state}

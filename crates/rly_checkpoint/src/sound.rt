@@ -59,7 +59,8 @@ fn totals_of<C: Form>(params: &Params, seq: u64, hops: &[Hop<C>]) -> Option<Tota
     requires params { IsWithinLimits params.now }
     requires seq { seq ≤ max_seq }
     requires count { length hops.now ≤ 64 }
-    ensures none { IfNone result (¬ (All (IsSoundHop C.length_of params.now seq) (map hop_state hops.now) × (sum_by (λ h. length (live_line h)) (map hop_state hops.now) ≤ params.now.items))) }
+    ensures none { IfNone result (¬ (All (IsSoundHop C.length_of params.now seq) (map hop_state hops.now)
+        × (sum_by (λ h. length (live_line h)) (map hop_state hops.now) ≤ params.now.items))) }
     ensures hops { IfSome result (λ _. All (IsSoundHop C.length_of params.now seq) (map hop_state hops.now)) }
     ensures taken { IfSome result (λ totals. totals.taken ≡ sum_by (λ h. h.taken) (map hop_state hops.now)) }
     ensures items { IfSome result (λ totals. totals.items ≡ sum_by (λ h. length (live_line h)) (map hop_state hops.now)) }
@@ -112,7 +113,8 @@ fn balances<C: Form>(hop: &Hop<C>) -> bool
 
 /// Whether CoDel's moments are at most the latest that they may be, and its counts at most the drops.
 fn is_codel(codel: &CodelState, latest: u64, dropped: u64) -> bool
-    ensures { IsTrue result ↔ (codel.now.first_above_time ≤ latest) × (codel.now.drop_next ≤ latest) × (codel.now.lastcount ≤ codel.now.count) × (codel.now.count ≤ dropped) }
+    ensures { IsTrue result ↔ (codel.now.first_above_time ≤ latest) × (codel.now.drop_next ≤ latest)
+        × (codel.now.lastcount ≤ codel.now.count) × (codel.now.count ≤ dropped) }
 {
     codel.first_above_time <= latest
         && codel.drop_next <= latest

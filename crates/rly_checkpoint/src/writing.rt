@@ -153,7 +153,8 @@ fn codel_bytes(codel: &CodelState) -> [u8; CODEL_LENGTH]
 /// A hop's counts: of what it took, dropped and released, of what is in flight, and of what waits.
 fn counts_bytes<C: Form>(hop: &Hop<C>) -> [u8; COUNTS_LENGTH]
     requires { HopFits C.length_of IsAny (hop_state hop.now) }
-    ensures { let h = hop_state hop.now in result ≡ big_bytes 8 h.taken ++ big_bytes 8 h.dropped ++ big_bytes 8 h.released ++ big_bytes 2 (length h.flight) ++ big_bytes 4 (length h.queue) }
+    ensures { let h = hop_state hop.now in result ≡ big_bytes 8 h.taken ++ big_bytes 8 h.dropped
+        ++ big_bytes 8 h.released ++ big_bytes 2 (length h.flight) ++ big_bytes 4 (length h.queue) }
 {
     let mut bytes = [0; COUNTS_LENGTH];
     BigEndian::write_u64(&mut bytes, hop.taken);

@@ -46,8 +46,8 @@ FindsNoneLive {D} state old new =
     × MakesOpening state journal.tail old journal.disk)
     ⊎ ((fault : OpenFault) × IsOfImage fault × BreaksOpening state (tells fault) old new)
 
--- A new device of a geometry was made on a file: unless that was forced the file was looked at before, and no datagram lived
--- on it; each read, write and sync of a new device was made, and none failed.
+-- A new device of a geometry was made on a file: unless that was forced the file was looked at before, and no datagram
+-- lived on it; each read, write and sync of a new device was made, and none failed.
 pub record HasMade (geometry : Geometry) (force : Bool) : Type 0 where
   pub within : IsLayout geometry (device_length geometry)
   pub opened : FileDisk

@@ -14,7 +14,8 @@ use Rattle.rly_threads.specs.declared.turn.Worker.TheVariants as worker
 -- between this station and a neighbour, if there is one: this is kept
 abbrev pub keeping_with : ContactPlan → EarlyView → Option Neighbour → Option Keeping
 keeping_with plan early neighbour =
-    option_map (λ n. record { own = record { 0 = plan.station }; peer = record { 0 = n.station }; early = early }) neighbour
+    option_map
+    (λ n. record { own = record { 0 = plan.station }; peer = record { 0 = n.station }; early = early }) neighbour
 
 -- of a peer up to 64 Data are kept, and of a hop none
 abbrev pub keeping_of : ContactPlan → Worker → Option Keeping

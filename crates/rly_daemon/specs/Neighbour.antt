@@ -1,4 +1,5 @@
--- What the link to a neighbour tells: all that it gave, which is what came now or earlier. A socket tells nothing of what it sent.
+-- What the link to a neighbour tells: all that it gave, which is what came now or earlier. A
+-- socket tells nothing of what it sent.
 use Rattle.std.specs.Prelude.{ℕ, List, Option, None}
 use Rattle.rly_ahead.specs.AheadLink.{ahead_failed, ahead_heard, ahead_sent}
 use Rattle.rly_daemon.specs.declared.neighbour_link.NeighbourLink.{NeighbourLink}

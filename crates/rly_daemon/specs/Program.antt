@@ -1,5 +1,6 @@
 -- What a run of the program leaves, by what its command line asks (docs/COMMANDS.md).
-use Rattle.std.specs.Prelude.{◌≡◌, ◌⊎◌, ℕ, ◌+◌, ◌≤◌, ◌==◌, MatchBool, List, [], ◌∷◌, ◌++◌, length, IfSome, max, min, Bool, Option, false, true, codes}
+use Rattle.std.specs.Prelude.{◌≡◌, ◌⊎◌, ℕ, ◌+◌, ◌≤◌, ◌==◌, MatchBool, List, [], ◌∷◌, ◌++◌, length, IfSome}
+use Rattle.std.specs.Prelude.{max, min, Bool, Option, false, true, codes}
 use Rattle.std.specs.Fmt.{decimal}
 use Rattle.std.specs.Io.KnownBytes.{Appends}
 use Rattle.rly_audit.specs.Report.{balances, books_of, report_of}
@@ -55,9 +56,10 @@ pub record HasFormatted (geometry : Geometry) (force : Bool) (old new : Option (
   pub made : HasMade geometry force
   pub written : Appends old new (size_line (device_length geometry))
 
--- A plan was served on a device that was opened whole, until its workers had their turns, and the journal is whole after all
--- rounds. Its line had a seat for each worker, and as many for others. What ended it was told.
-pub record HasServedAt (turns others : ℕ) (new : Option (List ℕ)) (plan : ContactPlan) (left : FlusherState FileDisk) : Type 0 where
+-- A plan was served on a device that was opened whole, until its workers had their turns, and the journal is whole
+-- after all rounds. Its line had a seat for each worker, and as many for others. What ended it was told.
+pub record HasServedAt (turns others : ℕ) (new : Option (List ℕ)) (plan : ContactPlan) (left : FlusherState FileDisk)
+    : Type 0 where
   pub opened : JournalState FileDisk
   pub room : HasRoom plan opened.state.params
   pub ends : 1 ≤ turns
@@ -73,8 +75,8 @@ pub record HasServedAt (turns others : ℕ) (new : Option (List ℕ)) (plan : Co
 abbrev pub HasServed : ℕ → Option (List ℕ) → Type 0
 HasServed turns new = (plan : ContactPlan) × (left : FlusherState FileDisk) × HasServedAt turns 0 new plan left
 
--- The same, with reports: all that was written is a report at each moment that was due, of what was answered at a seat beside those of
--- the workers, in the one history of the device.
+-- The same, with reports: all that was written is a report at each moment that was due, of what was answered at a seat
+-- beside those of the workers, in the one history of the device.
 pub record HasServedReporting (turns : ℕ) (old new told : Option (List ℕ)) : Type 0 where
   pub plan : ContactPlan
   pub left : FlusherState FileDisk
@@ -89,8 +91,8 @@ abbrev pub HasServedWith : ℕ → ℕ → Option (List ℕ) → Option (List �
 HasServedWith turns report old new told =
     MatchBool (report == 0) ((new ≡ old) × HasServed turns told) (HasServedReporting turns old new told)
 
--- a command that ended well: the reader before and after it, the bytes that there were to read, those of the writer before and
--- after it, and those of standard error
+-- a command that ended well: the reader before and after it, the bytes that there were to read, those of the writer
+-- before and after it, and those of standard error
 abbrev pub IsDone : {R : Type 0} → Settings → R → R → Option (List ℕ) → Option (List ℕ) → Option (List ℕ)
     → Option (List ℕ) → Option (List ℕ) → Type 0
 IsDone (Sim params) before behind left old new told_old told_new = IsWithinLimits params

@@ -9,14 +9,15 @@ use Rattle.rly_reporter.specs.Reporting.{HasReported, ReporterView}
 use Rattle.rly_reporter.specs.Running.{IsLastSeat}
 use Rattle.rly_threads.specs.Asking.{Asked, HasPut}
 
--- what is told of a reporter: what it asked, and the moments at which a report was due. Of what was counted nothing is, since other
--- threads count
+-- what is told of a reporter: what it asked, and the moments at which a report was due. Of what was counted
+-- nothing is, since other threads count
 abbrev pub reporter_told : List Asked → List (Option ℕ) → ReporterView
 reporter_told asked moments = record { asked = Some asked; paced = Some moments; seen = None }
 
--- What was written is a report at each moment that was due, in order, of what was answered at the last seat of the line; and that seat
--- stands beside who answered it.
-pub record HasReports (plan : ContactPlan) (r : Responding) (old new : Option (List ℕ)) (seat : Caller) (end : ReporterEnd) : Type 0 where
+-- What was written is a report at each moment that was due, in order, of what was answered at the last seat of the
+-- line; and that seat stands beside who answered it.
+pub record HasReports (plan : ContactPlan) (r : Responding) (old new : Option (List ℕ)) (seat : Caller)
+    (end : ReporterEnd) : Type 0 where
   pub first : Caller
   pub last : IsLastSeat r.of (names_of r.lines) first
   pub asked : List Asked

@@ -1,5 +1,6 @@
 -- What a relay needs of its device, and the workers that it starts.
-use Rattle.std.specs.Prelude.{◌≡◌, ◌⊎◌, ℕ, ◌+◌, ◌<◌, ◌≤◌, List, [], ◌∷◌, ◌++◌, ◌==◌, codes, map, length, Bool, true, false, is_some, Option, Some}
+use Rattle.std.specs.Prelude.{◌≡◌, ◌⊎◌, ℕ, ◌+◌, ◌<◌, ◌≤◌, List, [], ◌∷◌, ◌++◌, ◌==◌, codes, map, length}
+use Rattle.std.specs.Prelude.{Bool, true, false, is_some, Option, Some}
 use Rattle.std.specs.Fmt.{decimal}
 use Rattle.std.specs.List.{AllZip, list_all, range_with_len}
 use Rattle.std.specs.Option.{is_none, option_map}
@@ -69,7 +70,8 @@ is_first (worker.Sender hop) = false
 abbrev pub warned_of : Worker → Warned
 warned_of w = record { sends = Some w; tags = w; clock = is_first w }
 
--- a worker, the addresses of its link, the keys over it, what it keeps of early Data, how many turns it has, and what it warns of
+-- a worker, the addresses of its link, the keys over it, what it keeps of early Data, how many
+-- turns it has, and what it warns of
 pub record Duty : Type 0 where
   pub worker : Worker
   pub addresses : Option Endpoints
@@ -111,8 +113,9 @@ kept_by l = record { own = l.link.own; peer = l.link.peer; early = l.link.early 
 
 -- what it has to do
 abbrev pub duty_over : {L C : Type 0} → (L → NeighbourLink C) → PostOver L C → Duty
-duty_over below post = duty post.worker (Some (link_below (below post.link).link.link).addresses.value) (keys_over (below post.link).link.link)
-    (Some (kept_by (below post.link))) post.turn.left (warned_over below post)
+duty_over below post =
+    duty post.worker (Some (link_below (below post.link).link.link).addresses.value)
+    (keys_over (below post.link).link.link) (Some (kept_by (below post.link))) post.turn.left (warned_over below post)
 
 abbrev pub duty_at : {C : Type 0} → StationPost C → Duty
 duty_at post = duty_over (λ l. l) post
@@ -127,19 +130,22 @@ duty_of plan turns link =
 abbrev pub duties : ContactPlan → List KeyedWorker → ℕ → List Duty
 duties plan links turns = map (duty_of plan turns) links
 
--- Each worker of a plan had a thread, did at its post and its seat what the plan says of it, from its start to the end of its turns,
--- and left that post. What its seat put and knows stands beside who answered it. Its link is sealed with the key that there is for it, and no other link is. A socket tells
--- nothing of what it heard and sent; a seat and a clock tell all. So many seats are others', behind those of the workers.
-pub record HasRunOver {L C : Type 0} (below : L → NeighbourLink C) (others : ℕ) (plan : ContactPlan) (links : List KeyedWorker) (window turns : ℕ)
-    (r : Responding) (ended : List (Option (Ended L (WallClock C)))) : Type 0 where
+-- Each worker of a plan had a thread, did at its post and its seat what the plan says of it, from its start to the end
+-- of its turns, and left that post. What its seat put and knows stands beside who answered it. Its link is sealed with
+-- the key that there is for it, and no other link is. A socket tells nothing of what it heard and sent; a seat and a
+-- clock tell all. So many seats are others', behind those of the workers.
+pub record HasRunOver {L C : Type 0} (below : L → NeighbourLink C) (others : ℕ) (plan : ContactPlan)
+    (links : List KeyedWorker) (window turns : ℕ) (r : Responding) (ended : List (Option (Ended L (WallClock C))))
+    : Type 0 where
   pub posts : List (PostOver L C)
   pub planned : map (duty_over below) posts ≡ duties plan links turns
-  pub worked : AllZip (HaveEnded (λ l. neighbour_heard (below l)) (λ l. neighbour_sent (below l)) clock_told clock_endless plan window)
-      (seated r.of (names_of r.lines) posts) ended
+  pub worked : AllZip (HaveEnded (λ l. neighbour_heard (below l)) (λ l. neighbour_sent (below l)) clock_told
+      clock_endless plan window) (seated r.of (names_of r.lines) posts) ended
   pub seats : length r.lines ≡ length posts + others
   pub answered : AreAnsweredBy r ended
   pub complete : list_all has_run_out ended ≡ true
 
 -- the same where each worker has the link to its neighbour itself, and no one else a seat
-abbrev pub HasRun : {C : Type 0} → ContactPlan → List KeyedWorker → ℕ → ℕ → Responding → List (Option (Ended (NeighbourLink C) (WallClock C))) → Type 0
+abbrev pub HasRun : {C : Type 0} → ContactPlan → List KeyedWorker → ℕ → ℕ → Responding
+    → List (Option (Ended (NeighbourLink C) (WallClock C))) → Type 0
 HasRun plan links window turns r ended = HasRunOver (λ l. l) 0 plan links window turns r ended

@@ -1,6 +1,7 @@
 -- What a station tells of while it serves: sends that fail, packets without a right tag, and a clock that is set
 -- (docs/COMMANDS.md, "rly serve").
-use Rattle.std.specs.Prelude.{◌≡◌, ℕ, ◌+◌, ◌-◌, ◌%◌, ◌/◌, ◌^◌, ◌==◌, nat_lt, max, min, ℤ, unsigned_abs, if◌then◌else◌, codes, slice_index_or}
+use Rattle.std.specs.Prelude.{◌≡◌, ℕ, ◌+◌, ◌-◌, ◌%◌, ◌/◌, ◌^◌, ◌==◌, nat_lt, max, min, ℤ, unsigned_abs}
+use Rattle.std.specs.Prelude.{if◌then◌else◌, codes, slice_index_or}
 use Rattle.std.specs.Prelude.{Bool, true, false, not, ◌&&◌, ◌||◌, List, [], ◌∷◌, ◌++◌, map, set, Option, Some, None}
 use Rattle.std.specs.Fmt.{decimal}
 use Rattle.std.specs.IoError.{raw_os_error}
@@ -29,7 +30,8 @@ step_text (Back by) = codes "the clock was set back by " ++ decimal (by / 1000) 
 -- the line of a warning, without its end; of a failed send it has the system's word, which no clause knows
 abbrev pub warning_text : Warning → Option (List ℕ)
 warning_text (FailedSend w count word) = None
-warning_text (WrongTag w count) = Some (codes "rly: " ++ name_text w ++ codes ": packet " ++ decimal count ++ codes " without a right tag")
+warning_text (WrongTag w count) =
+    Some (codes "rly: " ++ name_text w ++ codes ": packet " ++ decimal count ++ codes " without a right tag")
 warning_text (ClockSet step) = Some (codes "rly: " ++ step_text step)
 
 -- what was told, in order
@@ -79,7 +81,8 @@ is_tag_told before count = nat_lt before count && ((count == 1) || (count % 1000
 abbrev pub tag_told : Worker → ℕ → ℕ → List Warning
 tag_told w before count = if is_tag_told before count then WrongTag w count ∷ [] else []
 
--- how far the wall clock moved ahead of the monotonic one between two readings, and how far it fell behind, in microseconds
+-- how far the wall clock moved ahead of the monotonic one between two readings, and how
+-- far it fell behind, in microseconds
 abbrev pub gained : Reading → Reading → ℕ
 gained before after = (after.wall + before.steady) - (before.wall + after.steady)
 
@@ -106,9 +109,10 @@ pub record HasRead (old new : ClockWatch) (reading : Reading) : Type 0 where
   pub kept : new.before ≡ Some reading
   pub told : told_by new.teller ≡ told_by old.teller ++ reading_told old.before reading
 
--- the same of a clock that is watched, if it is: the wall clock showed this moment, and the monotonic one what a time that never
--- falls has risen to, if it rose
+-- the same of a clock that is watched, if it is: the wall clock showed this moment, and the monotonic one what a time
+-- that never falls has risen to, if it rose
 abbrev pub HasReadIf : Option ClockWatch → Option ClockWatch → ℕ → ℕ → ℕ → Type 0
 HasReadIf None new now before since = new ≡ None
 HasReadIf (Some old) None now before since = ⊥
-HasReadIf (Some old) (Some new) now before since = (steady : ℕ) × (since ≡ max before steady) × HasRead old new (record { wall = now; steady = steady })
+HasReadIf (Some old) (Some new) now before since =
+    (steady : ℕ) × (since ≡ max before steady) × HasRead old new (record { wall = now; steady = steady })

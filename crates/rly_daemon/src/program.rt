@@ -248,7 +248,8 @@ fn run_audit<H: AllocGlobal + Files<File = File>, W: Write>(
     writer: &mut W,
 ) -> Result<(), CommandFault>
     ensures reported { OnOk result (HasReport (W.contents writer.old) (W.contents writer.new)) }
-    ensures silent { IfErr result (λ fault. (refusal : ARefusal) (cause : ACause) → fault ≡ CommandFault.Refused refusal cause → Keeps (W.contents writer.old) (W.contents writer.new)) }
+    ensures silent { IfErr result (λ fault. (refusal : ARefusal) (cause : ACause)
+        → fault ≡ CommandFault.Refused refusal cause → Keeps (W.contents writer.old) (W.contents writer.new)) }
 {
     let disk = FileDisk::open(rt, file)?;
     match audit(rt.alloc(), disk, writer) {

@@ -59,7 +59,8 @@ pub fn read_plan<H: AllocGlobal + Files<File = File>>(
     path: &str,
 ) -> Result<Plan, ServeFault>
     ensures sound { IfOk result (λ plan. IsSoundPlan plan) }
-    ensures fault { IfErr result (λ f. ((word : AWord) × (f ≡ fault.Plan word)) ⊎ ((refusal : ARefusal) × (place : Option APlace) × (f ≡ fault.Refused refusal (cause_at place)))) }
+    ensures fault { IfErr result (λ f. ((word : AWord) × (f ≡ fault.Plan word))
+        ⊎ ((refusal : ARefusal) × (place : Option APlace) × (f ≡ fault.Refused refusal (cause_at place)))) }
 {
     match fs::read_to_string(rt, path) {
         Ok(text) => {
@@ -91,11 +92,13 @@ pub fn serve<'a, H: AllocGlobal + Net + Threads + Wait + Clock + Sync, D: Disk +
     requires sound { IsSoundPlan plan.now }
     requires keys { AreKeysOf plan.now keys }
     ensures room { OnOk result (HasRoom plan.now journal.state.params) }
-    ensures lacks { LacksRoom plan.now journal.state.params → (result ≡ Err (fault.Refused refusal.BadGeometry cause.Plan, journal.disk)) × (errors.new ≡ errors.old) }
+    ensures lacks { LacksRoom plan.now journal.state.params
+        → (result ≡ Err (fault.Refused refusal.BadGeometry cause.Plan, journal.disk)) × (errors.new ≡ errors.old) }
     // A relay whose turns are without end never ends well.
     ensures ends { OnOk result (1 ≤ turns) }
     // Each worker of the plan did at its post and its seat what the plan says of it, as far as its link tells.
-    ensures worked { IfOk result (λ relayed. HasRun plan.now keys.entry journal.state.params.window turns relayed.finished.last.value.line relayed.ended.items) }
+    ensures worked { IfOk result (λ relayed. HasRun plan.now keys.entry journal.state.params.window turns
+        relayed.finished.last.value.line relayed.ended.items) }
     // The journal is what its flusher's rounds made of it, and not broken.
     ensures served { IfOk result (λ relayed. (line : LineId) × (names : List (Option ReplyId)) × (length names ≡ length (workers_of plan.now))
         × IsServed D.state (new_flusher journal (new_end line names)) relayed.finished.last.value) }

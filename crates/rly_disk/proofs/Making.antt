@@ -1,14 +1,14 @@
 -- What follows where a row of calls was made.
-use Rattle.std.proofs.Common.{◌≡◌, ◌⊎◌, ◌≤◌, ◌<◌, ◌+◌, ◌-◌, ◌^◌, ◌++◌, ◌∷◌, [], ◌∙◌, ℕ, zero, suc, Bool, true, false, List, length, append_assoc, take, arith, sym, ap, subst, inl, inr, ⊎_elim, refl, length-append, length-take}
+use Rattle.std.proofs.Common.{◌≡◌, ◌⊎◌, ◌≤◌, ◌<◌, ◌+◌, ◌++◌, ◌∷◌, [], ◌∙◌, ℕ, zero, suc, Bool, true, false, List, length, append_assoc, take, arith, sym, ap, subst, inl, inr, ⊎_elim, refl, length-append, length-take}
 use Rattle.std.specs.Prelude.{Result, Ok, Err, IsErr, is_ok, if◌then◌else◌}
 use Rattle.std.proofs.lemmas.Bool.{cases_lt, false≢true}
 use Rattle.std.proofs.lemmas.List.{append-nil}
 use Rattle.std.proofs.lemmas.Bool.Decides.{nat_tests}
-use Rattle.rly_disk.specs.DiskModel.{DiskState, SameOutside, LeavesOnly, IsTorn, IsWritten, NothingNew, Settled, SettlesNothing, Consistent, Later, HasFailed, IsSpent, overwritten}
-use Rattle.rly_disk.specs.Trace.{DeviceEvent, Read, FailedRead, Write, FailedWrite, Sync, FailedSync, Makes, IsMade, IsCut, EndsAtFailure, EndsUncounted, IsFailed, is_spent, count_of, is_failed_call, is_failed_read, is_sync_call, seen_after, images_after, is_still, seen_at_end, images_at_end, images_within, are_quiet, are_reads, each_below, OnlyReads}
+use Rattle.rly_disk.specs.DiskModel.{DiskState, SameOutside, LeavesOnly, IsTorn, IsWritten, NothingNew, Settled, SettlesNothing, Consistent, Later, HasFailed, overwritten}
+use Rattle.rly_disk.specs.Trace.{DeviceEvent, Read, FailedRead, Write, FailedWrite, Sync, FailedSync, Makes, IsMade, IsCut, EndsAtFailure, EndsUncounted, IsFailed, is_spent, count_of, is_failed_call, is_sync_call, seen_after, images_after, is_still, seen_at_end, images_at_end, images_within, are_quiet, are_reads, each_below, OnlyReads}
 use Rattle.rly_disk.proofs.Ranges.{wider}
 use Rattle.rly_disk.proofs.Overwritten.{overwritten_outside}
-use Rattle.rly_disk.proofs.Traces.{within_start, within_first, within_grows, end_grows, end_joined, seen_joined, count_joined, makes_front, makes_nothing, makes_joined}
+use Rattle.rly_disk.proofs.Traces.{within_start, within_first, within_grows, seen_joined, count_joined, makes_front, makes_joined}
 
 -- ---- the events of a row against its calls
 
@@ -54,14 +54,6 @@ same_kind (FailedRead place n) last failed = absurd failed
 same_kind (FailedWrite place bytes left) last failed = absurd failed
 same_kind FailedSync last failed = absurd failed
 
-no_more : (whole spent : Bool) (calls events : List DeviceEvent) → IsMade whole spent calls events → length events ≤ length calls
-no_more true spent calls events made = omega (arith, ap length made)
-no_more false spent calls events made = ⊎_elim
-    (λ (f : EndsAtFailure calls events).
-    omega (arith, ap length f.calls_are, ap length f.events_are, length-append f.done (f.call ∷ f.rest), length-append f.done (f.last ∷ [])))
-    (λ (s : (spent ≡ true) × EndsUncounted calls events). omega (arith, ap length s.1.calls_are, length-append events (s.1.call ∷ s.1.rest)))
-    made
-
 no_more_syncs : (whole spent : Bool) (calls events : List DeviceEvent) → IsMade whole spent calls events → count_of is_sync_call events ≤ count_of is_sync_call calls
 no_more_syncs true spent calls events made = omega (arith, ap (count_of is_sync_call) made)
 no_more_syncs false spent calls events made = ⊎_elim
@@ -87,42 +79,6 @@ is_read_call (Write place bytes) = false
 is_read_call (FailedWrite place bytes left) = false
 is_read_call Sync = false
 is_read_call FailedSync = false
-
-failed_reads_most : (events : List DeviceEvent) → count_of is_failed_read events ≤ count_of is_read_call events
-failed_reads_most [] = omega arith
-failed_reads_most (Read place n ∷ events) = omega (arith, failed_reads_most events)
-failed_reads_most (FailedRead place n ∷ events) = omega (arith, failed_reads_most events)
-failed_reads_most (Write place bytes ∷ events) = omega (arith, failed_reads_most events)
-failed_reads_most (FailedWrite place bytes left ∷ events) = omega (arith, failed_reads_most events)
-failed_reads_most (Sync ∷ events) = omega (arith, failed_reads_most events)
-failed_reads_most (FailedSync ∷ events) = omega (arith, failed_reads_most events)
-
-same_reading : (call last : DeviceEvent) → IsFailed call last → is_read_call last ≡ is_read_call call
-same_reading (Read place n) last failed = ap is_read_call failed
-same_reading (Write place bytes) last failed = ap is_read_call failed.1
-same_reading Sync last failed = ap is_read_call failed
-same_reading (FailedRead place n) last failed = absurd failed
-same_reading (FailedWrite place bytes left) last failed = absurd failed
-same_reading FailedSync last failed = absurd failed
-
-no_failed_read : (whole spent : Bool) (calls events : List DeviceEvent) → IsMade whole spent calls events → count_of is_read_call calls ≡ 0 → count_of is_failed_read events ≡ 0
-no_failed_read true spent calls events made none = omega (arith, failed_reads_most events, ap (count_of is_read_call) made, none)
-no_failed_read false spent calls events made none = ⊎_elim
-    (λ (f : EndsAtFailure calls events).
-    let same = ap one_if (same_reading f.call f.last f.failed) in
-    omega (
-      arith,
-      none,
-      same,
-      failed_reads_most events,
-      ap (count_of is_read_call) f.calls_are,
-      ap (count_of is_read_call) f.events_are,
-      count_joined is_read_call f.done (f.call ∷ f.rest),
-      count_joined is_read_call f.done (f.last ∷ []),
-    ))
-    (λ (s : (spent ≡ true) × EndsUncounted calls events).
-    omega (arith, none, failed_reads_most events, ap (count_of is_read_call) s.1.calls_are, count_joined is_read_call events (s.1.call ∷ s.1.rest)))
-    made
 
 one_failed : (spent : Bool) (calls events : List DeviceEvent) → IsCut spent calls events → (1 ≤ count_of is_failed_call events) ⊎ (spent ≡ true)
 one_failed spent calls events cut = ⊎_elim
@@ -151,18 +107,8 @@ module _ {D : Type 0} (state : D → DiskState) {a b : D} where
       (λ spent. inr (grind (arith, nat_tests)))
       (one_failed (is_spent (state b)) calls made.events made.made)
 
-  pub makes_done : {calls : List DeviceEvent} → Makes state calls true a b → count_of is_failed_call calls ≡ 0 → (state b).failures ≡ (state a).failures
-  makes_done made sound = omega (arith, made.leads.failures, ap (count_of is_failed_call) made.made, sound)
-
-  pub makes_calls : {calls : List DeviceEvent} {whole : Bool} → Makes state calls whole a b → (state b).calls ≤ (state a).calls + length calls
-  makes_calls {calls} {whole} made = omega (arith, made.leads.calls, no_more whole (is_spent (state b)) calls made.events made.made)
-
   pub makes_syncs : {calls : List DeviceEvent} {whole : Bool} → Makes state calls whole a b → (state b).syncs ≤ (state a).syncs + count_of is_sync_call calls
   makes_syncs {calls} {whole} made = omega (arith, made.leads.syncs, no_more_syncs whole (is_spent (state b)) calls made.events made.made)
-
-  pub makes_no_failed_read : {calls : List DeviceEvent} {whole : Bool} → Makes state calls whole a b → count_of is_read_call calls ≡ 0 → (state b).failed_reads ≡ (state a).failed_reads
-  makes_no_failed_read {calls} {whole} made none =
-      omega (arith, made.leads.failed_reads, no_failed_read whole (is_spent (state b)) calls made.events made.made none)
 
   -- where an error is handed on
   pub cut_short : {A E : Type 0} {calls : List DeviceEvent} (result : Result A E) → IsErr result → Makes state calls false a b → Makes state calls (is_ok result) a b
@@ -301,11 +247,6 @@ still_row false spent calls events made reads = ⊎_elim
     (λ (s : (spent ≡ true) × EndsUncounted calls events). (reads_parts events (s.1.call ∷ s.1.rest) (ap are_reads (sym s.1.calls_are) ∙ reads)).0)
     made
 
-reads_no_sync : (calls : List DeviceEvent) → are_reads calls ≡ true → count_of is_sync_call calls ≡ 0
-reads_no_sync [] reads = refl
-reads_no_sync (Read place n ∷ calls) reads = omega (arith, reads_no_sync calls reads)
-reads_no_sync (event ∷ calls) reads = absurd (false≢true reads)
-
 pub reads_sound : (calls : List DeviceEvent) → are_reads calls ≡ true → count_of is_failed_call calls ≡ 0
 reads_sound [] reads = refl
 reads_sound (Read place n ∷ calls) reads = omega (arith, reads_sound calls reads)
@@ -362,9 +303,6 @@ module _ {D : Type 0} (state : D → DiskState) {a b : D} where
   reads_settle_nothing {calls} {whole} made reads honest =
       (made.leads.follows honest).still (still_row whole (is_spent (state b)) calls made.events made.made reads)
 
-  pub reads_sync_nothing : {calls : List DeviceEvent} {whole : Bool} → Makes state calls whole a b → are_reads calls ≡ true → (state b).syncs ≡ (state a).syncs
-  reads_sync_nothing {calls} made reads = omega (arith, makes_syncs state made, reads_no_sync calls reads, made.leads.syncs)
-
   -- a sync that failed settles nothing either
   pub still_sync : Makes state (Sync ∷ []) false a b → (state a).honest → SettlesNothing (state a) (state b)
   still_sync made honest = (made.leads.follows honest).still (⊎_elim
@@ -372,19 +310,6 @@ module _ {D : Type 0} (state : D → DiskState) {a b : D} where
       let alone = failed_alone Sync made.events f in ap is_still (alone.2 ∙ ap (λ e. e ∷ []) alone.1))
       (λ (s : (is_spent (state b) ≡ true) × EndsUncounted (Sync ∷ []) made.events). ap is_still (uncounted_alone Sync made.events s.1))
       made.made)
-
-  -- and one sync is one, where calls are counted
-  pub sync_once : (whole : Bool) → Makes state (Sync ∷ []) whole a b → ¬ IsSpent (state a) → (state b).syncs ≡ (state a).syncs + 1
-  sync_once true made counts = omega (arith, made.leads.syncs, ap (count_of is_sync_call) made.made)
-  sync_once false made counts = ⊎_elim
-      (λ (f : EndsAtFailure (Sync ∷ []) made.events).
-      let alone = failed_alone Sync made.events f in
-      omega (arith, made.leads.syncs, ap (count_of is_sync_call) (alone.2 ∙ ap (λ e. e ∷ []) alone.1)))
-      (λ (s : (is_spent (state b) ≡ true) × EndsUncounted (Sync ∷ []) made.events).
-      let same : b ≡ a = made.untouched (uncounted_alone Sync made.events s.1) in
-      let spent : is_spent (state a) ≡ true = ap (λ d. is_spent (state d)) (sym same) ∙ s.0 in
-      absurd (counts (grind (arith, nat_tests))))
-      made.made
 
 -- ---- one write
 
@@ -425,30 +350,14 @@ module _ {D : Type 0} (state : D → DiskState) {a b : D} where
 -- ---- reads alone
 
 module _ {D : Type 0} (state : D → DiskState) where
-  pub read_nothing : (a : D) → OnlyReads state true a a
-  read_nothing a = record { calls = []; reads = refl; makes = makes_nothing state a }
-
   pub reads_of : {a b : D} {whole : Bool} (calls : List DeviceEvent) → are_reads calls ≡ true → Makes state calls whole a b → OnlyReads state whole a b
   reads_of calls reads made = record { calls = calls; reads = reads; makes = made }
-
-  pub reads_then : {a b e : D} {whole : Bool} → OnlyReads state true a b → OnlyReads state whole b e → OnlyReads state whole a e
-  reads_then {whole = whole} one two = record {
-    calls = one.calls ++ two.calls;
-    reads = reads_joined one.calls two.calls one.reads two.reads;
-    makes = makes_joined state one.calls two.calls whole one.makes two.makes;
-  }
 
   pub reads_new : {a b : D} {whole : Bool} → OnlyReads state whole a b → (state a).honest → Consistent (state a) → NothingNew (state a) (state b)
   reads_new only honest facts = quiet_new state only.makes (reads_quiet only.calls only.reads) honest facts
 
   pub reads_later : {a b : D} {whole : Bool} → OnlyReads state whole a b → Later (state a) (state b)
   reads_later only = makes_later state only.makes
-
-  pub reads_failed : {a b : D} → OnlyReads state false a b → HasFailed (state a) (state b)
-  reads_failed only = makes_failed state only.makes
-
-  pub reads_done : {a b : D} → OnlyReads state true a b → (state b).failures ≡ (state a).failures
-  reads_done only = makes_done state only.makes (reads_sound only.calls only.reads)
 
   pub reads_settled : {a b : D} {whole : Bool} → OnlyReads state whole a b → Settled (state a) → ((state b).honest → Consistent (state b)) → Settled (state b)
   reads_settled only settled facts = quiet_settled state only.makes (reads_quiet only.calls only.reads) settled facts

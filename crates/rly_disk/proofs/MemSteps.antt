@@ -10,7 +10,7 @@ use Rattle.rly_disk.specs.declared.counts.Counts.{Counts}
 use Rattle.rly_disk.specs.declared.record.Event.{Event}
 use Rattle.rly_disk.specs.declared.record.Event.TheVariants.{Written, Synced}
 use Rattle.rly_disk.proofs.Overwritten.{length-overwritten}
-use Rattle.rly_disk.proofs.RecordLemmas.{synced_events-write, synced_events-sync, pending-write, pending-sync, before-append, within-push}
+use Rattle.rly_disk.proofs.RecordLemmas.{synced_events-write, synced_events-sync, pending-write, before-append, within-push}
 use Rattle.rly_disk.proofs.Steps.{long, undone, written, exact, settled, synced}
 
 -- a write that was recorded and made
@@ -60,6 +60,3 @@ module _ (events then_events : List Event) (bytes : List ℕ) (recorded : then_e
 
   pub sync_leaves : (now then : Counts) → NothingNew (recorded_state events bytes now) (recorded_state then_events bytes then)
   sync_leaves now then = subst (λ es. NothingNew (recorded_state events bytes now) (recorded_state es bytes then)) (sym recorded) (synced events bytes now then)
-
-  pub sync_as_synced : before (pending then_events) bytes ≡ bytes
-  sync_as_synced = ap (λ es. before (pending es) bytes) recorded ∙ ap (λ es. before es bytes) (pending-sync events)

@@ -5,7 +5,6 @@ use Rattle.std.proofs.lemmas.List.{append-nil}
 use Rattle.rly_disk.specs.DiskModel.{DiskState}
 use Rattle.rly_disk.specs.Trace.{DeviceEvent, EndsAtFailure, EndsUncounted, FailedRead, FailedSync, FailedWrite, IsFailed, Makes, Read, Sync, Write, is_failed_call, is_spent}
 use Rattle.rly_disk.specs.Watched.{Tells, most_of, told_by, told_of}
-use Rattle.rly_disk.specs.declared.watched.ToldCall.{ToldCall}
 use Rattle.rly_disk.specs.declared.watched.Watched.{Watched}
 use Rattle.rly_disk.proofs.Making.{failed_alone, uncounted_alone}
 

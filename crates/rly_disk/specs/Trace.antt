@@ -53,8 +53,8 @@ seen_after (FailedWrite place bytes left) seen = overwritten place (take (length
 seen_after Sync seen = seen
 seen_after FailedSync seen = seen
 
--- the crash images after an event, from what a read gave and the images before it. A write leaves any bytes in its range,
--- from its first moment on; a sync leaves what a read gives; a read and a failed sync change nothing
+-- the crash images after an event, from what a read gave and the images before it. A write leaves any bytes in its
+-- range, from its first moment on; a sync leaves what a read gives; a read and a failed sync change nothing
 abbrev pub images_after : DeviceEvent → List ℕ → (List ℕ → Type 0) → List ℕ → Type 0
 images_after (Read place count) seen images = images
 images_after (FailedRead place count) seen images = images
@@ -187,8 +187,8 @@ AllWrites IsRange (FailedSync ∷ calls) = AllWrites IsRange calls
 abbrev pub WritesWithin : ℕ → ℕ → List DeviceEvent → Type 0
 WritesWithin place n calls = AllWrites (λ at count. (place ≤ at) × (at + count ≤ place + n)) calls
 
--- a row of calls of a disk was made, whole or up to the first that failed, and nothing else; where none was made the disk
--- is the same
+-- a row of calls of a disk was made, whole or up to the first that failed, and nothing else; where
+-- none was made the disk is the same
 pub record Makes {D : Type 0} (state : D → DiskState) (calls : List DeviceEvent) (whole : Bool) (old new : D)
     : Type 0 where
   pub events : List DeviceEvent

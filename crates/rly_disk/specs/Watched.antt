@@ -2,7 +2,6 @@
 use Rattle.std.specs.Prelude.{◌≡◌, ◌<◌, ℕ, true, false, List, ◌++◌, length, map, vec_capacity}
 use Rattle.rly_disk.specs.DiskModel.{DiskState}
 use Rattle.rly_disk.specs.Trace.{DeviceEvent, FailedRead, FailedSync, FailedWrite, Leads, Read, Sync, Write}
-use Rattle.rly_disk.specs.declared.watched.DiskCall.{DiskCall}
 use Rattle.rly_disk.specs.declared.watched.DiskCall.TheVariants as call
 use Rattle.rly_disk.specs.declared.watched.ToldCall.{ToldCall}
 use Rattle.rly_disk.specs.declared.watched.Watched.{Watched}

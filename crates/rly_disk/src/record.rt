@@ -94,7 +94,8 @@ pub fn write(
     new: &[u8],
 ) -> Result<(), AllocError>
     requires { place + length new.now ≤ length bytes.old.items }
-    ensures ok { OnOk result ((v : _) × (v.items ≡ slice_range bytes.old.items place (place + length new.now)) × (events.new.items ≡ events.old.items ++ Written place v ∷ [])) }
+    ensures ok { OnOk result ((v : _) × (v.items ≡ slice_range bytes.old.items place (place + length new.now))
+        × (events.new.items ≡ events.old.items ++ Written place v ∷ [])) }
     ensures written { OnOk result (bytes.new.items ≡ overwritten place new.now bytes.old.items) }
     ensures err { OnErr result (events.new.items ≡ events.old.items) }
     ensures unwritten { OnErr result (bytes.new.items ≡ bytes.old.items) }

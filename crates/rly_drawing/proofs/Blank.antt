@@ -1,5 +1,5 @@
 -- Spools that are the same but for their bytes.
-use Rattle.std.proofs.Common.{◌≡◌, ◌∷◌, [], ◌+◌, ◌*◌, ◌-◌, ℕ, suc, List, length, map, replicate, arith, refl, sym, ap, ◌∙◌}
+use Rattle.std.proofs.Common.{◌≡◌, ◌∷◌, [], ◌+◌, ◌*◌, ℕ, suc, List, length, map, replicate, arith, refl, sym, ap, ◌∙◌}
 use Rattle.std.specs.List.{flat_map}
 use Rattle.std.proofs.lemmas.List.{length-append, length-replicate, map-append}
 use Rattle.std.proofs.lemmas.List.Concat.{flat_map-cons}

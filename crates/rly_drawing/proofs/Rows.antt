@@ -9,7 +9,7 @@ use Rattle.rly_core.specs.declared.params.Geometry.{Geometry}
 use Rattle.rly_disk.specs.DiskModel.{Consistent, DiskState}
 use Rattle.rly_disk.specs.Trace.{DeviceEvent, Makes, Read, are_reads}
 use Rattle.rly_disk.proofs.Making.{reads_joined, reads_new, reads_of}
-use Rattle.rly_disk.proofs.Traces.{makes_front, makes_joined, makes_nothing}
+use Rattle.rly_disk.proofs.Traces.{makes_front, makes_joined}
 use Rattle.rly_machine.specs.State.{HopState, live_line}
 use Rattle.rly_machine.specs.declared.hop.Item.{Item}
 use Rattle.rly_checkpoint.specs.declared.stored.Stored.{Stored}
@@ -23,10 +23,6 @@ use Rattle.rly_drawing.specs.HelpersDrawing.{hops_reads, items_reads, names}
 -- ---- rows of reads
 
 module _ {D : Type 0} (state : D → DiskState) where
-  -- none of them was made
-  pub none_made : (A : Type 0) (a : D) (calls : List DeviceEvent) → IsDrawing {D = D} {A = A} state calls (Err OutOfMemory) a a
-  none_made A a calls = record { front = []; rest = calls; calls_are = refl; makes = makes_nothing state a }
-
   -- what broke off within the first of two rows
   pub broken_in : (A B : Type 0) (a b : D) (calls more : List DeviceEvent) (fault : DrawingFault) → IsDrawing {D = D} {A = A} state calls (Err fault) a b
       → IsDrawing {D = D} {A = B} state (calls ++ more) (Err fault) a b

@@ -1,5 +1,6 @@
 -- The spool as the next head has it, and the reads that it is made by (docs/DEFINITIONS.md, "Drawing").
-use Rattle.std.specs.Prelude.{◌≡◌, ℕ, ◌==◌, if◌then◌else◌, true, false, List, [], ◌∷◌, length, replicate, Result, Ok, Err}
+use Rattle.std.specs.Prelude.{◌≡◌, ℕ, ◌==◌, if◌then◌else◌, true, false, List}
+use Rattle.std.specs.Prelude.{[], ◌∷◌, length, replicate, Result, Ok, Err}
 use Rattle.std.specs.List.{flat_map}
 use Rattle.rly_core.specs.declared.params.Geometry.{Geometry}
 use Rattle.rly_disk.specs.DiskModel.{DiskState}
@@ -39,8 +40,8 @@ reading g victim (Placed place) = if segment_of g place.start == victim then Rea
 abbrev pub drawing : Geometry → ℕ → State Stored → List DeviceEvent
 drawing g victim s = flat_map (reading g victim) (payloads_of s)
 
--- reads were made, all of them where there is a copy. Where a read failed it was the last; where memory was refused a beginning of
--- them was made
+-- reads were made, all of them where there is a copy. Where a read failed it was the last; where memory was
+-- refused a beginning of them was made
 abbrev pub IsDrawing : {D A : Type 0} → (D → DiskState) → List DeviceEvent → Result A DrawingFault → D → D → Type 0
 IsDrawing state calls (Ok copy) old new = Makes state calls true old new
 IsDrawing state calls (Err fault.OutOfMemory) old new = MakesFront state calls true old new

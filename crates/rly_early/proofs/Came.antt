@@ -1,12 +1,12 @@
 -- Whatever is kept came before, and whose turn it is wasn't covered.
-use Rattle.std.proofs.Common.{◌≡◌, ◌∙◌, ℕ, ◌+◌, ◌-◌, ◌%◌, ◌^◌, ◌<◌, ◌≤◌, Bool, true, false, List, [], ◌∷◌, ◌++◌, refl, sym, ap, subst, arith, length, set, replicate, min}
+use Rattle.std.proofs.Common.{◌≡◌, ℕ, ◌-◌, ◌%◌, ◌^◌, ◌<◌, ◌≤◌, Bool, true, false, List, [], ◌∷◌, ◌++◌, refl, sym, subst, arith, length, set}
 use Rattle.std.proofs.Common.{append_assoc, cond, inl, inr, ◌⊎◌, true≢false}
-use Rattle.std.specs.Prelude.{Option, Some, None, All, Contains, IfSome, is_some, slice_get, option_and_then, nat_lt, nat_le, ◌==◌, ◌&&◌}
+use Rattle.std.specs.Prelude.{Option, Some, None, All, IfSome, is_some, slice_get, nat_lt, nat_le, ◌==◌, ◌&&◌}
 use Rattle.std.proofs.lemmas.Bool.{and_parts, eqb-true, ltb-true}
 use Rattle.std.proofs.lemmas.List.{append-nil}
 use Rattle.std.proofs.lemmas.Option.{get_or_from_slice_get, none-some, option_and_then_some, slice_get_within}
 use Rattle.std.proofs.lemmas.List.Elements.{All-get_or, All-set, All-weaker, All-replicate, Contains-append_left, Contains-push}
-use Rattle.rly_early.specs.Early.{EarlyView, Kept, after_custody, after_data, after_giving, due, following, if_for, is_ahead, is_for, kept, kept_at, new_early, place_of, places_with}
+use Rattle.rly_early.specs.Early.{EarlyView, Kept, after_data, due, following, if_for, is_ahead, is_for, kept, kept_at, new_early, place_of}
 use Rattle.rly_early.specs.EarlyRuns.{EarlyEvent, Came, Asked, Covered, HasCome, after_event, after_events}
 
 -- a kept Data came before, and isn't of the last number
@@ -36,10 +36,6 @@ turn_goes_on c n h = omega arith
 turn_on_data : (is : Bool) (c next n : ℕ) → (is ≡ true → n ≡ next) → following c ≤ next → following c ≤ cond is (following n) next
 turn_on_data true c next n same h = turn_goes_on c n (subst (λ (x : ℕ). following c ≤ x) (sym (same refl)) h)
 turn_on_data false c next n same h = h
-
-turn_on_giving : (is : Bool) (c next : ℕ) → following c ≤ next → following c ≤ cond is (following next) next
-turn_on_giving true c next h = turn_goes_on c next h
-turn_on_giving false c next h = h
 
 -- what is kept of a Data that came
 placed : (past : List EarlyEvent) (ahead : Bool) (places : List (Option Kept)) (n : ℕ) (packet : List ℕ) → IsOld past (kept n packet) ⊎ (ahead ≡ false)

@@ -1,6 +1,6 @@
 -- Data that came ahead of a gap: what is kept, and whose turn has come (docs/PROTOCOL.md, "What comes ahead of a gap").
-use Rattle.std.specs.Prelude.{ℕ, ◌+◌, ◌-◌, ◌%◌, ◌^◌, ◌==◌, min, nat_lt, nat_le, Bool, ◌&&◌, if◌then◌else◌, Option, Some, None, is_some}
-use Rattle.std.specs.Prelude.{List, length, replicate, slice_set, slice_get, option_and_then}
+use Rattle.std.specs.Prelude.{ℕ, ◌+◌, ◌-◌, ◌%◌, ◌^◌, ◌==◌, min, nat_lt, nat_le, Bool, ◌&&◌, if◌then◌else◌, Option, Some}
+use Rattle.std.specs.Prelude.{None, is_some, List, length, replicate, slice_set, slice_get, option_and_then}
 
 -- a Data that is kept: its number, and its packet
 pub record Kept : Type 0 where
@@ -10,8 +10,8 @@ pub record Kept : Type 0 where
 abbrev pub kept : ℕ → List ℕ → Kept
 kept number packet = record { number = number; packet = packet }
 
--- The greatest number that custody went out of; the number whose turn has come: it is the next one in order that wasn't handed on
--- since that custody; and the places, each with what is kept there.
+-- The greatest number that custody went out of; the number whose turn has come: it is the next one in order that wasn't
+-- handed on since that custody; and the places, each with what is kept there.
 pub record EarlyView : Type 0 where
   pub covered : ℕ
   pub next : ℕ
@@ -25,8 +25,8 @@ following number = min (number + 1) (2 ^ 64 - 1)
 abbrev pub new_early : ℕ → EarlyView
 new_early places = record { covered = 0; next = 1; places = replicate places None }
 
--- A number lies ahead of a gap: above the one after those that custody went out of, and no further above than a window reaches. The
--- last number of 64 bits never does.
+-- A number lies ahead of a gap: above the one after those that custody went out of, and no further above than a window
+-- reaches. The last number of 64 bits never does.
 abbrev pub is_ahead : ℕ → ℕ → Bool
 is_ahead covered number = nat_le 2 (number - covered) && nat_le (number - covered) 64 && nat_lt number (2 ^ 64 - 1)
 
@@ -66,6 +66,7 @@ due e room = option_and_then (if_for e.next room) (kept_at e.places (place_of e.
 abbrev pub after_giving : EarlyView → ℕ → EarlyView
 after_giving e room = if is_some (due e room) then record e { next = following e.next } else e
 
--- after custody of all numbers up to this one went out: where it is more than before, the turn of the number after it has come
+-- after custody of all numbers up to this one went out: where it is more than before, the
+-- turn of the number after it has come
 abbrev pub after_custody : EarlyView → ℕ → EarlyView
 after_custody e last = if nat_lt e.covered last then record e { covered = last; next = following last } else e

@@ -1,9 +1,9 @@
 -- What is kept of early Data, over a list of events (docs/PROTOCOL.md, "What comes ahead of a gap").
-use Rattle.std.specs.Prelude.{◌≡◌, ℕ, ◌<◌, List, [], ◌∷◌, Some, Contains}
-use Rattle.rly_early.specs.Early.{EarlyView, Kept, after_custody, after_data, after_giving, due, new_early}
+use Rattle.std.specs.Prelude.{ℕ, List, [], ◌∷◌, Contains}
+use Rattle.rly_early.specs.Early.{EarlyView, Kept, after_custody, after_data, after_giving}
 
--- what happens: a Data comes, in this packet; what is due is given, where there is room for so many bytes; custody of all numbers up
--- to this one goes out
+-- what happens: a Data comes, in this packet; what is due is given, where there is room for so many bytes; custody of
+-- all numbers up to this one goes out
 pub data EarlyEvent : Type 0 where
   Came : (number : ℕ) (packet : List ℕ) → EarlyEvent
   Asked : (room : ℕ) → EarlyEvent

@@ -36,7 +36,8 @@ abbrev pub reply_of : Result (List ℕ) Refusal → Reply
 reply_of (Ok payload) = Bytes payload
 reply_of (Err refusal) = Refused refusal
 
--- what a Fetch is answered: as many bytes as its payload has, on an honest disk those that lie there; or 13 or 14, if it has bytes
+-- what a Fetch is answered: as many bytes as its payload has, on an honest disk those that lie
+-- there; or 13 or 14, if it has bytes
 abbrev pub IsFetched : DiskState → Option Place → Reply → Type 0
 IsFetched disk at (Bytes payload) =
     (length payload ≡ stored_length (lying at)) × (disk.honest → payload ≡ payload_in disk.seen (lying at))

@@ -1,5 +1,5 @@
--- Rows of calls that are tried one after the other (docs/DEFINITIONS.md, "Trials"). A row ends at its first failure; the next one
--- is tried whatever became of those before it.
+-- Rows of calls that are tried one after the other (docs/DEFINITIONS.md, "Trials"). A row ends at its first failure;
+-- the next one is tried whatever became of those before it.
 use Rattle.std.specs.Prelude.{◌≡◌, ℕ, ◌+◌, Bool, true, if◌then◌else◌, List, [], ◌∷◌, ◌++◌}
 use Rattle.std.specs.List.{AllByRecursion}
 use Rattle.rly_disk.specs.DiskModel.{DiskState}

@@ -86,9 +86,6 @@ module _ (b : BatchView) (line : Responding) (whole : List Entry) (rest kept : L
   pub counted : length (take n given) ≡ n
   counted = length_take n given enough
 
-  pub left_first : (left : List Call) × AreLeft line (calls_in_batch b ++ left)
-  left_first = (rest ++ kept, is.left ∙ ap (λ l. calls_in line.history ++ l) (append_assoc (calls_in_batch b) rest kept))
-
   pub legal_first : LegalBy without_bytes (harm_after 0 line.history) (state_after line.start line.history) (zip (calls_in_batch b) (take n given))
   legal_first = legal_front without_bytes (harm_after 0 line.history) (state_after line.start line.history) (zip (calls_in_batch b) (take n given)) (zip rest (drop n given)) legal
 

@@ -21,7 +21,7 @@ use Rattle.rly_journal.specs.Rounds.{AreServed, refusal_of, refusals}
 use Rattle.rly_standing.specs.Standing.{Stands}
 use Rattle.rly_line.specs.Replies.{Teller}
 use Rattle.rly_line.specs.Batches.{BatchView, calls_put}
-use Rattle.rly_line.specs.Responding.{AreLeft, IsResponding, Responding, calls_in}
+use Rattle.rly_line.specs.Responding.{IsResponding, Responding, calls_in}
 use Rattle.rly_line.specs.Submission.{LineId}
 use Rattle.rly_line.proofs.Telling.{with_over}
 use Rattle.rly_flush.specs.HelpersFlushing.{AreCollected, IsFlushing, IsRounded}
@@ -387,18 +387,6 @@ module _ {D : Type 0} (state : D → DiskState) (consistent : (disk : D) → (st
 
   module _ {collected : Responding} {left : Option BatchView} {calls said : List Call} {given : List Answer} {journal : JournalState D} (taken : AreCollected old.line collected old.kept left calls) (same : said ≡ calls)
       (now : IsRounded state old.journal journal calls given) (some : 1 ≤ length calls) where
-    -- the calls were taken and are not answered yet
-    pub left_to_tell : (rest : List Call) × AreLeft collected (said ++ rest)
-    left_to_tell = (
-      calls_put left,
-      subst (λ (y : Responding × List Call). AreLeft y.0 (y.1 ++ calls_put left)) (λ i. (sym taken.line i, sym same i))
-          (ap (λ l. l ++ taken.came) (sym kept.answered) ∙ append_assoc (calls_in old.line.history) (calls_put old.kept) taken.came ∙ ap (λ l. calls_in old.line.history ++ l) taken.in_turn),
-    )
-
-    -- there are as many answers
-    pub as_many : length given ≡ length said
-    as_many = (on state consistent old kept journal left old.line.lines taken.came calls given now some).count ∙ ap length (sym same)
-
     -- and they may be told
     pub may_tell : LegalBy without_bytes (harm_after 0 collected.history) (state_after collected.start collected.history) (zip said given)
     may_tell =

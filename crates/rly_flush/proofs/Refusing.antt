@@ -10,11 +10,10 @@ use Rattle.rly_machine.specs.declared.call.Call.{Call}
 use Rattle.rly_machine.specs.declared.reply.Reply.{Reply}
 use Rattle.rly_machine.specs.declared.reply.Reply.TheVariants.{Refused}
 use Rattle.rly_machine.specs.Ask.{ask_step}
-use Rattle.rly_machine.specs.History.{Entry, IsAnswered, accepted_by, accepted_of, LegalBy, harm, harm_after, is_failure, next_state, state_after, without_bytes}
+use Rattle.rly_machine.specs.History.{Entry, IsAnswered, accepted_by, accepted_of, LegalBy, harm, harm_after, is_failure, next_state, state_after}
 use Rattle.rly_machine.specs.declared.command.Ask.{Ask}
 use Rattle.rly_machine.specs.declared.command.Ask.TheVariants as asked
 use Rattle.rly_machine.specs.State.{State}
-use Rattle.rly_machine.proofs.Histories.{folds}
 use Rattle.rly_machine.proofs.RealReplies.{harmless}
 use Rattle.rly_journal.specs.Rounds.{AreUnreadWhere, IsFetch, OnlyLost, refusal_of, refusals}
 use Rattle.rly_line.specs.Responding.{calls_in}
@@ -150,23 +149,6 @@ pub harmful : (before round rest : List Entry) → 1 ≤ length round → AllByR
 harmful (x ∷ before) round rest some unsure none = harmful before round rest some unsure none.1
 harmful [] [] rest some unsure none = absurd (omega (arith, some))
 harmful [] (x ∷ round) rest some unsure none = absurd (omega (arith, ap harm unsure.0, none.0))
-
--- a history leads to no lower position
-pub grows : (harmed : ℕ) (s : State (List ℕ)) (history : List Entry) → LegalBy without_bytes harmed s history → s.seq ≤ (state_after s history).seq
-grows harmed s history legal = let rest = (folds harmed s history legal).2 in omega (arith, rest)
-
--- no position in it is above that of the state that it leads to
-pub up_to : (most harmed : ℕ) (s : State (List ℕ)) (history : List Entry) → LegalBy without_bytes harmed s history → (state_after s history).seq ≤ most
-    → AllByRecursion (λ entry. entry.1.position ≤ most) history
-up_to most harmed s [] legal low = tt
-up_to most harmed s (x ∷ xs) legal low =
-    let rest = grows (harm x.1.reply) (next_state s x) xs legal.1 in
-    (omega (arith, legal.0.position, rest), up_to most (harm x.1.reply) (next_state s x) xs legal.1 low)
-
--- what holds of each entry holds of those in front
-pub all_front : (P : Entry → Type 0) (xs ys : List Entry) → AllByRecursion P (xs ++ ys) → AllByRecursion P xs
-all_front P [] ys all = tt
-all_front P (x ∷ xs) ys all = (all.0, all_front P xs ys all.1)
 
 -- the accepted commands of a history that goes on
 pub accepted_append : (xs ys : List Entry) → accepted_of (xs ++ ys) ≡ accepted_of xs ++ accepted_of ys

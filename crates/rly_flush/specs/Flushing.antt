@@ -38,7 +38,14 @@ new_flusher given end = record {
   first = given;
   journal = given;
   kept = None;
-  line = record { of = end.of; taken = []; start = answered_state given; history = []; lines = end.lines; over = end.over };
+  line = record {
+    of = end.of;
+    taken = [];
+    start = answered_state given;
+    history = [];
+    lines = end.lines;
+    over = end.over;
+  };
 }
 
 -- a flusher of which a wait found that no batch was left and no seat
@@ -61,8 +68,8 @@ pub record IsInTurn {D : Type 0} (old new : FlusherState D) (calls : List Call) 
   pub in_turn : calls_put old.kept ++ came ≡ calls ++ calls_put new.kept
   pub full : IfSome new.kept (λ batch. 64 < length calls + length batch.asks)
 
--- 14 was answered only to asks that may want memory, and 13 only to a Fetch of bytes; or either to all calls, where a segment is
--- due that was not opened
+-- 14 was answered only to asks that may want memory, and 13 only to a Fetch of bytes; or either to all calls, where a
+-- segment is due that was not opened
 abbrev pub AreLostOrShut : {D : Type 0} → JournalState D → JournalState D → List Call → List Answer → Type 0
 AreLostOrShut old new calls given = AreLostWhereWanted old.state (zip calls given) ⊎ IsShut old new calls given
 
@@ -76,8 +83,8 @@ pub record IsOneRound {D : Type 0} (state : D → DiskState) (old new : FlusherS
   pub round : IsRound state old.journal new.journal calls given
   pub lost : AreLostOrShut old.journal new.journal calls given
 
--- why a call is told of a failure: 12 where a device call failed in its round, 11 where the journal was broken before, 13
--- where a read failed
+-- why a call is told of a failure: 12 where a device call failed in its round, 11 where the journal was
+-- broken before, 13 where a read failed
 pub record IsTruthful (failed broken unread : Type 0) (entry : Entry) : Type 0 where
   pub unsure : entry.1.reply ≡ Refused Unsure → failed
   pub broken_before : entry.1.reply ≡ Refused Broken → broken
@@ -106,16 +113,18 @@ GrewInRounds state old new =
 abbrev pub AreHarmless : List Entry → Type 0
 AreHarmless entries = AllByRecursion (λ entry. harm entry.1.reply ≡ 0) entries
 
--- the round whose commands may stand or not: that of these calls, which were answered now, and where the journal broke in
--- it are some, each refused; where the journal was broken before, the one that broke it, which is the first that was
--- refused so
+-- the round whose commands may stand or not: that of these calls, which were answered now, and where the
+-- journal broke in it are some, each refused; where the journal was broken before, the one that broke it, which
+-- is the first that was refused so
 abbrev pub IsDoubtful : {D : Type 0} → FlusherState D → FlusherState D → List Call → Type 0
 IsDoubtful old new calls =
     ((old.journal.broken ≡ false) × (round : List Entry) × (new.line.history ≡ old.line.history ++ round)
     × (calls_in round ≡ calls)
-    × (new.journal.broken ≡ true → (1 ≤ length calls) × (round ≡ zip calls (refusals Unsure old.journal.position calls))))
+    × (new.journal.broken ≡ true
+    → (1 ≤ length calls) × (round ≡ zip calls (refusals Unsure old.journal.position calls))))
     ⊎ ((old.journal.broken ≡ true) × (before : List Entry) × (behind : List Call)
-    × (old.line.history ≡ before ++ entries_since old.journal.position calls behind) × (1 ≤ length calls) × AreHarmless before)
+    × (old.line.history ≡ before ++ entries_since old.journal.position calls behind) × (1 ≤ length calls)
+    × AreHarmless before)
 
 -- what a crash leaves at any moment from old to new: the state that the history led to before, or that with the
 -- commands of one round
@@ -143,14 +152,16 @@ pub record IsBreaking (before round rest : List Entry) : Type 0 where
 
 -- the state after a round that was being written: that of its commands which the machine accepts after the history
 -- before it. It was answered so, or the journal broke in it
-pub record IsWritten (disk : DiskState) (start : State (List ℕ)) (before round rest : List Entry) (s : State (List ℕ)) : Type 0 where
+pub record IsWritten (disk : DiskState) (start : State (List ℕ)) (before round rest : List Entry) (s : State (List ℕ))
+    : Type 0 where
   pub given : List Answer
   pub served : AreServed disk (calls_in round) given (folded start before) s
   pub answered : (s ≡ folded start (before ++ round)) ⊎ IsBreaking before round rest
 
 -- An image was left in a round of a history: it stands for a prefix of the accepted commands, all those of the history
 -- before that round, with or without those of the round. So it holds each command that was accepted earlier
-pub record IsLeftIn (disk : DiskState) (start : State (List ℕ)) (earlier history : List Entry) (image : List ℕ) : Type 0 where
+pub record IsLeftIn (disk : DiskState) (start : State (List ℕ)) (earlier history : List Entry) (image : List ℕ)
+    : Type 0 where
   pub before : List Entry
   pub round : List Entry
   pub rest : List Entry
@@ -204,14 +215,17 @@ MayFollow f (later ∷ rounds) = MayGoOn f
 -- one round after the other, from old to last, and nothing between them: what each left is in the list
 abbrev pub AreRounds : {D : Type 0} → (D → DiskState) → FlusherState D → List (FlusherState D) → FlusherState D → Type 0
 AreRounds state old [] last = last ≡ record old { line = record old.line { over = last.line.over } }
-AreRounds state old (next ∷ rounds) last = IsMadeRound state old next × MayFollow next rounds × AreRounds state next rounds last
+AreRounds state old (next ∷ rounds) last =
+    IsMadeRound state old next × MayFollow next rounds × AreRounds state next rounds last
 
 -- a crash at any moment since a flusher was at f, up to the last, was in a round of the history. It leaves a prefix of
 -- the accepted commands: all those that were accepted up to f and all those before that round, with or without those of
 -- the round
-pub record IsKeptSince {D : Type 0} (state : D → DiskState) (start : State (List ℕ)) (last f : FlusherState D) : Type 0 where
+pub record IsKeptSince {D : Type 0} (state : D → DiskState) (start : State (List ℕ)) (last f : FlusherState D)
+    : Type 0 where
   pub went_on : (more : List Entry) × (last.line.history ≡ f.line.history ++ more)
-  pub leaves : LeavesOnly (state f.journal.disk) (state last.journal.disk) (IsLeftIn (state f.journal.disk) start f.line.history last.line.history)
+  pub leaves : LeavesOnly (state f.journal.disk) (state last.journal.disk)
+      (IsLeftIn (state f.journal.disk) start f.line.history last.line.history)
 
 -- what rounds made of a flusher
 pub record IsContinued {D : Type 0} (state : D → DiskState) (old new : FlusherState D) : Type 0 where
@@ -228,8 +242,8 @@ pub record IsContinued {D : Type 0} (state : D → DiskState) (old new : Flusher
   -- they were made one after the other
   pub rounds : List (FlusherState D)
   pub in_turn : AreRounds state old rounds new
-  -- what a crash leaves since the first moment, and since the end of each of them: no later crash loses what was accepted
-  -- up to there
+  -- what a crash leaves since the first moment, and since the end of each of them: no later crash
+  -- loses what was accepted up to there
   pub any_moment : (state old.journal.disk).honest → old.first.broken ≡ false
       → AllByRecursion (IsKeptSince state old.line.start new) (old ∷ rounds)
 

@@ -1,14 +1,12 @@
 -- Nothing is claimed here: what a flusher keeps, of which only private functions and invariants speak.
 use Rattle.std.specs.Prelude.{◌≡◌, ◌+◌, ◌<◌, ◌≤◌, List, [], ◌++◌, map, length, vec_capacity}
 use Rattle.std.specs.Prelude.{Option, IfSome, true, false}
-use Rattle.std.specs.List.{AllByRecursion, flat_map, zip}
+use Rattle.std.specs.List.{flat_map, zip}
 use Rattle.std.specs.declared.snapshot.Snapshot.{Snapshot}
-use Rattle.rly_core.specs.declared.refusal.Refusal.TheVariants.{DeviceRead}
 use Rattle.rly_disk.specs.DiskModel.{DiskState, Later, Settled}
 use Rattle.rly_machine.specs.declared.call.Answer.{Answer}
 use Rattle.rly_machine.specs.declared.call.Call.{Call}
-use Rattle.rly_machine.specs.declared.reply.Reply.TheVariants.{Refused}
-use Rattle.rly_machine.specs.History.{Entry, Legal, LegalButForBytes, harm_after, position}
+use Rattle.rly_machine.specs.History.{Legal, LegalButForBytes, harm_after, position}
 use Rattle.rly_journal.specs.Journal.{HasFailedRead, IsRound, IsSafe, JournalState}
 use Rattle.rly_standing.specs.Standing.{Stands}
 use Rattle.rly_journal.specs.Rounds.{AreUnreadWhere}

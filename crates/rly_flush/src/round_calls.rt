@@ -145,7 +145,8 @@ pub(crate) fn answer_all<T: Standing, R: Wait>(
     requires left { (left : List ACall) × AreLeft line.old (calls_said said.old.items ++ left) }
     requires wanted { wanted.old.items ≡ answers_said said.old.items }
     requires count { length answers.old.items ≡ length (calls_said said.old.items) }
-    requires legal { LegalBy without_bytes (harm_after 0 line.old.history) (state_after line.old.start line.old.history) (zip (calls_said said.old.items) answers.old.items) }
+    requires legal { LegalBy without_bytes (harm_after 0 line.old.history) (state_after line.old.start line.old.history)
+        (zip (calls_said said.old.items) answers.old.items) }
     ensures line { line.new ≡ record line.old { history = line.old.history ++ zip (calls_said said.old.items) answers.old.items; lines = line.new.lines } }
     ensures names { names_of line.new.lines ≡ names_of line.old.lines }
     ensures emptied { (said.new.items ≡ []) × (wanted.new.items ≡ []) × (answers.new.items ≡ []) }

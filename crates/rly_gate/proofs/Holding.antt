@@ -18,10 +18,6 @@ too_long image at end n fits field past body holds =
     let same = number_once 4 n (length body) fits holds.fits (sym field ∙ group_length image at (length body) body holds.bytes) in
     omega (arith, holds.room, length-frame body, same)
 
--- no group is shorter than a length and a gate
-pub too_short : (image : List ℕ) (at end : ℕ) → end < at + 6 → HoldsNone image at end
-too_short image at end past body holds = omega (arith, holds.room, length-frame body)
-
 -- what was read piece by piece is a group
 pub holds : (image : List ℕ) (at end n : ℕ) (body : List ℕ) → IsOpen image at → StandsAt image (at + 1) (big_bytes 4 n) → n < 2 ^ 32
     → at + 6 + n ≤ end → end ≤ length image → body ≡ take n (drop (at + 5) image) → HoldsGroup image at end body

@@ -1,6 +1,6 @@
 -- Reads of a group, and what follows from reads alone.
 use Rattle.std.proofs.Common.{◌≡◌, ◌≤◌, ◌+◌, ◌∷◌, [], ℕ, Bool, true, false, nat_le, arith, le-leb, refl, subst}
-use Rattle.std.specs.Prelude.{Option, Some, None, Result, Ok, Err, Vec, if◌then◌else◌}
+use Rattle.std.specs.Prelude.{Option, Err, Vec, if◌then◌else◌}
 use Rattle.rly_disk.specs.DiskModel.{Consistent, DiskState, NothingNew}
 use Rattle.rly_disk.specs.Trace.{Makes, OnlyReads, Read, are_reads}
 use Rattle.rly_disk.proofs.Making.{reads_later, reads_new, reads_of, reads_settled}
@@ -25,18 +25,7 @@ are_length_reads false at = refl
 pub length_new : {D : Type 0} (state : D → DiskState) {a b : D} {whole : Bool} (at end : ℕ) → Makes state (length_reads at end) whole a b → (state a).honest → Consistent (state a) → NothingNew (state a) (state b)
 length_new state at end made honest facts = reads_new state (reads_of state (length_reads at end) (are_length_reads (nat_le (at + 6) end) at) made) honest facts
 
-are_group_reads : {A : Type 0} (at end n : ℕ) (result : Result (Option (Vec ℕ A)) GroupFault) → are_reads (group_reads at end n result) ≡ true
-are_group_reads at end n (Ok None) = refl
-are_group_reads at end n (Ok (Some body)) = refl
-are_group_reads at end n (Err Damaged) = are_length_reads (nat_le (at + 6) end) at
-are_group_reads at end n (Err OutOfMemory) = refl
-are_group_reads at end n (Err Device) = refl
-
 module _ {D : Type 0} (state : D → DiskState) {a b : D} where
-  -- what was made is reads
-  pub group_only : {A : Type 0} (at end : ℕ) (result : Result (Option (Vec ℕ A)) GroupFault) → (n : ℕ) × Makes state (group_reads at end n result) (is_told result) a b → OnlyReads state (is_told result) a b
-  group_only at end result made = reads_of state (group_reads at end made.0 result) (are_group_reads at end made.0 result) made.1
-
   -- the gate is open, and the length after it was not read, or leaves no place for the group
   pub group_cut : (A : Type 0) {e : D} (at end : ℕ) (fault : GroupFault) → (fault ≡ OutOfMemory → ⊥) → Makes state (Read at 1 ∷ []) true a b
       → Makes state (length_reads at end) (is_told {A = Option (Vec ℕ A)} (Err fault)) b e

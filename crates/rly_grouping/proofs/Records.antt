@@ -12,7 +12,7 @@ use Rattle.rly_record.specs.Spelling.{HasRecord, HaveBody, body_of, record_lengt
 use Rattle.rly_record.proofs.Records.{length-record_of}
 use Rattle.rly_checkpoint.specs.Stored.{stored_length}
 use Rattle.rly_checkpoint.specs.declared.stored.Stored.{Stored}
-use Rattle.rly_checkpoint.specs.declared.stored.Stored.TheVariants.{Inline, Placed}
+use Rattle.rly_checkpoint.specs.declared.stored.Stored.TheVariants.{Inline}
 use Rattle.rly_keeping.specs.Keeping.{IsCommandAlike}
 use Rattle.rly_grouping.specs.Groups.{GroupState, Holds, empty_group, group_body, longest_record, record_place, with_record}
 use Rattle.rly_grouping.specs.Lying.{Commands, lying_at, placed_at, placed_from, placed_group}
@@ -108,13 +108,3 @@ pub inline_alike : (command : Command (List ℕ)) → IsCommandAlike (map_comman
 inline_alike (Take peer number hop stamp payload) = refl
 inline_alike (Pick hop now) = refl
 inline_alike (Release hop number) = refl
-
--- ---- a payload that lies at a place
-
-pub lies_none : (place : ℕ) (payload : List ℕ) → length payload ≡ 0 → Inline payload ≡ lying_at place payload
-lies_none place [] none = refl
-lies_none place (byte ∷ bytes) none = absurd (omega (arith, none))
-
-pub lies_some : (place n : ℕ) (payload : List ℕ) → 1 ≤ length payload → n ≡ length payload → Placed (record { start = place; length = n }) ≡ lying_at place payload
-lies_some place n [] some same = absurd (omega (arith, some))
-lies_some place n (byte ∷ bytes) some same = ap (λ (k : ℕ). let p : Stored = Placed (record { start = place; length = k }) in p) same

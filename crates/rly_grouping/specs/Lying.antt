@@ -24,7 +24,8 @@ placed_at place (Release hop number) = Release hop number
 -- commands whose records stand one after the other
 abbrev pub placed_from : ℕ → Commands → List (Command Stored)
 placed_from place [] = []
-placed_from place (command ∷ commands) = placed_at place command ∷ placed_from (place + record_length length command) commands
+placed_from place (command ∷ commands) =
+    placed_at place command ∷ placed_from (place + record_length length command) commands
 
 -- the commands of a group at a gate, after which its length stands in 4 bytes, the count in 2, and the records
 abbrev pub placed_group : ℕ → Commands → List (Command Stored)

@@ -29,9 +29,28 @@ impl Model for Sending {
 
     ghost Value = { Sender };
 
-    ghost view = { λ core. record { own = core.own; hop = core.hop; window = core.window; ready = core.ready; first = core.first; next = core.next; cursor = core.cursor; acked = core.acked } };
+    ghost view = { λ core. record {
+      own = core.own;
+      hop = core.hop;
+      window = core.window;
+      ready = core.ready;
+      first = core.first;
+      next = core.next;
+      cursor = core.cursor;
+      acked = core.acked;
+    } };
 
-    ghost invariant = { λ core. IsInOrder (record { own = core.own; hop = core.hop; window = core.window; ready = core.ready; first = core.first; next = core.next; cursor = core.cursor; acked = core.acked }) };
+    ghost invariant = { λ core. IsInOrder
+        (record {
+          own = core.own;
+          hop = core.hop;
+          window = core.window;
+          ready = core.ready;
+          first = core.first;
+          next = core.next;
+          cursor = core.cursor;
+          acked = core.acked;
+        }) };
 }
 
 impl Sending {

@@ -9,7 +9,8 @@ use Rattle.rly_segment.specs.Device.{IsLayout, device_length}
 use Rattle.rly_segment.specs.Heads.{segment_end, segment_place}
 use Rattle.rly_keeping.specs.Keeping.{IsIndex}
 
--- what contracts see of an index: its spool, the shape of its device, the current segment, and up to which place that is used
+-- what contracts see of an index: its spool, the shape of its device, the current segment,
+-- and up to which place that is used
 pub record IndexState : Type 0 where
   pub spool : Spool Stored
   pub geometry : Geometry

@@ -183,7 +183,8 @@ impl Index {
     pub fn moved(&mut self, choice: Choice, gate: u64)
         requires may { MayMove self.old.geometry choice.target choice.victim self.old.spool.state }
         requires victim { choice.victim < self.old.geometry.segments }
-        requires gate { gate ≡ gate_after stored_length stored_form self.old.geometry choice.target (drawn_state self.old.geometry choice.victim unread self.old.spool.state) }
+        requires gate { gate ≡ gate_after stored_length stored_form self.old.geometry choice.target
+            (drawn_state self.old.geometry choice.victim unread self.old.spool.state) }
         ensures state { self.new.spool.state ≡ moved_state self.old.geometry choice.target choice.victim self.old.spool.state }
         ensures at { IsAt self.old.geometry choice.target gate self.new }
     {

@@ -9,12 +9,10 @@ use Rattle.rly_gate.specs.Group.{IsClosed, group_of}
 use Rattle.rly_gate.proofs.Appending.{appending_image, appending_seen, appending_settled}
 use Rattle.rly_machine.specs.Fold.{AllAccepted, fold}
 use Rattle.rly_machine.specs.State.{State}
-use Rattle.rly_machine.proofs.Folding.{params_fold, seq_fold}
 use Rattle.rly_record.specs.Spelling.{HaveBody, body_of}
 use Rattle.rly_checkpoint.specs.Stored.{stored_length}
 use Rattle.rly_checkpoint.specs.declared.stored.Stored.{Stored}
 use Rattle.rly_segment.specs.Heads.{segment_end}
-use Rattle.rly_index.specs.Index.{IndexState}
 use Rattle.rly_grouping.specs.Groups.{GroupState, Holds, group_body}
 use Rattle.rly_grouping.specs.Lying.{Commands, placed_group}
 use Rattle.rly_grouping.proofs.Records.{body_length, holds_body, holds_have, holds_most}
@@ -22,7 +20,7 @@ use Rattle.rly_standing.specs.declared.tail.Tail.{Tail}
 use Rattle.rly_standing.specs.Log.{IsDurable, IsLogged}
 use Rattle.rly_standing.specs.Standing.{Stands}
 use Rattle.rly_standing.proofs.Appending.{append_image, append_logged, appended_tail, logged_within}
-use Rattle.rly_journal.specs.HelpersJournal.{IsShaped, IsTaggedIn}
+use Rattle.rly_journal.specs.HelpersJournal.{IsTaggedIn}
 use Rattle.rly_journal.proofs.Tagging.{tagged_appended}
 
 module _ {D : Type 0} (state : D → DiskState) {a : D} (tail : Tail) (group : GroupState) (commands : Commands) (s : State (List ℕ))
@@ -71,20 +69,3 @@ module _ {D : Type 0} (state : D → DiskState) {a : D} (tail : Tail) (group : G
         → IsTaggedIn (state b).seen (fold stored_length places (placed_group tail.gate commands))
     append_tagged places before =
         tagged_appended (state a).seen (state b).seen tail commands s places durable.logged have accepted few fits written before
-
--- what holds of the end where the group was not written
-pub shape_kept : (size gate : ℕ) (tail : Tail) (commands : Commands) (x y : IndexState) → IsShaped size tail x
-    → AllAccepted stored_length x.spool.state (placed_group gate commands) → y.spool.state ≡ fold stored_length x.spool.state (placed_group gate commands)
-    → IsShaped size tail y
-shape_kept size gate tail commands x y shaped accepted state =
-    let counted = seq_fold stored_length x.spool.state (placed_group gate commands) accepted in
-    let more : y.spool.state.seq ≡ (fold stored_length x.spool.state (placed_group gate commands)).seq = ap (λ (m : State Stored). m.seq) state in
-    record {
-      geometry = shaped.geometry;
-      segment = shaped.segment;
-      params = ap (λ (m : State Stored). m.params) state ∙ params_fold stored_length x.spool.state (placed_group gate commands) ∙ shaped.params;
-      above = shaped.above;
-      within = shaped.within;
-      generation = omega (arith, shaped.generation, counted, more);
-      full = λ full. omega (arith, shaped.full full, counted, more);
-    }

@@ -1,5 +1,5 @@
 -- A segment that is due may be opened as the journal does it: its head may be written, and the journal ends after it.
-use Rattle.std.proofs.Common.{◌≡◌, ◌≢◌, ◌≤◌, ◌<◌, ◌+◌, ◌^◌, ◌++◌, ◌∷◌, [], ◌∙◌, ℕ, false, true, List, length, get_or, arith, sym, ap, refl, subst}
+use Rattle.std.proofs.Common.{◌≡◌, ◌≢◌, ◌≤◌, ◌<◌, ◌+◌, ◌∷◌, [], ◌∙◌, ℕ, false, true, List, length, get_or, arith, sym, ap, refl, subst}
 use Rattle.std.proofs.lemmas.Bool.{false≢true}
 use Rattle.rly_disk.specs.DiskModel.{DiskState, overwritten}
 use Rattle.rly_disk.specs.Trace.{DeviceEvent, Read, are_reads, seen_at_end}
@@ -9,7 +9,6 @@ use Rattle.rly_machine.specs.Sound.{IsSound}
 use Rattle.rly_machine.specs.State.{State}
 use Rattle.rly_machine.proofs.Alike.{sound_alike}
 use Rattle.rly_checkpoint.specs.Stored.{state_in, stored_form, stored_length}
-use Rattle.rly_checkpoint.specs.declared.stored.Stored.{Stored}
 use Rattle.rly_places.specs.Placed.{IsPlaced}
 use Rattle.rly_places.specs.Room.{HasRoomFor}
 use Rattle.rly_places.proofs.Drawing.{drawn_stands}
@@ -25,10 +24,10 @@ use Rattle.rly_drawing.proofs.Rows.{all_are_reads}
 use Rattle.rly_index.specs.Index.{IndexState}
 use Rattle.rly_standing.specs.declared.tail.Tail.{Tail}
 use Rattle.rly_standing.specs.Framing.{IsHeadFor}
-use Rattle.rly_standing.specs.Log.{IsDurable, IsFull, IsLogged}
+use Rattle.rly_standing.specs.Log.{IsDurable, IsFull}
 use Rattle.rly_standing.specs.Standing.{IsStanding, Standing}
 use Rattle.rly_standing.proofs.Once.{standing_once}
-use Rattle.rly_journal.specs.Calls.{IsRenewal, MayRenew, Renewal, drawing_for, heading, renewed, renewing}
+use Rattle.rly_journal.specs.Calls.{IsRenewal, MayRenew, Renewal, drawing_for, heading, renewing}
 use Rattle.rly_journal.specs.HelpersJournal.{IsSoundJournal}
 use Rattle.rly_journal.proofs.Renewing.{copy_head, copy_placed, copy_seq, copy_sound, renewed_logged}
 

@@ -19,7 +19,7 @@ use Rattle.rly_machine.specs.declared.hop.Item.{Item}
 use Rattle.rly_machine.specs.declared.reply.Reply.{Reply}
 use Rattle.rly_machine.specs.declared.reply.Reply.TheVariants.{Refused}
 use Rattle.rly_machine.specs.Accepted.{is_accepted}
-use Rattle.rly_machine.specs.History.{accepted_by, is_failure}
+use Rattle.rly_machine.specs.History.{is_failure}
 use Rattle.rly_machine.specs.Map.{map_command, map_state}
 use Rattle.rly_machine.specs.Query.{fetch_reply, item_of, query_reply, show_reply, window_reply}
 use Rattle.rly_machine.specs.State.{State}
@@ -44,10 +44,8 @@ use Rattle.rly_grouping.proofs.Brought.{brought}
 use Rattle.rly_grouping.proofs.Framed.{record_fits}
 use Rattle.rly_grouping.proofs.Records.{body_length, holds_most, inline_alike, next_place, placed_alike}
 use Rattle.rly_fetching.specs.Fetching.{lying}
-use Rattle.rly_fetching.specs.declared.outcome.Outcome.{Outcome}
-use Rattle.rly_fetching.specs.declared.outcome.Outcome.TheVariants.{Answered}
 use Rattle.rly_standing.proofs.Serving.{long_leaves}
-use Rattle.rly_journal.specs.HelpersOutcomes.{IsGrouping, IsKnown, IsLeft, IsOutcomeOf, IsTaken, IsTakenOrLeft, IsToldOf, IsWanted, taken_by}
+use Rattle.rly_journal.specs.HelpersOutcomes.{IsGrouping, IsKnown, IsLeft, IsTaken, IsToldOf, IsWanted}
 use Rattle.rly_journal.specs.Fetches.{AreFetching}
 use Rattle.rly_journal.specs.Rounds.{AreReadsOf}
 use Rattle.rly_journal.specs.Showing.{shown_in}
@@ -180,13 +178,6 @@ wanted_there seat number position hop custody item place x t holds alike counts 
 
 -- ---- a command that was answered
 
--- a reply that isn't accepted names no command
-none_by : (command : Command (List ℕ)) (reply : Reply) → is_accepted reply ≡ false → accepted_by (ask.Command command) reply ≡ []
-none_by command reply leaves = ap (λ b. if b then command ∷ [] else []) leaves
-
-one_by : (command : Command (List ℕ)) (reply : Reply) → is_accepted reply ≡ true → accepted_by (ask.Command command) reply ≡ command ∷ []
-one_by command reply accepts = ap (λ b. if b then command ∷ [] else []) accepts
-
 -- where it stands, in the spool with bytes
 seq_after : (gate : ℕ) (command : Command (List ℕ)) (told : Reply) (x y : IndexState) (old new : GroupState) (before after : Commands) (position : ℕ) (t : State (List ℕ))
     → IsAlike x.spool.state t → position ≡ y.spool.state.seq
@@ -254,27 +245,6 @@ module _ (gate : ℕ) (call : Call) (command : Command (List ℕ)) (told : Reply
   command_outcome counts tells t alike =
       by_ask (λ c. IsKnown c answer t) call (ask.Command command) asks
       (command_known call.seat call.number position command told t (tells t alike) (seq_after gate command told x y old new before after position t alike counts done))
-
-  pub command_taken : IsTakenOrLeft gate call (Answered answer) x y old new before after
-  command_taken = elim done [
-    | inl taken ↦ inl (command, ap (λ a. accepted_by a told) asks ∙ one_by command told taken.0, taken.1)
-    | inr left ↦ inr (ap (λ a. accepted_by a told) asks ∙ none_by command told left.0, left.1)
-  ]
-
--- a question, by its ask
-module _ (call : Call) (query : Query) (outcome : Outcome) (x : IndexState) (asks : call.ask ≡ ask.Query query) where
-  pub query_outcome : (t : State (List ℕ))
-      → IsOutcomeOf x.geometry (record { seat = call.seat; number = call.number; ask = ask.Query query }) outcome x.spool.state t
-      → IsOutcomeOf x.geometry call outcome x.spool.state t
-  query_outcome t one = by_ask (λ c. IsOutcomeOf x.geometry c outcome x.spool.state t) call (ask.Query query) asks one
-
-  pub query_taken : (gate : ℕ) (group : GroupState) (log : Commands) → taken_by (record { seat = call.seat; number = call.number; ask = ask.Query query }) outcome ≡ []
-      → IsTakenOrLeft gate call outcome x x group group log log
-  query_taken gate group log none =
-      inr (
-        by_ask (λ c. taken_by c outcome ≡ []) call (ask.Query query) asks none,
-        record { state = refl; group = refl; at = record { geometry = refl; segment = refl; used = refl }; log = refl },
-      )
 
 -- ---- the calls that answer a command
 

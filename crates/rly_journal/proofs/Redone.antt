@@ -3,7 +3,7 @@ use Rattle.std.proofs.Common.{◌≡◌, ◌⊎◌, ◌≤◌, ◌+◌, ◌++◌
 use Rattle.std.specs.Prelude.{IsTrue, if◌then◌else◌}
 use Rattle.std.specs.List.{AllByRecursion, flat_map}
 use Rattle.std.proofs.lemmas.Bool.{false≢true}
-use Rattle.std.proofs.lemmas.List.{append-nil, flat_map_more}
+use Rattle.std.proofs.lemmas.List.{flat_map_more}
 use Rattle.std.proofs.lemmas.List.Concat.{flat_map-cons}
 use Rattle.byteorder.specs.Endian.{big_bytes}
 use Rattle.rly_core.specs.declared.params.Geometry.{Geometry}
@@ -14,7 +14,7 @@ use Rattle.rly_machine.specs.Fold.{AllAccepted, fold}
 use Rattle.rly_machine.specs.State.{State}
 use Rattle.rly_machine.specs.Step.{step}
 use Rattle.rly_machine.proofs.Folding.{accepted_parts, accepted_push, fold_push}
-use Rattle.rly_record.specs.Spelling.{HasRecord, HaveBody, body_of, record_length, record_of}
+use Rattle.rly_record.specs.Spelling.{HasRecord, body_of, record_length, record_of}
 use Rattle.rly_record.proofs.Records.{length-record_of}
 use Rattle.rly_checkpoint.specs.Stored.{stored_length}
 use Rattle.rly_checkpoint.specs.declared.stored.Stored.{Stored}
@@ -88,23 +88,6 @@ pub record IsRedoing (old : IndexState) (gate : ℕ) (all rest : Commands) (at :
   pub geometry : x.geometry ≡ old.geometry
   pub segment : x.segment ≡ old.segment
   pub used : (x.used ≡ at) ⊎ ((done ≡ []) × (x.used ≡ gate))
-
-pub redoing_first : (old : IndexState) (gate : ℕ) (all rest : Commands) (at : ℕ) → HaveBody all → all ≡ rest → old.used ≡ gate
-    → gate + 5 + length (body_of all) ≤ segment_end old.geometry old.segment → at ≡ gate + 7 → IsRedoing old gate all rest at old
-redoing_first old gate all rest at have same used room is =
-    let size : length (flat_map record_of rest) ≡ length (flat_map record_of all) = ap (λ (l : Commands). length (flat_map record_of l)) (sym same) in
-    record {
-      done = [];
-      all_of = same;
-      accepted = tt;
-      state = refl;
-      place = omega (arith, is);
-      have = subst (AllByRecursion HasRecord) same have.1;
-      room = omega (arith, is, room, body_size all, size);
-      geometry = refl;
-      segment = refl;
-      used = inr (refl, used);
-    }
 
 -- the next record
 pub redoing_has : (old x : IndexState) (gate at : ℕ) (all rest more : Commands) (command : Command (List ℕ)) → IsRedoing old gate all rest at x
@@ -206,21 +189,3 @@ pub record IsRedone (old : IndexState) (gate : ℕ) (all : Commands) (x : IndexS
   pub accepted : AllAccepted stored_length old.spool.state (placed_group gate all)
   pub state : x.spool.state ≡ fold stored_length old.spool.state (placed_group gate all)
   pub at : IsAt old.geometry old.segment (gate + 5 + length (body_of all)) x
-
-pub redoing_done : (old x : IndexState) (gate at : ℕ) (all rest : Commands) → IsRedoing old gate all rest at x → rest ≡ [] → HaveBody all → IsRedone old gate all x
-redoing_done old x gate at all rest so_far none have =
-    let whole : so_far.done ≡ all = sym (so_far.all_of ∙ ap (λ l. so_far.done ++ l) none ∙ append-nil so_far.done) in
-    let count : length so_far.done ≡ length all = ap length whole in
-    let size : length (flat_map record_of so_far.done) ≡ length (flat_map record_of all) = ap (λ (l : Commands). length (flat_map record_of l)) whole in
-    record {
-      accepted = subst (λ l. AllAccepted stored_length old.spool.state (placed_group gate l)) whole so_far.accepted;
-      state = so_far.state ∙ ap (λ l. fold stored_length old.spool.state (placed_group gate l)) whole;
-      at = record {
-        geometry = so_far.geometry;
-        segment = so_far.segment;
-        used = elim so_far.used [
-          | inl is ↦ omega (arith, is, so_far.place, size, body_size all)
-          | inr nothing ↦ absurd (let e : length so_far.done ≡ 0 = ap length nothing.0 in omega (arith, e, count, have.0.0))
-        ];
-      };
-    }

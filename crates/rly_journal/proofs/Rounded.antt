@@ -25,7 +25,7 @@ use Rattle.rly_journal.specs.HelpersReady.{IsDone, IsReady, IsUnready}
 use Rattle.rly_journal.proofs.Counted.{alone_joined, drawn_alone, logged_alone, renewed_alone, tried_alone}
 use Rattle.rly_journal.proofs.Reading.{leaves_joined}
 use Rattle.rly_journal.proofs.Rows.{two_tried, unheaded_made}
-use Rattle.rly_journal.proofs.Rounding.{later_joined, refused_unlost}
+use Rattle.rly_journal.proofs.Rounding.{refused_unlost}
 
 -- what was served over a disk was served over one that is honest only where that is
 served_over : (a b : DiskState) (calls : List Call) (given : List Answer) (s t u : State (List ℕ)) → (a.honest → b.honest) → s ≡ t → AreServed b calls given s u → AreServed a calls given t u
@@ -148,9 +148,6 @@ module _ {D : Type 0} (state : D → DiskState) (old mid new : JournalState D) (
         (subst (λ s. LeavesOnly (state mid.disk) (state new.disk) (λ image. Stands image s ⊎ Stands image safe.target)) same safe.leaves) (λ image stands. inl stands);
     running = safe.running;
   }
-
-  pub round_later : Later (state mid.disk) (state new.disk) → Later (state old.disk) (state new.disk)
-  round_later more = later_joined (state old.disk) (state mid.disk) (state new.disk) mid_later more
 
 -- no segment was opened where one was due
 module _ {D : Type 0} (state : D → DiskState) (old new : JournalState D) (calls : List Call) (refusal : Refusal) (position : ℕ) (whole : old.broken ≡ false)

@@ -100,9 +100,6 @@ module _ (size : ℕ) (tail : Tail) (x y : IndexState) (group : GroupState) (bef
   abbrev commands : Commands
   commands = taken_of (zip calls outcomes)
 
-  pub same_geometry : x.geometry ≡ tail.geometry
-  same_geometry = ends.geometry
-
   pub came : AreOutcomes tail.geometry tail.gate x.spool.state t [] (zip calls outcomes)
   came = subst (λ g. AreOutcomes g tail.gate x.spool.state t [] (zip calls outcomes)) ends.geometry (done.each t alike)
 

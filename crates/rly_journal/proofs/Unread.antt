@@ -1,5 +1,5 @@
 -- A call is told that a read failed only where one did, in its round.
-use Rattle.std.proofs.Common.{◌≡◌, ◌⊎◌, ◌+◌, ◌≤◌, ◌++◌, ◌∷◌, [], ◌∙◌, ℕ, Bool, true, false, List, arith, sym, ap, subst, inl, inr, ⊎_elim, refl, append_assoc}
+use Rattle.std.proofs.Common.{◌≡◌, ◌⊎◌, ◌≤◌, ◌++◌, ◌∷◌, [], ◌∙◌, ℕ, Bool, true, false, List, arith, sym, ap, subst, inl, inr, ⊎_elim, refl, append_assoc}
 use Rattle.std.specs.Prelude.{None, Option, Some, not, if◌then◌else◌}
 use Rattle.std.specs.List.{zip}
 use Rattle.std.proofs.lemmas.Bool.{false≢true}

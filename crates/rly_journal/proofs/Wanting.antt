@@ -6,7 +6,6 @@ use Rattle.rly_machine.specs.declared.command.Command.TheVariants.{Take, Pick, R
 use Rattle.rly_machine.specs.declared.hop.Item.{Item}
 use Rattle.rly_machine.specs.declared.reply.Reply.{Reply}
 use Rattle.rly_machine.specs.Accepted.{is_accepted, unless}
-use Rattle.rly_machine.specs.Map.{map_command}
 use Rattle.rly_machine.specs.Pick.{outcome_of, pick_refusal, pick_reply, picked_reply}
 use Rattle.rly_machine.specs.State.{HopState, Spool, State, hop_at, next_number}
 use Rattle.rly_machine.specs.Step.{NeedsRoom, step}
@@ -14,11 +13,10 @@ use Rattle.rly_machine.specs.Take.{take_refusal}
 use Rattle.rly_machine.proofs.RealReplies.{counted}
 use Rattle.rly_checkpoint.specs.Stored.{stored_length}
 use Rattle.rly_checkpoint.specs.declared.stored.Stored.{Stored}
-use Rattle.rly_checkpoint.specs.declared.stored.Stored.TheVariants.{Inline}
 use Rattle.rly_keeping.specs.Keeping.{IsAlike}
 use Rattle.rly_keeping.proofs.Stepping.{same_reply}
 use Rattle.rly_grouping.specs.Lying.{placed_at}
-use Rattle.rly_grouping.proofs.Records.{inline_alike, placed_alike}
+use Rattle.rly_grouping.proofs.Records.{placed_alike}
 use Rattle.rly_journal.specs.Rounds.{MayWantRoom}
 
 -- a Pick that no check refuses is accepted
@@ -68,16 +66,7 @@ placed_release place (Take peer number hop stamp payload) spool needs release = 
 placed_release place (Pick hop now) spool needs release = release
 placed_release place (Release hop number) spool needs release = needs
 
-inline_release : (command : Command (List ℕ)) (spool : Spool Stored) → NeedsRoom stored_length spool (map_command Inline command) → IsRelease command → ⊥
-inline_release (Take peer number hop stamp payload) spool needs release = release
-inline_release (Pick hop now) spool needs release = release
-inline_release (Release hop number) spool needs release = needs
-
 module _ (command : Command (List ℕ)) (spool : Spool Stored) (t : State (List ℕ)) (alike : IsAlike spool.state t) where
   pub placed_wants : (place : ℕ) → NeedsRoom stored_length spool (placed_at place command) → MayWantRoom t command
   placed_wants place needs = wants t command (placed_release place command spool needs)
       (ap is_accepted (sym (same_reply spool.state t (placed_at place command) command alike (placed_alike place command))) ∙ needs_accepts spool (placed_at place command) needs)
-
-  pub inline_wants : NeedsRoom stored_length spool (map_command Inline command) → MayWantRoom t command
-  inline_wants needs = wants t command (inline_release command spool needs)
-      (ap is_accepted (sym (same_reply spool.state t (map_command Inline command) command alike (inline_alike command))) ∙ needs_accepts spool (map_command Inline command) needs)

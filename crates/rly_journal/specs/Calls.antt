@@ -1,5 +1,6 @@
 -- The calls that a round makes of its device, where payloads stay there.
-use Rattle.std.specs.Prelude.{◌≡◌, ◌+◌, ℕ, List, [], ◌∷◌, ◌++◌, Bool, false, true, Option, None, Some, All, set, slice_index_or}
+use Rattle.std.specs.Prelude.{◌≡◌, ◌+◌, ℕ, List, [], ◌∷◌, ◌++◌, Bool, false, true}
+use Rattle.std.specs.Prelude.{Option, None, Some, All, set, slice_index_or}
 use Rattle.rly_disk.specs.DiskModel.{DiskState}
 use Rattle.rly_disk.specs.Trace.{DeviceEvent, seen_at_end}
 use Rattle.rly_machine.specs.Map.{payloads_of}
@@ -23,8 +24,8 @@ use Rattle.rly_standing.specs.Framing.{IsHeadFor}
 use Rattle.rly_standing.specs.Log.{IsFull, IsLogged}
 use Rattle.rly_standing.specs.Standing.{IsStanding, Standing, stored_in}
 
--- the next segment as it is opened: the spool of places before it, the segment, the one whose payloads move into its head, and what
--- that holds
+-- the next segment as it is opened: the spool of places before it, the segment, the one whose payloads move
+-- into its head, and what that holds
 pub record Renewal : Type 0 where
   pub places : State Stored
   pub target : ℕ
@@ -39,7 +40,8 @@ pub record IsRenewal (disk : DiskState) (tail : Tail) (s : State (List ℕ)) (r 
   pub inline : inline_bytes r.places ≡ 0
   pub target : IsFree (live_by_segment tail.geometry r.places) tail.segment r.target
   -- nor does a live one lie in that segment by what the device reads
-  pub free : disk.honest → (x : Standing) → IsStanding disk.seen x → All (LiesElsewhere x.geometry r.target) (payloads_of (stored_in x))
+  pub free : disk.honest → (x : Standing) → IsStanding disk.seen x
+      → All (LiesElsewhere x.geometry r.target) (payloads_of (stored_in x))
   pub victim : IsVictim (live_by_segment tail.geometry r.places) r.target r.victim
   pub copy : IsSameButForBytes r.copy (drawn_state tail.geometry r.victim unread r.places)
   pub bytes : disk.honest → r.copy ≡ drawn_state tail.geometry r.victim (bytes_at disk.seen) r.places
@@ -68,15 +70,15 @@ heading tail r =
 abbrev pub renewing : Tail → Renewal → List DeviceEvent
 renewing tail r = drawing_for tail r ++ heading tail r
 
--- what is read of an image lets it be opened so: its head may be written; what is read then stands for the same state, and ends where
--- the journal does; and the largest group has room there
+-- what is read of an image lets it be opened so: its head may be written; what is read then stands for the same state,
+-- and ends where the journal does; and the largest group has room there
 pub record MayRenew (image : List ℕ) (tail : Tail) (s : State (List ℕ)) (r : Renewal) : Type 0 where
   pub head : (x : Standing) → IsStanding image x → IsHeadFor image x r.target r.copy
   pub logged : IsLogged (seen_at_end (renewing tail r) image) (renewed tail r) s
   pub room : IsFull (renewed tail r) → ⊥
 
--- a round up to its Fetches: a segment is opened or not, and then its accepted commands are logged, all of them or up to a call
--- that failed
+-- a round up to its Fetches: a segment is opened or not, and then its accepted commands are logged, all of
+-- them or up to a call that failed
 abbrev pub rounding : Tail → Option Renewal → Commands → Bool → List Try
 rounding tail None commands whole = row_of (logging tail.gate commands) whole ∷ []
 rounding tail (Some r) commands whole =

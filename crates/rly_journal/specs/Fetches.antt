@@ -26,8 +26,8 @@ abbrev pub told_of : {A : Type 0} → Result A Refusal → Reply
 told_of (Ok found) = Bytes []
 told_of (Err refusal) = Refused refusal
 
--- the calls of a fetch that the machine answers so: of a payload with bytes one read of as many, which failed where 13 is
--- answered, and wasn't made where 14 is; else none
+-- the calls of a fetch that the machine answers so: of a payload with bytes one read of as many, which failed where 13
+-- is answered, and wasn't made where 14 is; else none
 abbrev pub AreFetching : Reply → Reply → List Try → Type 0
 AreFetching (Bytes payload) told rows =
     (at : Option Place) × (stored_length (lying at) ≡ length payload) × (rows ≡ row_for at told ∷ [])

@@ -1,5 +1,5 @@
--- Helpers: what each journal keeps, and what opening one has read so far. Nothing here is claimed: what holds of each journal is
--- said by its laws, and what opening gives by `Standing` of rly_standing and by `Faults`.
+-- Helpers: what each journal keeps, and what opening one has read so far. Nothing here is claimed: what holds of each
+-- journal is said by its laws, and what opening gives by `Standing` of rly_standing and by `Faults`.
 use Rattle.std.specs.Prelude.{◌≡◌, ◌≢◌, ℕ, ◌+◌, ◌<◌, ◌≤◌, List, Bool, false}
 use Rattle.rly_core.specs.declared.params.Geometry.{Geometry}
 use Rattle.rly_disk.specs.DiskModel.{DiskState}
@@ -36,8 +36,8 @@ IsAtEnd tail x = IsAt tail.geometry tail.segment tail.gate x
 abbrev pub tagged : Geometry → ℕ → Stored → ℕ × ℕ
 tagged g segment p = (stored_length p, bytes_in g segment p)
 
--- a spool of places has in each segment but the newest what was read of an image to lie there: the payloads that a group brought are
--- inline in the one, and lie in the newest segment in the other
+-- a spool of places has in each segment but the newest what was read of an image to lie there: the payloads that a
+-- group brought are inline in the one, and lie in the newest segment in the other
 abbrev pub IsTagged : Standing → State Stored → Type 0
 IsTagged x s =
     (t : ℕ) → t ≢ x.segment → map_state (tagged x.geometry t) s ≡ map_state (tagged x.geometry t) (stored_in x)
@@ -55,10 +55,10 @@ pub record IsLoggedFor (image : List ℕ) (tail : Tail) (x : IndexState) : Type 
   pub read : IsLogged image tail (state_in image x.spool.state)
   pub tagged : IsTaggedIn image x.spool.state
 
--- how a journal keeps its state: where it isn't broken its index is used up to the end, and on an honest disk nothing is pending,
--- and what the device reads stands for the state, which the index stands for too
-pub record IsSoundJournal (disk : DiskState) (tail : Tail) (x : IndexState) (s : State (List ℕ)) (position : ℕ) (broken : Bool)
-    : Type 0 where
+-- how a journal keeps its state: where it isn't broken its index is used up to the end, and on an honest disk nothing
+-- is pending, and what the device reads stands for the state, which the index stands for too
+pub record IsSoundJournal (disk : DiskState) (tail : Tail) (x : IndexState) (s : State (List ℕ)) (position : ℕ)
+    (broken : Bool) : Type 0 where
   pub shaped : IsShaped disk.size tail x
   pub alike : IsAlike x.spool.state s
   pub ends : broken ≡ false → IsAtEnd tail x

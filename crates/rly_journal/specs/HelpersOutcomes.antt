@@ -1,5 +1,5 @@
--- Helpers: what came of the calls of a round before payloads are read, in a spool of places and one with bytes. Nothing here is
--- claimed: what a round answers is said by `Rounds`.
+-- Helpers: what came of the calls of a round before payloads are read, in a spool of places and one with bytes. Nothing
+-- here is claimed: what a round answers is said by `Rounds`.
 use Rattle.std.specs.Prelude.{◌≡◌, ◌⊎◌, ℕ, ◌≤◌, List, [], ◌∷◌, ◌++◌, length, true, IsTrue, Option, Ok}
 use Rattle.std.specs.List.{zip}
 use Rattle.rly_core.specs.declared.ids.HopId.{HopId}
@@ -49,9 +49,10 @@ abbrev pub IsToldOf : Command (List ℕ) → Reply → State (List ℕ) → Type
 IsToldOf command told t =
     (told ≡ (step length t command).1) ⊎ ((told ≡ Refused OutOfMemory) × MayWantRoom t command)
 
--- a command was accepted: the index went on by it, with its payload by place, its record is in the group, and it is in the log
-pub record IsTaken (gate : ℕ) (command : Command (List ℕ)) (x y : IndexState) (old new : GroupState) (before after : Commands)
-    : Type 0 where
+-- a command was accepted: the index went on by it, with its payload by place, its record is
+-- in the group, and it is in the log
+pub record IsTaken (gate : ℕ) (command : Command (List ℕ)) (x y : IndexState) (old new : GroupState)
+    (before after : Commands) : Type 0 where
   pub accepted : IsTrue (is_accepted (step stored_length x.spool.state (placed_at (record_place gate old) command)).1)
   pub state : y.spool.state ≡ (step stored_length x.spool.state (placed_at (record_place gate old) command)).0
   pub has : HasRecord command
@@ -80,8 +81,8 @@ pub record IsKnown (call : Call) (answer : Answer) (t : State (List ℕ)) : Type
   pub unread : AreReadsOf t call.ask answer.reply []
 
 -- a call asks for a payload in flight, which lies at a place if it has bytes
-pub record IsWanted (g : Geometry) (call : Call) (seat : SeatId) (number at : ℕ) (place : Option Place) (s : State Stored)
-    (t : State (List ℕ)) : Type 0 where
+pub record IsWanted (g : Geometry) (call : Call) (seat : SeatId) (number at : ℕ) (place : Option Place)
+    (s : State Stored) (t : State (List ℕ)) : Type 0 where
   pub same_seat : seat ≡ call.seat
   pub same_number : number ≡ call.number
   pub position : at ≡ t.seq
@@ -104,9 +105,11 @@ taken_by call (Answered answer) = accepted_by call.ask answer.reply
 taken_by call (Wanted seat number at place) = []
 
 -- it is in the group, or nothing changed
-abbrev pub IsTakenOrLeft : ℕ → Call → Outcome → IndexState → IndexState → GroupState → GroupState → Commands → Commands → Type 0
+abbrev pub IsTakenOrLeft : ℕ → Call → Outcome → IndexState → IndexState → GroupState → GroupState → Commands → Commands
+    → Type 0
 IsTakenOrLeft gate call outcome x y old new before after =
-    ((command : Command (List ℕ)) × (taken_by call outcome ≡ command ∷ []) × IsTaken gate command x y old new before after)
+    ((command : Command (List ℕ)) × (taken_by call outcome ≡ command ∷ [])
+    × IsTaken gate command x y old new before after)
     ⊎ ((taken_by call outcome ≡ []) × IsLeft x y old new before after)
 
 -- ---- all calls
@@ -123,10 +126,10 @@ AreOutcomes g gate s t done (x ∷ xs) =
     IsOutcomeOf g x.0 x.1 (fold stored_length s (placed_group gate done)) (fold length t done)
     × AreOutcomes g gate s t (done ++ taken_by x.0 x.1) xs
 
--- calls were evaluated from an index: their accepted commands are those of the group, which will stand at a gate, and those that
--- the log grew by, and the index went on by them
-pub record IsEvaluated (gate : ℕ) (old new : IndexState) (group : GroupState) (before after : Commands) (calls : List Call)
-    (outcomes : List Outcome) : Type 0 where
+-- calls were evaluated from an index: their accepted commands are those of the group, which will stand at a gate, and
+-- those that the log grew by, and the index went on by them
+pub record IsEvaluated (gate : ℕ) (old new : IndexState) (group : GroupState) (before after : Commands)
+    (calls : List Call) (outcomes : List Outcome) : Type 0 where
   pub count : length outcomes ≡ length calls
   pub each : (t : State (List ℕ)) → IsAlike old.spool.state t
       → AreOutcomes old.geometry gate old.spool.state t [] (zip calls outcomes)
@@ -135,5 +138,6 @@ pub record IsEvaluated (gate : ℕ) (old new : IndexState) (group : GroupState) 
   pub state : new.spool.state ≡ fold stored_length old.spool.state (placed_group gate (taken_of (zip calls outcomes)))
   pub geometry : new.geometry ≡ old.geometry
   pub segment : new.segment ≡ old.segment
-  pub used : ((taken_of (zip calls outcomes) ≡ []) × (new.used ≡ gate)) ⊎ ((1 ≤ group.count) × (new.used ≡ record_place gate group))
+  pub used : ((taken_of (zip calls outcomes) ≡ []) × (new.used ≡ gate))
+      ⊎ ((1 ≤ group.count) × (new.used ≡ record_place gate group))
   pub log : after ≡ before ++ taken_of (zip calls outcomes)

@@ -1,5 +1,5 @@
--- Helpers: what making room for a round came to, and what serving its calls did. Nothing here is claimed: what a round does is said by
--- `Journal`.
+-- Helpers: what making room for a round came to, and what serving its calls did. Nothing here is claimed: what a
+-- round does is said by `Journal`.
 use Rattle.std.specs.Prelude.{◌≡◌, ◌⊎◌, ◌+◌, ◌≤◌, ◌++◌, [], true, false, not, Result, Ok, Err, List}
 use Rattle.std.specs.List.{AllByRecursion, zip}
 use Rattle.rly_core.specs.declared.refusal.Refusal.{Refusal}
@@ -17,7 +17,8 @@ use Rattle.rly_journal.specs.Calls.{IsRenewal, Renewal, renewed, renewing}
 use Rattle.rly_journal.specs.Rounds.{AreFetches, AreLostWhereWanted, AreServed}
 
 -- a segment was due, and was opened
-pub record IsOpenedFor {D : Type 0} (state : D → DiskState) (old new : JournalState D) (calls : List Call) : Type 0 where
+pub record IsOpenedFor {D : Type 0} (state : D → DiskState) (old new : JournalState D) (calls : List Call)
+    : Type 0 where
   pub due : IsDueFor old calls
   pub r : Renewal
   pub renewal : IsRenewal (state old.disk) old.tail old.state r
@@ -38,9 +39,10 @@ abbrev pub IsReadied : {A D : Type 0} → (D → DiskState) → JournalState D �
 IsReadied state old new calls (Ok done) = (new.broken ≡ false) × IsReady state old new calls
 IsReadied state old new calls (Err refusal) = IsUnready state old new calls refusal
 
--- calls were served, where no segment was due: their accepted commands were logged, and where all went well their Fetches were read
-pub record IsDone {D : Type 0} (state : D → DiskState) (old new : JournalState D) (calls : List Call) (before after : List Answer)
-    : Type 0 where
+-- calls were served, where no segment was due: their accepted commands were logged, and where all
+-- went well their Fetches were read
+pub record IsDone {D : Type 0} (state : D → DiskState) (old new : JournalState D) (calls : List Call)
+    (before after : List Answer) : Type 0 where
   pub given : List Answer
   pub told : new.broken ≡ false → after ≡ before ++ given
   pub served : AreServed (state old.disk) calls given old.state new.state
@@ -56,9 +58,10 @@ pub record IsDone {D : Type 0} (state : D → DiskState) (old new : JournalState
   pub tries : Tries state fetches mid new.disk
 
 -- all that serving the calls of a round did
-pub record IsServed {D : Type 0} (state : D → DiskState) (old new : JournalState D) (calls : List Call) (before after : List Answer)
-    : Type 0 where
-  pub answers : (given : List Answer) × (after ≡ before ++ given) × (Goes state old new calls given ⊎ Breaks old new calls given)
+pub record IsServed {D : Type 0} (state : D → DiskState) (old new : JournalState D) (calls : List Call)
+    (before after : List Answer) : Type 0 where
+  pub answers : (given : List Answer) × (after ≡ before ++ given)
+      × (Goes state old new calls given ⊎ Breaks old new calls given)
   pub wanted : (given : List Answer) × (after ≡ before ++ given) × AreLostWhereWanted old.state (zip calls given)
   pub done : IsDone state old new calls before after
   pub failed : new.broken ≡ true → HasFailed (state old.disk) (state new.disk)

@@ -1,5 +1,6 @@
 -- What contracts see of a journal, and what a round does to it.
-use Rattle.std.specs.Prelude.{◌≡◌, ◌⊎◌, ◌+◌, ◌<◌, ◌++◌, [], ℕ, List, Bool, true, false, not, Option, None, IfSome, IsSome}
+use Rattle.std.specs.Prelude.{◌≡◌, ◌⊎◌, ◌+◌, ◌<◌, ◌++◌, [], ℕ, List, Bool, true}
+use Rattle.std.specs.Prelude.{false, not, Option, None, IfSome, IsSome}
 use Rattle.std.specs.List.{AllByRecursion, list_any, zip}
 use Rattle.rly_core.specs.declared.refusal.Refusal.{Refusal}
 use Rattle.rly_core.specs.declared.refusal.Refusal.TheVariants.{Broken, DeviceRead, OutOfMemory, Unsure}
@@ -42,8 +43,8 @@ abbrev pub IsDueFor : {D : Type 0} → JournalState D → List Call → Type 0
 IsDueFor j calls = (holds_command calls ≡ true) × IsFull j.tail
 
 -- no write and no sync failed: the calls are served, and the journal goes on
-pub record Goes {D : Type 0} (state : D → DiskState) (old new : JournalState D) (calls : List Call) (given : List Answer)
-    : Type 0 where
+pub record Goes {D : Type 0} (state : D → DiskState) (old new : JournalState D) (calls : List Call)
+    (given : List Answer) : Type 0 where
   pub broken : new.broken ≡ false
   pub served : AreServed (state old.disk) calls given old.state new.state
   pub position : new.position ≡ new.state.seq
@@ -90,22 +91,23 @@ pub record IsSafe {D : Type 0} (state : D → DiskState) (old new : JournalState
   pub leaves : LeavesOnly (state old.disk) (state new.disk) (λ image. Stands image old.state ⊎ Stands image target)
   pub running : new.broken ≡ false → target ≡ new.state
 
--- the calls of a round that opened no segment where one was due, by how it refuses all its calls: reads of the victim, all that were
--- made before memory was refused, or those up to one that failed; or all of them, and the calls of the head up to one that failed, after
--- which the journal is broken
-pub record MakesShut {D : Type 0} (state : D → DiskState) (old new : JournalState D) (calls : List Call) (refusal : Refusal)
-    : Type 0 where
+-- the calls of a round that opened no segment where one was due, by how it refuses all its calls: reads of the victim,
+-- all that were made before memory was refused, or those up to one that failed; or all of them, and the calls of the
+-- head up to one that failed, after which the journal is broken
+pub record MakesShut {D : Type 0} (state : D → DiskState) (old new : JournalState D) (calls : List Call)
+    (refusal : Refusal) : Type 0 where
   pub due : IsDueFor old calls
   pub r : Renewal
   pub renewal : IsRenewal (state old.disk) old.tail old.state r
   pub makes :
-      ((refusal ≡ OutOfMemory) × (new.broken ≡ false) × MakesFront state (drawing_for old.tail r) true old.disk new.disk)
+      ((refusal ≡ OutOfMemory) × (new.broken ≡ false)
+      × MakesFront state (drawing_for old.tail r) true old.disk new.disk)
       ⊎ ((refusal ≡ DeviceRead) × (new.broken ≡ false) × Makes state (drawing_for old.tail r) false old.disk new.disk)
       ⊎ ((refusal ≡ Unsure) × (new.broken ≡ true) × Tries state (unheaded old.tail r) old.disk new.disk)
 
--- a round of a journal that isn't broken: its calls were served, and those of the device are its own: all of a segment's that is opened;
--- a row, whole where the journal goes on, else up to the first that failed; and then, where it goes on, the reads of its Fetches, each
--- tried
+-- a round of a journal that isn't broken: its calls were served, and those of the device are its own: all of a
+-- segment's that is opened; a row, whole where the journal goes on, else up to the first that failed; and then, where
+-- it goes on, the reads of its Fetches, each tried
 pub record MakesRound {D : Type 0} (state : D → DiskState) (old new : JournalState D) (calls : List Call)
     (before after : List Answer) : Type 0 where
   pub given : List Answer
@@ -121,4 +123,5 @@ pub record MakesRound {D : Type 0} (state : D → DiskState) (old new : JournalS
   pub fetches : List Try
   pub read : new.broken ≡ false → AreFetches old.state (zip calls given) fetches
   pub unread : new.broken ≡ true → fetches ≡ []
-  pub makes : Tries state (rounding old.tail opened (accepted_of (zip calls given)) (not new.broken) ++ fetches) old.disk new.disk
+  pub makes : Tries state
+      (rounding old.tail opened (accepted_of (zip calls given)) (not new.broken) ++ fetches) old.disk new.disk

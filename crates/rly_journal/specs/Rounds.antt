@@ -33,8 +33,8 @@ abbrev pub OnlyLost : Entry → Type 0
 OnlyLost entry = is_failure entry.1.reply ≡ true
     → (entry.1.reply ≡ Refused OutOfMemory) ⊎ ((entry.1.reply ≡ Refused DeviceRead) × IsFetch entry.0.ask)
 
--- calls were answered one after the other from a state: each by the machine in the running state, but for the bytes of a Fetch on a
--- disk that isn't honest, or by such a failure
+-- calls were answered one after the other from a state: each by the machine in the running state, but for the bytes of
+-- a Fetch on a disk that isn't honest, or by such a failure
 pub record AreServed (disk : DiskState) (calls : List Call) (given : List Answer) (s t : State (List ℕ)) : Type 0 where
   pub count : length given ≡ length calls
   pub legal : LegalButForBytes s (zip calls given)

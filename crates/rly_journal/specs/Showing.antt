@@ -7,7 +7,8 @@ use Rattle.rly_checkpoint.specs.Stored.{payload_in, stored_length}
 use Rattle.rly_checkpoint.specs.declared.stored.Stored.{Stored}
 use Rattle.rly_grouping.specs.Lying.{Commands}
 
--- the payload that an image has, cut or filled up to its length: as long as it is said to be, also where the image ends before it
+-- the payload that an image has, cut or filled up to its length: as long as it is said to be,
+-- also where the image ends before it
 abbrev pub shown_in : List ℕ → Stored → List ℕ
 shown_in image p = take (stored_length p) (payload_in image p ++ replicate (stored_length p) 0)
 

@@ -101,7 +101,8 @@ impl<D: Disk> Journal<D> {
         // What is refused is durable: it is refused again after a crash.
         ensures stays_refused { (D.state disk).honest → IfErr result (λ failed. failed.0 ≢ OpenFault.Device → Settled (D.state failed.1)) }
         // One sync, and then reads. `Device` is answered where one of them failed, and it was the last.
-        ensures trace { MatchResult result (λ journal. MakesOpening D.state journal.tail disk journal.disk) (λ failed. BreaksOpening D.state (tells failed.0) disk failed.1) }
+        ensures trace { MatchResult result (λ journal. MakesOpening D.state journal.tail disk journal.disk)
+            (λ failed. BreaksOpening D.state (tells failed.0) disk failed.1) }
     {
         let mut disk = disk;
         match begin(alloc, &mut disk) {
@@ -150,11 +151,13 @@ impl<D: Disk> Journal<D> {
         // one group; then the payloads of its Fetches are read, each whatever became of those before it. Where a segment is due and
         // was not opened, it is told how all calls are refused and what failed.
         ensures trace { self.old.broken ≡ false → OnOk result (MakesRound D.state self.old self.new calls.old.items answers.old.items answers.new.items
-            ⊎ ((self.new.state ≡ self.old.state) × (told : ARefusal) × (answers.new.items ≡ answers.old.items ++ refusals told self.old.position calls.old.items)
+            ⊎ ((self.new.state ≡ self.old.state) × (told : ARefusal)
+            × (answers.new.items ≡ answers.old.items ++ refusals told self.old.position calls.old.items)
             × MakesShut D.state self.old self.new calls.old.items told)) }
         // A crash at any moment of the round leaves its commands whole or none of them.
         ensures any_moment { (D.state self.old.disk).honest → self.old.broken ≡ false → OnOk result (IsSafe D.state self.old self.new calls.old.items) }
-        ensures durable { (D.state self.new.disk).honest → self.new.broken ≡ false → OnOk result (Settled (D.state self.new.disk) × Stands (D.state self.new.disk).seen self.new.state) }
+        ensures durable { (D.state self.new.disk).honest → self.new.broken ≡ false
+            → OnOk result (Settled (D.state self.new.disk) × Stands (D.state self.new.disk).seen self.new.state) }
         ensures syncs { (D.state self.new.disk).syncs ≤ (D.state self.old.disk).syncs + 5 }
         ensures few_syncs { (IsDueFor self.old calls.old.items → ⊥) → (D.state self.new.disk).syncs ≤ (D.state self.old.disk).syncs + 2 }
         // A segment is opened where one is due, also where its commands are then refused, and only there.
@@ -188,7 +191,8 @@ impl<D: Disk> Journal<D> {
         ensures position { self.new.position ≡ self.old.position }
         ensures ready { OnOk result (IsDueFor self.new calls.now → ⊥) }
         ensures made { IsReadied D.state self.old self.new calls.now result }
-        ensures any_moment { (D.state self.old.disk).honest → LeavesOnly (D.state self.old.disk) (D.state self.new.disk) (λ image. Stands image self.old.state) }
+        ensures any_moment { (D.state self.old.disk).honest
+            → LeavesOnly (D.state self.old.disk) (D.state self.new.disk) (λ image. Stands image self.old.state) }
         ensures syncs { (D.state self.new.disk).syncs ≤ (D.state self.old.disk).syncs + 3 }
         ensures later { Later (D.state self.old.disk) (D.state self.new.disk) }
     {
@@ -344,7 +348,8 @@ impl<D: Disk> Journal<D> {
     /// What is true of every journal that isn't broken, on an honest disk: nothing is pending, and what the device
     /// reads stands for the running state.
     pub fn law_durable(&self)
-        ensures { (D.state self.now.disk).honest → self.now.broken ≡ false → Settled (D.state self.now.disk) × Stands (D.state self.now.disk).seen self.now.state }
+        ensures { (D.state self.now.disk).honest → self.now.broken ≡ false
+            → Settled (D.state self.now.disk) × Stands (D.state self.now.disk).seen self.now.state }
     {
         let _ = &self.tail;
     }
@@ -391,7 +396,8 @@ fn begin<D: Disk>(alloc: Global, disk: &mut D) -> Result<Begun, OpenFault>
     ensures room { IfOk result (λ begun. 64 ≤ vec_capacity begun.outcomes) }
     ensures logged { (D.state disk.old).honest → IfOk result (λ begun. IsLoggedFor (D.state disk.old).seen begun.found.tail begun.found.index) }
     ensures refused { (D.state disk.old).honest → IfErr result (λ fault. IsRefused (D.state disk.old).seen fault) }
-    ensures trace { MatchResult result (λ begun. MakesOpening D.state begun.found.tail disk.old disk.new) (λ fault. BreaksOpening D.state (tells fault) disk.old disk.new) }
+    ensures trace { MatchResult result (λ begun. MakesOpening D.state begun.found.tail disk.old disk.new)
+        (λ fault. BreaksOpening D.state (tells fault) disk.old disk.new) }
 {
     let Ok(()) = disk.sync() else {
         return Err(OpenFault::Device);

@@ -1,7 +1,6 @@
 -- What a spool of places stands for over images.
-use Rattle.std.proofs.Common.{ℕ, ◌≡◌, ◌⊎◌, ◌+◌, ◌*◌, ◌-◌, ◌<◌, ◌≤◌, List, [], ◌∷◌, length, drop, map, take, arith, refl, sym, ap, subst, ◌∙◌, inl, inr, length-drop, length-take}
+use Rattle.std.proofs.Common.{ℕ, ◌≡◌, ◌⊎◌, ◌+◌, ◌-◌, ◌≤◌, List, [], ◌∷◌, length, drop, map, arith, refl, sym, ap, subst, ◌∙◌, inl, inr, length-drop, length-take}
 use Rattle.std.specs.Prelude.{All}
-use Rattle.std.specs.List.{flat_map}
 use Rattle.std.proofs.Math.Seq.{drop-append_seam, take-append_seam}
 use Rattle.std.proofs.lemmas.List.Elements.{All-append, All-drop, All-head, All-tail, All-take, All-weaker}
 use Rattle.rly_core.specs.declared.params.Geometry.{Geometry}
@@ -19,7 +18,7 @@ use Rattle.rly_checkpoint.specs.declared.stored.Stored.{Stored}
 use Rattle.rly_checkpoint.specs.declared.stored.Stored.TheVariants.{Inline, Placed}
 use Rattle.rly_places.specs.Places.{LiesIn}
 use Rattle.rly_places.proofs.Placing.{of_items}
-use Rattle.rly_segment.specs.Device.{IsLayout, device_length}
+use Rattle.rly_segment.specs.Device.{device_length}
 use Rattle.rly_segment.specs.Heads.{segment_end}
 use Rattle.rly_moving.specs.Moving.{LiesThere}
 use Rattle.rly_keeping.specs.Keeping.{IsBrought, IsIndex, LiesBetween, LiesClear}

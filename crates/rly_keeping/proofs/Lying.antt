@@ -1,5 +1,5 @@
 -- Where one payload lies.
-use Rattle.std.proofs.Common.{ℕ, suc, ◌≡◌, ◌≢◌, ◌⊎◌, ◌+◌, ◌*◌, ◌-◌, ◌/◌, ◌%◌, ◌<◌, ◌≤◌, Bool, true, false, cond, eqb, List, [], ◌∷◌, length, min, arith, rules, refl, sym, ap, subst, ◌∙◌, inl, inr}
+use Rattle.std.proofs.Common.{ℕ, suc, ◌≡◌, ◌≢◌, ◌+◌, ◌*◌, ◌-◌, ◌/◌, ◌%◌, ◌<◌, ◌≤◌, Bool, true, false, cond, eqb, List, [], ◌∷◌, min, arith, rules, refl, sym, ap, ◌∙◌, inl, inr}
 use Rattle.std.proofs.Math.Nat.{mul-le-mul_right}
 use Rattle.std.proofs.lemmas.Bool.{cases_lt, eq-eqb, ne_eqb}
 use Rattle.rly_core.specs.declared.params.Geometry.{Geometry}
@@ -9,7 +9,6 @@ use Rattle.rly_checkpoint.specs.declared.stored.Stored.TheVariants.{Inline, Plac
 use Rattle.rly_places.specs.Placed.{LiesElsewhere}
 use Rattle.rly_places.specs.Places.{LiesIn, bytes_in, segment_of}
 use Rattle.rly_places.specs.Room.{drawn, inline_length}
-use Rattle.rly_places.proofs.Emptying.{in_segment}
 use Rattle.rly_places.proofs.Placing.{lies_there, segment_once, short_enough}
 use Rattle.rly_segment.specs.Heads.{segment_end, segment_place}
 use Rattle.rly_segment.specs.Settling.{settled}

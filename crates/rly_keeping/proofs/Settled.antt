@@ -1,12 +1,12 @@
 -- All payloads of a head, once they lie in it.
-use Rattle.std.proofs.Common.{ℕ, ◌≡◌, ◌+◌, ◌*◌, ◌≤◌, List, [], ◌∷◌, length, map, arith, refl, sym, ap, ◌∙◌}
+use Rattle.std.proofs.Common.{ℕ, ◌≡◌, ◌+◌, ◌*◌, List, [], ◌∷◌, length, map, arith, refl, ap, ◌∙◌}
 use Rattle.std.specs.Prelude.{All}
 use Rattle.std.specs.List.{flat_map}
 use Rattle.rly_core.specs.declared.params.Geometry.{Geometry}
 use Rattle.rly_machine.specs.Map.{map_hop, map_item, map_state, payloads_of}
 use Rattle.rly_machine.specs.State.{HopState, State}
 use Rattle.rly_machine.specs.declared.hop.Item.{Item}
-use Rattle.rly_checkpoint.specs.Checkpoint.{entry_spelled, hop_spelled, state_spelled}
+use Rattle.rly_checkpoint.specs.Checkpoint.{entry_spelled, hop_spelled}
 use Rattle.rly_checkpoint.specs.Stored.{stored_form, stored_length}
 use Rattle.rly_checkpoint.specs.declared.stored.Stored.{Stored}
 use Rattle.rly_checkpoint.specs.declared.stored.Stored.TheVariants.{Inline, Placed}

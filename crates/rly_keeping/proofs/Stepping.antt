@@ -1,5 +1,5 @@
 -- What commands make of a spool of places, and of the spool with bytes.
-use Rattle.std.proofs.Common.{ℕ, ◌≡◌, ◌+◌, ◌<◌, ◌≤◌, List, length, arith, refl, sym, ap, ◌∙◌}
+use Rattle.std.proofs.Common.{ℕ, ◌≡◌, ◌+◌, ◌<◌, List, length, arith, refl, sym, ap, ◌∙◌}
 use Rattle.std.specs.Prelude.{All}
 use Rattle.std.proofs.lemmas.List.Elements.{All-append, All-weaker}
 use Rattle.rly_core.specs.declared.params.Geometry.{Geometry}
@@ -13,11 +13,11 @@ use Rattle.rly_machine.proofs.Mapping.{mapped_step}
 use Rattle.rly_checkpoint.specs.Stored.{stored_length}
 use Rattle.rly_checkpoint.specs.declared.stored.Stored.{Stored}
 use Rattle.rly_places.specs.Places.{bytes_in, live_by_segment, live_in}
-use Rattle.rly_places.specs.Room.{inline_bytes, inline_length}
+use Rattle.rly_places.specs.Room.{inline_length}
 use Rattle.rly_places.proofs.Emptying.{each_none, may_open, none_each, payloads_sum, stays_empty}
 use Rattle.rly_places.proofs.Rooms.{live_at, live_length}
 use Rattle.rly_reclaim.specs.Reclaiming.{MayOpen}
-use Rattle.rly_segment.specs.Heads.{segment_end, segment_place}
+use Rattle.rly_segment.specs.Heads.{segment_end}
 use Rattle.rly_moving.specs.Moving.{LiesThere}
 use Rattle.rly_keeping.specs.Keeping.{IsAlike, IsBrought, IsCommandAlike, IsIndex, LiesBetween, LiesClear}
 use Rattle.rly_keeping.proofs.Lying.{astray, between_clear, between_inline, between_other, between_there, clear_more, clear_not_met, met, not_astray_there, not_met_clear, there_not_astray}

@@ -1,4 +1,5 @@
--- What a spool is whose payloads stay on the device, and how it keeps to the spool with bytes (docs/DEFINITIONS.md, "Keeping").
+-- What a spool is whose payloads stay on the device, and how it keeps to the spool with bytes
+-- (docs/DEFINITIONS.md, "Keeping").
 use Rattle.std.specs.Prelude.{◌≡◌, ◌⊎◌, ℕ, ◌+◌, ◌<◌, ◌≤◌, List, All, length}
 use Rattle.rly_core.specs.declared.params.Geometry.{Geometry}
 use Rattle.rly_disk.specs.DiskModel.{DiskState}
@@ -51,7 +52,8 @@ IsAlike s t = map_state stored_length s ≡ map_state length t
 abbrev pub IsCommandAlike : Command Stored → Command (List ℕ) → Type 0
 IsCommandAlike placed command = map_command stored_length placed ≡ map_command length command
 
--- the spool with bytes that a spool of places stands for on a disk: on an honest one its payloads are those that a read gives
+-- the spool with bytes that a spool of places stands for on a disk: on an honest one its
+-- payloads are those that a read gives
 pub record IsKept (disk : DiskState) (s : State Stored) (t : State (List ℕ)) : Type 0 where
   pub alike : IsAlike s t
   pub bytes : disk.honest → state_in disk.seen s ≡ t

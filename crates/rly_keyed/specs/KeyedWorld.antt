@@ -10,7 +10,8 @@ use Rattle.rly_tag.specs.Seal.{unsealed}
 use Rattle.rly_world.specs.PairWorld.{PairEvent, PairWorld, UpperHears, LowerHears, lower_hears, pair_step, upper_hears}
 
 -- what may happen next: an event of two relays in which no packet arrives; or these bytes come to the upper, whose link
--- has these keys at that time; or they come to the lower, which gives what it hears to this core, with this hop and stamp
+-- has these keys at that time; or they come to the lower, which gives what it hears to
+-- this core, with this hop and stamp
 pub data KeyedEvent : Type 0 where
   Other : (event : PairEvent) → KeyedEvent
   UpperGets : (keys : Keys) (bytes : List ℕ) → KeyedEvent

@@ -22,11 +22,6 @@ new_in_place names seat here =
     let e : 0 + seat ≡ seat = omega arith in
     ap (λ (t : Teller). t.seat) (new_teller_at 0 names seat (new_teller None seat) here) ∙ e
 
--- there are as many lines as names, and as many seats
-pub tellers_count : (number : ℕ) (names : List (Option ReplyId)) → length (new_tellers number names) ≡ length names
-tellers_count number [] = refl
-tellers_count number (of ∷ more) = ap suc (tellers_count (number + 1) more)
-
 pub callers_count : (of : LineId) (number : ℕ) (names : List (Option ReplyId)) → length (new_callers of number names) ≡ length names
 callers_count of number [] = refl
 callers_count of number (name ∷ more) = ap suc (callers_count of (number + 1) more)

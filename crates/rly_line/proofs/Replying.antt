@@ -6,10 +6,9 @@ use Rattle.rly_machine.specs.History.{Entry, LegalButForBytes}
 use Rattle.rly_machine.specs.State.{State}
 use Rattle.rly_line.specs.declared.replies.ReplyView.{ReplyView}
 use Rattle.rly_line.specs.Batches.{AnswersView}
-use Rattle.rly_line.specs.HelpersEnds.{IsHeard, Teaches, both_ends, both_known, silent, telling, hearing}
+use Rattle.rly_line.specs.HelpersEnds.{IsHeard, both_ends, both_known, silent, telling, hearing}
 use Rattle.rly_line.specs.Replies.{AreBesideReplies, AreReplied, ExtendsHistory, IsBase, IsPrefixOf, IsReplyLine, Tells}
 use Rattle.rly_line.proofs.Views.{at_set, each_set, each_push, alone}
-use Rattle.rly_machine.specs.declared.call.Answer.{Answer}
 use mathlib.Core.Option.{some}
 use lib.ListN.{get_elem?}
 
@@ -294,13 +293,4 @@ before_that a b c earlier known told was is = record {
   same_base = base_before_that a b c was.same_base is.same_base;
   rest = was.rest ++ is.rest;
   whole = is.whole ∙ ap (λ l. l ++ is.rest) was.whole ∙ append_assoc earlier was.rest is.rest;
-}
-
--- a batch of answers taught more
-pub taught_more : (seat : ℕ) (base known_base : Base) (before after : List Entry) (answers : List Answer) → Teaches seat base known_base before answers after
-    → IsPrefixOf base known_base before after
-taught_more seat base known_base before after answers taught = record {
-  same_base = ⊎_elim {C = IsBase base known_base} (λ none. inl none) (λ same. inr (same ∙ sym taught.base_is)) taught.same_base;
-  rest = taught.goes_on.between ++ zip taught.goes_on.calls answers;
-  whole = taught.goes_on.made ∙ append_assoc before taught.goes_on.between (zip taught.goes_on.calls answers);
 }

@@ -85,8 +85,8 @@ telling seat = record both_ends { hears = false; seat = seat }
 abbrev pub hearing : ℕ → ReplyView
 hearing seat = record both_ends { tells = false; seat = seat }
 
--- what both know together, where the base that the seat knows stands as the one before; and what is left of the view of a
--- pass that was given up
+-- what both know together, where the base that the seat knows stands as the one before; and what is left of the
+-- view of a pass that was given up
 abbrev pub both_known : ReplyView → ReplyView → ReplyView
 both_known teller hearer = record teller { hears = true; known = hearer.known; base_before = hearer.base }
 

@@ -71,8 +71,8 @@ pub record IsLeftBy (r : Responding) (end : ClosedView) : Type 0 where
   pub taken : end.taken ≡ r.taken
   pub told : TellTheSame end.lines r.lines
 
--- A seat that was left beside the closed end of its lines: of the calls that it put, those that were taken are a prefix, ask for
--- ask; and what it knows is a prefix of what its line was told
+-- A seat that was left beside the closed end of its lines: of the calls that it put, those that were taken are a
+-- prefix, ask for ask; and what it knows is a prefix of what its line was told
 pub record IsToldBy (end : ClosedView) (c : Caller) : Type 0 where
   pub begins : IsBeginning c.seat.0 end.taken c.put
   pub known : IsPrefixOf c.base (teller_at end.lines c.seat.0).base c.known (teller_at end.lines c.seat.0).told

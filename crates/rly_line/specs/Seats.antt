@@ -16,9 +16,9 @@ use Rattle.rly_line.specs.Batches.{calls_after}
 use Rattle.rly_line.specs.Replies.{ReplyId, entries_of}
 use Rattle.rly_line.specs.Submission.{AreNumbered, LineId}
 
--- what contracts see of a seat: which line it puts calls into, which line its answers come out of, the calls that it put,
--- the base state and the history that it knows, whether it is shut, and whether its line refused a batch, since its other
--- end was gone
+-- what contracts see of a seat: which line it puts calls into, which line its answers come out of, the calls
+-- that it put, the base state and the history that it knows, whether it is shut, and whether its line refused a
+-- batch, since its other end was gone
 pub record Caller : Type 0 where
   pub of : LineId
   pub replies : Option ReplyId

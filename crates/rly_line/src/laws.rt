@@ -18,6 +18,7 @@ pub fn law_line()
 /// What a seat knows is a prefix of what its line was told last, from the same base. The channel of the line's answers
 /// keeps the rule at each moment. What the line was told is a prefix of the one history of who answers (`Responder`).
 pub fn law_reply_line()
-    ensures { (answers : List (Option AnswersView)) (views : List AReplyView) (teller hearer : AReplyView) → AreReplied answers views → AreBesideReplies views teller hearer
+    ensures { (answers : List (Option AnswersView)) (views : List AReplyView) (teller hearer : AReplyView)
+        → AreReplied answers views → AreBesideReplies views teller hearer
         → IsPrefixOf hearer.base teller.base hearer.known teller.told }
 {}

@@ -181,7 +181,14 @@ impl Model for TellEnd {
 
     ghost Value = { Teller };
 
-    ghost view = { λ e. record { of = Some (replies_of e.pass); seat = (pass_view e.pass).seat; capacity = ruled_capacity (sends_on e.line); base = (pass_view e.pass).base; told = (pass_view e.pass).told; gone = e.gone } };
+    ghost view = { λ e. record {
+      of = Some (replies_of e.pass);
+      seat = (pass_view e.pass).seat;
+      capacity = ruled_capacity (sends_on e.line);
+      base = (pass_view e.pass).base;
+      told = (pass_view e.pass).told;
+      gone = e.gone;
+    } };
 
     ghost invariant = { λ e. IsSeatAt (sends_on e.line) e.pass × ((pass_view e.pass).tells ≡ true) };
 }
@@ -191,7 +198,9 @@ impl TellEnd {
     /// is gone, and then never again.
     pub fn tell<T: Standing, R: Wait>(&mut self, rt: &R, answers: Answers, story: &Story<T>) -> bool
         requires { self.old.gone ≡ false → MayTell self.old story.now.start answers.answers story.now.history }
-        ensures { MatchBool result (self.new ≡ record self.old { base = Some story.now.start; told = story.now.history }) (self.new ≡ record self.old { gone = true }) }
+        ensures { MatchBool result
+            (self.new ≡ record self.old { base = Some story.now.start; told = story.now.history })
+            (self.new ≡ record self.old { gone = true }) }
     {
         self.tell_as::<Brand, T, R>(rt, answers, story)
     }

@@ -70,7 +70,8 @@ impl<T: Standing> Responder<T> {
         requires whose { answers ≡ record (no_answers batch.now.value) { answers = answers.answers } }
         requires count { length answers.answers ≡ answers.wanted }
         requires next { (left : List Call) × AreLeft self.old (calls_in_batch batch.now.value ++ left) }
-        requires answered { LegalBy without_bytes (harm_after 0 self.old.history) (state_after self.old.start self.old.history) (zip (calls_in_batch batch.now.value) answers.answers) }
+        requires answered { LegalBy without_bytes (harm_after 0 self.old.history)
+            (state_after self.old.start self.old.history) (zip (calls_in_batch batch.now.value) answers.answers) }
         ensures of { self.new.of ≡ self.old.of }
         ensures taken { self.new.taken ≡ self.old.taken }
         ensures start { self.new.start ≡ self.old.start }

@@ -32,7 +32,16 @@ impl Model for SeatEnds {
 
     ghost Value = { Caller };
 
-    ghost view = { λ s. record { of = s.line.of; replies = s.replies.of; seat = s.seat; put = s.line.put; base = s.replies.base; known = s.replies.known; shut = s.is_shut; refused = s.line.refused } };
+    ghost view = { λ s. record {
+      of = s.line.of;
+      replies = s.replies.of;
+      seat = s.seat;
+      put = s.line.put;
+      base = s.replies.base;
+      known = s.replies.known;
+      shut = s.is_shut;
+      refused = s.line.refused;
+    } };
 
     ghost invariant = { λ s. IsSeated s.seat s.line s.replies s.calls s.is_shut };
 }

@@ -140,7 +140,13 @@ impl Model for Line {
 
     ghost Value = { Taker };
 
-    ghost view = { λ l. record { of = line_of l.pass; capacity = ruled_capacity (sends_on l.puts); seats = (pass_view l.pass).seats; taken = (pass_view l.pass).taken; over = false } };
+    ghost view = { λ l. record {
+      of = line_of l.pass;
+      capacity = ruled_capacity (sends_on l.puts);
+      seats = (pass_view l.pass).seats;
+      taken = (pass_view l.pass).taken;
+      over = false;
+    } };
 
     ghost invariant = { λ l. IsSeatAt (sends_on l.puts) l.pass × ((pass_view l.pass).takes ≡ true) × (receives_on l.takes ≡ sends_on l.puts) };
 }
@@ -159,7 +165,9 @@ impl Line {
 
     /// One more seat's end.
     pub fn seat(&mut self) -> Result<SubmitEnd, AllocError>
-        ensures ok { IfOk result (λ end. (end ≡ record { of = self.old.of; seat = self.old.seats; put = []; refused = false }) × (self.new ≡ record self.old { seats = self.old.seats + 1 })) }
+        ensures ok { IfOk result
+            (λ end. (end ≡ record { of = self.old.of; seat = self.old.seats; put = []; refused = false })
+            × (self.new ≡ record self.old { seats = self.old.seats + 1 })) }
         ensures err { OnErr result (self.new ≡ self.old) }
     {
         let line = self.puts.try_clone()?;
@@ -243,7 +251,8 @@ impl SubmitEnd {
         requires takes { ((view taker.old).takes ≡ true) × (taker.old.me.1 ≡ []) }
         requires of { line_of taker.old ≡ self.of }
         ensures same { result ≡ self }
-        ensures known { ((view taker.new).takes ≡ true) × ((view taker.new).seats ≡ (view taker.old).seats) × ((view taker.new).taken ≡ (view taker.old).taken) }
+        ensures known { ((view taker.new).takes ≡ true) × ((view taker.new).seats ≡ (view taker.old).seats)
+            × ((view taker.new).taken ≡ (view taker.old).taken) }
         ensures pass { (taker.new.me.1 ≡ []) × (line_of taker.new ≡ line_of taker.old) }
         ensures begins { IsBeginning self.seat (view taker.old).taken self.put }
     {
@@ -282,7 +291,13 @@ impl Model for TakeEnd {
 
     ghost Value = { Taker };
 
-    ghost view = { λ e. record { of = line_of e.pass; capacity = ruled_capacity (receives_on e.line); seats = (pass_view e.pass).seats; taken = (pass_view e.pass).taken; over = e.is_over } };
+    ghost view = { λ e. record {
+      of = line_of e.pass;
+      capacity = ruled_capacity (receives_on e.line);
+      seats = (pass_view e.pass).seats;
+      taken = (pass_view e.pass).taken;
+      over = e.is_over;
+    } };
 
     ghost invariant = { λ e. IsSeatAt (receives_on e.line) e.pass × ((pass_view e.pass).takes ≡ true) };
 }
@@ -290,7 +305,9 @@ impl Model for TakeEnd {
 impl TakeEnd {
     /// Waits for a batch. None: no batch was left, and no seat.
     pub fn wait<R: Wait>(&mut self, rt: &R) -> Option<Batch>
-        ensures taken { IfSome result (λ batch. (self.new ≡ record self.old { taken = self.old.taken ++ calls_in_batch batch }) × IsNext self.old.seats self.old.taken batch) }
+        ensures taken { IfSome result (λ batch.
+            (self.new ≡ record self.old { taken = self.old.taken ++ calls_in_batch batch })
+            × IsNext self.old.seats self.old.taken batch) }
         ensures none { IfNone result (self.new ≡ record self.old { over = true }) }
     {
         for _count in rt.forever() {
@@ -318,7 +335,9 @@ impl TakeEnd {
 
     /// A batch that is in the line, if there is one.
     pub fn more<R: Wait>(&mut self, rt: &R) -> Option<Batch>
-        ensures taken { IfSome result (λ batch. (self.new ≡ record self.old { taken = self.old.taken ++ calls_in_batch batch }) × IsNext self.old.seats self.old.taken batch) }
+        ensures taken { IfSome result (λ batch.
+            (self.new ≡ record self.old { taken = self.old.taken ++ calls_in_batch batch })
+            × IsNext self.old.seats self.old.taken batch) }
         ensures none { IfNone result (self.new ≡ self.old) }
     {
         match self.line.try_recv_as::<Takes, R>(rt, &mut self.pass) {

@@ -8,7 +8,7 @@ use Rattle.rly_machine.specs.declared.reply.Reply.TheVariants.{Bytes, Refused}
 use Rattle.rly_machine.specs.Accepted.{is_accepted}
 use Rattle.rly_machine.specs.Ask.{ask_step}
 use Rattle.rly_machine.specs.Fold.{AllAccepted, fold}
-use Rattle.rly_machine.specs.History.{Entry, IsAnswered, LegalBy, accepted_by, accepted_of, harm, harm_after, is_failure, next_state, state_after, without_bytes}
+use Rattle.rly_machine.specs.History.{Entry, LegalBy, accepted_by, accepted_of, harm, harm_after, is_failure, next_state, state_after, without_bytes}
 use Rattle.rly_machine.specs.State.{State}
 use Rattle.rly_machine.specs.Step.{step}
 use Rattle.rly_machine.proofs.Folding.{accepted_append, fold_append}
@@ -27,11 +27,6 @@ pub legal_append : (shown : Reply → Reply) (harmed : ℕ) (s : State (List ℕ
     → LegalBy shown harmed s xs → LegalBy shown (harm_after harmed xs) (state_after s xs) ys → LegalBy shown harmed s (xs ++ ys)
 legal_append shown harmed s [] ys legal more = more
 legal_append shown harmed s (x ∷ xs) ys legal more = (legal.0, legal_append shown (harm x.1.reply) (next_state s x) xs ys legal.1 more)
-
--- with one more call
-pub legal_push : (shown : Reply → Reply) (harmed : ℕ) (s : State (List ℕ)) (xs : List Entry) (x : Entry)
-    → LegalBy shown harmed s xs → IsAnswered shown (harm_after harmed xs) (state_after s xs) x → LegalBy shown harmed s (xs ++ x ∷ [])
-legal_push shown harmed s xs x legal last = legal_append shown harmed s xs (x ∷ []) legal (last, tt)
 
 -- what is legal is legal but for bytes
 pub legal_but_for_bytes : (harmed : ℕ) (s : State (List ℕ)) (xs : List Entry) → LegalBy (λ reply. reply) harmed s xs → LegalBy without_bytes harmed s xs

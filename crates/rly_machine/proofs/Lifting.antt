@@ -47,13 +47,6 @@ command_twice f g (Take peer number hop stamp payload) = refl
 command_twice f g (Pick hop now) = refl
 command_twice f g (Release hop number) = refl
 
-commands_twice : {P Q R : Type 0} (f : Q → R) (g : P → Q) (commands : List (Command P))
-    → map (map_command f) (map (map_command g) commands) ≡ map (map_command (λ p. f (g p))) commands
-commands_twice f g [] = refl
-commands_twice {P} {Q} {R} f g (command ∷ commands) =
-    ap (λ (x : Command R). x ∷ map (map_command f) (map (map_command g) commands)) (command_twice f g command)
-    ∙ ap (λ (rest : List (Command R)). map_command (λ p. f (g p)) command ∷ rest) (commands_twice f g commands)
-
 -- ---- payloads with a proof each
 
 all_left : {A : Type 0} (T : A → Type 0) (xs ys : List A) → All T (xs ++ ys) → All T xs
@@ -120,18 +113,6 @@ lift_command : {P : Type 0} (T : P → Type 0) (command : Command P) → All T (
 lift_command T (Take peer number hop stamp payload) all = (Take peer number hop stamp (payload, All-head T payload [] all), refl)
 lift_command T (Pick hop now) all = (Pick hop now, refl)
 lift_command T (Release hop number) all = (Release hop number, refl)
-
-lift_commands : {P : Type 0} (T : P → Type 0) (commands : List (Command P)) → All T (flat_map payload_of commands)
-    → (known : List (Command (Known P T))) × (map (map_command (plain T)) known ≡ commands)
-lift_commands T [] all = ([], refl)
-lift_commands {P} T (command ∷ commands) all =
-    let parts = subst (All T) (flat_map-cons payload_of command commands) all in
-    let first = lift_command T command (all_left T (payload_of command) (flat_map payload_of commands) parts) in
-    let rest = lift_commands T commands (all_right T (payload_of command) (flat_map payload_of commands) parts) in (
-      first.0 ∷ rest.0,
-      ap (λ (x : Command P). x ∷ map (map_command (plain T)) rest.0) first.1
-          ∙ ap (λ (others : List (Command P)). command ∷ others) rest.1,
-    )
 
 -- ---- and what is known of the payloads of a state that has them so
 

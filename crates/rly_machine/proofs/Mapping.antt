@@ -20,7 +20,6 @@ use Rattle.rly_machine.specs.Pick.{outcome_of, pick_refusal, pick_reply, picked_
 use Rattle.rly_machine.specs.Release.{covered_count, release_refusal, with_released}
 use Rattle.rly_machine.specs.Take.{take_refusal, with_taken}
 use Rattle.rly_machine.specs.Step.{step}
-use Rattle.rly_machine.specs.Fold.{fold}
 use Rattle.rly_machine.specs.Map.{map_item, map_hop, map_state, map_command}
 
 -- an element of a mapped list, past its end too
@@ -183,10 +182,3 @@ mapped_step {P} {Q} len len' f same s (Release hop number) =
     (ap (λ (t : State Q). let r : State Q × Reply = (t, Released (covered_count (hop_at (map_state f s) hop) number)) in r)
     (mapped_accept f s hop (λ h. with_released h (covered_count h number)) (λ h. with_released h (covered_count h number)) (λ h. mapped_with_released f (covered_count h number) h))
     ∙ ap (λ (h : HopState Q). let r : State Q × Reply = (map_state f (accept s hop (with_released (hop_at s hop) (covered_count (hop_at s hop) number))), Released (covered_count h number)) in r) (mapped_hop_at f s hop))
-
--- a row of commands
-pub mapped_fold : {P Q : Type 0} (len : P → ℕ) (len' : Q → ℕ) (f : P → Q) → ((p : P) → len' (f p) ≡ len p) → (s : State P) (commands : List (Command P))
-    → fold len' (map_state f s) (map (map_command f) commands) ≡ map_state f (fold len s commands)
-mapped_fold len len' f same s [] = refl
-mapped_fold len len' f same s (command ∷ commands) =
-    ap (λ r. fold len' r.0 (map (map_command f) commands)) (mapped_step len len' f same s command) ∙ mapped_fold len len' f same (step len s command).0 commands

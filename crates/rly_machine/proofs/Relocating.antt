@@ -112,11 +112,6 @@ pub flight_relocated : {P : Type 0} (h : HopState P) (index : ℕ) (payload : P)
     → record h { flight = flight } ≡ with_relocated h index payload
 flight_relocated {P} h index payload flight below is = ap (λ (items : List (Item P)). let g : HopState P = record h { flight = items } in g) is ∙ sym (in_flight h index payload below)
 
-pub queue_relocated : {P : Type 0} (h : HopState P) (index : ℕ) (payload : P) (queue : List (Item P))
-    → length h.flight ≤ index → queue ≡ with_payload h.queue (index - length h.flight) payload
-    → record h { queue = queue } ≡ with_relocated h index payload
-queue_relocated {P} h index payload queue past is = ap (λ (items : List (Item P)). let g : HopState P = record h { queue = items } in g) is ∙ sym (in_queue h index payload past)
-
 -- what a map gives for a hop's payloads stays
 hop_stays : {P Q : Type 0} (f : P → Q) (h : HopState P) (index : ℕ) (payload : P)
     → carried_at f (live_line h) index ≡ Some (f payload) → map_hop f (with_relocated h index payload) ≡ map_hop f h

@@ -93,7 +93,8 @@ impl<C: Content> Hop<C> {
     pub(crate) fn reserve_flight(&mut self) -> Result<(), AllocError>
         ensures hop { hop_state self.new ≡ hop_state self.old }
         ensures room { OnOk result (deque_len self.new.flight < deque_capacity self.new.flight) }
-        ensures bounded { deque_capacity self.new.flight ≤ max (deque_capacity self.old.flight) (deque_len self.old.flight + max 4 (deque_len self.old.flight)) }
+        ensures bounded { deque_capacity self.new.flight ≤ max (deque_capacity self.old.flight)
+            (deque_len self.old.flight + max 4 (deque_len self.old.flight)) }
         ensures memory { OnErr result (deque_capacity self.old.flight ≤ deque_len self.old.flight) }
     {
         reserve_one(&mut self.flight)

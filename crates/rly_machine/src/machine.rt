@@ -314,7 +314,8 @@ impl<C: Content> Machine<C> {
 
     /// Takes a datagram.
     fn take(&mut self, peer: PeerId, number: u64, hop: HopId, stamp: u64, payload: C) -> Reply
-        requires { take_refusal C.length_of self.old.state peer number hop stamp (C.length_of payload) ≡ None → 0 < slice_index self.old.queue_spare (hop.0 - 1) }
+        requires { take_refusal C.length_of self.old.state peer number hop stamp (C.length_of payload) ≡ None
+            → 0 < slice_index self.old.queue_spare (hop.0 - 1) }
         ensures state { self.new.state ≡ (take_step C.length_of self.old.state peer number hop stamp payload).0 }
         ensures reply { result ≡ (take_step C.length_of self.old.state peer number hop stamp payload).1 }
     {
@@ -435,7 +436,9 @@ impl<C: Content> Machine<C> {
 
     /// Picks from a queue.
     fn pick(&mut self, hop: HopId, now: u64, room: Room) -> Reply
-        requires { pick_refusal self.old.state hop now ≡ None → (0 < slice_index self.old.flight_spare (hop.0 - 1)) × (drops_of C.length_of self.old.state hop now ≤ room) }
+        requires { pick_refusal self.old.state hop now ≡ None
+            → (0 < slice_index self.old.flight_spare (hop.0 - 1))
+            × (drops_of C.length_of self.old.state hop now ≤ room) }
         ensures state { self.new.state ≡ (pick_step C.length_of self.old.state hop now).0 }
         ensures reply { result ≡ (pick_step C.length_of self.old.state hop now).1 }
     {

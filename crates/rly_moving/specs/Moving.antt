@@ -26,8 +26,8 @@ unread place = replicate place.length 0
 abbrev pub moved_state : Geometry → ℕ → ℕ → State Stored → State Stored
 moved_state g target victim s = settled_state g target (drawn_state g victim unread s)
 
--- the victim's payloads can move into a head that the target gets: the target has no live bytes, nothing is inline, each payload
--- lies in a segment, and the head has room
+-- the victim's payloads can move into a head that the target gets: the target has no live bytes, nothing is inline,
+-- each payload lies in a segment, and the head has room
 pub record MayMove (g : Geometry) (target victim : ℕ) (s : State Stored) : Type 0 where
   pub some : 1 ≤ g.length
   pub there : target < g.segments

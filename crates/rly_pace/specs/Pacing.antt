@@ -3,8 +3,8 @@ use Rattle.std.specs.Prelude.{ℕ, ◌+◌, ◌-◌, ◌*◌, nat_le, nat_lt, Bo
 use Rattle.rly_pace.specs.declared.flight.Flight.{Flight}
 use Rattle.rly_pace.specs.declared.timer.Timer.{Timer}
 use Rattle.rly_pace.specs.declared.congestion.Congestion.{Congestion}
-use Rattle.rly_pace.specs.Timers.{first_timer, is_due, timer_on_closed, timer_on_covered, timer_on_opened, timer_on_sent}
-use Rattle.rly_pace.specs.Timers.{timer_on_timeout, timer_on_window}
+use Rattle.rly_pace.specs.Timers.{first_timer, is_due, timer_on_closed, timer_on_covered, timer_on_opened}
+use Rattle.rly_pace.specs.Timers.{timer_on_sent, timer_on_timeout, timer_on_window}
 use Rattle.rly_pace.specs.Windows.{begun, collapsed, grown, room}
 
 -- whether a contact is open, what is on the way, and the timer and the congestion window that go by it

@@ -2,8 +2,8 @@
 use Rattle.std.specs.Prelude.{ℕ, ◌+◌, ◌-◌, ◌*◌, ◌/◌, nat_le, Bool, if◌then◌else◌, max, min, List, [], ◌∷◌}
 use Rattle.rly_pace.specs.declared.rate.Bucket.{Bucket}
 
--- What a message takes, in millionths of a byte: its bytes, and 28 for the headers of IP and UDP. At a rate of bytes a second
--- each microsecond gives that many millionths of a byte, so nothing is rounded.
+-- What a message takes, in millionths of a byte: its bytes, and 28 for the headers of IP and UDP. At a rate of bytes a
+-- second each microsecond gives that many millionths of a byte, so nothing is rounded.
 abbrev pub cost : ℕ → ℕ
 cost bytes = (bytes + 28) * 1000000
 

@@ -10,8 +10,8 @@ first_round_trip sample = record { smoothed = sample; variation = sample / 2 }
 abbrev pub apart : ℕ → ℕ → ℕ
 apart a b = (a - b) + (b - a)
 
--- RFC 6298, (2.3): a further sample counts an eighth, and its distance a quarter, each rounded down. The variation goes by
--- the round trip before the sample.
+-- RFC 6298, (2.3): a further sample counts an eighth, and its distance a quarter, each rounded down. The variation goes
+-- by the round trip before the sample.
 abbrev pub next_round_trip : RoundTrip → ℕ → RoundTrip
 next_round_trip t sample = record {
   smoothed = (7 * t.smoothed + sample) / 8;

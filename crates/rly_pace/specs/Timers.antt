@@ -22,8 +22,8 @@ abbrev pub or_at : {A : Type 0} → Option A → A → Option A
 or_at None new = Some new
 or_at (Some old) new = Some old
 
--- RFC 6298, (5.1): what is sent starts the wait, if nothing was waited for. A number that is sent for the first time is timed,
--- unless another is. A number that is sent again gives no round trip (Karn's rule).
+-- RFC 6298, (5.1): what is sent starts the wait, if nothing was waited for. A number that is sent for the first time is
+-- timed, unless another is. A number that is sent again gives no round trip (Karn's rule).
 abbrev pub timer_on_sent : Timer → Flight → ℕ → ℕ → Timer
 timer_on_sent t flight number at =
     if nat_lt flight.highest number
@@ -38,8 +38,8 @@ timer_on_sample t passed = record t {
   timed = None;
 }
 
--- The timed number was covered, if it is at most last. It gives a round trip only where no number that is covered with it, all
--- above covered, was sent twice or before a contact closed.
+-- The timed number was covered, if it is at most last. It gives a round trip only where no number that is covered with
+-- it, all above covered, was sent twice or before a contact closed.
 abbrev pub timer_on_timed : Timer → ℕ → ℕ → ℕ → Option Timed → Timer
 timer_on_timed t covered last at None = t
 timer_on_timed t covered last at (Some timed) =
@@ -47,10 +47,13 @@ timer_on_timed t covered last at (Some timed) =
     then (if nat_le t.untimed covered then timer_on_sample t (at - timed.at) else record t { timed = None })
     else t
 
--- RFC 6298, (5.2) and (5.3): a custody of something on its way restarts the wait, or ends it where nothing else was sent
+-- RFC 6298, (5.2) and (5.3): a custody of something on its way restarts the wait, or ends
+-- it where nothing else was sent
 abbrev pub timer_on_covered : Timer → Flight → ℕ → ℕ → Timer
 timer_on_covered t flight last at =
-    record (timer_on_timed t flight.covered last at t.timed) { since = if nat_lt last flight.highest then Some at else None }
+    record (timer_on_timed t flight.covered last at t.timed) {
+      since = if nat_lt last flight.highest then Some at else None;
+    }
 
 -- whether this wait has passed since then, if it runs
 abbrev pub is_past : ℕ → Option ℕ → ℕ → Bool
@@ -61,8 +64,8 @@ is_past wait (Some since) at = nat_le wait (at - since)
 abbrev pub is_due : Timer → ℕ → Bool
 is_due t at = is_past t.wait t.since at
 
--- RFC 6298, (5.4) to (5.6): the wait is doubled, and begins as something is sent again. What was timed will be covered with
--- what is sent again.
+-- RFC 6298, (5.4) to (5.6): the wait is doubled, and begins as something is sent again. What was timed will be
+-- covered with what is sent again.
 abbrev pub timer_on_timeout : Timer → Timer
 timer_on_timeout t = record t { wait = doubled t.wait; since = None; timed = None }
 

@@ -1,8 +1,7 @@
 -- What the cores of two real relays name on an event, and what that leaves of the two.
 use Rattle.std.proofs.Common.{ℕ, ◌≡◌, List, [], ◌∷◌, ◌++◌, length, map, take, drop, replicate, Bool, true, false, refl, sym, ◌∙◌, ap, subst, Option, Some, None}
-use Rattle.std.specs.Prelude.{not, nat_lt, ◌+◌, ◌-◌, ◌&&◌, ◌==◌, is_none, is_some, slice_get, slice_set}
+use Rattle.std.specs.Prelude.{nat_lt, ◌+◌, ◌-◌, ◌&&◌, ◌==◌, is_none, slice_get, slice_set}
 use Rattle.std.specs.List.{ItemBy}
-use Rattle.std.specs.Option.{option_map}
 use Rattle.std.proofs.lemmas.Bool.{cond_both}
 use Rattle.std.proofs.lemmas.List.{append-nil, set-get_or}
 use Rattle.std.proofs.Math.Seq.{drop-length, take-length}
@@ -28,7 +27,7 @@ use Rattle.rly_hop.specs.Payloads.{message_map}
 use Rattle.rly_hop.specs.Receiver.{Receiver}
 use Rattle.rly_hop.specs.Receiving.{ReceivingResult, after_answer, custody_message, is_told, receiving_step, refusal_message, take_reply}
 use Rattle.rly_hop.specs.Sender.{Sender}
-use Rattle.rly_hop.specs.Sending.{SendingResult, sending_step, turn}
+use Rattle.rly_hop.specs.Sending.{SendingResult, sending_step}
 use Rattle.rly_hop.proofs.ReceivingLaws.{received-take, waiting}
 use Rattle.rly_machine.specs.declared.command.Ask.{Ask}
 use Rattle.rly_machine.specs.declared.command.Ask.TheVariants as ask
@@ -36,7 +35,7 @@ use Rattle.rly_machine.specs.declared.command.Command.TheVariants as command
 use Rattle.rly_machine.specs.declared.command.Query.TheVariants as query
 use Rattle.rly_machine.specs.declared.reply.Reply.{Reply}
 use Rattle.rly_machine.specs.declared.reply.Reply.TheVariants as reply
-use Rattle.rly_world.specs.PairCores.{receiver_asks, receiver_sends, sender_event, sender_sends, take_answer}
+use Rattle.rly_world.specs.PairCores.{receiver_asks, receiver_sends, sender_event, take_answer}
 use Rattle.rly_world.specs.PairEnd.{Asked, End, Replied, with_asked, with_told}
 use Rattle.rly_world.specs.PairWorld.{PairWorld, lower_answers, lower_hears, pair_step, receiver_answered, unless_failed, upper_answers, upper_hears}
 use Rattle.rly_world.specs.PairWorld.{with_receiver, with_sender}
@@ -55,20 +54,6 @@ named_none w moment true s =
 named_none w moment false s =
     ap (λ (e : End). record w { upper = e; sender = s; packets = w.packets ++ [] }) (none_asked w.upper 0)
     ∙ ap (λ (l : List (Message (List ℕ))). record w { sender = s; packets = l }) (append-nil w.packets)
-
--- a turn sends nothing
-released_sends : (acked : Option ℕ) → sender_sends (option_map action.Release acked) ≡ []
-released_sends None = refl
-released_sends (Some a) = refl
-
-pub turn_sends : (s : Sender) (is_open : Bool) → sender_sends (turn s is_open) ≡ []
-turn_sends s is_open =
-    let P : Option (OutAction (List ℕ)) → Type 0 = λ o. sender_sends o ≡ [] in
-    cond_both (not s.ready) _ _ P (λ _. refl)
-    (λ _. cond_both (is_some s.acked) _ _ P (λ _. released_sends s.acked)
-    (λ _. cond_both (not is_open) _ _ P (λ _. refl)
-    (λ _. cond_both (nat_lt s.cursor s.next) _ _ P (λ _. refl)
-    (λ _. cond_both ((s.cursor == s.next) && nat_lt (s.next - s.first) s.window) _ _ P (λ _. refl) (λ _. refl)))))
 
 -- what a sending core hears names nothing
 pub heard_names : (s : Sender) (m : Message (List ℕ)) → (sending_step s (event.Heard m)).1 ≡ None
@@ -176,10 +161,6 @@ plain_asks : (peer : PeerId) (hop : HopId) (stamp : ℕ) (named : Option (InActi
 plain_asks peer hop stamp (Some (in_action.Send m)) plain = refl
 plain_asks peer hop stamp (Some (in_action.Take number payload)) plain = absurd plain
 plain_asks peer hop stamp None plain = refl
-
-pub sent_plain : (it : Receiver) (a : TakeAnswer) (m : Message (List ℕ)) → Some (in_action.Send m) ≡ (receiving_step it (in_event.Answered a)).1
-    → message_map (λ (_ : List ℕ). []) m ≡ m
-sent_plain it a m sends = subst IsPlain (sym sends) (plain_after it it.pending a)
 
 -- what it sends on an answer is among the packets, unless the send failed
 pub answered_by_lower : (w : PairWorld) (e : End) (r : Replied) (rest : List Replied) (it next : Receiver) (is_sent : Bool) (packets : List (Message (List ℕ)))

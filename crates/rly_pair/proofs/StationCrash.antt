@@ -1,5 +1,5 @@
 -- What a crash leaves of an end.
-use Rattle.std.proofs.Common.{ℕ, ◌≡◌, inl, inr, ◌≤◌, List, [], length, take, true, false, refl, arith, sym, ◌∙◌, ap, subst, Option, Some, None}
+use Rattle.std.proofs.Common.{ℕ, ◌≡◌, inl, inr, ◌≤◌, List, [], length, take, true, false, refl, arith, sym, ◌∙◌, ap, subst, Option, Some}
 use Rattle.std.proofs.Math.Seq.{take-length}
 use Rattle.std.proofs.lemmas.List.{length-take-le}
 use Rattle.rly_core.specs.declared.params.Params.{Params}
@@ -116,13 +116,6 @@ crash_left params commands told harmed asked replied old new after left sound du
     subst (λ (l : Commands). IsCrashed params commands told harmed asked replied l left (Some new)) (sym cut)
     (subst (λ (h : ℕ). IsCrashed params commands told harmed asked replied (cut_by new commands) h (Some new)) (sym harm)
     (record { due = sound.due; has_told = sound.has_told; has_replied = tt; safe = done.1 }, done.0))
-
--- an end without a device
-pub lost_left : (params : Params) (commands : Commands) (told harmed : ℕ) (asked : List Asked) (replied : List Replied)
-    → IsSoundStation params commands told harmed replied None → IsCrashed params commands told harmed asked replied commands 2 None
-lost_left params commands told harmed asked replied sound =
-    let done = unopened params commands told sound.due harmed sound.has_told asked replied None sound.safe.within (omega arith, omega arith) in
-    (record { due = sound.due; has_told = sound.has_told; has_replied = tt; safe = done.1 }, done.0)
 
 -- with nothing that waits
 pub emptied : (params : Params) (commands : Commands) (told harmed : ℕ) (asked : List Asked) (replied : List Replied) (after : Commands) (left : ℕ) (spool : Option Spool)

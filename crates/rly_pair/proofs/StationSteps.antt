@@ -54,9 +54,6 @@ kept_real (ask.Command c) reply none = elim (is_accepted reply) as (λ b. (if b 
 ]
 
 module _ (params : Params) (commands : Commands) (told due harmed : ℕ) (asked : List Asked) (replied : List Replied) where
-  s₀ : State (List ℕ)
-  s₀ = new_state params
-
   -- the end before, and what a call is to leave of it
   abbrev before : End
   before = shown params told asked replied (accepted_in params commands) harmed
@@ -366,13 +363,6 @@ makes_left e e' call rest reply position calls is = record {
       (calls.tells ∙ ap (λ (x : End). told_by calls.outcome (length x.accepted)) calls.after)
       ∙ sym (cond-true (may_go e call.ask calls.outcome) _ e (can_may e call.ask calls.outcome calls.can))
       ∙ ap (with_made e calls.outcome) (sym is);
-}
-
-pub makes_none : (e : End) → e.asked ≡ [] → Makes e e
-makes_none e none = record {
-  outcome = Done;
-  can = ap (λ (l : List Asked). can_make e l Done) none;
-  after = sym (ap (with_made e Done) none);
 }
 
 pub sound_push : (params : Params) (commands : Commands) (told harmed position : ℕ) (replied before after : List Replied) (made : Replied) (spool : Option Spool)

@@ -35,8 +35,8 @@ use Rattle.rly_pair.specs.declared.station.Harm.TheVariants.{Whole, Failed, Brok
 abbrev pub IsLost : Reply → Type 0
 IsLost reply = (reply ≡ Refused refusal.OutOfMemory) ⊎ (reply ≡ Refused refusal.DeviceRead)
 
--- a journal that works made a call: it is replied as by the machine; or, if it may want memory, that was refused, or a read
--- failed
+-- a journal that works made a call: it is replied as by the machine; or, if it may want memory,
+-- that was refused, or a read failed
 pub record Serves {D : Type 0} (old new : JournalState D) (an : Ask) (reply : Reply) : Type 0 where
   pub working : old.broken ≡ false
   pub works : new.broken ≡ false

@@ -15,8 +15,8 @@ use Rattle.rly_pair.specs.declared.step.Step.TheVariants as step
 use Rattle.rly_world.specs.PairEnd.{with_crash, with_made, with_other, with_told}
 
 -- How a call of an end may go. One whose device failed is broken until the next crash. Where it fails in a call, the
--- command counts as accepted, until a crash takes it away. Only an ask that may want memory is refused it, or told that a
--- read failed, which breaks nothing.
+-- command counts as accepted, until a crash takes it away. Only an ask that may want memory is refused it, or told that
+-- a read failed, which breaks nothing.
 abbrev pub can_go : End → Ask → Outcome → Bool
 can_go e ask Done = e.harm == 0
 can_go e ask (Unsure stands) = (e.harm == 0) && stands
@@ -89,9 +89,11 @@ IsStep (step.PicksAhead moment) old new = new ≡ pair_step old (PicksAhead mome
 IsStep (step.UpperHears packet) old new = new ≡ pair_step old (UpperHears packet)
 IsStep (step.LowerHears packet core hop stamp) old new = new ≡ pair_step old (LowerHears packet core hop stamp)
 IsStep step.UpperMakes old new =
-    (outcome : Outcome) × IsTrue (can_make old.upper old.upper.asked outcome) × (new ≡ pair_step old (UpperMakes outcome))
+    (outcome : Outcome) × IsTrue (can_make old.upper old.upper.asked outcome)
+    × (new ≡ pair_step old (UpperMakes outcome))
 IsStep step.LowerMakes old new =
-    (outcome : Outcome) × IsTrue (can_make old.lower old.lower.asked outcome) × (new ≡ pair_step old (LowerMakes outcome))
+    (outcome : Outcome) × IsTrue (can_make old.lower old.lower.asked outcome)
+    × (new ≡ pair_step old (LowerMakes outcome))
 IsStep (step.UpperAnswers is_sent) old new = new ≡ pair_step old (UpperAnswers is_sent)
 IsStep (step.LowerAnswers is_sent) old new = new ≡ pair_step old (LowerAnswers is_sent)
 IsStep (step.UpperServes ask is_answered) old new =

@@ -46,7 +46,14 @@ impl Model for Pair {
 
     ghost Value = { PairWorld };
 
-    ghost view = { λ p. record { setup = setup_of p.upper_params p.lower_params; upper = p.upper; sender = p.sender; lower = p.lower; receivers = p.receivers.items; packets = p.packets.items } };
+    ghost view = { λ p. record {
+      setup = setup_of p.upper_params p.lower_params;
+      upper = p.upper;
+      sender = p.sender;
+      lower = p.lower;
+      receivers = p.receivers.items;
+      packets = p.packets.items;
+    } };
 
     ghost invariant = { λ p. length p.receivers.items ≡ p.upper_params.window };
 }

@@ -45,7 +45,14 @@ impl Model for Station {
 
     ghost Value = { End };
 
-    ghost view = { λ e. record { params = e.params; accepted = accepted_in e.params e.commands.items; told = e.told; harm = harm_number e.harm; asked = e.asked.items; replied = e.replied.items } };
+    ghost view = { λ e. record {
+      params = e.params;
+      accepted = accepted_in e.params e.commands.items;
+      told = e.told;
+      harm = harm_number e.harm;
+      asked = e.asked.items;
+      replied = e.replied.items;
+    } };
 
     ghost invariant = { λ e. IsSoundStation e.params e.commands.items e.told (harm_number e.harm) e.replied.items e.spool };
 }

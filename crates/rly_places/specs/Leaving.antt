@@ -10,4 +10,5 @@ use Rattle.rly_machine.specs.Step.{drops_of}
 abbrev pub leaving : {P : Type 0} → (P → ℕ) → State P → Command P → List P
 leaving len s (Take peer number hop stamp payload) = []
 leaving len s (Pick hop now) = map (λ item. item.payload) (take (drops_of len s hop now) (hop_at s hop).queue)
-leaving len s (Release hop number) = map (λ item. item.payload) (take (covered_count (hop_at s hop) number) (hop_at s hop).flight)
+leaving len s (Release hop number) =
+    map (λ item. item.payload) (take (covered_count (hop_at s hop) number) (hop_at s hop).flight)

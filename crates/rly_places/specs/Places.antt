@@ -1,4 +1,5 @@
--- Where the payloads lie that a state has by place, and how many of their bytes each segment holds (docs/DEFINITIONS.md, "Places").
+-- Where the payloads lie that a state has by place, and how many of their bytes each segment holds
+-- (docs/DEFINITIONS.md, "Places").
 use Rattle.std.specs.Prelude.{ℕ, ◌+◌, ◌*◌, ◌/◌, ◌-◌, ◌<◌, ◌≤◌, ◌==◌, if◌then◌else◌, List, map}
 use Rattle.std.specs.List.{range_with_len}
 use Rattle.rly_core.specs.declared.params.Geometry.{Geometry}

@@ -1,5 +1,5 @@
--- The room for the head of the segment that is opened next, of a state whose payloads stand by place (docs/DEFINITIONS.md,
--- "Places").
+-- The room for the head of the segment that is opened next, of a state whose payloads stand by place
+-- (docs/DEFINITIONS.md, "Places").
 use Rattle.std.specs.Prelude.{◌≡◌, ℕ, ◌+◌, ◌-◌, ◌/◌, ◌≤◌, ◌==◌, if◌then◌else◌, List, length}
 use Rattle.rly_core.specs.declared.params.Geometry.{Geometry}
 use Rattle.rly_machine.specs.Map.{map_state}

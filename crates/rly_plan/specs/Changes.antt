@@ -1,5 +1,6 @@
 -- When a hop's link opens or closes next.
-use Rattle.std.specs.Prelude.{◌≡◌, ℕ, ◌<◌, ◌≤◌, ◌==◌, Bool, not, nat_lt, List, [], ◌∷◌, Option, Some, None, if◌then◌else◌}
+use Rattle.std.specs.Prelude.{◌≡◌, ℕ, ◌<◌, ◌≤◌, ◌==◌, Bool, not, nat_lt, List, []}
+use Rattle.std.specs.Prelude.{◌∷◌, Option, Some, None, if◌then◌else◌}
 use Rattle.rly_plan.specs.declared.contacts.Contact.{Contact}
 
 -- when a link closes that is open up to an end: contacts that begin as the one before them ends are one
@@ -15,8 +16,8 @@ change_after (c ∷ cs) moment =
     else if nat_lt moment c.end then Some (closing_after c.end cs)
     else change_after cs moment
 
--- What that says of a link that is open at some moments: it stays as it is up to the change, and is otherwise at it. Where
--- there is none it stays as it is for good.
+-- What that says of a link that is open at some moments: it stays as it is up to the change, and is otherwise at it.
+-- Where there is none it stays as it is for good.
 abbrev pub IsNextChange : (ℕ → Bool) → ℕ → Option ℕ → Type 0
 IsNextChange is_open moment None = (u : ℕ) → moment ≤ u → is_open u ≡ is_open moment
 IsNextChange is_open moment (Some change) = (moment < change) × (is_open change ≡ not (is_open moment))

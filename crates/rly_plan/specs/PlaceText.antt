@@ -33,7 +33,8 @@ spot_text (spot.At key) = codes "." ++ key_text key
 spot_text (spot.Contact number) = codes ".contacts[" ++ decimal number ++ codes "]"
 
 abbrev pub place_text : Place → List ℕ
-place_text (place.Text position) = codes "line " ++ decimal position.line ++ codes ", column " ++ decimal position.column
+place_text (place.Text position) =
+    codes "line " ++ decimal position.line ++ codes ", column " ++ decimal position.column
 place_text place.Plan = codes "the top"
 place_text place.Station = codes "station"
 place_text (place.Array row) = row_text row

@@ -20,9 +20,11 @@ use Rattle.rly_plan.specs.declared.place.Row.{Row}
 use Rattle.rly_plan.specs.declared.place.Row.TheVariants as row
 use Rattle.rly_plan.specs.declared.place.Spot.{Spot}
 use Rattle.rly_plan.specs.declared.place.Spot.TheVariants as spot
-use Rattle.rly_plan.specs.Draft.{HopText, PlanText, contact_draft_of, draft_of, integer_at, key_at, rate_at, resend_at, text_at}
+use Rattle.rly_plan.specs.Draft.{HopText, PlanText, contact_draft_of, draft_of}
+use Rattle.rly_plan.specs.Draft.{integer_at, key_at, rate_at, resend_at, text_at}
 use Rattle.rly_plan.specs.Keys.{has_key, has_no_key, keys_are_known}
-use Rattle.rly_plan.specs.Passes.{are_apart, begin_in_order, contact_in_range, is_between, is_in_range, is_sorted, is_station, number_16, overlaps, rate_in_range, resend_in_range}
+use Rattle.rly_plan.specs.Passes.{are_apart, begin_in_order, contact_in_range, is_between, is_in_range, is_sorted}
+use Rattle.rly_plan.specs.Passes.{is_station, number_16, overlaps, rate_in_range, resend_in_range}
 
 -- the place, unless the test is passed
 abbrev pub unless : {A : Type 0} → Bool → A → Option A
@@ -83,7 +85,8 @@ item_unknown row value = unless (has_no_key value) spot.Whole
 -- the first item of an array that has a fault, and where in it: items count from n
 abbrev pub first_item : (Data → Option Spot) → Row → ℕ → Items → Option Place
 first_item fault row n no_items = None
-first_item fault row n (item value rest) = option_or (option_map (place.In row n) (fault value)) (first_item fault row (n + 1) rest)
+first_item fault row n (item value rest) =
+    option_or (option_map (place.In row n) (fault value)) (first_item fault row (n + 1) rest)
 
 abbrev pub rows_unknown : Row → Data → Option Place
 rows_unknown row (array items) = first_item (item_unknown row) row 1 items
@@ -115,7 +118,8 @@ neighbour_lacks ms =
 -- the first item that isn't two whole numbers: items count from n
 abbrev pub first_no_contact : ℕ → Items → Option Spot
 first_no_contact n no_items = None
-first_no_contact n (item value rest) = option_or (unless (is_some (contact_draft_of value)) (spot.Contact n)) (first_no_contact (n + 1) rest)
+first_no_contact n (item value rest) =
+    option_or (unless (is_some (contact_draft_of value)) (spot.Contact n)) (first_no_contact (n + 1) rest)
 
 abbrev pub contacts_lack : Option Data → Option Spot
 contacts_lack (Some (array items)) = first_no_contact 1 items
@@ -160,7 +164,8 @@ missing_place ms =
 -- ---- pass 4: a number out of its range
 
 abbrev pub neighbour_range_fault : ℕ → NeighbourDraft → Option Spot
-neighbour_range_fault id n = option_or (unless (is_between id id n.id) (spot.At key.Id)) (unless (is_station n.station) (spot.At key.Station))
+neighbour_range_fault id n =
+    option_or (unless (is_between id id n.id) (spot.At key.Id)) (unless (is_station n.station) (spot.At key.Station))
 
 -- the first contact that fails the test: contacts count from n
 abbrev pub first_contact : (ContactDraft → Bool) → ℕ → List ContactDraft → Option Spot
@@ -176,11 +181,14 @@ hop_range_fault id h =
     (first_contact contact_in_range 1 h.contacts))))
 
 abbrev pub route_range_fault : ℕ → RouteDraft → Option Spot
-route_range_fault n r = option_or (unless (is_station r.destination) (spot.At key.Destination)) (unless (is_between 1 MAX_HOPS r.hop) (spot.At key.Hop))
+route_range_fault n r =
+    option_or (unless (is_station r.destination) (spot.At key.Destination))
+    (unless (is_between 1 MAX_HOPS r.hop) (spot.At key.Hop))
 
 abbrev pub rows_range_fault : {A : Type 0} → (ℕ → A → Option Spot) → Row → ℕ → List A → Option Place
 rows_range_fault fault row most rows =
-    option_or (unless (nat_le 1 (length rows) && nat_le (length rows) most) (place.Array row)) (first_row fault row 1 rows)
+    option_or (unless (nat_le 1 (length rows) && nat_le (length rows) most) (place.Array row))
+    (first_row fault row 1 rows)
 
 abbrev pub range_place : PlanText → Option Place
 range_place d =
@@ -195,7 +203,8 @@ range_place d =
 abbrev pub first_adjacent : (ContactDraft → ContactDraft → Bool) → ℕ → List ContactDraft → Option Spot
 first_adjacent test n [] = None
 first_adjacent test n (x ∷ []) = None
-first_adjacent test n (x ∷ y ∷ xs) = option_or (unless (test x y) (spot.Contact (n + 1))) (first_adjacent test (n + 1) (y ∷ xs))
+first_adjacent test n (x ∷ y ∷ xs) =
+    option_or (unless (test x y) (spot.Contact (n + 1))) (first_adjacent test (n + 1) (y ∷ xs))
 
 abbrev pub order_fault : ℕ → HopText → Option Spot
 order_fault n h = first_adjacent begin_in_order 1 h.contacts
@@ -251,7 +260,8 @@ place_of_members ms = if not (keys_are_known ms) then unknown_place ms else plac
 
 -- the place of the first fault of a text. Where TOML refuses the text, it says after how many bytes.
 abbrev pub IsFaultPlace : List ℕ → Option Members → Option Place → Type 0
-IsFaultPlace text None at = (count : ℕ) × (count ≤ length text) × (at ≡ Some (place.Text (position_after (take count text))))
+IsFaultPlace text None at =
+    (count : ℕ) × (count ≤ length text) × (at ≡ Some (place.Text (position_after (take count text))))
 IsFaultPlace text (Some ms) at = at ≡ place_of_members ms
 
 unfoldable pub IsPlaceOf : List ℕ → Option Place → Type 0

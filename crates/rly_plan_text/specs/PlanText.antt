@@ -1,5 +1,5 @@
--- The text of a plan at a moment (docs/COMMANDS.md, "rly plan"): the moment and the station, and then each peer, each hop and
--- each route.
+-- The text of a plan at a moment (docs/COMMANDS.md, "rly plan"): the moment and the station, and then
+-- each peer, each hop and each route.
 use Rattle.std.specs.Prelude.{ℕ, Bool, true, false, List, [], ◌∷◌, ◌++◌, codes, length, Option, Some, None}
 use Rattle.std.specs.Fmt.{decimal}
 use Rattle.std.specs.List.{enumerate_from, flat_map}
@@ -32,8 +32,8 @@ key_text (Some path) = codes " key " ++ path
 -- station S listen ADDRESS remote ADDRESS, and the key
 abbrev pub neighbour_text : Neighbour → List ℕ
 neighbour_text n =
-    codes " station " ++ decimal n.station ++ codes " listen " ++ n.addresses.listen ++ codes " remote " ++ n.addresses.remote
-    ++ key_text n.key ++ 10 ∷ []
+    codes " station " ++ decimal n.station ++ codes " listen " ++ n.addresses.listen
+    ++ codes " remote " ++ n.addresses.remote ++ key_text n.key ++ 10 ∷ []
 
 -- peer P, and the neighbour
 abbrev pub peer_line : ℕ × Neighbour → List ℕ
@@ -58,11 +58,13 @@ abbrev pub rate_text : Option ℕ → List ℕ
 rate_text None = []
 rate_text (Some rate) = codes " rate " ++ decimal rate
 
--- hop H resend R rate B contacts N open T: so many milliseconds, bytes a second, contacts, and microseconds in all of them
+-- hop H resend R rate B contacts N open T: so many milliseconds, bytes a second,
+-- contacts, and microseconds in all of them
 abbrev pub times_line : ℕ × Hop → List ℕ
 times_line (id, hop) =
     codes "hop " ++ decimal id ++ codes " resend " ++ decimal hop.resend ++ rate_text hop.rate
-    ++ codes " contacts " ++ decimal (length hop.contacts) ++ codes " open " ++ decimal (open_moments hop.contacts MOMENT_LIMIT) ++ 10 ∷ []
+    ++ codes " contacts " ++ decimal (length hop.contacts)
+    ++ codes " open " ++ decimal (open_moments hop.contacts MOMENT_LIMIT) ++ 10 ∷ []
 
 -- hop H contact open until DATE MOMENT
 abbrev pub state_line : ℕ → ℕ × Hop → List ℕ
@@ -91,4 +93,5 @@ routes_text routes = flat_map route_line routes
 -- the whole text
 abbrev pub text_for_plan : ContactPlan → ℕ → List ℕ
 text_for_plan plan moment =
-    at_line moment ++ station_line plan.station ++ peers_text plan.peers ++ hops_text moment plan.hops ++ routes_text plan.routes
+    at_line moment ++ station_line plan.station ++ peers_text plan.peers ++ hops_text moment plan.hops
+    ++ routes_text plan.routes

@@ -1,5 +1,6 @@
 -- A moment as a date and a time of day in UTC, in the form of RFC 3339.
-use Rattle.std.specs.Prelude.{ℕ, zero, suc, ◌+◌, ◌*◌, ◌/◌, ◌%◌, nat_lt, pos, List, [], ◌∷◌, ◌++◌, None, codes, if◌then◌else◌}
+use Rattle.std.specs.Prelude.{ℕ, zero, suc, ◌+◌, ◌*◌, ◌/◌, ◌%◌, nat_lt, pos, List}
+use Rattle.std.specs.Prelude.{◌∷◌, ◌++◌, None, codes, if◌then◌else◌}
 use Rattle.jiff_core.specs.Calendar.{days_in_month}
 use Rattle.jiff_fmt.specs.Text.{fraction_part, pad2, pad4}
 
@@ -29,8 +30,10 @@ date_text c = pad4 c.year ++ 45 ∷ pad2 c.month ++ 45 ∷ pad2 c.day
 abbrev pub clock_text : ℕ → List ℕ
 clock_text seconds = pad2 (seconds / 3600 % 24) ++ 58 ∷ pad2 (seconds / 60 % 60) ++ 58 ∷ pad2 (seconds % 60)
 
--- `2024-06-19T17:30:05Z`, of so many microseconds since 1970: `.25` comes before the `Z` where a quarter of a second is left
+-- `2024-06-19T17:30:05Z`, of so many microseconds since 1970: `.25` comes before the `Z`
+-- where a quarter of a second is left
 unfoldable pub utc_text : ℕ → List ℕ
 utc_text moment =
     let seconds = moment / 1000000 in
-    date_text (date_of (seconds / 86400)) ++ 84 ∷ clock_text seconds ++ fraction_part None (moment % 1000000 * 1000) ++ codes "Z"
+    date_text (date_of (seconds / 86400)) ++ 84 ∷ clock_text seconds ++ fraction_part None (moment % 1000000 * 1000)
+    ++ codes "Z"

@@ -15,7 +15,7 @@ use Rattle.rly_standing.specs.Calls.{logging}
 use Rattle.rly_standing.specs.Log.{IsLogged}
 use Rattle.rly_standing.specs.Standing.{Commands, gate_of}
 use Rattle.rly_journal.specs.Rounds.{AreLostWhereWanted, AreServed}
-use Rattle.rly_world.specs.RelaySteps.{AreShut, HasPlace, IsDueFor, IsEvaluated, after, after_evaluation, evaluated}
+use Rattle.rly_world.specs.RelaySteps.{AreShut, HasPlace, IsDueFor, IsEvaluated, after_evaluation}
 use Rattle.rly_world.specs.RelaySteps as event
 use Rattle.rly_world.specs.RelayWorld.{Answering, Body, Device, Ready, Round, Stage, Taking, World, Writing, calls_of, logged, state_from}
 use Rattle.rly_world.proofs.RelayEvents.{run_held}

@@ -5,7 +5,7 @@ use Rattle.std.proofs.lemmas.List.{append-nil, get_or-map, length-drop, length-m
 use Rattle.std.proofs.lemmas.List.Edits.{map_over_more}
 use Rattle.std.proofs.Math.Seq.{drop-length, map-set_same}
 use Rattle.rly_machine.specs.declared.call.Answer.{Answer}
-use Rattle.rly_world.specs.RelaySteps.{AreRead, Event, HasPlace, Run, after, all_replied, greatest, replied}
+use Rattle.rly_world.specs.RelaySteps.{AreRead, Event, Run, after, all_replied, greatest, replied}
 use Rattle.rly_world.specs.RelaySteps as event
 use Rattle.rly_world.specs.RelayWorld.{Batch, SeatView, World, calls_of, new_seat}
 use Rattle.rly_relay.specs.HelpersRounds.{to_answer}

@@ -8,7 +8,7 @@ use Rattle.rly_core.specs.declared.refusal.Refusal.{Refusal}
 use Rattle.rly_core.specs.declared.refusal.Refusal.TheVariants.{DeviceRead, OutOfMemory, Unsure}
 use Rattle.rly_disk.specs.FaultDisk.{fault_state}
 use Rattle.rly_disk.specs.MemDisk.{mem_state}
-use Rattle.rly_disk.specs.Trace.{DeviceEvent, IsCut, are_reads, is_spent}
+use Rattle.rly_disk.specs.Trace.{DeviceEvent, are_reads, is_spent}
 use Rattle.rly_disk.specs.Trace as trace
 use Rattle.rly_disk.proofs.Traces.{cut_behind}
 use Rattle.rly_machine.specs.declared.call.Answer.{Answer}

@@ -48,16 +48,6 @@ reached_held w was = holds was.geometry was.seats was.bytes was.events w was.for
 pub run_one : (old new : World) (event : Event) → Happens old event new → Run old (event ∷ []) new
 run_one old new event happens = (new, happens, refl)
 
--- an event had no place
-pub stays : (old : RelayState) (event : Event) → ((w : World) → Shows old w → HasPlace w event → ⊥) → Happened (IsOnly event) old old
-stays old event none w shows = record {
-  events = event ∷ [];
-  are = refl;
-  next = w;
-  run = run_one w w event (inr (none w shows, refl));
-  shows = shows;
-}
-
 -- a journal says nothing of seats and lines
 spool_still : (spool : Spool) (w : World) (seats : List SeatView) (line : List Batch) (kept : Option Batch) → IsSpoolOf spool w
     → IsSpoolOf spool (record w { seats = seats; line = line; kept = kept })

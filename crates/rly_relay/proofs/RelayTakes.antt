@@ -1,7 +1,7 @@
 -- Batches that are taken one after the other.
-use Rattle.std.proofs.Common.{ℕ, ◌≡◌, ◌≢◌, ◌⊎◌, ◌≤◌, ◌<◌, ◌+◌, ◌*◌, ◌++◌, ◌∙◌, Bool, true, false, List, [], ◌∷◌, Option, Some, None, length, arith, ap, refl, sym, subst, inl, inr}
+use Rattle.std.proofs.Common.{ℕ, ◌≡◌, ◌≢◌, ◌⊎◌, ◌<◌, ◌++◌, ◌∙◌, Bool, true, false, List, [], ◌∷◌, Option, Some, None, length, arith, ap, refl, sym, subst, inl, inr}
 use Rattle.std.specs.Prelude.{◌||◌, not, nat_le, if◌then◌else◌}
-use Rattle.std.proofs.lemmas.Bool.{le-leb, lt-leb}
+use Rattle.std.proofs.lemmas.Bool.{lt-leb}
 use Rattle.std.proofs.lemmas.Grind.{flat_map-append}
 use Rattle.std.proofs.lemmas.List.{append-nil}
 use Rattle.rly_machine.specs.declared.call.Call.{Call}
@@ -231,31 +231,3 @@ gathered most first_kept first_line kept line calls enough so_far w same_kept sa
 abbrev pub kept_count : Option Batch → ℕ
 kept_count None = 0
 kept_count (Some batch) = 1
-
-kept_by : (fits : Bool) (batch : Batch) → kept_count (if fits then None else Some batch) ≤ 1
-kept_by true batch = omega arith
-kept_by false batch = omega arith
-
-fits_first : (calls : List Call) (batch : Batch) → calls ≡ [] → length batch ≤ 64 → nat_le (length (calls ++ batch)) 64 ≡ true
-fits_first calls batch none few = leb_of (length (calls ++ batch)) (omega (arith, few, ap (λ l. length (l ++ batch)) none))
-  where
-    leb_of : (n : ℕ) → n ≤ 64 → nat_le n 64 ≡ true
-    leb_of n least = le-leb n 64 least
-
-pub fewer_left : (kept : Option Batch) (line : List Batch) (calls : List Call) (kept_then : Option Batch)
-    (line_then : List Batch) (calls_then : List Call) → TakesOne kept line calls kept_then line_then calls_then
-    → 2 * length line_then + kept_count kept_then < 2 * length line + kept_count kept
-fewer_left kept line calls kept_then line_then calls_then takes = elim takes.next [
-  | inl again ↦
-      let none : kept_then ≡ None = takes.kept_is
-      ∙ ap (λ b. if b then None else Some takes.batch) (fits_first calls takes.batch again.1 takes.count.1) in
-      omega (arith, ap kept_count none, ap kept_count again.0, ap length again.2)
-  | inr first ↦
-      omega (
-        arith,
-        ap kept_count takes.kept_is,
-        kept_by (nat_le (length (calls ++ takes.batch)) 64) takes.batch,
-        ap kept_count first.0,
-        ap length first.1,
-      )
-]

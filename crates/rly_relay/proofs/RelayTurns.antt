@@ -27,7 +27,7 @@ use Rattle.rly_standing.specs.Standing.{Commands, IsStanding, Standing}
 use Rattle.rly_journal.specs.Calls.{Renewal, heading, renewed}
 use Rattle.rly_journal.specs.Rounds.{AreLostWhereWanted, AreServed}
 use Rattle.rly_world.specs.RelaySteps as event
-use Rattle.rly_world.specs.RelaySteps.{Event, HasPlace, Run, after}
+use Rattle.rly_world.specs.RelaySteps.{HasPlace}
 use Rattle.rly_world.specs.RelayPhases.{IsDueIn, next_head}
 use Rattle.rly_world.specs.RelayWorld.{Batch, Ready, Round, Seal, Taking, World, Writing, calls_of, seen_of, state_from}
 use Rattle.rly_world.proofs.RelayBegins.{due_in_image}

@@ -3,7 +3,7 @@ use Rattle.std.proofs.Common.{◌≡◌, ◌++◌, ◌∙◌, List, [], ◌∷�
 use Rattle.std.specs.List.{AllByRecursion}
 use Rattle.rly_disk.specs.Trace.{DeviceEvent, FailedRead, FailedSync, FailedWrite, IsFailed, Read, Sync, Write}
 use Rattle.rly_relay.specs.RelayRounds.{IsServing}
-use Rattle.rly_world.specs.RelaySteps.{Event, Happens, MayCall, Run, answered, broke, called, on_device, synced_at, synced_in}
+use Rattle.rly_world.specs.RelaySteps.{Event, MayCall, Run, broke, called, on_device, synced_at, synced_in}
 use Rattle.rly_world.specs.RelaySteps as event
 use Rattle.rly_world.specs.RelayWorld.{Answering, Device, Ready, Round, Stage, Taking, World, Writing, asked_of}
 use Rattle.rly_relay.proofs.RelayShows.{run_joined}

@@ -1,5 +1,6 @@
 -- What a station counts of the link with a peer (docs/DEFINITIONS.md, "Reports").
-use Rattle.std.specs.Prelude.{ℕ, ◌+◌, ◌-◌, ◌^◌, min, Bool, true, false, not, ◌&&◌, ◌==◌, if◌then◌else◌, Option, Some, None, List}
+use Rattle.std.specs.Prelude.{ℕ, ◌+◌, ◌-◌, ◌^◌, min, Bool, true, false, not, ◌&&◌, ◌==◌}
+use Rattle.std.specs.Prelude.{if◌then◌else◌, Option, Some, None, List}
 use Rattle.std.specs.Result.{result_ok}
 use Rattle.rly_hop.specs.Reading.{reading}
 use Rattle.rly_hop.specs.declared.message.Message.{Message}

@@ -22,7 +22,14 @@ shows count = map show_ask (range_with_len 1 count)
 abbrev pub show_asks : ContactPlan → List Ask
 show_asks plan = shows (length plan.hops)
 
--- what is told of a hop of a plan at a moment, by what its Show was answered, and with so many packets without a right tag
+-- what is told of a hop of a plan at a moment, by what its Show was answered, and with so
+-- many packets without a right tag
 abbrev pub hop_report : ContactPlan → HopId → ℕ → Result HopStatus Refusal → ℕ → HopReport
 hop_report plan hop moment answer wrong =
-    record { hop = hop; answer = answer; is_open = is_open plan hop moment; change = next_change plan hop moment; wrong = wrong }
+    record {
+      hop = hop;
+      answer = answer;
+      is_open = is_open plan hop moment;
+      change = next_change plan hop moment;
+      wrong = wrong;
+    }

@@ -1,5 +1,6 @@
 -- The text of a report (docs/DEFINITIONS.md, "Reports"): the moment, then each hop, each peer and the device.
-use Rattle.std.specs.Prelude.{ℕ, ◌-◌, ◌/◌, Bool, true, false, List, [], ◌∷◌, ◌++◌, codes, Option, Some, None, Result, Ok, Err}
+use Rattle.std.specs.Prelude.{ℕ, ◌-◌, ◌/◌, Bool, true, false, List, [], ◌∷◌, ◌++◌}
+use Rattle.std.specs.Prelude.{codes, Option, Some, None, Result, Ok, Err}
 use Rattle.std.specs.Fmt.{decimal}
 use Rattle.std.specs.List.{flat_map}
 use Rattle.rly_core.specs.Refusals.{refusal_line}
@@ -59,8 +60,8 @@ peer_line moment p =
 -- device seq N rounds N segments N
 abbrev pub device_line : DeviceReport → List ℕ
 device_line d =
-    codes "device seq " ++ decimal d.seq ++ codes " rounds " ++ decimal d.rounds ++ codes " segments " ++ decimal d.segments
-    ++ 10 ∷ []
+    codes "device seq " ++ decimal d.seq ++ codes " rounds " ++ decimal d.rounds
+    ++ codes " segments " ++ decimal d.segments ++ 10 ∷ []
 
 -- the hops and the peers
 abbrev pub hops_text : List HopReport → List ℕ

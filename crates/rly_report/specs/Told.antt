@@ -35,7 +35,8 @@ hop_if plan moment wrong id (Some answer) = hop_report plan (record { 0 = id }) 
 abbrev pub hops_from : ContactPlan → ℕ → List ℕ → ℕ → List Answer → List HopReport
 hops_from plan moment wrong id [] = []
 hops_from plan moment wrong id (answer ∷ answers) =
-    hop_if plan moment (slice_index wrong (id - 1)) id (shown answer.reply) ++ hops_from plan moment wrong (id + 1) answers
+    hop_if plan moment (slice_index wrong (id - 1)) id (shown answer.reply)
+    ++ hops_from plan moment wrong (id + 1) answers
 
 -- what is told of each hop, whose ids are 1, 2, 3, ..
 abbrev pub hops_told : ContactPlan → ℕ → List ℕ → List Answer → List HopReport
@@ -53,4 +54,5 @@ device_told answers c = record { seq = seq_told answers; rounds = c.rounds; segm
 -- the text of the report
 abbrev pub told_text : ContactPlan → ℕ → List Answer → Counted → List ℕ
 told_text plan moment answers c =
-    text_for_report moment (hops_told plan moment c.wrong answers) (take (length plan.peers) c.peers) (device_told answers c)
+    text_for_report moment (hops_told plan moment c.wrong answers) (take (length plan.peers) c.peers)
+    (device_told answers c)

@@ -1,5 +1,5 @@
 -- Reports that were due, one after another.
-use Rattle.std.proofs.Common.{◌≡◌, ◌∙◌, ℕ, List, [], ◌∷◌, ◌++◌, Bool, true, false, refl, ap, sym, subst}
+use Rattle.std.proofs.Common.{◌≡◌, ◌∙◌, ℕ, List, [], ◌∷◌, ◌++◌, Bool, true, refl, ap, sym, subst}
 use Rattle.std.specs.Prelude.{Option, Some, None, Result, Ok, Err, length}
 use Rattle.std.specs.Io.KnownBytes.{Appends, Keeps}
 use Rattle.std.specs.List.{AllByRecursion, flat_map}
@@ -10,10 +10,9 @@ use Rattle.rly_machine.specs.declared.call.Answer.{Answer}
 use Rattle.rly_plan.specs.ContactPlan.{ContactPlan}
 use Rattle.rly_report.specs.declared.told.Counted.{Counted}
 use Rattle.rly_report.specs.Hops.{show_asks}
-use Rattle.rly_report.specs.Told.{told_text}
 use Rattle.rly_reporter.specs.declared.reporter.ReporterEnd.{ReporterEnd}
 use Rattle.rly_reporter.specs.declared.reporter.ReporterEnd.TheVariants.{Paced, Closed, Output}
-use Rattle.rly_reporter.specs.HelpersReporting.{GoesOn, HasAdded, HasMade, HasTold}
+use Rattle.rly_reporter.specs.HelpersReporting.{HasMade, HasTold}
 use Rattle.rly_reporter.specs.Reporting.{Due, HasReported, ReporterView, asked_for, asked_in, is_open, moments_in, seen_for, seen_in, text_for, text_in}
 use Rattle.rly_stream.specs.Beginnings.{AppendsBeginning}
 use Rattle.rly_stream.proofs.Flows.{appends_appends, appends_none, begins_more}
@@ -55,37 +54,6 @@ made_told plan moment old mid new before after answers counted refused outcome a
   written = told.written;
 }
 
--- it looked, and memory was refused for the text
-pub told_nothing : (plan : ContactPlan) (moment : ℕ) (old new : ReporterView) (w : Option (List ℕ)) (answers : List Answer) (counted : Counted)
-    → TellsMore old.seen new.seen (counted ∷ []) → new ≡ record old { seen = new.seen } → HasTold plan moment answers counted true old new w w (Ok tt)
-told_nothing plan moment old new w answers counted seen same = record {
-  open_still = refl;
-  paced = ap (λ r. r.paced) same;
-  asked = ap (λ r. r.asked) same;
-  seen = seen;
-  written = appends_none w;
-}
-
--- it looked, and wrote
-pub told_written : (plan : ContactPlan) (moment : ℕ) (old new : ReporterView) (before after : Option (List ℕ)) (answers : List Answer) (counted : Counted) (text : List ℕ) (outcome : Result (Unit {0}) ReporterEnd)
-    → TellsMore old.seen new.seen (counted ∷ []) → new ≡ record old { seen = new.seen } → text ≡ told_text plan moment answers counted
-    → HasAdded outcome before after text → GoesOn outcome true
-    → HasTold plan moment answers counted false old new before after outcome
-told_written plan moment old new before after answers counted text outcome seen same is added goes = record {
-  open_still = goes;
-  paced = ap (λ r. r.paced) same;
-  asked = ap (λ r. r.asked) same;
-  seen = seen;
-  written = subst (HasAdded outcome before after) is added;
-}
-
--- what was written and then handed on
-pub appends_kept : (a b c : Option (List ℕ)) (text : List ℕ) → Appends a b text → Keeps b c → Appends a c text
-appends_kept None b c text h k = tt
-appends_kept (Some xs) None c text h k = absurd h
-appends_kept (Some xs) (Some ys) None text h k = absurd k
-appends_kept (Some xs) (Some ys) (Some zs) text h k = k ∙ h
-
 pub begins_whole : (a b c : Option (List ℕ)) (text : List ℕ) → Appends a b text → Keeps b c → AppendsBeginning a c text
 begins_whole None b c text h k = tt
 begins_whole (Some xs) None c text h k = absurd h
@@ -100,16 +68,6 @@ pub record Ongoing (plan : ContactPlan) (old new : ReporterView) (before after :
   pub asked : TellsMore old.asked new.asked (asked_in plan dues)
   pub seen : TellsMore old.seen new.seen (seen_in dues)
   pub written : Appends before after (text_in plan dues)
-
-pub begun : (plan : ContactPlan) (r : ReporterView) (w : Option (List ℕ)) → Ongoing plan r r w w
-begun plan r w = record {
-  dues = [];
-  all_open = tt;
-  paced = tells_nothing r.paced;
-  asked = tells_nothing r.asked;
-  seen = tells_nothing r.seen;
-  written = appends_none w;
-}
 
 all_one : {A : Type 0} (P : A → Type 0) (xs : List A) (x : A) → AllByRecursion P xs → P x → AllByRecursion P (xs ++ x ∷ [])
 all_one P [] x all p = (p, tt)
@@ -153,17 +111,6 @@ gone_on plan moment due old mid told new before held after none so_far more quie
   seen = seen_more so_far.dues due old mid told new so_far.seen quiet made.seen;
   written = subst (Appends before after) (text_more plan so_far.dues due)
       (appends_appends before held after (text_in plan so_far.dues) (text_for plan due.moment due.made) so_far.written made.written);
-}
-
--- no more is due
-pub ended_paced : (plan : ContactPlan) (old mid new : ReporterView) (before after : Option (List ℕ)) → Ongoing plan old mid before after → TellsMore mid.paced new.paced (None ∷ []) → new ≡ record mid { paced = new.paced } → HasReported plan old new before after Paced
-ended_paced plan old mid new before after so_far more quiet = record {
-  dues = so_far.dues;
-  ends = so_far.all_open;
-  paced = tells_more old.paced mid.paced new.paced (moments_in so_far.dues) (None ∷ []) so_far.paced more;
-  asked = subst (λ a. TellsMore old.asked a (asked_in plan so_far.dues)) (sym (ap (λ r. r.asked) quiet)) so_far.asked;
-  seen = subst (λ s. TellsMore old.seen s (seen_in so_far.dues)) (sym (ap (λ r. r.seen) quiet)) so_far.seen;
-  written = so_far.written;
 }
 
 -- the last report found the line closed, or the writer failed

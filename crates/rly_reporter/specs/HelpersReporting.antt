@@ -26,8 +26,8 @@ HasAdded (Err Closed) old new text = Appends old new text
 HasAdded (Err Output) old new text = AppendsBeginning old new text
 
 -- it looked at the counts, and wrote the text with these answers, unless memory was refused for it
-pub record HasTold (plan : ContactPlan) (moment : ℕ) (answers : List Answer) (counted : Counted) (refused : Bool) (old new : ReporterView)
-    (before after : Option (List ℕ)) (outcome : Result (Unit {0}) ReporterEnd) : Type 0 where
+pub record HasTold (plan : ContactPlan) (moment : ℕ) (answers : List Answer) (counted : Counted) (refused : Bool)
+    (old new : ReporterView) (before after : Option (List ℕ)) (outcome : Result (Unit {0}) ReporterEnd) : Type 0 where
   pub open_still : GoesOn outcome true
   pub paced : new.paced ≡ old.paced
   pub asked : new.asked ≡ old.asked
@@ -35,7 +35,8 @@ pub record HasTold (plan : ContactPlan) (moment : ℕ) (answers : List Answer) (
   pub written : HasAdded outcome before after (if refused then [] else told_text plan moment answers counted)
 
 -- it made one report
-pub record HasMade (plan : ContactPlan) (due : Due) (old new : ReporterView) (before after : Option (List ℕ)) (outcome : Result (Unit {0}) ReporterEnd) : Type 0 where
+pub record HasMade (plan : ContactPlan) (due : Due) (old new : ReporterView) (before after : Option (List ℕ))
+    (outcome : Result (Unit {0}) ReporterEnd) : Type 0 where
   pub open_still : GoesOn outcome (is_open due.made)
   pub paced : new.paced ≡ old.paced
   pub asked : TellsMore old.asked new.asked (asked_for plan due.made)

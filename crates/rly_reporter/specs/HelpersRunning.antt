@@ -25,15 +25,19 @@ pub record CanRelay {D L T : Type 0} (work : Work D L T) : Type 0 where
   pub new : work.line_end ≡ record work.line_end { taken = []; lines = new_tellers 0 (names_of work.line_end.lines) }
 
 -- it ran, or gave its journal back
-pub record HasRelayed {D L T : Type 0} (state : D → DiskState) (heard : L → Option (List Hearing)) (sent : L → Option (List (List ℕ)))
-    (handed : T → Option (List Handed)) (endless : T → Bool) (plan : ContactPlan) (work : Work D L T)
-    (outcome : Result (Relayed D L T) (JournalState D)) : Type 0 where
-  pub done : IfOk outcome (IsRelayed state heard sent handed endless plan work.journal work.line_end (zip work.posts.items work.seats.items))
+pub record HasRelayed {D L T : Type 0} (state : D → DiskState) (heard : L → Option (List Hearing))
+    (sent : L → Option (List (List ℕ))) (handed : T → Option (List Handed)) (endless : T → Bool) (plan : ContactPlan)
+    (work : Work D L T) (outcome : Result (Relayed D L T) (JournalState D)) : Type 0 where
+  pub done : IfOk outcome
+      (IsRelayed state heard sent handed endless plan work.journal work.line_end
+      (zip work.posts.items work.seats.items))
   pub refused : IfErr outcome (λ back. back ≡ work.journal)
 
 -- a reporter at its end, with what is left of its seat
-pub record HasLeft {P C : Type 0} (told : P → Option (List (Option ℕ))) (seen : C → Option (List Counted)) (plan : ContactPlan)
-    (pace : P) (counters : C) (seat : Caller) (before after : Option (List ℕ)) (left : Left P C) : Type 0 where
+pub record HasLeft {P C : Type 0} (told : P → Option (List (Option ℕ))) (seen : C → Option (List Counted))
+    (plan : ContactPlan) (pace : P) (counters : C) (seat : Caller) (before after : Option (List ℕ)) (left : Left P C)
+    : Type 0 where
   pub asked : List Asked
   pub put : HasPut seat asked left.seat
-  pub reported : HasReported plan (watch_view told seen pace counters []) (watch_view told seen left.pace left.counters asked) before after left.end
+  pub reported : HasReported plan (watch_view told seen pace counters [])
+      (watch_view told seen left.pace left.counters asked) before after left.end

@@ -15,7 +15,8 @@ use Rattle.rly_stream.specs.Beginnings.{AppendsBeginning}
 use Rattle.rly_threads.specs.Asking.{Asked}
 use Rattle.rly_threads.specs.Ends.{TellsMore}
 
--- what a reporter's ends tell, each if it tells: what was asked, which moments it was told, and what it saw of the counts
+-- what a reporter's ends tell, each if it tells: what was asked, which moments it was
+-- told, and what it saw of the counts
 pub record ReporterView : Type 0 where
   pub asked : Option (List Asked)
   pub paced : Option (List (Option ℕ))
@@ -27,8 +28,8 @@ pub record Numbers : Type 0 where
   pub counted : Counted
   pub refused : Bool
 
--- a report that was due: its moment, and what became of it. None: memory was refused before anything was asked for it. An error:
--- nothing was answered
+-- a report that was due: its moment, and what became of it. None: memory was refused before anything was asked for
+-- it. An error: nothing was answered
 pub record Due : Type 0 where
   pub moment : ℕ
   pub made : Option (Result Numbers BatchError)
@@ -89,9 +90,10 @@ EndsAt Closed dues = (before : List Due) × (last : Due) × (dues ≡ before ++ 
     × AllByRecursion (λ d. is_open d.made ≡ true) before × (is_open last.made ≡ false)
 EndsAt Output dues = AllByRecursion (λ d. is_open d.made ≡ true) dues
 
--- A reporter from its start to its end: for each moment that it was told it asked Show of each hop, looked at the counts, and wrote the
--- text of what it was answered and saw, and it did nothing else.
-pub record HasReported (plan : ContactPlan) (old new : ReporterView) (before after : Option (List ℕ)) (end : ReporterEnd) : Type 0 where
+-- A reporter from its start to its end: for each moment that it was told it asked Show of each hop, looked at the
+-- counts, and wrote the text of what it was answered and saw, and it did nothing else.
+pub record HasReported (plan : ContactPlan) (old new : ReporterView) (before after : Option (List ℕ))
+    (end : ReporterEnd) : Type 0 where
   pub dues : List Due
   pub ends : EndsAt end dues
   pub paced : TellsMore old.paced new.paced (moments_in dues ++ told_at end)

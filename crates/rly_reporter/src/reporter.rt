@@ -133,7 +133,9 @@ impl<K: Desk, P: Pace, C: Counters> Reporter<K, P, C> {
     ) -> Result<(), ReporterEnd>
         requires sound { IsSoundPlan plan.now }
         requires each { length answers.now ≡ length plan.now.hops }
-        ensures { (counted : ACounted) × (refused : Bool) × HasTold plan.now moment answers.now counted refused self.old self.new (W.contents writer.old) (W.contents writer.new) result }
+        ensures { (counted : ACounted) × (refused : Bool)
+            × HasTold plan.now moment answers.now counted refused self.old self.new
+            (W.contents writer.old) (W.contents writer.new) result }
     {
         let counted = self.look();
         match told_text(alloc, plan, moment, answers, &counted) {

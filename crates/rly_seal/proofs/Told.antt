@@ -22,16 +22,6 @@ all_sealed-short key (one ∷ given) packet h =
       | false ↦ all_sealed-short key given packet h
     ]
 
-all_sealed-long : (key : List ℕ) (given : List (List ℕ)) (packet : List ℕ) → is_short packet ≡ false
-    → all_sealed key (given ++ packet ∷ []) ≡ all_sealed key given
-all_sealed-long key [] packet h = rw h refl
-all_sealed-long key (one ∷ given) packet h =
-    elim (is_short one) as (λ b. map (sealed key) (cond b (one ∷ filter is_short (given ++ packet ∷ [])) (filter is_short (given ++ packet ∷ [])))
-    ≡ map (sealed key) (cond b (one ∷ filter is_short given) (filter is_short given))) [
-      | true ↦ ap (λ (rest : List (List ℕ)). sealed key one ∷ rest) (all_sealed-long key given packet h)
-      | false ↦ all_sealed-long key given packet h
-    ]
-
 same_packets : (xs ys : List (List ℕ)) → xs ≡ ys → pointwise bytes_eq xs ys ≡ true
 same_packets xs ys e = (slice_eq-Decides bytes_eq-Decides xs ys (pointwise bytes_eq xs ys) refl).1 e
 
@@ -57,14 +47,6 @@ sent_more keys given (Some sent) new packet short told =
     ∙ given_if-same keys (given ++ packet ∷ []) (sent ++ sealed keys.first packet ∷ [])
     (ap (λ (l : List (List ℕ)). l ++ sealed keys.first packet ∷ []) (packets_same sent (all_sealed keys.first given) e)
     ∙ sym (all_sealed-short keys.first given packet short)))
-
-pub sent_no_more : (keys : Keys) (given : List (List ℕ)) (sent : Option (List (List ℕ))) (packet : List ℕ) → is_short packet ≡ false
-    → TellsMore (all_sent_with keys given sent) (all_sent_with keys (given ++ packet ∷ []) sent) (packet ∷ [])
-sent_no_more keys given None packet long = tt
-sent_no_more keys given (Some sent) packet long =
-    tells_if (pointwise bytes_eq sent (all_sealed keys.first given)) given packet (given_if_sealed keys (given ++ packet ∷ []) sent) (λ e.
-    given_if-same keys (given ++ packet ∷ []) sent
-    (packets_same sent (all_sealed keys.first given) e ∙ sym (all_sealed-long keys.first given packet long)))
 
 -- what was written of a sealed packet is that packet
 pub written_packet : (key packet rest : List ℕ) → take (length packet + 16) (sealed key packet ++ rest) ≡ sealed key packet

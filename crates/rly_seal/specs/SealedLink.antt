@@ -8,8 +8,8 @@ use Rattle.rly_tag.specs.Keys.{Keys}
 use Rattle.rly_tag.specs.Seal.{sealed, unsealed}
 use Rattle.rly_threads.specs.Ends.{Hearing, hearing}
 
--- the link below a key; the keys; how many packets had no right tag; what was given to be sent, and how much of that was
--- too long
+-- the link below a key; the keys; how many packets had no right tag; what was given to be sent,
+-- and how much of that was too long
 pub record SealedView (L : Type 0) : Type 0 where
   pub link : L
   pub keys : Keys

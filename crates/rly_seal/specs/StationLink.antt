@@ -20,7 +20,8 @@ abbrev pub keys_over : {L : Type 0} → StationLink L → Option Keys
 keys_over (Open link) = None
 keys_over (Keyed s) = Some s.keys
 
--- what it tells that it heard and sent, and how many of its calls failed: what the link tells, or what the sealed one does
+-- what it tells that it heard and sent, and how many of its calls failed: what the link
+-- tells, or what the sealed one does
 abbrev pub station_heard : {L : Type 0} → (L → Option (List Hearing)) → StationLink L → Option (List Hearing)
 station_heard heard (Open link) = heard link
 station_heard heard (Keyed s) = sealed_heard heard s

@@ -33,18 +33,6 @@ module _ (image : List ℕ) (g : Geometry) (n : ℕ) where
     alone = λ single. one_more (λ t. t ≢ best.segment → IsOpen image (segment_place g t) → generation_in image g t < best.generation) (is.alone single) (λ other opened. less opened);
   }
 
-  pub first : (generation : ℕ) → IsFound image g n None → IsOpen image (segment_place g n) → generation ≡ generation_in image g n
-      → IsGreatest image g (n + 1) (record { segment = n; generation = generation; is_shared = false })
-  first generation none opened is = record {
-    there = omega arith;
-    gate = opened;
-    generation = is;
-    most = one_more (λ t. IsOpen image (segment_place g t) → generation_in image g t ≤ generation) (λ t lt open_t. absurd (none t lt open_t)) (λ _. omega (arith, is));
-    last = λ t below behind open_t. absurd (omega arith);
-    shared = λ e. absurd cc;
-    alone = λ _. one_more (λ t. t ≢ n → IsOpen image (segment_place g t) → generation_in image g t < generation) (λ t lt other open_t. absurd (none t lt open_t)) (λ other _. absurd (other refl));
-  }
-
   pub replaced : (best : Greatest) (generation : ℕ) (same : Bool) → IsGreatest image g n best → IsOpen image (segment_place g n) → generation ≡ generation_in image g n
       → best.generation ≤ generation → (same ≡ true → generation ≡ best.generation) → (same ≡ false → best.generation < generation)
       → IsGreatest image g (n + 1) (record { segment = n; generation = generation; is_shared = same })

@@ -14,19 +14,12 @@ are_header_reads : (long : Bool) → are_reads (if long then Read 0 51 ∷ [] el
 are_header_reads true = refl
 are_header_reads false = refl
 
-are_head_reads : (place : ℕ) (body : Option ℕ) → are_reads (head_reads place body) ≡ true
-are_head_reads place None = refl
-are_head_reads place (Some n) = refl
-
 module _ {D : Type 0} (state : D → DiskState) {a b : D} {whole : Bool} where
   pub header_only : (size : ℕ) → Makes state (header_reads size) whole a b → OnlyReads state whole a b
   header_only size made = reads_of state (header_reads size) (are_header_reads (nat_le 64 size)) made
 
   pub generations_only : (g : Geometry) (n : ℕ) → Makes state (generation_reads g n) whole a b → OnlyReads state whole a b
   generations_only g n made = reads_of state (generation_reads g n) (each_reads (λ t. Read (segment_place g t) 9 ∷ []) (λ t. refl) n) made
-
-  pub head_only : (place : ℕ) → (body : Option ℕ) × Makes state (head_reads place body) whole a b → OnlyReads state whole a b
-  head_only place made = reads_of state (head_reads place made.0) (are_head_reads place made.0) made.1
 
   -- a header of a device that is long enough
   pub header_read : (size : ℕ) → 64 ≤ size → Makes state (Read 0 51 ∷ []) whole a b → Makes state (header_reads size) whole a b

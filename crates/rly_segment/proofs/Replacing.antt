@@ -15,10 +15,9 @@ use Rattle.rly_gate.specs.Calls.{settling}
 use Rattle.rly_gate.specs.Group.{IsClosed, IsOpen, StandsAt, open_gate}
 use Rattle.rly_core.specs.declared.params.Geometry.{Geometry}
 use Rattle.rly_machine.specs.State.{State}
-use Rattle.rly_checkpoint.specs.Checkpoint.{inline_form}
 use Rattle.rly_segment.specs.Calls.{closing, replacing}
 use Rattle.rly_segment.specs.Device.{IsLayout}
-use Rattle.rly_segment.specs.Heads.{IsHead, IsHeadOf, IsOpening, IsOpeningOf, generation_in, head_of, head_spelled, opened_head, opened_spelled, segment_place}
+use Rattle.rly_segment.specs.Heads.{IsHeadOf, IsOpeningOf, generation_in, head_spelled, opened_spelled, segment_place}
 use Rattle.rly_segment.specs.HelpersWriting.{IsClosing, IsReplacing}
 use Rattle.rly_segment.proofs.Gates.{stays_closed, zero_closes}
 use Rattle.rly_segment.proofs.HeadWriting.{head_room}
@@ -171,17 +170,6 @@ pub opening_leaves : {P : Type 0} (len : P → ℕ) (form : P → List ℕ) {D :
 opening_leaves len form state {a} g segment generation s closed geometry there head told settled made =
     makes_leaves state (IsOpeningOf len form g segment generation s (state a).seen) made settled
     (λ c. image_of_opening len form g segment generation s closed (state a).seen c (subst (IsLayout g) (sym settled.consistent.seen_size) geometry) there head told)
-
--- the same where every payload is inline
-module _ (g : Geometry) (segment generation : ℕ) (s : State (List ℕ)) (closed : Bool) where
-  pub opening_image : (old c : List ℕ) → IsLayout g (length old) → segment < g.segments → IsHead g segment generation s → (IsTrue closed ↔ IsClosed old (segment_place g segment))
-      → images_within (replacing (segment_place g segment) closed (head_of generation s ++ 0 ∷ [])) old (λ d. d ≡ old) c → IsOpening g segment generation s old c
-  opening_image old c geometry there head told image =
-      image_of_opening length inline_form g segment generation s closed old c geometry there head told image
-
-  pub opening_end : (old : List ℕ) → segment_place g segment + 1 ≤ length old
-      → seen_at_end (replacing (segment_place g segment) closed (head_of generation s ++ 0 ∷ [])) old ≡ overwritten (segment_place g segment) (opened_head generation s) old
-  opening_end = end_of_opening length inline_form g segment generation s closed
 
 -- ---- how many they are
 

@@ -40,7 +40,8 @@ HoldsNoHead image g segment = (generation : ℕ) (s : State (List ℕ)) → Hold
 -- nor one of content that has forms
 abbrev pub HoldsNoHeadOf : {P : Type 0} → (P → ℕ) → (P → List ℕ) → (P → Type 0) → List ℕ → Geometry → ℕ → Type 0
 HoldsNoHeadOf {P} len form HasForm image g segment =
-    (generation : ℕ) (s : State P) → All (HaveForms HasForm) s.hops → HoldsHeadOf len form image g segment generation s → ⊥
+    (generation : ℕ) (s : State P) → All (HaveForms HasForm) s.hops
+    → HoldsHeadOf len form image g segment generation s → ⊥
 
 -- of what a head holds: a state whose content has forms, or that there is none
 abbrev pub IsReadHeadOf : {P : Type 0} → (P → ℕ) → (P → List ℕ) → (P → Type 0)

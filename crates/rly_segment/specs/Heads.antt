@@ -103,8 +103,8 @@ IsPassedOver g segment old image = IsOpen image (segment_place g segment)
 
 -- what a crash within the opening of a segment may leave: all bytes outside it as they were, and the whole head, or
 -- none that is newer
-pub record IsOpeningOf {P : Type 0} (len : P → ℕ) (form : P → List ℕ) (g : Geometry) (segment generation : ℕ) (s : State P)
-    (old image : List ℕ) : Type 0 where
+pub record IsOpeningOf {P : Type 0} (len : P → ℕ) (form : P → List ℕ) (g : Geometry) (segment generation : ℕ)
+    (s : State P) (old image : List ℕ) : Type 0 where
   pub outside : SameOutside (segment_place g segment) g.length old image
   pub whole : IsPassedOver g segment old image
       ⊎ StandsAt image (segment_place g segment) (opened_spelled len form generation s)

@@ -20,7 +20,8 @@ abbrev pub HoldsNonePlaced : List ℕ → Geometry → ℕ → Type 0
 HoldsNonePlaced image g segment = (generation : ℕ) (s : State Stored) → HoldsPlaced image g segment generation s → ⊥
 
 -- the state with bytes that it stands for: its payloads by place are as the image has them
-pub record HeadStandsFor (image : List ℕ) (g : Geometry) (segment generation : ℕ) (state : State (List ℕ)) : Type 0 where
+pub record HeadStandsFor (image : List ℕ) (g : Geometry) (segment generation : ℕ) (state : State (List ℕ))
+    : Type 0 where
   pub stored : State Stored
   pub holds : HoldsPlaced image g segment generation stored
   pub bytes : state_in image stored ≡ state

@@ -18,7 +18,8 @@ settled at (Inline []) = Inline []
 settled at (Inline (byte ∷ bytes)) = Placed (record { start = at; length = length (byte ∷ bytes) })
 settled at (Placed place) = Placed place
 
--- items whose entries stand one after the other from a place on; a payload that is inline stands 19 bytes into its entry
+-- items whose entries stand one after the other from a place on; a payload that is inline
+-- stands 19 bytes into its entry
 abbrev pub settled_items : ℕ → List (Item Stored) → List (Item Stored)
 settled_items at [] = []
 settled_items at (item ∷ items) =
@@ -33,7 +34,8 @@ settled_hop at h = record h {
 
 abbrev pub settled_hops : ℕ → List (HopState Stored) → List (HopState Stored)
 settled_hops at [] = []
-settled_hops at (h ∷ hops) = settled_hop at h ∷ settled_hops (at + length (hop_spelled stored_length stored_form h)) hops
+settled_hops at (h ∷ hops) =
+    settled_hop at h ∷ settled_hops (at + length (hop_spelled stored_length stored_form h)) hops
 
 -- the state that the head of a segment holds, with its payloads where they lie then: none is inline that has bytes
 abbrev pub settled_state : Geometry → ℕ → State Stored → State Stored

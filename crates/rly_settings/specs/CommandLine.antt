@@ -65,7 +65,8 @@ unfoldable pub sim_app : App
 sim_app = with_param_rules (new_app (codes "sim"))
 
 unfoldable pub format_app : App
-format_app = with_rule (with_rule (with_rule (with_param_rules (with_rule (new_app (codes "format")) (path_rule (codes "file"))))
+format_app =
+    with_rule (with_rule (with_rule (with_param_rules (with_rule (new_app (codes "format")) (path_rule (codes "file"))))
     (option_rule (codes "segments") (codes "4"))) (number_rule (codes "length"))) (flag_rule (codes "force"))
 
 unfoldable pub play_app : App
@@ -94,8 +95,10 @@ rly_top = let new = new_app (codes "rly") in
     }
 
 unfoldable pub rly_app : App
-rly_app = with_subcommand (with_subcommand (with_subcommand (with_subcommand (with_subcommand (with_subcommand (with_subcommand rly_top
-    sim_app.top) format_app.top) play_app.top) audit_app.top) serve_app.top) key_app.top) plan_app.top
+rly_app =
+    with_subcommand (with_subcommand (with_subcommand (with_subcommand (with_subcommand (with_subcommand
+    (with_subcommand rly_top sim_app.top) format_app.top) play_app.top) audit_app.top) serve_app.top) key_app.top)
+    plan_app.top
 
 -- ---- what its matches ask for
 

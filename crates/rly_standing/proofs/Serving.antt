@@ -8,7 +8,6 @@ use Rattle.rly_machine.specs.declared.command.Ask.{Ask}
 use Rattle.rly_machine.specs.declared.command.Ask.TheVariants as ask
 use Rattle.rly_machine.specs.declared.command.Command.{Command}
 use Rattle.rly_machine.specs.declared.command.Command.TheVariants.{Take, Pick, Release}
-use Rattle.rly_machine.specs.declared.command.Query.{Query}
 use Rattle.rly_machine.specs.declared.reply.Reply.{Reply}
 use Rattle.rly_machine.specs.Accepted.{is_accepted, unless}
 use Rattle.rly_machine.specs.History.{accepted_by, accepted_of}

@@ -1,4 +1,5 @@
--- The places of an image that stand for nothing (docs/FORMATS.md, "What opening checks"), and how a device that was not opened is told.
+-- The places of an image that stand for nothing (docs/FORMATS.md, "What opening checks"), and how a
+-- device that was not opened is told.
 use Rattle.std.specs.Prelude.{◌≡◌, ◌⊎◌, ℕ, List, length}
 use Rattle.rly_core.specs.declared.params.Geometry.{Geometry}
 use Rattle.rly_core.specs.declared.refusal.Refusal.{Refusal}

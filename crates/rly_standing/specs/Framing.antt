@@ -20,8 +20,8 @@ pub record SameBytes (from end : ℕ) (old new : List ℕ) : Type 0 where
 abbrev pub SamePayload : List ℕ → List ℕ → Stored → Type 0
 SamePayload old new payload = payload_in new payload ≡ payload_in old payload
 
--- all that decides what a standing stands for is as it was: the header, the segment up to the first closed gate, which is
--- closed still, no other head that is newer, and of the payloads those that are live after the groups
+-- all that decides what a standing stands for is as it was: the header, the segment up to the first closed gate, which
+-- is closed still, no other head that is newer, and of the payloads those that are live after the groups
 pub record IsUntouched (x : Standing) (old new : List ℕ) : Type 0 where
   pub header : SameBytes 0 64 old new
   pub heads : (t : ℕ) → t < x.geometry.segments → t ≢ x.segment → IsPassedOver x.geometry t old new

@@ -1,4 +1,5 @@
--- Helpers: what opening a device has scanned so far. Nothing here is claimed: what opening gives is said by `Standing` and `Faults`.
+-- Helpers: what opening a device has scanned so far. Nothing here is claimed: what opening gives is
+-- said by `Standing` and `Faults`.
 use Rattle.std.specs.Prelude.{◌≡◌, ℕ, List}
 use Rattle.rly_machine.specs.State.{State}
 use Rattle.rly_segment.specs.Answers.{AreClosed}

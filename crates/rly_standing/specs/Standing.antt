@@ -1,5 +1,6 @@
 -- When an image stands for a state (docs/DEFINITIONS.md, "What an image stands for"): the checkpoint of the newest
--- head, its payloads as the image has them, followed by the commands of the groups after it, up to the first closed gate.
+-- head, its payloads as the image has them, followed by the commands of the groups after
+-- it, up to the first closed gate.
 use Rattle.std.specs.Prelude.{◌≡◌, ℕ, ◌+◌, ⊤, List, [], ◌∷◌, length, map}
 use Rattle.rly_core.specs.declared.params.Geometry.{Geometry}
 use Rattle.rly_machine.specs.declared.command.Command.{Command}

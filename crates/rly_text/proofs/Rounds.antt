@@ -1,5 +1,5 @@
 -- How the reply lines of a round are written, one after the other.
-use Rattle.std.proofs.Common.{◌≡◌, ◌+◌, ◌<◌, ℕ, add-one, drop, get_or, length, List, [], ◌∷◌, ◌++◌, Option, sym, ◌∙◌, append_assoc}
+use Rattle.std.proofs.Common.{◌≡◌, ◌+◌, ◌<◌, ℕ, add-one, drop, get_or, length, List, ◌∷◌, ◌++◌, Option, sym, ◌∙◌, append_assoc}
 use Rattle.std.proofs.Math.Seq.{drop-cons}
 use Rattle.rly_machine.specs.declared.call.Answer.{Answer}
 use Rattle.rly_text.specs.HelpersOutflow.{Adds, AddsBeginning, Outflow}

@@ -1,10 +1,10 @@
 -- What the functions of `play` tell one another. Nothing here is claimed: it is what a play does (Playing), with what
 -- is read ahead, what is held back, and the lines that are gathered for a round.
 use Rattle.std.specs.Prelude.{◌≡◌, ◌⊎◌, ℕ, List, [], ◌∷◌, ◌++◌, map, false, Option, Some, None, ⊤}
-use Rattle.std.specs.List.{AllByRecursion, zip}
+use Rattle.std.specs.List.{zip}
 use Rattle.rly_core.specs.Bounds.{IsIn}
 use Rattle.rly_core.specs.Refusals.{refusal_line}
-use Rattle.rly_core.specs.declared.refusal.Refusal.TheVariants.{DeviceRead, Line}
+use Rattle.rly_core.specs.declared.refusal.Refusal.TheVariants.{Line}
 use Rattle.rly_disk.specs.DiskModel.{DiskState}
 use Rattle.rly_journal.specs.Journal.{HasFailedRead, IsRound, IsShut, JournalState}
 use Rattle.rly_standing.specs.Log.{IsDurable}
@@ -12,8 +12,6 @@ use Rattle.rly_journal.specs.Rounds.{AreLostWhereWanted, AreUnreadWhere}
 use Rattle.rly_machine.specs.declared.call.Answer.{Answer}
 use Rattle.rly_machine.specs.declared.call.Call.{Call}
 use Rattle.rly_machine.specs.declared.command.Ask.{Ask}
-use Rattle.rly_machine.specs.declared.reply.Reply.TheVariants.{Refused}
-use Rattle.rly_machine.specs.History.{Entry}
 use Rattle.rly_text.specs.Grammar.{ask_in_line}
 use Rattle.rly_text.specs.HelpersOutflow.{Adds, AddsBeginning, Outflow}
 use Rattle.rly_text.specs.Lines.{lines_of}

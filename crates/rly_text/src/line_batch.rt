@@ -57,12 +57,18 @@ impl Batch {
             (prepend_known lines.new.ahead (R.remaining reader.new)) self.new.slots.items (asks_of self.new.calls.items)) }
         ensures lines { OnOk result (length self.new.slots.items ≤ self.old.most) }
         ensures count { OnOk result (length self.new.calls.items ≤ 64) }
-        ensures ended { result ≡ Ok false → EndsAt (prepend_known lines.old.ahead (R.remaining reader.old)) (prepend_known lines.new.ahead (R.remaining reader.new)) }
+        ensures ended { result ≡ Ok false
+            → EndsAt (prepend_known lines.old.ahead (R.remaining reader.old))
+            (prepend_known lines.new.ahead (R.remaining reader.new)) }
         ensures progress { result ≡ Ok true → (lines.old.taken < lines.new.taken) × (lines.new.taken < 2 ^ 64) }
         ensures answers { self.new.answers ≡ self.old.answers }
         ensures most { self.new.most ≡ self.old.most }
-        ensures same { OnOk result (Adds (outflow_of (W.contents writer.old) (string_bytes text.old)) (outflow_of (W.contents writer.new) (string_bytes text.new)) []) }
-        ensures begun { OnErr result (AddsBeginning (outflow_of (W.contents writer.old) (string_bytes text.old)) (outflow_of (W.contents writer.new) (string_bytes text.new)) []) }
+        ensures same { OnOk result
+            (Adds (outflow_of (W.contents writer.old) (string_bytes text.old))
+            (outflow_of (W.contents writer.new) (string_bytes text.new)) []) }
+        ensures begun { OnErr result
+            (AddsBeginning (outflow_of (W.contents writer.old) (string_bytes text.old))
+            (outflow_of (W.contents writer.new) (string_bytes text.new)) []) }
     {
         while (self.slots.len() as u64) < self.most {
             if !self.take_line(alloc, lines, text, reader, writer)? {
@@ -88,8 +94,12 @@ impl Batch {
         ensures progress { result ≡ Ok true → (lines.old.taken < lines.new.taken) × (lines.new.taken < 2 ^ 64) }
         ensures answers { self.new.answers ≡ self.old.answers }
         ensures most { self.new.most ≡ self.old.most }
-        ensures same { OnOk result (Adds (outflow_of (W.contents writer.old) (string_bytes text.old)) (outflow_of (W.contents writer.new) (string_bytes text.new)) []) }
-        ensures begun { OnErr result (AddsBeginning (outflow_of (W.contents writer.old) (string_bytes text.old)) (outflow_of (W.contents writer.new) (string_bytes text.new)) []) }
+        ensures same { OnOk result
+            (Adds (outflow_of (W.contents writer.old) (string_bytes text.old))
+            (outflow_of (W.contents writer.new) (string_bytes text.new)) []) }
+        ensures begun { OnErr result
+            (AddsBeginning (outflow_of (W.contents writer.old) (string_bytes text.old))
+            (outflow_of (W.contents writer.new) (string_bytes text.new)) []) }
     {
         hand_on(lines, text, writer)?;
         if !lines.next_line(reader)? {
@@ -148,8 +158,14 @@ impl Batch {
         text: &mut String,
         writer: &mut W,
     ) -> Result<(), TextFault>
-        ensures told { OnOk result (Adds (outflow_of (W.contents writer.old) (string_bytes text.old)) (outflow_of (W.contents writer.new) (string_bytes text.new)) (round_text self.old.slots.items self.old.answers.items)) }
-        ensures begun { OnErr result (AddsBeginning (outflow_of (W.contents writer.old) (string_bytes text.old)) (outflow_of (W.contents writer.new) (string_bytes text.new)) (round_text self.old.slots.items self.old.answers.items)) }
+        ensures told { OnOk result
+            (Adds (outflow_of (W.contents writer.old) (string_bytes text.old))
+            (outflow_of (W.contents writer.new) (string_bytes text.new))
+            (round_text self.old.slots.items self.old.answers.items)) }
+        ensures begun { OnErr result
+            (AddsBeginning (outflow_of (W.contents writer.old) (string_bytes text.old))
+            (outflow_of (W.contents writer.new) (string_bytes text.new))
+            (round_text self.old.slots.items self.old.answers.items)) }
         ensures slots { OnOk result (self.new.slots.items ≡ []) }
         ensures answers { OnOk result (self.new.answers.items ≡ []) }
         ensures calls { self.new.calls ≡ self.old.calls }
@@ -169,8 +185,12 @@ fn add_replies<W: Write>(
     text: &mut String,
     writer: &mut W,
 ) -> Result<(), TextFault>
-    ensures told { OnOk result (Adds (outflow_of (W.contents writer.old) (string_bytes text.old)) (outflow_of (W.contents writer.new) (string_bytes text.new)) (round_text slots.now answers.now)) }
-    ensures begun { OnErr result (AddsBeginning (outflow_of (W.contents writer.old) (string_bytes text.old)) (outflow_of (W.contents writer.new) (string_bytes text.new)) (round_text slots.now answers.now)) }
+    ensures told { OnOk result
+        (Adds (outflow_of (W.contents writer.old) (string_bytes text.old))
+        (outflow_of (W.contents writer.new) (string_bytes text.new)) (round_text slots.now answers.now)) }
+    ensures begun { OnErr result
+        (AddsBeginning (outflow_of (W.contents writer.old) (string_bytes text.old))
+        (outflow_of (W.contents writer.new) (string_bytes text.new)) (round_text slots.now answers.now)) }
 {
     let mut rest = answers;
     for slot in slots {

@@ -28,8 +28,12 @@ pub(crate) fn hand_on<W: Write>(
     text: &mut String,
     writer: &mut W,
 ) -> Result<(), TextFault>
-    ensures same { OnOk result (Adds (outflow_of (W.contents writer.old) (string_bytes text.old)) (outflow_of (W.contents writer.new) (string_bytes text.new)) []) }
-    ensures begun { OnErr result (AddsBeginning (outflow_of (W.contents writer.old) (string_bytes text.old)) (outflow_of (W.contents writer.new) (string_bytes text.new)) []) }
+    ensures same { OnOk result
+        (Adds (outflow_of (W.contents writer.old) (string_bytes text.old))
+        (outflow_of (W.contents writer.new) (string_bytes text.new)) []) }
+    ensures begun { OnErr result
+        (AddsBeginning (outflow_of (W.contents writer.old) (string_bytes text.old))
+        (outflow_of (W.contents writer.new) (string_bytes text.new)) []) }
 {
     if !lines.is_drained() {
         return Ok(());
@@ -39,8 +43,12 @@ pub(crate) fn hand_on<W: Write>(
 
 /// Writes the replies that are held back, if they have grown much.
 pub(crate) fn relieve<W: Write>(text: &mut String, writer: &mut W) -> Result<(), TextFault>
-    ensures same { OnOk result (Adds (outflow_of (W.contents writer.old) (string_bytes text.old)) (outflow_of (W.contents writer.new) (string_bytes text.new)) []) }
-    ensures begun { OnErr result (AddsBeginning (outflow_of (W.contents writer.old) (string_bytes text.old)) (outflow_of (W.contents writer.new) (string_bytes text.new)) []) }
+    ensures same { OnOk result
+        (Adds (outflow_of (W.contents writer.old) (string_bytes text.old))
+        (outflow_of (W.contents writer.new) (string_bytes text.new)) []) }
+    ensures begun { OnErr result
+        (AddsBeginning (outflow_of (W.contents writer.old) (string_bytes text.old))
+        (outflow_of (W.contents writer.new) (string_bytes text.new)) []) }
 {
     if text.len() < WRITE_THRESHOLD {
         return Ok(());

@@ -78,7 +78,9 @@ fn play_round<D: Disk, R: Read, W: Write>(
     ensures played { OnOk result (PlaysSome round.old.most D.state journal.old journal.new
         (prepend_known lines.old.ahead (R.remaining reader.old)) (prepend_known lines.new.ahead (R.remaining reader.new))
         (outflow_of (W.contents writer.old) (string_bytes text.old)) (outflow_of (W.contents writer.new) (string_bytes text.new))) }
-    ensures ended { result ≡ Ok false → EndsAt (prepend_known lines.old.ahead (R.remaining reader.old)) (prepend_known lines.new.ahead (R.remaining reader.new)) }
+    ensures ended { result ≡ Ok false
+        → EndsAt (prepend_known lines.old.ahead (R.remaining reader.old))
+        (prepend_known lines.new.ahead (R.remaining reader.new)) }
     ensures begun { OnErr result (BeginsPlay round.old.most D.state journal.old journal.new (prepend_known lines.old.ahead (R.remaining reader.old))
         (outflow_of (W.contents writer.old) (string_bytes text.old)) (outflow_of (W.contents writer.new) (string_bytes text.new))) }
     ensures progress { result ≡ Ok true → (lines.old.taken < lines.new.taken) × (lines.new.taken < 2 ^ 64) }

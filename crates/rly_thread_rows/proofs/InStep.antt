@@ -3,12 +3,12 @@ use Rattle.std.proofs.Common.{ℕ, Bool, ◌≡◌, ◌∷◌, ◌++◌, [], Lis
 use Rattle.std.specs.List.{zip}
 use Rattle.rly_machine.specs.declared.call.Answer.{Answer}
 use Rattle.rly_machine.specs.declared.call.Call.{Call}
-use Rattle.rly_machine.specs.History.{Entry, IsAnswered, LegalBy, harm, harm_after, next_state, state_after, without_bytes}
+use Rattle.rly_machine.specs.History.{Entry, harm, harm_after, next_state, state_after}
 use Rattle.rly_machine.specs.State.{State}
 use Rattle.rly_machine.proofs.Histories.{harm_after-append, state_after-append}
 use Rattle.rly_line.specs.Batches.{BatchView, calls_in_batch}
 use Rattle.rly_line.specs.Replies.{Teller}
-use Rattle.rly_line.specs.Responding.{AreLeft, Responding, calls_in}
+use Rattle.rly_line.specs.Responding.{Responding, calls_in}
 use Rattle.rly_line.specs.Submission.{LineId}
 use Rattle.rly_line.proofs.Submitting.{length_batch}
 use Rattle.rly_line.proofs.Telling.{calls_in_append}
@@ -27,20 +27,9 @@ module _ {s : State (List ℕ)} {r now : Responding} (b : BatchView) (kept : IsI
   taken_is : now.taken ≡ calls_in r.history ++ calls_in_batch b
   taken_is = ap (λ (x : Responding). x.taken) took_it ∙ ap (λ l. l ++ calls_in_batch b) (kept.answered ∙ append-nil (calls_in r.history))
 
-  pub next_of : (left : List Call) × AreLeft now (calls_in_batch b ++ left)
-  next_of = ([], taken_is ∙ ap (λ (x : Responding). calls_in x.history ++ calls_in_batch b) (sym took_it) ∙ ap (λ l. calls_in now.history ++ l) (sym (append-nil (calls_in_batch b))))
-
   module _ (call : Call) (answer : Answer) (given : List Answer) (is : calls_in_batch b ≡ call ∷ []) (given_is : given ≡ answer ∷ []) where
     entries : zip (calls_in_batch b) given ≡ (call, answer) ∷ []
     entries = λ i. zip (is i) (given_is i)
-
-    pub answered_of : IsAnswered without_bytes 0 s (call, answer)
-        → LegalBy without_bytes (harm_after 0 now.history) (state_after now.start now.history) (zip (calls_in_batch b) given)
-    answered_of answered =
-        let alone : LegalBy without_bytes 0 s ((call, answer) ∷ []) = (answered, tt) in
-        let there : LegalBy without_bytes (harm_after 0 r.history) (state_after r.start r.history) ((call, answer) ∷ []) =
-        subst (λ (y : ℕ × State (List ℕ)). LegalBy without_bytes y.0 y.1 ((call, answer) ∷ [])) (λ i. (sym kept.unharmed i, kept.state i)) alone in
-        subst (λ (y : Responding × List Entry). LegalBy without_bytes (harm_after 0 y.0.history) (state_after y.0.start y.0.history) y.1) (λ i. (sym took_it i, sym entries i)) there
 
     pub in_step : {then : State (List ℕ)} {after : Responding} → then ≡ next_state s (call, answer) → harm answer.reply ≡ 0
         → after.taken ≡ now.taken → after.start ≡ now.start → after.history ≡ now.history ++ zip (calls_in_batch b) given → IsInStep then after

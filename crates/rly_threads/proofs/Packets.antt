@@ -1,6 +1,6 @@
 -- What a packet reads as.
 use Rattle.std.proofs.Common.{◌≡◌, ◌∙◌, ◌++◌, ◌∷◌, [], ℕ, List, ap, length, sym, take}
-use Rattle.std.specs.Prelude.{Option, Some, None, Err}
+use Rattle.std.specs.Prelude.{Some, None, Err}
 use Rattle.std.proofs.Math.Seq.{take-append_seam}
 use Rattle.rly_core.specs.declared.refusal.Refusal.{Refusal}
 use Rattle.rly_hop.specs.declared.message.Message.{Message}

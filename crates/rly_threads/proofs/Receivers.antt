@@ -234,9 +234,6 @@ custody_more : (last : List ℕ) (custody : Option ℕ) (after : List ℕ) → a
 custody_more last None after e = ap (reduce max) (e ∙ append-nil last) ∙ sym (greater_none (reduce max last))
 custody_more last (Some n) after e = ap (reduce max) e ∙ greatest_more last n
 
-filter_one : (f : Waiting × Told → Option ℕ) (x : Waiting × Told) → filter_map f (x ∷ []) ≡ filter_map (λ y. y) (f x ∷ [])
-filter_one f x = refl
-
 -- one more was answered
 pub answering_more : (w : Intake) (r : Receiver) (old mid now : EndsView) (all left rest : List Waiting) (answers coming next : List Answer) (last custody after : Option ℕ) (x : Waiting) (answer : Answer) (said : Go)
     → Answering w r old mid all left answers coming last → left ≡ x ∷ rest → coming ≡ answer ∷ next

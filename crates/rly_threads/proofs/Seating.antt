@@ -4,20 +4,18 @@ use Rattle.std.proofs.lemmas.Grind.{flat_map-append}
 use Rattle.std.proofs.lemmas.List.{map-append}
 use Rattle.std.proofs.lemmas.Slice.Zip.{seconds-zip}
 use Rattle.std.specs.List.{flat_map, zip}
-use Rattle.std.specs.Prelude.{Err, IfErr, IfOk, IfSome, Ok, OnOk, Result}
+use Rattle.std.specs.Prelude.{Err, IfErr, IfSome, Ok, OnOk, Result}
 use Rattle.rly_line.specs.declared.call_error.BatchError.{BatchError}
 use Rattle.rly_line.specs.declared.call_error.BatchError.TheVariants as batch
-use Rattle.rly_line.specs.declared.call_error.CallError.{CallError}
-use Rattle.rly_line.specs.declared.call_error.CallError.TheVariants.{Closed, Lost}
 use Rattle.rly_line.specs.Batches.{calls_after}
 use Rattle.rly_line.specs.Replies.{entries_of}
-use Rattle.rly_line.specs.Seats.{AreAnsweredWith, AreUnanswered, Caller, IsAnsweredWith, IsClosed, IsUnanswered}
+use Rattle.rly_line.specs.Seats.{AreAnsweredWith, AreUnanswered, Caller, IsClosed}
 use Rattle.rly_machine.specs.declared.call.Answer.{Answer}
 use Rattle.rly_machine.specs.declared.call.Call.{Call}
 use Rattle.rly_machine.specs.declared.call.SeatId.{SeatId}
 use Rattle.rly_machine.specs.declared.command.Ask.{Ask}
 use Rattle.rly_machine.specs.History.{Entry}
-use Rattle.rly_threads.specs.Asking.{Asked, HasPut, answers_of, batch_outcome, call_asked, put_of}
+use Rattle.rly_threads.specs.Asking.{Asked, HasPut, answers_of, batch_outcome, put_of}
 
 abbrev asks_in : List Call → List Ask
 asks_in calls = map (λ (call : Call). call.ask) calls
@@ -29,10 +27,6 @@ answers_in entries = map (λ (entry : Entry). entry.1) entries
 asks_after : (seat : SeatId) (last : ℕ) (asks : List Ask) → asks_in (calls_after seat last asks) ≡ asks
 asks_after seat last [] = refl
 asks_after seat last (ask ∷ asks) = ap (λ l. ask ∷ l) (asks_after seat (last + 1) asks)
-
--- nothing was asked
-pub put_nothing : (c : Caller) → HasPut c [] c
-put_nothing c = record { of = refl; replies = refl; seat = refl; put = sym (append-nil (asks_in c.put)); told = sym (append-nil (answers_in (entries_of c.seat.0 c.known))) }
 
 -- what is known of a seat before and after one batch
 record HasMoved (before : Caller) (asked : Asked) (after : Caller) : Type 0 where
@@ -91,19 +85,6 @@ lost before after asks asked is puts none_told = record {
       ∙ ap (λ l. answers_in (entries_of before.seat.0 before.known) ++ l) (sym none_told);
 }
 
--- a call alone
-one_moved : (before after : Caller) (ask : Ask) (outcome : Result Answer CallError) → IfOk outcome (λ answer. IsAnsweredWith before ask answer after)
-    → IfErr outcome (λ error. IsUnanswered before ask error after) → HasMoved before (call_asked ask outcome) after
-one_moved before after ask (Ok answer) did none = record {
-  of = did.of;
-  replies = did.replies;
-  seat = did.seat;
-  put = ap asks_in did.put ∙ map-append (λ (call : Call). call.ask) before.put _;
-  told = ap answers_in did.calls ∙ map-append (λ (entry : Entry). entry.1) (entries_of before.seat.0 before.known) ((did.call, answer) ∷ []);
-}
-one_moved before after ask (Err (Closed back)) did none = handed_back before after 1 (call_asked ask (Err (Closed back))) none.1 refl refl
-one_moved before after ask (Err Lost) did none = lost before after (ask ∷ []) (call_asked ask (Err Lost)) none refl refl
-
 -- calls together
 several_moved : (before after : Caller) (asks left : List Ask) (answers : List Answer) (outcome : Result (Unit {0}) BatchError) → OnOk outcome (AreAnsweredWith before asks answers after)
     → IfErr outcome (λ error. AreUnanswered before asks error left after) → HasMoved before (asks, batch_outcome outcome answers) after
@@ -119,18 +100,9 @@ several_moved before after asks left answers (Ok _) did none = record {
 several_moved before after asks left answers (Err batch.Closed) did none = handed_back before after (length asks) (asks, Err batch.Closed) none.1 refl refl
 several_moved before after asks left answers (Err batch.Lost) did none = lost before after asks (asks, Err batch.Lost) none.1 refl refl
 
--- so of a seat that tells what was asked
-pub told_one : (first : Option Caller) (before after : Caller) (all : List Asked) (ask : Ask) (outcome : Result Answer CallError) → IfSome first (λ seat. HasPut seat all before)
-    → IfOk outcome (λ answer. IsAnsweredWith before ask answer after) → IfErr outcome (λ error. IsUnanswered before ask error after) → IfSome first (λ seat. HasPut seat (all ++ call_asked ask outcome ∷ []) after)
-told_one None before after all ask outcome so_far did none = tt
-told_one (Some seat) before after all ask outcome so_far did none = one_more seat before after all (call_asked ask outcome) so_far (one_moved before after ask outcome did none)
-
 pub told_several : (first : Option Caller) (before after : Caller) (all : List Asked) (asks left : List Ask) (answers : List Answer) (outcome : Result (Unit {0}) BatchError) → IfSome first (λ seat. HasPut seat all before)
     → OnOk outcome (AreAnsweredWith before asks answers after) → IfErr outcome (λ error. AreUnanswered before asks error left after)
     → IfSome first (λ seat. HasPut seat (all ++ (asks, batch_outcome outcome answers) ∷ []) after)
 told_several None before after all asks left answers outcome so_far did none = tt
 told_several (Some seat) before after all asks left answers outcome so_far did none =
     one_more seat before after all (asks, batch_outcome outcome answers) so_far (several_moved before after asks left answers outcome did none)
-
-pub told_nothing : (first : Option Caller) (seat : Caller) → first ≡ Some seat → IfSome first (λ s. HasPut s [] seat)
-told_nothing first seat is = subst (λ (o : Option Caller). IfSome o (λ s. HasPut s [] seat)) (sym is) (put_nothing seat)

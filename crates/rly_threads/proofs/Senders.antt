@@ -1,8 +1,8 @@
 -- A sending worker within a turn.
-use Rattle.std.proofs.Common.{◌≡◌, ◌∙◌, ◌<◌, ◌≤◌, ◌+◌, ◌++◌, ◌&&◌, ◌||◌, ℕ, Bool, List, [], ◌∷◌, ap, arith, false, inl, inr, length, map, not, refl, subst, suc, sym, true, zero}
+use Rattle.std.proofs.Common.{◌≡◌, ◌∙◌, ◌<◌, ◌≤◌, ◌+◌, ◌++◌, ◌&&◌, ℕ, Bool, List, [], ◌∷◌, ap, arith, false, inl, inr, length, map, refl, subst, suc, sym, true, zero}
 use Rattle.std.specs.Prelude.{◌==◌, ◌⊎◌, fold, nat_lt, take, if◌then◌else◌, Option, Some, None, Ok, Err, IfNone, IfSome}
 use Rattle.std.proofs.lemmas.Bool.Decides.{nat_tests}
-use Rattle.std.specs.List.{cons_option, filter_map, list_any, range_with_len, zip}
+use Rattle.std.specs.List.{cons_option, filter_map, range_with_len, zip}
 use Rattle.std.proofs.lemmas.List.{append-nil, append_assoc, length-append, map-append, take_all}
 use Rattle.std.proofs.lemmas.List.Elements.{filter_map-append}
 use Rattle.std.proofs.lemmas.Option.{none-some}
@@ -27,9 +27,9 @@ use Rattle.rly_threads.specs.declared.turn.Worker.TheVariants as worker
 use Rattle.rly_threads.specs.Asking.{BatchOutcome, CallOutcome, call_asked}
 use Rattle.rly_threads.specs.Ends.{TellsMore, hearing}
 use Rattle.rly_threads.specs.declared.pacing.Pacing.{Pacing}
-use Rattle.rly_threads.specs.Outlet.{Outlet, call_at, call_count, calls_from, event_in, named_ask, on_told, outlet, outlet_acts, outlet_done, outlet_events, outlet_on_action, outlet_on_calls, outlet_on_packet, outlet_sent, outlet_turn, sent_on, waits_first}
+use Rattle.rly_threads.specs.Outlet.{Outlet, call_at, calls_from, event_in, named_ask, on_told, outlet, outlet_acts, outlet_done, outlet_events, outlet_on_action, outlet_on_calls, outlet_on_packet, outlet_sent, outlet_turn, sent_on, waits_first}
 use Rattle.rly_threads.specs.Pacing.{first_pacing, on_moment, send_room}
-use Rattle.rly_threads.specs.HelpersTurns.{Did, HasHeard, HasNumbers, HasTold, IsCall, call_event}
+use Rattle.rly_threads.specs.HelpersTurns.{Did, HasHeard, HasTold, IsCall, call_event}
 use Rattle.rly_threads.specs.Runs.{EndsView, Ran}
 use Rattle.rly_threads.specs.Turns.{Given, Made, around_call, done_in, hearings_from, receives_of}
 use Rattle.rly_threads.proofs.Grown.{did_ask, did_hear, tells_more, tells_nothing}
@@ -99,10 +99,6 @@ pub record Telling (first : OutAction (List ℕ)) (in_contact : Bool) (at : ℕ)
   pub count : length done ≡ place
   pub told : HasTold in_contact at old now before after (outlet_events (calls_from first place) (Ok done))
 
-pub telling_none : (first : OutAction (List ℕ)) (in_contact : Bool) (at : ℕ) (ends : EndsView) (p : Pacing) (all left : List Answer) → all ≡ left
-    → Telling first in_contact at ends ends p p all left 0
-telling_none first in_contact at ends p all left same = record { done = []; parts = same; count = refl; told = told_none in_contact at ends p }
-
 pub telling_more : (first : OutAction (List ℕ)) (in_contact : Bool) (at : ℕ) (old mid new : EndsView) (p q r : Pacing) (all left rest : List Answer) (place : ℕ)
     (answer : Answer) (e : OutEvent (List ℕ))
     → Telling first in_contact at old mid p q all left place → left ≡ answer ∷ rest → e ≡ event_in (call_at first place) answer.reply
@@ -118,13 +114,6 @@ telling_more first in_contact at old mid new p q r all left rest place answer e 
       count = omega (arith, length-append h.done (answer ∷ []), h.count);
       told = subst (HasTold in_contact at old new p r) events more;
     }
-
-pub telling_all : (first : OutAction (List ℕ)) (in_contact : Bool) (at : ℕ) (old new : EndsView) (p q : Pacing) (all left : List Answer) (place : ℕ)
-    → Telling first in_contact at old new p q all left place → left ≡ [] → place ≡ length all
-    → HasTold in_contact at old new p q (outlet_events (calls_from first (length all)) (Ok all))
-telling_all first in_contact at old new p q all left place h none end =
-    let whole : h.done ≡ all = sym (h.parts ∙ ap (λ l. h.done ++ l) none ∙ append-nil h.done) in
-    subst (HasTold in_contact at old new p q) (λ i. outlet_events (calls_from first (end i)) (Ok (whole i))) h.told
 
 -- a Release asks something, and so does a Pick
 release_asks : (w : Outlet) (now number : ℕ) (is_first : Bool) → (ask : Ask) × (named_ask w now (if is_first then action.Release number else action.Pick) ≡ Some ask)
@@ -255,30 +244,6 @@ call_asks w now named is none =
 pub several_fit : (most asks answers count : ℕ) → ((most ≡ 64) × (64 ≤ asks) × (64 ≤ answers)) ⊎ (most ≡ 1) → 1 < count → count ≤ most → (count ≤ 64) × (count ≤ answers)
 several_fit most asks answers count (inl room) several few = (omega (arith, room.0, few), omega (arith, room.0, room.2, few))
 several_fit most asks answers count (inr one) several few = absurd (omega (arith, one, several, few))
-
--- what is made at least once is a call
-pub counted_call : (most count room : ℕ) (p : Pacing) (named : OutAction (List ℕ)) → count ≡ call_count most room p named → 0 < count → IsCall named
-counted_call most count room p action.AskWindow is some = tt
-counted_call most count room p (action.Release number) is some = tt
-counted_call most count room p (action.Fetch number) is some = tt
-counted_call most count room p action.Pick is some = tt
-counted_call most count room p (action.Send m) is some = absurd (omega (arith, is, some))
-
--- several are made where several may be
-pub counted_few : (most count room : ℕ) (p : Pacing) (named : OutAction (List ℕ)) → count ≡ call_count most room p named → 1 < count → count ≤ most
-counted_few most count room p action.AskWindow is several = absurd (omega (arith, is, several))
-counted_few most count room p (action.Release number) is several = omega (arith, is)
-counted_few most count room p (action.Fetch number) is several = omega (arith, is)
-counted_few most count room p action.Pick is several = omega (arith, is)
-counted_few most count room p (action.Send m) is several = absurd (omega (arith, is, several))
-
--- fewer numbers are numbers too
-pub fewer_numbers : (named : OutAction (List ℕ)) (few many : ℕ) → HasNumbers named many → few ≤ many → HasNumbers named few
-fewer_numbers action.AskWindow few many has less = tt
-fewer_numbers (action.Release number) few many has less = tt
-fewer_numbers (action.Fetch number) few many has less = omega (arith, has, less)
-fewer_numbers action.Pick few many has less = tt
-fewer_numbers (action.Send m) few many has less = tt
 
 -- so far: these packets were heard
 pub record Hearing (waits : Bool) (old now : EndsView) (before after : Sender) (place : ℕ) : Type 0 where

@@ -1,5 +1,5 @@
 -- A packet that is no custody of what is in flight.
-use Rattle.std.proofs.Common.{◌≡◌, ◌∙◌, ◌≤◌, ◌++◌, ◌∷◌, [], ℕ, Bool, false, List, ap, length, refl, sym}
+use Rattle.std.proofs.Common.{◌≡◌, ◌∙◌, ◌≤◌, ◌++◌, ◌∷◌, [], ℕ, false, List, ap, length, refl, sym}
 use Rattle.std.specs.Prelude.{if◌then◌else◌, fold, max, Option, Some, None, take}
 use Rattle.std.specs.Option.{option_map_or}
 use Rattle.std.proofs.lemmas.List.{take_all}

@@ -44,8 +44,8 @@ abbrev pub answers_of : Asked → List Answer
 answers_of (asks, Ok answers) = answers
 answers_of (asks, Err error) = []
 
--- What a seat put is what was asked of it, but for what was handed back, each ask once, in order. What it was told of its own
--- calls are the answers to that.
+-- What a seat put is what was asked of it, but for what was handed back, each ask once, in order. What it was told of
+-- its own calls are the answers to that.
 pub record HasPut (before : Caller) (asked : List Asked) (after : Caller) : Type 0 where
   pub of : after.of ≡ before.of
   pub replies : after.replies ≡ before.replies

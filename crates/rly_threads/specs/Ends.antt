@@ -1,5 +1,6 @@
 -- What a worker's link, desk and turn tell of what they gave and were given.
-use Rattle.std.specs.Prelude.{◌≡◌, ◌⊎◌, ℕ, ◌<◌, ◌-◌, ◌^◌, Bool, List, ◌++◌, take, Option, Some, None, Result, Ok, Err, ⊤}
+use Rattle.std.specs.Prelude.{◌≡◌, ◌⊎◌, ℕ, ◌<◌, ◌-◌, ◌^◌, Bool, List, ◌++◌}
+use Rattle.std.specs.Prelude.{take, Option, Some, None, Result, Ok, Err, ⊤}
 use Rattle.rly_threads.specs.declared.link.LinkFault.{LinkFault}
 
 -- what was told grew by these; who tells nothing may tell anything later

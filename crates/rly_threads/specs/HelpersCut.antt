@@ -1,5 +1,6 @@
--- Nothing is claimed here: what a worker's turns keep of what they handed out, and what the thread of a worker gives back.
-use Rattle.std.specs.Prelude.{◌≡◌, ℕ, Bool, true, List, length, map, Option, None, Some, IfSome}
+-- Nothing is claimed here: what a worker's turns keep of what they handed out, and what
+-- the thread of a worker gives back.
+use Rattle.std.specs.Prelude.{◌≡◌, ℕ, Bool, true, List, map, Option, None, Some, IfSome}
 use Rattle.std.specs.List.{AllByRecursion, AllZip, list_all}
 use Rattle.std.specs.declared.thread.PromisedHandle.{PromisedHandle}
 use Rattle.std.specs.Option.{is_some}
@@ -55,8 +56,8 @@ pub record SeatDeskView : Type 0 where
 abbrev pub IsTelling : Option Caller → SeatDeskView → Type 0
 IsTelling first d = IfSome first (λ seat. HasPut seat d.asked d.seat)
 
--- what its crate sees of the turns of a worker that may be cut: those turns, the lock of the word, what was heard where the
--- worker was cut, and what they handed out
+-- what its crate sees of the turns of a worker that may be cut: those turns, the lock of the word, what was heard where
+-- the worker was cut, and what they handed out
 pub record CutView (T : Type 0) : Type 0 where
   pub turn : T
   pub lock : ℕ
@@ -64,8 +65,8 @@ pub record CutView (T : Type 0) : Type 0 where
   pub looks : List Look
 
 -- what holds of them at each moment, beside what they told at first, whether they are endless, and the lock of the word
-pub record IsCutting {T : Type 0} (told : T → Option (List Handed)) (without_end : T → Bool) (first : Option (List Handed)) (is_endless : Bool)
-    (lock : ℕ) (c : CutView T) : Type 0 where
+pub record IsCutting {T : Type 0} (told : T → Option (List Handed)) (without_end : T → Bool)
+    (first : Option (List Handed)) (is_endless : Bool) (lock : ℕ) (c : CutView T) : Type 0 where
   pub endless : without_end c.turn ≡ is_endless
   pub on : is_endless ≡ true → all_on c.looks ≡ true
   pub turns : TellsMore first (told c.turn) (map (λ l. l.handed) c.looks)
@@ -75,7 +76,8 @@ pub record IsCutting {T : Type 0} (told : T → Option (List Handed)) (without_e
   pub hears : IsHeard lock c.heard
 
 -- what the thread of a post and its seat was started for, if there is one
-abbrev pub IsFor : {L T : Type 0} → ContactPlan → ℕ → ℕ → Post L T × Caller → Option (PromisedHandle (Left L T) (Duty L T)) → Type 0
+abbrev pub IsFor : {L T : Type 0} → ContactPlan → ℕ → ℕ → Post L T × Caller
+    → Option (PromisedHandle (Left L T) (Duty L T)) → Type 0
 IsFor plan window lock given thread =
     IfSome thread (λ t. (t.promise.plan.value ≡ plan) × (t.promise.window ≡ window) × (t.promise.post.value ≡ given.0)
     × (t.promise.word.value.id ≡ lock) × (t.promise.seat.value ≡ given.1))
@@ -86,24 +88,28 @@ GivesBack Gives None result = result ≡ None
 GivesBack Gives (Some thread) None = ⊥
 GivesBack Gives (Some thread) (Some left) = Gives thread left
 
--- the thread of a worker at its end: its worker did at its post what was promised, and was cut only where that was said; and what
--- its seat put and knows stands beside the closed end of its lines
-abbrev pub IsJoined : {L T : Type 0} → (L → Option (List Hearing)) → (L → Option (List (List ℕ))) → (T → Option (List Handed))
-    → (T → Bool) → Bool → ClosedView → PromisedHandle (Left L T) (Duty L T) → Ended L T → Type 0
+-- the thread of a worker at its end: its worker did at its post what was promised, and was cut only where that was
+-- said; and what its seat put and knows stands beside the closed end of its lines
+abbrev pub IsJoined : {L T : Type 0} → (L → Option (List Hearing)) → (L → Option (List (List ℕ)))
+    → (T → Option (List Handed)) → (T → Bool) → Bool → ClosedView
+    → PromisedHandle (Left L T) (Duty L T) → Ended L T → Type 0
 IsJoined heard sent handed endless said lines thread ended =
-    HasEnded heard sent handed endless thread.promise.plan.value thread.promise.window (thread.promise.post.value, thread.promise.seat.value)
-    ended.post ended.seat.value ended.was_cut
+    HasEnded heard sent handed endless thread.promise.plan.value thread.promise.window
+    (thread.promise.post.value, thread.promise.seat.value) ended.post ended.seat.value ended.was_cut
     × (ended.was_cut ≡ true → said ≡ true) × IsToldBy lines ended.seat.value
     × IsSeatOf lines.of (names_of lines.lines) ended.seat.value
 
 -- the seats of threads are of these lines
-abbrev pub AreSeatsOf : {L T : Type 0} → LineId → List (Option ReplyId) → List (Option (PromisedHandle (Left L T) (Duty L T))) → Type 0
-AreSeatsOf of names threads = AllByRecursion (λ thread. IfSome thread (λ t. IsSeatOf of names t.promise.seat.value)) threads
+abbrev pub AreSeatsOf : {L T : Type 0} → LineId → List (Option ReplyId)
+    → List (Option (PromisedHandle (Left L T) (Duty L T))) → Type 0
+AreSeatsOf of names threads =
+    AllByRecursion (λ thread. IfSome thread (λ t. IsSeatOf of names t.promise.seat.value)) threads
 
 -- what a relay leaves of its journal and its posts, each with its seat, as `run_relay_at` says it
-pub record IsRelayed {D L T : Type 0} (state : D → DiskState) (heard : L → Option (List Hearing)) (sent : L → Option (List (List ℕ)))
-    (handed : T → Option (List Handed)) (endless : T → Bool) (plan : ContactPlan) (journal : JournalState D) (line_end : EndView)
-    (given : List (Post L T × Caller)) (relayed : Relayed D L T) : Type 0 where
+pub record IsRelayed {D L T : Type 0} (state : D → DiskState) (heard : L → Option (List Hearing))
+    (sent : L → Option (List (List ℕ))) (handed : T → Option (List Handed)) (endless : T → Bool) (plan : ContactPlan)
+    (journal : JournalState D) (line_end : EndView) (given : List (Post L T × Caller)) (relayed : Relayed D L T)
+    : Type 0 where
   pub broken : relayed.finished.broken ≡ relayed.finished.journal.broken
   pub served : IsServed state (new_flusher journal line_end) relayed.finished.last.value
   pub left : relayed.finished.last.value.journal ≡ relayed.finished.journal
@@ -111,5 +117,6 @@ pub record IsRelayed {D L T : Type 0} (state : D → DiskState) (heard : L → O
   pub worked : AllZip (HaveEnded heard sent handed endless plan journal.state.params.window) given relayed.ended.items
   pub answered : AreAnsweredBy relayed.finished.last.value.line relayed.ended.items
   pub told : relayed.is_cut ≡ is_to_end relayed.finished.broken relayed.ended.items
-  pub cut : AllByRecursion (λ ended. IfSome ended (λ worker. worker.was_cut ≡ true → relayed.is_cut ≡ true)) relayed.ended.items
+  pub cut : AllByRecursion
+      (λ ended. IfSome ended (λ worker. worker.was_cut ≡ true → relayed.is_cut ≡ true)) relayed.ended.items
   pub complete : relayed.complete ≡ list_all has_run_out relayed.ended.items

@@ -1,7 +1,7 @@
 -- Nothing is claimed here: what private functions did within a turn, and what a desk in memory replies.
-use Rattle.std.specs.Prelude.{◌≡◌, ◌⊎◌, ◌≤◌, ◌<◌, ◌+◌, ◌^◌, ◌++◌, ◌||◌, ℕ, Bool, List, [], fold, length, map, max, vec_capacity}
-use Rattle.std.specs.Prelude.{Option, Some, None, Ok, Err, ⊤}
-use Rattle.std.specs.List.{flat_map, list_any}
+use Rattle.std.specs.Prelude.{◌≡◌, ◌⊎◌, ◌≤◌, ◌<◌, ◌+◌, ◌^◌, ◌++◌, ℕ, Bool, List, [], fold, length, map, max}
+use Rattle.std.specs.Prelude.{vec_capacity, Option, Some, None, Ok, Err, ⊤}
+use Rattle.std.specs.List.{flat_map}
 use Rattle.rly_core.specs.declared.refusal.Refusal.TheVariants as refusal
 use Rattle.rly_core.specs.declared.refusal.Refusal.TheVariants.{OutOfMemory}
 use Rattle.rly_line.specs.declared.call_error.CallError.TheVariants as error
@@ -23,7 +23,8 @@ use Rattle.rly_threads.specs.declared.turn.Point.TheVariants as point
 use Rattle.rly_threads.specs.declared.turn.Worker.TheVariants as worker
 use Rattle.rly_threads.specs.Asking.{CallOutcome}
 use Rattle.rly_threads.specs.Ends.{TellsMore}
-use Rattle.rly_threads.specs.Intake.{Arrival, Intake, Told, Waiting, Wanted, answers_sent, hearings, receives, takings, waiting, wanted}
+use Rattle.rly_threads.specs.Intake.{Arrival, Intake, Told, Waiting, Wanted, answers_sent}
+use Rattle.rly_threads.specs.Intake.{hearings, receives, takings, waiting, wanted}
 use Rattle.rly_threads.specs.declared.pacing.Pacing.{Pacing}
 use Rattle.rly_threads.specs.Outlet.{event_in, on_told, outlet_on_packet, outlet_sent}
 use Rattle.rly_threads.specs.Runs.{EndsView}
@@ -69,7 +70,8 @@ pub record HasMore (old new : Takes) (more : List Wanted) : Type 0 where
   pub waits : new.waiting.items ≡ old.waiting.items ++ map waiting more
 
 -- a worker heard these packets, and then perhaps nothing, and has the Takes that they lead to
-pub record HasGathered (w : Intake) (r : Receiver) (old new : EndsView) (before after : Takes) (packets : List Arrival) (quiet : Go) : Type 0 where
+pub record HasGathered (w : Intake) (r : Receiver) (old new : EndsView) (before after : Takes) (packets : List Arrival)
+    (quiet : Go) : Type 0 where
   pub few : length packets ≤ before.most
   pub heard : TellsMore old.heard new.heard (hearings (receives before.most packets quiet))
   pub handed : TellsMore old.handed new.handed
@@ -119,7 +121,8 @@ call_event named (Err (error.Closed back)) = event.Refused refusal.Closed
 call_event named (Err error.Lost) = event.Refused refusal.Lost
 
 -- a core was told this at a moment, one after the other, and what it named then was sent
-pub record HasTold (in_contact : Bool) (at : ℕ) (old new : EndsView) (before after : Pacing) (told : List (OutEvent (List ℕ))) : Type 0 where
+pub record HasTold (in_contact : Bool) (at : ℕ) (old new : EndsView) (before after : Pacing)
+    (told : List (OutEvent (List ℕ))) : Type 0 where
   pub core : after ≡ fold (on_told in_contact at) before told
   pub sent : TellsMore old.sent new.sent (outlet_sent in_contact at before told)
   pub same : new ≡ record old { sent = new.sent }

@@ -1,6 +1,6 @@
 -- A receiving worker, turn by turn (docs/PROTOCOL.md, "The receiving core").
-use Rattle.std.specs.Prelude.{ℕ, ◌==◌, max, List, [], ◌∷◌, ◌++◌, map, take, length, nat_lt, Bool, true, false, ◌&&◌, ◌||◌}
-use Rattle.std.specs.Prelude.{if◌then◌else◌, Option, Some, None, unwrap_or, Result, Ok, Err}
+use Rattle.std.specs.Prelude.{ℕ, ◌==◌, max, List, [], ◌∷◌, ◌++◌, map, take, length, nat_lt, Bool, true, false, ◌&&◌}
+use Rattle.std.specs.Prelude.{◌||◌, if◌then◌else◌, Option, Some, None, unwrap_or, Result, Ok, Err}
 use Rattle.std.specs.List.{filter_map, flat_map, reduce, zip}
 use Rattle.byteorder.specs.Endian.{big_number}
 use Rattle.rly_core.specs.declared.ids.HopId.{HopId}
@@ -96,9 +96,9 @@ pub record Told : Type 0 where
   pub answer : Answer
   pub said : Go
 
--- What a receiving worker was given in a turn: what it was handed at its start; the packets that its link gave, in order; what
--- it was handed after the receive that gave none, if one did; what it was handed before its Takes were asked and after that;
--- and what became of them, an answer to each or why there are none.
+-- What a receiving worker was given in a turn: what it was handed at its start; the packets that its link gave, in
+-- order; what it was handed after the receive that gave none, if one did; what it was handed before its Takes were
+-- asked and after that; and what became of them, an answer to each or why there are none.
 pub record Arrivals : Type 0 where
   pub start : Go
   pub packets : List Arrival
@@ -107,8 +107,8 @@ pub record Arrivals : Type 0 where
   pub outcome : Result (List Told) BatchError
   pub after : Go
 
--- What each receive gave, and what the worker was handed after it: it asks for packets until there is none, or until it has so
--- many.
+-- What each receive gave, and what the worker was handed after it: it asks for packets until there
+-- is none, or until it has so many.
 abbrev pub receives : ℕ → List Arrival → Go → List (Option (List ℕ) × Go)
 receives most packets quiet =
     map (λ a. (Some a.packet, a.heard)) packets ++ (if nat_lt (length packets) most then (None, quiet) ∷ [] else [])
@@ -124,8 +124,8 @@ pub record Wanted : Type 0 where
   pub hop : HopId
   pub ask : Ask
 
--- The Take isn't asked where memory was refused for it: for its payload's bytes, so never for an empty one, or for the lists of
--- Takes, of which only a worker that takes one packet a turn asks for more.
+-- The Take isn't asked where memory was refused for it: for its payload's bytes, so never for an empty one, or for the
+-- lists of Takes, of which only a worker that takes one packet a turn asks for more.
 abbrev pub lacks_memory : ℕ → List ℕ → Bool → Bool
 lacks_memory most payload refused = refused && ((most == 1) || nat_lt 0 (length payload))
 
@@ -174,7 +174,8 @@ custody_in None = None
 abbrev pub refusal_packets : Option (InAction (List ℕ)) → List (List ℕ)
 refusal_packets (Some (Send (message.Custody from to last))) = []
 refusal_packets (Some (Send (message.Data from to number payload))) = packets_of (message.Data from to number payload)
-refusal_packets (Some (Send (message.Refused from to number refusal))) = packets_of (message.Refused from to number refusal)
+refusal_packets (Some (Send (message.Refused from to number refusal))) =
+    packets_of (message.Refused from to number refusal)
 refusal_packets (Some (Take number payload)) = []
 refusal_packets None = []
 
@@ -222,7 +223,8 @@ takes_done w r heard takes given =
           ++ around_takes w takes given.before given.after ++ takings w taken;
     }
 
--- One turn, after its start, of so many packets at most. Each packet is heard by a core of its own, which is as this one.
+-- One turn, after its start, of so many packets at most. Each packet is heard by a core
+-- of its own, which is as this one.
 abbrev pub intake_done : Intake → ℕ → Receiver → Arrivals → Done Receiver
 intake_done w most r given =
     let packets = take most given.packets in

@@ -1,6 +1,6 @@
 -- A sending worker, turn by turn (docs/PROTOCOL.md, "The sending core").
-use Rattle.std.specs.Prelude.{ℕ, ◌+◌, ◌-◌, ◌==◌, min, nat_lt, List, [], ◌∷◌, ◌++◌, map, take, Bool, true, false, not, ◌||◌}
-use Rattle.std.specs.Prelude.{if◌then◌else◌, fold, Option, Some, None, is_some, Ok, Err}
+use Rattle.std.specs.Prelude.{ℕ, ◌+◌, ◌-◌, ◌==◌, min, nat_lt, List, [], ◌∷◌, ◌++◌, map, take, Bool, true, false, not}
+use Rattle.std.specs.Prelude.{◌||◌, if◌then◌else◌, fold, Option, Some, None, is_some, Ok, Err}
 use Rattle.std.specs.List.{filter_map, range_with_len, zip}
 use Rattle.rly_core.specs.declared.ids.HopId.{HopId}
 use Rattle.rly_core.specs.declared.refusal.Refusal.TheVariants as refusal
@@ -45,14 +45,15 @@ outlet_on_hearing s (Some m) = (sending_step s (event.Heard m)).0
 abbrev pub outlet_on_packet : Sender → List ℕ → Sender
 outlet_on_packet s packet = outlet_on_hearing s (message_in (Some packet))
 
--- How many Picks go with the release of all up to this number: no more than may be in flight after it, and than may go out at once
--- after those in flight that are still to be sent.
+-- How many Picks go with the release of all up to this number: no more than may be in flight after it, and than may go
+-- out at once after those in flight that are still to be sent.
 abbrev pub picks_beside : ℕ → Pacing → ℕ → ℕ
-picks_beside room p number = min p.picks (min (p.core.window - (p.core.next - (number + 1))) (room - unsent p.pace p.core.next))
+picks_beside room p number =
+    min p.picks (min (p.core.window - (p.core.next - (number + 1))) (room - unsent p.pace p.core.next))
 
--- How many calls are made together where the core names this one, of so many at most, and where so many messages may go out: the
--- Fetches of what is in flight from this number on, a Release and the Picks that go with it, and as many Picks as may be in flight
--- beside what is. No more is fetched or picked than may go out at once.
+-- How many calls are made together where the core names this one, of so many at most, and where so many messages may go
+-- out: the Fetches of what is in flight from this number on, a Release and the Picks that go with it, and as many Picks
+-- as may be in flight beside what is. No more is fetched or picked than may go out at once.
 abbrev pub call_count : ℕ → ℕ → Pacing → OutAction (List ℕ) → ℕ
 call_count most room p action.AskWindow = 1
 call_count most room p (action.Release number) = min most (picks_beside room p number + 1)
@@ -60,7 +61,8 @@ call_count most room p (action.Fetch number) = min (min most room) (p.core.next 
 call_count most room p action.Pick = min (min most (min room p.picks)) (p.core.window - (p.core.next - p.core.first))
 call_count most room p (action.Send m) = 0
 
--- the one at a place among calls that are made together: the Fetch of a later number, a Pick after a Release, or the same call again
+-- the one at a place among calls that are made together: the Fetch of a later number, a Pick after
+-- a Release, or the same call again
 abbrev pub call_at : OutAction (List ℕ) → ℕ → OutAction (List ℕ)
 call_at action.AskWindow place = action.AskWindow
 call_at (action.Release number) place = if place == 0 then action.Release number else action.Pick
@@ -134,8 +136,8 @@ outlet_packets in_contact (Some (action.Fetch number)) = []
 outlet_packets in_contact (Some action.Pick) = []
 outlet_packets in_contact None = []
 
--- How many Picks may be asked together after an answer: where a datagram was picked one more, 64 at most, and where there was none or
--- a call was refused one alone.
+-- How many Picks may be asked together after an answer: where a datagram was picked one more, 64 at most, and where
+-- there was none or a call was refused one alone.
 abbrev pub picks_after : ℕ → OutEvent (List ℕ) → ℕ
 picks_after picks (event.Picked number) = min 64 (picks + 1)
 picks_after picks event.Nothing = 1
@@ -149,7 +151,8 @@ picks_after picks event.Timeout = picks
 picks_after picks (event.Heard m) = picks
 picks_after picks (event.Turn in_contact) = picks
 
--- what is sent at a moment as the core is told this: what it names, as far as a contact is open and the rate lets it out
+-- what is sent at a moment as the core is told this: what it names, as far as a contact
+-- is open and the rate lets it out
 abbrev pub sent_on : Bool → ℕ → Pacing → OutEvent (List ℕ) → List (List ℕ)
 sent_on in_contact at p told = let_out p.rate (outlet_packets in_contact (sending_step p.core told).1) at
 
@@ -166,9 +169,11 @@ on_told in_contact at p told = record {
 -- what is sent as the core is told all this, one after the other
 abbrev pub outlet_sent : Bool → ℕ → Pacing → List (OutEvent (List ℕ)) → List (List ℕ)
 outlet_sent in_contact at p [] = []
-outlet_sent in_contact at p (told ∷ others) = sent_on in_contact at p told ++ outlet_sent in_contact at (on_told in_contact at p told) others
+outlet_sent in_contact at p (told ∷ others) =
+    sent_on in_contact at p told ++ outlet_sent in_contact at (on_told in_contact at p told) others
 
--- The calls are made together. The core is told of the answers, in order, and what it names then is sent, if a contact is open by then.
+-- The calls are made together. The core is told of the answers, in order, and what it names then is
+-- sent, if a contact is open by then.
 abbrev pub outlet_on_calls : Outlet → ℕ → Made → Pacing → List (OutAction (List ℕ)) → Done Pacing
 outlet_on_calls w now made p [] = nothing_done p
 outlet_on_calls w now made p (first ∷ others) =
@@ -183,7 +188,8 @@ outlet_on_calls w now made p (first ∷ others) =
 
 abbrev pub outlet_on_action : Outlet → ℕ → ℕ → ℕ → Made → Pacing → Option (OutAction (List ℕ)) → Done Pacing
 outlet_on_action w most room now made p None = nothing_done p
-outlet_on_action w most room now made p (Some named) = outlet_on_calls w now made p (calls_from named (call_count most room p named))
+outlet_on_action w most room now made p (Some named) =
+    outlet_on_calls w now made p (calls_from named (call_count most room p named))
 
 -- whether a turn waits for its first packet: the one before moved nothing, or nothing is left to do but to hear
 abbrev pub waits_first : Bool → Sender → Bool
@@ -195,8 +201,8 @@ outlet_acts w most room p given =
     let left = sending_step p.core (event.Turn (nat_lt 0 room)) in
     outlet_on_action w most room given.heard.now given.made (record p { core = left.0; moved = false }) left.1
 
--- One turn, after its start, of so many calls at most. It hears what its link has, 64 packets at most, and goes by the moment that it
--- is handed then.
+-- One turn, after its start, of so many calls at most. It hears what its link has, 64 packets at most, and goes by
+-- the moment that it is handed then.
 abbrev pub outlet_done : Outlet → ℕ → Pacing → Given → Done Pacing
 outlet_done w most p given =
     let packets = take 64 given.packets in

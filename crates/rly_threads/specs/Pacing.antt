@@ -1,6 +1,7 @@
--- What a sending worker keeps between its turns, and what a turn makes of it before its core is asked: when the core is given a
--- Timeout, and how many messages may go out (docs/PROTOCOL.md, "The pace of a hop").
-use Rattle.std.specs.Prelude.{ℕ, min, List, [], ◌∷◌, ◌++◌, length, Bool, true, false, ◌||◌, nat_le, if◌then◌else◌, Option, Some, None, option_map}
+-- What a sending worker keeps between its turns, and what a turn makes of it before its core is asked: when the core is
+-- given a Timeout, and how many messages may go out (docs/PROTOCOL.md, "The pace of a hop").
+use Rattle.std.specs.Prelude.{ℕ, min, List, [], ◌∷◌, ◌++◌, length, Bool, true, false, nat_le}
+use Rattle.std.specs.Prelude.{if◌then◌else◌, Option, Some, None, option_map}
 use Rattle.rly_hop.specs.declared.message.Message.TheVariants as message
 use Rattle.rly_hop.specs.declared.sending.event.OutAction.{OutAction}
 use Rattle.rly_hop.specs.declared.sending.event.OutAction.TheVariants as action
@@ -9,12 +10,13 @@ use Rattle.rly_hop.specs.declared.sending.event.OutEvent.TheVariants as event
 use Rattle.rly_hop.specs.Sender.{Sender}
 use Rattle.rly_hop.specs.Sending.{sending_step, turn}
 use Rattle.rly_pace.specs.declared.rate.Bucket.{Bucket}
-use Rattle.rly_pace.specs.Pacing.{Pacer, first_pacer, is_opening, is_timeout, on_contact, on_covered, on_sent, on_time, on_window, open_room}
+use Rattle.rly_pace.specs.Pacing.{Pacer, first_pacer, is_opening, is_timeout, on_contact, on_covered}
+use Rattle.rly_pace.specs.Pacing.{on_sent, on_time, on_window, open_room}
 use Rattle.rly_pace.specs.Rates.{first_bucket, may_take, on_take, room_at}
 use Rattle.rly_threads.specs.declared.pacing.Pacing.{Pacing}
 
--- At first: one Pick may be asked, no contact is open, and the burst may go out. `resend` in milliseconds, the rate in bytes a
--- second; the longest message has 1,218 bytes.
+-- At first: one Pick may be asked, no contact is open, and the burst may go out. `resend` in milliseconds, the rate in
+-- bytes a second; the longest message has 1,218 bytes.
 abbrev pub first_pacing : Sender → ℕ → ℕ → Option ℕ → Pacing
 first_pacing core window resend rate = record {
   core = core;
@@ -59,7 +61,8 @@ abbrev pub rate_room : Option Bucket → ℕ → ℕ → ℕ
 rate_room None at room = room
 rate_room (Some b) at room = min room (room_at b at)
 
--- How many messages may go out at a moment. Where none may, the turn is given to the core as one with its contact closed.
+-- How many messages may go out at a moment. Where none may, the turn is given to the core
+-- as one with its contact closed.
 abbrev pub send_room : Pacing → ℕ → ℕ
 send_room p at = rate_room p.rate at (open_room p.pace)
 
@@ -75,7 +78,8 @@ rate_after_one (Some b) packet at = Some (on_take b (length packet) at)
 -- of the packets that are to go out at a moment those that the rate lets out, in order, and what that leaves of it
 abbrev pub let_out : Option Bucket → List (List ℕ) → ℕ → List (List ℕ)
 let_out rate [] at = []
-let_out rate (packet ∷ others) at = (if lets_out rate packet at then packet ∷ [] else []) ++ let_out (rate_after_one rate packet at) others at
+let_out rate (packet ∷ others) at =
+    (if lets_out rate packet at then packet ∷ [] else []) ++ let_out (rate_after_one rate packet at) others at
 
 abbrev pub rate_after : Option Bucket → List (List ℕ) → ℕ → Option Bucket
 rate_after rate [] at = rate

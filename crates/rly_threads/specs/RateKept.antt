@@ -1,4 +1,5 @@
--- What a sending worker's packets take of its hop's rate over a stretch of turns (docs/PROTOCOL.md, "The pace of a hop").
+-- What a sending worker's packets take of its hop's rate over a stretch of turns
+-- (docs/PROTOCOL.md, "The pace of a hop").
 use Rattle.std.specs.Prelude.{ℕ, ◌+◌, List, [], ◌∷◌, length, max, min}
 use Rattle.rly_pace.specs.Rates.{cost}
 use Rattle.rly_threads.specs.declared.pacing.Pacing.{Pacing}
@@ -10,7 +11,8 @@ abbrev pub total_cost : List (List ℕ) → ℕ
 total_cost [] = 0
 total_cost (packet ∷ others) = cost (length packet) + total_cost others
 
--- Of the moments at which the calls of these turns were answered, the earliest and the latest: packets go out at these moments.
+-- Of the moments at which the calls of these turns were answered, the earliest and the latest:
+-- packets go out at these moments.
 abbrev pub earliest : Given → List Given → ℕ
 earliest first [] = first.made.after.since
 earliest first (next ∷ later) = min first.made.after.since (earliest next later)

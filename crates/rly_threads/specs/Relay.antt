@@ -1,5 +1,6 @@
 -- A relay: its lines, and what its workers did.
-use Rattle.std.specs.Prelude.{◌≡◌, ◌⊎◌, ◌||◌, ℕ, not, Bool, false, true, List, [], length, map, Option, None, Some, IfNone, IfSome}
+use Rattle.std.specs.Prelude.{◌≡◌, ◌⊎◌, ◌||◌, ℕ, not, Bool, false, true, List, []}
+use Rattle.std.specs.Prelude.{length, map, Option, None, Some, IfNone, IfSome}
 use Rattle.std.specs.List.{AllByRecursion, list_all, zip}
 use Rattle.std.specs.Option.{is_some}
 use Rattle.rly_core.specs.declared.ids.HopId.{HopId}
@@ -27,26 +28,31 @@ use Rattle.rly_threads.specs.Turns.{Given, Handed, done_in}
 
 -- the end of a new line whose seats are answered in these lines, with room for a batch of each
 abbrev pub new_end : LineId → List (Option ReplyId) → EndView
-new_end line names = record { of = line; capacity = length names; taken = []; lines = new_tellers 0 names; over = false }
+new_end line names =
+    record { of = line; capacity = length names; taken = []; lines = new_tellers 0 names; over = false }
 
--- A receiver of a peer of the plan, from its start to its end: it waited, asked and sent as its cores and its rules of waiting
--- name for what it was given, in order, and did nothing else. It takes up to 64 packets a turn, or one where memory for the
--- lists of their Takes was refused at its start. A receiver of a peer that isn't in the plan did nothing at all.
+-- A receiver of a peer of the plan, from its start to its end: it waited, asked and sent as its cores and its
+-- rules of waiting name for what it was given, in order, and did nothing else. It takes up to 64 packets a
+-- turn, or one where memory for the lists of their Takes was refused at its start. A receiver of a peer that
+-- isn't in the plan did nothing at all.
 abbrev pub HasReceived : ContactPlan → PeerId → EndsView → EndsView → Type 0
 HasReceived plan peer old new =
-    IfNone (peer_at plan peer) (new ≡ old) × IfSome (peer_at plan peer) (λ neighbour. (most : ℕ) × ((most ≡ 64) ⊎ (most ≡ 1)) × (turns : List Arrivals)
+    IfNone (peer_at plan peer) (new ≡ old)
+    × IfSome (peer_at plan peer) (λ neighbour. (most : ℕ) × ((most ≡ 64) ⊎ (most ≡ 1)) × (turns : List Arrivals)
     × Ran old new (worker.Receiver peer)
     (done_in (intake_turn (intake plan peer) most)
     (receiver (record { 0 = plan.station }) (record { 0 = neighbour.station })) turns))
 
--- The same of a sender to a hop of the plan, which may have so many datagrams in flight, at the hop's `resend` and rate. It makes up
--- to 64 calls together, or one at a time where memory for their lists was refused at its start.
+-- The same of a sender to a hop of the plan, which may have so many datagrams in flight, at the hop's `resend` and
+-- rate. It makes up to 64 calls together, or one at a time where memory for their lists was refused at its start.
 abbrev pub HasSent : ContactPlan → ℕ → HopId → EndsView → EndsView → Type 0
 HasSent plan window hop old new =
-    IfNone (next_hop_at plan hop) (new ≡ old) × IfSome (next_hop_at plan hop) (λ neighbour. (most : ℕ) × ((most ≡ 64) ⊎ (most ≡ 1)) × (turns : List Given)
+    IfNone (next_hop_at plan hop) (new ≡ old)
+    × IfSome (next_hop_at plan hop) (λ neighbour. (most : ℕ) × ((most ≡ 64) ⊎ (most ≡ 1)) × (turns : List Given)
     × Ran old new (worker.Sender hop)
     (done_in (outlet_turn (outlet plan hop) most)
-    (first_pacing (sender (record { 0 = plan.station }) (record { 0 = neighbour.station }) window) window (resend plan hop) (rate plan hop)) turns))
+    (first_pacing (sender (record { 0 = plan.station }) (record { 0 = neighbour.station }) window) window
+    (resend plan hop) (rate plan hop)) turns))
 
 abbrev pub HasWorked : ContactPlan → ℕ → Worker → EndsView → EndsView → Type 0
 HasWorked plan window (worker.Receiver peer) old new = HasReceived plan peer old new
@@ -56,12 +62,13 @@ HasWorked plan window (worker.Sender hop) old new = HasSent plan window hop old 
 abbrev pub told_at : Option (List Hearing) → Option (List (List ℕ)) → List Asked → List Handed → EndsView
 told_at heard sent asked handed = record { heard = heard; sent = sent; asked = Some asked; handed = Some handed }
 
--- A worker at its end, its post and its seat then, and whether it was cut, beside its post and its seat before. It did what the plan says for what it was handed and answered, from
--- its start to its end, and its seat put what it asked and nothing else. What it was handed is what its turns handed out, but for
--- its end where it was cut: its turns would have had it go on. Turns without end hand out no end.
+-- A worker at its end, its post and its seat then, and whether it was cut, beside its post and its seat before. It did
+-- what the plan says for what it was handed and answered, from its start to its end, and its seat put what it asked and
+-- nothing else. What it was handed is what its turns handed out, but for its end where it was cut: its turns would have
+-- had it go on. Turns without end hand out no end.
 pub record HasEnded {L T : Type 0} (heard : L → Option (List Hearing)) (sent : L → Option (List (List ℕ)))
-    (handed : T → Option (List Handed)) (endless : T → Bool) (plan : ContactPlan) (window : ℕ) (given : Post L T × Caller)
-    (post : Post L T) (seat : Caller) (cut : Bool) : Type 0 where
+    (handed : T → Option (List Handed)) (endless : T → Bool) (plan : ContactPlan) (window : ℕ)
+    (given : Post L T × Caller) (post : Post L T) (seat : Caller) (cut : Bool) : Type 0 where
   pub worker : post.worker ≡ given.0.worker
   pub looks : List Look
   pub turns : TellsMore (handed given.0.turn) (handed post.turn) (map (λ l. l.handed) looks)
@@ -75,8 +82,8 @@ pub record HasEnded {L T : Type 0} (heard : L → Option (List Hearing)) (sent :
   pub early : cut_early looks ≡ true
 
 -- the same where it had a thread
-abbrev pub HaveEnded : {L T : Type 0} → (L → Option (List Hearing)) → (L → Option (List (List ℕ))) → (T → Option (List Handed))
-    → (T → Bool) → ContactPlan → ℕ → Post L T × Caller → Option (Ended L T) → Type 0
+abbrev pub HaveEnded : {L T : Type 0} → (L → Option (List Hearing)) → (L → Option (List (List ℕ)))
+    → (T → Option (List Handed)) → (T → Bool) → ContactPlan → ℕ → Post L T × Caller → Option (Ended L T) → Type 0
 HaveEnded heard sent handed endless plan window given ended =
     IfSome ended (λ e. HasEnded heard sent handed endless plan window given e.post e.seat.value e.was_cut)
 

@@ -1,5 +1,6 @@
 -- A worker over its turns: what it was given, and what it did.
-use Rattle.std.specs.Prelude.{ℕ, nat_lt, List, [], ◌∷◌, ◌++◌, length, map, Bool, true, false, if◌then◌else◌, Option, Some, None}
+use Rattle.std.specs.Prelude.{ℕ, nat_lt, List, [], ◌∷◌, ◌++◌, length, map, Bool, true}
+use Rattle.std.specs.Prelude.{false, if◌then◌else◌, Option, Some, None}
 use Rattle.std.specs.Result.{result_ok}
 use Rattle.rly_core.specs.declared.ids.HopId.{HopId}
 use Rattle.rly_core.specs.declared.refusal.Refusal.{Refusal}
@@ -17,15 +18,15 @@ use Rattle.rly_threads.specs.Ends.{Hearing, hearing}
 abbrev pub Handed : Type 0
 Handed = Worker × Point × Go
 
--- what became of the calls that a sending worker made together in a turn, if it made any, and what it was handed before them
--- and after them
+-- what became of the calls that a sending worker made together in a turn, if it made any, and what it was
+-- handed before them and after them
 pub record Made : Type 0 where
   pub outcome : BatchOutcome
   pub before : Go
   pub after : Go
 
--- what a sending worker was given in a turn: what it was handed at its start, the packets that its link gave, in order, what it
--- was handed after its receives, which is the turn's moment, and what became of its calls
+-- what a sending worker was given in a turn: what it was handed at its start, the packets that its link gave, in order,
+-- what it was handed after its receives, which is the turn's moment, and what became of its calls
 pub record Given : Type 0 where
   pub start : Go
   pub packets : List (List ℕ)

@@ -78,7 +78,8 @@ impl<'a, T: Turn, W: Whose> Model for CutTurn<'a, T, W> {
 
     ghost view = { λ c. record { turn = c.turn; lock = c.word.now.id; heard = c.heard; looks = looks_in c.looks } };
 
-    ghost invariant = { λ c. IsCutting T.told T.endless W.first W.endless W.lock (record { turn = c.turn; lock = c.word.now.id; heard = c.heard; looks = looks_in c.looks }) };
+    ghost invariant = { λ c. IsCutting T.told T.endless W.first W.endless W.lock
+        (record { turn = c.turn; lock = c.word.now.id; heard = c.heard; looks = looks_in c.looks }) };
 }
 
 impl<'a, T: Turn + Drop, W: Whose> CutTurn<'a, T, W> {

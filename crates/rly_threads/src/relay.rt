@@ -99,7 +99,8 @@ pub fn run_relay<
     ensures answered { IfOk result (λ relayed. AreAnsweredBy relayed.finished.last.value.line relayed.ended.items) }
     // The workers are told to end exactly where the journal broke or one of them had no thread, and none is cut elsewhere.
     ensures told { IfOk result (λ relayed. relayed.is_cut ≡ is_to_end relayed.finished.broken relayed.ended.items) }
-    ensures cut { IfOk result (λ relayed. AllByRecursion (λ ended. IfSome ended (λ worker. worker.was_cut ≡ true → relayed.is_cut ≡ true)) relayed.ended.items) }
+    ensures cut { IfOk result (λ relayed. AllByRecursion
+        (λ ended. IfSome ended (λ worker. worker.was_cut ≡ true → relayed.is_cut ≡ true)) relayed.ended.items) }
     ensures complete { IfOk result (λ relayed. relayed.complete ≡ list_all has_run_out relayed.ended.items) }
     ensures later { IfOk result (λ relayed. Later (D.state journal.disk) (D.state relayed.finished.journal.disk)) }
     ensures refused { IfErr result (λ back. back ≡ journal) }
@@ -146,7 +147,8 @@ pub fn run_relay_at<
         (zip posts.items seats.items) relayed.ended.items) }
     ensures answered { IfOk result (λ relayed. AreAnsweredBy relayed.finished.last.value.line relayed.ended.items) }
     ensures told { IfOk result (λ relayed. relayed.is_cut ≡ is_to_end relayed.finished.broken relayed.ended.items) }
-    ensures cut { IfOk result (λ relayed. AllByRecursion (λ ended. IfSome ended (λ worker. worker.was_cut ≡ true → relayed.is_cut ≡ true)) relayed.ended.items) }
+    ensures cut { IfOk result (λ relayed. AllByRecursion
+        (λ ended. IfSome ended (λ worker. worker.was_cut ≡ true → relayed.is_cut ≡ true)) relayed.ended.items) }
     ensures complete { IfOk result (λ relayed. relayed.complete ≡ list_all has_run_out relayed.ended.items) }
     ensures later { IfOk result (λ relayed. Later (D.state journal.disk) (D.state relayed.finished.journal.disk)) }
     ensures refused { IfErr result (λ back. back ≡ journal) }
@@ -158,7 +160,9 @@ pub fn run_relay_at<
             requires each { length seats.items ≡ length posts.items }
             requires seats { AllByRecursion (IsSeatOf line_end.of (names_of line_end.lines)) seats.items }
             requires new { line_end ≡ record line_end { taken = []; lines = new_tellers 0 (names_of line_end.lines) } }
-            ensures done { IfOk result (λ relayed. IsRelayed D.state L.heard L.sent T.told T.endless plan.entry.now journal line_end (zip posts.items seats.items) relayed) }
+            ensures done { IfOk result
+                (λ relayed. IsRelayed D.state L.heard L.sent T.told T.endless plan.entry.now journal line_end
+                (zip posts.items seats.items) relayed) }
             ensures refused { IfErr result (λ back. back ≡ journal) }
         {
             relay_in(

@@ -74,7 +74,9 @@ pub fn sender_run<R: Wait, L: Link, K: Desk, T: Turn>(
 pub fn law_turns_keep_the_rate()
     ensures { (plan : ContactPlan) (hop : AHop) (most window bytes : ℕ) (core : Sender) (before : List Given) (first : Given) (later : List Given) →
         rate plan hop ≡ Some bytes →
-        total_cost (sent_in (outlet plan hop) most (left_by (outlet plan hop) most (first_pacing core window (resend plan hop) (rate plan hop)) before) (first ∷ later))
+        total_cost (sent_in (outlet plan hop) most
+        (left_by (outlet plan hop) most (first_pacing core window (resend plan hop) (rate plan hop)) before)
+        (first ∷ later))
         ≤ burst (first_bucket bytes 1218 0) + bytes * (latest first later - earliest first later) }
 {}
 

@@ -35,7 +35,7 @@ use Rattle.rly_world.proofs.PairCoreSteps.{IsSafe, IsSafeAsk, IsSafeEvent, IsSaf
 use Rattle.rly_world.proofs.PairCoreSteps.{event_later, hears_safely, numbers_in, safe_later}
 use Rattle.rly_world.proofs.PairCoreSteps.{sends_safely, take_number, waiting}
 use Rattle.rly_world.proofs.PairLists.{all_append, all_get, all_weaker, prefix_all}
-use Rattle.rly_world.proofs.PairLower.{IsLower, calls_of, answer_told, idle, kept_by, lower_crashed, lower_later}
+use Rattle.rly_world.proofs.PairLower.{IsLower, answer_told, idle, kept_by, lower_crashed, lower_later}
 use Rattle.rly_world.proofs.PairLower.{lower_made, lower_served, lower_told, new_cores, numbers_at, pending_at}
 use Rattle.rly_world.proofs.PairLower as low
 use Rattle.rly_world.proofs.PairRuns.{flows_from_new}

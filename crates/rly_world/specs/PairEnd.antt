@@ -46,8 +46,8 @@ pub data Outcome : Type 0 where
   Done : Outcome
   -- the device fails: it is answered 12, and its command stands or not
   Unsure : (stands : Bool) → Outcome
-  -- the journal is broken, a read fails, or memory is refused to an ask that may want it: it is answered 11, 13 or 14, and
-  -- isn't made
+  -- the journal is broken, a read fails, or memory is refused to an ask that may want it: it is
+  -- answered 11, 13 or 14, and isn't made
   Broken : Outcome
   DeviceRead : Outcome
   OutOfMemory : Outcome

@@ -1,8 +1,8 @@
 -- Two relays whose workers wait for each answer: a core gets no other event while a call of its end waits.
 use Rattle.std.specs.Prelude.{ℕ, ◌+◌, nat_lt, Bool, false, if◌then◌else◌, List, [], ◌∷◌, length}
 use Rattle.rly_world.specs.PairEnd.{End}
-use Rattle.rly_world.specs.PairWorld.{PairEvent, PairWorld, pair_step, Turns, Timeout, FetchesAhead, PicksAhead, UpperHears}
-use Rattle.rly_world.specs.PairWorld.{LowerHears, UpperMakes, LowerMakes, UpperAnswers, LowerAnswers}
+use Rattle.rly_world.specs.PairWorld.{PairEvent, PairWorld, pair_step, Turns, Timeout, FetchesAhead, PicksAhead}
+use Rattle.rly_world.specs.PairWorld.{UpperHears, LowerHears, UpperMakes, LowerMakes, UpperAnswers, LowerAnswers}
 use Rattle.rly_world.specs.PairWorld.{UpperServes, LowerServes, UpperCrashes, LowerCrashes}
 
 -- how many calls wait at an end, made or not

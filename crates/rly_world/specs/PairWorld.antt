@@ -78,8 +78,8 @@ pub data PairEvent : Type 0 where
   Timeout : PairEvent
   -- a payload that the sending core hasn't asked for yet is fetched for it, as where a window is asked for at once
   FetchesAhead : (number : ℕ) → PairEvent
-  -- a datagram is picked for the sending core before it asks for one, at this moment of the hop's link clock, as where Picks are
-  -- asked together, and beside a Release
+  -- a datagram is picked for the sending core before it asks for one, at this moment of the hop's link clock, as where
+  -- Picks are asked together, and beside a Release
   PicksAhead : (moment : ℕ) → PairEvent
   -- the packet at this place arrives at the upper; or at the lower, where it is given to this core, which takes it for
   -- this hop with this stamp
@@ -148,8 +148,8 @@ lower_answers w is_sent (r ∷ rest) =
     r.call.core is_sent r (slice_get w.receivers r.call.core)
 
 -- what an event makes of two relays. One that has no place changes nothing: where nothing waits, where a packet was
--- never sent, where a device that failed would work, where memory would be refused that isn't wanted, where a crash would
--- take what was told, or where another caller would make a core's call.
+-- never sent, where a device that failed would work, where memory would be refused that isn't wanted, where a crash
+-- would take what was told, or where another caller would make a core's call.
 abbrev pub pair_step : PairWorld → PairEvent → PairWorld
 pair_step w (Turns is_open moment) = with_sender w moment true (sending_step w.sender (out_event.Turn is_open))
 pair_step w Timeout = with_sender w 0 true (sending_step w.sender out_event.Timeout)

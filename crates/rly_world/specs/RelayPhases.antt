@@ -24,7 +24,8 @@ place_of Gate x = gate_of x
 abbrev pub next_head : Standing → State Stored → List ℕ
 next_head x copy = head_spelled stored_length stored_form (x.generation + 1) copy ++ 0 ∷ []
 
--- what stands in its range when it ends: a closed gate; the next head; an open gate; the frame of the commands; an open gate
+-- what stands in its range when it ends: a closed gate; the next head; an open gate; the
+-- frame of the commands; an open gate
 abbrev pub bytes_of : Phase → Standing → Commands → List ℕ
 bytes_of (Seal segment copy) x commands = 0 ∷ []
 bytes_of (Head segment copy) x commands = next_head x copy

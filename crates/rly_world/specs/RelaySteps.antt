@@ -42,7 +42,8 @@ pub data Event : Type 0 where
   Crash : (image : List ℕ) → Event
   -- it is opened, and finds this state
   Opening : (s : State (List ℕ)) → Event
-  -- an opening fails: at its sync; or at a later call or for memory, which each of these devices wants (`HasNewestHead`)
+  -- an opening fails: at its sync; or at a later call or for memory, which each of these
+  -- devices wants (`HasNewestHead`)
   FailedOpening : (synced : Bool) → Event
 
 -- ---- seats

@@ -46,8 +46,8 @@ asked_of device (FailedWrite place bytes left) =
 asked_of device FailedSync = record device { since = device.since ++ FailedSync ∷ [] }
 
 -- the phases of a round: a segment is opened by closing its gate, writing a head after it, which holds a copy of the
--- state with each payload inline or by place, and opening the gate; the commands are appended by writing a body after the
--- next gate and opening that
+-- state with each payload inline or by place, and opening the gate; the commands are appended by writing a body
+-- after the next gate and opening that
 pub data Phase : Type 0 where
   Seal : (segment : ℕ) (copy : State Stored) → Phase
   Head : (segment : ℕ) (copy : State Stored) → Phase

@@ -1,4 +1,4 @@
-use Rattle.std.proofs.Common.{◌+◌, ◌≤◌, arith, length, sym, ap, ◌∙◌, ℕ, ◌≡◌}
+use Rattle.std.proofs.Common.{◌+◌, ◌≤◌, arith, length}
 use Rattle.rly_checkpoint.specs.Checkpoint.{state_spelled}
 use Rattle.rly_checkpoint.specs.Stored.{stored_form, stored_length}
 use Rattle.rly_moving.proofs.Moves.{settled_elsewhere, settled_here, settled_live}

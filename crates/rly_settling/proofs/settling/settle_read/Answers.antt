@@ -1,4 +1,4 @@
-use Rattle.std.proofs.Common.{ℕ, ◌+◌, ◌≤◌, arith, length, ap, ◌∙◌}
+use Rattle.std.proofs.Common.{ℕ, arith, length, ap, ◌∙◌}
 use Rattle.rly_machine.specs.State.{State}
 use Rattle.rly_checkpoint.specs.Checkpoint.{state_spelled}
 use Rattle.rly_checkpoint.specs.Stored.{stored_form, stored_length}

@@ -1,5 +1,4 @@
-use Rattle.std.proofs.Common.{rules, ◌≡◌, ◌∷◌, OnErr}
-use Rattle.rly_text.specs.Grammar.{CarriesBytes, take_in, words_of}
+use Rattle.std.proofs.Common.{rules}
 use Rattle.rly_text.proofs.Payloads.{take_carries}
 use Rattle.rly_text.proofs.grammar.take_ask.Goals as goal
 

@@ -1,4 +1,4 @@
-use Rattle.std.proofs.Common.{◌≡◌, ◌∙◌, List, Option, ap, length, rules, subst, sym, IfOk}
+use Rattle.std.proofs.Common.{◌≡◌, ◌∙◌, List, Option, ap, length, rules, subst, sym}
 use Rattle.std.specs.List.{AllByRecursion, AllZip, zip}
 use Rattle.rly_flush.specs.Flushing.{IsServed, new_flusher}
 use Rattle.rly_line.specs.EndViews.{names_of}
@@ -6,7 +6,7 @@ use Rattle.rly_line.specs.Replies.{ReplyId}
 use Rattle.rly_line.specs.Responding.{IsSeatOf}
 use Rattle.rly_line.specs.Submission.{LineId}
 use Rattle.rly_line.proofs.Closing.{as_many_names, seats_of}
-use Rattle.rly_line.proofs.Making.{callers_count, names_again}
+use Rattle.rly_line.proofs.Making.{callers_count}
 use Rattle.rly_threads.specs.Relay.{HaveEnded, new_end, seated}
 use Rattle.rly_threads.proofs.Kept.{if_both, if_ok}
 use Rattle.rly_threads.proofs.relay.run_relay.Goals as goal

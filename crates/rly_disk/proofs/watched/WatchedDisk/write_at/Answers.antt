@@ -1,4 +1,4 @@
-use Rattle.std.proofs.Common.{◌∷◌, [], length, refl, rules, subst, sym}
+use Rattle.std.proofs.Common.{◌∷◌, [], refl, rules, subst, sym}
 use Rattle.std.specs.Prelude.{is_ok}
 use Rattle.rly_disk.specs.Trace.{Makes, Write}
 use Rattle.rly_disk.proofs.Watching.{watched_tells}

@@ -1,4 +1,4 @@
-use Rattle.std.proofs.Common.{arith, refl}
+use Rattle.std.proofs.Common.{arith}
 use Rattle.rly_hop.proofs.Messages.{length-spelling_data, spelling-within}
 use Rattle.rly_hop.proofs.laws.messages.law_longest_message.Goals as goal
 

@@ -1,8 +1,8 @@
-use Rattle.std.proofs.Common.{◌≡◌, ◌∙◌, ◌∷◌, [], ap, drop, subst, take}
+use Rattle.std.proofs.Common.{◌∙◌, ap, subst}
 use Rattle.rly_hop.specs.Payloads.{message_bytes}
 use Rattle.rly_threads.specs.Ends.{TellsMore}
 use Rattle.rly_threads.specs.Pacing.{let_out, rate_after}
-use Rattle.rly_threads.specs.Turns.{has_some, packets_of}
+use Rattle.rly_threads.specs.Turns.{has_some}
 use Rattle.rly_threads.proofs.Grown.{tells_nothing}
 use Rattle.rly_threads.proofs.Packets.{no_packet, written_packet}
 use Rattle.rly_threads.proofs.ends.Ends.send_at.Goals as goal

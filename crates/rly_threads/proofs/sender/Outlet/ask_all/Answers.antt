@@ -1,4 +1,4 @@
-use Rattle.std.proofs.Common.{◌≡◌, ◌<◌, ◌∙◌, ◌∷◌, [], ap, arith, false, length, refl, subst, sym, vec_capacity}
+use Rattle.std.proofs.Common.{◌≡◌, ◌<◌, ◌∙◌, ◌∷◌, [], ap, arith, length, subst, sym, vec_capacity}
 use Rattle.std.specs.Prelude.{OnOk}
 use Rattle.rly_hop.specs.Payloads.{out_action_bytes, out_event_bytes}
 use Rattle.rly_threads.specs.Asking.{batch_outcome}

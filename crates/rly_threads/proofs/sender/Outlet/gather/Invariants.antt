@@ -1,4 +1,4 @@
-use Rattle.std.proofs.Common.{◌≡◌, ◌&&◌, not}
+use Rattle.std.proofs.Common.{◌≡◌, ◌&&◌}
 use Rattle.std.specs.Prelude.{◌==◌}
 use Rattle.rly_threads.specs.Outlet.{waits_first}
 use Rattle.rly_threads.proofs.Senders.{Hearing}
