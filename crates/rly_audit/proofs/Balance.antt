@@ -9,7 +9,7 @@ use Rattle.rly_machine.specs.State.{HopState, State}
 use Rattle.rly_audit.specs.Report.{balances, books_of, hop_balances}
 
 hop_balance : (params : Params) (seq : ℕ) (h : HopState (List ℕ)) → IsSoundHop length params seq h → hop_balances (status_of h) ≡ true
-hop_balance params seq h sound = eq-eqb h.taken (length h.queue + length h.flight + h.dropped + h.released) sound.balance
+hop_balance params seq h sound = eq-eqb h.taken (length h.queue + length h.flight + h.dropped + h.expired + h.released) sound.balance
 
 hops_balance : (params : Params) (seq : ℕ) (hops : List (HopState (List ℕ))) → All (IsSoundHop length params seq) hops → list_all hop_balances (map status_of hops) ≡ true
 hops_balance params seq [] sound = refl

@@ -1,6 +1,7 @@
 -- The report on a state (docs/COMMANDS.md, "rly audit"): a line for each hop, then one for each peer, then the count of
 -- accepted commands, and, where the books balance, that they do.
-use Rattle.std.specs.Prelude.{ℕ, ◌+◌, ◌==◌, Bool, true, false, ◌&&◌, List, [], ◌∷◌, ◌++◌, codes, map, sum, sum_by}
+use Rattle.std.specs.Prelude.{ℕ, ◌+◌, ◌==◌, nat_lt, if◌then◌else◌, Bool, true, false, ◌&&◌, List, [], ◌∷◌, ◌++◌, codes}
+use Rattle.std.specs.Prelude.{map, sum, sum_by}
 use Rattle.std.specs.Fmt.{decimal}
 use Rattle.std.specs.List.{enumerate_from, flat_map, list_all}
 use Rattle.rly_machine.specs.declared.reply.HopStatus.{HopStatus}
@@ -27,9 +28,13 @@ counts_text h =
     ++ codes " dropped " ++ decimal h.dropped
     ++ codes " released " ++ decimal h.released
 
--- hop H taken A queued B flight C dropped D released E
+-- how many expired, where any did
+unfoldable pub expired_text : ℕ → List ℕ
+expired_text count = if nat_lt 0 count then codes " expired " ++ decimal count else []
+
+-- hop H taken A queued B flight C dropped D released E, and at its end how many expired
 abbrev pub hop_line : ℕ × HopStatus → List ℕ
-hop_line (number, h) = codes "hop " ++ decimal number ++ counts_text h ++ 10 ∷ []
+hop_line (number, h) = codes "hop " ++ decimal number ++ counts_text h ++ expired_text h.expired ++ 10 ∷ []
 
 -- peer P last N
 abbrev pub peer_line : ℕ × ℕ → List ℕ
@@ -39,9 +44,9 @@ peer_line (number, last) = codes "peer " ++ decimal number ++ codes " last " ++ 
 abbrev pub seq_line : ℕ → List ℕ
 seq_line seq = codes "seq " ++ decimal seq ++ 10 ∷ []
 
--- what a hop took waits, is in flight, was dropped or was released
+-- what a hop took waits, is in flight, was dropped, expired or was released
 abbrev pub hop_balances : HopStatus → Bool
-hop_balances h = h.taken == h.queued + h.flight + h.dropped + h.released
+hop_balances h = h.taken == h.queued + h.flight + h.dropped + h.expired + h.released
 
 -- each hop's books balance, and what the peers' numbers count is what the hops took
 unfoldable pub balances : BooksState → Bool

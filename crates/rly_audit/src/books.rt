@@ -115,7 +115,9 @@ fn write_hops(text: &mut String, hops: &[HopStatus]) -> Result<(), AllocError>
 fn write_hop(text: &mut String, number: u64, status: &HopStatus) -> Result<(), AllocError>
     ensures { OnOk result (string_bytes text.new ≡ string_bytes text.old ++ hop_line (number, status.now)) }
 {
-    writeln!(text, "hop {number}{}", HopCounts { status })?;
+    let (counts, count) = (HopCounts { status }, status.expired);
+    let expired = Expired { count };
+    writeln!(text, "hop {number}{counts}{expired}")?;
     Ok(())
 }
 
@@ -139,20 +141,21 @@ fn write_peer(text: &mut String, number: u64, last: u64) -> Result<(), AllocErro
     Ok(())
 }
 
-/// Whether what each hop took waits, is in flight, was dropped or was released.
+/// Whether what each hop took waits, is in flight, was dropped, expired or was released.
 fn each_hop_balances(hops: &[HopStatus]) -> bool
     ensures { result ≡ list_all hop_balances hops.now }
 {
     hops.iter().all(hop_is_balanced)
 }
 
-/// Whether what a hop took waits, is in flight, was dropped or was released.
+/// Whether what a hop took waits, is in flight, was dropped, expired or was released.
 fn hop_is_balanced(status: &HopStatus) -> bool
     ensures { result ≡ hop_balances status.now }
 {
     let accounted = u128::from(status.queued)
         + u128::from(status.flight)
         + u128::from(status.dropped)
+        + u128::from(status.expired)
         + u128::from(status.released);
     u128::from(status.taken) == accounted
 }
@@ -179,7 +182,7 @@ fn total(numbers: &[u64]) -> u128
     total
 }
 
-/// What became of a hop's datagrams. It displays as their counts, each after its name.
+/// What became of a hop's datagrams, but for those that expired. It displays as their counts, each after its name.
 #[derive(Drop)]
 pub struct HopCounts<'a> {
     /// All numbers of the hop.
@@ -204,5 +207,28 @@ impl fmt::Display for HopCounts<'_> {
         } = *self.status;
         write!(f, " taken {taken} queued {queued} flight {flight}")?;
         write!(f, " dropped {dropped} released {released}")
+    }
+}
+
+/// How many of a hop's datagrams expired. It displays as their count after its name, where any did.
+#[derive(Drop)]
+pub struct Expired {
+    /// How many.
+    pub count: u64,
+}
+
+impl fmt::Display for Expired {
+    ghost use Rattle.std.specs.Prelude.{Some};
+    ghost use Rattle.rly_audit.specs.Report.{expired_text};
+
+    ghost output = { λ expired. Some (expired_text expired.count) };
+
+    #[tactic(auto, unfolding(crate::specs::Report::expired_text))]
+    fn fmt<W: fmt::Write>(&self, f: &mut fmt::Formatter<W>) -> fmt::Result {
+        let count = self.count;
+        if count == 0 {
+            return Ok(());
+        }
+        write!(f, " expired {count}")
     }
 }

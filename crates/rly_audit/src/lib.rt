@@ -11,5 +11,5 @@ mod books;
 mod fault;
 
 pub use crate::auditing::audit;
-pub use crate::books::HopCounts;
+pub use crate::books::{Expired, HopCounts};
 pub use crate::fault::AuditFault;

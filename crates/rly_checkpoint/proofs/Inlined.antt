@@ -10,6 +10,7 @@ use Rattle.rly_machine.specs.State.{State, HopState, live_line}
 use Rattle.rly_machine.proofs.Lifting.{state_twice}
 use Rattle.rly_checkpoint.specs.Checkpoint.{checkpoint_of, codel_of, entry_spelled, hop_spelled, inline_form, state_spelled}
 use Rattle.rly_checkpoint.specs.Stored.{payload_in, state_in, stored_form, stored_length}
+use Rattle.rly_checkpoint.specs.declared.head_form.HeadForm.TheVariants.{Second}
 use Rattle.rly_checkpoint.specs.declared.stored.Stored.{Stored}
 use Rattle.rly_checkpoint.specs.declared.stored.Stored.TheVariants.{Inline}
 
@@ -27,7 +28,7 @@ hop_inline : (h : HopState (List ℕ))
 unfolding hop_spelled
 hop_inline h =
     let text : ℕ → ℕ → List ℕ → List ℕ = λ flight queue entries.
-    big_bytes 8 h.moment ++ codel_of h.codel ++ big_bytes 8 h.taken ++ big_bytes 8 h.dropped ++ big_bytes 8 h.released ++ big_bytes 2 flight ++ big_bytes 4 queue ++ entries in
+    big_bytes 7 h.moment ++ codel_of Second h.codel ++ big_bytes 6 h.taken ++ big_bytes 6 h.dropped ++ big_bytes 6 h.released ++ big_bytes 6 h.expired ++ big_bytes 2 flight ++ big_bytes 4 queue ++ entries in
     let spell : List (Item Stored) → List ℕ = flat_map (entry_spelled stored_length stored_form) in
     ap (λ (n : ℕ). text n (length (map (map_item Inline) h.queue)) (spell (map (map_item Inline) h.flight ++ map (map_item Inline) h.queue))) (length-map h.flight (map_item Inline))
     ∙ ap (λ (n : ℕ). text (length h.flight) n (spell (map (map_item Inline) h.flight ++ map (map_item Inline) h.queue))) (length-map h.queue (map_item Inline))

@@ -7,3 +7,4 @@ pub mod Restored
 pub mod Totals
 pub mod StoredForms
 pub mod Inlined
+pub mod OfForm

@@ -31,7 +31,7 @@ row_there len moment seq id stamp (item ∷ items) row =
     record {
       behind = All-cons (IsBehind id stamp) item items (record { id_rises = follows.later; stamp_stays = follows.not_before })
           (All-weaker (IsBehind item.id item.stamp) (IsBehind id stamp) (λ x b. record { id_rises = omega (arith, follows.later, b.id_rises); stamp_stays = omega (arith, follows.not_before, b.stamp_stays) }) items rest.behind);
-      live = All-cons (IsLive len moment seq) item items (record { first = omega (arith, follows.later); last = follows.last; stamp = follows.not_after; length = follows.short }) rest.live;
+      live = All-cons (IsLive len moment seq) item items (record { first = omega (arith, follows.later); last = follows.last; stamp = follows.not_after; limit = follows.limit; length = follows.short }) rest.live;
       order = AllPairs-cons ComesBefore item items (All-weaker (IsBehind item.id item.stamp) (ComesBefore item) (λ x b. record { id = b.id_rises; stamp = b.stamp_stays }) items rest.behind) rest.order;
     }
 
@@ -44,7 +44,7 @@ row_back len moment seq id stamp (item ∷ items) behind live order =
     let later : All (IsBehind item.id item.stamp) items = λ k d lt.
     let pair : ComesBefore item (get_or items k d) = order 0 (suc k) d (omega arith) (omega (arith, lt)) in
     record { id_rises = pair.id; stamp_stays = pair.stamp } in (
-      record { later = b.id_rises; last = l.last; not_before = b.stamp_stays; not_after = l.stamp; short = l.length },
+      record { later = b.id_rises; last = l.last; not_before = b.stamp_stays; not_after = l.stamp; limit = l.limit; short = l.length },
       row_back len moment seq item.id item.stamp items later (All-tail (IsLive len moment seq) item items live) (λ i j d less short. order (suc i) (suc j) d (omega (arith, less)) (omega (arith, short))),
     )
 

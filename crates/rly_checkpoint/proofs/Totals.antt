@@ -32,7 +32,7 @@ bytes_below {P} len moment seq items live = sum_below (λ (item : Item P). len i
 
 -- a hop is sound where its numbers are, and its items stand in a row
 pub hop_is : {P : Type 0} (len : P → ℕ) (params : Params) (seq : ℕ) (h : HopState P) (row : Bool)
-    → h.taken ≡ length h.queue + length h.flight + h.dropped + h.released → h.taken ≤ seq → h.moment < 2 ^ 52 → length h.flight ≤ params.window
+    → h.taken ≡ length h.queue + length h.flight + h.dropped + h.expired + h.released → h.taken ≤ seq → h.moment < 2 ^ 52 → length h.flight ≤ params.window
     → (h.codel.first_above_time ≤ h.moment + params.interval) × (h.codel.drop_next ≤ h.moment + params.interval) × (h.codel.lastcount ≤ h.codel.count) × (h.codel.count ≤ h.dropped)
     → ((row ≡ true) ↔ IsRow len h.moment seq 0 0 (live_line h)) → (row ≡ true) ↔ IsSoundHop len params seq h
 hop_is len params seq h row balance taken moment window codel test = (

@@ -1,5 +1,5 @@
 -- Helpers: a hop's live datagrams, looked at from left to right. Nothing here is claimed.
-use Rattle.std.specs.Prelude.{ℕ, ◌<◌, ◌≤◌, List, [], ◌∷◌}
+use Rattle.std.specs.Prelude.{ℕ, ◌<◌, ◌≤◌, ◌^◌, List, [], ◌∷◌}
 use Rattle.rly_machine.specs.declared.hop.Item.{Item}
 
 -- an item may stand after one with that id and stamp, in a hop whose last moment is given and a spool that accepted so
@@ -9,6 +9,7 @@ pub record Follows {P : Type 0} (len : P → ℕ) (moment seq id stamp : ℕ) (i
   pub last : item.id ≤ seq
   pub not_before : stamp ≤ item.stamp
   pub not_after : item.stamp ≤ moment
+  pub limit : item.limit < 2 ^ 40
   pub short : len item.payload ≤ 1200
 
 -- each item follows the one before it, and the first one that id and stamp

@@ -2,6 +2,8 @@
 use Rattle.std.specs.Prelude.{ℕ, ◌==◌, if◌then◌else◌, [], ◌∷◌, Some, None}
 use Rattle.rly_record.specs.HelpersReading.{◌>>=◌, Reader, field_at}
 use Rattle.rly_checkpoint.specs.HelpersReading.{inline_at}
+use Rattle.rly_checkpoint.specs.Widths.{place_width}
+use Rattle.rly_checkpoint.specs.declared.head_form.HeadForm.{HeadForm}
 use Rattle.rly_checkpoint.specs.declared.stored.Stored.{Stored}
 use Rattle.rly_checkpoint.specs.declared.stored.Stored.TheVariants.{Inline, Placed}
 
@@ -12,13 +14,14 @@ inlined_at size bytes = do
   Some (Inline payload.0, payload.1)
 
 -- the place of a payload that has bytes, after the byte 1
-unfoldable pub placed_at : ℕ → Reader Stored
-placed_at size bytes =
+unfoldable pub placed_at : HeadForm → ℕ → Reader Stored
+placed_at which size bytes =
     if size == 0 then None else do
-      start ← field_at 8 bytes
+      start ← field_at (place_width which) bytes
       Some (Placed (record { start = start.0; length = size }), start.1)
 
 -- either, as the form says
-unfoldable pub stored_at : ℕ → Reader Stored
-stored_at size [] = None
-stored_at size (form ∷ bytes) = if form == 1 then placed_at size bytes else inlined_at size (form ∷ bytes)
+unfoldable pub stored_at : HeadForm → ℕ → Reader Stored
+stored_at which size [] = None
+stored_at which size (form ∷ bytes) =
+    if form == 1 then placed_at which size bytes else inlined_at size (form ∷ bytes)

@@ -1,3 +1,4 @@
+pub mod Widths
 pub mod Checkpoint
 pub mod HelpersFitting
 pub mod Forms

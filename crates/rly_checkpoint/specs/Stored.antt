@@ -4,7 +4,10 @@ use Rattle.std.specs.Prelude.{ℕ, ◌+◌, ◌<◌, ◌≤◌, ◌^◌, List, �
 use Rattle.byteorder.specs.Endian.{big_bytes}
 use Rattle.rly_machine.specs.Map.{map_state}
 use Rattle.rly_machine.specs.State.{State}
-use Rattle.rly_checkpoint.specs.Checkpoint.{inline_form}
+use Rattle.rly_checkpoint.specs.Checkpoint.{Spelled, spelled_by}
+use Rattle.rly_checkpoint.specs.Widths.{place_width}
+use Rattle.rly_checkpoint.specs.declared.head_form.HeadForm.{HeadForm}
+use Rattle.rly_checkpoint.specs.declared.head_form.HeadForm.TheVariants.{Second}
 use Rattle.rly_checkpoint.specs.declared.stored.Stored.{Stored}
 use Rattle.rly_checkpoint.specs.declared.stored.Stored.TheVariants.{Inline, Placed}
 
@@ -13,15 +16,22 @@ abbrev pub stored_length : Stored → ℕ
 stored_length (Inline payload) = length payload
 stored_length (Placed place) = place.length
 
--- its form: the byte 0 and the payload, or the byte 1 and where it begins
-abbrev pub stored_form : Stored → List ℕ
-stored_form (Inline payload) = inline_form payload
-stored_form (Placed place) = 1 ∷ big_bytes 8 place.start
+-- its form in a head of a form: the byte 0 and the payload, or the byte 1 and where it begins
+abbrev pub stored_form_of : HeadForm → Stored → List ℕ
+stored_form_of which (Inline payload) = 0 ∷ payload
+stored_form_of which (Placed place) = 1 ∷ big_bytes (place_width which) place.start
+
+abbrev pub stored_spelled : HeadForm → Spelled Stored
+stored_spelled = spelled_by stored_form_of
+
+-- the same in the form of heads that are written
+abbrev pub stored_form : Spelled Stored
+stored_form = stored_spelled Second
 
 -- what a form can be spelled of: a payload without bytes is always inline
-abbrev pub IsStorable : Stored → Type 0
-IsStorable (Inline payload) = Unit {0}
-IsStorable (Placed place) = (place.start < 2 ^ 64) × (1 ≤ place.length)
+abbrev pub IsStorable : HeadForm → Stored → Type 0
+IsStorable which (Inline payload) = Unit {0}
+IsStorable which (Placed place) = (place.start < 256 ^ place_width which) × (1 ≤ place.length)
 
 -- the payload in an image of the device
 abbrev pub payload_in : List ℕ → Stored → List ℕ

@@ -1,48 +1,56 @@
 ghost use Rattle.std.specs.Prelude.{◌≡◌, ◌≤◌, ◌+◌, ◌++◌, ℕ, List, length, vec_len};
 ghost use Rattle.std.specs.Vec.{vec_capacity};
 ghost use Rattle.rly_record.specs.HelpersReading.{Gives, Reader};
-ghost use Rattle.rly_checkpoint.specs.Checkpoint.{inline_form};
+ghost use Rattle.rly_checkpoint.specs.Checkpoint.{inline_form_of, spelled_by};
 ghost use Rattle.rly_checkpoint.specs.Forms.{AreForms};
 ghost use Rattle.rly_checkpoint.specs.HelpersReading.{inline_at};
+ghost use Rattle.rly_checkpoint.specs.declared.head_form.HeadForm.{HeadForm};
 
+use crate::head_form::HeadForm;
 use rly_machine::{Content, Payload};
 use rly_record::DecodeFault;
 use std::alloc::Global;
 
 /// What an entry of a checkpoint can carry: content that has a form, which stands after its length.
 pub trait Form: Content {
-    /// The bytes of its form.
-    ghost form: { Self → List ℕ };
+    /// The bytes of its form, in a head of a form.
+    ghost form: { HeadForm → Self → List ℕ };
 
     /// What there is a form of.
-    ghost has_form: { Self → Type 0 };
+    ghost has_form: { HeadForm → Self → Type 0 };
 
     /// How the form of content of a length is read.
-    ghost form_at: { ℕ → Reader Self };
+    ghost form_at: { HeadForm → ℕ → Reader Self };
 
-    /// Adds its form, for which there is room.
+    /// Adds its form in heads that are written, for which there is room.
     fn append_form(&self, out: &mut Vec<u8>)
-        requires { vec_len out.old + length (form self.now) ≤ vec_capacity out.old }
-        ensures items { out.new.items ≡ out.old.items ++ form self.now }
-        ensures len { vec_len out.new ≡ vec_len out.old + length (form self.now) }
+        requires fits { has_form HeadForm.Second self.now }
+        requires room { vec_len out.old + length (form HeadForm.Second self.now) ≤ vec_capacity out.old }
+        ensures items { out.new.items ≡ out.old.items ++ form HeadForm.Second self.now }
+        ensures len { vec_len out.new ≡ vec_len out.old + length (form HeadForm.Second self.now) }
         ensures capacity { vec_capacity out.old ≤ vec_capacity out.new };
 
-    /// Reads the form of content of a length, and what stands after it.
-    fn read_form(alloc: Global, size: u16, bytes: &[u8]) -> Result<(Self, &[u8]), DecodeFault>
-        ensures { Gives (λ x. (x.0, x.1.now)) result (form_at size bytes.now) };
+    /// Reads the form of content of a length, in a head of a form, and what stands after it.
+    fn read_form(
+        alloc: Global,
+        head: HeadForm,
+        size: u16,
+        bytes: &[u8],
+    ) -> Result<(Self, &[u8]), DecodeFault>
+        ensures { Gives (λ x. (x.0, x.1.now)) result (form_at head size bytes.now) };
 
     /// Forms are read as they are spelled.
     fn law_forms()
-        ensures { AreForms Self.length_of form has_form form_at };
+        ensures { (which : HeadForm) → AreForms Self.length_of (spelled_by form which) (has_form which) (form_at which) };
 }
 
 /// Bytes stand inline, after the byte 0.
 impl Form for Payload {
-    ghost form = { inline_form };
+    ghost form = { inline_form_of };
 
-    ghost has_form = { λ _. Unit {0} };
+    ghost has_form = { λ which payload. Unit {0} };
 
-    ghost form_at = { inline_at };
+    ghost form_at = { λ which. inline_at };
 
     fn append_form(&self, out: &mut Vec<u8>) {
         append(&[0], out);
@@ -50,7 +58,12 @@ impl Form for Payload {
     }
 
     #[tactic(auto, unfolding(crate::specs::HelpersReading::inline_at))]
-    fn read_form(alloc: Global, size: u16, bytes: &[u8]) -> Result<(Payload, &[u8]), DecodeFault> {
+    fn read_form(
+        alloc: Global,
+        head: HeadForm,
+        size: u16,
+        bytes: &[u8],
+    ) -> Result<(Payload, &[u8]), DecodeFault> {
         let [form, rest @ ..] = bytes else {
             return Err(DecodeFault::Malformed);
         };

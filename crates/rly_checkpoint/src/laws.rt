@@ -4,11 +4,12 @@ ghost use Rattle.std.specs.Prelude.{◌≡◌, ◌+◌, ◌*◌, ℕ, All, List,
 ghost use Rattle.rly_machine.specs.Map.{map_state};
 ghost use Rattle.rly_machine.specs.Sound.{IsSound};
 ghost use Rattle.rly_machine.specs.State.{State, live_bytes, live_items};
-ghost use Rattle.rly_checkpoint.specs.Checkpoint.{checkpoint_of, state_spelled};
+ghost use Rattle.rly_checkpoint.specs.Checkpoint.{IsOfForm, checkpoint_of, spelled_by, state_spelled};
 ghost use Rattle.rly_checkpoint.specs.Forms.{HaveForms};
 ghost use Rattle.rly_checkpoint.specs.Stored.{state_in, stored_form, stored_length};
 
 use crate::form::Form;
+use crate::head_form::HeadForm;
 use crate::stored::Stored;
 
 /// No two sound states have one checkpoint under the same parameters.
@@ -20,14 +21,16 @@ pub fn law_one_state()
 /// How long the checkpoint of a sound state is.
 pub fn law_length()
     ensures { (s : State (List ℕ)) → IsSound length s
-        → length (checkpoint_of s) ≡ 8 + 8 * s.params.peers + 71 * s.params.hops + 19 * live_items s + live_bytes length s }
+        → length (checkpoint_of s) ≡ 8 + 8 * s.params.peers + 64 * s.params.hops + 21 * live_items s + live_bytes length s }
 {}
 
-/// No two sound states are spelled as one under the same parameters, where what they carry has forms.
+/// No two sound states are spelled as one in a head of either form under the same parameters, where what they carry has forms,
+/// and where all limits and expired counts are 0 in the first.
 pub fn law_one_spelling<C: Form>()
-    ensures { (a b : State C) → IsSound C.length_of a → IsSound C.length_of b
-        → All (HaveForms C.has_form) a.hops → All (HaveForms C.has_form) b.hops → a.params ≡ b.params
-        → state_spelled C.length_of C.form a ≡ state_spelled C.length_of C.form b → a ≡ b }
+    ensures { (which : HeadForm) (a b : State C) → IsSound C.length_of a → IsSound C.length_of b
+        → All (HaveForms (C.has_form which)) a.hops → All (HaveForms (C.has_form which)) b.hops
+        → IsOfForm which a → IsOfForm which b → a.params ≡ b.params
+        → state_spelled C.length_of (spelled_by C.form which) a ≡ state_spelled C.length_of (spelled_by C.form which) b → a ≡ b }
 {
     C::law_forms();
 }

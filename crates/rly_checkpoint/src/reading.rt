@@ -1,12 +1,13 @@
-ghost use Rattle.std.specs.Prelude.{◌≡◌, ◌≤◌, ◌<◌, ◌^◌, ℕ, Err, List, length, map};
+ghost use Rattle.std.specs.Prelude.{◌≡◌, ◌≤◌, ◌<◌, ◌*◌, ◌^◌, ℕ, Err, List, length, map};
 ghost use Rattle.rly_core.specs.Limits.{IsWithinLimits};
 ghost use Rattle.rly_record.specs.HelpersReading.{Gives, many_at, field_at};
 ghost use Rattle.rly_checkpoint.specs.Checkpoint.{least_checkpoint_length};
 ghost use Rattle.rly_checkpoint.specs.HelpersReading.{codel_at, counts_at, entry_at, flag_at, hop_bytes_at, entries_at, lines_at, whole_state};
+ghost use Rattle.rly_checkpoint.specs.Widths.{entry_width};
 ghost use Rattle.rly_machine.specs.Kept.{hop_state, state_of};
 
 use crate::form::Form;
-use crate::writing::{ENTRY_LENGTH, HOP_LENGTH, NUMBER_LENGTH};
+use crate::head_form::HeadForm;
 use byteorder::{BigEndian, ByteOrder};
 use rly_core::Params;
 use rly_machine::{CodelState, Content, Hop, Item, Queue};
@@ -22,12 +23,13 @@ pub(crate) struct Parts<C: Content> {
     pub(crate) hops: Vec<Hop<C>>,
 }
 
-/// How many datagrams a hop took, dropped and released.
+/// How many datagrams a hop took, dropped and released, and how many expired.
 #[derive(Clone, Copy)]
 struct Counts {
     taken: u64,
     dropped: u64,
     released: u64,
+    expired: u64,
 }
 
 /// What is in flight for a hop, and what waits.
@@ -57,8 +59,22 @@ fn u32_of(bytes: &[u8]) -> Result<(u32, &[u8]), DecodeFault>
     Ok((BigEndian::read_u32(bytes), &bytes[4..]))
 }
 
+/// A number of so many bytes, and what stands after it. One of no bytes is 0.
+pub(crate) fn number_of(bytes: &[u8], width: usize) -> Result<(u64, &[u8]), DecodeFault>
+    requires { width ≤ 8 }
+    ensures { Gives (λ x. (x.0, x.1.now)) result (field_at width bytes.now) }
+{
+    if width == 0 {
+        return Ok((0, bytes));
+    }
+    if bytes.len() < width {
+        return Err(DecodeFault::Malformed);
+    }
+    Ok((BigEndian::read_uint(bytes, width), &bytes[width..]))
+}
+
 /// A number of eight bytes, and what stands after it.
-pub(crate) fn u64_of(bytes: &[u8]) -> Result<(u64, &[u8]), DecodeFault>
+fn u64_of(bytes: &[u8]) -> Result<(u64, &[u8]), DecodeFault>
     ensures { Gives (λ x. (x.0, x.1.now)) result (field_at 8 bytes.now) }
 {
     if bytes.len() < 8 {
@@ -81,13 +97,13 @@ fn flag_of(bytes: &[u8]) -> Result<(bool, &[u8]), DecodeFault>
 
 /// CoDel's state, and what stands after it.
 #[tactic(auto, unfolding(crate::specs::HelpersReading::codel_at))]
-fn codel_of(bytes: &[u8]) -> Result<(CodelState, &[u8]), DecodeFault>
-    ensures { Gives (λ x. (x.0, x.1.now)) result (codel_at bytes.now) }
+fn codel_of(form: HeadForm, bytes: &[u8]) -> Result<(CodelState, &[u8]), DecodeFault>
+    ensures { Gives (λ x. (x.0, x.1.now)) result (codel_at form bytes.now) }
 {
-    let (first_above_time, rest) = u64_of(bytes)?;
-    let (drop_next, rest) = u64_of(rest)?;
-    let (count, rest) = u64_of(rest)?;
-    let (lastcount, rest) = u64_of(rest)?;
+    let (first_above_time, rest) = number_of(bytes, form.moment_len())?;
+    let (drop_next, rest) = number_of(rest, form.moment_len())?;
+    let (count, rest) = number_of(rest, form.count_len())?;
+    let (lastcount, rest) = number_of(rest, form.count_len())?;
     let (dropping, rest) = flag_of(rest)?;
     let codel = CodelState {
         first_above_time,
@@ -101,28 +117,41 @@ fn codel_of(bytes: &[u8]) -> Result<(CodelState, &[u8]), DecodeFault>
 
 /// An entry, and what stands after it.
 #[tactic(auto, unfolding(crate::specs::HelpersReading::entry_at))]
-fn entry_of<C: Form>(alloc: Global, bytes: &[u8]) -> Result<(Item<C>, &[u8]), DecodeFault>
-    ensures { Gives (λ x. (x.0, x.1.now)) result (entry_at C.form_at bytes.now) }
+fn entry_of<C: Form>(
+    alloc: Global,
+    form: HeadForm,
+    bytes: &[u8],
+) -> Result<(Item<C>, &[u8]), DecodeFault>
+    ensures { Gives (λ x. (x.0, x.1.now)) result (entry_at form (C.form_at form) bytes.now) }
 {
-    let (id, rest) = u64_of(bytes)?;
-    let (stamp, rest) = u64_of(rest)?;
+    let (id, rest) = number_of(bytes, form.count_len())?;
+    let (stamp, rest) = number_of(rest, form.moment_len())?;
+    let (limit, rest) = number_of(rest, form.limit_len())?;
     let (size, rest) = u16_of(rest)?;
-    let (payload, rest) = C::read_form(alloc, size, rest)?;
-    Ok((Item { id, stamp, payload }, rest))
+    let (payload, rest) = C::read_form(alloc, form, size, rest)?;
+    let item = Item {
+        id,
+        stamp,
+        limit,
+        payload,
+    };
+    Ok((item, rest))
 }
 
-/// How many datagrams a hop took, dropped and released, and what stands after them.
+/// How many datagrams a hop took, dropped and released and how many expired, and what stands after these counts.
 #[tactic(auto, unfolding(crate::specs::HelpersReading::counts_at))]
-fn counts_of(bytes: &[u8]) -> Result<(Counts, &[u8]), DecodeFault>
-    ensures { Gives (λ x. ((x.0.taken, (x.0.dropped, x.0.released)), x.1.now)) result (counts_at bytes.now) }
+fn counts_of(form: HeadForm, bytes: &[u8]) -> Result<(Counts, &[u8]), DecodeFault>
+    ensures { Gives (λ x. ((x.0.taken, (x.0.dropped, (x.0.released, x.0.expired))), x.1.now)) result (counts_at form bytes.now) }
 {
-    let (taken, rest) = u64_of(bytes)?;
-    let (dropped, rest) = u64_of(rest)?;
-    let (released, rest) = u64_of(rest)?;
+    let (taken, rest) = number_of(bytes, form.count_len())?;
+    let (dropped, rest) = number_of(rest, form.count_len())?;
+    let (released, rest) = number_of(rest, form.count_len())?;
+    let (expired, rest) = number_of(rest, form.expired_len())?;
     let counts = Counts {
         taken,
         dropped,
         released,
+        expired,
     };
     Ok((counts, rest))
 }
@@ -131,30 +160,43 @@ fn counts_of(bytes: &[u8]) -> Result<(Counts, &[u8]), DecodeFault>
 #[tactic(auto, unfolding(crate::specs::HelpersReading::entries_at))]
 fn line_of<C: Form>(
     alloc: Global,
+    form: HeadForm,
     count: usize,
     bytes: &[u8],
 ) -> Result<(Vec<Item<C>>, &[u8]), DecodeFault>
     requires { count < 2 ^ 32 }
-    ensures { Gives (λ x. (x.0.items, x.1.now)) result (entries_at C.form_at count bytes.now) }
+    ensures { Gives (λ x. (x.0.items, x.1.now)) result (entries_at form (C.form_at form) count bytes.now) }
 {
-    if bytes.len() < ENTRY_LENGTH * count {
+    if bytes.len() < entries_len(form, count) {
         return Err(DecodeFault::Malformed);
     }
-    entries_of(alloc, count, bytes)
+    entries_of(alloc, form, count, bytes)
+}
+
+/// How many bytes so many entries have at least.
+fn entries_len(form: HeadForm, count: usize) -> usize
+    requires { count < 2 ^ 32 }
+    ensures { result ≡ entry_width form * count }
+{
+    match form {
+        HeadForm::First => 19 * count,
+        HeadForm::Second => 21 * count,
+    }
 }
 
 /// So many entries, for which memory is reserved, and what stands after them.
 fn entries_of<C: Form>(
     alloc: Global,
+    form: HeadForm,
     count: usize,
     bytes: &[u8],
 ) -> Result<(Vec<Item<C>>, &[u8]), DecodeFault>
-    ensures { Gives (λ x. (x.0.items, x.1.now)) result (many_at (entry_at C.form_at) count bytes.now) }
+    ensures { Gives (λ x. (x.0.items, x.1.now)) result (many_at (entry_at form (C.form_at form)) count bytes.now) }
 {
     let mut entries = Vec::with_capacity(alloc, count)?;
     let mut rest = bytes;
     for _ in 0..count {
-        let (entry, after) = entry_of(alloc, rest)?;
+        let (entry, after) = entry_of(alloc, form, rest)?;
         entries.push_reserved(entry);
         rest = after;
     }
@@ -163,25 +205,33 @@ fn entries_of<C: Form>(
 
 /// What is in flight and what waits, and what stands after them.
 #[tactic(auto, unfolding(crate::specs::HelpersReading::lines_at))]
-fn lines_of<C: Form>(alloc: Global, bytes: &[u8]) -> Result<(Lines<C>, &[u8]), DecodeFault>
-    ensures { Gives (λ x. ((x.0.flight.items, x.0.queue.items), x.1.now)) result (lines_at C.form_at bytes.now) }
+fn lines_of<C: Form>(
+    alloc: Global,
+    form: HeadForm,
+    bytes: &[u8],
+) -> Result<(Lines<C>, &[u8]), DecodeFault>
+    ensures { Gives (λ x. ((x.0.flight.items, x.0.queue.items), x.1.now)) result (lines_at form (C.form_at form) bytes.now) }
 {
     let (in_flight, rest) = u16_of(bytes)?;
     let (waiting, rest) = u32_of(rest)?;
-    let (flight, rest) = line_of(alloc, usize::from(in_flight), rest)?;
-    let (queue, rest) = line_of(alloc, waiting as usize, rest)?;
+    let (flight, rest) = line_of(alloc, form, usize::from(in_flight), rest)?;
+    let (queue, rest) = line_of(alloc, form, waiting as usize, rest)?;
     Ok((Lines { flight, queue }, rest))
 }
 
 /// A hop, and what stands after it.
 #[tactic(auto, unfolding(crate::specs::HelpersReading::hop_bytes_at))]
-fn hop_of_bytes<C: Form>(alloc: Global, bytes: &[u8]) -> Result<(Hop<C>, &[u8]), DecodeFault>
-    ensures { Gives (λ x. (hop_state x.0, x.1.now)) result (hop_bytes_at C.form_at bytes.now) }
+fn hop_of_bytes<C: Form>(
+    alloc: Global,
+    form: HeadForm,
+    bytes: &[u8],
+) -> Result<(Hop<C>, &[u8]), DecodeFault>
+    ensures { Gives (λ x. (hop_state x.0, x.1.now)) result (hop_bytes_at form (C.form_at form) bytes.now) }
 {
-    let (moment, rest) = u64_of(bytes)?;
-    let (codel, rest) = codel_of(rest)?;
-    let (counts, rest) = counts_of(rest)?;
-    let (lines, rest) = lines_of(alloc, rest)?;
+    let (moment, rest) = number_of(bytes, form.moment_len())?;
+    let (codel, rest) = codel_of(form, rest)?;
+    let (counts, rest) = counts_of(form, rest)?;
+    let (lines, rest) = lines_of(alloc, form, rest)?;
     let hop = Hop {
         queue: Queue::of(alloc, lines.queue)?,
         flight: VecDeque::from_vec(lines.flight),
@@ -189,6 +239,7 @@ fn hop_of_bytes<C: Form>(alloc: Global, bytes: &[u8]) -> Result<(Hop<C>, &[u8]),
         moment,
         taken: counts.taken,
         dropped: counts.dropped,
+        expired: counts.expired,
         released: counts.released,
     };
     Ok((hop, rest))
@@ -197,15 +248,16 @@ fn hop_of_bytes<C: Form>(alloc: Global, bytes: &[u8]) -> Result<(Hop<C>, &[u8]),
 /// So many hops, and what stands after them.
 fn hops_of<C: Form>(
     alloc: Global,
+    form: HeadForm,
     count: usize,
     bytes: &[u8],
 ) -> Result<(Vec<Hop<C>>, &[u8]), DecodeFault>
-    ensures { Gives (λ x. (map hop_state x.0.items, x.1.now)) result (many_at (hop_bytes_at C.form_at) count bytes.now) }
+    ensures { Gives (λ x. (map hop_state x.0.items, x.1.now)) result (many_at (hop_bytes_at form (C.form_at form)) count bytes.now) }
 {
     let mut hops = Vec::with_capacity(alloc, count)?;
     let mut rest = bytes;
     for _ in 0..count {
-        let (hop, after) = hop_of_bytes(alloc, rest)?;
+        let (hop, after) = hop_of_bytes(alloc, form, rest)?;
         hops.push_reserved(hop);
         rest = after;
     }
@@ -230,35 +282,48 @@ fn numbers_of(alloc: Global, count: usize, bytes: &[u8]) -> Result<(Vec<u64>, &[
 /// memory.
 pub(crate) fn parts_of<C: Form>(
     alloc: Global,
+    form: HeadForm,
     params: Params,
     bytes: &[u8],
 ) -> Result<Parts<C>, DecodeFault>
     requires { IsWithinLimits params }
-    ensures gives { Gives (λ parts. state_of params parts.hops parts.lasts parts.seq) result (whole_state C.form_at params bytes.now) }
-    ensures memory { result ≡ Err DecodeFault.OutOfMemory → least_checkpoint_length params ≤ length bytes.now }
+    ensures gives { Gives (λ parts. state_of params parts.hops parts.lasts parts.seq) result (whole_state form (C.form_at form) params bytes.now) }
+    ensures memory { result ≡ Err DecodeFault.OutOfMemory → least_checkpoint_length form params ≤ length bytes.now }
 {
     C::law_forms();
-    let peers = NUMBER_LENGTH * params.peers as usize;
-    let hops = HOP_LENGTH * params.hops as usize;
-    if bytes.len() < NUMBER_LENGTH + peers + hops {
+    if bytes.len() < least_len(form, params) {
         return Err(DecodeFault::Malformed);
     }
-    whole_parts_of(alloc, params, bytes)
+    whole_parts_of(alloc, form, params, bytes)
+}
+
+/// How many bytes the shortest checkpoint has.
+fn least_len(form: HeadForm, params: Params) -> usize
+    requires { IsWithinLimits params }
+    ensures { result ≡ least_checkpoint_length form params }
+{
+    let peers = params.peers as usize;
+    let hops = params.hops as usize;
+    match form {
+        HeadForm::First => 8 + 8 * peers + 71 * hops,
+        HeadForm::Second => 8 + 8 * peers + 64 * hops,
+    }
 }
 
 /// The same, of bytes that are enough for the peers and hops.
 #[tactic(auto, unfolding(crate::specs::HelpersReading::state_at, crate::specs::HelpersReading::whole_state))]
 fn whole_parts_of<C: Form>(
     alloc: Global,
+    form: HeadForm,
     params: Params,
     bytes: &[u8],
 ) -> Result<Parts<C>, DecodeFault>
     requires { IsWithinLimits params }
-    ensures { Gives (λ parts. state_of params parts.hops parts.lasts parts.seq) result (whole_state C.form_at params bytes.now) }
+    ensures { Gives (λ parts. state_of params parts.hops parts.lasts parts.seq) result (whole_state form (C.form_at form) params bytes.now) }
 {
     let (seq, rest) = u64_of(bytes)?;
     let (lasts, rest) = numbers_of(alloc, params.peers as usize, rest)?;
-    let (hops, rest) = hops_of(alloc, params.hops as usize, rest)?;
+    let (hops, rest) = hops_of(alloc, form, params.hops as usize, rest)?;
     if !rest.is_empty() {
         return Err(DecodeFault::Malformed);
     }

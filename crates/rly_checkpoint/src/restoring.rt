@@ -2,10 +2,11 @@ ghost use Rattle.std.specs.Prelude.{◌≡◌, ◌≤◌, ℕ, Err, List, length
 ghost use Rattle.rly_core.specs.Limits.{IsWithinLimits};
 ghost use Rattle.rly_machine.specs.Sound.{IsSound};
 ghost use Rattle.rly_machine.specs.State.{State};
-ghost use Rattle.rly_checkpoint.specs.Checkpoint.{checkpoint_of, least_checkpoint_length, state_spelled};
+ghost use Rattle.rly_checkpoint.specs.Checkpoint.{IsOfForm, inline_form_of, least_checkpoint_length, spelled_by, state_spelled};
 ghost use Rattle.rly_checkpoint.specs.Forms.{HaveForms};
 
 use crate::form::Form;
+use crate::head_form::HeadForm;
 use crate::reading::{Parts, parts_of};
 use crate::sound::is_sound;
 use rly_core::Params;
@@ -13,47 +14,53 @@ use rly_machine::{Machine, Payload};
 use rly_record::DecodeFault;
 use std::alloc::Global;
 
-/// The spool whose checkpoint the bytes are, all of them, with every payload inline.
+/// The spool whose checkpoint in a head of a form the bytes are, all of them, with every payload inline.
 pub fn read_checkpoint(
     alloc: Global,
+    form: HeadForm,
     params: Params,
     bytes: &[u8],
 ) -> Result<Machine<Payload>, DecodeFault>
     requires { IsWithinLimits params }
-    ensures found { IfOk result (λ machine. bytes.now ≡ checkpoint_of machine.state) }
+    ensures found { IfOk result (λ machine. bytes.now ≡ state_spelled length (spelled_by inline_form_of form) machine.state) }
     ensures params { IfOk result (λ machine. machine.state.params ≡ params) }
+    ensures plain { IfOk result (λ machine. IsOfForm form machine.state) }
 
     // What is the checkpoint of a sound state is read, unless memory is refused: so Malformed says that there is none.
-    ensures only { (s : State (List ℕ)) → IsSound length s → s.params ≡ params → bytes.now ≡ checkpoint_of s
+    ensures only { (s : State (List ℕ)) → IsSound length s → IsOfForm form s → s.params ≡ params
+        → bytes.now ≡ state_spelled length (spelled_by inline_form_of form) s
         → MatchResult result (λ machine. machine.state ≡ s) (λ fault. fault ≡ DecodeFault.OutOfMemory) }
 
     // Memory is wanted only for bytes that are long enough for the peers and hops.
-    ensures memory { result ≡ Err DecodeFault.OutOfMemory → least_checkpoint_length params ≤ length bytes.now }
+    ensures memory { result ≡ Err DecodeFault.OutOfMemory → least_checkpoint_length form params ≤ length bytes.now }
 {
-    read_state(alloc, params, bytes)
+    read_state(alloc, form, params, bytes)
 }
 
-/// The spool whose spelling the bytes are, all of them.
+/// The spool whose spelling in a head of a form the bytes are, all of them.
 pub fn read_state<C: Form>(
     alloc: Global,
+    form: HeadForm,
     params: Params,
     bytes: &[u8],
 ) -> Result<Machine<C>, DecodeFault>
     requires { IsWithinLimits params }
-    ensures found { IfOk result (λ machine. bytes.now ≡ state_spelled C.length_of C.form machine.state) }
+    ensures found { IfOk result (λ machine. bytes.now ≡ state_spelled C.length_of (spelled_by C.form form) machine.state) }
     ensures params { IfOk result (λ machine. machine.state.params ≡ params) }
-    ensures forms { IfOk result (λ machine. All (HaveForms C.has_form) machine.state.hops) }
+    ensures forms { IfOk result (λ machine. All (HaveForms (C.has_form form)) machine.state.hops) }
+    ensures plain { IfOk result (λ machine. IsOfForm form machine.state) }
 
-    // What spells a sound state of content that has forms is read, unless memory is refused: so Malformed says that there is none.
-    ensures only { (s : State C) → IsSound C.length_of s → All (HaveForms C.has_form) s.hops → s.params ≡ params
-        → bytes.now ≡ state_spelled C.length_of C.form s
+    // What spells a sound state of content that has forms, and that such a head can hold, is read, unless memory is refused: so
+    // Malformed says that there is none.
+    ensures only { (s : State C) → IsSound C.length_of s → All (HaveForms (C.has_form form)) s.hops → IsOfForm form s
+        → s.params ≡ params → bytes.now ≡ state_spelled C.length_of (spelled_by C.form form) s
         → MatchResult result (λ machine. machine.state ≡ s) (λ fault. fault ≡ DecodeFault.OutOfMemory) }
 
     // Memory is wanted only for bytes that are long enough for the peers and hops.
-    ensures memory { result ≡ Err DecodeFault.OutOfMemory → least_checkpoint_length params ≤ length bytes.now }
+    ensures memory { result ≡ Err DecodeFault.OutOfMemory → least_checkpoint_length form params ≤ length bytes.now }
 {
     C::law_forms();
-    let parts = parts_of(alloc, params, bytes)?;
+    let parts = parts_of(alloc, form, params, bytes)?;
     if !is_sound(&params, &parts) {
         return Err(DecodeFault::Malformed);
     }

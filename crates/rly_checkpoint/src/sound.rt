@@ -101,14 +101,16 @@ fn is_sound_hop<C: Form>(params: &Params, seq: u64, hop: &Hop<C>) -> bool
     is_codel(&hop.codel, hop.moment + params.interval, hop.dropped) && is_row(hop, seq)
 }
 
-/// Whether what a hop took waits, is in flight, was dropped or was released.
+/// Whether what a hop took waits, is in flight, was dropped, expired or was released.
 fn balances<C: Form>(hop: &Hop<C>) -> bool
-    ensures { IsTrue result ↔ (hop.now.taken ≡ length hop.now.queue.items + length hop.now.flight.items + hop.now.dropped + hop.now.released) }
+    ensures { IsTrue result ↔ (hop.now.taken ≡ length hop.now.queue.items + length hop.now.flight.items
+        + hop.now.dropped + hop.now.expired + hop.now.released) }
 {
     let live = hop.queue.len() as u64 + hop.flight.len() as u64;
     hop.dropped <= hop.taken
-        && hop.released <= hop.taken - hop.dropped
-        && hop.taken - hop.dropped - hop.released == live
+        && hop.expired <= hop.taken - hop.dropped
+        && hop.released <= hop.taken - hop.dropped - hop.expired
+        && hop.taken - hop.dropped - hop.expired - hop.released == live
 }
 
 /// Whether CoDel's moments are at most the latest that they may be, and its counts at most the drops.
@@ -162,5 +164,6 @@ fn follows<C: Form>(item: &Item<C>, id: u64, stamp: u64, moment: u64, seq: u64) 
         && item.id <= seq
         && stamp <= item.stamp
         && item.stamp <= moment
+        && item.limit < limits::AGE_LIMIT
         && item.payload.len() as u64 <= limits::MAX_PAYLOAD
 }

@@ -1,11 +1,12 @@
-ghost use Rattle.std.specs.Prelude.{◌≡◌, ◌++◌, ◌∷◌};
+ghost use Rattle.std.specs.Prelude.{◌≡◌, ◌<◌, ◌^◌, ◌++◌, ◌∷◌};
 ghost use Rattle.byteorder.specs.Endian.{big_bytes};
 ghost use Rattle.rly_record.specs.HelpersReading.{Gives};
 ghost use Rattle.rly_checkpoint.specs.HelpersStored.{inlined_at, placed_at, stored_at};
-ghost use Rattle.rly_checkpoint.specs.Stored.{IsStorable, stored_form, stored_length};
+ghost use Rattle.rly_checkpoint.specs.Stored.{IsStorable, stored_form_of, stored_length};
 
 use crate::form::{Form, append};
-use crate::reading::u64_of;
+use crate::head_form::HeadForm;
+use crate::reading::number_of;
 use byteorder::{BigEndian, ByteOrder};
 use rly_machine::{Content, Payload};
 use rly_record::DecodeFault;
@@ -41,7 +42,7 @@ impl Content for Stored {
 }
 
 impl Form for Stored {
-    ghost form = { stored_form };
+    ghost form = { stored_form_of };
 
     ghost has_form = { IsStorable };
 
@@ -55,9 +56,14 @@ impl Form for Stored {
     }
 
     #[tactic(auto, unfolding(crate::specs::HelpersStored::stored_at))]
-    fn read_form(alloc: Global, size: u16, bytes: &[u8]) -> Result<(Stored, &[u8]), DecodeFault> {
+    fn read_form(
+        alloc: Global,
+        head: HeadForm,
+        size: u16,
+        bytes: &[u8],
+    ) -> Result<(Stored, &[u8]), DecodeFault> {
         match bytes {
-            [1, rest @ ..] => placed_of(size, rest),
+            [1, rest @ ..] => placed_of(head, size, rest),
             [_, ..] => inlined_of(alloc, size, bytes),
             [] => Err(DecodeFault::Malformed),
         }
@@ -71,19 +77,19 @@ impl Form for Stored {
 fn inlined_of(alloc: Global, size: u16, bytes: &[u8]) -> Result<(Stored, &[u8]), DecodeFault>
     ensures { Gives (λ x. (x.0, x.1.now)) result (inlined_at size bytes.now) }
 {
-    let (payload, rest) = Payload::read_form(alloc, size, bytes)?;
+    let (payload, rest) = Payload::read_form(alloc, HeadForm::Second, size, bytes)?;
     Ok((Stored::Inline(payload), rest))
 }
 
 /// The place of a payload after the byte of its form, and what stands after it.
 #[tactic(auto, unfolding(crate::specs::HelpersStored::placed_at))]
-fn placed_of(size: u16, bytes: &[u8]) -> Result<(Stored, &[u8]), DecodeFault>
-    ensures { Gives (λ x. (x.0, x.1.now)) result (placed_at size bytes.now) }
+fn placed_of(head: HeadForm, size: u16, bytes: &[u8]) -> Result<(Stored, &[u8]), DecodeFault>
+    ensures { Gives (λ x. (x.0, x.1.now)) result (placed_at head size bytes.now) }
 {
     if size == 0 {
         return Err(DecodeFault::Malformed);
     }
-    let (start, rest) = u64_of(bytes)?;
+    let (start, rest) = number_of(bytes, head.place_len())?;
     let place = Place {
         start,
         length: size,
@@ -91,11 +97,12 @@ fn placed_of(size: u16, bytes: &[u8]) -> Result<(Stored, &[u8]), DecodeFault>
     Ok((Stored::Placed(place), rest))
 }
 
-/// The form of a payload by place.
-fn placed_form(place: Place) -> [u8; 9]
-    ensures { result ≡ 1 ∷ big_bytes 8 place.start }
+/// The form of a payload by place, in heads that are written.
+fn placed_form(place: Place) -> [u8; 6]
+    requires { place.start < 256 ^ 5 }
+    ensures { result ≡ 1 ∷ big_bytes 5 place.start }
 {
-    let mut bytes = [1; 9];
-    BigEndian::write_u64(&mut bytes[1..], place.start);
+    let mut bytes = [1; 6];
+    BigEndian::write_uint(&mut bytes[1..], place.start, 5);
     bytes
 }

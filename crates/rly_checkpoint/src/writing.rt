@@ -4,35 +4,40 @@ ghost use Rattle.std.specs.Vec.{vec_capacity};
 ghost use Rattle.byteorder.specs.Endian.{big_bytes};
 ghost use Rattle.rly_machine.specs.Kept.{hop_state};
 ghost use Rattle.rly_machine.specs.State.{live_bytes, live_items, live_line};
-ghost use Rattle.rly_checkpoint.specs.Checkpoint.{checkpoint_of, codel_of, entry_spelled, hop_spelled, state_spelled};
-ghost use Rattle.rly_checkpoint.specs.HelpersFitting.{EntryFits, HopFits, IsAny};
+ghost use Rattle.rly_checkpoint.specs.Checkpoint.{checkpoint_of, codel_of, entry_spelled, hop_spelled, spelled_by, state_spelled};
+ghost use Rattle.rly_checkpoint.specs.Forms.{HaveForms};
+ghost use Rattle.rly_checkpoint.specs.HelpersFitting.{CodelFits, EntryFits, FitsBytes, HopFits};
 
 use crate::form::{Form, append};
+use crate::head_form::HeadForm;
 use crate::sound::live_at;
 use byteorder::{BigEndian, ByteOrder};
 use rly_machine::{CodelState, Content, Hop, Item, Machine, Payload};
 use std::alloc::AllocError;
 
-/// The length in bytes of a number: the count of accepted commands, a peer's last number or a hop's last moment.
-pub(crate) const NUMBER_LENGTH: usize = 8;
+/// The length in bytes of the count of accepted commands, and of a peer's last number.
+const NUMBER_LENGTH: usize = 8;
+
+/// The length in bytes of a hop's last moment.
+const MOMENT_LENGTH: usize = 7;
 
 /// The length in bytes of CoDel's state.
-const CODEL_LENGTH: usize = 33;
+const CODEL_LENGTH: usize = 27;
 
 /// The length in bytes of a hop's counts.
 const COUNTS_LENGTH: usize = 30;
 
 /// The length in bytes of an entry up to its form.
-const ENTRY_HEAD: usize = 18;
+const ENTRY_HEAD: usize = 20;
 
 /// The length in bytes of the shortest entry.
-pub(crate) const ENTRY_LENGTH: usize = 19;
+const ENTRY_LENGTH: u64 = 21;
 
 /// The length in bytes of an entry by place.
-const PLACED_LENGTH: u64 = 27;
+const PLACED_LENGTH: u64 = 26;
 
 /// The length in bytes of a hop, without its entries.
-pub(crate) const HOP_LENGTH: usize = NUMBER_LENGTH + CODEL_LENGTH + COUNTS_LENGTH;
+const HOP_LENGTH: u64 = 64;
 
 /// How many bytes the checkpoint of a spool has.
 pub fn checkpoint_len(machine: &Machine<Payload>) -> u64
@@ -41,8 +46,8 @@ pub fn checkpoint_len(machine: &Machine<Payload>) -> u64
     machine.law_sound();
     let params = machine.params();
     let peers = NUMBER_LENGTH as u64 * params.peers;
-    let hops = HOP_LENGTH as u64 * params.hops;
-    let entries = ENTRY_LENGTH as u64 * machine.item_count() + machine.byte_count();
+    let hops = HOP_LENGTH * params.hops;
+    let entries = ENTRY_LENGTH * machine.item_count() + machine.byte_count();
     NUMBER_LENGTH as u64 + peers + hops + entries
 }
 
@@ -61,14 +66,15 @@ pub fn write_checkpoint(machine: &Machine<Payload>, out: &mut Vec<u8>) -> Result
 
 /// How many bytes the spelling of a spool has at most: each of its payloads inline, and a place for each.
 pub fn most_len<C: Form>(machine: &Machine<C>) -> u64
-    ensures enough { length (state_spelled C.length_of C.form machine.now.state) ≤ result }
-    ensures bounded { let s = machine.now.state in result ≡ 8 + 8 * s.params.peers + 71 * s.params.hops + 27 * live_items s + live_bytes C.length_of s }
+    ensures enough { length (state_spelled C.length_of (spelled_by C.form HeadForm.Second) machine.now.state) ≤ result }
+    ensures bounded { let s = machine.now.state in
+        result ≡ 8 + 8 * s.params.peers + 64 * s.params.hops + 26 * live_items s + live_bytes C.length_of s }
 {
     C::law_forms();
     machine.law_sound();
     let params = machine.params();
     let peers = NUMBER_LENGTH as u64 * params.peers;
-    let hops = HOP_LENGTH as u64 * params.hops;
+    let hops = HOP_LENGTH * params.hops;
     let entries = PLACED_LENGTH * machine.item_count() + machine.byte_count();
     NUMBER_LENGTH as u64 + peers + hops + entries
 }
@@ -76,8 +82,9 @@ pub fn most_len<C: Form>(machine: &Machine<C>) -> u64
 /// Adds the spelling of a spool, for which there is room. It takes no memory.
 #[tactic(auto, unfolding(crate::specs::Checkpoint::state_spelled))]
 pub fn append_state<C: Form>(machine: &Machine<C>, out: &mut Vec<u8>)
-    requires { vec_len out.old + length (state_spelled C.length_of C.form machine.now.state) ≤ vec_capacity out.old }
-    ensures items { out.new.items ≡ out.old.items ++ state_spelled C.length_of C.form machine.now.state }
+    requires fits { All (HaveForms (C.has_form HeadForm.Second)) machine.now.state.hops }
+    requires room { vec_len out.old + length (state_spelled C.length_of (spelled_by C.form HeadForm.Second) machine.now.state) ≤ vec_capacity out.old }
+    ensures items { out.new.items ≡ out.old.items ++ state_spelled C.length_of (spelled_by C.form HeadForm.Second) machine.now.state }
     ensures capacity { vec_capacity out.old ≤ vec_capacity out.new }
 {
     machine.law_sound();
@@ -98,6 +105,19 @@ fn append_number(number: u64, out: &mut Vec<u8>)
     append(&bytes, out);
 }
 
+/// Adds a hop's last moment, for which there is room.
+fn append_moment(moment: u64, out: &mut Vec<u8>)
+    requires fits { FitsBytes 7 moment }
+    requires room { vec_len out.old + 7 ≤ vec_capacity out.old }
+    ensures items { out.new.items ≡ out.old.items ++ big_bytes 7 moment }
+    ensures len { vec_len out.new ≡ vec_len out.old + 7 }
+    ensures capacity { vec_capacity out.old ≤ vec_capacity out.new }
+{
+    let mut bytes = [0; MOMENT_LENGTH];
+    BigEndian::write_uint(&mut bytes, moment, 7);
+    append(&bytes, out);
+}
+
 /// Adds numbers for which there is room.
 fn append_numbers(numbers: &[u64], out: &mut Vec<u8>)
     requires { vec_len out.old + length (flat_map (big_bytes 8) numbers.now) ≤ vec_capacity out.old }
@@ -112,9 +132,10 @@ fn append_numbers(numbers: &[u64], out: &mut Vec<u8>)
 
 /// Adds hops for which there is room.
 fn append_hops<C: Form>(hops: &[Hop<C>], out: &mut Vec<u8>)
-    requires fit { All (HopFits C.length_of IsAny) (map hop_state hops.now) }
-    requires room { vec_len out.old + length (flat_map (hop_spelled C.length_of C.form) (map hop_state hops.now)) ≤ vec_capacity out.old }
-    ensures items { out.new.items ≡ out.old.items ++ flat_map (hop_spelled C.length_of C.form) (map hop_state hops.now) }
+    requires fit { All (HopFits HeadForm.Second C.length_of (C.has_form HeadForm.Second)) (map hop_state hops.now) }
+    requires room { vec_len out.old + length (flat_map (hop_spelled C.length_of (spelled_by C.form HeadForm.Second)) (map hop_state hops.now))
+        ≤ vec_capacity out.old }
+    ensures items { out.new.items ≡ out.old.items ++ flat_map (hop_spelled C.length_of (spelled_by C.form HeadForm.Second)) (map hop_state hops.now) }
     ensures capacity { vec_capacity out.old ≤ vec_capacity out.new }
 {
     for hop in hops {
@@ -124,13 +145,13 @@ fn append_hops<C: Form>(hops: &[Hop<C>], out: &mut Vec<u8>)
 
 /// Adds a hop for which there is room.
 fn append_hop<C: Form>(hop: &Hop<C>, out: &mut Vec<u8>)
-    requires fits { HopFits C.length_of IsAny (hop_state hop.now) }
-    requires room { vec_len out.old + length (hop_spelled C.length_of C.form (hop_state hop.now)) ≤ vec_capacity out.old }
-    ensures items { out.new.items ≡ out.old.items ++ hop_spelled C.length_of C.form (hop_state hop.now) }
-    ensures len { vec_len out.new ≡ vec_len out.old + length (hop_spelled C.length_of C.form (hop_state hop.now)) }
+    requires fits { HopFits HeadForm.Second C.length_of (C.has_form HeadForm.Second) (hop_state hop.now) }
+    requires room { vec_len out.old + length (hop_spelled C.length_of (spelled_by C.form HeadForm.Second) (hop_state hop.now)) ≤ vec_capacity out.old }
+    ensures items { out.new.items ≡ out.old.items ++ hop_spelled C.length_of (spelled_by C.form HeadForm.Second) (hop_state hop.now) }
+    ensures len { vec_len out.new ≡ vec_len out.old + length (hop_spelled C.length_of (spelled_by C.form HeadForm.Second) (hop_state hop.now)) }
     ensures capacity { vec_capacity out.old ≤ vec_capacity out.new }
 {
-    append_number(hop.moment, out);
+    append_moment(hop.moment, out);
     append(&codel_bytes(&hop.codel), out);
     append(&counts_bytes(hop), out);
     append_live(hop, out);
@@ -139,27 +160,29 @@ fn append_hop<C: Form>(hop: &Hop<C>, out: &mut Vec<u8>)
 /// CoDel's state.
 #[tactic(auto, unfolding(crate::specs::Checkpoint::codel_of))]
 fn codel_bytes(codel: &CodelState) -> [u8; CODEL_LENGTH]
-    ensures { result ≡ codel_of codel.now }
+    requires { CodelFits HeadForm.Second codel.now }
+    ensures { result ≡ codel_of HeadForm.Second codel.now }
 {
     let mut bytes = [0; CODEL_LENGTH];
-    BigEndian::write_u64(&mut bytes, codel.first_above_time);
-    BigEndian::write_u64(&mut bytes[8..], codel.drop_next);
-    BigEndian::write_u64(&mut bytes[16..], codel.count);
-    BigEndian::write_u64(&mut bytes[24..], codel.lastcount);
-    bytes[32] = u8::from(codel.dropping);
+    BigEndian::write_uint(&mut bytes, codel.first_above_time, 7);
+    BigEndian::write_uint(&mut bytes[7..], codel.drop_next, 7);
+    BigEndian::write_uint(&mut bytes[14..], codel.count, 6);
+    BigEndian::write_uint(&mut bytes[20..], codel.lastcount, 6);
+    bytes[26] = u8::from(codel.dropping);
     bytes
 }
 
-/// A hop's counts: of what it took, dropped and released, of what is in flight, and of what waits.
+/// A hop's counts: of what it took, dropped and released and of what expired, of what is in flight, and of what waits.
 fn counts_bytes<C: Form>(hop: &Hop<C>) -> [u8; COUNTS_LENGTH]
-    requires { HopFits C.length_of IsAny (hop_state hop.now) }
-    ensures { let h = hop_state hop.now in result ≡ big_bytes 8 h.taken ++ big_bytes 8 h.dropped
-        ++ big_bytes 8 h.released ++ big_bytes 2 (length h.flight) ++ big_bytes 4 (length h.queue) }
+    requires { HopFits HeadForm.Second C.length_of (C.has_form HeadForm.Second) (hop_state hop.now) }
+    ensures { let h = hop_state hop.now in result ≡ big_bytes 6 h.taken ++ big_bytes 6 h.dropped
+        ++ big_bytes 6 h.released ++ big_bytes 6 h.expired ++ big_bytes 2 (length h.flight) ++ big_bytes 4 (length h.queue) }
 {
     let mut bytes = [0; COUNTS_LENGTH];
-    BigEndian::write_u64(&mut bytes, hop.taken);
-    BigEndian::write_u64(&mut bytes[8..], hop.dropped);
-    BigEndian::write_u64(&mut bytes[16..], hop.released);
+    BigEndian::write_uint(&mut bytes, hop.taken, 6);
+    BigEndian::write_uint(&mut bytes[6..], hop.dropped, 6);
+    BigEndian::write_uint(&mut bytes[12..], hop.released, 6);
+    BigEndian::write_uint(&mut bytes[18..], hop.expired, 6);
     BigEndian::write_u16(&mut bytes[24..], hop.flight.len() as u16);
     BigEndian::write_u32(&mut bytes[26..], hop.queue.len() as u32);
     bytes
@@ -167,10 +190,12 @@ fn counts_bytes<C: Form>(hop: &Hop<C>) -> [u8; COUNTS_LENGTH]
 
 /// Adds the entries of what is in flight and what waits, for which there is room.
 fn append_live<C: Form>(hop: &Hop<C>, out: &mut Vec<u8>)
-    requires fit { AllByRecursion (EntryFits C.length_of IsAny) (live_line (hop_state hop.now)) }
-    requires room { vec_len out.old + length (flat_map (entry_spelled C.length_of C.form) (live_line (hop_state hop.now))) ≤ vec_capacity out.old }
-    ensures items { out.new.items ≡ out.old.items ++ flat_map (entry_spelled C.length_of C.form) (live_line (hop_state hop.now)) }
-    ensures len { vec_len out.new ≡ vec_len out.old + length (flat_map (entry_spelled C.length_of C.form) (live_line (hop_state hop.now))) }
+    requires fit { AllByRecursion (EntryFits HeadForm.Second C.length_of (C.has_form HeadForm.Second)) (live_line (hop_state hop.now)) }
+    requires room { vec_len out.old + length (flat_map (entry_spelled C.length_of (spelled_by C.form HeadForm.Second)) (live_line (hop_state hop.now)))
+        ≤ vec_capacity out.old }
+    ensures items { out.new.items ≡ out.old.items ++ flat_map (entry_spelled C.length_of (spelled_by C.form HeadForm.Second)) (live_line (hop_state hop.now)) }
+    ensures len { vec_len out.new
+        ≡ vec_len out.old + length (flat_map (entry_spelled C.length_of (spelled_by C.form HeadForm.Second)) (live_line (hop_state hop.now))) }
     ensures capacity { vec_capacity out.old ≤ vec_capacity out.new }
 {
     let count = hop.flight.len() + hop.queue.len();
@@ -181,24 +206,27 @@ fn append_live<C: Form>(hop: &Hop<C>, out: &mut Vec<u8>)
 
 /// Adds an entry for which there is room.
 fn append_entry<C: Form>(item: &Item<C>, out: &mut Vec<u8>)
-    requires fits { EntryFits C.length_of IsAny item.now }
-    requires room { vec_len out.old + length (entry_spelled C.length_of C.form item.now) ≤ vec_capacity out.old }
-    ensures items { out.new.items ≡ out.old.items ++ entry_spelled C.length_of C.form item.now }
-    ensures len { vec_len out.new ≡ vec_len out.old + length (entry_spelled C.length_of C.form item.now) }
+    requires fits { EntryFits HeadForm.Second C.length_of (C.has_form HeadForm.Second) item.now }
+    requires room { vec_len out.old + length (entry_spelled C.length_of (spelled_by C.form HeadForm.Second) item.now) ≤ vec_capacity out.old }
+    ensures items { out.new.items ≡ out.old.items ++ entry_spelled C.length_of (spelled_by C.form HeadForm.Second) item.now }
+    ensures len { vec_len out.new ≡ vec_len out.old + length (entry_spelled C.length_of (spelled_by C.form HeadForm.Second) item.now) }
     ensures capacity { vec_capacity out.old ≤ vec_capacity out.new }
 {
-    let head = entry_head(item.id, item.stamp, item.payload.len() as u16);
+    let head = entry_head(item);
     append(&head, out);
     item.payload.append_form(out);
 }
 
 /// An entry up to its form.
-fn entry_head(id: u64, stamp: u64, size: u16) -> [u8; ENTRY_HEAD]
-    ensures { result ≡ big_bytes 8 id ++ big_bytes 8 stamp ++ big_bytes 2 size }
+fn entry_head<C: Form>(item: &Item<C>) -> [u8; ENTRY_HEAD]
+    requires { EntryFits HeadForm.Second C.length_of (C.has_form HeadForm.Second) item.now }
+    ensures { result ≡ big_bytes 6 item.now.id ++ big_bytes 7 item.now.stamp ++ big_bytes 5 item.now.limit
+        ++ big_bytes 2 (C.length_of item.now.payload) }
 {
     let mut bytes = [0; ENTRY_HEAD];
-    BigEndian::write_u64(&mut bytes, id);
-    BigEndian::write_u64(&mut bytes[8..], stamp);
-    BigEndian::write_u16(&mut bytes[16..], size);
+    BigEndian::write_uint(&mut bytes, item.id, 6);
+    BigEndian::write_uint(&mut bytes[6..], item.stamp, 7);
+    BigEndian::write_uint(&mut bytes[13..], item.limit, 5);
+    BigEndian::write_u16(&mut bytes[18..], item.payload.len() as u16);
     bytes
 }

@@ -23,8 +23,8 @@ pub const MAX_ITEMS: u64 = 16_384;
 /// The most live payload bytes of a spool.
 pub const MAX_BYTES: u64 = 16_777_216;
 
-/// The segments of a device, the fewest that the format allows: no other number is read or written yet.
-pub const SEGMENTS: u64 = 2;
+/// The fewest segments that the format allows.
+pub const MIN_SEGMENTS: u64 = 2;
 
 /// The most segments that the format allows.
 pub const MAX_SEGMENTS: u64 = 256;
@@ -40,6 +40,9 @@ pub const MAX_MAXPACKET: u64 = 65_535;
 
 /// Every moment is below this, in microseconds: 2 to the power of 52.
 pub const MOMENT_LIMIT: u64 = 4_503_599_627_370_496;
+
+/// Every age limit of a datagram is below this, in microseconds of a link clock: 2 to the power of 40, over 12 days.
+pub const AGE_LIMIT: u64 = 1_099_511_627_776;
 
 /// The most accepted commands in the life of a spool: 2 to the power of 48, less 1.
 pub const MAX_SEQ: u64 = 281_474_976_710_655;
@@ -75,12 +78,13 @@ pub fn law_limits()
     ensures round { MAX_ROUND ≡ 64 }
     ensures items { MAX_ITEMS ≡ 16384 }
     ensures bytes { MAX_BYTES ≡ 16777216 }
-    ensures segments { SEGMENTS ≡ 2 }
+    ensures segments { MIN_SEGMENTS ≡ 2 }
     ensures most_segments { MAX_SEGMENTS ≡ 256 }
     ensures segment_length { SEGMENT_LENGTH_LIMIT ≡ 2 ^ 31 }
     ensures interval { MAX_INTERVAL ≡ 3600000000 }
     ensures maxpacket { MAX_MAXPACKET ≡ 65535 }
     ensures moment { MOMENT_LIMIT ≡ 2 ^ 52 }
+    ensures age { AGE_LIMIT ≡ 2 ^ 40 }
     ensures seq { MAX_SEQ ≡ 2 ^ 48 - 1 }
     ensures seats { MAX_SEATS ≡ 256 }
     ensures capacity { MAX_CAPACITY ≡ 256 }

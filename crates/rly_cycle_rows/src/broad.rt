@@ -51,7 +51,7 @@ fn put_numbers(bytes: &mut Vec<u8>, numbers: &[u64]) -> Result<(), AllocError> {
     Ok(())
 }
 
-/// A head with no datagram in it, and the closed gate after it.
+/// A head of the first form with no datagram in it, and the closed gate after it.
 fn head(alloc: Global) -> Result<Vec<u8>, AllocError> {
     let mut bytes = vec![in alloc; 0xa5]?;
     put_numbers(&mut bytes, &[COMMANDS])?;
@@ -97,6 +97,7 @@ fn ask_of(alloc: Global, kind: Kind, id: u16) -> Result<Ask, AllocError> {
             number: TAKEN + 1,
             hop,
             stamp: MOMENT,
+            limit: 0,
             payload: Payload::new(vec![in alloc; (id & 0xff) as u8; 1_200]?),
         }),
         Kind::Pick => Ask::Command(Command::Pick { hop, now: MOMENT }),
@@ -126,13 +127,20 @@ fn is_wanted(kind: Kind, id: u16, answer: &Answer) -> bool {
             Reply::Picked {
                 number,
                 id,
+                expired,
                 dropped,
             },
         ) => (
             taken + 64,
-            *number == RELEASED + 1 && *id == taken && dropped.as_slice().is_empty(),
+            *number == RELEASED + 1
+                && *id == taken
+                && expired.as_slice().is_empty()
+                && dropped.as_slice().is_empty(),
         ),
-        (Kind::Fetch, Reply::Bytes(payload)) => (COMMANDS + 128, are_of(id, payload.as_slice())),
+        (Kind::Fetch, Reply::Bytes { payload, limit }) => (
+            COMMANDS + 128,
+            are_of(id, payload.as_slice()) && *limit == 0,
+        ),
         (Kind::Release, Reply::Released(count)) => (taken + 128, *count == 1),
         _ => (0, false),
     };
@@ -162,7 +170,8 @@ fn ask_each(
 }
 
 /// Each hop takes one more, picks and fetches it, and no memory is refused. Each is there where the device is opened again. With the
-/// releases the next segment is opened.
+/// releases the next segment is opened, with a head of the second form: a body of 6,280 bytes, which are 8, 8 for each of 64 peers, 64 for
+/// each of 64 hops, and 26 for each of 64 datagrams by place.
 #[test]
 fn each_of_64_hops_takes_one(rt: HostRuntime) -> Result<(), Fail> {
     let alloc = rt.alloc();
@@ -178,8 +187,8 @@ fn each_of_64_hops_takes_one(rt: HostRuntime) -> Result<(), Fail> {
     }
     ask_each(&rt, alloc, &mut journal, Kind::Release)?;
     let mut disk = journal.into_disk();
-    let mut start = [0; 9];
+    let mut start = [0; 13];
     assert!(rt; disk.size() as usize == SIZE && disk.read_at(64, &mut start).is_ok());
-    expect!(rt; start == [0xa5, 0, 0, 1, 0, 0, 0, 0, 1]);
+    expect!(rt; start == [0xa5, 0, 0, 1, 0, 0, 0, 0, 1, 0x80, 0, 0x18, 0x88]);
     Ok(())
 }

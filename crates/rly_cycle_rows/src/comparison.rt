@@ -52,22 +52,33 @@ pub(crate) fn is_same(one: &Reply, other: &Reply) -> bool {
             Reply::Picked {
                 number,
                 id,
+                expired,
                 dropped,
             },
             Reply::Picked {
                 number: other_number,
                 id: other_id,
+                expired: other_expired,
                 dropped: other_dropped,
             },
         ) => {
             number == other_number
                 && id == other_id
+                && expired.as_slice() == other_expired.as_slice()
                 && dropped.as_slice() == other_dropped.as_slice()
         }
-        (Reply::Nothing, Reply::Nothing) => true,
+        (Reply::Nothing { expired: a }, Reply::Nothing { expired: b }) => {
+            a.as_slice() == b.as_slice()
+        }
         (Reply::Released(a), Reply::Released(b)) => a == b,
         (Reply::Unchanged, Reply::Unchanged) => true,
-        (Reply::Bytes(a), Reply::Bytes(b)) => a.as_slice() == b.as_slice(),
+        (
+            Reply::Bytes { payload, limit },
+            Reply::Bytes {
+                payload: other_payload,
+                limit: other_limit,
+            },
+        ) => payload.as_slice() == other_payload.as_slice() && limit == other_limit,
         (
             Reply::WindowIs { first, next },
             Reply::WindowIs {

@@ -47,6 +47,7 @@ pub(crate) fn take(alloc: Global, number: u64) -> Result<Ask, AllocError> {
         number,
         hop: HOP,
         stamp: 0,
+        limit: 0,
         payload: Payload::new(bytes),
     }))
 }
@@ -109,8 +110,16 @@ pub(crate) fn is_same(one: &Reply, other: &Reply) -> bool {
             },
         ) => number == other_number && id == other_id,
         (Reply::Released(a), Reply::Released(b)) => a == b,
-        (Reply::Bytes(a), Reply::Bytes(b)) => a.as_slice() == b.as_slice(),
-        (Reply::Nothing, Reply::Nothing) => true,
+        (
+            Reply::Bytes { payload, limit },
+            Reply::Bytes {
+                payload: other_payload,
+                limit: other_limit,
+            },
+        ) => payload.as_slice() == other_payload.as_slice() && limit == other_limit,
+        (Reply::Nothing { expired: a }, Reply::Nothing { expired: b }) => {
+            a.as_slice() == b.as_slice()
+        }
         (Reply::Refused(a), Reply::Refused(b)) => a == b,
         _ => false,
     }
@@ -229,7 +238,7 @@ pub(crate) fn before_the_picks(
     Ok((journal, machine))
 }
 
-/// The second segment is opened before the picks of the second cycle: its head has 1,828 bytes, 13 of them before the state, and
+/// The second segment is opened before the picks of the second cycle: its head has 1,757 bytes, 13 of them before the state, and
 /// no payload in it.
 #[test]
 fn the_second_segment_is_opened(rt: HostRuntime) -> Result<(), Fail> {
@@ -240,12 +249,12 @@ fn the_second_segment_is_opened(rt: HostRuntime) -> Result<(), Fail> {
     let mut journal = opened(&rt, alloc, disk);
     expect_round(&rt, alloc, &mut journal, &mut machine, 2, Part::Picks)?;
     let mut disk = journal.into_disk();
-    expect!(rt; head_of(&rt, &mut disk, 1) == [0xa5, 0, 0, 0, 0, 0, 0, 0, 2, 0, 0, 0x07, 0x17]);
+    expect!(rt; head_of(&rt, &mut disk, 1) == [0xa5, 0, 0, 0, 0, 0, 0, 0, 2, 0x80, 0, 0x06, 0xd0]);
     expect!(rt; head_of(&rt, &mut disk, 2)[0] != 0xa5);
     Ok(())
 }
 
-/// The third is opened before those of the third cycle: the 32 payloads that live in the first are moved into its head, of 39,972
+/// The third is opened before those of the third cycle: the 32 payloads that live in the first are moved into its head, of 39,997
 /// bytes.
 #[test]
 fn the_third_segment_is_opened(rt: HostRuntime) -> Result<(), Fail> {
@@ -257,6 +266,6 @@ fn the_third_segment_is_opened(rt: HostRuntime) -> Result<(), Fail> {
     expect_round(&rt, alloc, &mut journal, &mut machine, 3, Part::Picks)?;
     expect_round(&rt, alloc, &mut journal, &mut machine, 3, Part::Fetches)?;
     let mut disk = journal.into_disk();
-    expect!(rt; head_of(&rt, &mut disk, 2) == [0xa5, 0, 0, 0, 0, 0, 0, 0, 3, 0, 0, 0x9c, 0x17]);
+    expect!(rt; head_of(&rt, &mut disk, 2) == [0xa5, 0, 0, 0, 0, 0, 0, 0, 3, 0x80, 0, 0x9c, 0x30]);
     Ok(())
 }

@@ -51,8 +51,8 @@ pub(crate) const FOUR: Geometry = Geometry {
 /// A header of 64 bytes and the segments.
 const SIZE: usize = 355_588;
 
-/// The gate after the first head: 64 bytes of header, 13 before the head's body, and 8, 8 and 71 of the body.
-pub(crate) const FIRST_GATE: usize = 164;
+/// The gate after the first head: 64 bytes of header, 13 before the head's body, and 8, 8 and 64 of the body.
+pub(crate) const FIRST_GATE: usize = 157;
 
 /// A new device, in which these bytes stand from the first gate on.
 pub(crate) fn device_with(

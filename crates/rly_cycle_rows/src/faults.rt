@@ -142,7 +142,7 @@ fn expect_lost(
     for (step, answer) in steps.iter().zip(answers) {
         if is_unread(answer) {
             let reply = reply_of(alloc, machine, *step)?;
-            expect!(rt; matches!(reply, Reply::Bytes(_)) && answer.position == machine.seq());
+            expect!(rt; matches!(reply, Reply::Bytes { .. }) && answer.position == machine.seq());
             lost = lost.saturating_add(1);
         } else {
             let is_answered = is_answered(alloc, machine, *step, answer)?;

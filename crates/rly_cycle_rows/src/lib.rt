@@ -21,6 +21,8 @@ macro_rules! expect {
 #[cfg(test)]
 mod broad;
 #[cfg(test)]
+mod carried_over;
+#[cfg(test)]
 mod comparison;
 #[cfg(test)]
 mod cycles;
@@ -34,6 +36,8 @@ mod faults;
 mod growths;
 #[cfg(test)]
 mod many_segments;
+#[cfg(test)]
+mod old_device;
 #[cfg(test)]
 mod opening;
 #[cfg(test)]

@@ -33,12 +33,13 @@ fn take(alloc: Global, id: u16, number: u64, length: usize) -> Result<Ask, Alloc
         number,
         hop: HopId(id),
         stamp: 0,
+        limit: 0,
         payload: Payload::new(vec![in alloc; number.to_be_bytes()[7]; length]?),
     }))
 }
 
 /// A round that takes a byte which stays at hop 1, while eight datagrams of 1,200 bytes pass through hop 2. Its group has 9,914 bytes,
-/// and the head before it 179 at least. So a segment is due then: 10,093 and 78,280 exceed 87,409.
+/// and the head before it 165 at least. So a segment is due then: 10,079 and 78,280 exceed 87,409.
 fn passing(alloc: Global, round: u64) -> Result<Vec<Call>, AllocError> {
     let hop = HopId(2);
     let last = 8 * round.min(ROUNDS);

@@ -121,18 +121,18 @@ fn segments_that_are_too_short(rt: HostRuntime) -> Result<(), Fail> {
 }
 
 /// What is read of a device where the third segment was opened and 32 datagrams were picked: the header, three generations, the head and
-/// its body of 39,959 bytes, a group, and the closed gate after it.
+/// its body of 39,984 bytes, a group, and the closed gate after it.
 const READS: [(u64, u64); 10] = [
     (0, 51),
     (64, 9),
     (118_572, 9),
     (237_080, 9),
     (237_081, 12),
-    (237_093, 39_959),
-    (277_052, 1),
-    (277_053, 4),
-    (277_057, 354),
-    (277_411, 1),
+    (237_093, 39_984),
+    (277_077, 1),
+    (277_078, 4),
+    (277_082, 354),
+    (277_436, 1),
 ];
 
 /// A sync, and then those reads: none of the 32 payloads that the head has by place.

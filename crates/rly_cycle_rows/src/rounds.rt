@@ -27,6 +27,7 @@ fn take(alloc: Global, number: u64, length: usize) -> Result<Ask, AllocError> {
         number,
         hop: HOP,
         stamp: number,
+        limit: 0,
         payload: Payload::new(bytes),
     }))
 }
@@ -51,7 +52,7 @@ fn reply_to(
 /// Whether a reply gives so many bytes, each of the same value.
 fn gives(reply: &Reply, value: u8, length: usize) -> bool {
     match reply {
-        Reply::Bytes(payload) => {
+        Reply::Bytes { payload, .. } => {
             payload.as_slice().len() == length
                 && payload.as_slice().iter().all(|byte| *byte == value)
         }

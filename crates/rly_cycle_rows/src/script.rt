@@ -19,6 +19,8 @@ pub(crate) enum Step {
     Take {
         number: u64,
         stamp: u64,
+        /// How long it may wait, 0 for no limit.
+        limit: u64,
         length: usize,
     },
     Pick {
@@ -41,12 +43,14 @@ impl Step {
             Step::Take {
                 number,
                 stamp,
+                limit,
                 length,
             } => Ask::Command(Command::Take {
                 peer: PEER,
                 number,
                 hop: HOP,
                 stamp,
+                limit,
                 payload: Payload::new(vec![in alloc; number.to_be_bytes()[7]; length]?),
             }),
             Step::Pick { now } => Ask::Command(Command::Pick { hop: HOP, now }),
@@ -58,11 +62,17 @@ impl Step {
     }
 }
 
-/// Takes so many bytes.
+/// Takes so many bytes, without a limit.
 pub(crate) fn take(number: u64, stamp: u64, length: usize) -> Step {
+    take_within(number, stamp, 0, length)
+}
+
+/// Takes so many bytes, which may wait for so long.
+pub(crate) fn take_within(number: u64, stamp: u64, limit: u64, length: usize) -> Step {
     Step::Take {
         number,
         stamp,
+        limit,
         length,
     }
 }
@@ -70,10 +80,12 @@ pub(crate) fn take(number: u64, stamp: u64, length: usize) -> Step {
 /// The seat that asks.
 const SEAT: SeatId = SeatId(3);
 
-/// Rounds that are asked of a new device of a geometry. A round that holds a command holds no Fetch.
+/// Rounds that are asked of a device of a geometry. A round that holds a command holds no Fetch.
 #[derive(Clone, Copy)]
 pub(crate) struct Script<'a> {
     pub(crate) geometry: Geometry,
+    /// What was asked of the device before: nothing of a new one.
+    pub(crate) before: &'a [Step],
     pub(crate) rounds: &'a [Vec<Step>],
 }
 

@@ -1,5 +1,5 @@
 //! A script on a device that is stopped at each of its calls in turn, and then crashes, or goes on.
-use crate::comparison::{expect_numbers, expect_state};
+use crate::comparison::{expect_numbers, expect_state, reply_of};
 use crate::device::{bytes_of, new_device, opened};
 use crate::faults::{Ended, run, standing};
 use crate::script::{Script, Step};
@@ -23,7 +23,7 @@ pub(crate) const KINDS: [Torn; 5] = [
 const TORN_WRITES: [u64; 3] = [0, 1, 1_000];
 
 /// No script here makes so many device calls.
-const MOST_CALLS: u64 = 300;
+const MOST_CALLS: u64 = 400;
 
 /// What a script without a failure asks of its device.
 #[derive(Clone, Copy)]
@@ -44,7 +44,11 @@ pub(crate) fn walk(
     rounds: &[Vec<Step>],
     costs: Costs,
 ) -> Result<(), AllocError> {
-    let script = Script { geometry, rounds };
+    let script = Script {
+        geometry,
+        before: &[],
+        rounds,
+    };
     let mut disk = new_device(rt, alloc, &geometry)?;
     let image = bytes_of(rt, alloc, &mut disk)?;
     expect_costs(rt, alloc, script, &image, costs)?;
@@ -53,14 +57,38 @@ pub(crate) fn walk(
     Ok(())
 }
 
+/// Stops a script at each of these device calls, which it makes, and has each fail, on a device that stands for what was asked before.
+pub(crate) fn walk_part(
+    rt: &impl Abort,
+    alloc: Global,
+    script: Script,
+    image: &[u8],
+    (first, last): (u64, u64),
+) -> Result<(), AllocError> {
+    assert!(rt; last < MOST_CALLS);
+    let mut left = [false; 2];
+    for at in first..=last {
+        let stopped = stop_at(rt, alloc, script, image, at, &mut left)?;
+        let failed = go_on_at(rt, alloc, script, image, at)?;
+        expect!(rt; stopped != Failed::Nothing && failed == stopped, at);
+    }
+    // a round that was stopped stands now and then
+    expect!(rt; left == [true; 2]);
+    Ok(())
+}
+
 /// The plain machine before a script.
-fn new_machine(
+pub(crate) fn new_machine(
     rt: &impl Abort,
     alloc: Global,
     script: Script,
 ) -> Result<Machine<Payload>, AllocError> {
     assert!(rt; script.geometry.params.check().is_ok());
-    Machine::new(alloc, script.geometry.params)
+    let mut machine = Machine::new(alloc, script.geometry.params)?;
+    for step in script.before {
+        let _ = reply_of(alloc, &mut machine, *step)?;
+    }
+    Ok(machine)
 }
 
 /// A device with these bytes that fails at a call.
@@ -76,7 +104,7 @@ fn failing(
 }
 
 /// Expects of a script without a failure what it asks of its device.
-fn expect_costs(
+pub(crate) fn expect_costs(
     rt: &impl Abort,
     alloc: Global,
     script: Script,
@@ -131,12 +159,7 @@ fn stop_at_each_call(
 ) -> Result<u64, AllocError> {
     let mut left = [false; 2];
     for at in 1..MOST_CALLS {
-        let mut failed = Failed::Settling;
-        for torn in TORN_WRITES {
-            if failed == Failed::Settling {
-                failed = stop_in_each_way(rt, alloc, script, image, at, torn, &mut left)?;
-            }
-        }
+        let failed = stop_at(rt, alloc, script, image, at, &mut left)?;
         if failed == Failed::Nothing {
             // a round that was stopped stands now and then
             expect!(rt; left == [true; 2]);
@@ -144,6 +167,25 @@ fn stop_at_each_call(
         }
     }
     panic!(rt; "no run without a failure")
+}
+
+/// Stops a script at a device call, with each torn write if it is one, and crashes in each way. Tells `left` whether a round stood that
+/// was not answered, and answers what failed.
+fn stop_at(
+    rt: &impl Abort,
+    alloc: Global,
+    script: Script,
+    image: &[u8],
+    at: u64,
+    left: &mut [bool; 2],
+) -> Result<Failed, AllocError> {
+    let mut failed = Failed::Settling;
+    for torn in TORN_WRITES {
+        if failed == Failed::Settling {
+            failed = stop_in_each_way(rt, alloc, script, image, at, torn, left)?;
+        }
+    }
+    Ok(failed)
 }
 
 /// Stops the script at a call with one torn write, and crashes in each way. Tells `left` whether a round stood that was not
@@ -215,18 +257,29 @@ fn go_on_at_each_call(
     image: &[u8],
 ) -> Result<u64, AllocError> {
     for at in 1..MOST_CALLS {
-        let mut failed = Failed::Settling;
-        for torn in TORN_WRITES {
-            if failed == Failed::Settling {
-                let disk = failing(alloc, image, at, torn, After::GoesOn)?;
-                failed = go_on(rt, alloc, script, disk, at)?;
-            }
-        }
-        if failed == Failed::Nothing {
+        if go_on_at(rt, alloc, script, image, at)? == Failed::Nothing {
             return Ok(at - 1);
         }
     }
     panic!(rt; "no run without a failure")
+}
+
+/// Fails the device at a call of a script, with each torn write if it is one, and goes on. Answers what failed.
+fn go_on_at(
+    rt: &impl Abort,
+    alloc: Global,
+    script: Script,
+    image: &[u8],
+    at: u64,
+) -> Result<Failed, AllocError> {
+    let mut failed = Failed::Settling;
+    for torn in TORN_WRITES {
+        if failed == Failed::Settling {
+            let disk = failing(alloc, image, at, torn, After::GoesOn)?;
+            failed = go_on(rt, alloc, script, disk, at)?;
+        }
+    }
+    Ok(failed)
 }
 
 /// Fails the device at one call, opens it again, and goes on from the state that was found to the end of the script. Answers what

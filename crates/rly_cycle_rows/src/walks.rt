@@ -1,6 +1,6 @@
 //! Scripts that are walked: without a failure, stopped at each call of the device, and with each call failing.
 use crate::device::{FOUR, SMALL, THREE};
-use crate::script::{Step, in_rounds, take};
+use crate::script::{Step, in_rounds, take, take_within};
 use crate::stops::{Costs, walk};
 use std::alloc::{AllocError, Global};
 use std::test::Fail;
@@ -43,6 +43,52 @@ fn rounds_of_one_call(rt: HostRuntime) -> Result<(), Fail> {
         generations: &[4, 2, 3, 0],
     };
     walk(&rt, alloc, FOUR, &rounds, costs)?;
+    Ok(())
+}
+
+/// Commands one by one, some with limits. The Pick at 120,000 finds one that has expired and drops the next; those at 130,000 and at
+/// 500,000 leave nothing. The heads that are opened have a limit or what has expired.
+fn limited() -> [Step; 15] {
+    [
+        take(1, 0, 1_200),
+        take_within(2, 100, 20_000, 1_200),
+        take(3, 200, 1_200),
+        Step::Pick { now: 10_000 },
+        Step::Release { number: 1 },
+        take(4, 10_000, 1_200),
+        take_within(5, 20_000, 5, 400),
+        Step::Pick { now: 120_000 },
+        Step::Pick { now: 130_000 },
+        take_within(6, 140_000, 1_099_511_627_775, 1_200),
+        take_within(7, 140_000, 1, 1_200),
+        Step::Release { number: 2 },
+        Step::Pick { now: 140_002 },
+        Step::Pick { now: 500_000 },
+        Step::Release { number: 3 },
+    ]
+}
+
+#[test]
+fn limits_on_two_segments(rt: HostRuntime) -> Result<(), Fail> {
+    let alloc = rt.alloc();
+    let costs = Costs {
+        calls: 83,
+        syncs: 37,
+        generations: &[3, 2],
+    };
+    walk(&rt, alloc, SMALL, &in_rounds(alloc, &limited(), 1)?, costs)?;
+    Ok(())
+}
+
+#[test]
+fn limits_on_four_segments(rt: HostRuntime) -> Result<(), Fail> {
+    let alloc = rt.alloc();
+    let costs = Costs {
+        calls: 85,
+        syncs: 40,
+        generations: &[4, 2, 3, 0],
+    };
+    walk(&rt, alloc, FOUR, &in_rounds(alloc, &limited(), 1)?, costs)?;
     Ok(())
 }
 
@@ -148,13 +194,18 @@ fn payloads_in_three_segments(rt: HostRuntime) -> Result<(), Fail> {
     Ok(())
 }
 
-/// The rounds of a worked cycle, which takes 32 datagrams from a number on, picks them, and fetches all in flight. From the second on
-/// the older 32 are released then.
-fn cycle(alloc: Global, rounds: &mut Vec<Vec<Step>>, first: u64) -> Result<(), AllocError> {
+/// The rounds of a worked cycle, which takes 32 datagrams from a number on, with a limit or without, picks them, and fetches all in
+/// flight. From the second on the older 32 are released then.
+pub(crate) fn cycle(
+    alloc: Global,
+    rounds: &mut Vec<Vec<Step>>,
+    first: u64,
+    limit: u64,
+) -> Result<(), AllocError> {
     let after = first.saturating_add(32);
     let mut takes = Vec::new(alloc);
     for number in first..after {
-        takes.push(take(number, 0, 1_200))?;
+        takes.push(take_within(number, 0, limit, 1_200))?;
     }
     rounds.push(takes)?;
     rounds.push(vec![in alloc; Step::Pick { now: 0 }; 32]?)?;
@@ -177,7 +228,7 @@ fn three_cycles(rt: HostRuntime) -> Result<(), Fail> {
     let alloc = rt.alloc();
     let mut rounds = Vec::new(alloc);
     for first in [1, 33, 65] {
-        cycle(alloc, &mut rounds, first)?;
+        cycle(alloc, &mut rounds, first, 0)?;
     }
     expect!(rt; rounds.len() == 11);
     let costs = Costs {

@@ -2,7 +2,7 @@ ghost use Rattle.std.specs.Prelude.{◌≡◌, ◌↔◌, IfOk, IsOk, IsOkUnless
 ghost use Rattle.rly_segment.specs.Device.{IsLayout, device_length};
 ghost use Rattle.rly_daemon.specs.Formatting.{wanted_geometry};
 
-use rly_core::limits::{MAX_SEGMENTS, SEGMENT_LENGTH_LIMIT, SEGMENTS};
+use rly_core::limits::{MAX_SEGMENTS, MIN_SEGMENTS, SEGMENT_LENGTH_LIMIT};
 use rly_core::{Geometry, Params, Refusal};
 use rly_reclaim::{fits, least_length};
 use rly_segment::segment_end;
@@ -19,7 +19,7 @@ pub(crate) fn geometry_of(
     ensures refusal { IsOkUnless result Refusal.BadGeometry }
 {
     params.check()?;
-    if segments < SEGMENTS || MAX_SEGMENTS < segments {
+    if segments < MIN_SEGMENTS || MAX_SEGMENTS < segments {
         return Err(Refusal::BadGeometry);
     }
     let least = least_length(&Geometry {

@@ -62,10 +62,10 @@ fn expect_header(rt: &(impl Abort + AllocGlobal), bytes: &[u8]) {
 
 /// Checks the rest of its first bytes.
 fn expect_head(rt: &impl Abort, bytes: &[u8]) {
-    let head = b"\xa5\0\0\0\0\0\0\0\x01\0\0\0\x57".as_slice();
+    let head = b"\xa5\0\0\0\0\0\0\0\x01\x80\0\0\x50".as_slice();
     expect!(*rt; bytes.iter().skip(64).take(13).eq(head.iter()));
-    expect!(*rt; bytes.iter().skip(77).take(87).all(|byte| *byte == 0));
-    expect!(*rt; bytes.get(164) == Some(&0));
+    expect!(*rt; bytes.iter().skip(77).take(80).all(|byte| *byte == 0));
+    expect!(*rt; bytes.get(157) == Some(&0));
 }
 
 #[test]
@@ -101,6 +101,32 @@ fn expect_runs(rt: &(impl Abort + Host), path: &str) {
     for (input, output) in &RUNS {
         expect_played(rt, path, *input, *output);
     }
+}
+
+/// Lines of several runs of `play` with limits, and what each writes.
+const LIMITED_RUNS: [(&[u8], &[u8]); 3] = [
+    (
+        b"take 1 1 1 0 41 5000\ntake 1 2 1 0 42 6000\n",
+        b"taken 1 1\ntaken 1 2\n",
+    ),
+    (b"pick 1 5001\n", b"picked 1 1 2 expired 1\n"),
+    (b"fetch 1 1\n", b"bytes 1 1 42 6000\n"),
+];
+
+/// What `audit` tells then.
+const LIMITED_BOOKS: &[u8] = b"hop 1 taken 2 queued 0 flight 1 dropped 0 released 0 expired 1\n\
+peer 1 last 2\nseq 3\nbalance ok\n";
+
+/// A limit outlives the program.
+#[test]
+fn limits_outlive_the_program(rt: HostRuntime) {
+    let path = path_of(&rt, rt, "limited");
+    make_small(&rt, path.as_str());
+    for (input, output) in &LIMITED_RUNS {
+        expect_played(&rt, path.as_str(), *input, *output);
+    }
+    expect_books(&rt, path.as_str(), LIMITED_BOOKS);
+    remove(&rt, path.as_str());
 }
 
 /// Options of geometries that are out of their limits.

@@ -1,6 +1,7 @@
 //! Headers and heads that are read.
 ghost use Rattle.std.specs.Prelude.{◌+◌, ◌≤◌, length};
 
+use rly_checkpoint::HeadForm;
 use rly_core::{Geometry, Params};
 use rly_disk::{After, Disk, FaultDisk, MemDisk};
 use rly_machine::Payload;
@@ -34,8 +35,14 @@ const HEADER: [u8; 51] = [
     1, 0x86, 0xa0,
 ];
 
-/// What the head of the empty state begins with, places 64 to 76: 87 bytes `00` stand after it.
-const HEAD: [u8; 13] = [0xa5, 0, 0, 0, 0, 0, 0, 0, 1, 0, 0, 0, 0x57];
+/// What the head of the empty state begins with, places 64 to 76: 80 bytes `00` stand after it.
+const HEAD: [u8; 13] = [0xa5, 0, 0, 0, 0, 0, 0, 0, 1, 0x80, 0, 0, 0x50];
+
+/// What it begins with in the first form, which is only read: 87 bytes `00` stand after it.
+const OLD_HEAD: [u8; 13] = [0xa5, 0, 0, 0, 0, 0, 0, 0, 1, 0, 0, 0, 0x57];
+
+/// Where the length of that head's body begins.
+const LENGTH: u64 = 73;
 
 const SIZE: u64 = 165_880;
 
@@ -46,9 +53,14 @@ const SECOND_GENERATION: u64 = 82_980;
 
 /// A device with that header and head, formatted and unused.
 fn device(rt: &impl Abort, alloc: Global) -> Result<MemDisk, AllocError> {
+    device_with(rt, alloc, &HEAD)
+}
+
+/// A device with that header and one of the two heads.
+fn device_with(rt: &impl Abort, alloc: Global, head: &[u8; 13]) -> Result<MemDisk, AllocError> {
     let mut disk = MemDisk::new(alloc, vec![in alloc; 0u8; SIZE as usize]?);
     put(rt, &mut disk, 0, &HEADER);
-    put(rt, &mut disk, 64, &HEAD);
+    put(rt, &mut disk, 64, head);
     Ok(disk)
 }
 
@@ -115,23 +127,57 @@ fn a_failed_read_is_a_device_fault(rt: HostRuntime) -> Result<(), Fail> {
     Ok(())
 }
 
-#[test]
-fn the_head_of_the_empty_state(rt: HostRuntime) -> Result<(), Fail> {
-    let alloc = rt.alloc();
-    let mut disk = device(&rt, alloc)?;
-    match newest_of(&rt, &mut disk) {
+/// The head of the empty state is the newest and is read in its form, with a gate after it.
+fn expect_empty(
+    rt: &impl Abort,
+    alloc: Global,
+    head: &[u8; 13],
+    form: HeadForm,
+    gate: u64,
+) -> Result<(), AllocError> {
+    let mut disk = device_with(rt, alloc, head)?;
+    match newest_of(rt, &mut disk) {
         Ok(found) => {
             expect!(rt; found.segment == 0);
             expect!(rt; !found.closed[0] && found.closed[1]);
         }
         Err(_) => panic!(rt; "no newest head"),
     }
-    match head_of(&rt, alloc, &mut disk, 0) {
+    match head_of(rt, alloc, &mut disk, 0) {
         Ok(head) => {
-            expect!(rt; (head.generation, head.gate, head.machine.seq()) == (1, 164, 0));
+            expect!(rt; (head.generation, head.gate, head.machine.seq()) == (1, gate, 0));
+            expect!(rt; head.form == form);
         }
-        Err(HeadFault::OutOfMemory) => return Err(AllocError.into()),
+        Err(HeadFault::OutOfMemory) => return Err(AllocError),
         Err(_) => panic!(rt; "no head"),
+    }
+    Ok(())
+}
+
+#[test]
+fn the_head_of_the_empty_state(rt: HostRuntime) -> Result<(), Fail> {
+    expect_empty(&rt, rt.alloc(), &HEAD, HeadForm::Second, 157)?;
+    Ok(())
+}
+
+#[test]
+fn the_head_of_the_empty_state_in_the_first_form(rt: HostRuntime) -> Result<(), Fail> {
+    expect_empty(&rt, rt.alloc(), &OLD_HEAD, HeadForm::First, 164)?;
+    Ok(())
+}
+
+/// The top bit of the length of its body says the form of a head: with another top bit neither head is one.
+#[test]
+fn the_top_bit_of_the_length_says_the_form(rt: HostRuntime) -> Result<(), Fail> {
+    let alloc = rt.alloc();
+    for (head, bits) in [(&OLD_HEAD, 0x80), (&HEAD, 0)] {
+        let mut disk = device_with(&rt, alloc, head)?;
+        put(&rt, &mut disk, LENGTH, &[bits]);
+        match head_of(&rt, alloc, &mut disk, 0) {
+            Err(HeadFault::Damaged) => {}
+            Err(HeadFault::OutOfMemory) => return Err(AllocError.into()),
+            _ => panic!(rt; "a head of another form"),
+        }
     }
     Ok(())
 }
@@ -168,8 +214,8 @@ fn a_newer_head_without_a_body_is_damaged(rt: HostRuntime) -> Result<(), Fail> {
 #[test]
 fn a_generation_that_no_state_has_is_damaged(rt: HostRuntime) -> Result<(), Fail> {
     let alloc = rt.alloc();
-    for generation in [0, 2] {
-        let mut disk = device(&rt, alloc)?;
+    for (head, generation) in [(&HEAD, 0), (&HEAD, 2), (&OLD_HEAD, 0), (&OLD_HEAD, 2)] {
+        let mut disk = device_with(&rt, alloc, head)?;
         put(&rt, &mut disk, 72, &[generation]);
         match head_of(&rt, alloc, &mut disk, 0) {
             Err(HeadFault::Damaged) => {}

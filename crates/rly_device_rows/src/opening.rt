@@ -2,12 +2,13 @@
 ghost use Rattle.std.specs.Prelude.{IsTrue};
 ghost use Rattle.rly_segment.specs.Device.{IsLayout};
 
-use rly_core::limits::{SEGMENT_LENGTH_LIMIT, SEGMENTS};
+use rly_checkpoint::HeadForm;
+use rly_core::limits::{MIN_SEGMENTS, SEGMENT_LENGTH_LIMIT};
 use rly_core::{Geometry, Params};
 use rly_disk::{After, Disk, FaultDisk, MemDisk, Torn};
 use rly_machine::{Machine, Payload};
 use rly_reclaim::fits;
-use rly_segment::{FormatFault, OpeningFault, Target, format, open_segment};
+use rly_segment::{FormatFault, HeadFault, OpeningFault, Target, format, open_segment, read_head};
 use std::alloc::{AllocError, Global};
 use std::process::Abort;
 use std::test::Fail;
@@ -39,8 +40,11 @@ const HEADER: [u8; 51] = [
     1, 0x86, 0xa0,
 ];
 
-/// The bytes at the front of the head of the empty state. 87 bytes 00 and a closed gate follow.
-const HEAD: [u8; 13] = [0xa5, 0, 0, 0, 0, 0, 0, 0, 1, 0, 0, 0, 0x57];
+/// The bytes at the front of the head of the empty state. 80 bytes 00 and a closed gate follow.
+const HEAD: [u8; 13] = [0xa5, 0, 0, 0, 0, 0, 0, 0, 1, 0x80, 0, 0, 0x50];
+
+/// Those of a head in the first form, of a later generation. 87 bytes and a gate follow.
+const OLD_HEAD: [u8; 13] = [0xa5, 0, 0, 0, 0, 0, 0, 0, 9, 0, 0, 0, 0x57];
 
 const KINDS: [Torn; 5] = [
     Torn::AsRead,
@@ -67,7 +71,7 @@ fn is_new_head(bytes: &[u8], place: usize) -> bool {
             .iter()
             .skip(place)
             .skip(13)
-            .take(88)
+            .take(81)
             .all(|byte| *byte == 0)
 }
 
@@ -98,7 +102,7 @@ fn expect_beside(rt: &impl Abort, bytes: &[u8], byte: u8) {
     expect!(rt; is_formatted(bytes));
     expect!(rt; bytes.iter().skip(51).take(13).all(|b| *b == byte));
     expect!(rt; bytes.get(SECOND) == Some(&0));
-    expect!(rt; bytes.iter().skip(165).filter(|b| **b != byte).count() <= 1);
+    expect!(rt; bytes.iter().skip(158).filter(|b| **b != byte).count() <= 1);
 }
 
 #[test]
@@ -199,7 +203,7 @@ fn may_have(geometry: &Geometry, size: u64) -> bool
     ensures { IsTrue result → IsLayout geometry.now size }
 {
     geometry.params.check().is_ok()
-        && geometry.segments == SEGMENTS
+        && geometry.segments == MIN_SEGMENTS
         && geometry.length < SEGMENT_LENGTH_LIMIT
         && fits(geometry)
         && 64 + geometry.segments * geometry.length <= size
@@ -225,13 +229,13 @@ fn expect_head(rt: &impl Abort, bytes: &[u8], byte: u8) {
     assert!(rt; bytes.len() == SIZE);
     expect!(rt; is_new_head(bytes, SECOND));
     expect!(rt; bytes.iter().take(SECOND).all(|b| *b == byte));
-    expect!(rt; bytes.iter().skip(SECOND + 101).all(|b| *b == byte));
+    expect!(rt; bytes.iter().skip(SECOND + 94).all(|b| *b == byte));
 }
 
 /// Opens the second segment of a device that is filled with one byte.
 fn expect_opened(rt: &impl Abort, alloc: Global, byte: u8, calls: u64) -> Result<(), AllocError> {
     let mut disk = FaultDisk::new(disk_of(alloc, byte, SIZE)?, 0, 0, After::Stops);
-    expect!(rt; open(rt, alloc, &mut disk, byte == 0) == Ok(83_072));
+    expect!(rt; open(rt, alloc, &mut disk, byte == 0) == Ok(83_065));
     expect!(rt; (disk.calls(), disk.syncs()) == (calls, 3));
     let bytes = bytes_of(alloc, &mut disk)?;
     expect_head(rt, &bytes, byte);
@@ -242,6 +246,35 @@ fn expect_opened(rt: &impl Abort, alloc: Global, byte: u8, calls: u64) -> Result
 fn a_segment_is_opened(rt: HostRuntime) -> Result<(), Fail> {
     for (byte, calls) in [(0xa5, 6), (0, 5)] {
         expect_opened(&rt, rt.alloc(), byte, calls)?;
+    }
+    Ok(())
+}
+
+/// A segment that has a head of the first form is opened with one of the second.
+#[test]
+fn a_segment_with_a_head_of_the_first_form_is_opened(rt: HostRuntime) -> Result<(), Fail> {
+    let alloc = rt.alloc();
+    let mut old = vec![in alloc; 7u8; SIZE]?;
+    assert!(rt; old.len() == SIZE);
+    old[SECOND..SECOND + 13].copy_from_slice(&OLD_HEAD);
+    let mut disk = MemDisk::new(alloc, old);
+    expect!(rt; open(&rt, alloc, &mut disk, false) == Ok(83_065));
+    let bytes = bytes_of(alloc, &mut disk)?;
+    expect_head(&rt, &bytes, 7);
+    expect_new(&rt, alloc, &mut disk)?;
+    Ok(())
+}
+
+/// The head of the second segment is that of the empty state, in the second form.
+fn expect_new(rt: &impl Abort, alloc: Global, disk: &mut MemDisk) -> Result<(), AllocError> {
+    assert!(rt; may_have(&DEVICE_E, disk.size()));
+    match read_head(alloc, disk, &DEVICE_E, 1) {
+        Ok(head) => {
+            expect!(rt; (head.generation, head.gate, head.machine.seq()) == (1, 83_065, 0));
+            expect!(rt; head.form == HeadForm::Second);
+        }
+        Err(HeadFault::OutOfMemory) => return Err(AllocError),
+        Err(_) => panic!(rt; "no head"),
     }
     Ok(())
 }

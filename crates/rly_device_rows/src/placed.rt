@@ -1,9 +1,10 @@
-//! Heads whose payloads stand inline or by place, byte by byte.
-ghost use Rattle.std.specs.Prelude.{IsTrue};
+//! Heads whose payloads stand inline or by place, byte by byte, in both forms.
+ghost use Rattle.std.specs.Prelude.{◌^◌, IsTrue};
+ghost use Rattle.rly_core.specs.Bounds.{IsIn};
 ghost use Rattle.rly_segment.specs.Device.{IsLayout};
 
-use rly_checkpoint::{DecodeFault, Place, Stored, read_state};
-use rly_core::limits::{SEGMENT_LENGTH_LIMIT, SEGMENTS};
+use rly_checkpoint::{DecodeFault, HeadForm, Place, Stored, most_len, read_state};
+use rly_core::limits::{MAX_SEGMENTS, MIN_SEGMENTS, SEGMENT_LENGTH_LIMIT};
 use rly_core::{Geometry, HopId, Params};
 use rly_disk::{Disk, MemDisk};
 use rly_machine::Machine;
@@ -37,13 +38,17 @@ const THREE: Geometry = Geometry {
     ..TWO
 };
 
-const SIZE: usize = 313_880;
+/// Three segments of the length that two want.
+const WIDE: Geometry = Geometry { segments: 3, ..TWO };
 
-/// Where the second of two segments begins.
+/// The length of a device of three such segments.
+const SIZE: usize = 470_788;
+
+/// Where the second segment begins, of two or of three.
 const SECOND: usize = 156_972;
 
-/// One datagram was released, one is in flight whose two bytes lie at 300, and two wait.
-const BODY: [u8; 153] = [
+/// One datagram was released, one is in flight whose two bytes lie at 300, and two wait: in the first form.
+const OLD_BODY: [u8; 153] = [
     // six commands were accepted, and the last number of peer 1 is 4
     0, 0, 0, 0, 0, 0, 0, 6, 0, 0, 0, 0, 0, 0, 0, 4,
     // the hop's last moment
@@ -63,50 +68,96 @@ const BODY: [u8; 153] = [
     0, 0, 0, 0, 0, 0, 0, 6, 0, 0, 0, 0, 0, 0, 0, 20, 0, 0, 0,
 ];
 
-/// What stands before that body, in the head of generation 6.
-const START: [u8; 13] = [0xa5, 0, 0, 0, 0, 0, 0, 0, 6, 0, 0, 0, 0x99];
+/// The same state in the second form.
+const CARRIED: [u8; 149] = [
+    // six commands were accepted, and the last number of peer 1 is 4
+    0, 0, 0, 0, 0, 0, 0, 6, 0, 0, 0, 0, 0, 0, 0, 4,
+    // the hop's last moment
+    0, 0, 0, 0, 0, 0, 20,
+    // CoDel's state
+    0, 0, 0, 0, 0, 0, 0, 0, 0, 0, 0, 0, 0, 0, 0, 0, 0, 0, 0, 0, 0, 0, 0, 0, 0, 0, 0,
+    // four datagrams were taken, none dropped, one released, and none expired
+    0, 0, 0, 0, 0, 4, 0, 0, 0, 0, 0, 0, 0, 0, 0, 0, 0, 1, 0, 0, 0, 0, 0, 0,
+    // one is in flight, and two wait
+    0, 1, 0, 0, 0, 2,
+    // the id, stamp, limit, length, form and place of the first
+    0, 0, 0, 0, 0, 4, 0, 0, 0, 0, 0, 0, 10, 0, 0, 0, 0, 0, 0, 2, 1, 0, 0, 0, 1, 44,
+    // the id, stamp, limit, length and form of the second, and its payload
+    0, 0, 0, 0, 0, 5, 0, 0, 0, 0, 0, 0, 20, 0, 0, 0, 0, 0, 0, 1, 0, 0x43,
+    // the third, which has none
+    0, 0, 0, 0, 0, 6, 0, 0, 0, 0, 0, 0, 20, 0, 0, 0, 0, 0, 0, 0, 0,
+];
+
+/// One datagram was released and one expired, one is in flight, and two wait, of which one has the greatest limit.
+const BODY: [u8; 149] = [
+    // eight commands were accepted, and the last number of peer 1 is 5
+    0, 0, 0, 0, 0, 0, 0, 8, 0, 0, 0, 0, 0, 0, 0, 5,
+    // the hop's last moment
+    0, 0, 0, 0, 0, 0, 20,
+    // CoDel's state
+    0, 0, 0, 0, 0, 0, 0, 0, 0, 0, 0, 0, 0, 0, 0, 0, 0, 0, 0, 0, 0, 0, 0, 0, 0, 0, 0,
+    // five datagrams were taken, none dropped, one released, and one expired
+    0, 0, 0, 0, 0, 5, 0, 0, 0, 0, 0, 0, 0, 0, 0, 0, 0, 1, 0, 0, 0, 0, 0, 1,
+    // one is in flight, and two wait
+    0, 1, 0, 0, 0, 2,
+    // the id, stamp, limit, length, form and place of the first
+    0, 0, 0, 0, 0, 5, 0, 0, 0, 0, 0, 0, 10, 0, 0, 0, 0x27, 0x10, 0, 2, 1, 0, 0, 0, 1, 44,
+    // the id, stamp, limit, length and form of the second, and its payload
+    0, 0, 0, 0, 0, 6, 0, 0, 0, 0, 0, 0, 20, 0, 0, 0, 0, 0, 0, 1, 0, 0x43,
+    // the third, which has none
+    0, 0, 0, 0, 0, 8, 0, 0, 0, 0, 0, 0, 20, 0xff, 0xff, 0xff, 0xff, 0xff, 0, 0, 0,
+];
+
+/// What stands before a body of 149 bytes, in the head of generation 6.
+const START: [u8; 13] = [0xa5, 0, 0, 0, 0, 0, 0, 0, 6, 0x80, 0, 0, 0x95];
+
+/// What the length of a body of the second form has in its highest byte.
+const MARK: u8 = 0x80;
 
 /// Whether a device of so many bytes may have a geometry.
 fn may_have(geometry: &Geometry, size: u64) -> bool
     ensures { IsTrue result → IsLayout geometry.now size }
 {
     geometry.params.check().is_ok()
-        && geometry.segments == SEGMENTS
+        && MIN_SEGMENTS <= geometry.segments
+        && geometry.segments <= MAX_SEGMENTS
         && geometry.length < SEGMENT_LENGTH_LIMIT
         && fits(geometry)
         && 64 + geometry.segments * geometry.length <= size
 }
 
-/// Opens the second segment for the state that a body spells.
+/// Opens the second of three segments for the state that a body of a form spells.
 fn open(
     rt: &impl Abort,
     alloc: Global,
     disk: &mut MemDisk,
+    form: HeadForm,
     generation: u64,
     body: &[u8],
 ) -> Result<u64, OpeningFault> {
-    assert!(rt; may_have(&TWO, disk.size()));
-    assert!(rt; body.len() <= 50_000);
-    let machine: Machine<Stored> = match read_state(alloc, TWO.params, body) {
+    assert!(rt; may_have(&WIDE, disk.size()));
+    let machine: Machine<Stored> = match read_state(alloc, form, WIDE.params, body) {
         Ok(machine) => machine,
         Err(DecodeFault::OutOfMemory) => return Err(OpeningFault::OutOfMemory),
         Err(DecodeFault::Malformed) => panic!(rt; "no state"),
     };
     assert!(rt; 1 <= generation && generation <= machine.seq());
+    assert!(rt; most_len(&machine) <= 78_600);
+    assert!(rt; is_placed(&WIDE, 1, &machine));
     let target = Target {
         segment: 1,
         closed: true,
     };
-    open_segment(alloc, disk, &TWO, target, generation, &machine)
+    open_segment(alloc, disk, &WIDE, target, generation, &machine)
 }
 
-/// What the head of the second segment holds.
+/// What the head of the second of three segments holds.
 fn head_of(rt: &impl Abort, alloc: Global, disk: &mut MemDisk) -> Result<Head<Stored>, HeadFault> {
-    assert!(rt; may_have(&TWO, disk.size()));
-    read_head_of(alloc, disk, &TWO, 1)
+    assert!(rt; may_have(&WIDE, disk.size()));
+    read_head_of(alloc, disk, &WIDE, 1)
 }
 
-/// The same where its payloads lie where they may.
+/// The same of two segments, where its payloads lie where they may.
 fn placed_head_of(
     rt: &impl Abort,
     alloc: Global,
@@ -122,10 +173,27 @@ fn bytes_of(alloc: Global, disk: &mut MemDisk) -> Result<Vec<u8>, AllocError> {
     Ok(bytes)
 }
 
-/// What is in flight lies at 300, the next waits inline, and the last has no bytes.
-fn expect_body(rt: &impl Abort, machine: &Machine<Stored>) {
+/// A device on which the head of generation 6 of the second segment was written by hand, with so short a body.
+fn device_with(
+    rt: &impl Abort,
+    alloc: Global,
+    mark: u8,
+    body: &[u8],
+) -> Result<MemDisk, AllocError> {
+    assert!(rt; body.len() < 256);
+    let mut bytes = vec![in alloc; 0u8; SIZE]?;
+    assert!(rt; bytes.len() == SIZE);
+    bytes[SECOND..SECOND + 10].copy_from_slice(&[0xa5, 0, 0, 0, 0, 0, 0, 0, 6, mark]);
+    bytes[SECOND + 12] = body.len() as u8;
+    bytes[SECOND + 13..SECOND + 13 + body.len()].copy_from_slice(body);
+    Ok(MemDisk::new(alloc, bytes))
+}
+
+/// What is in flight lies at 300 and has that limit; of the three live ones one has its byte inline, and one has none.
+fn expect_state(rt: &impl Abort, machine: &Machine<Stored>, limit: u64) {
     match machine.item(HopId(1), 2) {
         Ok(item) => {
+            expect!(rt; item.limit == limit);
             expect!(rt; matches!(&item.payload, Stored::Placed(Place { start: 300, length: 2 })));
         }
         Err(refusal) => panic!(rt; "{refusal}"),
@@ -133,31 +201,100 @@ fn expect_body(rt: &impl Abort, machine: &Machine<Stored>) {
     expect!(rt; machine.item_count() == 3 && machine.byte_count() == 3);
 }
 
-#[test]
-fn a_head_with_a_place_is_written_and_read(rt: HostRuntime) -> Result<(), Fail> {
-    let alloc = rt.alloc();
-    let mut disk = MemDisk::new(alloc, vec![in alloc; 0u8; SIZE]?);
-    expect!(rt; open(&rt, alloc, &mut disk, 6, &BODY) == Ok(157_138));
-    let bytes = bytes_of(alloc, &mut disk)?;
-    expect!(rt; bytes.iter().skip(SECOND).take(13).eq(START.iter()));
-    expect!(rt; bytes.iter().skip(SECOND + 13).take(153).eq(BODY.iter()));
-    expect!(rt; bytes.iter().skip(SECOND + 166).all(|byte| *byte == 0));
-    expect!(rt; bytes.iter().take(SECOND).all(|byte| *byte == 0));
-    match head_of(&rt, alloc, &mut disk) {
+/// The head of the second segment is read in a form, with a gate after it, and its state has that limit in flight.
+fn expect_head(
+    rt: &impl Abort,
+    alloc: Global,
+    disk: &mut MemDisk,
+    form: HeadForm,
+    gate: u64,
+    limit: u64,
+) -> Result<(), AllocError> {
+    match head_of(rt, alloc, disk) {
         Ok(head) => {
-            expect!(rt; (head.generation, head.gate) == (6, 157_138));
-            expect_body(&rt, &head.machine);
+            expect!(rt; (head.generation, head.gate) == (6, gate));
+            expect!(rt; head.form == form);
+            expect_state(rt, &head.machine, limit);
         }
-        Err(HeadFault::OutOfMemory) => return Err(AllocError.into()),
+        Err(HeadFault::OutOfMemory) => return Err(AllocError),
         Err(_) => panic!(rt; "no head"),
     }
     Ok(())
 }
 
-/// Whether the head of the second segment is damaged, where it holds a body.
-fn is_damaged(rt: &impl Abort, alloc: Global, body: &[u8]) -> Result<bool, AllocError> {
+/// The head of the second segment is that of generation 6 with this body, and all other bytes are 0.
+fn expect_written(rt: &impl Abort, bytes: &[u8], body: &[u8; 149]) {
+    expect!(rt; bytes.iter().skip(SECOND).take(13).eq(START.iter()));
+    expect!(rt; bytes.iter().skip(SECOND + 13).take(149).eq(body.iter()));
+    expect!(rt; bytes.iter().skip(SECOND + 162).all(|byte| *byte == 0));
+    expect!(rt; bytes.iter().take(SECOND).all(|byte| *byte == 0));
+}
+
+#[test]
+fn a_head_with_a_place_and_limits_is_written_and_read(rt: HostRuntime) -> Result<(), Fail> {
+    let alloc = rt.alloc();
     let mut disk = MemDisk::new(alloc, vec![in alloc; 0u8; SIZE]?);
-    expect!(rt; open(rt, alloc, &mut disk, 6, body).is_ok());
+    expect!(rt; open(&rt, alloc, &mut disk, HeadForm::Second, 6, &BODY) == Ok(157_134));
+    let bytes = bytes_of(alloc, &mut disk)?;
+    expect_written(&rt, &bytes, &BODY);
+    expect_head(&rt, alloc, &mut disk, HeadForm::Second, 157_134, 10_000)?;
+    Ok(())
+}
+
+/// A state that a head of the first form held is written in the second, with no limit and none expired.
+#[test]
+fn a_state_of_the_first_form_is_carried_over(rt: HostRuntime) -> Result<(), Fail> {
+    let alloc = rt.alloc();
+    let mut disk = MemDisk::new(alloc, vec![in alloc; 0u8; SIZE]?);
+    expect!(rt; open(&rt, alloc, &mut disk, HeadForm::First, 6, &OLD_BODY) == Ok(157_134));
+    let bytes = bytes_of(alloc, &mut disk)?;
+    expect_written(&rt, &bytes, &CARRIED);
+    expect_head(&rt, alloc, &mut disk, HeadForm::Second, 157_134, 0)?;
+    Ok(())
+}
+
+#[test]
+fn heads_that_were_written_by_hand_are_read(rt: HostRuntime) -> Result<(), Fail> {
+    let alloc = rt.alloc();
+    let mut old = device_with(&rt, alloc, 0, &OLD_BODY)?;
+    expect_head(&rt, alloc, &mut old, HeadForm::First, 157_138, 0)?;
+    let mut carried = device_with(&rt, alloc, MARK, &CARRIED)?;
+    expect_head(&rt, alloc, &mut carried, HeadForm::Second, 157_134, 0)?;
+    let mut limited = device_with(&rt, alloc, MARK, &BODY)?;
+    expect_head(&rt, alloc, &mut limited, HeadForm::Second, 157_134, 10_000)?;
+    Ok(())
+}
+
+/// Whether the second of three segments has no head, where it has this body by hand.
+fn is_no_head(rt: &impl Abort, alloc: Global, mark: u8, body: &[u8]) -> Result<bool, AllocError> {
+    let mut disk = device_with(rt, alloc, mark, body)?;
+    match head_of(rt, alloc, &mut disk) {
+        Ok(_) => Ok(false),
+        Err(HeadFault::Damaged) => Ok(true),
+        Err(HeadFault::OutOfMemory) => Err(AllocError),
+        Err(HeadFault::Device) => panic!(rt; "the device failed"),
+    }
+}
+
+/// A body of one form is none of the other, and what expired counts in the balance.
+#[test]
+fn a_body_has_one_form_and_balances(rt: HostRuntime) -> Result<(), Fail> {
+    let alloc = rt.alloc();
+    expect!(rt; is_no_head(&rt, alloc, MARK, &OLD_BODY)?);
+    expect!(rt; is_no_head(&rt, alloc, 0, &CARRIED)?);
+    let mut body = BODY;
+    body[73] = 0;
+    expect!(rt; is_no_head(&rt, alloc, MARK, &body)?);
+    body[73] = 2;
+    expect!(rt; is_no_head(&rt, alloc, MARK, &body)?);
+    body[73] = 1;
+    expect!(rt; !is_no_head(&rt, alloc, MARK, &body)?);
+    Ok(())
+}
+
+/// Whether the head of the second of two segments is damaged, where it has this body by hand.
+fn is_damaged(rt: &impl Abort, alloc: Global, mark: u8, body: &[u8]) -> Result<bool, AllocError> {
+    let mut disk = device_with(rt, alloc, mark, body)?;
     match placed_head_of(rt, alloc, &mut disk) {
         Ok(_) => Ok(false),
         Err(HeadFault::Damaged) => Ok(true),
@@ -170,29 +307,59 @@ fn is_damaged(rt: &impl Abort, alloc: Global, body: &[u8]) -> Result<bool, Alloc
 #[test]
 fn with_two_segments_no_payload_stands_by_place(rt: HostRuntime) -> Result<(), Fail> {
     let alloc = rt.alloc();
-    expect!(rt; is_damaged(&rt, alloc, &BODY)?);
+    expect!(rt; is_damaged(&rt, alloc, MARK, &BODY)?);
     let mut own = BODY;
-    own[110..114].copy_from_slice(&[0, 2, 0x80, 0]);
-    expect!(rt; is_damaged(&rt, alloc, &own)?);
-    let mut inline = Vec::with_capacity(alloc, 148)?;
-    inline.extend_from_slice(&BODY[..105])?;
+    own[102..106].copy_from_slice(&[0, 2, 0x80, 0]);
+    expect!(rt; is_damaged(&rt, alloc, MARK, &own)?);
+    let mut inline = Vec::with_capacity(alloc, 146)?;
+    inline.extend_from_slice(&BODY[..100])?;
     inline.extend_from_slice(&[0, 0x41, 0x42])?;
-    inline.extend_from_slice(&BODY[114..])?;
-    expect!(rt; !is_damaged(&rt, alloc, &inline)?);
+    inline.extend_from_slice(&BODY[106..])?;
+    expect!(rt; !is_damaged(&rt, alloc, MARK, &inline)?);
     Ok(())
+}
+
+#[test]
+fn nor_does_one_in_a_head_of_the_first_form(rt: HostRuntime) -> Result<(), Fail> {
+    let alloc = rt.alloc();
+    expect!(rt; is_damaged(&rt, alloc, 0, &OLD_BODY)?);
+    let mut own = OLD_BODY;
+    own[110..114].copy_from_slice(&[0, 2, 0x80, 0]);
+    expect!(rt; is_damaged(&rt, alloc, 0, &own)?);
+    let mut inline = Vec::with_capacity(alloc, 147)?;
+    inline.extend_from_slice(&OLD_BODY[..105])?;
+    inline.extend_from_slice(&[0, 0x41, 0x42])?;
+    inline.extend_from_slice(&OLD_BODY[114..])?;
+    expect!(rt; !is_damaged(&rt, alloc, 0, &inline)?);
+    Ok(())
+}
+
+/// Three segments of 1,000 bytes, or two.
+fn small(segments: u64) -> Geometry
+    ensures segments { IsIn 2 256 result.segments }
+    ensures length { IsIn 1 (2 ^ 31) result.length }
+{
+    Geometry {
+        segments: segments.clamp(2, 3),
+        length: 1_000,
+        ..TWO
+    }
 }
 
 /// Whether the head of a segment may have the two bytes in flight at a place of three segments of 1,000 bytes.
 fn may_lie(alloc: Global, segments: u64, own: u64, start: u64) -> Result<bool, DecodeFault> {
-    let geometry = Geometry {
-        segments: segments.clamp(2, 256),
-        length: 1_000,
-        ..TWO
-    };
-    let mut body = BODY;
+    let mut body = CARRIED;
+    body[101..106].copy_from_slice(&start.to_be_bytes()[3..]);
+    let machine: Machine<Stored> = read_state(alloc, HeadForm::Second, TWO.params, &body)?;
+    Ok(is_placed(&small(segments), own, &machine))
+}
+
+/// The same in a head of the first form.
+fn might_lie(alloc: Global, segments: u64, own: u64, start: u64) -> Result<bool, DecodeFault> {
+    let mut body = OLD_BODY;
     body[106..114].copy_from_slice(&start.to_be_bytes());
-    let machine: Machine<Stored> = read_state(alloc, TWO.params, &body)?;
-    Ok(is_placed(&geometry, own, &machine))
+    let machine: Machine<Stored> = read_state(alloc, HeadForm::First, TWO.params, &body)?;
+    Ok(is_placed(&small(segments), own, &machine))
 }
 
 /// The segments begin at 64, 1,064 and 2,064, and the device's used bytes end at 3,064.
@@ -201,93 +368,134 @@ fn a_payload_lies_wholly_in_another_segment(rt: HostRuntime) -> Result<(), Fail>
     let alloc = rt.alloc();
     for start in [64, 500, 1_062, 2_064, 3_062] {
         assert!(rt; may_lie(alloc, 3, 1, start)?, "{start}");
+        assert!(rt; might_lie(alloc, 3, 1, start)?, "{start}");
     }
-    for start in [
-        0,
-        63,
-        1_063,
-        1_064,
-        1_500,
-        2_062,
-        2_063,
-        3_063,
-        3_064,
-        u64::MAX,
-    ] {
+    for start in [0, 63, 1_063, 1_064, 1_500, 2_062, 2_063, 3_063, 3_064] {
         assert!(rt; !may_lie(alloc, 3, 1, start)?, "{start}");
+        assert!(rt; !might_lie(alloc, 3, 1, start)?, "{start}");
     }
+    expect!(rt; !may_lie(alloc, 3, 1, 0xff_ffff_ffff)?);
+    expect!(rt; !might_lie(alloc, 3, 1, u64::MAX)?);
     expect!(rt; may_lie(alloc, 3, 0, 1_064)?);
     expect!(rt; !may_lie(alloc, 2, 1, 64)?);
     Ok(())
 }
 
+/// The numbers of the hop in the worked cycles: 64 datagrams were taken, of which 32 are in flight and 32 wait.
+const CYCLE_HOP: [u8; 64] = [
+    // the last moment, and CoDel's state
+    0, 0, 0, 0, 0, 0, 0, 0, 0, 0, 0, 0, 0, 0, 0, 0, 0, 0, 0, 0, 0, 0, 0, 0, 0, 0, 0, 0, 0, 0, 0, 0,
+    0, 0,
+    // how many were taken, dropped, released, and expired
+    0, 0, 0, 0, 0, 64, 0, 0, 0, 0, 0, 0, 0, 0, 0, 0, 0, 0, 0, 0, 0, 0, 0, 0,
+    // how many are in flight, and how many wait
+    0, 32, 0, 0, 0, 32,
+];
+
+/// The same in the first form, which has no field for what expired.
+const OLD_CYCLE_HOP: [u8; 71] = [
+    0, 0, 0, 0, 0, 0, 0, 0, 0, 0, 0, 0, 0, 0, 0, 0, 0, 0, 0, 0, 0, 0, 0, 0, 0, 0, 0, 0, 0, 0, 0, 0,
+    0, 0, 0, 0, 0, 0, 0, 0, 0,
+    // how many were taken, dropped, and released
+    0, 0, 0, 0, 0, 0, 0, 64, 0, 0, 0, 0, 0, 0, 0, 0, 0, 0, 0, 0, 0, 0, 0, 0,
+    // how many are in flight, and how many wait
+    0, 32, 0, 0, 0, 32,
+];
+
+/// Adds the numbers of an entry of 1,200 bytes: its id, its stamp 0, no limit, and its length.
+fn add_numbers(body: &mut Vec<u8>, form: HeadForm, id: u8) -> Result<(), AllocError> {
+    match form {
+        HeadForm::First => body.extend_from_slice(&[
+            0, 0, 0, 0, 0, 0, 0, id, 0, 0, 0, 0, 0, 0, 0, 0,
+        ])?,
+        HeadForm::Second => {
+            body.extend_from_slice(&[0, 0, 0, 0, 0, id, 0, 0, 0, 0, 0, 0, 0, 0, 0, 0, 0, 0])?
+        }
+    }
+    body.extend_from_slice(&[4, 0xb0])
+}
+
+/// Adds the place of a payload, after the byte of its form.
+fn add_place(body: &mut Vec<u8>, form: HeadForm, start: u64) -> Result<(), AllocError> {
+    body.extend_from_slice(&[1])?;
+    match form {
+        HeadForm::First => body.extend_from_slice(&start.to_be_bytes()),
+        HeadForm::Second => body.extend_from_slice(&start.to_be_bytes()[3..]),
+    }
+}
+
 /// A body of the worked cycles: 32 datagrams of 1,200 bytes are in flight and 32 wait. Those in flight stand inline or lie in the
 /// group of the first round, from 164 on; those that wait lie in that of the third, from 39,666 on.
-fn cycle_body(alloc: Global, inline: bool) -> Result<Vec<u8>, AllocError> {
+fn cycle_body(alloc: Global, form: HeadForm, inline: bool) -> Result<Vec<u8>, AllocError> {
     let mut body = Vec::with_capacity(alloc, 40_000)?;
     body.extend_from_slice(&[0, 0, 0, 0, 0, 0, 0, 96, 0, 0, 0, 0, 0, 0, 0, 64])?;
-    body.extend_from_slice(&[0; 41])?;
-    body.extend_from_slice(&[0, 0, 0, 0, 0, 0, 0, 64, 0, 0, 0, 0, 0, 0, 0, 0])?;
-    body.extend_from_slice(&[0, 0, 0, 0, 0, 0, 0, 0, 0, 32, 0, 0, 0, 32])?;
+    match form {
+        HeadForm::First => body.extend_from_slice(&OLD_CYCLE_HOP)?,
+        HeadForm::Second => body.extend_from_slice(&CYCLE_HOP)?,
+    }
     for index in 0..32u8 {
-        body.extend_from_slice(&[0, 0, 0, 0, 0, 0, 0, 1 + index, 0, 0, 0, 0, 0, 0, 0, 0])?;
+        add_numbers(&mut body, form, 1 + index)?;
         if inline {
-            body.extend_from_slice(&[4, 0xb0, 0])?;
+            body.extend_from_slice(&[0])?;
             body.extend_from_slice(&[index; 1_200])?;
         } else {
-            body.extend_from_slice(&[4, 0xb0, 1])?;
-            body.extend_from_slice(&(194 + 1_223 * u64::from(index)).to_be_bytes())?;
+            add_place(&mut body, form, 194 + 1_223 * u64::from(index))?;
         }
     }
     for index in 0..32u8 {
-        body.extend_from_slice(&[
-            0,
-            0,
-            0,
-            0,
-            0,
-            0,
-            0,
-            65 + index,
-            0,
-            0,
-            0,
-            0,
-            0,
-            0,
-            0,
-            0,
-            4,
-            0xb0,
-            1,
-        ])?;
-        body.extend_from_slice(&(39_696 + 1_223 * u64::from(index)).to_be_bytes())?;
+        add_numbers(&mut body, form, 65 + index)?;
+        add_place(&mut body, form, 39_696 + 1_223 * u64::from(index))?;
     }
     Ok(body)
 }
 
 /// The live bytes of each of three segments for a body.
-fn live_of(alloc: Global, body: &[u8]) -> Result<[u64; 3], DecodeFault> {
-    let machine: Machine<Stored> = read_state(alloc, TWO.params, body)?;
+fn live_of(alloc: Global, form: HeadForm, body: &[u8]) -> Result<[u64; 3], DecodeFault> {
+    let machine: Machine<Stored> = read_state(alloc, form, TWO.params, body)?;
     let live = live_by_segment(&THREE, &machine);
     Ok([live[0], live[1], live[2]])
 }
 
-/// With all of its payloads by place such a head has 1,828 bytes, and with those in flight inline 39,972.
+/// So long are the heads with all payloads by place, and with those in flight inline.
+fn expect_lengths(
+    rt: &impl Abort,
+    alloc: Global,
+    form: HeadForm,
+    by_place: usize,
+    inline: usize,
+) -> Result<(), DecodeFault> {
+    let placed = cycle_body(alloc, form, false)?;
+    let drawn = cycle_body(alloc, form, true)?;
+    expect!(rt; placed.len() + 13 == by_place);
+    expect!(rt; drawn.len() + 13 == inline);
+    expect!(rt; live_of(alloc, form, &placed)? == [76_800, 0, 0]);
+    expect!(rt; live_of(alloc, form, &drawn)? == [38_400, 0, 0]);
+    Ok(())
+}
+
+/// With all of its payloads by place such a head has 1,757 bytes, and with those in flight inline 39,997. In the first form it had
+/// 1,828 and 39,972.
 #[test]
 fn the_heads_of_the_worked_cycles(rt: HostRuntime) -> Result<(), Fail> {
+    expect_lengths(&rt, rt.alloc(), HeadForm::Second, 1_757, 39_997)?;
+    expect_lengths(&rt, rt.alloc(), HeadForm::First, 1_828, 39_972)?;
+    Ok(())
+}
+
+/// They are opened as long as that, whatever form their state was read in.
+#[test]
+fn the_heads_of_the_worked_cycles_are_opened(rt: HostRuntime) -> Result<(), Fail> {
     let alloc = rt.alloc();
-    let placed = cycle_body(alloc, false)?;
-    let drawn = cycle_body(alloc, true)?;
-    expect!(rt; (placed.len() + 13, drawn.len() + 13) == (1_828, 39_972));
-    expect!(rt; live_of(alloc, &placed)? == [76_800, 0, 0]);
-    expect!(rt; live_of(alloc, &drawn)? == [38_400, 0, 0]);
     let mut disk = MemDisk::new(alloc, vec![in alloc; 0u8; SIZE]?);
-    expect!(rt; open(&rt, alloc, &mut disk, 2, &placed) == Ok(158_800));
-    expect!(rt; open(&rt, alloc, &mut disk, 3, &drawn) == Ok(196_944));
+    for form in [HeadForm::First, HeadForm::Second] {
+        let placed = cycle_body(alloc, form, false)?;
+        let drawn = cycle_body(alloc, form, true)?;
+        expect!(rt; open(&rt, alloc, &mut disk, form, 2, &placed) == Ok(158_729));
+        expect!(rt; open(&rt, alloc, &mut disk, form, 3, &drawn) == Ok(196_969));
+    }
     match head_of(&rt, alloc, &mut disk) {
         Ok(head) => {
-            expect!(rt; (head.generation, head.gate) == (3, 196_944));
+            expect!(rt; (head.generation, head.gate) == (3, 196_969));
             expect!(rt; is_placed(&THREE, 1, &head.machine));
             expect!(rt; !is_placed(&THREE, 0, &head.machine));
         }

@@ -13,6 +13,7 @@ use Rattle.rly_machine.proofs.Lifting.{state_twice}
 use Rattle.rly_machine.proofs.Mapping.{mapped_bytes}
 use Rattle.rly_checkpoint.specs.Checkpoint.{entry_spelled, hop_spelled, state_spelled}
 use Rattle.rly_checkpoint.specs.Stored.{stored_form, stored_length}
+use Rattle.rly_checkpoint.specs.declared.head_form.HeadForm.TheVariants.{Second}
 use Rattle.rly_checkpoint.specs.declared.stored.Stored.{Stored}
 use Rattle.rly_checkpoint.specs.declared.stored.Stored.TheVariants.{Inline, Placed}
 use Rattle.rly_checkpoint.proofs.Parts.{length-entry}
@@ -58,7 +59,7 @@ same_inline = weight_same inline_length blank_inline
 pub same_live : (g : Geometry) (segment : ℕ) (s t : State Stored) → IsSameButForBytes s t → live_in g segment s ≡ live_in g segment t
 same_live g segment = weight_same (bytes_in g segment) (blank_bytes g segment)
 
--- ---- heads, and where their payloads lie
+-- ---- heads, as they are written, and where their payloads lie
 
 entry_blank : (item : Item Stored) → length (entry_spelled stored_length stored_form (map_item blank item)) ≡ length (entry_spelled stored_length stored_form item)
 entry_blank item =
@@ -69,7 +70,7 @@ entry_blank item =
       form_blank item.payload,
     )
   where
-    form_blank : (p : Stored) → length (stored_form (blank p)) ≡ length (stored_form p)
+    form_blank : (p : Stored) → length (stored_form.form (blank p)) ≡ length (stored_form.form p)
     form_blank (Inline payload) = omega (arith, blank_inline (Inline payload))
     form_blank (Placed place) = refl
 
@@ -104,8 +105,8 @@ entries_blank (item ∷ items) =
 hop_blank : (h : HopState Stored) → length (spelled_hop (map_hop blank h)) ≡ length (spelled_hop h)
 hop_blank h =
     length-hop stored_length stored_form (map_hop blank h)
-    ∙ ap (λ (l : List (Item Stored)). 71 + length (entries l)) (sym (map-append (map_item blank) h.flight h.queue))
-    ∙ ap (λ (n : ℕ). 71 + n) (entries_blank (live_line h))
+    ∙ ap (λ (l : List (Item Stored)). 64 + length (entries l)) (sym (map-append (map_item blank) h.flight h.queue))
+    ∙ ap (λ (n : ℕ). 64 + n) (entries_blank (live_line h))
     ∙ sym (length-hop stored_length stored_form h)
 
 hops_blank : (hops : List (HopState Stored)) → length (flat_map spelled_hop (map (map_hop blank) hops)) ≡ length (flat_map spelled_hop hops)
@@ -133,39 +134,39 @@ pub same_spelled : (s t : State Stored) → IsSameButForBytes s t
 same_spelled s t same = sym (spelled_blank s) ∙ ap (λ (u : State Stored). length (state_spelled stored_length stored_form u)) same ∙ spelled_blank t
 
 -- where the payloads of a head lie
-settled_items_blank : (at : ℕ) (items : List (Item Stored)) → settled_items at (map (map_item blank) items) ≡ settled_items at items
+settled_items_blank : (at : ℕ) (items : List (Item Stored)) → settled_items Second at (map (map_item blank) items) ≡ settled_items Second at items
 settled_items_blank at [] = refl
 settled_items_blank at (item ∷ items) =
     let size : Item Stored → ℕ = λ x. length (entry_spelled stored_length stored_form x) in
-    ap (λ (p : Stored). let x : Item Stored = record { id = item.id; stamp = item.stamp; payload = p } in
-    x ∷ settled_items (at + size (map_item blank item)) (map (map_item blank) items)) (settled_blank (at + 19) item.payload)
-    ∙ ap (λ (n : ℕ). map_item (settled (at + 19)) item ∷ settled_items (at + n) (map (map_item blank) items)) (entry_blank item)
-    ∙ ap (λ (l : List (Item Stored)). map_item (settled (at + 19)) item ∷ l) (settled_items_blank (at + size item) items)
+    ap (λ (p : Stored). let x : Item Stored = record { id = item.id; stamp = item.stamp; limit = item.limit; payload = p } in
+    x ∷ settled_items Second (at + size (map_item blank item)) (map (map_item blank) items)) (settled_blank (at + 21) item.payload)
+    ∙ ap (λ (n : ℕ). map_item (settled (at + 21)) item ∷ settled_items Second (at + n) (map (map_item blank) items)) (entry_blank item)
+    ∙ ap (λ (l : List (Item Stored)). map_item (settled (at + 21)) item ∷ l) (settled_items_blank (at + size item) items)
 
-settled_hop_blank : (at : ℕ) (h : HopState Stored) → settled_hop at (map_hop blank h) ≡ settled_hop at h
+settled_hop_blank : (at : ℕ) (h : HopState Stored) → settled_hop Second at (map_hop blank h) ≡ settled_hop Second at h
 settled_hop_blank at h =
     let with_lines : List (Item Stored) → List (Item Stored) → HopState Stored = λ flight queue. record h { flight = flight; queue = queue } in
-    ap (λ (l : List (Item Stored)). with_lines l (settled_items (at + 71 + length (entries (map (map_item blank) h.flight))) (map (map_item blank) h.queue)))
-    (settled_items_blank (at + 71) h.flight)
-    ∙ ap (λ (n : ℕ). with_lines (settled_items (at + 71) h.flight) (settled_items (at + 71 + n) (map (map_item blank) h.queue))) (entries_blank h.flight)
-    ∙ ap (with_lines (settled_items (at + 71) h.flight)) (settled_items_blank (at + 71 + length (entries h.flight)) h.queue)
+    ap (λ (l : List (Item Stored)). with_lines l (settled_items Second (at + 64 + length (entries (map (map_item blank) h.flight))) (map (map_item blank) h.queue)))
+    (settled_items_blank (at + 64) h.flight)
+    ∙ ap (λ (n : ℕ). with_lines (settled_items Second (at + 64) h.flight) (settled_items Second (at + 64 + n) (map (map_item blank) h.queue))) (entries_blank h.flight)
+    ∙ ap (with_lines (settled_items Second (at + 64) h.flight)) (settled_items_blank (at + 64 + length (entries h.flight)) h.queue)
 
-settled_hops_blank : (at : ℕ) (hops : List (HopState Stored)) → settled_hops at (map (map_hop blank) hops) ≡ settled_hops at hops
+settled_hops_blank : (at : ℕ) (hops : List (HopState Stored)) → settled_hops Second at (map (map_hop blank) hops) ≡ settled_hops Second at hops
 settled_hops_blank at [] = refl
 settled_hops_blank at (h ∷ hops) =
-    ap (λ (x : HopState Stored). x ∷ settled_hops (at + length (spelled_hop (map_hop blank h))) (map (map_hop blank) hops)) (settled_hop_blank at h)
-    ∙ ap (λ (n : ℕ). settled_hop at h ∷ settled_hops (at + n) (map (map_hop blank) hops)) (hop_blank h)
-    ∙ ap (λ (l : List (HopState Stored)). settled_hop at h ∷ l) (settled_hops_blank (at + length (spelled_hop h)) hops)
+    ap (λ (x : HopState Stored). x ∷ settled_hops Second (at + length (spelled_hop (map_hop blank h))) (map (map_hop blank) hops)) (settled_hop_blank at h)
+    ∙ ap (λ (n : ℕ). settled_hop Second at h ∷ settled_hops Second (at + n) (map (map_hop blank) hops)) (hop_blank h)
+    ∙ ap (λ (l : List (HopState Stored)). settled_hop Second at h ∷ l) (settled_hops_blank (at + length (spelled_hop h)) hops)
 
-settled_state_blank : (g : Geometry) (segment : ℕ) (s : State Stored) → settled_state g segment (blank_state s) ≡ settled_state g segment s
+settled_state_blank : (g : Geometry) (segment : ℕ) (s : State Stored) → settled_state Second g segment (blank_state s) ≡ settled_state Second g segment s
 settled_state_blank g segment s =
     ap (λ (hops : List (HopState Stored)). let t : State Stored = record { params = s.params; hops = hops; lasts = s.lasts; seq = s.seq } in t)
     (settled_hops_blank (segment_place g segment + 21 + 8 * length s.lasts) s.hops)
 
-pub same_settled : (g : Geometry) (segment : ℕ) (s t : State Stored) → IsSameButForBytes s t → settled_state g segment s ≡ settled_state g segment t
+pub same_settled : (g : Geometry) (segment : ℕ) (s t : State Stored) → IsSameButForBytes s t → settled_state Second g segment s ≡ settled_state Second g segment t
 same_settled g segment s t same =
-    sym (settled_state_blank g segment s) ∙ ap (λ (u : State Stored). settled_state g segment u) same ∙ settled_state_blank g segment t
+    sym (settled_state_blank g segment s) ∙ ap (λ (u : State Stored). settled_state Second g segment u) same ∙ settled_state_blank g segment t
 
 pub same_moved : (g : Geometry) (target victim : ℕ) (s copy : State Stored) → IsSameButForBytes copy (drawn_state g victim unread s)
-    → settled_state g target copy ≡ moved_state g target victim s
+    → settled_state Second g target copy ≡ moved_state g target victim s
 same_moved g target victim s copy same = same_settled g target copy (drawn_state g victim unread s) same

@@ -3,3 +3,4 @@ pub mod Copies
 pub mod Blank
 pub mod OnePayload
 pub mod Wholes
+pub mod Storable

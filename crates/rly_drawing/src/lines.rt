@@ -52,6 +52,7 @@ pub(crate) fn draw_hop<D: Disk>(
         moment: hop.moment,
         taken: hop.taken,
         dropped: hop.dropped,
+        expired: hop.expired,
         released: hop.released,
     })
 }
@@ -82,6 +83,7 @@ fn draw_items<D: Disk>(
         items.push_reserved(Item {
             id: item.id,
             stamp: item.stamp,
+            limit: item.limit,
             payload,
         });
     }

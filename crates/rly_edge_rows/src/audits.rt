@@ -109,6 +109,11 @@ pub(crate) fn bytes_of<D: Disk>(
 
 /// A call that takes a datagram of so many zero bytes from peer 1 to hop 1 at moment 0.
 fn take(alloc: Global, number: u64, bytes: usize) -> Result<Call, Fail> {
+    take_for(alloc, number, 0, bytes)
+}
+
+/// The same of one that may wait so long.
+fn take_for(alloc: Global, number: u64, limit: u64, bytes: usize) -> Result<Call, Fail> {
     let payload = Payload::new(vec![in alloc; 0u8; bytes]?);
     Ok(Call {
         seat: SeatId(0),
@@ -118,6 +123,7 @@ fn take(alloc: Global, number: u64, bytes: usize) -> Result<Call, Fail> {
             number,
             hop: HopId(1),
             stamp: 0,
+            limit,
             payload,
         }),
     })
@@ -217,6 +223,24 @@ fn six_taken_and_three_picked(rt: HostRuntime) -> Result<(), Fail> {
     Ok(())
 }
 
+/// A hop's line ends with how many expired, and they are in the balance.
+#[test]
+fn one_of_three_expired(rt: HostRuntime) -> Result<(), Fail> {
+    let alloc = rt.alloc();
+    let disk = formatted(&rt, alloc, &SMALL, SMALL_SIZE)?;
+    let Ok(mut journal) = Journal::open(alloc, disk) else {
+        return Err(Fail::from("not opened"));
+    };
+    for (number, limit) in [(1, 10), (2, 0), (3, 10)] {
+        let call = take_for(alloc, number, limit, 1)?;
+        run(&rt, alloc, &mut journal, call)?;
+    }
+    run(&rt, alloc, &mut journal, pick(4, 11))?;
+    let report = report_on(&rt, alloc, journal.into_disk())?;
+    expect!(rt; report.as_slice() == b"hop 1 taken 3 queued 1 flight 1 dropped 0 released 0 expired 1\npeer 1 last 3\nseq 4\nbalance ok\n".as_slice());
+    Ok(())
+}
+
 #[test]
 fn sixty_four_hops_and_peers(rt: HostRuntime) -> Result<(), Fail> {
     let disk = formatted(&rt, rt.alloc(), &WIDE, WIDE_SIZE)?;
@@ -236,20 +260,28 @@ fn sixty_four_hops_and_peers(rt: HostRuntime) -> Result<(), Fail> {
     Ok(())
 }
 
-/// As many commands as a spool ever accepts, and how many datagrams of as many were dropped.
+/// As many commands as a spool ever accepts, and how many datagrams of as many were dropped, and expired.
 const LAST: u64 = 281_474_976_710_655;
 
 const DROPPED: u64 = 140_737_488_355_328;
 
+const EXPIRED: u64 = 70_368_744_177_664;
+
 /// The report on a device with these numbers.
-const GREATEST: &str =
-    "hop 1 taken 281474976710655 queued 0 flight 0 dropped 140737488355328 released 140737488355327
+const GREATEST: &str = "hop 1 taken 281474976710655 queued 0 flight 0 dropped 140737488355328 \
+released 70368744177663 expired 70368744177664
 peer 1 last 281474976710655
 seq 281474976710655
 balance ok
 ";
 
-/// The head of a device may have numbers as great as these: all that was taken was dropped or let go.
+/// The six bytes of a count in a head.
+fn six_bytes(count: u64) -> [u8; 6] {
+    let [_, _, a, b, c, d, e, f] = count.to_be_bytes();
+    [a, b, c, d, e, f]
+}
+
+/// The head of a device may have numbers as great as these: all that was taken was dropped, expired or was let go.
 #[test]
 fn the_greatest_numbers(rt: HostRuntime) -> Result<(), Fail> {
     let alloc = rt.alloc();
@@ -258,11 +290,39 @@ fn the_greatest_numbers(rt: HostRuntime) -> Result<(), Fail> {
     assert!(rt; bytes.len() == SMALL_SIZE);
     bytes[77..85].copy_from_slice(&LAST.to_be_bytes());
     bytes[85..93].copy_from_slice(&LAST.to_be_bytes());
+    bytes[127..133].copy_from_slice(&six_bytes(LAST));
+    bytes[133..139].copy_from_slice(&six_bytes(DROPPED));
+    bytes[139..145].copy_from_slice(&six_bytes(LAST - DROPPED - EXPIRED));
+    bytes[145..151].copy_from_slice(&six_bytes(EXPIRED));
+    let report = report_on(&rt, alloc, MemDisk::new(alloc, bytes))?;
+    expect!(rt; report.as_slice() == GREATEST.as_bytes());
+    Ok(())
+}
+
+/// The report on a device of the first form with such numbers.
+const GREATEST_OF_OLD: &str =
+    "hop 1 taken 281474976710655 queued 0 flight 0 dropped 140737488355328 released 140737488355327
+peer 1 last 281474976710655
+seq 281474976710655
+balance ok
+";
+
+/// A head of the first form has eight bytes for each, and nothing expired. Its body is 87 bytes long, and the gate behind it is
+/// closed.
+#[test]
+fn the_greatest_numbers_of_the_first_form(rt: HostRuntime) -> Result<(), Fail> {
+    let alloc = rt.alloc();
+    let mut disk = formatted(&rt, alloc, &SMALL, SMALL_SIZE)?;
+    let mut bytes = bytes_of(&rt, alloc, &mut disk)?;
+    assert!(rt; bytes.len() == SMALL_SIZE);
+    bytes[73..77].copy_from_slice(&87u32.to_be_bytes());
+    bytes[77..85].copy_from_slice(&LAST.to_be_bytes());
+    bytes[85..93].copy_from_slice(&LAST.to_be_bytes());
     bytes[134..142].copy_from_slice(&LAST.to_be_bytes());
     bytes[142..150].copy_from_slice(&DROPPED.to_be_bytes());
     bytes[150..158].copy_from_slice(&(LAST - DROPPED).to_be_bytes());
     let report = report_on(&rt, alloc, MemDisk::new(alloc, bytes))?;
-    expect!(rt; report.as_slice() == GREATEST.as_bytes());
+    expect!(rt; report.as_slice() == GREATEST_OF_OLD.as_bytes());
     Ok(())
 }
 

@@ -17,10 +17,11 @@ use std::test::Fail;
 const BUSY: HopReport = HopReport {
     hop: HopId(1),
     answer: Ok(HopStatus {
-        taken: 25,
+        taken: 36,
         queued: 3,
         flight: 2,
         dropped: 4,
+        expired: 11,
         released: 16,
         codel: CodelState {
             first_above_time: 5,
@@ -66,7 +67,7 @@ const DEVICE: DeviceReport = DeviceReport {
 
 /// Their report.
 const TEXT: &str = "report 1795581497000000
-hop 1 taken 25 queued 3 flight 2 dropped 4 released 16 first 5 next 6 count 7 last 8 dropping yes moment 9 contact open until 1795581600000000 wrong 10
+hop 1 taken 36 queued 3 flight 2 dropped 4 released 16 first 5 next 6 count 7 last 8 dropping yes moment 9 expired 11 contact open until 1795581600000000 wrong 10
 hop 2 refused 11 broken contact closed wrong 0
 peer 1 heard 41 custody 42 refused 43 malformed 44 wrong 45 last 2
 peer 2 heard 0 custody 0 refused 0 malformed 0 wrong 0
@@ -281,7 +282,7 @@ fn a_report_is_of_what_was_answered(rt: HostRuntime) -> Result<(), Fail> {
     let answers = [answer_of(Reply::Shown(status)), refused];
     let text = told_text(alloc, &plan, 120, &answers, &counted())?;
     let told = "report 120
-hop 1 taken 25 queued 3 flight 2 dropped 4 released 16 first 5 next 6 count 7 last 8 dropping yes moment 9 contact open until 200 wrong 10
+hop 1 taken 36 queued 3 flight 2 dropped 4 released 16 first 5 next 6 count 7 last 8 dropping yes moment 9 expired 11 contact open until 200 wrong 10
 hop 2 refused 11 broken contact closed until 150 wrong 0
 peer 1 heard 41 custody 42 refused 43 malformed 44 wrong 45 last 0
 device seq 51 rounds 52 segments 53
@@ -304,6 +305,7 @@ const OTHER: HopStatus = HopStatus {
     queued: 0,
     flight: 0,
     dropped: 0,
+    expired: 0,
     released: 1,
     codel: CodelState {
         first_above_time: 0,
@@ -424,6 +426,7 @@ const GREATEST_HOP: HopStatus = HopStatus {
     queued: u64::MAX,
     flight: u64::MAX,
     dropped: u64::MAX,
+    expired: u64::MAX,
     released: u64::MAX,
     codel: CodelState {
         first_above_time: u64::MAX,
@@ -452,7 +455,7 @@ const GREATEST_PEER: PeerReport = PeerReport {
 const GREATEST_TEXT: &str = "report 18446744073709551615
 hop 65535 taken 18446744073709551615 queued 18446744073709551615 flight 18446744073709551615 dropped 18446744073709551615 released 18446744073709551615 \
 first 18446744073709551615 next 18446744073709551615 count 18446744073709551615 last 18446744073709551615 dropping yes moment 18446744073709551615 \
-contact open until 18446744073709551615 wrong 18446744073709551615
+expired 18446744073709551615 contact open until 18446744073709551615 wrong 18446744073709551615
 peer 65535 heard 18446744073709551615 custody 18446744073709551615 refused 18446744073709551615 malformed 18446744073709551615 \
 wrong 18446744073709551615 last 18446744073709
 device seq 18446744073709551615 rounds 18446744073709551615 segments 18446744073709551615

@@ -23,17 +23,17 @@ use Rattle.rly_fetching.proofs.TriedRows.{nothing_tried, tries_joined}
 
 -- what is said of the disk at an answer is said of it at an earlier one, if it reads the same
 module _ (a b : DiskState) (same : a.honest → b.honest × (b.seen ≡ a.seen)) where
-  fetched_before : (place : Option Place) (reply : Reply) → IsFetched b place reply → IsFetched a place reply
-  fetched_before place (Bytes payload) fetched =
-      (fetched.0, λ honest. fetched.1 (same honest).0 ∙ ap (λ (l : List ℕ). payload_in l (lying place)) (same honest).1)
-  fetched_before place (Refused DeviceRead) fetched = fetched
-  fetched_before place (Refused OutOfMemory) fetched = fetched
-  fetched_before place reply fetched = absurd fetched
+  fetched_before : (place : Option Place) (limit : ℕ) (reply : Reply) → IsFetched b place limit reply → IsFetched a place limit reply
+  fetched_before place limit (Bytes payload told) fetched =
+      (fetched.0, λ honest. fetched.1 (same honest).0 ∙ ap (λ (l : List ℕ). payload_in l (lying place)) (same honest).1, fetched.2)
+  fetched_before place limit (Refused DeviceRead) fetched = fetched
+  fetched_before place limit (Refused OutOfMemory) fetched = fetched
+  fetched_before place limit reply fetched = absurd fetched
 
   answered_before : (outcome : Outcome) (answer : Answer) → IsAnswerOf b outcome answer → IsAnswerOf a outcome answer
   answered_before (Answered known) answer answered = answered
-  answered_before (Wanted seat number position place) answer answered =
-      (answered.0, answered.1, answered.2, fetched_before place answer.reply answered.3)
+  answered_before (Wanted seat number position limit place) answer answered =
+      (answered.0, answered.1, answered.2, fetched_before place limit answer.reply answered.3)
 
 -- only reads are made for it
 one_read : (place : Option Place) → are_reads (reading place) ≡ true
@@ -47,7 +47,7 @@ row_reads place reply = one_read place
 
 rows_reads : (outcome : Outcome) (answer : Answer) → AreReads (rows_for outcome answer)
 rows_reads (Answered known) answer = tt
-rows_reads (Wanted seat number position place) answer = (row_reads place answer.reply, tt)
+rows_reads (Wanted seat number position limit place) answer = (row_reads place answer.reply, tt)
 
 reads_both : (rows more : List Try) → AreReads rows → AreReads more → AreReads (rows ++ more)
 reads_both [] more one two = two

@@ -1,10 +1,13 @@
 -- Tries: one row, and one list of rows after another.
 use Rattle.std.proofs.Common.{◌≡◌, ◌≤◌, ◌++◌, ◌∷◌, [], ◌∙◌, Bool, true, false, List, length, suc, arith, sym, ap, subst, inl, inr, ⊎_elim, refl, append_assoc}
+use Rattle.std.specs.Prelude.{Option, Some, None}
 use Rattle.std.proofs.lemmas.List.{append-nil}
 use Rattle.std.proofs.lemmas.Bool.Decides.{nat_tests}
 use Rattle.rly_disk.specs.DiskModel.{DiskState, Later}
 use Rattle.rly_disk.specs.Trace.{DeviceEvent, EndsAtFailure, EndsUncounted, IsMade, Makes, is_spent}
 use Rattle.rly_disk.proofs.Traces.{leads_joined, leads_nothing}
+use Rattle.rly_checkpoint.specs.declared.stored.Place.{Place}
+use Rattle.rly_fetching.specs.Fetching.{reading}
 use Rattle.rly_fetching.specs.Trials.{AreTried, Tries, Try, row_of}
 
 -- counts that stand at their last value stay there
@@ -62,6 +65,11 @@ module _ {D : Type 0} (state : D → DiskState) where
 
   pub nothing_tried : (a : D) → Tries state [] a a
   nothing_tried a = record { events = []; leads = leads_nothing (state a); tried = refl; untouched = λ none. refl }
+
+  -- what has no place isn't read
+  pub unread_tried : (a : D) (place : Option Place) → ((found : Place) → place ≡ Some found → ⊥) → Tries state (row_of (reading place) true ∷ []) a a
+  unread_tried a None never = record { events = []; leads = leads_nothing (state a); tried = ([], [], refl, refl, refl); untouched = λ none. refl }
+  unread_tried a (Some place) never = absurd (never place refl)
 
   pub none_tried : {a b : D} → Tries state [] a b → b ≡ a
   none_tried tries = tries.untouched tries.tried

@@ -31,19 +31,20 @@ abbrev pub IsThere : ℕ → Option Place → Type 0
 IsThere size None = Unit {0}
 IsThere size (Some place) = place.start + place.length ≤ size
 
--- what a payload is answered with that was read or refused
-abbrev pub reply_of : Result (List ℕ) Refusal → Reply
-reply_of (Ok payload) = Bytes payload
-reply_of (Err refusal) = Refused refusal
+-- what a payload with a limit is answered with that was read or refused
+abbrev pub reply_of : ℕ → Result (List ℕ) Refusal → Reply
+reply_of limit (Ok payload) = Bytes payload limit
+reply_of limit (Err refusal) = Refused refusal
 
--- what a Fetch is answered: as many bytes as its payload has, on an honest disk those that lie
--- there; or 13 or 14, if it has bytes
-abbrev pub IsFetched : DiskState → Option Place → Reply → Type 0
-IsFetched disk at (Bytes payload) =
+-- what a Fetch is answered: as many bytes as its payload has, on an honest disk those that lie there, and its limit;
+-- or 13 or 14, if it has bytes
+abbrev pub IsFetched : DiskState → Option Place → ℕ → Reply → Type 0
+IsFetched disk at limit (Bytes payload told) =
     (length payload ≡ stored_length (lying at)) × (disk.honest → payload ≡ payload_in disk.seen (lying at))
-IsFetched disk at (Refused DeviceRead) = (place : Place) × (at ≡ Some place)
-IsFetched disk at (Refused OutOfMemory) = 1 ≤ stored_length (lying at)
-IsFetched disk at _ = ⊥
+    × (told ≡ limit)
+IsFetched disk at limit (Refused DeviceRead) = (place : Place) × (at ≡ Some place)
+IsFetched disk at limit (Refused OutOfMemory) = 1 ≤ stored_length (lying at)
+IsFetched disk at limit _ = ⊥
 
 -- the read of a payload; one without bytes isn't read
 abbrev pub reading : Option Place → List DeviceEvent
@@ -56,15 +57,16 @@ row_for at (Refused DeviceRead) = row_of (reading at) false
 row_for at (Refused OutOfMemory) = row_of [] true
 row_for at _ = row_of (reading at) true
 
--- what a call is answered of which this came: that answer, or one with the payload that it wants
+-- what a call is answered of which this came: that answer, or one with the payload that it wants and its limit
 abbrev pub IsAnswerOf : DiskState → Outcome → Answer → Type 0
 IsAnswerOf disk (Answered known) answer = answer ≡ known
-IsAnswerOf disk (Wanted seat number position place) answer =
-    (answer.seat ≡ seat) × (answer.number ≡ number) × (answer.position ≡ position) × IsFetched disk place answer.reply
+IsAnswerOf disk (Wanted seat number position limit place) answer =
+    (answer.seat ≡ seat) × (answer.number ≡ number) × (answer.position ≡ position)
+    × IsFetched disk place limit answer.reply
 
 abbrev pub rows_for : Outcome → Answer → List Try
 rows_for (Answered known) answer = []
-rows_for (Wanted seat number position place) answer = row_for place answer.reply ∷ []
+rows_for (Wanted seat number position limit place) answer = row_for place answer.reply ∷ []
 
 -- calls are answered one after the other, each by what came of it
 pub record AreAnswersOf (disk : DiskState) (outcomes : List Outcome) (given : List Answer) : Type 0 where
@@ -78,11 +80,11 @@ fetching outcomes given = flat_map (λ x. rows_for x.0 x.1) (zip outcomes given)
 -- the place that a call wants, if it wants one, lies on a device of so many bytes
 abbrev pub IsThereFor : ℕ → Outcome → Type 0
 IsThereFor size (Answered known) = Unit {0}
-IsThereFor size (Wanted seat number position place) = IsThere size place
+IsThereFor size (Wanted seat number position limit place) = IsThere size place
 
 -- the answer that refuses a call of which this came
 abbrev pub refused_as : Refusal → ℕ → Outcome → Answer
 refused_as refusal position (Answered known) =
     record { seat = known.seat; number = known.number; reply = Refused refusal; position = position }
-refused_as refusal position (Wanted seat number at place) =
+refused_as refusal position (Wanted seat number at limit place) =
     record { seat = seat; number = number; reply = Refused refusal; position = position }

@@ -65,9 +65,10 @@ fn answer_one<D: Disk>(alloc: Global, disk: &mut D, outcome: Outcome) -> Answer
             seat,
             number,
             position,
+            limit,
             place,
         } => {
-            let reply = reply_of(read_payload(alloc, disk, place));
+            let reply = reply_of(limit, read_payload(alloc, disk, place));
             Answer {
                 seat,
                 number,
@@ -78,12 +79,12 @@ fn answer_one<D: Disk>(alloc: Global, disk: &mut D, outcome: Outcome) -> Answer
     }
 }
 
-/// What a payload is answered with that was read or refused.
-fn reply_of(found: Result<Payload, Refusal>) -> Reply
-    ensures { result ≡ reply_of found }
+/// What a payload with a limit is answered with that was read or refused.
+fn reply_of(limit: u64, found: Result<Payload, Refusal>) -> Reply
+    ensures { result ≡ reply_of limit found }
 {
     match found {
-        Ok(payload) => Reply::Bytes(payload),
+        Ok(payload) => Reply::Bytes { payload, limit },
         Err(refusal) => Reply::Refused(refusal),
     }
 }

@@ -17,6 +17,8 @@ pub enum Outcome {
         number: u64,
         /// How many commands were accepted by then.
         position: u64,
+        /// The limit of what is asked for, 0 for none.
+        limit: u64,
         /// Where the payload lies, if it has bytes.
         place: Option<Place>,
     },

@@ -1,4 +1,4 @@
-ghost use Rattle.std.specs.Prelude.{◌∷◌, []};
+ghost use Rattle.std.specs.Prelude.{◌∷◌, [], ℕ};
 ghost use Rattle.rly_fetching.specs.Fetching.{IsFetched, IsThere, reply_of, row_for};
 ghost use Rattle.rly_fetching.specs.Trials.{Tries};
 
@@ -16,8 +16,8 @@ pub fn read_payload<D: Disk>(
     place: Option<Place>,
 ) -> Result<Payload, Refusal>
     requires there { IsThere (D.state disk.old).size place }
-    ensures payload { IsFetched (D.state disk.old) place (reply_of result) }
-    ensures trace { Tries D.state (row_for place (reply_of result) ∷ []) disk.old disk.new }
+    ensures payload { (limit : ℕ) → IsFetched (D.state disk.old) place limit (reply_of limit result) }
+    ensures trace { (limit : ℕ) → Tries D.state (row_for place (reply_of limit result) ∷ []) disk.old disk.new }
 {
     let Some(place) = place else {
         return Ok(Payload::new(Vec::new(alloc)));

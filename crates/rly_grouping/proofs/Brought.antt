@@ -38,7 +38,7 @@ lying_between used next place (byte ∷ bytes) from to = (omega arith, from, to)
 
 placed_between : (used place : ℕ) (command : Command (List ℕ)) → used ≤ place
     → All (LiesBetween used (place + record_length length command)) (payload_of (placed_at place command))
-placed_between used place (Take peer number hop stamp payload) from =
+placed_between used place (Take peer number hop stamp limit payload) from =
     let Lies : Stored → Type 0 = LiesBetween used (place + (23 + length payload)) in
     All-cons Lies (lying_at (place + 23) payload) []
     (lying_between used (place + (23 + length payload)) (place + 23) payload (omega (arith, from)) (omega arith)) (All-nil Lies)

@@ -46,7 +46,7 @@ body_is kept count frame new within none completed =
 
 -- how much a frame and one more record take
 pub record_fits : (command : Command (List ℕ)) → IsShort command → record_length length command ≤ longest_record
-record_fits (Take peer number hop stamp payload) short = omega (arith, short)
+record_fits (Take peer number hop stamp limit payload) short = omega (arith, short)
 record_fits (Pick hop now) short = omega arith
 record_fits (Release hop number) short = omega arith
 

@@ -1,5 +1,5 @@
 -- The payloads of a group lie where its records have them.
-use Rattle.std.proofs.Common.{◌≡◌, ◌+◌, ◌-◌, ◌++◌, ◌∷◌, [], ◌∙◌, ℕ, List, length, take, drop, map, arith, ap, refl, subst}
+use Rattle.std.proofs.Common.{◌≡◌, ◌+◌, ◌-◌, ◌++◌, ◌∷◌, [], ◌∙◌, ℕ, zero, suc, List, length, take, drop, map, arith, ap, refl, subst}
 use Rattle.std.specs.List.{flat_map}
 use Rattle.std.proofs.lemmas.List.Concat.{flat_map-cons}
 use Rattle.byteorder.specs.Endian.{big_bytes}
@@ -8,7 +8,7 @@ use Rattle.rly_gate.specs.Reading.{HoldsGroup}
 use Rattle.rly_machine.specs.declared.command.Command.{Command}
 use Rattle.rly_machine.specs.declared.command.Command.TheVariants.{Take, Pick, Release}
 use Rattle.rly_machine.specs.Map.{map_command}
-use Rattle.rly_record.specs.Spelling.{body_of, record_length, record_of}
+use Rattle.rly_record.specs.Spelling.{body_of, limited_take_of, plain_take_of, record_length, record_of}
 use Rattle.rly_record.proofs.Records.{length-record_of}
 use Rattle.rly_checkpoint.specs.Stored.{payload_in}
 use Rattle.rly_segment.proofs.Standing.{stands_back, stands_front}
@@ -25,10 +25,14 @@ lying_there image place (byte ∷ bytes) stands =
 -- a record's payload stands after its other fields
 pub payload_stands : (image : List ℕ) (place : ℕ) (command : Command (List ℕ)) → StandsAt image place (record_of command)
     → map_command (payload_in image) (placed_at place command) ≡ command
-unfolding record_of
-payload_stands image place (Take peer number hop stamp payload) stands =
+unfolding record_of plain_take_of limited_take_of
+payload_stands image place (Take peer number hop stamp zero payload) stands =
     let fields : List ℕ = 1 ∷ (big_bytes 2 peer.0 ++ (big_bytes 8 number ++ (big_bytes 2 hop.0 ++ (big_bytes 8 stamp ++ big_bytes 2 (length payload))))) in
-    ap (λ bytes. Take peer number hop stamp bytes) (lying_there image (place + 23) payload (stands_back image place fields payload stands))
+    ap (λ bytes. Take peer number hop stamp 0 bytes) (lying_there image (place + 23) payload (stands_back image place fields payload stands))
+payload_stands image place (Take peer number hop stamp (suc limit) payload) stands =
+    let fields : List ℕ =
+    5 ∷ (big_bytes 1 peer.0 ++ (big_bytes 6 number ++ (big_bytes 1 hop.0 ++ (big_bytes 7 stamp ++ (big_bytes 5 (suc limit) ++ big_bytes 2 (length payload)))))) in
+    ap (λ bytes. Take peer number hop stamp (suc limit) bytes) (lying_there image (place + 23) payload (stands_back image place fields payload stands))
 payload_stands image place (Pick hop now) stands = refl
 payload_stands image place (Release hop number) stands = refl
 

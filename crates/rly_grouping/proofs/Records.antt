@@ -45,7 +45,7 @@ holds_have commands group holds count = (count, holds.have)
 
 -- how long a record is at most
 pub record_most : (command : Command (List ℕ)) → HasRecord command → record_length length command ≤ longest_record
-record_most (Take peer number hop stamp payload) has = omega (arith, has.4)
+record_most (Take peer number hop stamp limit payload) has = omega (arith, has.4)
 record_most (Pick hop now) has = omega arith
 record_most (Release hop number) has = omega arith
 
@@ -100,11 +100,11 @@ lying_long place [] = refl
 lying_long place (byte ∷ bytes) = refl
 
 pub placed_alike : (place : ℕ) (command : Command (List ℕ)) → IsCommandAlike (placed_at place command) command
-placed_alike place (Take peer number hop stamp payload) = ap (λ (n : ℕ). Take peer number hop stamp n) (lying_long (place + 23) payload)
+placed_alike place (Take peer number hop stamp limit payload) = ap (λ (n : ℕ). Take peer number hop stamp limit n) (lying_long (place + 23) payload)
 placed_alike place (Pick hop now) = refl
 placed_alike place (Release hop number) = refl
 
 pub inline_alike : (command : Command (List ℕ)) → IsCommandAlike (map_command Inline command) command
-inline_alike (Take peer number hop stamp payload) = refl
+inline_alike (Take peer number hop stamp limit payload) = refl
 inline_alike (Pick hop now) = refl
 inline_alike (Release hop number) = refl

@@ -15,9 +15,11 @@ abbrev pub lying_at : ℕ → List ℕ → Stored
 lying_at place [] = Inline []
 lying_at place (byte ∷ bytes) = Placed (record { start = place; length = length (byte ∷ bytes) })
 
--- a command whose record stands at a place, with its payload by place: after the 23 bytes of a Take's other fields
+-- a command whose record stands at a place, with its payload by place: after the 23 bytes of a Take's other fields,
+-- with a limit or without
 abbrev pub placed_at : ℕ → Command (List ℕ) → Command Stored
-placed_at place (Take peer number hop stamp payload) = Take peer number hop stamp (lying_at (place + 23) payload)
+placed_at place (Take peer number hop stamp limit payload) =
+    Take peer number hop stamp limit (lying_at (place + 23) payload)
 placed_at place (Pick hop now) = Pick hop now
 placed_at place (Release hop number) = Release hop number
 

@@ -3,7 +3,7 @@ ghost use Rattle.byteorder.specs.Endian.{big_bytes};
 ghost use Rattle.rly_disk.specs.Trace.{Makes};
 ghost use Rattle.rly_gate.specs.Calls.{appending};
 ghost use Rattle.rly_gate.specs.Group.{body_in};
-ghost use Rattle.rly_record.specs.Spelling.{HasRecord, IsShort, record_of};
+ghost use Rattle.rly_record.specs.Spelling.{HasRecord, IsRecordable, record_of};
 ghost use Rattle.rly_grouping.specs.Groups.{empty_group, frame_room, group_body, record_place};
 ghost use Rattle.rly_grouping.specs.Lying.{placed_at};
 
@@ -92,7 +92,7 @@ impl Group {
     pub fn stage(&mut self, gate: u64, command: Command<Payload>) -> Command<Stored>
         requires room { self.old.count < 64 }
         requires nothing { self.old.staged ≡ [] }
-        requires short { IsShort command }
+        requires recordable { IsRecordable command }
         requires gate { gate + frame_room < 2 ^ 64 }
         ensures staged { self.new ≡ record self.old { staged = record_of command } }
         ensures has { HasRecord command }

@@ -14,4 +14,4 @@ mod placing;
 
 pub use crate::group::Group;
 pub use crate::laws::{law_brought, law_gathered, law_grouped, law_holds, law_places};
-pub use crate::placing::{inlined, is_short, placed_at};
+pub use crate::placing::{inlined, is_recordable, placed_at};

@@ -1,25 +1,50 @@
 ghost use Rattle.std.specs.Prelude.{◌≡◌, ◌+◌, ◌<◌, ◌^◌, length, true};
 ghost use Rattle.rly_checkpoint.specs.declared.stored.Stored.TheVariants.{Inline};
 ghost use Rattle.rly_machine.specs.Map.{map_command};
-ghost use Rattle.rly_record.specs.Spelling.{IsShort};
+ghost use Rattle.rly_record.specs.Spelling.{IsLimited, IsRecordable, IsShort};
 ghost use Rattle.rly_grouping.specs.Lying.{lying_at, placed_at};
 
 use rly_checkpoint::{Place, Stored};
-use rly_core::limits::MAX_PAYLOAD;
+use rly_core::limits::{AGE_LIMIT, MAX_HOPS, MAX_PAYLOAD, MAX_PEERS, MAX_SEQ, MOMENT_LIMIT};
+use rly_core::{HopId, PeerId};
 use rly_machine::{Command, Content, Payload};
 
 /// The bytes of a Take's record before its payload.
 pub(crate) const TAKE_FIELDS: u64 = 23;
 
-/// Whether a command's payload, if it has one, is short enough for a record.
-pub fn is_short(command: &Command<Payload>) -> bool
-    ensures yes { result ≡ true → IsShort command.now }
-    ensures no { IsShort command.now → result ≡ true }
+/// Whether a command can be recorded, as each accepted one can.
+pub fn is_recordable(command: &Command<Payload>) -> bool
+    ensures yes { result ≡ true → IsRecordable command.now }
+    ensures no { IsRecordable command.now → result ≡ true }
 {
     match command {
-        Command::Take { payload, .. } => payload.len() as u64 <= MAX_PAYLOAD,
+        Command::Take {
+            peer,
+            number,
+            hop,
+            stamp,
+            limit,
+            payload,
+        } => {
+            payload.len() as u64 <= MAX_PAYLOAD
+                && (*limit == 0 || is_limited(*peer, *number, *hop, *stamp, *limit))
+        }
         Command::Pick { .. } | Command::Release { .. } => true,
     }
+}
+
+/// Whether the numbers of a Take with a limit are those of a spool.
+fn is_limited(peer: PeerId, number: u64, hop: HopId, stamp: u64, limit: u64) -> bool
+    ensures yes { result ≡ true → IsLimited peer number hop stamp limit }
+    ensures no { IsLimited peer number hop stamp limit → result ≡ true }
+{
+    let peer = u64::from(peer.0);
+    let hop = u64::from(hop.0);
+    (1 <= peer && peer <= MAX_PEERS)
+        && (1 <= hop && hop <= MAX_HOPS)
+        && number <= MAX_SEQ
+        && stamp < MOMENT_LIMIT
+        && limit < AGE_LIMIT
 }
 
 /// A command whose record stands at a place, with its payload by place. The bytes are given up.
@@ -34,12 +59,14 @@ pub fn placed_at(place: u64, command: Command<Payload>) -> Command<Stored>
             number,
             hop,
             stamp,
+            limit,
             payload,
         } => Command::Take {
             peer,
             number,
             hop,
             stamp,
+            limit,
             payload: lying_at(place + TAKE_FIELDS, payload),
         },
         Command::Pick { hop, now } => Command::Pick { hop, now },
@@ -61,7 +88,7 @@ fn lying_at(start: u64, payload: Payload) -> Stored
     })
 }
 
-/// The same command with its payload inline: one whose payload is too long for a record, which the machine refuses.
+/// The same command with its payload inline: one that can't be recorded, which the machine refuses.
 pub fn inlined(command: Command<Payload>) -> Command<Stored>
     ensures { result ≡ map_command Inline command }
 {
@@ -71,12 +98,14 @@ pub fn inlined(command: Command<Payload>) -> Command<Stored>
             number,
             hop,
             stamp,
+            limit,
             payload,
         } => Command::Take {
             peer,
             number,
             hop,
             stamp,
+            limit,
             payload: Stored::Inline(payload),
         },
         Command::Pick { hop, now } => Command::Pick { hop, now },

@@ -13,7 +13,8 @@ use Rattle.rly_machine.specs.Step.{step}
 use Rattle.rly_machine.specs.declared.command.Command.{Command}
 use Rattle.rly_machine.proofs.Folding.{params_step}
 use Rattle.rly_machine.proofs.RealReplies.{unaccepted}
-use Rattle.rly_checkpoint.specs.Stored.{stored_form, stored_length}
+use Rattle.rly_checkpoint.specs.Stored.{stored_form, stored_length, stored_spelled}
+use Rattle.rly_checkpoint.specs.declared.head_form.HeadForm.{HeadForm}
 use Rattle.rly_checkpoint.specs.declared.stored.Stored.{Stored}
 use Rattle.rly_checkpoint.specs.declared.stored.Stored.TheVariants.{Inline, Placed}
 use Rattle.rly_places.specs.Leaving.{leaving}
@@ -152,17 +153,17 @@ module _ (g : Geometry) (segment used next : ℕ) (s : State Stored) (live less 
 
 -- ---- a head that was read
 
-pub keeps_begun : (g : Geometry) (segment generation : ℕ) (s : State Stored) (live : List ℕ) → IsLayout g (device_length g) → segment < g.segments
-    → IsHeadOf stored_length stored_form g segment generation s → IsPlaced g segment s → take g.segments live ≡ live_by_segment g (settled_state g segment s)
-    → KeepsIndex g segment (gate_after stored_length stored_form g segment s) (settled_state g segment s) live
-keeps_begun g segment generation s live layout below head placed same = record {
+pub keeps_begun : (which : HeadForm) (g : Geometry) (segment generation : ℕ) (s : State Stored) (live : List ℕ) → IsLayout g (device_length g) → segment < g.segments
+    → IsHeadOf stored_length (stored_spelled which) g segment generation s → IsPlaced g segment s → take g.segments live ≡ live_by_segment g (settled_state which g segment s)
+    → KeepsIndex g segment (gate_after stored_length (stored_spelled which) g segment s) (settled_state which g segment s) live
+keeps_begun which g segment generation s live layout below head placed same = record {
   holds = record {
     layout = layout;
     params = head.params;
     there = below;
     from = omega arith;
     to = omega (arith, head.room);
-    index = begun g segment generation s below head placed;
+    index = begun which g segment generation s below head placed;
   };
   live = same;
 }

@@ -13,7 +13,7 @@ ghost use Rattle.rly_index.specs.HelpersCounting.{IsHopOf, IsPartIfAny, items_of
 
 use rly_checkpoint::Stored;
 use rly_core::{Geometry, HopId};
-use rly_machine::{Command, Content, Hop, Machine};
+use rly_machine::{Command, Content, Hop, Machine, Room};
 use rly_places::{live_at, segment_of};
 
 /// Some of a hop's live datagrams, one after the other. Those in flight are counted first, from 0, then those that wait.
@@ -27,21 +27,22 @@ pub(crate) struct Part {
     pub count: usize,
 }
 
-/// The datagrams that a command takes away if it is accepted. A Pick drops as many as its room lists.
+/// The datagrams that a command takes away if it is accepted. At a Pick as many as its room lists expire or are dropped.
 pub(crate) fn leaving_part(
     machine: &Machine<Stored>,
     command: &Command<Stored>,
-    listed: usize,
+    room: &Room,
 ) -> Option<Part>
-    requires room { HasRoom stored_length machine.now listed command.now }
-    requires bounded { listed ≤ listed_count stored_length machine.now.state command.now }
+    requires room { HasRoom stored_length machine.now room.now command.now }
+    requires bounded { room.now.expired + room.now.dropped ≤ listed_count stored_length machine.now.state command.now }
     ensures part { IsPartIfAny machine.now.state result }
     ensures leaving { IsTrue (is_accepted (step stored_length machine.now.state command.now).1)
         → map (λ item. item.payload) (items_of machine.now.state result) ≡ leaving stored_length machine.now.state command.now }
 {
+    machine.law_sound();
     match command {
         Command::Take { .. } => None,
-        Command::Pick { hop, .. } => first_waiting(machine, *hop, listed),
+        Command::Pick { hop, .. } => first_waiting(machine, *hop, room.count()),
         Command::Release { hop, number } => first_in_flight(machine, *hop, *number),
     }
 }

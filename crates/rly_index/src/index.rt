@@ -1,9 +1,9 @@
-ghost use Rattle.std.specs.Prelude.{◌≡◌, ◌<◌, ◌≤◌, Err, IfErr, IfOk, IsTrue, Ok, OnErr};
+ghost use Rattle.std.specs.Prelude.{◌≡◌, ◌+◌, ◌<◌, ◌≤◌, Err, IfErr, IfOk, IsTrue, Ok, OnErr};
 ghost use Rattle.rly_machine.specs.Accepted.{is_accepted};
 ghost use Rattle.rly_machine.specs.Query.{item_of, show_reply, window_reply};
 ghost use Rattle.rly_machine.specs.Sound.{IsSound};
 ghost use Rattle.rly_machine.specs.Step.{HasRoom, NeedsRoom, listed_count, step};
-ghost use Rattle.rly_checkpoint.specs.Stored.{stored_form, stored_length};
+ghost use Rattle.rly_checkpoint.specs.Stored.{stored_form, stored_length, stored_spelled};
 ghost use Rattle.rly_places.specs.Placed.{IsPlaced};
 ghost use Rattle.rly_places.specs.Places.{live_by_segment, live_in};
 ghost use Rattle.rly_places.specs.Room.{HasRoomFor, drawn_state};
@@ -16,7 +16,7 @@ ghost use Rattle.rly_keeping.specs.Keeping.{IsBrought};
 ghost use Rattle.rly_index.specs.Index.{HoldsIndex, IsAt, used_after};
 
 use crate::counting::{brought_bytes, leaving_part, put_back, take_off};
-use rly_checkpoint::Stored;
+use rly_checkpoint::{HeadForm, Stored};
 use rly_core::limits::MAX_SEGMENTS;
 use rly_core::{Geometry, HopId, Refusal};
 use rly_machine::{Command, Item, Machine, Reply, Room};
@@ -59,15 +59,16 @@ impl Index {
     pub fn begin(geometry: Geometry, segment: u64, head: Head<Stored>) -> Index
         requires layout { IsLayout geometry (device_length geometry) }
         requires segment { segment < geometry.segments }
-        requires head { IsHeadOf stored_length stored_form geometry segment head.generation head.machine.state }
+        requires head { IsHeadOf stored_length (stored_spelled head.form) geometry segment head.generation head.machine.state }
         requires placed { IsPlaced geometry segment head.machine.state }
-        requires gate { head.gate ≡ gate_after stored_length stored_form geometry segment head.machine.state }
-        ensures state { result.spool.state ≡ settled_state geometry segment head.machine.state }
+        requires gate { head.gate ≡ gate_after stored_length (stored_spelled head.form) geometry segment head.machine.state }
+        ensures state { result.spool.state ≡ settled_state head.form geometry segment head.machine.state }
         ensures at { IsAt geometry segment head.gate result }
     {
+        let form = head.form;
         let gate = head.gate;
         let mut machine = head.machine;
-        settle_read(&geometry, segment, &mut machine);
+        settle_read(form, &geometry, segment, &mut machine);
         let live = live_by_segment(&geometry, &machine);
         Index {
             machine,
@@ -132,7 +133,8 @@ impl Index {
         ensures state { self.new.spool.state ≡ self.old.spool.state }
         ensures at { IsAt self.old.geometry self.old.segment self.old.used self.new }
         ensures room { IfOk result (λ room. HasRoom stored_length self.new.spool room command.now) }
-        ensures bounded { IfOk result (λ room. room ≤ listed_count stored_length self.old.spool.state command.now) }
+        ensures bounded { IfOk result (λ room. room.expired + room.dropped
+            ≤ listed_count stored_length self.old.spool.state command.now) }
         ensures memory { OnErr result (NeedsRoom stored_length self.old.spool command.now) }
     {
         self.machine.reserve_for(alloc, command)
@@ -142,14 +144,14 @@ impl Index {
     /// datagrams alone that the command takes away.
     pub fn apply(&mut self, command: Command<Stored>, room: Room, next: u64) -> Reply
         requires room { HasRoom stored_length self.old.spool room command }
-        requires bounded { room ≤ listed_count stored_length self.old.spool.state command }
+        requires bounded { room.expired + room.dropped ≤ listed_count stored_length self.old.spool.state command }
         requires brought { IsTrue (is_accepted (step stored_length self.old.spool.state command).1)
             → IsBrought self.old.geometry self.old.segment self.old.used next command }
         ensures state { self.new.spool.state ≡ (step stored_length self.old.spool.state command).0 }
         ensures reply { result ≡ (step stored_length self.old.spool.state command).1 }
         ensures at { IsAt self.old.geometry self.old.segment (used_after self.old.used next result) self.new }
     {
-        let leaving = leaving_part(&self.machine, &command, room.count());
+        let leaving = leaving_part(&self.machine, &command, &room);
         let brought = brought_bytes(&command);
         take_off(&self.geometry, &self.machine, leaving, &mut self.live);
         let reply = self.machine.apply(command, room);
@@ -190,6 +192,7 @@ impl Index {
     {
         let target = choice.target as u64;
         settle_moved(
+            HeadForm::Second,
             &self.geometry,
             target,
             choice.victim as u64,

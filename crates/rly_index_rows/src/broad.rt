@@ -42,7 +42,7 @@ fn put_numbers(bytes: &mut Vec<u8>, numbers: &[u64]) -> Result<(), AllocError> {
     Ok(())
 }
 
-/// A disk whose first segment has a head of 2^40 commands, with no datagram in it. Peer 1 gave all that the hops took.
+/// A disk whose first segment has a head of form 1, of 2^40 commands, with no datagram in it. Peer 1 gave all that the hops took.
 fn broad_disk(alloc: Global) -> Result<MemDisk, AllocError> {
     let mut bytes = vec![in alloc; 0u8; 64]?;
     bytes.push(0xa5)?;
@@ -80,6 +80,7 @@ fn long_take(hop: u16, start: u64) -> Command<Stored> {
         number: (64 * DROPPED).saturating_add(u64::from(hop)),
         hop: HopId(hop),
         stamp: MOMENT,
+        limit: 0,
         payload: Stored::Placed(Place {
             start,
             length: 1_200,

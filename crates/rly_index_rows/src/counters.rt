@@ -35,8 +35,9 @@ const FOUR: Geometry = Geometry {
 
 const SIZE: usize = 422_896;
 
-/// What stands after the gate of the first segment: the head of generation 1. One datagram is in flight, whose three bytes lie at
-/// 105,900, in the second segment. Three wait: two bytes of the first lie at 211,600, in the third; those of the others are inline.
+/// What stands after the gate of the first segment: the head of generation 1, of form 1. One datagram is in flight, whose three bytes
+/// lie at 105,900, in the second segment. Three wait: two bytes of the first lie at 211,600, in the third; those of the others are
+/// inline.
 const HEAD: [u8; 196] = [
     // the generation, and the length of the state: 184 bytes
     0, 0, 0, 0, 0, 0, 0, 1, 0, 0, 0, 184,
@@ -191,11 +192,17 @@ fn release(number: u64) -> Command<Stored> {
 
 /// Takes six bytes at a place under a number.
 pub(crate) fn take(number: u64, start: u64) -> Command<Stored> {
+    limited_take(number, start, 0)
+}
+
+/// The same with a limit.
+fn limited_take(number: u64, start: u64, limit: u64) -> Command<Stored> {
     Command::Take {
         peer: PeerId(1),
         number,
         hop: HopId(1),
         stamp: 200_000,
+        limit,
         payload: Stored::Placed(Place { start, length: 6 }),
     }
 }
@@ -217,8 +224,22 @@ fn is_picked(reply: &Reply, at: u64, of: u64, gone: &[u64]) -> bool {
         Reply::Picked {
             number,
             id,
+            expired,
             dropped,
-        } => *number == at && *id == of && dropped.as_slice() == gone,
+        } => {
+            *number == at
+                && *id == of
+                && expired.as_slice().is_empty()
+                && dropped.as_slice() == gone
+        }
+        _ => false,
+    }
+}
+
+/// Whether nothing went into flight, and those ids expired.
+fn is_expired(reply: &Reply, late: &[u64]) -> bool {
+    match reply {
+        Reply::Nothing { expired } => expired.as_slice() == late,
         _ => false,
     }
 }
@@ -264,8 +285,27 @@ fn commands_change_the_counters(rt: HostRuntime) -> Result<(), Fail> {
     Ok(())
 }
 
-/// The second of the datagrams, whose two bytes lie in the victim, lies in the new head after it: 317,188 with 13 bytes, 87 of the
-/// spool, 27 of the first entry and 19 of its own before it.
+/// A Pick takes off the bytes of what is past its limit, once it came after the limit and not before.
+#[test]
+fn what_expired_is_taken_off(rt: HostRuntime) -> Result<(), Fail> {
+    let alloc = rt.alloc();
+    let mut index = index_of(&rt, alloc, &mut disk_of(alloc)?)?;
+    let _ = step(&rt, alloc, &mut index, 20, pick(10_000))?;
+    let reply = step(&rt, alloc, &mut index, 20, pick(200_000))?;
+    expect!(rt; is_picked(&reply, 3, 4, &[3]) && live(&index) == [1, 3, 2, 0]);
+    let reply = step(&rt, alloc, &mut index, 100, limited_take(5, 350, 5_000))?;
+    expect!(rt; matches!(&reply, Reply::Taken(8)) && live(&index) == [7, 3, 2, 0]);
+    let reply = step(&rt, alloc, &mut index, 100, limited_take(6, 450, 5_000))?;
+    expect!(rt; matches!(&reply, Reply::Taken(9)) && live(&index) == [13, 3, 2, 0]);
+    let reply = step(&rt, alloc, &mut index, 20, pick(205_000))?;
+    expect!(rt; is_picked(&reply, 4, 8, &[]) && live(&index) == [13, 3, 2, 0]);
+    let reply = step(&rt, alloc, &mut index, 20, pick(205_001))?;
+    expect!(rt; is_expired(&reply, &[9]) && live(&index) == [7, 3, 2, 0]);
+    Ok(())
+}
+
+/// The second of the datagrams, whose two bytes lie in the victim, lies in the new head after it, which is of form 2: 317,188 with
+/// 13 bytes, 80 of the spool, 26 of the first entry and 21 of its own before it.
 #[test]
 fn the_victims_bytes_move(rt: HostRuntime) -> Result<(), Fail> {
     let alloc = rt.alloc();
@@ -273,12 +313,12 @@ fn the_victims_bytes_move(rt: HostRuntime) -> Result<(), Fail> {
     let mut index = index_of(&rt, alloc, &mut disk)?;
     open_next(&rt, alloc, &mut disk, &mut index)?;
     expect!(rt; live(&index) == [5, 3, 0, 2]);
-    expect!(rt; index.segment() == 3 && index.used() == 317_390);
+    expect!(rt; index.segment() == 3 && index.used() == 317_382);
     expect!(rt; index.choose() == Choice { target: 2, victim: 3 });
     let [hop] = index.machine().hops() else {
         panic!(rt; "not one hop");
     };
     assert!(rt; hop.queue.len() == 3);
-    expect!(rt; matches!(&hop.queue.item(0).payload, Stored::Placed(Place { start: 317_334, length: 2 })));
+    expect!(rt; matches!(&hop.queue.item(0).payload, Stored::Placed(Place { start: 317_328, length: 2 })));
     Ok(())
 }

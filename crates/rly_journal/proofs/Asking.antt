@@ -21,7 +21,7 @@ use Rattle.rly_journal.specs.HelpersOutcomes.{taken_by, taken_of}
 
 -- a question names no command
 none_asked : (call : Call) (outcome : Outcome) → is_command call.ask ≡ false → taken_by call outcome ≡ []
-none_asked call (Wanted seat number at place) none = refl
+none_asked call (Wanted seat number at limit place) none = refl
 none_asked call (Answered answer) none = of_ask call.ask answer.reply none
   where
     of_ask : (an : Ask) (reply : Reply) → is_command an ≡ false → accepted_by an reply ≡ []

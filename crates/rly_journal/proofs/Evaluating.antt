@@ -79,7 +79,7 @@ taken_once call (Answered answer) = of_ask call.ask answer.reply
     of_ask : (an : Ask) (reply : Reply) → length (accepted_by an reply) ≤ 1
     of_ask (ask.Command command) reply = at_most command (is_accepted reply)
     of_ask (ask.Query query) reply = omega arith
-taken_once call (Wanted seat number at place) = omega arith
+taken_once call (Wanted seat number at limit place) = omega arith
 
 pub few_taken : (calls : List Call) (outcomes : List Outcome) → length (taken_of (zip calls outcomes)) ≤ length calls
 few_taken [] outcomes = omega arith

@@ -108,31 +108,31 @@ module _ (g : Geometry) (segment used size : ℕ) (s : State Stored) (holds : Ho
 -- ---- what is read there
 
 -- the payload that was read is the machine's
-pub fetched_as : (disk : DiskState) (s : State Stored) (t : State (List ℕ)) (hop : HopId) (number : ℕ) (item : Item Stored) (at : Option Place) (payload bytes : List ℕ)
-    → IsKept disk s t → item_of s hop number ≡ Ok item → lying at ≡ item.payload → IsFetched disk at (Bytes payload) → bytes ≡ payload
+pub fetched_as : (disk : DiskState) (s : State Stored) (t : State (List ℕ)) (hop : HopId) (number : ℕ) (item : Item Stored) (at : Option Place) (limit : ℕ) (payload bytes : List ℕ)
+    → IsKept disk s t → item_of s hop number ≡ Ok item → lying at ≡ item.payload → IsFetched disk at limit (Bytes payload limit) → bytes ≡ payload
     → IsFetchedAs disk (fetch_reply (item_of t hop number)) bytes
-fetched_as disk s t hop number item at payload bytes kept is lies fetched same =
+fetched_as disk s t hop number item at limit payload bytes kept is lies fetched same =
     let found = found_alike s t hop number item kept.alike is in
     let size : length bytes ≡ length found.0 = ap length same ∙ fetched.0 ∙ ap stored_length lies ∙ sym found.2 in
     subst (λ r. IsFetchedAs disk r bytes) (sym found.1) (
       size,
       λ honest.
-          let told : Bytes found.0 ≡ Bytes (payload_in disk.seen item.payload) = sym found.1 ∙ found_bytes disk.seen s t hop number item (kept.bytes honest) is in
-          same ∙ fetched.1 honest ∙ ap (payload_in disk.seen) lies ∙ sym (bytes_once found.0 (payload_in disk.seen item.payload) told),
+          let told : Bytes found.0 item.limit ≡ Bytes (payload_in disk.seen item.payload) item.limit = sym found.1 ∙ found_bytes disk.seen s t hop number item (kept.bytes honest) is in
+          same ∙ fetched.1 honest ∙ ap (payload_in disk.seen) lies ∙ sym (bytes_once item.limit found.0 (payload_in disk.seen item.payload) told),
     )
   where
     bytes_of : Reply → List ℕ
-    bytes_of (Bytes p) = p
+    bytes_of (Bytes p limit) = p
     bytes_of _ = []
 
-    bytes_once : (a b : List ℕ) → Bytes a ≡ Bytes b → a ≡ b
-    bytes_once a b told = ap bytes_of told
+    bytes_once : (limit : ℕ) (a b : List ℕ) → Bytes a limit ≡ Bytes b limit → a ≡ b
+    bytes_once limit a b told = ap bytes_of told
 
 -- a refusal tells of a payload that has bytes
-pub lost_as : (disk : DiskState) (g : Geometry) (s : State Stored) (t : State (List ℕ)) (hop : HopId) (number : ℕ) (item : Item Stored) (at : Option Place) (refusal : Refusal)
-    → IsAlike s t → item_of s hop number ≡ Ok item → lying at ≡ item.payload → LiesThere g item.payload → IsFetched disk at (Refused refusal)
+pub lost_as : (disk : DiskState) (g : Geometry) (s : State Stored) (t : State (List ℕ)) (hop : HopId) (number : ℕ) (item : Item Stored) (at : Option Place) (limit : ℕ) (refusal : Refusal)
+    → IsAlike s t → item_of s hop number ≡ Ok item → lying at ≡ item.payload → LiesThere g item.payload → IsFetched disk at limit (Refused refusal)
     → IsLostRead refusal × HasBytes (fetch_reply (item_of t hop number))
-lost_as disk g s t hop number item at refusal alike is lies there fetched =
+lost_as disk g s t hop number item at limit refusal alike is lies there fetched =
     let found = found_alike s t hop number item alike is in
     let lost = by_refusal refusal fetched in
     let size : length found.0 ≡ stored_length (lying at) = found.2 ∙ ap stored_length (sym lies) in
@@ -145,7 +145,7 @@ lost_as disk g s t hop number item at refusal alike is lies there fetched =
         let placed : LiesThere g (lying (Some place)) = subst (λ o. LiesThere g (lying o)) same lies_there in
         subst (λ o. 1 ≤ stored_length (lying o)) (sym same) placed.0
 
-    by_refusal : (r : Refusal) → IsFetched disk at (Refused r) → IsLostRead r × (1 ≤ stored_length (lying at))
+    by_refusal : (r : Refusal) → IsFetched disk at limit (Refused r) → IsLostRead r × (1 ≤ stored_length (lying at))
     by_refusal DeviceRead got = (tt, by_place got.0 got.1)
     by_refusal OutOfMemory got = (tt, got)
     by_refusal r got = absurd got

@@ -22,10 +22,12 @@ use Rattle.rly_machine.specs.Accepted.{is_accepted}
 use Rattle.rly_machine.specs.History.{is_failure}
 use Rattle.rly_machine.specs.Map.{map_command, map_state}
 use Rattle.rly_machine.specs.Query.{fetch_reply, item_of, query_reply, show_reply, window_reply}
+use Rattle.rly_machine.specs.Sound.{IsSound}
 use Rattle.rly_machine.specs.State.{State}
 use Rattle.rly_machine.specs.Step.{step}
+use Rattle.rly_machine.proofs.Alike.{sound_alike}
 use Rattle.rly_machine.proofs.RealReplies.{counted, real_query, real_step, unaccepted}
-use Rattle.rly_record.specs.Spelling.{HasRecord, IsShort, record_length, record_of}
+use Rattle.rly_record.specs.Spelling.{HasRecord, IsRecordable, IsShort, record_length, record_of}
 use Rattle.rly_reclaim.specs.Room.{IsDue, group_room}
 use Rattle.rly_checkpoint.specs.Stored.{stored_length}
 use Rattle.rly_checkpoint.specs.declared.stored.Place.{Place}
@@ -52,19 +54,22 @@ use Rattle.rly_journal.specs.Showing.{shown_in}
 use Rattle.rly_journal.proofs.Fetching.{item_lies}
 use Rattle.rly_journal.proofs.Opening.{shown_alike}
 
--- ---- a payload that is too long
+-- ---- a command that can't be recorded
 
-pub long_refused : (s : State Stored) (command : Command (List ℕ)) → (IsShort command → ⊥) → is_accepted (step stored_length s (map_command Inline command)).1 ≡ false
-long_refused s command long =
+pub long_refused : (s : State Stored) (command : Command (List ℕ)) → IsSound stored_length s → (IsRecordable command → ⊥)
+    → is_accepted (step stored_length s (map_command Inline command)).1 ≡ false
+long_refused s command sound long =
     let t : State (List ℕ) = map_state (shown_in []) s in
-    ap is_accepted (same_reply s t (map_command Inline command) command (shown_alike [] s) (inline_alike command)) ∙ long_leaves t command long
+    let alike : IsAlike s t = shown_alike [] s in
+    ap is_accepted (same_reply s t (map_command Inline command) command alike (inline_alike command))
+    ∙ long_leaves t command (sound_alike stored_length length s t alike sound) long
 
 -- the step of such a command
-pub long_told : (s r u : State Stored) (command : Command (List ℕ)) (placed : Command Stored) (told : Reply) → (IsShort command → ⊥) → placed ≡ map_command Inline command
-    → r ≡ s → u ≡ (step stored_length r placed).0 → told ≡ (step stored_length r placed).1
+pub long_told : (s r u : State Stored) (command : Command (List ℕ)) (placed : Command Stored) (told : Reply) → IsSound stored_length s → (IsRecordable command → ⊥)
+    → placed ≡ map_command Inline command → r ≡ s → u ≡ (step stored_length r placed).0 → told ≡ (step stored_length r placed).1
     → (is_accepted told ≡ false) × (u ≡ s) × ((t : State (List ℕ)) → IsAlike s t → IsToldOf command told t)
-long_told s r u command placed told long is same state says =
-    let refused : is_accepted (step stored_length s (map_command Inline command)).1 ≡ false = long_refused s command long in
+long_told s r u command placed told sound long is same state says =
+    let refused : is_accepted (step stored_length s (map_command Inline command)).1 ≡ false = long_refused s command sound long in
     let by_step : told ≡ (step stored_length s (map_command Inline command)).1 =
     says ∙ ap (λ m. (step stored_length m placed).1) same ∙ ap (λ c. (step stored_length s c).1) is in (
       ap is_accepted by_step ∙ refused,
@@ -159,11 +164,11 @@ module _ (seat : SeatId) (number position : ℕ) (reply : Reply) (s : State Stor
       by_refusal r is = subst (λ r. AreFetching r reply []) (sym is) refl
 
 -- a payload in flight is wanted
-pub wanted_there : (seat : SeatId) (number position : ℕ) (hop : HopId) (custody : ℕ) (item : Item Stored) (place : Option Place) (x : IndexState) (t : State (List ℕ))
+pub wanted_there : (seat : SeatId) (number position : ℕ) (hop : HopId) (custody : ℕ) (item : Item Stored) (limit : ℕ) (place : Option Place) (x : IndexState) (t : State (List ℕ))
     → HoldsIndex x.geometry x.segment x.used x.spool.state → IsAlike x.spool.state t → position ≡ x.spool.state.seq → item_of x.spool.state hop custody ≡ Ok item
-    → lying place ≡ item.payload
-    → IsWanted x.geometry (record { seat = seat; number = number; ask = ask.Query (Fetch hop custody) }) seat number position place x.spool.state t
-wanted_there seat number position hop custody item place x t holds alike counts found lies = record {
+    → limit ≡ item.limit → lying place ≡ item.payload
+    → IsWanted x.geometry (record { seat = seat; number = number; ask = ask.Query (Fetch hop custody) }) seat number position limit place x.spool.state t
+wanted_there seat number position hop custody item limit place x t holds alike counts found same lies = record {
   same_seat = refl;
   same_number = refl;
   position = counts ∙ ap (λ (m : State ℕ). m.seq) alike;
@@ -172,6 +177,7 @@ wanted_there seat number position hop custody item place x t holds alike counts 
   asks = refl;
   item = item;
   found = found;
+  same_limit = same;
   lies = lies;
   there = item_lies x.geometry x.segment x.used (device_length x.geometry) x.spool.state holds holds.layout hop custody item found;
 }

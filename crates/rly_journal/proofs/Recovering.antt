@@ -13,7 +13,8 @@ use Rattle.rly_machine.specs.State.{State}
 use Rattle.rly_machine.proofs.Folding.{params_fold, seq_fold}
 use Rattle.rly_machine.proofs.Lifting.{state_twice}
 use Rattle.rly_record.specs.Spelling.{HaveBody, body_of}
-use Rattle.rly_checkpoint.specs.Stored.{payload_in, state_in, stored_form, stored_length}
+use Rattle.rly_checkpoint.specs.Stored.{payload_in, state_in, stored_length, stored_spelled}
+use Rattle.rly_checkpoint.specs.declared.head_form.HeadForm.{HeadForm}
 use Rattle.rly_checkpoint.specs.declared.stored.Stored.{Stored}
 use Rattle.rly_segment.specs.Answers.{AreClosed}
 use Rattle.rly_segment.specs.Device.{IsDevice, IsLayout, device_length, geometry_in}
@@ -192,12 +193,12 @@ at_next gate tail commands x y body ends redone spelled is = record {
 
 -- ---- the newest head
 
-pub head_replayed : (image : List ℕ) (g : Geometry) (segment generation gate : ℕ) (closed : List Bool) (s : State Stored) (x : IndexState) → IsDevice image
-    → g ≡ geometry_in image → IsLayout g (length image) → IsNewest image g segment → AreClosed image g g.segments closed → HoldsPlaced image g segment generation s
-    → gate ≡ gate_after stored_length stored_form g segment s → x.spool.state ≡ settled_state g segment s
+pub head_replayed : (which : HeadForm) (image : List ℕ) (g : Geometry) (segment generation gate : ℕ) (closed : List Bool) (s : State Stored) (x : IndexState) → IsDevice image
+    → g ≡ geometry_in image → IsLayout g (length image) → IsNewest image g segment → AreClosed image g g.segments closed → HoldsPlaced which image g segment generation s
+    → gate ≡ gate_after stored_length (stored_spelled which) g segment s → x.spool.state ≡ settled_state which g segment s
     → IsReplayedFor image (head_tail g segment generation gate closed) x
-head_replayed image g segment generation gate closed s x device named fits newest gates head is settled =
-    let z : Standing = record { geometry = g; segment = segment; generation = generation; head = s; checkpoint = state_in image s; groups = [] } in
+head_replayed which image g segment generation gate closed s x device named fits newest gates head is settled =
+    let z : Standing = record { geometry = g; segment = segment; generation = generation; form = which; head = s; checkpoint = state_in image s; groups = [] } in
     record {
       read = record {
         x = z;
@@ -212,10 +213,10 @@ head_replayed image g segment generation gate closed s x device named fits newes
           accepted = tt;
         };
         ends = record { geometry = refl; segment = refl; generation = refl; gate = is };
-        state = ap (state_in image) settled ∙ settled_stands image g segment generation s head.head;
+        state = ap (state_in image) settled ∙ settled_stands which image g segment generation s head.head;
         gates = gates;
       };
-      tagged = subst (λ (u : State Stored). IsTagged z u) (sym settled) (λ t other. head_tagged g segment t other s (omega (arith, head.head.head.room)));
+      tagged = subst (λ (u : State Stored). IsTagged z u) (sym settled) (λ t other. head_tagged which g segment t other s (omega (arith, head.head.head.room)));
     }
 
 -- the gate after what was read is closed, so that is all
@@ -234,10 +235,11 @@ logged_all image tail x so_far shut =
       tagged = λ y reads. subst (λ (z : Standing). IsTagged z x.spool.state) (standing_once so_far.read.x y stands reads) so_far.tagged;
     }
 
-pub head_shaped : (size : ℕ) (g : Geometry) (segment generation gate : ℕ) (closed : List Bool) (s : State Stored) (x : IndexState) → IsLayout g size → segment < g.segments
-    → IsHeadOf stored_length stored_form g segment generation s → gate ≡ gate_after stored_length stored_form g segment s → x.spool.state ≡ settled_state g segment s
+pub head_shaped : (which : HeadForm) (size : ℕ) (g : Geometry) (segment generation gate : ℕ) (closed : List Bool) (s : State Stored) (x : IndexState) → IsLayout g size → segment < g.segments
+    → IsHeadOf stored_length (stored_spelled which) g segment generation s → gate ≡ gate_after stored_length (stored_spelled which) g segment s
+    → x.spool.state ≡ settled_state which g segment s
     → IsShaped size (head_tail g segment generation gate closed) x
-head_shaped size g segment generation gate closed s x layout there head is settled =
+head_shaped which size g segment generation gate closed s x layout there head is settled =
     let seq : x.spool.state.seq ≡ s.seq = ap (λ (m : State Stored). m.seq) settled in
     record {
       geometry = layout;

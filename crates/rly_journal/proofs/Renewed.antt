@@ -132,6 +132,7 @@ module _ {D : Type 0} (state : D → DiskState) (facts : (disk : D) → (state d
           bytes = stands_back (state b).seen (segment_place tail.geometry target) (open_gate ∷ []) text
               (stands_front (state b).seen (segment_place tail.geometry target) (open_gate ∷ text) (0 ∷ []) whole);
           sound = sound_copy;
+          plain = tt;
           head = head;
         }
 

@@ -14,7 +14,9 @@ use Rattle.rly_machine.specs.Sound.{IsSound}
 use Rattle.rly_machine.specs.State.{Spool, State}
 use Rattle.rly_reclaim.specs.Reclaiming.{IsFree, IsVictim}
 use Rattle.rly_checkpoint.specs.Checkpoint.{state_spelled}
-use Rattle.rly_checkpoint.specs.Stored.{payload_in, state_in, stored_form, stored_length}
+use Rattle.rly_checkpoint.specs.Forms.{HaveForms}
+use Rattle.rly_checkpoint.specs.Stored.{IsStorable, payload_in, state_in, stored_form, stored_length}
+use Rattle.rly_checkpoint.specs.declared.head_form.HeadForm.TheVariants.{Second}
 use Rattle.rly_checkpoint.specs.declared.stored.Place.{Place}
 use Rattle.rly_checkpoint.specs.declared.stored.Stored.{Stored}
 use Rattle.rly_checkpoint.specs.declared.stored.Stored.TheVariants.{Inline, Placed}
@@ -27,6 +29,7 @@ use Rattle.rly_places.proofs.Placing.{holds_none, of_items, of_payloads, segment
 use Rattle.rly_segment.specs.Answers.{AreClosed}
 use Rattle.rly_segment.specs.Device.{IsLayout}
 use Rattle.rly_segment.specs.Heads.{IsHeadOf, gate_after, head_spelled, opened_spelled, segment_place}
+use Rattle.rly_segment.proofs.PlacedHeads.{forms_of}
 use Rattle.rly_segment.proofs.Segments.{segment_within}
 use Rattle.rly_segment.proofs.Standing.{stands_front}
 use Rattle.rly_places.proofs.Rooms.{live_length}
@@ -44,6 +47,7 @@ use Rattle.rly_standing.proofs.Frame.{length-spelled}
 use Rattle.rly_standing.proofs.Growing.{byte_there, opened_with, with_head}
 use Rattle.rly_standing.proofs.Inlining.{elsewhere_still}
 use Rattle.rly_journal.specs.HelpersJournal.{IsAtEnd, IsShaped}
+use Rattle.rly_journal.proofs.Storable.{same_storable}
 
 -- ---- what the head may hold
 
@@ -255,6 +259,13 @@ module _ (tail : Tail) (x : IndexState) (target victim : ℕ) (copy : State Stor
   pub head_there : IsHeadOf stored_length stored_form tail.geometry target (tail.generation + 1) copy
   head_there =
       copy_head tail.geometry target victim x.spool.state copy drawn_for.may drawn_for.like drawn_for.sound tail.generation drawn_for.room drawn_for.params (shaped.full full)
+
+  -- on any disk what it holds has a form there
+  pub forms_there : All (HaveForms (IsStorable Second)) copy.hops
+  forms_there =
+      same_storable Second copy (drawn_state tail.geometry victim unread x.spool.state) drawn_for.like
+      (forms_of Second tail.geometry size target (drawn_state tail.geometry victim unread x.spool.state) shaped.geometry
+      (copy_placed tail.geometry target victim x.spool.state unread drawn_for.may victim_there))
 
   module _ (gate : ℕ) (is : gate ≡ gate_after stored_length stored_form tail.geometry target copy) where
     pub moved_gate : gate ≡ gate_after stored_length stored_form tail.geometry target (drawn_state tail.geometry victim unread x.spool.state)

@@ -64,7 +64,7 @@ outcomes_there g size gate s t done (call ∷ calls) (outcome ∷ outcomes) layo
   where
     one : (o : Outcome) → IsOutcomeOf g call o (fold stored_length s (placed_group gate done)) (fold length t done) → IsThereFor size o
     one (Answered answer) known = tt
-    one (Wanted seat number at place) wanted = lies_within g size wanted.item.payload place layout wanted.there wanted.lies
+    one (Wanted seat number at limit place) wanted = lies_within g size wanted.item.payload place layout wanted.there wanted.lies
 
 -- ---- the state that is shown
 

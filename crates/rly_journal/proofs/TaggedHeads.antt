@@ -9,7 +9,10 @@ use Rattle.rly_machine.specs.Map.{map_hop, map_item, map_state}
 use Rattle.rly_machine.specs.State.{HopState, State}
 use Rattle.rly_machine.proofs.Lifting.{state_twice}
 use Rattle.rly_checkpoint.specs.Checkpoint.{entry_spelled, hop_spelled, state_spelled}
-use Rattle.rly_checkpoint.specs.Stored.{stored_form, stored_length}
+use Rattle.rly_checkpoint.specs.Stored.{stored_form_of, stored_length, stored_spelled}
+use Rattle.rly_checkpoint.specs.Widths.{entry_width, hop_width}
+use Rattle.rly_checkpoint.specs.declared.head_form.HeadForm.{HeadForm}
+use Rattle.rly_checkpoint.specs.declared.head_form.HeadForm.TheVariants.{Second}
 use Rattle.rly_checkpoint.specs.declared.stored.Place.{Place}
 use Rattle.rly_checkpoint.specs.declared.stored.Stored.{Stored}
 use Rattle.rly_checkpoint.specs.declared.stored.Stored.TheVariants.{Inline, Placed}
@@ -29,75 +32,76 @@ use Rattle.rly_journal.specs.HelpersJournal.{tagged}
 
 -- ---- how long what is spelled is
 
-form_least : (p : Stored) → 1 + inline_length p ≤ length (stored_form p)
-form_least (Inline payload) = omega arith
-form_least (Placed place) = let e : length (stored_form (Placed place)) ≡ 9 = refl in omega (arith, e)
-
-abbrev entries : List (Item Stored) → List ℕ
-entries = flat_map (entry_spelled stored_length stored_form)
-
-abbrev spelled_hop : HopState Stored → List ℕ
-spelled_hop = hop_spelled stored_length stored_form
-
 length_cons : {X : Type 0} (f : X → List ℕ) (x : X) (xs : List X) → length (flat_map f (x ∷ xs)) ≡ length (f x) + length (flat_map f xs)
 length_cons f x xs = ap (λ (l : List ℕ). length l) (flat_map-cons f x xs) ∙ length-append (f x) (flat_map f xs)
 
-entries_both : (xs ys : List (Item Stored)) → length (entries (xs ++ ys)) ≡ length (entries xs) + length (entries ys)
-entries_both xs ys =
-    let one : Item Stored → List ℕ = entry_spelled stored_length stored_form in
-    ap (λ (l : List ℕ). length l) (flat_map-append one xs ys) ∙ length-append (flat_map one xs) (flat_map one ys)
+module _ (which : HeadForm) where
+  form_least : (p : Stored) → 1 + inline_length p ≤ length (stored_form_of which p)
+  form_least (Inline payload) = omega arith
+  form_least (Placed place) = omega arith
 
--- ---- in any segment but the head's own
+  abbrev entries : List (Item Stored) → List ℕ
+  entries = flat_map (entry_spelled stored_length (stored_spelled which))
 
-module _ (g : Geometry) (segment u : ℕ) (other : u ≢ segment) where
-  one_tagged : (at : ℕ) (p : Stored) → segment_place g segment ≤ at → at + inline_length p ≤ segment_end g segment → tagged g u (settled at p) ≡ tagged g u p
-  one_tagged at (Inline []) above within = refl
-  one_tagged at (Inline (byte ∷ bytes)) above within =
-      let place : Place = record { start = at; length = length (byte ∷ bytes) } in
-      let here : segment_of g at ≡ segment = in_segment g segment (at - 64) (omega (arith, above)) (omega (arith, above, within)) in
-      ap (λ (n : ℕ). let q : ℕ × ℕ = (length (byte ∷ bytes), n) in q) (none_there g u place (λ same. other (sym same ∙ here)))
-  one_tagged at (Placed place) above within = refl
+  abbrev spelled_hop : HopState Stored → List ℕ
+  spelled_hop = hop_spelled stored_length (stored_spelled which)
 
-  items_tagged : (at : ℕ) (items : List (Item Stored)) → segment_place g segment ≤ at → at + length (entries items) ≤ segment_end g segment
-      → map (map_item (tagged g u)) (settled_items at items) ≡ map (map_item (tagged g u)) items
-  items_tagged at [] above within = refl
-  items_tagged at (item ∷ items) above within =
-      let next : ℕ = at + length (entry_spelled stored_length stored_form item) in
-      let size : length (entry_spelled stored_length stored_form item) ≡ 18 + length (stored_form item.payload) = length-entry stored_length stored_form item in
-      let parts = length_cons (entry_spelled stored_length stored_form) item items in
-      ap (λ (q : ℕ × ℕ). let x : Item (ℕ × ℕ) = record { id = item.id; stamp = item.stamp; payload = q } in x ∷ map (map_item (tagged g u)) (settled_items next items))
-      (one_tagged (at + 19) item.payload (omega (arith, above)) (omega (arith, within, parts, size, form_least item.payload)))
-      ∙ ap (λ (others : List (Item (ℕ × ℕ))). map_item (tagged g u) item ∷ others)
-      (items_tagged next items (omega (arith, above)) (omega (arith, within, parts)))
+  entries_both : (xs ys : List (Item Stored)) → length (entries (xs ++ ys)) ≡ length (entries xs) + length (entries ys)
+  entries_both xs ys =
+      let one : Item Stored → List ℕ = entry_spelled stored_length (stored_spelled which) in
+      ap (λ (l : List ℕ). length l) (flat_map-append one xs ys) ∙ length-append (flat_map one xs) (flat_map one ys)
 
-  hop_tagged : (at : ℕ) (h : HopState Stored) → segment_place g segment ≤ at → at + length (spelled_hop h) ≤ segment_end g segment
-      → map_hop (tagged g u) (settled_hop at h) ≡ map_hop (tagged g u) h
-  hop_tagged at h above within =
-      let behind : ℕ = at + 71 + length (entries h.flight) in
-      let size : length (spelled_hop h) ≡ 71 + length (entries (h.flight ++ h.queue)) = length-hop stored_length stored_form h in
-      let both = entries_both h.flight h.queue in
-      let with_lines : List (Item (ℕ × ℕ)) → List (Item (ℕ × ℕ)) → HopState (ℕ × ℕ) = λ queue flight. record (map_hop (tagged g u) h) { queue = queue; flight = flight } in
-      ap (λ (q : List (Item (ℕ × ℕ))). with_lines q (map (map_item (tagged g u)) (settled_items (at + 71) h.flight)))
-      (items_tagged behind h.queue (omega (arith, above)) (omega (arith, within, size, both)))
-      ∙ ap (with_lines (map (map_item (tagged g u)) h.queue))
-      (items_tagged (at + 71) h.flight (omega (arith, above)) (omega (arith, within, size, both)))
+  -- ---- in any segment but the head's own
 
-  hops_tagged : (at : ℕ) (hops : List (HopState Stored)) → segment_place g segment ≤ at → at + length (flat_map spelled_hop hops) ≤ segment_end g segment
-      → map (map_hop (tagged g u)) (settled_hops at hops) ≡ map (map_hop (tagged g u)) hops
-  hops_tagged at [] above within = refl
-  hops_tagged at (h ∷ hops) above within =
-      let next : ℕ = at + length (spelled_hop h) in
-      let parts = length_cons spelled_hop h hops in
-      ap (λ (x : HopState (ℕ × ℕ)). x ∷ map (map_hop (tagged g u)) (settled_hops next hops)) (hop_tagged at h above (omega (arith, within, parts)))
-      ∙ ap (λ (l : List (HopState (ℕ × ℕ))). map_hop (tagged g u) h ∷ l) (hops_tagged next hops (omega (arith, above)) (omega (arith, within, parts)))
+  module _ (g : Geometry) (segment u : ℕ) (other : u ≢ segment) where
+    one_tagged : (at : ℕ) (p : Stored) → segment_place g segment ≤ at → at + inline_length p ≤ segment_end g segment → tagged g u (settled at p) ≡ tagged g u p
+    one_tagged at (Inline []) above within = refl
+    one_tagged at (Inline (byte ∷ bytes)) above within =
+        let place : Place = record { start = at; length = length (byte ∷ bytes) } in
+        let here : segment_of g at ≡ segment = in_segment g segment (at - 64) (omega (arith, above)) (omega (arith, above, within)) in
+        ap (λ (n : ℕ). let q : ℕ × ℕ = (length (byte ∷ bytes), n) in q) (none_there g u place (λ same. other (sym same ∙ here)))
+    one_tagged at (Placed place) above within = refl
 
-  -- the head has nothing there but what it has by place, before it settles and after
-  pub head_tagged : (s : State Stored) → 13 + length (state_spelled stored_length stored_form s) ≤ g.length
-      → map_state (tagged g u) (settled_state g segment s) ≡ map_state (tagged g u) s
-  head_tagged s room =
-      ap (λ (l : List (HopState (ℕ × ℕ))). let t : State (ℕ × ℕ) = record { params = s.params; hops = l; lasts = s.lasts; seq = s.seq } in t)
-      (hops_tagged (segment_place g segment + 21 + 8 * length s.lasts) s.hops (omega arith)
-      (omega (arith, room, length-parts stored_length stored_form s, length-numbers s.lasts)))
+    items_tagged : (at : ℕ) (items : List (Item Stored)) → segment_place g segment ≤ at → at + length (entries items) ≤ segment_end g segment
+        → map (map_item (tagged g u)) (settled_items which at items) ≡ map (map_item (tagged g u)) items
+    items_tagged at [] above within = refl
+    items_tagged at (item ∷ items) above within =
+        let next : ℕ = at + length (entry_spelled stored_length (stored_spelled which) item) in
+        let size : length (entry_spelled stored_length (stored_spelled which) item) + 1 ≡ entry_width which + length (stored_form_of which item.payload) = length-entry stored_length (stored_spelled which) item in
+        let parts = length_cons (entry_spelled stored_length (stored_spelled which)) item items in
+        ap (λ (q : ℕ × ℕ). let x : Item (ℕ × ℕ) = record { id = item.id; stamp = item.stamp; limit = item.limit; payload = q } in x ∷ map (map_item (tagged g u)) (settled_items which next items))
+        (one_tagged (at + entry_width which) item.payload (omega (arith, above)) (omega (arith, within, parts, size, form_least item.payload)))
+        ∙ ap (λ (others : List (Item (ℕ × ℕ))). map_item (tagged g u) item ∷ others)
+        (items_tagged next items (omega (arith, above)) (omega (arith, within, parts)))
+
+    hop_tagged : (at : ℕ) (h : HopState Stored) → segment_place g segment ≤ at → at + length (spelled_hop h) ≤ segment_end g segment
+        → map_hop (tagged g u) (settled_hop which at h) ≡ map_hop (tagged g u) h
+    hop_tagged at h above within =
+        let behind : ℕ = at + hop_width which + length (entries h.flight) in
+        let size : length (spelled_hop h) ≡ hop_width which + length (entries (h.flight ++ h.queue)) = length-hop stored_length (stored_spelled which) h in
+        let both = entries_both h.flight h.queue in
+        let with_lines : List (Item (ℕ × ℕ)) → List (Item (ℕ × ℕ)) → HopState (ℕ × ℕ) = λ queue flight. record (map_hop (tagged g u) h) { queue = queue; flight = flight } in
+        ap (λ (q : List (Item (ℕ × ℕ))). with_lines q (map (map_item (tagged g u)) (settled_items which (at + hop_width which) h.flight)))
+        (items_tagged behind h.queue (omega (arith, above)) (omega (arith, within, size, both)))
+        ∙ ap (with_lines (map (map_item (tagged g u)) h.queue))
+        (items_tagged (at + hop_width which) h.flight (omega (arith, above)) (omega (arith, within, size, both)))
+
+    hops_tagged : (at : ℕ) (hops : List (HopState Stored)) → segment_place g segment ≤ at → at + length (flat_map spelled_hop hops) ≤ segment_end g segment
+        → map (map_hop (tagged g u)) (settled_hops which at hops) ≡ map (map_hop (tagged g u)) hops
+    hops_tagged at [] above within = refl
+    hops_tagged at (h ∷ hops) above within =
+        let next : ℕ = at + length (spelled_hop h) in
+        let parts = length_cons spelled_hop h hops in
+        ap (λ (x : HopState (ℕ × ℕ)). x ∷ map (map_hop (tagged g u)) (settled_hops which next hops)) (hop_tagged at h above (omega (arith, within, parts)))
+        ∙ ap (λ (l : List (HopState (ℕ × ℕ))). map_hop (tagged g u) h ∷ l) (hops_tagged next hops (omega (arith, above)) (omega (arith, within, parts)))
+
+    -- the head has nothing there but what it has by place, before it settles and after
+    pub head_tagged : (s : State Stored) → 13 + length (state_spelled stored_length (stored_spelled which) s) ≤ g.length
+        → map_state (tagged g u) (settled_state which g segment s) ≡ map_state (tagged g u) s
+    head_tagged s room =
+        ap (λ (l : List (HopState (ℕ × ℕ))). let t : State (ℕ × ℕ) = record { params = s.params; hops = l; lasts = s.lasts; seq = s.seq } in t)
+        (hops_tagged (segment_place g segment + 21 + 8 * length s.lasts) s.hops (omega arith)
+        (omega (arith, room, length-parts stored_length (stored_spelled which) s, length-numbers s.lasts)))
 
 -- ---- two spools that are the same but for bytes
 
@@ -115,4 +119,4 @@ same_tagged g u s t same =
 pub moved_tagged : (g : Geometry) (target victim : ℕ) (s copy : State Stored) → MayMove g target victim s → IsSameButForBytes copy (drawn_state g victim unread s)
     → (u : ℕ) → u ≢ target → map_state (tagged g u) (moved_state g target victim s) ≡ map_state (tagged g u) copy
 moved_tagged g target victim s copy may like u other =
-    head_tagged g target u other (drawn_state g victim unread s) may.room ∙ sym (same_tagged g u copy (drawn_state g victim unread s) like)
+    head_tagged Second g target u other (drawn_state g victim unread s) may.room ∙ sym (same_tagged g u copy (drawn_state g victim unread s) like)

@@ -71,9 +71,9 @@ module _ (g : Geometry) (t : ℕ) where
 
   command_tagged : (segment used next place : ℕ) (command : Command (List ℕ)) → t ≢ segment → IsBrought g segment used next (placed_at place command)
       → map_command (tagged g t) (placed_at place command) ≡ map_command (tagged g t) (map_command Inline command)
-  command_tagged segment used next place (Take peer number hop stamp payload) other brought =
+  command_tagged segment used next place (Take peer number hop stamp limit payload) other brought =
       let lies : LiesBetween used next (lying_at (place + 23) payload) = All-head (LiesBetween used next) (lying_at (place + 23) payload) [] brought.lies in
-      ap (λ (q : ℕ × ℕ). Take peer number hop stamp q) (lying_tagged (place + 23) payload
+      ap (λ (q : ℕ × ℕ). Take peer number hop stamp limit q) (lying_tagged (place + 23) payload
       (between_other g segment used next brought.there brought.from brought.to t other (lying_at (place + 23) payload) lies))
   command_tagged segment used next place (Pick hop now) other brought = refl
   command_tagged segment used next place (Release hop number) other brought = refl
@@ -134,7 +134,7 @@ tagged_appended old new tail commands s places logged have accepted few room wri
 -- ---- a segment into which nothing lies
 
 brought_there : (g : Geometry) (command : Command (List ℕ)) → All (λ p. astray g p ≡ 0) (payload_of (map_command Inline command))
-brought_there g (Take peer number hop stamp payload) =
+brought_there g (Take peer number hop stamp limit payload) =
     let None : Stored → Type 0 = λ p. astray g p ≡ 0 in
     All-cons None (Inline payload) [] refl (All-nil None)
 brought_there g (Pick hop now) = All-nil (λ (p : Stored). astray g p ≡ 0)

@@ -76,12 +76,13 @@ same_both false s = refl
 
 -- a Fetch of a payload in flight is answered with bytes, or lost
 abbrev IsBytesOrLost : Type 0 → State (List ℕ) → HopId → ℕ → Reply → Type 0
-IsBytesOrLost honest u hop custody (Bytes payload) = honest → Bytes payload ≡ fetch_reply (item_of u hop custody)
+IsBytesOrLost honest u hop custody (Bytes payload limit) =
+    (Bytes [] limit ≡ without_bytes (fetch_reply (item_of u hop custody))) × (honest → Bytes payload limit ≡ fetch_reply (item_of u hop custody))
 IsBytesOrLost honest u hop custody (Refused DeviceRead) = HasBytes (fetch_reply (item_of u hop custody))
 IsBytesOrLost honest u hop custody (Refused OutOfMemory) = HasBytes (fetch_reply (item_of u hop custody))
 IsBytesOrLost honest u hop custody _ = ⊥
 
-module _ (honest : Type 0) (u : State (List ℕ)) (hop : HopId) (custody : ℕ) (found : List ℕ) (told : fetch_reply (item_of u hop custody) ≡ Bytes found) where
+module _ (honest : Type 0) (u : State (List ℕ)) (hop : HopId) (custody : ℕ) where
   abbrev asked : SeatId → ℕ → Call
   asked seat number = record { seat = seat; number = number; ask = ask.Query (Fetch hop custody) }
 
@@ -92,13 +93,13 @@ module _ (honest : Type 0) (u : State (List ℕ)) (hop : HopId) (custody : ℕ) 
   fetch_but seat number reply is = record {
     seat = refl;
     number = refl;
-    reply = λ real. by_reply reply is real ∙ sym (ap without_bytes told);
+    reply = λ real. by_reply reply is real;
     position = ap (λ m. m.seq) (sym (same_both (is_failure reply) u));
     harm = omega arith;
   }
     where
-      by_reply : (reply : Reply) → IsBytesOrLost honest u hop custody reply → is_failure reply ≡ false → without_bytes reply ≡ Bytes []
-      by_reply (Bytes payload) is real = refl
+      by_reply : (reply : Reply) → IsBytesOrLost honest u hop custody reply → is_failure reply ≡ false → without_bytes reply ≡ without_bytes (fetch_reply (item_of u hop custody))
+      by_reply (Bytes payload limit) is real = is.0
       by_reply (Refused DeviceRead) is real = absurd (false≢true (sym real))
       by_reply (Refused OutOfMemory) is real = absurd (false≢true (sym real))
       by_reply reply is real = absurd is
@@ -114,26 +115,26 @@ module _ (honest : Type 0) (u : State (List ℕ)) (hop : HopId) (custody : ℕ) 
   }
     where
       by_reply : (reply : Reply) → IsBytesOrLost honest u hop custody reply → is_failure reply ≡ false → reply ≡ fetch_reply (item_of u hop custody)
-      by_reply (Bytes payload) is real = is right
+      by_reply (Bytes payload limit) is real = is.1 right
       by_reply (Refused DeviceRead) is real = absurd (false≢true (sym real))
       by_reply (Refused OutOfMemory) is real = absurd (false≢true (sym real))
       by_reply reply is real = absurd is
 
   fetch_only : (seat : SeatId) (number : ℕ) (reply : Reply) → IsBytesOrLost honest u hop custody reply → OnlyLost (asked seat number, answered seat number reply)
-  fetch_only seat number (Bytes payload) is fails = absurd (false≢true fails)
+  fetch_only seat number (Bytes payload limit) is fails = absurd (false≢true fails)
   fetch_only seat number (Refused DeviceRead) is fails = inr (refl, tt)
   fetch_only seat number (Refused OutOfMemory) is fails = inl refl
   fetch_only seat number reply is fails = absurd is
 
   fetch_lost : (reply : Reply) (refusal : Refusal) → IsBytesOrLost honest u hop custody reply → reply ≡ Refused refusal → HasBytes (fetch_reply (item_of u hop custody))
-  fetch_lost (Bytes payload) refusal is same = absurd cc
+  fetch_lost (Bytes payload limit) refusal is same = absurd cc
   fetch_lost (Refused DeviceRead) refusal is same = is
   fetch_lost (Refused OutOfMemory) refusal is same = is
   fetch_lost reply refusal is same = absurd is
 
-  fetch_answer : (seat : SeatId) (number at : ℕ) (place : Option Place) (reply : Reply) → IsBytesOrLost honest u hop custody reply
-      → IsAnswer honest u (asked seat number) (Wanted seat number at place) (answered seat number reply)
-  fetch_answer seat number at place reply is = record {
+  fetch_answer : (seat : SeatId) (number at limit : ℕ) (place : Option Place) (reply : Reply) → IsBytesOrLost honest u hop custody reply
+      → IsAnswer honest u (asked seat number) (Wanted seat number at limit place) (answered seat number reply)
+  fetch_answer seat number at limit place reply is = record {
     but = fetch_but seat number reply is;
     exact = fetch_exact seat number reply is;
     only = fetch_only seat number reply is;
@@ -156,30 +157,34 @@ answer_is answer seat number position same_seat same_number same_position =
     ∙ ap (λ (n : ℕ). let a : Answer = record { seat = answer.seat; number = n; reply = answer.reply; position = position } in a) (sym same_number)
     ∙ ap (λ (n : ℕ). let a : Answer = record { seat = answer.seat; number = answer.number; reply = answer.reply; position = n } in a) (sym same_position)
 
-module _ (g : Geometry) (call : Call) (seat : SeatId) (number at : ℕ) (place : Option Place) (s : State Stored) (u : State (List ℕ)) (alike : IsAlike s u)
-    (wanted : IsWanted g call seat number at place s u) where
-  there : (payload : List ℕ) × (fetch_reply (item_of u wanted.hop wanted.custody) ≡ Bytes payload) × (length payload ≡ stored_length wanted.item.payload)
+module _ (g : Geometry) (call : Call) (seat : SeatId) (number at limit : ℕ) (place : Option Place) (s : State Stored) (u : State (List ℕ)) (alike : IsAlike s u)
+    (wanted : IsWanted g call seat number at limit place s u) where
+  there : (payload : List ℕ) × (fetch_reply (item_of u wanted.hop wanted.custody) ≡ Bytes payload wanted.item.limit) × (length payload ≡ stored_length wanted.item.payload)
   there = found_alike s u wanted.hop wanted.custody wanted.item alike wanted.found
 
   wanted_answer : (honest : Type 0) (answer : Answer) → answer.seat ≡ seat → answer.number ≡ number → answer.position ≡ at
-      → IsBytesOrLost honest u wanted.hop wanted.custody answer.reply → IsAnswer honest u call (Wanted seat number at place) answer
+      → IsBytesOrLost honest u wanted.hop wanted.custody answer.reply → IsAnswer honest u call (Wanted seat number at limit place) answer
   wanted_answer honest answer same_seat same_number same_position is =
-      subst (λ c. IsAnswer honest u c (Wanted seat number at place) answer) (call_is call seat number (ask.Query (Fetch wanted.hop wanted.custody)) wanted.same_seat wanted.same_number wanted.asks)
-      (subst (IsAnswer honest u (record { seat = seat; number = number; ask = ask.Query (Fetch wanted.hop wanted.custody) }) (Wanted seat number at place))
+      subst (λ c. IsAnswer honest u c (Wanted seat number at limit place) answer) (call_is call seat number (ask.Query (Fetch wanted.hop wanted.custody)) wanted.same_seat wanted.same_number wanted.asks)
+      (subst (IsAnswer honest u (record { seat = seat; number = number; ask = ask.Query (Fetch wanted.hop wanted.custody) }) (Wanted seat number at limit place))
       (answer_is answer seat number u.seq same_seat same_number (same_position ∙ wanted.position))
-      (fetch_answer honest u wanted.hop wanted.custody there.0 there.1 seat number at place answer.reply is))
+      (fetch_answer honest u wanted.hop wanted.custody seat number at limit place answer.reply is))
 
   -- what was read
-  fetched_is : (disk : DiskState) → IsKept disk s u → (reply : Reply) → IsFetched disk place reply → IsBytesOrLost disk.honest u wanted.hop wanted.custody reply
-  fetched_is disk kept (Bytes payload) got =
-      λ honest.
-      ap Bytes (got.1 honest ∙ ap (payload_in disk.seen) wanted.lies)
-      ∙ sym (found_bytes disk.seen s u wanted.hop wanted.custody wanted.item (kept.bytes honest) wanted.found)
-  fetched_is disk kept (Refused DeviceRead) got = (lost_as disk g s u wanted.hop wanted.custody wanted.item place DeviceRead alike wanted.found wanted.lies wanted.there got).1
-  fetched_is disk kept (Refused OutOfMemory) got = (lost_as disk g s u wanted.hop wanted.custody wanted.item place OutOfMemory alike wanted.found wanted.lies wanted.there got).1
+  fetched_is : (disk : DiskState) → IsKept disk s u → (reply : Reply) → IsFetched disk place limit reply → IsBytesOrLost disk.honest u wanted.hop wanted.custody reply
+  fetched_is disk kept (Bytes payload told) got =
+      let same : told ≡ wanted.item.limit = got.2 ∙ wanted.same_limit in (
+        ap (Bytes []) same ∙ sym (ap without_bytes there.1),
+        λ honest.
+            ap (λ (l : List ℕ). Bytes l told) (got.1 honest ∙ ap (payload_in disk.seen) wanted.lies)
+            ∙ ap (Bytes (payload_in disk.seen wanted.item.payload)) same
+            ∙ sym (found_bytes disk.seen s u wanted.hop wanted.custody wanted.item (kept.bytes honest) wanted.found),
+      )
+  fetched_is disk kept (Refused DeviceRead) got = (lost_as disk g s u wanted.hop wanted.custody wanted.item place limit DeviceRead alike wanted.found wanted.lies wanted.there got).1
+  fetched_is disk kept (Refused OutOfMemory) got = (lost_as disk g s u wanted.hop wanted.custody wanted.item place limit OutOfMemory alike wanted.found wanted.lies wanted.there got).1
   fetched_is disk kept reply got = absurd got
 
-  fetched_rows : (answer : Answer) → AreReadsOf u call.ask answer.reply (rows_for (Wanted seat number at place) answer)
+  fetched_rows : (answer : Answer) → AreReadsOf u call.ask answer.reply (rows_for (Wanted seat number at limit place) answer)
   fetched_rows answer =
       subst (λ a. AreReadsOf u a answer.reply (row_for place answer.reply ∷ [])) (sym wanted.asks)
       (fetching_rows s u wanted.hop wanted.custody wanted.item place answer.reply (row_for place answer.reply ∷ []) alike wanted.found wanted.lies refl)
@@ -190,10 +195,10 @@ told_one : (disk : DiskState) (g : Geometry) (call : Call) (outcome : Outcome) (
     → IsAnswer disk.honest u call outcome answer × AreReadsOf u call.ask answer.reply (rows_for outcome answer)
 told_one disk g call (Answered known) answer s u kept came is =
     subst (λ a. IsAnswer disk.honest u call (Answered known) a × AreReadsOf u call.ask a.reply []) (sym is) (known_answer disk.honest u call known came, came.unread)
-told_one disk g call (Wanted seat number at place) answer s u kept came is = (
-  wanted_answer g call seat number at place s u kept.alike came disk.honest answer is.0 is.1 is.2
-      (fetched_is g call seat number at place s u kept.alike came disk kept answer.reply is.3),
-  fetched_rows g call seat number at place s u kept.alike came answer,
+told_one disk g call (Wanted seat number at limit place) answer s u kept came is = (
+  wanted_answer g call seat number at limit place s u kept.alike came disk.honest answer is.0 is.1 is.2
+      (fetched_is g call seat number at limit place s u kept.alike came disk kept answer.reply is.3),
+  fetched_rows g call seat number at limit place s u kept.alike came answer,
 )
 
 -- ---- all calls
@@ -272,7 +277,7 @@ module _ (disk : DiskState) (g : Geometry) (gate : ℕ) (s : State Stored) (t : 
 -- what the machine answers, where payloads aren't read
 abbrev pub granted_one : State (List ℕ) → Call → Outcome → Answer
 granted_one u call (Answered known) = known
-granted_one u call (Wanted seat number at place) = record { seat = seat; number = number; reply = (ask_step u call.ask).1; position = at }
+granted_one u call (Wanted seat number at limit place) = record { seat = seat; number = number; reply = (ask_step u call.ask).1; position = at }
 
 abbrev pub granted : State (List ℕ) → Commands → List Call → List Outcome → List Answer
 granted t done [] outcomes = []
@@ -282,11 +287,11 @@ granted t done (call ∷ calls) (outcome ∷ outcomes) = granted_one (fold lengt
 granted_answer : (g : Geometry) (call : Call) (outcome : Outcome) (s : State Stored) (u : State (List ℕ)) → IsAlike s u → IsOutcomeOf g call outcome s u
     → IsAnswer (Unit {0}) u call outcome (granted_one u call outcome)
 granted_answer g call (Answered known) s u alike came = known_answer (Unit {0}) u call known came
-granted_answer g call (Wanted seat number at place) s u alike wanted =
-    let found = there g call seat number at place s u alike wanted in
-    let told : (ask_step u call.ask).1 ≡ Bytes found.0 = ap (λ a. (ask_step u a).1) wanted.asks ∙ found.1 in
-    wanted_answer g call seat number at place s u alike wanted (Unit {0}) (granted_one u call (Wanted seat number at place)) refl refl refl
-    (subst (IsBytesOrLost (Unit {0}) u wanted.hop wanted.custody) (sym told) (λ _. sym found.1))
+granted_answer g call (Wanted seat number at limit place) s u alike wanted =
+    let found = there g call seat number at limit place s u alike wanted in
+    let told : (ask_step u call.ask).1 ≡ Bytes found.0 wanted.item.limit = ap (λ a. (ask_step u a).1) wanted.asks ∙ found.1 in
+    wanted_answer g call seat number at limit place s u alike wanted (Unit {0}) (granted_one u call (Wanted seat number at limit place)) refl refl refl
+    (subst (IsBytesOrLost (Unit {0}) u wanted.hop wanted.custody) (sym told) (sym (ap without_bytes found.1), λ _. sym found.1))
 
 module _ (g : Geometry) (gate : ℕ) (s : State Stored) (t : State (List ℕ))
     (alike : (front : Commands) → IsAlike (fold stored_length s (placed_group gate front)) (fold length t front)) where
@@ -329,7 +334,7 @@ refused_one g refusal position call (Answered known) s u came = answer_names kno
     answer_names seat number same_seat same_number =
         ap (λ (s : SeatId). let a : Answer = record { seat = s; number = number; reply = Refused refusal; position = position } in a) same_seat
         ∙ ap (λ (n : ℕ). let a : Answer = record { seat = call.seat; number = n; reply = Refused refusal; position = position } in a) same_number
-refused_one g refusal position call (Wanted seat number at place) s u came =
+refused_one g refusal position call (Wanted seat number at limit place) s u came =
     ap (λ (s : SeatId). let a : Answer = record { seat = s; number = number; reply = Refused refusal; position = position } in a) came.same_seat
     ∙ ap (λ (n : ℕ). let a : Answer = record { seat = call.seat; number = n; reply = Refused refusal; position = position } in a) came.same_number
 

@@ -107,7 +107,7 @@ tried_parts spent (row ∷ first) rest events tried =
 module _ (spent : Bool) where
   fetch_unread : (reply : Reply) (rows : List Try) (events : List DeviceEvent) → HasBytes reply → AreFetching reply (Refused DeviceRead) rows
       → AreTried spent rows events → IsUnread spent events
-  fetch_unread (Bytes payload) rows events has fetching tried =
+  fetch_unread (Bytes payload limit) rows events has fetching tried =
       let one = subst (λ l. AreTried spent l events) fetching.2 tried in
       subst (IsUnread spent) (sym one.2) (unread_front spent one.0 one.1 (cut_unread spent (reading fetching.0) one.0 (reading_reads fetching.0) one.3))
   fetch_unread reply rows events has fetching tried = absurd has

@@ -12,7 +12,7 @@ use Rattle.rly_fetching.specs.Trials.{Try}
 
 -- as many bytes as the machine's reply has, on an honest disk those
 abbrev pub IsFetchedAs : DiskState → Reply → List ℕ → Type 0
-IsFetchedAs disk (Bytes payload) bytes = (length bytes ≡ length payload) × (disk.honest → bytes ≡ payload)
+IsFetchedAs disk (Bytes payload limit) bytes = (length bytes ≡ length payload) × (disk.honest → bytes ≡ payload)
 IsFetchedAs disk _ bytes = ⊥
 
 -- the refusals of a payload that has bytes: its read failed, or memory was refused
@@ -23,12 +23,12 @@ IsLostRead _ = ⊥
 
 -- what came of a fetch, as an answer
 abbrev pub told_of : {A : Type 0} → Result A Refusal → Reply
-told_of (Ok found) = Bytes []
+told_of (Ok found) = Bytes [] 0
 told_of (Err refusal) = Refused refusal
 
 -- the calls of a fetch that the machine answers so: of a payload with bytes one read of as many, which failed where 13
 -- is answered, and wasn't made where 14 is; else none
 abbrev pub AreFetching : Reply → Reply → List Try → Type 0
-AreFetching (Bytes payload) told rows =
+AreFetching (Bytes payload limit) told rows =
     (at : Option Place) × (stored_length (lying at) ≡ length payload) × (rows ≡ row_for at told ∷ [])
 AreFetching _ told rows = rows ≡ []

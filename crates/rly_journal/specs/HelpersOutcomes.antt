@@ -80,8 +80,8 @@ pub record IsKnown (call : Call) (answer : Answer) (t : State (List ℕ)) : Type
   pub wanted : answer.reply ≡ Refused OutOfMemory → MayWantMemory t call.ask
   pub unread : AreReadsOf t call.ask answer.reply []
 
--- a call asks for a payload in flight, which lies at a place if it has bytes
-pub record IsWanted (g : Geometry) (call : Call) (seat : SeatId) (number at : ℕ) (place : Option Place)
+-- a call asks for a payload in flight with its limit, which lies at a place if it has bytes
+pub record IsWanted (g : Geometry) (call : Call) (seat : SeatId) (number at limit : ℕ) (place : Option Place)
     (s : State Stored) (t : State (List ℕ)) : Type 0 where
   pub same_seat : seat ≡ call.seat
   pub same_number : number ≡ call.number
@@ -91,18 +91,19 @@ pub record IsWanted (g : Geometry) (call : Call) (seat : SeatId) (number at : �
   pub asks : call.ask ≡ ask.Query (Fetch hop custody)
   pub item : Item Stored
   pub found : item_of s hop custody ≡ Ok item
+  pub same_limit : limit ≡ item.limit
   pub lies : lying place ≡ item.payload
   pub there : LiesThere g item.payload
 
 -- what came of a call, in a spool of places and in the one with bytes
 abbrev pub IsOutcomeOf : Geometry → Call → Outcome → State Stored → State (List ℕ) → Type 0
 IsOutcomeOf g call (Answered answer) s t = IsKnown call answer t
-IsOutcomeOf g call (Wanted seat number at place) s t = IsWanted g call seat number at place s t
+IsOutcomeOf g call (Wanted seat number at limit place) s t = IsWanted g call seat number at limit place s t
 
 -- its command, if it was accepted
 abbrev pub taken_by : Call → Outcome → Commands
 taken_by call (Answered answer) = accepted_by call.ask answer.reply
-taken_by call (Wanted seat number at place) = []
+taken_by call (Wanted seat number at limit place) = []
 
 -- it is in the group, or nothing changed
 abbrev pub IsTakenOrLeft : ℕ → Call → Outcome → IndexState → IndexState → GroupState → GroupState → Commands → Commands

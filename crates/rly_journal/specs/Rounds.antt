@@ -44,7 +44,8 @@ pub record AreServed (disk : DiskState) (calls : List Call) (given : List Answer
 
 -- a command that memory may be refused to: a Take or a Pick that no check refuses
 abbrev pub MayWantRoom : State (List ℕ) → Command (List ℕ) → Type 0
-MayWantRoom s (Take peer number hop stamp payload) = take_refusal length s peer number hop stamp (length payload) ≡ None
+MayWantRoom s (Take peer number hop stamp limit payload) =
+    take_refusal length s peer number hop stamp limit (length payload) ≡ None
 MayWantRoom s (Pick hop now) = pick_refusal s hop now ≡ None
 MayWantRoom s (Release hop number) = ⊥
 

@@ -2,7 +2,7 @@ ghost use Rattle.std.specs.Prelude.{◌≡◌, ◌⊎◌, ◌+◌, ◌-◌, ◌<
 ghost use Rattle.rly_machine.specs.State.{State};
 ghost use Rattle.rly_machine.specs.Accepted.{is_accepted};
 ghost use Rattle.rly_machine.specs.declared.command.Ask.TheVariants as an_ask;
-ghost use Rattle.rly_record.specs.Spelling.{IsShort};
+ghost use Rattle.rly_record.specs.Spelling.{IsRecordable};
 ghost use Rattle.rly_reclaim.specs.Room.{IsDue};
 ghost use Rattle.rly_segment.specs.Heads.{segment_place};
 ghost use Rattle.rly_keeping.specs.Keeping.{IsAlike};
@@ -14,7 +14,7 @@ ghost use Rattle.rly_journal.specs.HelpersOutcomes.{IsEvaluated, IsGrouping, IsL
 use http_server::Log;
 use rly_core::Refusal;
 use rly_fetching::{Outcome, place_of};
-use rly_grouping::{Group, inlined, is_short};
+use rly_grouping::{Group, inlined, is_recordable};
 use rly_index::Index;
 use rly_machine::{Answer, Ask, Call, Command, Payload, Query, Reply, SeatId};
 use rly_record::record_len;
@@ -109,7 +109,7 @@ fn evaluate_call(
     }
 }
 
-/// Answers a question. A Fetch of a datagram in flight wants its payload, wherever that lies.
+/// Answers a question. A Fetch of a datagram in flight wants its payload, wherever that lies, and its limit.
 fn answer_query(index: &Index, seat: SeatId, number: u64, query: Query) -> Outcome
     ensures outcome { (t : State (List ℕ)) → IsAlike index.now.spool.state t
         → IsOutcomeOf index.now.geometry (record { seat = seat; number = number; ask = an_ask.Query query }) result index.now.spool.state t }
@@ -127,6 +127,7 @@ fn answer_query(index: &Index, seat: SeatId, number: u64, query: Query) -> Outco
                     seat,
                     number,
                     position,
+                    limit: item.limit,
                     place: place_of(&item.payload),
                 };
             }
@@ -161,7 +162,7 @@ fn answer_command(
         ⊎ ((is_accepted result ≡ false) × IsLeft index.old index.new group.old group.new
         (map (λ e. e.0.value) accepted.old.items) (map (λ e. e.0.value) accepted.new.items)) }
 {
-    if !is_short(&command) {
+    if !is_recordable(&command) {
         return answer_long(alloc, index, command);
     }
     index.law_index();
@@ -182,9 +183,9 @@ fn answer_command(
     reply
 }
 
-/// Answers a command whose payload is too long for a record: it is refused.
+/// Answers a command that can't be recorded: it is refused.
 fn answer_long(alloc: Global, index: &mut Index, command: Command<Payload>) -> Reply
-    requires long { IsShort command → ⊥ }
+    requires long { IsRecordable command → ⊥ }
     ensures told { (t : State (List ℕ)) → IsAlike index.old.spool.state t → IsToldOf command result t }
     ensures refused { is_accepted result ≡ false }
     ensures state { index.new.spool.state ≡ index.old.spool.state }
@@ -192,6 +193,7 @@ fn answer_long(alloc: Global, index: &mut Index, command: Command<Payload>) -> R
     ensures segment { index.new.segment ≡ index.old.segment }
     ensures used { index.new.used ≡ index.old.used }
 {
+    index.law_index();
     let placed = inlined(command);
     let used = index.used();
     match index.reserve_for(alloc, &placed) {

@@ -68,10 +68,10 @@ both_items : (s : State Stored) (t : State (List ℕ)) (hop : HopId) (number : �
 both_items s t hop number alike =
     sym (item_mapped stored_length s hop number) ∙ ap (λ (u : State ℕ). item_of u hop number) alike ∙ item_mapped length t hop number
 
--- the payload's length of a reply, or nothing where there is none
-abbrev length_told : Result (Item ℕ) Refusal → Option ℕ
-length_told (Ok item) = Some item.payload
-length_told (Err refusal) = None
+-- the payload's length of a reply and its limit, or nothing where there is none
+abbrev found_told : Result (Item ℕ) Refusal → Option (ℕ × ℕ)
+found_told (Ok item) = Some (item.payload, item.limit)
+found_told (Err refusal) = None
 
 abbrev refusal_told : Result (Item ℕ) Refusal → Option Refusal
 refusal_told (Ok item) = None
@@ -83,17 +83,22 @@ some_once x y same = cc
 none_some : {A : Type 0} (x : A) → Some x ≡ None → ⊥
 none_some x same = absurd cc
 
-told_found : (found : Result (Item (List ℕ)) Refusal) (n : ℕ) → Some n ≡ length_told (mapped length found)
-    → (payload : List ℕ) × (fetch_reply found ≡ Bytes payload) × (length payload ≡ n)
-told_found (Ok item) n same = (item.payload, refl, sym (some_once n (length item.payload) same))
-told_found (Err refusal) n same = absurd (none_some n same)
+told_found : (found : Result (Item (List ℕ)) Refusal) (n limit : ℕ) → Some (n, limit) ≡ found_told (mapped length found)
+    → (payload : List ℕ) × (fetch_reply found ≡ Bytes payload limit) × (length payload ≡ n)
+told_found (Ok item) n limit same =
+    let both : ◌≡◌ {A = ℕ × ℕ} (n, limit) (length item.payload, item.limit) = some_once (n, limit) (length item.payload, item.limit) same in (
+      item.payload,
+      ap (λ (x : ℕ × ℕ). Bytes item.payload x.1) (sym both),
+      sym (ap (λ (x : ℕ × ℕ). x.0) both),
+    )
+told_found (Err refusal) n limit same = absurd (none_some (n, limit) same)
 
 pub found_alike : (s : State Stored) (t : State (List ℕ)) (hop : HopId) (number : ℕ) (item : Item Stored) → IsAlike s t → item_of s hop number ≡ Ok item
-    → (payload : List ℕ) × (fetch_reply (item_of t hop number) ≡ Bytes payload) × (length payload ≡ stored_length item.payload)
+    → (payload : List ℕ) × (fetch_reply (item_of t hop number) ≡ Bytes payload item.limit) × (length payload ≡ stored_length item.payload)
 found_alike s t hop number item alike is =
-    told_found (item_of t hop number) (stored_length item.payload)
-    (sym (ap (λ (r : Result (Item Stored) Refusal). length_told (mapped stored_length r)) is)
-    ∙ ap (λ (r : Result (Item ℕ) Refusal). length_told r) (both_items s t hop number alike))
+    told_found (item_of t hop number) (stored_length item.payload) item.limit
+    (sym (ap (λ (r : Result (Item Stored) Refusal). found_told (mapped stored_length r)) is)
+    ∙ ap (λ (r : Result (Item ℕ) Refusal). found_told r) (both_items s t hop number alike))
 
 told_refused : (found : Result (Item (List ℕ)) Refusal) (refusal : Refusal) → Some refusal ≡ refusal_told (mapped length found) → fetch_reply found ≡ Refused refusal
 told_refused (Ok item) refusal same = absurd (none_some refusal same)
@@ -108,7 +113,7 @@ refused_alike s t hop number refusal alike is =
 
 -- the bytes of an image
 pub found_bytes : (image : List ℕ) (s : State Stored) (t : State (List ℕ)) (hop : HopId) (number : ℕ) (item : Item Stored) → state_in image s ≡ t
-    → item_of s hop number ≡ Ok item → fetch_reply (item_of t hop number) ≡ Bytes (payload_in image item.payload)
+    → item_of s hop number ≡ Ok item → fetch_reply (item_of t hop number) ≡ Bytes (payload_in image item.payload) item.limit
 found_bytes image s t hop number item stands is =
     ap (λ (u : State (List ℕ)). fetch_reply (item_of u hop number)) (sym stands)
     ∙ ap (λ (r : Result (Item (List ℕ)) Refusal). fetch_reply r) (item_mapped (payload_in image) s hop number)
@@ -130,7 +135,7 @@ window_alike s t hop alike = sym (window_mapped stored_length s hop) ∙ ap (λ 
 status_mapped : {P Q : Type 0} (f : P → Q) (h : HopState P) → status_of (map_hop f h) ≡ status_of h
 status_mapped f h =
     let told : ℕ → ℕ → HopStatus = λ queued flight.
-    record { taken = h.taken; queued = queued; flight = flight; dropped = h.dropped; released = h.released; codel = h.codel; moment = h.moment } in
+    record { taken = h.taken; queued = queued; flight = flight; dropped = h.dropped; expired = h.expired; released = h.released; codel = h.codel; moment = h.moment } in
     ap (λ (n : ℕ). told n (length (map (map_item f) h.flight))) (length-map h.queue (map_item f)) ∙ ap (told (length h.queue)) (length-map h.flight (map_item f))
 
 show_mapped : {P Q : Type 0} (f : P → Q) (s : State P) (hop : HopId) → show_reply (map_state f s) hop ≡ show_reply s hop

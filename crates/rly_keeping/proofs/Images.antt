@@ -30,7 +30,7 @@ items_held : {P Q : Type 0} (f g : P → Q) (items : List (Item P)) → All (λ 
 items_held f g [] same = refl
 items_held {P} {Q} f g (item ∷ items) same =
     let Same : Item P → Type 0 = λ x. f x.payload ≡ g x.payload in
-    ap (λ (q : Q). let x : Item Q = record { id = item.id; stamp = item.stamp; payload = q } in x ∷ map (map_item f) items) (All-head Same item items same)
+    ap (λ (q : Q). let x : Item Q = record { id = item.id; stamp = item.stamp; limit = item.limit; payload = q } in x ∷ map (map_item f) items) (All-head Same item items same)
     ∙ ap (λ (rest : List (Item Q)). map_item g item ∷ rest) (items_held f g items (All-tail Same item items same))
 
 hop_held : {P Q : Type 0} (f g : P → Q) (h : HopState P) → All (λ item. f item.payload ≡ g item.payload) (live_line h) → map_hop f h ≡ map_hop g h

@@ -9,7 +9,9 @@ use Rattle.rly_machine.specs.Map.{map_state, payloads_of}
 use Rattle.rly_machine.specs.State.{State}
 use Rattle.rly_machine.proofs.Lifting.{state_twice}
 use Rattle.rly_checkpoint.specs.Checkpoint.{state_spelled}
-use Rattle.rly_checkpoint.specs.Stored.{payload_in, state_in, stored_form, stored_length}
+use Rattle.rly_checkpoint.specs.Stored.{payload_in, state_in, stored_form, stored_length, stored_spelled}
+use Rattle.rly_checkpoint.specs.declared.head_form.HeadForm.{HeadForm}
+use Rattle.rly_checkpoint.specs.declared.head_form.HeadForm.TheVariants.{Second}
 use Rattle.rly_checkpoint.specs.declared.stored.Place.{Place}
 use Rattle.rly_checkpoint.specs.declared.stored.Stored.{Stored}
 use Rattle.rly_checkpoint.specs.declared.stored.Stored.TheVariants.{Inline, Placed}
@@ -35,10 +37,10 @@ use Rattle.rly_keeping.proofs.Settled.{head_clear, head_lengths}
 
 -- ---- a head that was read
 
-pub begun : (g : Geometry) (segment generation : ℕ) (s : State Stored) → segment < g.segments → IsHeadOf stored_length stored_form g segment generation s
-    → IsPlaced g segment s → IsIndex g segment (gate_after stored_length stored_form g segment s) (settled_state g segment s)
-begun g segment generation s below head placed =
-    let room : 13 + length (state_spelled stored_length stored_form s) ≤ g.length = omega (arith, head.room) in
+pub begun : (which : HeadForm) (g : Geometry) (segment generation : ℕ) (s : State Stored) → segment < g.segments → IsHeadOf stored_length (stored_spelled which) g segment generation s
+    → IsPlaced g segment s → IsIndex g segment (gate_after stored_length (stored_spelled which) g segment s) (settled_state which g segment s)
+begun which g segment generation s below head placed =
+    let room : 13 + length (state_spelled stored_length (stored_spelled which) s) ≤ g.length = omega (arith, head.room) in
     let lies : All (LiesApart g segment) (payloads_of s) =
     All-weaker (LiesElsewhere g segment) (LiesApart g segment) (elsewhere_apart g segment) (payloads_of s) placed.elsewhere in
     let there : All (LiesThere g) (payloads_of s) = All-weaker (LiesApart g segment) (LiesThere g) (λ p both. both.0) (payloads_of s) lies in
@@ -46,16 +48,16 @@ begun g segment generation s below head placed =
     let may : MayOpen (live_by_segment g s) segment t = none_may_open g segment t s placed.elsewhere placed.left.1 in
     let within : t < g.segments = placed.left.1.there in
     let none : live_in g t s ≡ 0 = sym (live_at g s t within) ∙ may.empty in
-    let still_none : live_in g t (settled_state g segment s) ≡ 0 = omega (arith, settled_live g segment s room t, settled_elsewhere g segment s room t may.other, none) in
+    let still_none : live_in g t (settled_state which g segment s) ≡ 0 = omega (arith, settled_live which g segment s room t, settled_elsewhere which g segment s room t may.other, none) in
     record {
-      there = settled_there g segment s room below there;
-      clear = head_clear g segment s lies;
-      inline = settled_inline g segment s;
-      free = (t, may_open g segment t (settled_state g segment s) within may.other still_none);
+      there = settled_there which g segment s room below there;
+      clear = head_clear which g segment s lies;
+      inline = settled_inline which g segment s;
+      free = (t, may_open g segment t (settled_state which g segment s) within may.other still_none);
     }
 
-pub begun_alike : (g : Geometry) (segment : ℕ) (s : State Stored) (t : State (List ℕ)) → IsAlike s t → IsAlike (settled_state g segment s) t
-begun_alike g segment s t alike = head_lengths g segment s ∙ alike
+pub begun_alike : (which : HeadForm) (g : Geometry) (segment : ℕ) (s : State Stored) (t : State (List ℕ)) → IsAlike s t → IsAlike (settled_state which g segment s) t
+begun_alike which g segment s t alike = head_lengths which g segment s ∙ alike
 
 -- ---- the next segment
 
@@ -80,7 +82,7 @@ module _ (g : Geometry) (target victim : ℕ) (s : State Stored) (may : MayMove 
   pub opened : victim < g.segments → IsIndex g target (gate_after stored_length stored_form g target (drawn_state g victim unread s)) (moved_state g target victim s)
   opened below = record {
     there = moved_there g target victim s may;
-    clear = head_clear g target (drawn_state g victim unread s) (drawn_all_apart unread);
+    clear = head_clear Second g target (drawn_state g victim unread s) (drawn_all_apart unread);
     inline = moved_inline g target victim s;
     free = (victim, moved_free g target victim s may below);
   }
@@ -88,13 +90,13 @@ module _ (g : Geometry) (target victim : ℕ) (s : State Stored) (may : MayMove 
   -- the lengths stay
   pub moved_lengths : map_state stored_length (moved_state g target victim s) ≡ map_state stored_length s
   moved_lengths =
-      head_lengths g target (drawn_state g victim unread s)
+      head_lengths Second g target (drawn_state g victim unread s)
       ∙ state_twice stored_length (drawn g victim unread) s
       ∙ maps_same (λ p. stored_length (drawn g victim unread p)) stored_length (drawn_length g victim) s
 
   -- over the image of the new head the drawn copy stands for the same
   pub opened_stands : (old new : List ℕ) (generation : ℕ) (copy : State Stored) → copy ≡ drawn_state g victim (λ place. payload_in old (Placed place)) s
-      → settled_state g target copy ≡ moved_state g target victim s → HoldsHeadOf stored_length stored_form new g target generation copy
+      → settled_state Second g target copy ≡ moved_state g target victim s → HoldsHeadOf stored_length stored_form new g target generation copy
       → SameOutside (segment_place g target) g.length old new → state_in new (moved_state g target victim s) ≡ state_in old s
   opened_stands old new generation copy copied same holds outside =
       let read : Place → List ℕ = λ place. payload_in old (Placed place) in
@@ -105,7 +107,7 @@ module _ (g : Geometry) (target victim : ℕ) (s : State Stored) (may : MayMove 
       (λ p lies. still (segment_place g target) g.length (segment_end g target) outside (omega arith) p (lies_apart g target p lies))
       (payloads_of d) (drawn_all_apart read) in
       ap (λ (u : State Stored). state_in new u) (sym same)
-      ∙ settled_stands new g target generation copy holds
+      ∙ settled_stands Second new g target generation copy holds
       ∙ ap (λ (u : State Stored). state_in new u) copied
       ∙ maps_held (payload_in new) (payload_in old) d unchanged
       ∙ drawn_stands g victim old s

@@ -14,14 +14,15 @@ ghost use Rattle.rly_keeping.specs.Keeping.{IsAlike, IsKept};
 use rly_disk::Disk;
 
 /// A Fetch of the spool with bytes is answered with as many bytes as the payload has that the spool of places has in flight under
-/// that number, on an honest disk with those that lie at its place, or is refused as there. Window and Show are answered alike.
+/// that number, on an honest disk with those that lie at its place, and with its limit, or is refused as there. Window and Show are
+/// answered alike.
 pub fn law_fetched<D: Disk>(disk: &D)
     ensures found { (s : State Stored) (t : State (List ℕ)) (hop : HopId) (number : ℕ) (item : Item Stored) → IsAlike s t
         → item_of s hop number ≡ Ok item
-        → (payload : List ℕ) × (fetch_reply (item_of t hop number) ≡ Bytes payload) × (length payload ≡ stored_length item.payload) }
+        → (payload : List ℕ) × (fetch_reply (item_of t hop number) ≡ Bytes payload item.limit) × (length payload ≡ stored_length item.payload) }
     ensures bytes { (s : State Stored) (t : State (List ℕ)) (hop : HopId) (number : ℕ) (item : Item Stored) → (D.state disk.now).honest
         → IsKept (D.state disk.now) s t → item_of s hop number ≡ Ok item
-        → fetch_reply (item_of t hop number) ≡ Bytes (payload_in (D.state disk.now).seen item.payload) }
+        → fetch_reply (item_of t hop number) ≡ Bytes (payload_in (D.state disk.now).seen item.payload) item.limit }
     ensures refused { (s : State Stored) (t : State (List ℕ)) (hop : HopId) (number : ℕ) (refusal : Refusal) → IsAlike s t
         → item_of s hop number ≡ Err refusal → fetch_reply (item_of t hop number) ≡ Refused refusal }
     ensures window { (s : State Stored) (t : State (List ℕ)) (hop : HopId) → IsAlike s t → window_reply s hop ≡ window_reply t hop }

@@ -46,7 +46,7 @@ sizes_sound_hop {P} len params seq h sound =
       moment = sound.moment;
       window = omega (arith, flight, sound.window);
       items = subst (All (IsLive itself h.moment seq)) whole (All-map (IsLive itself h.moment seq) f (live_line h)
-          (λ k d lt. let l = sound.items k d lt in record { first = l.first; last = l.last; stamp = l.stamp; length = l.length }));
+          (λ k d lt. let l = sound.items k d lt in record { first = l.first; last = l.last; stamp = l.stamp; limit = l.limit; length = l.length }));
       order = subst (AllPairs ComesBefore) whole (pairs_there ComesBefore f (live_line h)
           (λ i j d less short. let o = sound.order i j d less short in record { id = o.id; stamp = o.stamp }));
       first_above_time = sound.first_above_time;
@@ -69,7 +69,7 @@ sound_from_sizes_hop {P} len params seq h sound =
       taken = sound.taken;
       moment = sound.moment;
       window = omega (arith, flight, sound.window);
-      items = λ k d lt. let l = live k d lt in record { first = l.first; last = l.last; stamp = l.stamp; length = l.length };
+      items = λ k d lt. let l = live k d lt in record { first = l.first; last = l.last; stamp = l.stamp; limit = l.limit; length = l.length };
       order = λ i j d less short. let o = rows i j d less short in record { id = o.id; stamp = o.stamp };
       first_above_time = sound.first_above_time;
       drop_next = sound.drop_next;

@@ -19,7 +19,8 @@ use Rattle.rly_machine.specs.declared.reply.Reply.TheVariants.{Taken, Already, P
 use Rattle.rly_machine.specs.Accepted.{accept, max_seq, unless}
 use Rattle.rly_machine.specs.Custody.{HopAccount, KeepsCustody, account_along, account_of, and_then, ids_of, nothing, times}
 use Rattle.rly_machine.specs.Fold.{fold}
-use Rattle.rly_machine.specs.Pick.{is_idle, outcome_of, pick_refusal, pick_reply, picked_reply, waiting_of, with_picked}
+use Rattle.rly_machine.specs.Expiry.{after_expiry, expired_count, with_expired}
+use Rattle.rly_machine.specs.Pick.{after_pick, is_idle, pick_outcome, pick_refusal, pick_reply, picked_reply, waiting_of, with_picked}
 use Rattle.rly_machine.specs.Release.{covered_count, release_refusal, with_released}
 use Rattle.rly_machine.specs.Take.{is_full, take_refusal, with_taken}
 use Rattle.rly_machine.specs.State.{State, HopState, has_hop, has_peer, hop_at, last_at, new_hop, new_state, next_number}
@@ -27,10 +28,10 @@ use Rattle.rly_machine.specs.Step.{step}
 use Rattle.rly_machine.proofs.Refusals.{among, may_pick, may_release, may_take}
 use Rattle.rly_machine.proofs.Waiting.{waiting_length}
 
--- a row of commands took a hop from one state to another: each id that waited or was taken is dropped, sent or
+-- a row of commands took a hop from one state to another: each id that waited or was taken is dropped, expired, sent or
 -- waits; those in flight are those that were sent, less those released; and the numbers rise by one
 pub record Moves {P : Type 0} (before after : HopState P) (tells : HopAccount) : Type 0 where
-  pub placed : (id : ℕ) → times id (ids_of before.queue) + times id tells.taken ≡ times id tells.dropped + times id tells.sent + times id (ids_of after.queue)
+  pub placed : (id : ℕ) → times id (ids_of before.queue) + times id tells.taken ≡ times id tells.dropped + times id tells.expired + times id tells.sent + times id (ids_of after.queue)
   pub fewer : before.released ≤ after.released
   pub within : after.released - before.released ≤ length (ids_of before.flight ++ tells.sent)
   pub flight : ids_of after.flight ≡ drop (after.released - before.released) (ids_of before.flight ++ tells.sent)
@@ -71,7 +72,7 @@ moves_again {P} a b c one two first second =
     let size_sent = length-append one.sent two.sent in
     let within_b : c.released - b.released ≤ length b.flight + length two.sent = omega (arith, second.within, size_b, length-ids b.flight) in
     record {
-      placed = λ id. omega (arith, first.placed id, second.placed id, times-append id one.taken two.taken, times-append id one.dropped two.dropped, times-append id one.sent two.sent);
+      placed = λ id. omega (arith, first.placed id, second.placed id, times-append id one.taken two.taken, times-append id one.dropped two.dropped, times-append id one.expired two.expired, times-append id one.sent two.sent);
       fewer = omega (arith, first.fewer, second.fewer);
       within = omega (arith, first.within, first.fewer, second.fewer, within_b, flown, size_c, size_sent, size_a);
       flight = second.flight
@@ -100,20 +101,20 @@ IsQuiet _ = ⊥
 
 -- tell nothing
 quiet_told : {P : Type 0} (hop : HopId) (command : Command P) (reply : Reply) → IsQuiet reply → account_of hop command reply ≡ nothing
-quiet_told hop (Take _ _ _ _ _) (Already last) q = refl
+quiet_told hop (Take _ _ _ _ _ _) (Already last) q = refl
 quiet_told hop (Pick _ _) (Already last) q = refl
 quiet_told hop (Release _ _) (Already last) q = refl
-quiet_told hop (Take _ _ _ _ _) Unchanged q = refl
+quiet_told hop (Take _ _ _ _ _ _) Unchanged q = refl
 quiet_told hop (Pick _ _) Unchanged q = refl
 quiet_told hop (Release _ _) Unchanged q = refl
-quiet_told hop (Take _ _ _ _ _) (Refused refusal) q = refl
+quiet_told hop (Take _ _ _ _ _ _) (Refused refusal) q = refl
 quiet_told hop (Pick _ _) (Refused refusal) q = refl
 quiet_told hop (Release _ _) (Refused refusal) q = refl
 quiet_told hop command (Taken id) q = absurd q
-quiet_told hop command (Picked number id dropped) q = absurd q
-quiet_told hop command Nothing q = absurd q
+quiet_told hop command (Picked number id expired dropped) q = absurd q
+quiet_told hop command (Nothing expired) q = absurd q
 quiet_told hop command (Released count) q = absurd q
-quiet_told hop command (Bytes payload) q = absurd q
+quiet_told hop command (Bytes payload limit) q = absurd q
 quiet_told hop command (WindowIs first next) q = absurd q
 quiet_told hop command (Shown status) q = absurd q
 
@@ -125,16 +126,17 @@ quiet_check false x rest reply q more h = more h
 none_quiet : (reply : Reply) → None ≡ Some reply → IsQuiet reply
 none_quiet reply h = absurd (let e : None ≡ Some reply = h in cc)
 
-take_quiet : {P : Type 0} (len : P → ℕ) (s : State P) (peer : PeerId) (number : ℕ) (hop : HopId) (stamp bytes : ℕ) (reply : Reply) → take_refusal len s peer number hop stamp bytes ≡ Some reply → IsQuiet reply
-take_quiet len s peer number hop stamp bytes reply =
+take_quiet : {P : Type 0} (len : P → ℕ) (s : State P) (peer : PeerId) (number : ℕ) (hop : HopId) (stamp limit bytes : ℕ) (reply : Reply) → take_refusal len s peer number hop stamp limit bytes ≡ Some reply → IsQuiet reply
+take_quiet len s peer number hop stamp limit bytes reply =
     quiet_check (not (has_peer s peer)) _ _ reply tt
     (quiet_check (not (has_hop s hop)) _ _ reply tt
     (quiet_check (nat_le (2 ^ 52) stamp) _ _ reply tt
+    (quiet_check (nat_le (2 ^ 40) limit) _ _ reply tt
     (quiet_check (nat_lt 1200 bytes) _ _ reply tt
     (quiet_check (nat_le number (last_at s peer)) _ _ reply tt
     (quiet_check (nat_lt (last_at s peer + 1) number) _ _ reply tt
     (quiet_check (is_full len s bytes) _ _ reply tt
-    (quiet_check (nat_le max_seq s.seq) _ _ reply tt (none_quiet reply))))))))
+    (quiet_check (nat_le max_seq s.seq) _ _ reply tt (none_quiet reply)))))))))
 
 pick_quiet : {P : Type 0} (s : State P) (hop : HopId) (now : ℕ) (reply : Reply) → pick_refusal s hop now ≡ Some reply → IsQuiet reply
 pick_quiet s hop now reply =
@@ -161,9 +163,9 @@ moves_unless (Some reply) s accepted hop command quiet moves =
     subst (Moves (hop_at s hop) (hop_at s hop)) (sym (quiet_told hop command reply (quiet reply refl))) (no_moves (hop_at s hop))
 
 -- an item at the back of the queue
-moves_taken : {P : Type 0} (h : HopState P) (id stamp : ℕ) (payload : P) → Moves h (with_taken h id stamp payload) (record { taken = id ∷ []; dropped = []; sent = []; numbers = [] })
-moves_taken {P} h id stamp payload =
-    let item : Item P = record { id = id; stamp = max stamp h.moment; payload = payload } in
+moves_taken : {P : Type 0} (h : HopState P) (id stamp limit : ℕ) (payload : P) → Moves h (with_taken h id stamp limit payload) (record { taken = id ∷ []; dropped = []; expired = []; sent = []; numbers = [] })
+moves_taken {P} h id stamp limit payload =
+    let item : Item P = record { id = id; stamp = max stamp h.moment; limit = limit; payload = payload } in
     let queued : ids_of (h.queue ++ item ∷ []) ≡ ids_of h.queue ++ id ∷ [] = map-append (λ (item : Item P). item.id) h.queue (item ∷ []) in
     let still = no_moves h in
     record {
@@ -174,6 +176,10 @@ moves_taken {P} h id stamp payload =
       count = refl;
       numbered = λ k none. absurd (omega arith);
     }
+
+-- what is told of those that expire
+abbrev expiry_tells : {P : Type 0} → HopState P → ℕ → HopAccount
+expiry_tells h count = record { taken = []; dropped = []; expired = ids_of (take count h.queue); sent = []; numbers = [] }
 
 -- the first in flight are released
 moves_released : {P : Type 0} (h : HopState P) (count : ℕ) → count ≤ length h.flight → Moves h (with_released h count) nothing
@@ -190,10 +196,26 @@ moves_released {P} h count within =
       numbered = λ k none. absurd (omega arith);
     }
 
--- what a pick tells of its own hop
+-- the first that wait expire
+pub moves_expired : {P : Type 0} (h : HopState P) (count : ℕ) → Moves h (with_expired h count) (expiry_tells h count)
+moves_expired {P} h count =
+    let still = no_moves h in
+    let line : ids_of h.queue ≡ ids_of (take count h.queue) ++ ids_of (drop count h.queue) =
+    ap ids_of (sym (take-append-drop count h.queue)) ∙ map-append (λ (item : Item P). item.id) (take count h.queue) (drop count h.queue) in
+    record {
+      placed = λ id. (let before = ap (times id) line in
+          omega (arith, before, times-append id (ids_of (take count h.queue)) (ids_of (drop count h.queue))));
+      fewer = still.fewer;
+      within = still.within;
+      flight = still.flight;
+      count = refl;
+      numbered = λ k none. absurd (omega arith);
+    }
+
+-- what a pick tells of its own hop, once the expired are gone
 picked_tells : {P : Type 0} → HopState P → ℕ → List (Item P) → HopAccount
 picked_tells h count [] = nothing
-picked_tells h count (item ∷ behind) = record { taken = []; dropped = ids_of (take count h.queue); sent = item.id ∷ []; numbers = next_number h ∷ [] }
+picked_tells h count (item ∷ behind) = record { taken = []; dropped = ids_of (take count h.queue); expired = []; sent = item.id ∷ []; numbers = next_number h ∷ [] }
 
 -- what waits after those dropped goes into flight, if anything does
 moves_picked : {P : Type 0} (h : HopState P) (now : ℕ) (outcome : Outcome) (rest : List (Item P))
@@ -257,30 +279,42 @@ moves_at {P} s hop to h tells hop_from from below moves = elim (cases_eq to.0 ho
 ]
 
 -- what the reply to a pick tells
-told_of_pick : {P : Type 0} (hop to : HopId) (now : ℕ) (h : HopState P) (count : ℕ) (rest : List (Item P))
-    → account_of {P = P} hop (Pick to now) (picked_reply (next_number h) (ids_of (take count h.queue)) rest) ≡ cond (nat_eq to.0 hop.0) (picked_tells h count rest) nothing
+told_of_pick : {P : Type 0} (hop to : HopId) (now : ℕ) (h : HopState P) (late count : ℕ) (rest : List (Item P))
+    → account_of {P = P} hop (Pick to now) (picked_reply (next_number h) (ids_of (take late h.queue)) (ids_of (take count (drop late h.queue))) rest)
+    ≡ cond (nat_eq to.0 hop.0) (and_then (expiry_tells h late) (picked_tells (with_expired h late) count rest)) nothing
 unfolding picked_tells
-told_of_pick {P} hop to now h count [] = elim (nat_eq to.0 hop.0) as (λ b. nothing ≡ cond b nothing nothing) [ true ↦ refl | false ↦ refl ]
-told_of_pick {P} hop to now h count (item ∷ behind) = refl
+told_of_pick {P} hop to now h late count [] =
+    ap (λ ids. cond (nat_eq to.0 hop.0) (let t : HopAccount = record { taken = []; dropped = []; expired = ids; sent = []; numbers = [] } in t) nothing)
+    (sym (append-nil (ids_of (take late h.queue))))
+told_of_pick {P} hop to now h late count (item ∷ behind) =
+    ap (λ ids. cond (nat_eq to.0 hop.0) (let t : HopAccount = record { taken = []; dropped = ids_of (take count (drop late h.queue)); expired = ids; sent = item.id ∷ []; numbers = next_number h ∷ [] } in t) nothing)
+    (sym (append-nil (ids_of (take late h.queue))))
 
 -- each step
 pub moves_step : {P : Type 0} (len : P → ℕ) (s : State P) (command : Command P) (hop : HopId) → 0 < hop.0
     → Moves (hop_at s hop) (hop_at (step len s command).0 hop) (account_of hop command (step len s command).1)
-moves_step {P} len s (Take peer number to stamp payload) hop hop_from =
-    moves_unless (take_refusal len s peer number to stamp (len payload)) s _ hop (Take peer number to stamp payload) (take_quiet len s peer number to stamp (len payload))
-    (λ none. (let may = may_take len s peer number to stamp (len payload) none in
-    moves_at s hop to (with_taken (hop_at s to) (s.seq + 1) stamp payload) (record { taken = (s.seq + 1) ∷ []; dropped = []; sent = []; numbers = [] }) hop_from may.hop_from may.hop_to
-    (moves_taken (hop_at s to) (s.seq + 1) stamp payload)))
+moves_step {P} len s (Take peer number to stamp limit payload) hop hop_from =
+    moves_unless (take_refusal len s peer number to stamp limit (len payload)) s _ hop (Take peer number to stamp limit payload) (take_quiet len s peer number to stamp limit (len payload))
+    (λ none. (let may = may_take len s peer number to stamp limit (len payload) none in
+    moves_at s hop to (with_taken (hop_at s to) (s.seq + 1) stamp limit payload) (record { taken = (s.seq + 1) ∷ []; dropped = []; expired = []; sent = []; numbers = [] }) hop_from may.hop_from may.hop_to
+    (moves_taken (hop_at s to) (s.seq + 1) stamp limit payload)))
 moves_step {P} len s (Pick to now) hop hop_from =
     moves_unless (pick_refusal s to now) s _ hop (Pick to now) (pick_quiet s to now)
     (λ none. (let may = may_pick s to now none in
     let h : HopState P = hop_at s to in
-    let size = waiting_length len (hop_at s to).queue in
-    subst (λ (t : HopAccount). Moves (hop_at s hop) (hop_at (accept s to (with_picked (hop_at s to) now (outcome_of len s.params (hop_at s to) now))) hop) t)
-    (sym (told_of_pick hop to now (hop_at s to) (outcome_of len s.params (hop_at s to) now).dropped (drop (outcome_of len s.params (hop_at s to) now).dropped (hop_at s to).queue)))
-    (moves_at s hop to (with_picked (hop_at s to) now (outcome_of len s.params (hop_at s to) now)) _ hop_from may.hop_from may.hop_to
-    (moves_picked (hop_at s to) now (outcome_of len s.params (hop_at s to) now) (drop (outcome_of len s.params (hop_at s to) now).dropped (hop_at s to).queue) refl
-    (λ some. (let d = dropped-lt s.params (max now (hop_at s to).moment) (waiting_of len (hop_at s to).queue) (hop_at s to).codel (rw size some) in omega (arith, d, size)))))))
+    let late : ℕ = expired_count (hop_at s to) now in
+    let left : HopState P = after_expiry (hop_at s to) now in
+    let after : HopState P = after_pick len s.params (hop_at s to) now in
+    let drops : ℕ = (pick_outcome len s.params (hop_at s to) now).dropped in
+    let rest : List (Item P) = drop drops left.queue in
+    let size = waiting_length len (after_expiry (hop_at s to) now).queue in
+    let first = moves_expired h late in
+    let second = moves_picked left now (pick_outcome len s.params (hop_at s to) now) rest refl
+    (λ some. (let d = dropped-lt s.params (max now (hop_at s to).moment) (waiting_of len (after_expiry (hop_at s to) now).queue) (hop_at s to).codel (rw size some) in omega (arith, d, size))) in
+    subst (λ (t : HopAccount). Moves (hop_at s hop) (hop_at (accept s to after) hop) t)
+    (sym (told_of_pick hop to now h late drops rest))
+    (moves_at s hop to after _ hop_from may.hop_from may.hop_to
+    (moves_again h left after (expiry_tells h late) (picked_tells left drops rest) first second))))
 moves_step {P} len s (Release to number) hop hop_from =
     moves_unless (release_refusal s to number) s _ hop (Release to number) (release_quiet s to number)
     (λ none. (let may = may_release s to number none in
@@ -300,14 +334,15 @@ moves_fold len s (command ∷ commands) hop hop_from =
 
 -- a pick and a release tell of nothing taken
 pick_takes_none : (P : Type 0) (hop to : HopId) (now : ℕ) (reply : Reply) → (account_of {P = P} hop (Pick to now) reply).taken ≡ []
-pick_takes_none P hop to now (Picked number id dropped) =
-    elim (nat_eq to.0 hop.0) as (λ b. (let t : HopAccount = cond b (record { taken = []; dropped = dropped; sent = id ∷ []; numbers = number ∷ [] }) nothing in t.taken) ≡ []) [ true ↦ refl | false ↦ refl ]
+pick_takes_none P hop to now (Picked number id expired dropped) =
+    elim (nat_eq to.0 hop.0) as (λ b. (let t : HopAccount = cond b (record { taken = []; dropped = dropped; expired = expired; sent = id ∷ []; numbers = number ∷ [] }) nothing in t.taken) ≡ []) [ true ↦ refl | false ↦ refl ]
 pick_takes_none P hop to now (Taken id) = refl
 pick_takes_none P hop to now (Already last) = refl
-pick_takes_none P hop to now Nothing = refl
+pick_takes_none P hop to now (Nothing expired) =
+    elim (nat_eq to.0 hop.0) as (λ b. (let t : HopAccount = cond b (record { taken = []; dropped = []; expired = expired; sent = []; numbers = [] }) nothing in t.taken) ≡ []) [ true ↦ refl | false ↦ refl ]
 pick_takes_none P hop to now (Released count) = refl
 pick_takes_none P hop to now Unchanged = refl
-pick_takes_none P hop to now (Bytes payload) = refl
+pick_takes_none P hop to now (Bytes payload limit) = refl
 pick_takes_none P hop to now (WindowIs first next) = refl
 pick_takes_none P hop to now (Shown status) = refl
 pick_takes_none P hop to now (Refused refusal) = refl
@@ -325,16 +360,16 @@ fresh_unless None s accepted hop command quiet fresh = fresh
 fresh_unless (Some reply) s accepted hop command quiet fresh = record { rises = omega arith; taken = inl (ap (λ (t : HopAccount). t.taken) (quiet_told hop command reply (quiet reply refl))) }
 
 fresh_step : {P : Type 0} (len : P → ℕ) (s : State P) (command : Command P) (hop : HopId) → Fresh s (step len s command).0 (account_of hop command (step len s command).1)
-fresh_step len s (Take peer number to stamp payload) hop =
-    fresh_unless (take_refusal len s peer number to stamp (len payload)) s _ hop (Take peer number to stamp payload) (take_quiet len s peer number to stamp (len payload))
+fresh_step len s (Take peer number to stamp limit payload) hop =
+    fresh_unless (take_refusal len s peer number to stamp limit (len payload)) s _ hop (Take peer number to stamp limit payload) (take_quiet len s peer number to stamp limit (len payload))
     (record {
       rises = omega arith;
-      taken = elim (nat_eq to.0 hop.0) as (λ b. ((let t : HopAccount = cond b (record { taken = (s.seq + 1) ∷ []; dropped = []; sent = []; numbers = [] }) nothing in t.taken) ≡ [])
-          ⊎ (((let t : HopAccount = cond b (record { taken = (s.seq + 1) ∷ []; dropped = []; sent = []; numbers = [] }) nothing in t.taken) ≡ (s.seq + 1) ∷ []) × (s.seq + 1 ≡ s.seq + 1))) [ true ↦ inr (refl, refl) | false ↦ inl refl ];
+      taken = elim (nat_eq to.0 hop.0) as (λ b. ((let t : HopAccount = cond b (record { taken = (s.seq + 1) ∷ []; dropped = []; expired = []; sent = []; numbers = [] }) nothing in t.taken) ≡ [])
+          ⊎ (((let t : HopAccount = cond b (record { taken = (s.seq + 1) ∷ []; dropped = []; expired = []; sent = []; numbers = [] }) nothing in t.taken) ≡ (s.seq + 1) ∷ []) × (s.seq + 1 ≡ s.seq + 1))) [ true ↦ inr (refl, refl) | false ↦ inl refl ];
     })
 fresh_step {P} len s (Pick to now) hop =
     fresh_unless (pick_refusal s to now) s _ hop (Pick to now) (pick_quiet s to now)
-    (record { rises = omega arith; taken = inl (pick_takes_none P hop to now (pick_reply (hop_at s to) (outcome_of len s.params (hop_at s to) now).dropped)) })
+    (record { rises = omega arith; taken = inl (pick_takes_none P hop to now (pick_reply (hop_at s to) (expired_count (hop_at s to) now) (pick_outcome len s.params (hop_at s to) now).dropped)) })
 fresh_step len s (Release to number) hop =
     fresh_unless (release_refusal s to number) s _ hop (Release to number) (release_quiet s to number) (record { rises = omega arith; taken = inl refl })
 
@@ -366,21 +401,21 @@ taken_once {P} len hop s (command ∷ commands) id =
 
 -- one reply tells of nothing taken at one of two hops
 apart : {P : Type 0} (a b : HopId) → (a.0 ≡ b.0 → ⊥) → (command : Command P) (reply : Reply) → ((account_of a command reply).taken ≡ []) ⊎ ((account_of b command reply).taken ≡ [])
-apart a b differ (Take peer number to stamp payload) (Taken id) =
-    let at : Bool → HopAccount = λ is. cond is (record { taken = id ∷ []; dropped = []; sent = []; numbers = [] }) nothing in
+apart a b differ (Take peer number to stamp limit payload) (Taken id) =
+    let at : Bool → HopAccount = λ is. cond is (record { taken = id ∷ []; dropped = []; expired = []; sent = []; numbers = [] }) nothing in
     elim (cases_eq to.0 a.0) [
       | inl here ↦ inr (ap (λ is. (at is).taken) (ne_eqb to.0 b.0 (λ there. differ (sym here ∙ there))))
       | inr elsewhere ↦ inl (ap (λ is. (at is).taken) (ne_eqb to.0 a.0 elsewhere))
     ]
-apart a b differ (Take peer number to stamp payload) (Already last) = inl refl
-apart a b differ (Take peer number to stamp payload) (Picked number' id dropped) = inl refl
-apart a b differ (Take peer number to stamp payload) Nothing = inl refl
-apart a b differ (Take peer number to stamp payload) (Released count) = inl refl
-apart a b differ (Take peer number to stamp payload) Unchanged = inl refl
-apart a b differ (Take peer number to stamp payload) (Bytes payload') = inl refl
-apart a b differ (Take peer number to stamp payload) (WindowIs first next) = inl refl
-apart a b differ (Take peer number to stamp payload) (Shown status) = inl refl
-apart a b differ (Take peer number to stamp payload) (Refused refusal) = inl refl
+apart a b differ (Take peer number to stamp limit payload) (Already last) = inl refl
+apart a b differ (Take peer number to stamp limit payload) (Picked number' id expired dropped) = inl refl
+apart a b differ (Take peer number to stamp limit payload) (Nothing expired) = inl refl
+apart a b differ (Take peer number to stamp limit payload) (Released count) = inl refl
+apart a b differ (Take peer number to stamp limit payload) Unchanged = inl refl
+apart a b differ (Take peer number to stamp limit payload) (Bytes payload' limit') = inl refl
+apart a b differ (Take peer number to stamp limit payload) (WindowIs first next) = inl refl
+apart a b differ (Take peer number to stamp limit payload) (Shown status) = inl refl
+apart a b differ (Take peer number to stamp limit payload) (Refused refusal) = inl refl
 apart {P} a b differ (Pick to now) reply = inl (pick_takes_none P a to now reply)
 apart a b differ (Release to number) reply = inl refl
 

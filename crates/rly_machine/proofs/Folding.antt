@@ -58,7 +58,7 @@ seq_fold len s (command ∷ commands) all =
 
 -- no command changes the parameters
 pub params_step : {P : Type 0} (len : P → ℕ) (s : State P) (command : Command P) → (step len s command).0.params ≡ s.params
-params_step len s (Take peer number hop stamp payload) = same_unless (λ s. s.params) (take_refusal len s peer number hop stamp (len payload)) s _ refl
+params_step len s (Take peer number hop stamp limit payload) = same_unless (λ s. s.params) (take_refusal len s peer number hop stamp limit (len payload)) s _ refl
 params_step len s (Pick hop now) = same_unless (λ s. s.params) (pick_refusal s hop now) s _ refl
 params_step len s (Release hop number) = same_unless (λ s. s.params) (release_refusal s hop number) s _ refl
 

@@ -44,7 +44,7 @@ legal_but_for_bytes harmed s (x ∷ xs) legal = (
 
 -- a reply is accepted where the machine's is, whatever bytes it has
 accepted_without : (reply : Reply) → is_accepted (without_bytes reply) ≡ is_accepted reply
-accepted_without (Bytes bytes) = refl
+accepted_without (Bytes bytes limit) = refl
 accepted_without _ = refl
 
 -- a failure is no acceptance

@@ -16,15 +16,15 @@ use Rattle.rly_machine.specs.declared.reply.Reply.{Reply}
 use Rattle.rly_machine.specs.declared.reply.Reply.TheVariants.{Taken, Released}
 use Rattle.rly_machine.specs.State.{State, HopState, has_hop, hop_at, live_line, bytes_of, new_hop, new_state}
 use Rattle.rly_machine.specs.Accepted.{accept, unless}
-use Rattle.rly_codel.specs.Cases.{Outcome}
-use Rattle.rly_machine.specs.Pick.{outcome_of, pick_refusal, pick_reply, pick_step, with_picked}
+use Rattle.rly_machine.specs.Expiry.{expired_count}
+use Rattle.rly_machine.specs.Pick.{after_pick, pick_outcome, pick_refusal, pick_reply, pick_step}
 use Rattle.rly_machine.specs.Release.{covered_count, release_refusal, release_step, with_released}
 use Rattle.rly_machine.specs.Take.{take_refusal, take_step, with_taken}
 use Rattle.rly_machine.specs.Sound.{IsLive, IsSound, IsSoundHop}
 use Rattle.rly_machine.specs.HelpersMachine.{IsHopAt, KeepsCounts}
 use Rattle.rly_machine.specs.Kept.{hop_state, state_of}
 use Rattle.rly_machine.proofs.Refusals.{among, may_pick, may_take, may_release}
-use Rattle.rly_machine.proofs.Picking.{bytes_picked, fair_outcome, items_picked, sound_pick}
+use Rattle.rly_machine.proofs.Picking.{bytes_picked, gone_within, items_picked, sound_pick}
 use Rattle.rly_machine.proofs.Soundness.{sound_take, sound_release, items_taken, bytes_taken, items_released, bytes_released}
 
 -- a hop written back with another capacity is the hop that was
@@ -114,28 +114,28 @@ hop_is_read {P} len params hops lasts seq items bytes s hop index found kept sam
 
 -- the machine's fields after a Take that no check refuses
 pub kept_take : {P A B : Type 0} (len : P → ℕ) (params : Params) (hops : Vec (Hop P) A) (lasts : Vec ℕ B) (seq items bytes : ℕ)
-    (peer : PeerId) (number : ℕ) (hop : HopId) (stamp : ℕ) (payload : P) (old new : Hop P)
+    (peer : PeerId) (number : ℕ) (hop : HopId) (stamp limit : ℕ) (payload : P) (old new : Hop P)
     → KeepsCounts len (state_of params hops lasts seq) items bytes
-    → take_refusal len (state_of params hops lasts seq) peer number hop stamp (len payload) ≡ None
+    → take_refusal len (state_of params hops lasts seq) peer number hop stamp limit (len payload) ≡ None
     → old ≡ get_or hops.items (hop.0 - 1) old
-    → hop_state new ≡ with_taken (hop_state old) (seq + 1) stamp payload
+    → hop_state new ≡ with_taken (hop_state old) (seq + 1) stamp limit payload
     → (state_of params (with_item hops (hop.0 - 1) new) (with_item lasts (peer.0 - 1) number) (seq + 1)
-    ≡ (take_step len (state_of params hops lasts seq) peer number hop stamp payload).0)
+    ≡ (take_step len (state_of params hops lasts seq) peer number hop stamp limit payload).0)
     × KeepsCounts len (state_of params (with_item hops (hop.0 - 1) new) (with_item lasts (peer.0 - 1) number) (seq + 1)) (items + 1) (bytes + len payload)
-kept_take {P} len params hops lasts seq items bytes peer number hop stamp payload old new kept may read changed =
+kept_take {P} len params hops lasts seq items bytes peer number hop stamp limit payload old new kept may read changed =
     let s : State P = state_of params hops lasts seq in
-    let facts = may_take len s peer number hop stamp (len payload) may in
+    let facts = may_take len s peer number hop stamp limit (len payload) may in
     let place : hop.0 - 1 < length hops.items = omega (arith, facts.hop_from, facts.hop_to, length-map hops.items (let f : Hop P → HopState P = hop_state in f)) in
-    let after : State P = record (accept s hop (with_taken (hop_at s hop) (seq + 1) stamp payload)) { lasts = set lasts.items (peer.0 - 1) number } in
-    let written = written_hop hops.items (hop.0 - 1) old new (λ h. with_taken h (seq + 1) stamp payload) place read changed in
+    let after : State P = record (accept s hop (with_taken (hop_at s hop) (seq + 1) stamp limit payload)) { lasts = set lasts.items (peer.0 - 1) number } in
+    let written = written_hop hops.items (hop.0 - 1) old new (λ h. with_taken h (seq + 1) stamp limit payload) place read changed in
     let is_after : state_of params (with_item hops (hop.0 - 1) new) (with_item lasts (peer.0 - 1) number) (seq + 1) ≡ after =
     ap (λ hs. let r : State P = record { params = params; hops = hs; lasts = set lasts.items (peer.0 - 1) number; seq = seq + 1 } in r) written in
     let accepted : State P × Reply = (after, Taken (seq + 1)) in (
       is_after ∙ sym (ap (λ r. (unless r s accepted).0) may),
       subst (λ (t : State P). KeepsCounts len t (items + 1) (bytes + len payload)) (sym is_after) (record {
-        sound = sound_take len s peer number hop stamp payload kept.sound facts;
-        items = ap (λ n. n + 1) kept.items ∙ sym (items_taken s hop stamp payload facts.hop_from facts.hop_to);
-        bytes = ap (λ n. n + len payload) kept.bytes ∙ sym (bytes_taken len s hop stamp payload facts.hop_from facts.hop_to);
+        sound = sound_take len s peer number hop stamp limit payload kept.sound facts;
+        items = ap (λ n. n + 1) kept.items ∙ sym (items_taken s hop stamp limit payload facts.hop_from facts.hop_to);
+        bytes = ap (λ n. n + len payload) kept.bytes ∙ sym (bytes_taken len s hop stamp limit payload facts.hop_from facts.hop_to);
       }),
     )
 
@@ -185,9 +185,9 @@ pub kept_pick : {P A B : Type 0} (len : P → ℕ) (params : Params) (hops : Vec
     → KeepsCounts len (state_of params hops lasts seq) items bytes
     → pick_refusal (state_of params hops lasts seq) hop now ≡ None
     → old ≡ get_or hops.items (hop.0 - 1) old
-    → hop_state new ≡ with_picked (hop_state old) now (outcome_of len params (hop_state old) now)
-    → count ≡ (outcome_of len params (hop_state old) now).dropped
-    → gone ≡ bytes_of len (take (outcome_of len params (hop_state old) now).dropped old.queue.items)
+    → hop_state new ≡ after_pick len params (hop_state old) now
+    → count ≡ expired_count (hop_state old) now + (pick_outcome len params (hop_state old) now).dropped
+    → gone ≡ bytes_of len (take (expired_count (hop_state old) now + (pick_outcome len params (hop_state old) now).dropped) old.queue.items)
     → (state_of params (with_item hops (hop.0 - 1) new) lasts (seq + 1) ≡ (pick_step len (state_of params hops lasts seq) hop now).0)
     × KeepsCounts len (state_of params (with_item hops (hop.0 - 1) new) lasts (seq + 1)) (items - count) (bytes - gone)
     × (count ≤ items) × (gone ≤ bytes)
@@ -195,20 +195,20 @@ kept_pick {P} len params hops lasts seq items bytes hop now count gone old new k
     let s : State P = state_of params hops lasts seq in
     let facts = may_pick s hop now may in
     let place : hop.0 - 1 < length hops.items = omega (arith, facts.hop_from, facts.hop_to, length-map hops.items (let f : Hop P → HopState P = hop_state in f)) in
-    let outcome : Outcome = outcome_of len params (hop_at s hop) now in
-    let after : State P = accept s hop (with_picked (hop_at s hop) now (outcome_of len params (hop_at s hop) now)) in
+    let after : State P = accept s hop (after_pick len params (hop_at s hop) now) in
     let is_read = read_hop hops.items (hop.0 - 1) old place read in
-    let written = written_hop hops.items (hop.0 - 1) old new (λ h. with_picked h now (outcome_of len params h now)) place read changed in
+    let written = written_hop hops.items (hop.0 - 1) old new (λ h. after_pick len params h now) place read changed in
     let is_after : state_of params (with_item hops (hop.0 - 1) new) lasts (seq + 1) ≡ after =
     ap (λ hs. let r : State P = record { params = params; hops = hs; lasts = lasts.items; seq = seq + 1 } in r) written in
-    let accepted : State P × Reply = (after, pick_reply (hop_at s hop) (outcome_of len params (hop_at s hop) now).dropped) in
+    let accepted : State P × Reply = (after, pick_reply (hop_at s hop) (expired_count (hop_at s hop) now) (pick_outcome len params (hop_at s hop) now).dropped) in
     let sound_old = sound_read len params hops lasts seq items bytes (hop.0 - 1) old kept place read in
-    let fair = fair_outcome len params seq now (hop_at s hop) kept.sound.params (subst (IsSoundHop len params seq) is_read sound_old) in
-    let fewer = items_picked s hop now (outcome_of len params (hop_at s hop) now) facts.hop_from facts.hop_to fair.dropped in
-    let lighter = bytes_picked len s hop now (outcome_of len params (hop_at s hop) now) facts.hop_from facts.hop_to in
-    let same_count : count ≡ (outcome_of len params (hop_at s hop) now).dropped = counted ∙ ap (λ (h : HopState P). (outcome_of len params h now).dropped) is_read in
-    let same_gone : gone ≡ bytes_of len (take (outcome_of len params (hop_at s hop) now).dropped (hop_at s hop).queue) =
-    weighed ∙ ap (λ (h : HopState P). bytes_of len (take (outcome_of len params h now).dropped h.queue)) is_read in (
+    let within = gone_within len params seq now (hop_at s hop) kept.sound.params (subst (IsSoundHop len params seq) is_read sound_old) in
+    let fewer = items_picked s hop now (expired_count (hop_at s hop) now) (pick_outcome len params (hop_at s hop) now) facts.hop_from facts.hop_to within in
+    let lighter = bytes_picked len s hop now (expired_count (hop_at s hop) now) (pick_outcome len params (hop_at s hop) now) facts.hop_from facts.hop_to in
+    let same_count : count ≡ expired_count (hop_at s hop) now + (pick_outcome len params (hop_at s hop) now).dropped =
+    counted ∙ ap (λ (h : HopState P). expired_count h now + (pick_outcome len params h now).dropped) is_read in
+    let same_gone : gone ≡ bytes_of len (take (expired_count (hop_at s hop) now + (pick_outcome len params (hop_at s hop) now).dropped) (hop_at s hop).queue) =
+    weighed ∙ ap (λ (h : HopState P). bytes_of len (take (expired_count h now + (pick_outcome len params h now).dropped) h.queue)) is_read in (
       is_after ∙ sym (ap (λ r. (unless r s accepted).0) may),
       subst (λ (t : State P). KeepsCounts len t (items - count) (bytes - gone)) (sym is_after) (record {
         sound = sound_pick len s hop now kept.sound facts;

@@ -2,6 +2,7 @@ pub mod Refusals
 pub mod Soundness
 pub mod Picking
 pub mod Waiting
+pub mod Expiring
 pub mod Totals
 pub mod Keeping
 pub mod Runs

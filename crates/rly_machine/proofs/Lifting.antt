@@ -43,7 +43,7 @@ state_twice {P} {Q} {R} f g s = ap (λ (hops : List (HopState R)). let t : State
 
 command_twice : {P Q R : Type 0} (f : Q → R) (g : P → Q) (command : Command P)
     → map_command f (map_command g command) ≡ map_command (λ p. f (g p)) command
-command_twice f g (Take peer number hop stamp payload) = refl
+command_twice f g (Take peer number hop stamp limit payload) = refl
 command_twice f g (Pick hop now) = refl
 command_twice f g (Release hop number) = refl
 
@@ -70,7 +70,7 @@ lift_items : {P : Type 0} (T : P → Type 0) (items : List (Item P)) → All T (
 lift_items T [] all = ([], refl)
 lift_items {P} T (item ∷ items) all =
     let rest = lift_items T items (All-tail T item.payload (payloads items) all) in
-    let first : Item (Known P T) = record { id = item.id; stamp = item.stamp; payload = (item.payload, All-head T item.payload (payloads items) all) } in
+    let first : Item (Known P T) = record { id = item.id; stamp = item.stamp; limit = item.limit; payload = (item.payload, All-head T item.payload (payloads items) all) } in
     (first ∷ rest.0, ap (λ (others : List (Item P)). item ∷ others) rest.1)
 
 lift_hop : {P : Type 0} (T : P → Type 0) (h : HopState P) → All T (payloads (live_line h))
@@ -81,7 +81,7 @@ lift_hop {P} T h all =
     let flight = lift_items T h.flight (all_left T (payloads h.flight) (payloads h.queue) parts) in
     let queue = lift_items T h.queue (all_right T (payloads h.flight) (payloads h.queue) parts) in
     let with_lines : List (Item P) → List (Item P) → HopState P = λ queue flight. record h { queue = queue; flight = flight } in (
-      record { queue = queue.0; flight = flight.0; codel = h.codel; moment = h.moment; taken = h.taken; dropped = h.dropped; released = h.released },
+      record { queue = queue.0; flight = flight.0; codel = h.codel; moment = h.moment; taken = h.taken; dropped = h.dropped; expired = h.expired; released = h.released },
       ap (λ q. with_lines q (map (map_item (plain T)) flight.0)) queue.1 ∙ ap (with_lines h.queue) flight.1,
     )
 
@@ -110,7 +110,7 @@ lift_state {P} T s all =
 
 lift_command : {P : Type 0} (T : P → Type 0) (command : Command P) → All T (payload_of command)
     → (known : Command (Known P T)) × (map_command (plain T) known ≡ command)
-lift_command T (Take peer number hop stamp payload) all = (Take peer number hop stamp (payload, All-head T payload [] all), refl)
+lift_command T (Take peer number hop stamp limit payload) all = (Take peer number hop stamp limit (payload, All-head T payload [] all), refl)
 lift_command T (Pick hop now) all = (Pick hop now, refl)
 lift_command T (Release hop number) all = (Release hop number, refl)
 

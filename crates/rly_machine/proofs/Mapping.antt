@@ -1,6 +1,7 @@
 -- A map of payloads that keeps lengths goes through every step.
 use Rattle.std.proofs.Common.{ℕ, ◌≡◌, ◌+◌, ◌-◌, ◌^◌, List, [], ◌∷◌, ◌++◌, not, cond, ◌||◌, ◌&&◌, take, length, get_or, set, drop, map, refl, arith, sym, ◌∙◌, ap, sum_by, zero, suc, Option, Some, None, max}
 use Rattle.std.specs.Prelude.{nat_lt, nat_le, nat_eq}
+use Rattle.std.specs.List.{prefix_len}
 use Rattle.std.proofs.lemmas.List.{length-map, length-append, map-set, map-append, drop-map, take-map}
 use Rattle.std.proofs.lemmas.List.Sums.{sum_by-cons}
 use Rattle.rly_codel.specs.Cases.{Outcome, dequeue_of}
@@ -8,6 +9,7 @@ use Rattle.rly_codel.specs.Waiting.{Waiting}
 use Rattle.rly_codel.specs.declared.state.CodelState.{CodelState}
 use Rattle.rly_core.specs.declared.ids.HopId.{HopId}
 use Rattle.rly_core.specs.declared.ids.PeerId.{PeerId}
+use Rattle.rly_core.specs.declared.params.Params.{Params}
 use Rattle.rly_core.specs.declared.refusal.Refusal.TheVariants.{NoSuchPeer, NoSuchHop, BadMoment, TooLong, Gap, Full, WindowFull, Empty, Spent, NeverSent}
 use Rattle.rly_machine.specs.declared.command.Command.{Command}
 use Rattle.rly_machine.specs.declared.command.Command.TheVariants.{Take, Pick, Release}
@@ -16,7 +18,8 @@ use Rattle.rly_machine.specs.declared.reply.Reply.{Reply}
 use Rattle.rly_machine.specs.declared.reply.Reply.TheVariants.{Taken, Already, Released, Unchanged, Refused}
 use Rattle.rly_machine.specs.State.{State, HopState, is_among, has_peer, hop_at, last_at, live_line, live_items, live_bytes, bytes_of, new_hop}
 use Rattle.rly_machine.specs.Accepted.{accept, max_seq, unless}
-use Rattle.rly_machine.specs.Pick.{outcome_of, pick_refusal, pick_reply, picked_reply, waiting_of, with_picked}
+use Rattle.rly_machine.specs.Expiry.{after_expiry, expired_count, is_expired, with_expired}
+use Rattle.rly_machine.specs.Pick.{after_pick, outcome_of, pick_outcome, pick_refusal, pick_reply, picked_reply, waiting_of, with_picked}
 use Rattle.rly_machine.specs.Release.{covered_count, release_refusal, with_released}
 use Rattle.rly_machine.specs.Take.{take_refusal, with_taken}
 use Rattle.rly_machine.specs.Step.{step}
@@ -64,18 +67,19 @@ mapped_unless {P} {Q} f refusal refusal' s after after' same mapped =
     by_cases None = refl
     by_cases (Some reply) = refl
 
-mapped_take_refusal : {P Q : Type 0} (len : P → ℕ) (len' : Q → ℕ) (f : P → Q) → ((p : P) → len' (f p) ≡ len p) → (s : State P) (peer : PeerId) (number : ℕ) (hop : HopId) (stamp : ℕ) (payload : P)
-    → take_refusal len' (map_state f s) peer number hop stamp (len' (f payload)) ≡ take_refusal len s peer number hop stamp (len payload)
-mapped_take_refusal {P} {Q} len len' f same s peer number hop stamp payload =
+mapped_take_refusal : {P Q : Type 0} (len : P → ℕ) (len' : Q → ℕ) (f : P → Q) → ((p : P) → len' (f p) ≡ len p) → (s : State P) (peer : PeerId) (number : ℕ) (hop : HopId) (stamp limit : ℕ) (payload : P)
+    → take_refusal len' (map_state f s) peer number hop stamp limit (len' (f payload)) ≡ take_refusal len s peer number hop stamp limit (len payload)
+mapped_take_refusal {P} {Q} len len' f same s peer number hop stamp limit payload =
     let row : ℕ → ℕ → ℕ → ℕ → Option Reply = λ hops items live bytes.
     cond (not (has_peer s peer)) (Some (Refused NoSuchPeer))
     (cond (not (is_among hops hop.0)) (Some (Refused NoSuchHop))
     (cond (nat_le (2 ^ 52) stamp) (Some (Refused BadMoment))
+    (cond (nat_le (2 ^ 40) limit) (Some (Refused BadMoment))
     (cond (nat_lt 1200 bytes) (Some (Refused TooLong))
     (cond (nat_le number (last_at s peer)) (Some (Already (last_at s peer)))
     (cond (nat_lt (last_at s peer + 1) number) (Some (Refused (Gap (last_at s peer + 1))))
     (cond (nat_le s.params.items items || nat_lt s.params.bytes (live + bytes)) (Some (Refused Full))
-    (cond (nat_le max_seq s.seq) (Some (Refused Spent)) None))))))) in
+    (cond (nat_le max_seq s.seq) (Some (Refused Spent)) None)))))))) in
     ap (λ n. row n (live_items (map_state f s)) (live_bytes len' (map_state f s)) (len' (f payload))) (length-map s.hops (map_hop f))
     ∙ ap (λ n. row (length s.hops) n (live_bytes len' (map_state f s)) (len' (f payload))) (mapped_items f s)
     ∙ ap (λ n. row (length s.hops) (live_items s) n (len' (f payload))) (mapped_bytes len len' f same s)
@@ -90,10 +94,10 @@ mapped_accept {P} {Q} f s hop change change' same =
     ap (λ h. with_hops (set (map (map_hop f) s.hops) (hop.0 - 1) h)) (ap change' (mapped_hop_at f s hop) ∙ same (hop_at s hop))
     ∙ ap with_hops (sym (map-set (map_hop f) s.hops (hop.0 - 1) (change (hop_at s hop))))
 
-mapped_with_taken : {P Q : Type 0} (f : P → Q) (id stamp : ℕ) (payload : P) (h : HopState P) → with_taken (map_hop f h) id stamp (f payload) ≡ map_hop f (with_taken h id stamp payload)
-mapped_with_taken {P} {Q} f id stamp payload h =
+mapped_with_taken : {P Q : Type 0} (f : P → Q) (id stamp limit : ℕ) (payload : P) (h : HopState P) → with_taken (map_hop f h) id stamp limit (f payload) ≡ map_hop f (with_taken h id stamp limit payload)
+mapped_with_taken {P} {Q} f id stamp limit payload h =
     let with_queue : List (Item Q) → HopState Q = λ queue. record (map_hop f h) { queue = queue; moment = max stamp h.moment; taken = h.taken + 1 } in
-    ap with_queue (sym (map-append (map_item f) h.queue (record { id = id; stamp = max stamp h.moment; payload = payload } ∷ [])))
+    ap with_queue (sym (map-append (map_item f) h.queue (record { id = id; stamp = max stamp h.moment; limit = limit; payload = payload } ∷ [])))
 
 mapped_with_released : {P Q : Type 0} (f : P → Q) (count : ℕ) (h : HopState P) → with_released (map_hop f h) count ≡ map_hop f (with_released h count)
 mapped_with_released {P} {Q} f count h =
@@ -133,17 +137,57 @@ mapped_ids : {P Q : Type 0} (f : P → Q) (items : List (Item P)) → map (λ (i
 mapped_ids f [] = refl
 mapped_ids {P} {Q} f (item ∷ items) = ap (λ ids. item.id ∷ ids) (mapped_ids f items)
 
-mapped_picked_reply : {P Q : Type 0} (f : P → Q) (number : ℕ) (ids : List ℕ) (items : List (Item P)) → picked_reply number ids (map (map_item f) items) ≡ picked_reply number ids items
-mapped_picked_reply f number ids [] = refl
-mapped_picked_reply f number ids (item ∷ items) = refl
+mapped_picked_reply : {P Q : Type 0} (f : P → Q) (number : ℕ) (expired dropped : List ℕ) (items : List (Item P))
+    → picked_reply number expired dropped (map (map_item f) items) ≡ picked_reply number expired dropped items
+mapped_picked_reply f number expired dropped [] = refl
+mapped_picked_reply f number expired dropped (item ∷ items) = refl
 
-mapped_pick_reply : {P Q : Type 0} (f : P → Q) (h : HopState P) (count : ℕ) → pick_reply (map_hop f h) count ≡ pick_reply h count
-mapped_pick_reply {P} {Q} f h count =
-    ap (λ n. picked_reply (h.released + n + 1) (map (λ (item : Item Q). item.id) (take count (map (map_item f) h.queue))) (drop count (map (map_item f) h.queue))) (length-map h.flight (map_item f))
-    ∙ ap (λ q. picked_reply (h.released + length h.flight + 1) (map (λ (item : Item Q). item.id) q) (drop count (map (map_item f) h.queue))) (take-map (map_item f) count h.queue)
-    ∙ ap (λ ids. picked_reply (h.released + length h.flight + 1) ids (drop count (map (map_item f) h.queue))) (mapped_ids f (take count h.queue))
-    ∙ ap (picked_reply (h.released + length h.flight + 1) (map (λ (item : Item P). item.id) (take count h.queue))) (drop-map (map_item f) count h.queue)
-    ∙ mapped_picked_reply f (h.released + length h.flight + 1) (map (λ (item : Item P). item.id) (take count h.queue)) (drop count h.queue)
+mapped_front : {P Q : Type 0} (f : P → Q) (count : ℕ) (items : List (Item P))
+    → map (λ (item : Item Q). item.id) (take count (map (map_item f) items)) ≡ map (λ (item : Item P). item.id) (take count items)
+mapped_front {P} {Q} f count items = ap (map (λ (item : Item Q). item.id)) (take-map (map_item f) count items) ∙ mapped_ids f (take count items)
+
+mapped_pick_reply : {P Q : Type 0} (f : P → Q) (h : HopState P) (late count : ℕ) → pick_reply (map_hop f h) late count ≡ pick_reply h late count
+mapped_pick_reply {P} {Q} f h late count =
+    let number : ℕ = h.released + length h.flight + 1 in
+    let ids : List (Item Q) → List ℕ = map (λ (item : Item Q). item.id) in
+    let rest : List (Item P) = drop late h.queue in
+    let left : List ℕ → ℕ → List (Item Q) → Reply = λ expired n q. picked_reply n expired (ids (take count q)) (drop count q) in
+    ap (λ n. left (ids (take late (map (map_item f) h.queue))) (h.released + n + 1) (drop late (map (map_item f) h.queue))) (length-map h.flight (map_item f))
+    ∙ ap (λ expired. left expired number (drop late (map (map_item f) h.queue))) (mapped_front f late h.queue)
+    ∙ ap (left (map (λ (item : Item P). item.id) (take late h.queue)) number) (drop-map (map_item f) late h.queue)
+    ∙ ap (λ dropped. picked_reply number (map (λ (item : Item P). item.id) (take late h.queue)) dropped (drop count (map (map_item f) rest))) (mapped_front f count rest)
+    ∙ ap (picked_reply number (map (λ (item : Item P). item.id) (take late h.queue)) (map (λ (item : Item P). item.id) (take count rest))) (drop-map (map_item f) count rest)
+    ∙ mapped_picked_reply f number (map (λ (item : Item P). item.id) (take late h.queue)) (map (λ (item : Item P). item.id) (take count rest)) (drop count rest)
+
+-- as many of a mapped queue are past their limit
+mapped_prefix : {P Q : Type 0} (f : P → Q) (now : ℕ) (queue : List (Item P)) → prefix_len (is_expired now) (map (map_item f) queue) ≡ prefix_len (is_expired now) queue
+mapped_prefix f now [] = refl
+mapped_prefix f now (item ∷ behind) = ap (λ n. cond (is_expired now item) (1 + n) 0) (mapped_prefix f now behind)
+
+mapped_with_expired : {P Q : Type 0} (f : P → Q) (count : ℕ) (h : HopState P) → with_expired (map_hop f h) count ≡ map_hop f (with_expired h count)
+mapped_with_expired {P} {Q} f count h =
+    let with_queue : List (Item Q) → HopState Q = λ queue. record (map_hop f h) { queue = queue; expired = h.expired + count } in
+    ap with_queue (drop-map (map_item f) count h.queue)
+
+mapped_expired_count : {P Q : Type 0} (f : P → Q) (now : ℕ) (h : HopState P) → expired_count (map_hop f h) now ≡ expired_count h now
+mapped_expired_count f now h = mapped_prefix f (max now h.moment) h.queue
+
+mapped_after_expiry : {P Q : Type 0} (f : P → Q) (now : ℕ) (h : HopState P) → after_expiry (map_hop f h) now ≡ map_hop f (after_expiry h now)
+mapped_after_expiry f now h = ap (with_expired (map_hop f h)) (mapped_expired_count f now h) ∙ mapped_with_expired f (expired_count h now) h
+
+-- what CoDel decides of a mapped hop, and what the pick leaves of it
+mapped_outcome : {P Q : Type 0} (len : P → ℕ) (len' : Q → ℕ) (f : P → Q) → ((p : P) → len' (f p) ≡ len p) → (params : Params) (now : ℕ) (h : HopState P)
+    → pick_outcome len' params (map_hop f h) now ≡ pick_outcome len params h now
+mapped_outcome {P} {Q} len len' f same params now h =
+    ap (λ (g : HopState Q). outcome_of len' params g now) (mapped_after_expiry f now h)
+    ∙ ap (λ q. dequeue_of params (max now h.moment) q h.codel) (mapped_waiting len len' f same (drop (expired_count h now) h.queue))
+
+mapped_after_pick : {P Q : Type 0} (len : P → ℕ) (len' : Q → ℕ) (f : P → Q) → ((p : P) → len' (f p) ≡ len p) → (params : Params) (now : ℕ) (h : HopState P)
+    → after_pick len' params (map_hop f h) now ≡ map_hop f (after_pick len params h now)
+mapped_after_pick {P} {Q} len len' f same params now h =
+    ap (with_picked (after_expiry (map_hop f h) now) now) (mapped_outcome len len' f same params now h)
+    ∙ ap (λ (g : HopState Q). with_picked g now (pick_outcome len params h now)) (mapped_after_expiry f now h)
+    ∙ mapped_with_picked f now (pick_outcome len params h now) (after_expiry h now)
 
 mapped_pick_refusal : {P Q : Type 0} (f : P → Q) (s : State P) (hop : HopId) (now : ℕ) → pick_refusal (map_state f s) hop now ≡ pick_refusal s hop now
 mapped_pick_refusal {P} {Q} f s hop now =
@@ -162,20 +206,22 @@ mapped_pick_refusal {P} {Q} f s hop now =
 -- one step
 pub mapped_step : {P Q : Type 0} (len : P → ℕ) (len' : Q → ℕ) (f : P → Q) → ((p : P) → len' (f p) ≡ len p) → (s : State P) (command : Command P)
     → step len' (map_state f s) (map_command f command) ≡ (map_state f (step len s command).0, (step len s command).1)
-mapped_step {P} {Q} len len' f same s (Take peer number hop stamp payload) =
-    mapped_unless f _ _ s _ _ (mapped_take_refusal len len' f same s peer number hop stamp payload)
+mapped_step {P} {Q} len len' f same s (Take peer number hop stamp limit payload) =
+    mapped_unless f _ _ s _ _ (mapped_take_refusal len len' f same s peer number hop stamp limit payload)
     (ap (λ (t : State Q). let r : State Q × Reply = (record t { lasts = set s.lasts (peer.0 - 1) number }, Taken (s.seq + 1)) in r)
-    (mapped_accept f s hop (λ h. with_taken h (s.seq + 1) stamp payload) (λ h. with_taken h (s.seq + 1) stamp (f payload)) (mapped_with_taken f (s.seq + 1) stamp payload)))
+    (mapped_accept f s hop (λ h. with_taken h (s.seq + 1) stamp limit payload) (λ h. with_taken h (s.seq + 1) stamp limit (f payload)) (mapped_with_taken f (s.seq + 1) stamp limit payload)))
 mapped_step {P} {Q} len len' f same s (Pick hop now) =
-    let decided : HopState Q → Outcome = λ h. outcome_of len' s.params h now in
-    let decides : (h : HopState P) → outcome_of len' s.params (map_hop f h) now ≡ outcome_of len s.params h now = λ h. ap (λ q. dequeue_of s.params (max now h.moment) q h.codel) (mapped_waiting len len' f same h.queue) in
+    let h : HopState P = hop_at s hop in
+    let answer : HopState Q → Reply = λ g. pick_reply g (expired_count g now) (pick_outcome len' s.params g now).dropped in
+    let after : State Q = map_state f (accept s hop (after_pick len s.params (hop_at s hop) now)) in
     mapped_unless f _ _ s _ _ (mapped_pick_refusal f s hop now)
-    (ap (λ (t : State Q). let r : State Q × Reply = (t, pick_reply (hop_at (map_state f s) hop) (outcome_of len' s.params (hop_at (map_state f s) hop) now).dropped) in r)
-    (mapped_accept f s hop (λ h. with_picked h now (outcome_of len s.params h now)) (λ h. with_picked h now (outcome_of len' s.params h now))
-    (λ h. ap (with_picked (map_hop f h) now) (decides h) ∙ mapped_with_picked f now (outcome_of len s.params h now) h))
-    ∙ ap (λ (h : HopState Q). let r : State Q × Reply = (map_state f (accept s hop (with_picked (hop_at s hop) now (outcome_of len s.params (hop_at s hop) now))), pick_reply h (outcome_of len' s.params h now).dropped) in r) (mapped_hop_at f s hop)
-    ∙ ap (λ (reply : Reply). let r : State Q × Reply = (map_state f (accept s hop (with_picked (hop_at s hop) now (outcome_of len s.params (hop_at s hop) now))), reply) in r)
-    (ap (λ (o : Outcome). pick_reply (map_hop f (hop_at s hop)) o.dropped) (decides (hop_at s hop)) ∙ mapped_pick_reply f (hop_at s hop) (outcome_of len s.params (hop_at s hop) now).dropped))
+    (ap (λ (t : State Q). let r : State Q × Reply = (t, answer (hop_at (map_state f s) hop)) in r)
+    (mapped_accept f s hop (λ h. after_pick len s.params h now) (λ h. after_pick len' s.params h now) (mapped_after_pick len len' f same s.params now))
+    ∙ ap (λ (g : HopState Q). let r : State Q × Reply = (after, answer g) in r) (mapped_hop_at f s hop)
+    ∙ ap (λ (reply : Reply). let r : State Q × Reply = (after, reply) in r)
+    (ap (λ n. pick_reply (map_hop f h) n (pick_outcome len' s.params (map_hop f h) now).dropped) (mapped_expired_count f now h)
+    ∙ ap (λ (o : Outcome). pick_reply (map_hop f h) (expired_count h now) o.dropped) (mapped_outcome len len' f same s.params now h)
+    ∙ mapped_pick_reply f h (expired_count h now) (pick_outcome len s.params h now).dropped))
 mapped_step {P} {Q} len len' f same s (Release hop number) =
     let count' : HopState Q → ℕ = λ h. covered_count h number in
     mapped_unless f _ _ s _ _ (mapped_release_refusal f s hop number)

@@ -2,9 +2,9 @@
 use Rattle.std.proofs.Common.{ℕ, ◌≡◌, ◌+◌, ◌-◌, ◌^◌, ◌<◌, ◌≤◌, max, List, ◌++◌, length, get_or, take, drop, refl, arith, sym, ◌∙◌, ap, inl, inr}
 use Rattle.std.proofs.lemmas.Bool.{cases_lt}
 use Rattle.std.specs.List.{All, AllPairs}
-use Rattle.std.proofs.lemmas.List.{append_assoc, get_or-drop, get_or_append_left, get_or-append-add, get_or-append_right, length-append, length-drop, length-map, length-take, take-append-drop}
+use Rattle.std.proofs.lemmas.List.{append_assoc, drop-drop, get_or-drop, get_or_append_left, get_or-append-add, get_or-append_right, length-append, length-drop, length-map, length-take, take-append-drop}
 use Rattle.std.proofs.lemmas.List.Elements.{All-append, All-drop, All-get_or, All-weaker}
-use Rattle.std.proofs.lemmas.List.Sums.{sum_by-append, sum_by-take-drop}
+use Rattle.std.proofs.lemmas.List.Sums.{prefix_len-le-length, sum_by-append, sum_by-take-drop}
 use Rattle.rly_codel.proofs.Bounds.{dropped-lt, dropped-empty, first_above_time-le, drop_next-le, lastcount-le, count-le}
 use Rattle.rly_codel.specs.Cases.{Outcome}
 use Rattle.rly_codel.specs.Waiting.{Waiting}
@@ -13,7 +13,8 @@ use Rattle.rly_core.specs.declared.params.Params.{Params}
 use Rattle.rly_core.specs.Limits.{IsWithinLimits}
 use Rattle.rly_machine.specs.declared.hop.Item.{Item}
 use Rattle.rly_machine.specs.Accepted.{accept}
-use Rattle.rly_machine.specs.Pick.{outcome_of, waiting_of, with_picked}
+use Rattle.rly_machine.specs.Expiry.{after_expiry, expired_count, is_expired, with_expired}
+use Rattle.rly_machine.specs.Pick.{after_pick, outcome_of, pick_outcome, waiting_of, with_picked}
 use Rattle.rly_machine.specs.Sound.{ComesBefore, IsLive, IsSound, IsSoundHop}
 use Rattle.rly_machine.specs.State.{State, HopState, bytes_of, hop_at, live_bytes, live_items, live_line, new_hop}
 use Rattle.rly_machine.proofs.Refusals.{MayPick}
@@ -64,6 +65,28 @@ picked_line : {X : Type 0} (flight queue : List X) (n : ℕ) → (flight ++ take
 picked_line flight queue n =
     append_assoc flight (take 1 (drop n queue)) (drop 1 (drop n queue))
     ∙ ap (λ rest. flight ++ rest) (take-append-drop 1 (drop n queue))
+
+-- a hop whose first waiting items expired
+pub sound_expired : {P : Type 0} (len : P → ℕ) (params : Params) (seq count : ℕ) (h : HopState P)
+    → count ≤ length h.queue → IsSoundHop len params seq h → IsSoundHop len params seq (with_expired h count)
+sound_expired len params seq count h within sound = record {
+  balance = omega (arith, length-drop count h.queue, sound.balance);
+  taken = sound.taken;
+  moment = sound.moment;
+  window = sound.window;
+  items = All-append (IsLive len h.moment seq) h.flight (drop count h.queue)
+      (front_all (IsLive len h.moment seq) h.flight h.queue sound.items)
+      (All-drop (IsLive len h.moment seq) count h.queue (back_all (IsLive len h.moment seq) h.flight h.queue sound.items));
+  order = ordered_gap ComesBefore h.flight h.queue count sound.order;
+  first_above_time = sound.first_above_time;
+  drop_next = sound.drop_next;
+  lastcount = sound.lastcount;
+  count = sound.count;
+}
+
+-- no more expire than wait
+pub expired_within : {P : Type 0} (h : HopState P) (now : ℕ) → expired_count h now ≤ length h.queue
+expired_within h now = prefix_len-le-length (is_expired (max now h.moment)) h.queue
 
 -- what CoDel's decision has to keep to
 pub record IsFair {P : Type 0} (params : Params) (h : HopState P) (now : ℕ) (outcome : Outcome) : Type 0 where
@@ -122,40 +145,68 @@ sound_picked {P} len params seq now h outcome early window fair sound =
       count = fair.count;
     }
 
--- what a Pick takes off the live items and bytes
-pub items_picked : {P : Type 0} (s : State P) (hop : HopId) (now : ℕ) (outcome : Outcome) → 0 < hop.0 → hop.0 ≤ length s.hops → outcome.dropped ≤ length (hop_at s hop).queue
-    → live_items (accept s hop (with_picked (hop_at s hop) now outcome)) + outcome.dropped ≡ live_items s
-items_picked {P} s hop now outcome from to within =
+-- what a Pick takes off the live items and bytes: the first so many expired, and those after them were dropped
+pub items_picked : {P : Type 0} (s : State P) (hop : HopId) (now late : ℕ) (outcome : Outcome) → 0 < hop.0 → hop.0 ≤ length s.hops
+    → late + outcome.dropped ≤ length (hop_at s hop).queue
+    → live_items (accept s hop (with_picked (with_expired (hop_at s hop) late) now outcome)) + (late + outcome.dropped) ≡ live_items s
+items_picked {P} s hop now late outcome from to within =
     let h = hop_at s hop in
-    let after = items_after s hop (with_picked h now outcome) from to in
-    let line : length (live_line (with_picked h now outcome)) ≡ length (h.flight ++ drop outcome.dropped h.queue) = ap length (picked_line h.flight h.queue outcome.dropped) in
-    omega (arith, after, line, length-append h.flight (drop outcome.dropped h.queue), length-append h.flight h.queue, length-drop outcome.dropped h.queue)
+    let after = items_after s hop (with_picked (with_expired h late) now outcome) from to in
+    let line : length (live_line (with_picked (with_expired h late) now outcome)) ≡ length (h.flight ++ drop outcome.dropped (drop late h.queue)) =
+    ap length (picked_line h.flight (drop late h.queue) outcome.dropped) in
+    omega (
+      arith,
+      after,
+      line,
+      length-append h.flight (drop outcome.dropped (drop late h.queue)),
+      length-append h.flight h.queue,
+      length-drop outcome.dropped (drop late h.queue),
+      length-drop late h.queue,
+    )
 
-pub bytes_picked : {P : Type 0} (len : P → ℕ) (s : State P) (hop : HopId) (now : ℕ) (outcome : Outcome) → 0 < hop.0 → hop.0 ≤ length s.hops
-    → live_bytes len (accept s hop (with_picked (hop_at s hop) now outcome)) + bytes_of len (take outcome.dropped (hop_at s hop).queue) ≡ live_bytes len s
-bytes_picked {P} len s hop now outcome from to =
+pub bytes_picked : {P : Type 0} (len : P → ℕ) (s : State P) (hop : HopId) (now late : ℕ) (outcome : Outcome)
+    → 0 < hop.0 → hop.0 ≤ length s.hops
+    → live_bytes len (accept s hop (with_picked (with_expired (hop_at s hop) late) now outcome))
+    + bytes_of len (take (late + outcome.dropped) (hop_at s hop).queue) ≡ live_bytes len s
+bytes_picked {P} len s hop now late outcome from to =
     let h = hop_at s hop in
     let length_of : Item P → ℕ = λ item. len item.payload in
-    let after = bytes_after len s hop (with_picked h now outcome) from to in
-    let line : bytes_of len (live_line (with_picked h now outcome)) ≡ bytes_of len (h.flight ++ drop outcome.dropped h.queue) = ap (bytes_of len) (picked_line h.flight h.queue outcome.dropped) in
-    let new = sum_by-append length_of h.flight (drop outcome.dropped h.queue) in
+    let after = bytes_after len s hop (with_picked (with_expired h late) now outcome) from to in
+    let line : bytes_of len (live_line (with_picked (with_expired h late) now outcome)) ≡ bytes_of len (h.flight ++ drop (late + outcome.dropped) h.queue) =
+    ap (bytes_of len) (picked_line h.flight (drop late h.queue) outcome.dropped)
+    ∙ ap (λ (rest : List (Item P)). bytes_of len (h.flight ++ rest)) (drop-drop outcome.dropped late h.queue) in
+    let new = sum_by-append length_of h.flight (drop (late + outcome.dropped) h.queue) in
     let old = sum_by-append length_of h.flight h.queue in
-    let parts = sum_by-take-drop length_of h.queue outcome.dropped in
+    let parts = sum_by-take-drop length_of h.queue (late + outcome.dropped) in
     omega (arith, after, line, new, old, parts)
+
+-- a hop without those that expire at a pick
+pub sound_after_expiry : {P : Type 0} (len : P → ℕ) (params : Params) (seq now : ℕ) (h : HopState P)
+    → IsSoundHop len params seq h → IsSoundHop len params seq (after_expiry h now)
+sound_after_expiry len params seq now h sound = sound_expired len params seq (expired_count h now) h (expired_within h now) sound
+
+-- so many expire and are dropped at a pick, of those that wait
+pub gone_within : {P : Type 0} (len : P → ℕ) (params : Params) (seq now : ℕ) (h : HopState P)
+    → IsWithinLimits params → IsSoundHop len params seq h
+    → expired_count h now + (pick_outcome len params h now).dropped ≤ length h.queue
+gone_within len params seq now h within sound =
+    let fair = fair_outcome len params seq now (after_expiry h now) within (sound_after_expiry len params seq now h sound) in
+    omega (arith, fair.dropped, length-drop (expired_count h now) h.queue, expired_within h now)
 
 -- an accepted Pick keeps a spool sound
 pub sound_pick : {P : Type 0} (len : P → ℕ) (s : State P) (hop : HopId) (now : ℕ) → IsSound len s → MayPick s hop now
-    → IsSound len (accept s hop (with_picked (hop_at s hop) now (outcome_of len s.params (hop_at s hop) now)))
+    → IsSound len (accept s hop (after_pick len s.params (hop_at s hop) now))
 sound_pick {P} len s hop now sound may =
     let place : hop.0 - 1 < length s.hops = omega (arith, may.hop_from, may.hop_to) in
     let h : HopState P = hop_at s hop in
     let old = All-get_or (IsSoundHop len s.params s.seq) s.hops (hop.0 - 1) new_hop place sound.hops in
-    let outcome : Outcome = outcome_of len s.params (hop_at s hop) now in
-    let fair = fair_outcome len s.params s.seq now (hop_at s hop) sound.params old in
-    sound_accept len s hop (with_picked (hop_at s hop) now (outcome_of len s.params (hop_at s hop) now)) s.lasts sound may.hop_from may.hop_to may.seq
-    (sound_picked len s.params s.seq now (hop_at s hop) (outcome_of len s.params (hop_at s hop) now) may.moment may.window fair old)
+    let left = sound_after_expiry len s.params s.seq now (hop_at s hop) old in
+    let fair = fair_outcome len s.params s.seq now (after_expiry (hop_at s hop) now) sound.params left in
+    let gone = gone_within len s.params s.seq now (hop_at s hop) sound.params old in
+    sound_accept len s hop (after_pick len s.params (hop_at s hop) now) s.lasts sound may.hop_from may.hop_to may.seq
+    (sound_picked len s.params s.seq now (after_expiry (hop_at s hop) now) (pick_outcome len s.params (hop_at s hop) now) may.moment may.window fair left)
     refl
     (All-weaker (λ n. n ≤ s.seq) (λ n. n ≤ s.seq + 1) (λ n was. omega arith) s.lasts sound.lasts)
     refl
-    (omega (arith, items_picked s hop now (outcome_of len s.params (hop_at s hop) now) may.hop_from may.hop_to fair.dropped, sound.items))
-    (omega (arith, bytes_picked len s hop now (outcome_of len s.params (hop_at s hop) now) may.hop_from may.hop_to, sound.bytes))
+    (omega (arith, items_picked s hop now (expired_count (hop_at s hop) now) (pick_outcome len s.params (hop_at s hop) now) may.hop_from may.hop_to gone, sound.items))
+    (omega (arith, bytes_picked len s hop now (expired_count (hop_at s hop) now) (pick_outcome len s.params (hop_at s hop) now) may.hop_from may.hop_to, sound.bytes))

@@ -19,7 +19,8 @@ use Rattle.rly_machine.specs.declared.reply.Reply.TheVariants.{Already, Refused,
 use Rattle.rly_machine.specs.State.{HopState, State, has_hop, has_peer, hop_at, last_at, next_number}
 use Rattle.rly_machine.specs.Accepted.{is_accepted, max_seq, unless}
 use Rattle.rly_machine.specs.Take.{is_full, take_refusal}
-use Rattle.rly_machine.specs.Pick.{is_idle, outcome_of, pick_refusal, pick_reply, picked_reply}
+use Rattle.rly_machine.specs.Expiry.{expired_count}
+use Rattle.rly_machine.specs.Pick.{is_idle, pick_outcome, pick_refusal, pick_reply, picked_reply}
 use Rattle.rly_machine.specs.Release.{covered_count, release_refusal}
 use Rattle.rly_machine.specs.Step.{step}
 use Rattle.rly_machine.specs.Query.{fetch_reply, item_of, query_reply, status_of}
@@ -42,12 +43,12 @@ row false reply rest this others = others
 passes : Checks None
 passes = record { refuses = tt }
 
-checks_take : {P : Type 0} (len : P → ℕ) (s : State P) (peer : PeerId) (number : ℕ) (hop : HopId) (stamp bytes : ℕ) → Checks (take_refusal len s peer number hop stamp bytes)
-checks_take len s peer number hop stamp bytes =
+checks_take : {P : Type 0} (len : P → ℕ) (s : State P) (peer : PeerId) (number : ℕ) (hop : HopId) (stamp limit bytes : ℕ) → Checks (take_refusal len s peer number hop stamp limit bytes)
+checks_take len s peer number hop stamp limit bytes =
     row (not (has_peer s peer)) (Refused NoSuchPeer) _ refl (row (not (has_hop s hop)) (Refused NoSuchHop) _ refl (row (nat_le (2 ^ 52) stamp) (Refused BadMoment) _ refl
-    (row (nat_lt 1200 bytes) (Refused TooLong) _ refl (row (nat_le number (last_at s peer)) (Already (last_at s peer)) _ refl
+    (row (nat_le (2 ^ 40) limit) (Refused BadMoment) _ refl (row (nat_lt 1200 bytes) (Refused TooLong) _ refl (row (nat_le number (last_at s peer)) (Already (last_at s peer)) _ refl
     (row (nat_lt (last_at s peer + 1) number) (Refused (Gap (last_at s peer + 1))) _ refl (row (is_full len s bytes) (Refused Full) _ refl
-    (row (nat_le max_seq s.seq) (Refused Spent) _ refl passes)))))))
+    (row (nat_le max_seq s.seq) (Refused Spent) _ refl passes))))))))
 
 checks_pick : {P : Type 0} (s : State P) (hop : HopId) (now : ℕ) → Checks (pick_refusal s hop now)
 checks_pick s hop now =
@@ -73,25 +74,27 @@ comes (Some reply) s accepted checks real accepts seq =
     let both = or_parts (is_failure reply) (is_accepted reply) checks.refuses in
     record { real = both.0; stays = λ _. refl; counts = λ accept. absurd (true≢false (sym accept ∙ both.1)) }
 
-picked_real : {P : Type 0} (number : ℕ) (dropped : List ℕ) (items : List (Item P)) → is_failure (picked_reply number dropped items) ≡ false
-picked_real number dropped [] = refl
-picked_real number dropped (item ∷ items) = refl
+picked_real : {P : Type 0} (number : ℕ) (expired dropped : List ℕ) (items : List (Item P)) → is_failure (picked_reply number expired dropped items) ≡ false
+picked_real number expired dropped [] = refl
+picked_real number expired dropped (item ∷ items) = refl
 
-picked_counts : {P : Type 0} (number : ℕ) (dropped : List ℕ) (items : List (Item P)) → is_accepted (picked_reply number dropped items) ≡ true
-picked_counts number dropped [] = refl
-picked_counts number dropped (item ∷ items) = refl
+picked_counts : {P : Type 0} (number : ℕ) (expired dropped : List ℕ) (items : List (Item P)) → is_accepted (picked_reply number expired dropped items) ≡ true
+picked_counts number expired dropped [] = refl
+picked_counts number expired dropped (item ∷ items) = refl
 
-pick_real : {P : Type 0} (h : HopState P) (count : ℕ) → is_failure (pick_reply h count) ≡ false
-pick_real {P} h count = picked_real (next_number h) (map (λ (item : Item P). item.id) (take count h.queue)) (drop count h.queue)
+pick_real : {P : Type 0} (h : HopState P) (late count : ℕ) → is_failure (pick_reply h late count) ≡ false
+pick_real {P} h late count =
+    picked_real (next_number h) (map (λ (item : Item P). item.id) (take late h.queue)) (map (λ (item : Item P). item.id) (take count (drop late h.queue))) (drop count (drop late h.queue))
 
-pick_counts : {P : Type 0} (h : HopState P) (count : ℕ) → is_accepted (pick_reply h count) ≡ true
-pick_counts {P} h count = picked_counts (next_number h) (map (λ (item : Item P). item.id) (take count h.queue)) (drop count h.queue)
+pick_counts : {P : Type 0} (h : HopState P) (late count : ℕ) → is_accepted (pick_reply h late count) ≡ true
+pick_counts {P} h late count =
+    picked_counts (next_number h) (map (λ (item : Item P). item.id) (take late h.queue)) (map (λ (item : Item P). item.id) (take count (drop late h.queue))) (drop count (drop late h.queue))
 
 step_comes : {P : Type 0} (len : P → ℕ) (s : State P) (command : Command P) → Comes s (step len s command)
-step_comes len s (Take peer number hop stamp payload) = comes (take_refusal len s peer number hop stamp (len payload)) s _ (checks_take len s peer number hop stamp (len payload)) refl refl refl
+step_comes len s (Take peer number hop stamp limit payload) = comes (take_refusal len s peer number hop stamp limit (len payload)) s _ (checks_take len s peer number hop stamp limit (len payload)) refl refl refl
 step_comes len s (Pick hop now) =
-    comes (pick_refusal s hop now) s _ (checks_pick s hop now) (pick_real (hop_at s hop) (outcome_of len s.params (hop_at s hop) now).dropped)
-    (pick_counts (hop_at s hop) (outcome_of len s.params (hop_at s hop) now).dropped) refl
+    comes (pick_refusal s hop now) s _ (checks_pick s hop now) (pick_real (hop_at s hop) (expired_count (hop_at s hop) now) (pick_outcome len s.params (hop_at s hop) now).dropped)
+    (pick_counts (hop_at s hop) (expired_count (hop_at s hop) now) (pick_outcome len s.params (hop_at s hop) now).dropped) refl
 step_comes len s (Release hop number) = comes (release_refusal s hop number) s _ (checks_release s hop number) refl refl refl
 
 -- no reply to a command is a failure

@@ -22,26 +22,28 @@ among count number h =
     (ltb-true 0 number both.0, leb-true number count both.1)
 
 -- what is known of a Take that no check refuses
-pub record MayTake {P : Type 0} (len : P → ℕ) (s : State P) (peer : PeerId) (number : ℕ) (hop : HopId) (stamp bytes : ℕ) : Type 0 where
+pub record MayTake {P : Type 0} (len : P → ℕ) (s : State P) (peer : PeerId) (number : ℕ) (hop : HopId) (stamp age bytes : ℕ) : Type 0 where
   pub peer_from : 0 < peer.0
   pub peer_to : peer.0 ≤ length s.lasts
   pub hop_there : has_hop s hop ≡ true
   pub hop_from : 0 < hop.0
   pub hop_to : hop.0 ≤ length s.hops
   pub moment : stamp < 2 ^ 52
+  pub limit : age < 2 ^ 40
   pub short : bytes ≤ 1200
   pub next : number ≡ last_at s peer + 1
   pub items : live_items s < s.params.items
   pub room : live_bytes len s + bytes ≤ s.params.bytes
   pub seq : s.seq < max_seq
 
-pub may_take : {P : Type 0} (len : P → ℕ) (s : State P) (peer : PeerId) (number : ℕ) (hop : HopId) (stamp bytes : ℕ)
-    → take_refusal len s peer number hop stamp bytes ≡ None → MayTake len s peer number hop stamp bytes
-may_take len s peer number hop stamp bytes h =
+pub may_take : {P : Type 0} (len : P → ℕ) (s : State P) (peer : PeerId) (number : ℕ) (hop : HopId) (stamp limit bytes : ℕ)
+    → take_refusal len s peer number hop stamp limit bytes ≡ None → MayTake len s peer number hop stamp limit bytes
+may_take len s peer number hop stamp limit bytes h =
     let a = passed (not (has_peer s peer)) _ _ h in
     let b = passed (not (has_hop s hop)) _ _ a.1 in
     let c = passed (nat_le (2 ^ 52) stamp) _ _ b.1 in
-    let d = passed (nat_lt 1200 bytes) _ _ c.1 in
+    let l = passed (nat_le (2 ^ 40) limit) _ _ c.1 in
+    let d = passed (nat_lt 1200 bytes) _ _ l.1 in
     let e = passed (nat_le number (last_at s peer)) _ _ d.1 in
     let f = passed (nat_lt (last_at s peer + 1) number) _ _ e.1 in
     let g = passed (nat_le s.params.items (live_items s) || nat_lt s.params.bytes (live_bytes len s + bytes)) _ _ f.1 in
@@ -58,6 +60,7 @@ may_take len s peer number hop stamp bytes h =
       hop_from = the_hop.0;
       hop_to = the_hop.1;
       moment = leb-false _ _ c.0;
+      limit = leb-false _ _ l.0;
       short = ltb-false _ _ d.0;
       next = omega arith;
       items = leb-false _ _ room.0;

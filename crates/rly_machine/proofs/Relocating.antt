@@ -33,7 +33,7 @@ sizes_stay : {P Q : Type 0} (f : P → Q) (items : List (Item P)) (i : ℕ) (pay
 sizes_stay f [] i payload same = refl
 sizes_stay {P} {Q} f (item ∷ items) zero payload same =
     let e : f payload ≡ f item.payload = cc in
-    ap (λ (q : Q). let x : Item Q = record { id = item.id; stamp = item.stamp; payload = q } in x ∷ map (map_item f) items) e
+    ap (λ (q : Q). let x : Item Q = record { id = item.id; stamp = item.stamp; limit = item.limit; payload = q } in x ∷ map (map_item f) items) e
 sizes_stay {P} {Q} f (item ∷ items) (suc i) payload same = ap (λ (rest : List (Item Q)). map_item f item ∷ rest) (sizes_stay f items i payload same)
 
 -- the first of two rows, and the second

@@ -26,9 +26,9 @@ sound_unless len (Some reply) s accepted sound then = sound
 
 -- each step keeps a spool sound
 pub sound_step : {P : Type 0} (len : P → ℕ) (s : State P) (command : Command P) → IsSound len s → IsSound len (step len s command).0
-sound_step len s (Take peer number hop stamp payload) sound =
-    sound_unless len (take_refusal len s peer number hop stamp (len payload)) s _ sound
-    (λ none. sound_take len s peer number hop stamp payload sound (may_take len s peer number hop stamp (len payload) none))
+sound_step len s (Take peer number hop stamp limit payload) sound =
+    sound_unless len (take_refusal len s peer number hop stamp limit (len payload)) s _ sound
+    (λ none. sound_take len s peer number hop stamp limit payload sound (may_take len s peer number hop stamp limit (len payload) none))
 sound_step len s (Pick hop now) sound =
     sound_unless len (pick_refusal s hop now) s _ sound (λ none. sound_pick len s hop now sound (may_pick s hop now none))
 sound_step len s (Release hop number) sound =

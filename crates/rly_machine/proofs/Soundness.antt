@@ -18,7 +18,7 @@ use Rattle.rly_machine.proofs.Refusals.{MayTake, MayRelease}
 
 -- what holds of an item, or a hop, holds of it once more commands were accepted and the moment has moved on
 pub live_later : {P : Type 0} (len : P → ℕ) (moment later seq more : ℕ) (item : Item P) → moment ≤ later → seq ≤ more → IsLive len moment seq item → IsLive len later more item
-live_later len moment later seq more item m n live = record { first = live.first; last = omega (arith, live.last); stamp = omega (arith, live.stamp); length = live.length }
+live_later len moment later seq more item m n live = record { first = live.first; last = omega (arith, live.last); stamp = omega (arith, live.stamp); limit = live.limit; length = live.length }
 
 pub sound_later : {P : Type 0} (len : P → ℕ) (params : Params) (seq more : ℕ) (h : HopState P) → seq ≤ more → IsSoundHop len params seq h → IsSoundHop len params more h
 sound_later {P} len params seq more h n sound = record {
@@ -51,11 +51,11 @@ ordered_drop R n xs order i j d i<j j<n =
     rw (get_or-drop n xs i d) (rw (get_or-drop n xs j d) (order (n + i) (n + j) d (omega arith) (omega arith)))
 
 -- a hop that took an item
-pub sound_taken : {P : Type 0} (len : P → ℕ) (params : Params) (seq stamp : ℕ) (payload : P) (h : HopState P)
-    → stamp < 2 ^ 52 → len payload ≤ 1200 → IsSoundHop len params seq h → IsSoundHop len params (seq + 1) (with_taken h (seq + 1) stamp payload)
-sound_taken {P} len params seq stamp payload h early short sound =
+pub sound_taken : {P : Type 0} (len : P → ℕ) (params : Params) (seq stamp limit : ℕ) (payload : P) (h : HopState P)
+    → stamp < 2 ^ 52 → limit < 2 ^ 40 → len payload ≤ 1200 → IsSoundHop len params seq h → IsSoundHop len params (seq + 1) (with_taken h (seq + 1) stamp limit payload)
+sound_taken {P} len params seq stamp limit payload h early limited short sound =
     let moment : ℕ = max stamp h.moment in
-    let item : Item P = record { id = seq + 1; stamp = moment; payload = payload } in
+    let item : Item P = record { id = seq + 1; stamp = moment; limit = limit; payload = payload } in
     let known = sound.items in
     record {
       balance = omega (arith, length_push h.queue item, sound.balance);
@@ -64,7 +64,7 @@ sound_taken {P} len params seq stamp payload h early short sound =
       window = sound.window;
       items = rw (← append_assoc h.flight h.queue (item ∷ [])) (All-push (IsLive len moment (seq + 1)) (h.flight ++ h.queue) item
           (All-weaker (IsLive len h.moment seq) (IsLive len moment (seq + 1)) (λ old live. live_later len h.moment moment seq (seq + 1) old (omega arith) (omega arith) live) _ known)
-          (record { first = omega arith; last = omega arith; stamp = omega arith; length = short }));
+          (record { first = omega arith; last = omega arith; stamp = omega arith; limit = limited; length = short }));
       order = rw (← append_assoc h.flight h.queue (item ∷ [])) (ordered_push ComesBefore (h.flight ++ h.queue) item sound.order
           (All-weaker (IsLive len h.moment seq) (λ old. ComesBefore old item) (λ old live. record { id = omega (arith, live.last); stamp = omega (arith, live.stamp) }) _ known));
       first_above_time = omega (arith, sound.first_above_time);
@@ -127,20 +127,20 @@ pub bytes_after : {P : Type 0} (len : P → ℕ) (s : State P) (hop : HopId) (h 
 bytes_after {P} len s hop h from to = sum_by-set (λ h. bytes_of len (live_line h)) s.hops (hop.0 - 1) h new_hop (omega arith)
 
 -- what a Take adds to the live items and bytes
-pub items_taken : {P : Type 0} (s : State P) (hop : HopId) (stamp : ℕ) (payload : P) → 0 < hop.0 → hop.0 ≤ length s.hops
-    → live_items (accept s hop (with_taken (hop_at s hop) (s.seq + 1) stamp payload)) ≡ live_items s + 1
-items_taken {P} s hop stamp payload from to =
+pub items_taken : {P : Type 0} (s : State P) (hop : HopId) (stamp limit : ℕ) (payload : P) → 0 < hop.0 → hop.0 ≤ length s.hops
+    → live_items (accept s hop (with_taken (hop_at s hop) (s.seq + 1) stamp limit payload)) ≡ live_items s + 1
+items_taken {P} s hop stamp limit payload from to =
     let h = hop_at s hop in
-    let after = items_after s hop (with_taken h (s.seq + 1) stamp payload) from to in
-    let pushed = length_push h.queue (record { id = s.seq + 1; stamp = max stamp h.moment; payload = payload }) in
+    let after = items_after s hop (with_taken h (s.seq + 1) stamp limit payload) from to in
+    let pushed = length_push h.queue (record { id = s.seq + 1; stamp = max stamp h.moment; limit = limit; payload = payload }) in
     omega (arith, after, pushed, length-append {A = Item P})
 
-pub bytes_taken : {P : Type 0} (len : P → ℕ) (s : State P) (hop : HopId) (stamp : ℕ) (payload : P) → 0 < hop.0 → hop.0 ≤ length s.hops
-    → live_bytes len (accept s hop (with_taken (hop_at s hop) (s.seq + 1) stamp payload)) ≡ live_bytes len s + len payload
-bytes_taken {P} len s hop stamp payload from to =
+pub bytes_taken : {P : Type 0} (len : P → ℕ) (s : State P) (hop : HopId) (stamp limit : ℕ) (payload : P) → 0 < hop.0 → hop.0 ≤ length s.hops
+    → live_bytes len (accept s hop (with_taken (hop_at s hop) (s.seq + 1) stamp limit payload)) ≡ live_bytes len s + len payload
+bytes_taken {P} len s hop stamp limit payload from to =
     let h = hop_at s hop in
-    let item : Item P = record { id = s.seq + 1; stamp = max stamp h.moment; payload = payload } in
-    let after = bytes_after len s hop (with_taken h (s.seq + 1) stamp payload) from to in
+    let item : Item P = record { id = s.seq + 1; stamp = max stamp h.moment; limit = limit; payload = payload } in
+    let after = bytes_after len s hop (with_taken h (s.seq + 1) stamp limit payload) from to in
     let length_of : Item P → ℕ = λ item. len item.payload in
     let pushed = sum_by_push length_of h.queue item in
     let old = sum_by-append length_of h.flight h.queue in
@@ -148,10 +148,10 @@ bytes_taken {P} len s hop stamp payload from to =
     omega (arith, after, pushed, old, new)
 
 -- an accepted Take keeps a spool sound
-pub sound_take : {P : Type 0} (len : P → ℕ) (s : State P) (peer : PeerId) (number : ℕ) (hop : HopId) (stamp : ℕ) (payload : P)
-    → IsSound len s → MayTake len s peer number hop stamp (len payload)
-    → IsSound len (record (accept s hop (with_taken (hop_at s hop) (s.seq + 1) stamp payload)) { lasts = set s.lasts (peer.0 - 1) number })
-sound_take {P} len s peer number hop stamp payload sound may =
+pub sound_take : {P : Type 0} (len : P → ℕ) (s : State P) (peer : PeerId) (number : ℕ) (hop : HopId) (stamp limit : ℕ) (payload : P)
+    → IsSound len s → MayTake len s peer number hop stamp limit (len payload)
+    → IsSound len (record (accept s hop (with_taken (hop_at s hop) (s.seq + 1) stamp limit payload)) { lasts = set s.lasts (peer.0 - 1) number })
+sound_take {P} len s peer number hop stamp limit payload sound may =
     let place : hop.0 - 1 < length s.hops = omega (arith, may.hop_from, may.hop_to) in
     let peer_place : peer.0 - 1 < length s.lasts = omega (arith, may.peer_from, may.peer_to) in
     let old = All-get_or (IsSoundHop len s.params s.seq) s.hops (hop.0 - 1) new_hop place sound.hops in
@@ -159,12 +159,12 @@ sound_take {P} len s peer number hop stamp payload sound may =
     let sums = sum_by-set (λ n. n) s.lasts (peer.0 - 1) number 0 peer_place in
     let next = may.next in
     sound_accept len s hop _ _ sound may.hop_from may.hop_to may.seq
-    (sound_taken len s.params s.seq stamp payload (hop_at s hop) may.moment may.short old)
+    (sound_taken len s.params s.seq stamp limit payload (hop_at s hop) may.moment may.limit may.short old)
     (length-set s.lasts (peer.0 - 1) number)
     (All-set (λ n. n ≤ s.seq + 1) s.lasts (peer.0 - 1) number (omega arith) (All-weaker (λ n. n ≤ s.seq) (λ n. n ≤ s.seq + 1) (λ n was. omega arith) s.lasts sound.lasts))
     (omega (arith, sums, next))
-    (omega (arith, items_taken s hop stamp payload may.hop_from may.hop_to, may.items))
-    (omega (arith, bytes_taken len s hop stamp payload may.hop_from may.hop_to, may.room))
+    (omega (arith, items_taken s hop stamp limit payload may.hop_from may.hop_to, may.items))
+    (omega (arith, bytes_taken len s hop stamp limit payload may.hop_from may.hop_to, may.room))
 
 -- what a Release takes off the live items and bytes
 pub items_released : {P : Type 0} (s : State P) (hop : HopId) (count : ℕ) → 0 < hop.0 → hop.0 ≤ length s.hops → count ≤ length (hop_at s hop).flight

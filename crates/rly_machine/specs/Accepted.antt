@@ -22,7 +22,7 @@ accept s hop h = record s { hops = slice_set s.hops (hop.0 - 1) h; seq = s.seq +
 -- the replies by which a command was accepted
 abbrev pub is_accepted : Reply → Bool
 is_accepted (Taken _) = true
-is_accepted (Picked _ _ _) = true
-is_accepted Nothing = true
+is_accepted (Picked _ _ _ _) = true
+is_accepted (Nothing _) = true
 is_accepted (Released _) = true
 is_accepted _ = false

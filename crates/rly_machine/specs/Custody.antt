@@ -6,28 +6,37 @@ use Rattle.rly_machine.specs.declared.command.Command.{Command}
 use Rattle.rly_machine.specs.declared.command.Command.TheVariants.{Take, Pick}
 use Rattle.rly_machine.specs.declared.hop.Item.{Item}
 use Rattle.rly_machine.specs.declared.reply.Reply.{Reply}
-use Rattle.rly_machine.specs.declared.reply.Reply.TheVariants.{Taken, Picked}
+use Rattle.rly_machine.specs.declared.reply.Reply.TheVariants.{Taken, Picked, Nothing}
 use Rattle.rly_machine.specs.State.{State, HopState}
 use Rattle.rly_machine.specs.Step.{step}
 
--- the account of a hop, as replies tell it: the ids that were taken for it, those that were dropped from its queue, and
--- those that went into flight with their custody numbers
+-- the account of a hop, as replies tell it: the ids that were taken for it, those that were dropped from its queue,
+-- those that expired there, and those that went into flight with their custody numbers
 pub record HopAccount : Type 0 where
   pub taken : List ℕ
   pub dropped : List ℕ
+  pub expired : List ℕ
   pub sent : List ℕ
   pub numbers : List ℕ
 
 -- an account of nothing
 abbrev pub nothing : HopAccount
-nothing = record { taken = []; dropped = []; sent = []; numbers = [] }
+nothing = record { taken = []; dropped = []; expired = []; sent = []; numbers = [] }
 
 -- the account that one reply gives of a hop
 abbrev pub account_of : {P : Type 0} → HopId → Command P → Reply → HopAccount
-account_of hop (Take peer number to stamp payload) (Taken id) =
-    if to.0 == hop.0 then record { taken = id ∷ []; dropped = []; sent = []; numbers = [] } else nothing
-account_of hop (Pick to now) (Picked number id dropped) =
-    if to.0 == hop.0 then record { taken = []; dropped = dropped; sent = id ∷ []; numbers = number ∷ [] } else nothing
+account_of hop (Take peer number to stamp limit payload) (Taken id) =
+    if to.0 == hop.0
+    then record { taken = id ∷ []; dropped = []; expired = []; sent = []; numbers = [] }
+    else nothing
+account_of hop (Pick to now) (Picked number id expired dropped) =
+    if to.0 == hop.0
+    then record { taken = []; dropped = dropped; expired = expired; sent = id ∷ []; numbers = number ∷ [] }
+    else nothing
+account_of hop (Pick to now) (Nothing expired) =
+    if to.0 == hop.0
+    then record { taken = []; dropped = []; expired = expired; sent = []; numbers = [] }
+    else nothing
 account_of hop _ _ = nothing
 
 -- and the one after it
@@ -35,6 +44,7 @@ abbrev pub and_then : HopAccount → HopAccount → HopAccount
 and_then a b = record {
   taken = a.taken ++ b.taken;
   dropped = a.dropped ++ b.dropped;
+  expired = a.expired ++ b.expired;
   sent = a.sent ++ b.sent;
   numbers = a.numbers ++ b.numbers;
 }
@@ -57,9 +67,10 @@ times id ids = count_by (λ other. other == id) ids
 pub record KeepsCustody {P : Type 0} (h : HopState P) (account : HopAccount) : Type 0 where
   -- no id is taken twice
   pub once : (id : ℕ) → times id account.taken ≤ 1
-  -- each id that was taken waits, was dropped, or went into flight
+  -- each id that was taken waits, was dropped, expired, or went into flight
   pub placed : (id : ℕ)
-      → times id account.taken ≡ times id account.dropped + times id account.sent + times id (ids_of h.queue)
+      → times id account.taken
+      ≡ times id account.dropped + times id account.expired + times id account.sent + times id (ids_of h.queue)
   -- those in flight are those that went into flight, less those whose numbers were released
   pub flight : ids_of h.flight ≡ drop h.released account.sent
   pub released : h.released ≤ length account.sent

@@ -50,7 +50,7 @@ position base history = (state_after base history).seq
 
 -- a reply with no bytes in place of those that it gives
 abbrev pub without_bytes : Reply → Reply
-without_bytes (Bytes _) = Bytes []
+without_bytes (Bytes payload limit) = Bytes [] limit
 without_bytes reply = reply
 
 -- a call was answered in a state, after harm that was told before. The reply, as it is shown, is the

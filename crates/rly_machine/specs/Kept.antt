@@ -14,6 +14,7 @@ hop_state h = record {
   moment = h.moment;
   taken = h.taken;
   dropped = h.dropped;
+  expired = h.expired;
   released = h.released;
 }
 

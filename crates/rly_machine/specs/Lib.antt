@@ -1,6 +1,7 @@
 pub mod State
 pub mod Accepted
 pub mod Take
+pub mod Expiry
 pub mod Pick
 pub mod Release
 pub mod Relocate

@@ -7,7 +7,7 @@ use Rattle.rly_machine.specs.declared.hop.Item.{Item}
 use Rattle.rly_machine.specs.State.{State, HopState, live_line}
 
 abbrev pub map_item : {P Q : Type 0} → (P → Q) → Item P → Item Q
-map_item f item = record { id = item.id; stamp = item.stamp; payload = f item.payload }
+map_item f item = record { id = item.id; stamp = item.stamp; limit = item.limit; payload = f item.payload }
 
 abbrev pub map_hop : {P Q : Type 0} → (P → Q) → HopState P → HopState Q
 map_hop f h = record {
@@ -17,6 +17,7 @@ map_hop f h = record {
   moment = h.moment;
   taken = h.taken;
   dropped = h.dropped;
+  expired = h.expired;
   released = h.released;
 }
 
@@ -24,7 +25,7 @@ abbrev pub map_state : {P Q : Type 0} → (P → Q) → State P → State Q
 map_state f s = record { params = s.params; hops = map (map_hop f) s.hops; lasts = s.lasts; seq = s.seq }
 
 abbrev pub map_command : {P Q : Type 0} → (P → Q) → Command P → Command Q
-map_command f (Take peer number hop stamp payload) = Take peer number hop stamp (f payload)
+map_command f (Take peer number hop stamp limit payload) = Take peer number hop stamp limit (f payload)
 map_command f (Pick hop now) = Pick hop now
 map_command f (Release hop number) = Release hop number
 
@@ -33,7 +34,7 @@ abbrev pub payloads_of : {P : Type 0} → State P → List P
 payloads_of s = flat_map (λ h. map (λ item. item.payload) (live_line h)) s.hops
 
 abbrev pub payload_of : {P : Type 0} → Command P → List P
-payload_of (Take peer number hop stamp payload) = payload ∷ []
+payload_of (Take peer number hop stamp limit payload) = payload ∷ []
 payload_of (Pick hop now) = []
 payload_of (Release hop number) = []
 

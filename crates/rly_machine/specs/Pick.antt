@@ -1,4 +1,4 @@
--- Pick: CoDel drops what is due, and the item after goes into flight.
+-- Pick: what is past its limit expires, CoDel drops what is due of the rest, and the item after goes into flight.
 use Rattle.std.specs.Prelude.{ℕ, ◌+◌, ◌^◌, nat_le, ◌==◌, not, ◌&&◌, max, Bool, if◌then◌else◌, Option, Some, None}
 use Rattle.std.specs.Prelude.{List, [], ◌∷◌, ◌++◌, length, map, take, drop}
 use Rattle.rly_core.specs.declared.ids.HopId.{HopId}
@@ -11,6 +11,7 @@ use Rattle.rly_machine.specs.declared.reply.Reply.{Reply}
 use Rattle.rly_machine.specs.declared.reply.Reply.TheVariants.{Picked, Nothing, Refused}
 use Rattle.rly_machine.specs.State.{State, HopState, has_hop, hop_at, next_number}
 use Rattle.rly_machine.specs.Accepted.{accept, max_seq, unless}
+use Rattle.rly_machine.specs.Expiry.{after_expiry, expired_count}
 
 -- what CoDel sees of a queue
 abbrev pub waiting_of : {P : Type 0} → (P → ℕ) → List (Item P) → List Waiting
@@ -47,18 +48,28 @@ abbrev pub with_picked : {P : Type 0} → HopState P → ℕ → Outcome → Hop
 with_picked h now outcome =
     with_sent (with_dropped (record h { codel = outcome.state; moment = max now h.moment }) outcome.dropped)
 
--- the answer where items are left after those dropped: the first of them got a number
-abbrev pub picked_reply : {P : Type 0} → ℕ → List ℕ → List (Item P) → Reply
-picked_reply number dropped [] = Nothing
-picked_reply number dropped (item ∷ behind) = Picked number item.id dropped
+-- what CoDel decides at a pick: of what is left once the expired are gone
+abbrev pub pick_outcome : {P : Type 0} → (P → ℕ) → Params → HopState P → ℕ → Outcome
+pick_outcome len params h now = outcome_of len params (after_expiry h now) now
 
--- the answer to a pick
-abbrev pub pick_reply : {P : Type 0} → HopState P → ℕ → Reply
-pick_reply h count = picked_reply (next_number h) (map (λ item. item.id) (take count h.queue)) (drop count h.queue)
+-- a hop after a pick: the expired and the dropped are gone, and the item after them is in flight
+abbrev pub after_pick : {P : Type 0} → (P → ℕ) → Params → HopState P → ℕ → HopState P
+after_pick len params h now = with_picked (after_expiry h now) now (pick_outcome len params h now)
+
+-- the answer where items are left after those that expired and those dropped: the first of them got a number
+abbrev pub picked_reply : {P : Type 0} → ℕ → (expired dropped : List ℕ) → List (Item P) → Reply
+picked_reply number expired dropped [] = Nothing expired
+picked_reply number expired dropped (item ∷ behind) = Picked number item.id expired dropped
+
+-- the answer to a pick at which so many expire, and so many of those after them are dropped
+abbrev pub pick_reply : {P : Type 0} → HopState P → (expired dropped : ℕ) → Reply
+pick_reply h expired dropped =
+    picked_reply (next_number h) (map (λ item. item.id) (take expired h.queue))
+    (map (λ item. item.id) (take dropped (drop expired h.queue))) (drop dropped (drop expired h.queue))
 
 -- Pick: a contact is open
 abbrev pub pick_step : {P : Type 0} → (P → ℕ) → State P → HopId → ℕ → State P × Reply
 pick_step len s hop now = unless (pick_refusal s hop now) s (
-  accept s hop (with_picked (hop_at s hop) now (outcome_of len s.params (hop_at s hop) now)),
-  pick_reply (hop_at s hop) (outcome_of len s.params (hop_at s hop) now).dropped,
+  accept s hop (after_pick len s.params (hop_at s hop) now),
+  pick_reply (hop_at s hop) (expired_count (hop_at s hop) now) (pick_outcome len s.params (hop_at s hop) now).dropped,
 )

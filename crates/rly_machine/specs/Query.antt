@@ -21,9 +21,9 @@ item_of s hop number =
     else if nat_le number (hop_at s hop).released then Err NotInFlight
     else ok_or (slice_get (hop_at s hop).flight (number - (hop_at s hop).released - 1)) NotInFlight
 
--- Fetch: the bytes in flight under a number
+-- Fetch: the bytes in flight under a number, and their limit
 abbrev pub fetch_reply : Result (Item (List ℕ)) Refusal → Reply
-fetch_reply (Ok item) = Bytes item.payload
+fetch_reply (Ok item) = Bytes item.payload item.limit
 fetch_reply (Err refusal) = Refused refusal
 
 -- Window: the least number in flight, or else the next one; and the next one
@@ -41,6 +41,7 @@ status_of h = record {
   queued = length h.queue;
   flight = length h.flight;
   dropped = h.dropped;
+  expired = h.expired;
   released = h.released;
   codel = h.codel;
   moment = h.moment;
@@ -58,5 +59,5 @@ query_reply s (Show hop) = show_reply s hop
 
 -- a reply that carries bytes
 abbrev pub HasBytes : Reply → Type 0
-HasBytes (Bytes payload) = 0 < length payload
+HasBytes (Bytes payload limit) = 0 < length payload
 HasBytes _ = ⊥

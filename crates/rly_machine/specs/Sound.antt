@@ -16,12 +16,13 @@ pub record IsLive {P : Type 0} (len : P → ℕ) (moment seq : ℕ) (item : Item
   pub first : 1 ≤ item.id
   pub last : item.id ≤ seq
   pub stamp : item.stamp ≤ moment
+  pub limit : item.limit < 2 ^ 40
   pub length : len item.payload ≤ 1200
 
 -- one hop of a spool that accepted so many commands
 pub record IsSoundHop {P : Type 0} (len : P → ℕ) (params : Params) (seq : ℕ) (h : HopState P) : Type 0 where
-  -- the books balance: what was taken waits, is in flight, was dropped or was released
-  pub balance : h.taken ≡ length h.queue + length h.flight + h.dropped + h.released
+  -- the books balance: what was taken waits, is in flight, was dropped, expired or was released
+  pub balance : h.taken ≡ length h.queue + length h.flight + h.dropped + h.expired + h.released
   pub taken : h.taken ≤ seq
   pub moment : h.moment < 2 ^ 52
   pub window : length h.flight ≤ params.window

@@ -21,6 +21,7 @@ pub record HopState (P : Type 0) : Type 0 where
   pub moment : ℕ
   pub taken : ℕ
   pub dropped : ℕ
+  pub expired : ℕ
   pub released : ℕ
 
 -- a spool: its parameters, its hops, the last number taken from each peer, and the count of accepted commands
@@ -37,9 +38,23 @@ pub record Spool (P : Type 0) : Type 0 where
   pub queue_spare : List ℕ
   pub flight_spare : List ℕ
 
+-- contracts see of the room for a command: how many ids of expired and of dropped items it has room for
+pub record RoomState : Type 0 where
+  pub expired : ℕ
+  pub dropped : ℕ
+
 -- a hop that nothing has come to
 abbrev pub new_hop : {P : Type 0} → HopState P
-new_hop = record { queue = []; flight = []; codel = new_codel; moment = 0; taken = 0; dropped = 0; released = 0 }
+new_hop = record {
+  queue = [];
+  flight = [];
+  codel = new_codel;
+  moment = 0;
+  taken = 0;
+  dropped = 0;
+  expired = 0;
+  released = 0;
+}
 
 -- a spool that nothing has come to
 abbrev pub new_state : {P : Type 0} → Params → State P

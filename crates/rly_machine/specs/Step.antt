@@ -1,46 +1,53 @@
 -- The machine step: what each command does to a state, and the room that it needs.
-use Rattle.std.specs.Prelude.{ℕ, ◌≡◌, ◌-◌, ◌<◌, ◌≤◌, ◌⊎◌, slice_index, None}
+use Rattle.std.specs.Prelude.{ℕ, ◌≡◌, ◌+◌, ◌-◌, ◌<◌, ◌≤◌, ◌⊎◌, slice_index, None}
 use Rattle.rly_core.specs.declared.ids.HopId.{HopId}
 use Rattle.rly_machine.specs.declared.command.Command.{Command}
 use Rattle.rly_machine.specs.declared.command.Command.TheVariants.{Take, Pick, Release}
 use Rattle.rly_machine.specs.declared.reply.Reply.{Reply}
-use Rattle.rly_machine.specs.State.{State, Spool, hop_at}
+use Rattle.rly_machine.specs.State.{RoomState, State, Spool, hop_at}
+use Rattle.rly_machine.specs.Expiry.{expired_count}
 use Rattle.rly_machine.specs.Take.{take_refusal, take_step}
-use Rattle.rly_machine.specs.Pick.{outcome_of, pick_refusal, pick_step}
+use Rattle.rly_machine.specs.Pick.{pick_outcome, pick_refusal, pick_step}
 use Rattle.rly_machine.specs.Release.{release_step}
 
 -- the state after a command, and the reply to it; len gives a payload's length
 abbrev pub step : {P : Type 0} → (P → ℕ) → State P → Command P → State P × Reply
-step len s (Take peer number hop stamp payload) = take_step len s peer number hop stamp payload
+step len s (Take peer number hop stamp limit payload) = take_step len s peer number hop stamp limit payload
 step len s (Pick hop now) = pick_step len s hop now
 step len s (Release hop number) = release_step s hop number
 
--- how many items a Pick drops that no check refuses
-abbrev pub drops_of : {P : Type 0} → (P → ℕ) → State P → HopId → ℕ → ℕ
-drops_of len s hop now = (outcome_of len s.params (hop_at s hop) now).dropped
+-- how many items expire at a Pick that no check refuses, and how many it drops of those after them
+abbrev pub expires_of : {P : Type 0} → State P → HopId → ℕ → ℕ
+expires_of s hop now = expired_count (hop_at s hop) now
 
--- how many ids the reply to a command lists: those of the items that a Pick drops
+abbrev pub drops_of : {P : Type 0} → (P → ℕ) → State P → HopId → ℕ → ℕ
+drops_of len s hop now = (pick_outcome len s.params (hop_at s hop) now).dropped
+
+-- how many ids the reply to a command lists: those of the items that expire at a Pick, and of those that it drops
 abbrev pub listed_count : {P : Type 0} → (P → ℕ) → State P → Command P → ℕ
-listed_count len s (Take peer number hop stamp payload) = 0
-listed_count len s (Pick hop now) = drops_of len s hop now
+listed_count len s (Take peer number hop stamp limit payload) = 0
+listed_count len s (Pick hop now) = expires_of s hop now + drops_of len s hop now
 listed_count len s (Release hop number) = 0
 
 -- there is room for a command, so that it takes no memory: for a Take that no check refuses one more place in its
--- hop's queue; for a Pick that no check refuses one more place in its hop's flight, and as many ids as it drops
-abbrev pub HasRoom : {P : Type 0} → (P → ℕ) → Spool P → ℕ → Command P → Type 0
-HasRoom len spool ids (Take peer number hop stamp payload) =
-    take_refusal len spool.state peer number hop stamp (len payload) ≡ None
+-- hop's queue; for a Pick that no check refuses one more place in its hop's flight, and in each list as many ids as it
+-- lists there
+abbrev pub HasRoom : {P : Type 0} → (P → ℕ) → Spool P → RoomState → Command P → Type 0
+HasRoom len spool room (Take peer number hop stamp limit payload) =
+    take_refusal len spool.state peer number hop stamp limit (len payload) ≡ None
     → 0 < slice_index spool.queue_spare (hop.0 - 1)
-HasRoom len spool ids (Pick hop now) = pick_refusal spool.state hop now ≡ None
-    → (0 < slice_index spool.flight_spare (hop.0 - 1)) × (drops_of len spool.state hop now ≤ ids)
-HasRoom len spool ids (Release hop number) = Unit {0}
+HasRoom len spool room (Pick hop now) = pick_refusal spool.state hop now ≡ None
+    → (0 < slice_index spool.flight_spare (hop.0 - 1)) × (expires_of spool.state hop now ≤ room.expired)
+    × (drops_of len spool.state hop now ≤ room.dropped)
+HasRoom len spool room (Release hop number) = Unit {0}
 
 -- a command for which memory is wanted: a Take that no check refuses and whose hop's queue has no spare place; and a
--- Pick that no check refuses and whose hop's flight has no spare place, or which drops items, whose ids it lists
+-- Pick that no check refuses and whose hop's flight has no spare place, or at which items expire or are dropped, whose
+-- ids it lists
 abbrev pub NeedsRoom : {P : Type 0} → (P → ℕ) → Spool P → Command P → Type 0
-NeedsRoom len spool (Take peer number hop stamp payload) =
-    (take_refusal len spool.state peer number hop stamp (len payload) ≡ None)
+NeedsRoom len spool (Take peer number hop stamp limit payload) =
+    (take_refusal len spool.state peer number hop stamp limit (len payload) ≡ None)
     × (slice_index spool.queue_spare (hop.0 - 1) ≡ 0)
 NeedsRoom len spool (Pick hop now) = (pick_refusal spool.state hop now ≡ None)
-    × ((slice_index spool.flight_spare (hop.0 - 1) ≡ 0) ⊎ (0 < drops_of len spool.state hop now))
+    × ((slice_index spool.flight_spare (hop.0 - 1) ≡ 0) ⊎ (0 < listed_count len spool.state (Pick hop now)))
 NeedsRoom len spool (Release hop number) = ⊥

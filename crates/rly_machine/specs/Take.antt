@@ -15,11 +15,12 @@ abbrev pub is_full : {P : Type 0} → (P → ℕ) → State P → ℕ → Bool
 is_full len s bytes = nat_le s.params.items (live_items s) || nat_lt s.params.bytes (live_bytes len s + bytes)
 
 -- the checks of Take
-abbrev pub take_refusal : {P : Type 0} → (P → ℕ) → State P → PeerId → ℕ → HopId → ℕ → ℕ → Option Reply
-take_refusal len s peer number hop stamp bytes =
+abbrev pub take_refusal : {P : Type 0} → (P → ℕ) → State P → PeerId → ℕ → HopId → ℕ → ℕ → ℕ → Option Reply
+take_refusal len s peer number hop stamp limit bytes =
     if not (has_peer s peer) then Some (Refused NoSuchPeer)
     else if not (has_hop s hop) then Some (Refused NoSuchHop)
     else if nat_le (2 ^ 52) stamp then Some (Refused BadMoment)
+    else if nat_le (2 ^ 40) limit then Some (Refused BadMoment)
     else if nat_lt 1200 bytes then Some (Refused TooLong)
     else if nat_le number (last_at s peer) then Some (Already (last_at s peer))
     else if nat_lt (last_at s peer + 1) number then Some (Refused (Gap (last_at s peer + 1)))
@@ -28,18 +29,19 @@ take_refusal len s peer number hop stamp bytes =
     else None
 
 -- a hop that took a payload at the back of its queue, not before its last moment
-abbrev pub with_taken : {P : Type 0} → HopState P → (id stamp : ℕ) → P → HopState P
-with_taken h id stamp payload = record h {
-  queue = h.queue ++ (record { id = id; stamp = max stamp h.moment; payload = payload }) ∷ [];
+abbrev pub with_taken : {P : Type 0} → HopState P → (id stamp limit : ℕ) → P → HopState P
+with_taken h id stamp limit payload = record h {
+  queue = h.queue ++ (record { id = id; stamp = max stamp h.moment; limit = limit; payload = payload }) ∷ [];
   moment = max stamp h.moment;
   taken = h.taken + 1;
 }
 
 -- Take: a datagram comes in
-abbrev pub take_step : {P : Type 0} → (P → ℕ) → State P → PeerId → ℕ → HopId → ℕ → P → State P × Reply
-take_step len s peer number hop stamp payload = unless (take_refusal len s peer number hop stamp (len payload)) s (
-  record (accept s hop (with_taken (hop_at s hop) (s.seq + 1) stamp payload)) {
-    lasts = slice_set s.lasts (peer.0 - 1) number;
-  },
-  Taken (s.seq + 1),
-)
+abbrev pub take_step : {P : Type 0} → (P → ℕ) → State P → PeerId → ℕ → HopId → ℕ → ℕ → P → State P × Reply
+take_step len s peer number hop stamp limit payload =
+    unless (take_refusal len s peer number hop stamp limit (len payload)) s (
+      record (accept s hop (with_taken (hop_at s hop) (s.seq + 1) stamp limit payload)) {
+        lasts = slice_set s.lasts (peer.0 - 1) number;
+      },
+      Taken (s.seq + 1),
+    )

@@ -14,10 +14,13 @@ pub enum Command<C> {
         hop: HopId,
         /// When it came, in microseconds of the hop's link clock.
         stamp: u64,
+        /// How long it may wait in the queue before a Pick takes it away, in microseconds of the hop's link clock; 0 for no limit.
+        limit: u64,
         /// What it carries.
         payload: C,
     },
-    /// A contact of a hop is open: what CoDel lets through goes into flight.
+    /// A contact of a hop is open: what is past its limit at the front of the queue expires, and what CoDel lets through of the
+    /// rest goes into flight.
     Pick {
         /// The hop whose queue is picked from.
         hop: HopId,

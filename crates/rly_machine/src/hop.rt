@@ -1,5 +1,6 @@
-ghost use Rattle.std.specs.Prelude.{◌≡◌, ◌+◌, ◌<◌, ◌≤◌, ◌^◌, [], ◌++◌, OnErr, OnOk, Some, drop, length, map, max, take, vec_capacity, vec_len};
+ghost use Rattle.std.specs.Prelude.{◌≡◌, ◌+◌, ◌<◌, ◌≤◌, ◌^◌, [], All, OnErr, OnOk, Some, drop, length, map, max, take, vec_capacity};
 ghost use Rattle.std.specs.VecDeque.{deque_capacity, deque_len};
+ghost use Rattle.rly_machine.specs.Expiry.{is_expired};
 ghost use Rattle.rly_machine.specs.State.{bytes_of};
 
 use crate::content::Content;
@@ -7,6 +8,7 @@ use crate::growth::reserve_one;
 use crate::lane::QueueLane;
 use crate::queue::Queue;
 use crate::reply::{HopStatus, Ids, Reply};
+use crate::room::Room;
 use crate::rules::Rules;
 use rly_codel::{CodelState, dequeue_with};
 use std::alloc::{AllocError, Global};
@@ -19,6 +21,8 @@ pub struct Item<C> {
     pub id: u64,
     /// When it came, in microseconds of the hop's link clock.
     pub stamp: u64,
+    /// How long it may wait, in microseconds of the hop's link clock; 0 for no limit.
+    pub limit: u64,
     /// What it carries.
     pub payload: C,
 }
@@ -38,6 +42,8 @@ pub struct Hop<C: Content> {
     pub taken: u64,
     /// Datagrams dropped by CoDel.
     pub dropped: u64,
+    /// Datagrams that were past their limit when a Pick came.
+    pub expired: u64,
     /// Datagrams that the next hop took custody of.
     pub released: u64,
 }
@@ -60,6 +66,7 @@ impl<C: Content> Hop<C> {
             moment: 0,
             taken: 0,
             dropped: 0,
+            expired: 0,
             released: 0,
         }
     }
@@ -73,6 +80,7 @@ impl<C: Content> Hop<C> {
             queued: self.queue.len() as u64,
             flight: self.flight.len() as u64,
             dropped: self.dropped,
+            expired: self.expired,
             released: self.released,
             codel: self.codel,
             moment: self.moment,
@@ -116,22 +124,28 @@ impl<C: Content> Hop<C> {
     }
 
     /// Puts a datagram at the back of the queue, not before the last moment.
-    pub(crate) fn take(&mut self, id: u64, stamp: u64, payload: C)
+    pub(crate) fn take(&mut self, id: u64, stamp: u64, limit: u64, payload: C)
         requires room { 0 < self.old.queue.spare }
         requires count { self.old.taken + 1 < 2 ^ 64 }
-        ensures { hop_state self.new ≡ with_taken (hop_state self.old) id stamp payload }
+        ensures { hop_state self.new ≡ with_taken (hop_state self.old) id stamp limit payload }
     {
         let stamp = stamp.max(self.moment);
         self.moment = stamp;
         self.taken += 1;
-        self.queue.push_back_reserved(Item { id, stamp, payload });
+        self.queue.push_back_reserved(Item {
+            id,
+            stamp,
+            limit,
+            payload,
+        });
     }
 }
 
 impl<C: Content> Hop<C> {
     ghost use Rattle.rly_machine.specs.Kept.{hop_state};
     ghost use Rattle.rly_machine.specs.Accepted.{max_seq};
-    ghost use Rattle.rly_machine.specs.Pick.{outcome_of, pick_reply, picked_reply, waiting_of, with_dropped, with_picked, with_sent};
+    ghost use Rattle.rly_machine.specs.Expiry.{expired_count, with_expired};
+    ghost use Rattle.rly_machine.specs.Pick.{after_pick, outcome_of, pick_outcome, pick_reply, picked_reply, with_sent};
     ghost use Rattle.rly_machine.specs.Sound.{IsSoundHop};
     ghost use Rattle.rly_machine.specs.Release.{with_released};
     ghost use Rattle.rly_machine.specs.Relocate.{carried_at, with_relocated};
@@ -185,56 +199,78 @@ impl<C: Content> Hop<C> {
         bytes
     }
 
-    /// Picks at a moment, not before the last one: CoDel drops what is due, and the datagram after
-    /// goes into flight. Answers the reply, and how many datagrams and payload bytes were dropped.
-    pub(crate) fn pick(&mut self, now: u64, rules: &Rules, ids: Vec<u64>) -> (Reply, Dropped)
+    /// Picks at a moment, not before the last one: what is past its limit expires, CoDel drops what is due of the rest, and the
+    /// datagram after goes into flight. Answers the reply, and how many datagrams and payload bytes expired or were dropped.
+    pub(crate) fn pick(&mut self, now: u64, rules: &Rules, room: Room) -> (Reply, Gone)
         requires params { IsWithinLimits rules.now }
         requires moment { now < 2 ^ 52 }
         requires sound { IsSoundHop C.length_of rules.now max_seq (hop_state self.old) }
         requires bytes { bytes_of C.length_of self.old.queue.items < 2 ^ 64 }
         requires flight { deque_len self.old.flight < deque_capacity self.old.flight }
-        requires no_ids { ids.items ≡ [] }
-        requires room { (outcome_of C.length_of rules.now (hop_state self.old) now).dropped ≤ vec_capacity ids }
-        ensures hop { hop_state self.new ≡ with_picked (hop_state self.old) now (outcome_of C.length_of rules.now (hop_state self.old) now) }
-        ensures reply { result.0 ≡ pick_reply (hop_state self.old) (outcome_of C.length_of rules.now (hop_state self.old) now).dropped }
-        ensures items { result.1.items ≡ (outcome_of C.length_of rules.now (hop_state self.old) now).dropped }
-        ensures bytes { result.1.bytes ≡ bytes_of C.length_of (take (outcome_of C.length_of rules.now (hop_state self.old) now).dropped self.old.queue.items) }
+        requires room { (expired_count (hop_state self.old) now ≤ room.expired)
+            × ((pick_outcome C.length_of rules.now (hop_state self.old) now).dropped ≤ room.dropped) }
+        ensures hop { hop_state self.new ≡ after_pick C.length_of rules.now (hop_state self.old) now }
+        ensures reply { result.0 ≡ pick_reply (hop_state self.old) (expired_count (hop_state self.old) now)
+            (pick_outcome C.length_of rules.now (hop_state self.old) now).dropped }
+        ensures items { result.1.items ≡ expired_count (hop_state self.old) now
+            + (pick_outcome C.length_of rules.now (hop_state self.old) now).dropped }
+        ensures bytes { result.1.bytes ≡ bytes_of C.length_of (take (expired_count (hop_state self.old) now
+            + (pick_outcome C.length_of rules.now (hop_state self.old) now).dropped) self.old.queue.items) }
     {
         let number = self.next_number();
-        let (codel, count) = self.decide(now, rules);
+        let late = self.expired_count(now);
+        let (codel, drops) = self.decide(now, late, rules);
         self.codel = codel;
         self.moment = now.max(self.moment);
-        let mut ids = ids;
-        let dropped = self.drop_front(count, &mut ids);
-        (self.send(number, ids), dropped)
+        let (mut expired, mut dropped) = room.into_lists();
+        let first = self.take_front(late, &mut expired);
+        self.expired += first.items;
+        let second = self.take_front(drops, &mut dropped);
+        self.dropped += second.items;
+        (self.send(number, expired, dropped), first.and(second))
     }
 
-    /// What CoDel decides at a moment, not before the last one: the state that it would leave, and how many datagrams it would
-    /// drop. Nothing changes.
-    pub(crate) fn decide(&self, now: u64, rules: &Rules) -> (CodelState, usize)
+    /// How many datagrams at the front of the queue are past their limit at a moment, not before the last one.
+    pub(crate) fn expired_count(&self, now: u64) -> usize
+        requires sound { All (λ item. item.stamp ≤ self.now.moment) self.now.queue.items }
+        ensures count { result ≡ expired_count (hop_state self.now) now }
+        ensures within { result ≤ length self.now.queue.items }
+    {
+        let moment = now.max(self.moment);
+        for index in 0..self.queue.len() {
+            if !is_expired(self.queue.item(index), moment) {
+                return index;
+            }
+        }
+        self.queue.len()
+    }
+
+    /// What CoDel decides at a moment, not before the last one, of what is left once the first so many expired: the state that it
+    /// would leave, and how many datagrams it would drop. Nothing changes.
+    pub(crate) fn decide(&self, now: u64, from: usize, rules: &Rules) -> (CodelState, usize)
         requires params { IsWithinLimits rules.now }
         requires moment { now < 2 ^ 52 }
         requires sound { IsSoundHop C.length_of rules.now max_seq (hop_state self.now) }
         requires bytes { bytes_of C.length_of self.now.queue.items < 2 ^ 64 }
-        ensures state { result.0 ≡ (outcome_of C.length_of rules.now (hop_state self.now) now).state }
-        ensures dropped { result.1 ≡ (outcome_of C.length_of rules.now (hop_state self.now) now).dropped }
-        ensures within { result.1 ≤ length self.now.queue.items }
+        requires from { from ≤ length self.now.queue.items }
+        ensures state { result.0 ≡ (outcome_of C.length_of rules.now (with_expired (hop_state self.now) from) now).state }
+        ensures dropped { result.1 ≡ (outcome_of C.length_of rules.now (with_expired (hop_state self.now) from) now).dropped }
+        ensures within { result.1 ≤ length (drop from self.now.queue.items) }
     {
         let now = now.max(self.moment);
         let mut codel = self.codel;
-        let lane = QueueLane::new(&self.queue);
+        let lane = QueueLane::new(&self.queue, from);
         let verdict = dequeue_with(&mut codel, &lane, now, &rules.params(), rules.steps());
         (codel, verdict.dropped)
     }
 
-    /// Drops the first so many of the queue, and lists their ids.
-    fn drop_front(&mut self, count: usize, ids: &mut Vec<u64>) -> Dropped
+    /// Takes the first so many out of the queue, and lists their ids.
+    fn take_front(&mut self, count: usize, ids: &mut Vec<u64>) -> Gone
         requires count { count ≤ length self.old.queue.items }
         requires bytes { bytes_of C.length_of self.old.queue.items < 2 ^ 64 }
-        requires fits { self.old.dropped + count < 2 ^ 64 }
         requires no_ids { ids.old.items ≡ [] }
         requires room { count ≤ vec_capacity ids.old }
-        ensures hop { hop_state self.new ≡ with_dropped (hop_state self.old) count }
+        ensures hop { hop_state self.new ≡ record (hop_state self.old) { queue = drop count self.old.queue.items } }
         ensures capacity { deque_capacity self.new.flight ≡ deque_capacity self.old.flight }
         ensures ids { ids.new.items ≡ map (λ item. item.id) (take count self.old.queue.items) }
         ensures items { result.items ≡ count }
@@ -247,30 +283,40 @@ impl<C: Content> Hop<C> {
                 bytes += item.payload.len() as u64;
             }
         }
-        self.dropped += count as u64;
-        Dropped {
+        Gone {
             items: count as u64,
             bytes,
         }
     }
 
     /// Moves the first of the queue, if there is one, into flight under a number.
-    fn send(&mut self, number: u64, dropped: Vec<u64>) -> Reply
+    fn send(&mut self, number: u64, expired: Vec<u64>, dropped: Vec<u64>) -> Reply
         requires { deque_len self.old.flight < deque_capacity self.old.flight }
         ensures hop { hop_state self.new ≡ with_sent (hop_state self.old) }
-        ensures reply { result ≡ picked_reply number dropped.items self.old.queue.items }
+        ensures reply { result ≡ picked_reply number expired.items dropped.items self.old.queue.items }
     {
         let Some(item) = self.queue.pop_front() else {
-            return Reply::Nothing;
+            return Reply::Nothing {
+                expired: Ids::new(expired),
+            };
         };
         let id = item.id;
         self.flight.push_back_reserved(item);
         Reply::Picked {
             number,
             id,
+            expired: Ids::new(expired),
             dropped: Ids::new(dropped),
         }
     }
+}
+
+/// Whether a datagram is past its limit at a moment, not before it came.
+fn is_expired<C>(item: &Item<C>, now: u64) -> bool
+    requires { item.now.stamp ≤ now }
+    ensures { result ≡ is_expired now item.now }
+{
+    item.limit > 0 && now - item.stamp > item.limit
 }
 
 /// How many payload bytes items have.
@@ -286,9 +332,23 @@ fn payload_bytes<C: Content>(items: &VecDeque<Item<C>>) -> u64
     bytes
 }
 
-/// What CoDel dropped at one pick.
+/// What left a queue at one pick without being sent.
 #[derive(Clone, Copy, Debug, PartialEq, Eq)]
-pub(crate) struct Dropped {
+pub(crate) struct Gone {
     pub(crate) items: u64,
     pub(crate) bytes: u64,
+}
+
+impl Gone {
+    /// What both left out.
+    fn and(self, other: Gone) -> Gone
+        requires items { self.items + other.items < 2 ^ 64 }
+        requires bytes { self.bytes + other.bytes < 2 ^ 64 }
+        ensures { (result.items ≡ self.items + other.items) × (result.bytes ≡ self.bytes + other.bytes) }
+    {
+        Gone {
+            items: self.items + other.items,
+            bytes: self.bytes + other.bytes,
+        }
+    }
 }

@@ -1,4 +1,4 @@
-ghost use Rattle.std.specs.Prelude.{◌≡◌, ◌<◌, ◌^◌, List};
+ghost use Rattle.std.specs.Prelude.{◌≡◌, ◌+◌, ◌<◌, ◌≤◌, ◌^◌, List, drop, length};
 ghost use Rattle.rly_codel.specs.Waiting.{Waiting, waiting_bytes};
 ghost use Rattle.rly_machine.specs.Pick.{waiting_of};
 
@@ -7,26 +7,34 @@ use crate::queue::Queue;
 use rly_codel::Lane;
 use std::marker::Model;
 
-/// A hop's queue as CoDel sees it.
+/// A hop's queue as CoDel sees it, without so many at its front.
 #[derive(Drop)]
 pub(crate) struct QueueLane<'a, C: Content> {
     queue: &'a Queue<C>,
+    /// How many at the front aren't seen.
+    from: usize,
+    /// How many are.
+    count: usize,
 }
 
 impl<'a, C: Content> Model for QueueLane<'a, C> {
     ghost Value = { List Waiting };
 
-    ghost view = { λ lane. waiting_of C.length_of lane.queue.now.items };
+    ghost view = { λ lane. waiting_of C.length_of (drop lane.from lane.queue.now.items) };
 
-    ghost invariant = { λ lane. waiting_bytes (waiting_of C.length_of lane.queue.now.items) < 2 ^ 64 };
+    ghost invariant = { λ lane. (lane.from + lane.count ≡ length lane.queue.now.items) × (lane.from + lane.count < 2 ^ 63)
+        × (waiting_bytes (waiting_of C.length_of (drop lane.from lane.queue.now.items)) < 2 ^ 64) };
 }
 
 impl<'a, C: Content> QueueLane<'a, C> {
-    pub(crate) fn new(queue: &'a Queue<C>) -> QueueLane<'a, C>
-        requires { waiting_bytes (waiting_of C.length_of queue.now.items) < 2 ^ 64 }
-        ensures { result ≡ waiting_of C.length_of queue.now.items }
+    /// What waits after the first so many.
+    pub(crate) fn new(queue: &'a Queue<C>, from: usize) -> QueueLane<'a, C>
+        requires from { from ≤ length queue.now.items }
+        requires bytes { waiting_bytes (waiting_of C.length_of (drop from queue.now.items)) < 2 ^ 64 }
+        ensures { result ≡ waiting_of C.length_of (drop from queue.now.items) }
     {
-        QueueLane { queue }
+        let count = queue.len() - from;
+        QueueLane { queue, from, count }
     }
 }
 
@@ -34,14 +42,14 @@ impl<'a, C: Content> Lane for QueueLane<'a, C> {
     ghost waiting = { λ lane. lane };
 
     fn count(&self) -> usize {
-        self.queue.len()
+        self.count
     }
 
     fn stamp(&self, index: usize) -> u64 {
-        self.queue.item(index).stamp
+        self.queue.item(self.from + index).stamp
     }
 
     fn bytes_behind(&self, index: usize) -> u64 {
-        self.queue.bytes_behind(index)
+        self.queue.bytes_behind(self.from + index)
     }
 }

@@ -1,27 +1,38 @@
 //! Laws over the definitions, each the clause of a function that does nothing.
 
-ghost use Rattle.std.specs.Prelude.{◌≡◌, ◌≢◌, ◌+◌, ◌≤◌, ◌++◌, ℕ, IsTrue, List, Some, map};
+ghost use Rattle.std.specs.Prelude.{◌≡◌, ◌≢◌, ◌+◌, ◌<◌, ◌≤◌, ◌++◌, ℕ, IsTrue, List, Some, false, map, max, slice_get, true};
 ghost use Rattle.std.specs.List.{flat_map};
 ghost use Rattle.rly_core.specs.Limits.{IsWithinLimits};
 ghost use Rattle.rly_core.specs.declared.params.Params.{Params};
 ghost use Rattle.rly_core.specs.declared.ids.HopId.{HopId};
 ghost use Rattle.rly_machine.specs.Custody.{KeepsCustody, times, account_along};
+ghost use Rattle.rly_machine.specs.Expiry.{expired_count, is_expired};
 ghost use Rattle.rly_machine.specs.Fold.{fold};
 ghost use Rattle.rly_machine.specs.Map.{KeepsLengths, map_command, map_state, payload_of, payloads_of};
 ghost use Rattle.rly_machine.specs.Relocate.{carried_at, relocated};
 ghost use Rattle.rly_machine.specs.Sound.{IsSound};
-ghost use Rattle.rly_machine.specs.State.{State, has_hop, hop_at, live_line, new_state};
+ghost use Rattle.rly_machine.specs.State.{HopState, State, has_hop, hop_at, live_line, new_state};
 ghost use Rattle.rly_machine.specs.Step.{step};
 ghost use Rattle.rly_machine.specs.declared.command.Command.{Command};
+ghost use Rattle.rly_machine.specs.declared.hop.Item.{Item};
 
 use crate::content::Content;
 
 /// Whatever commands come to a new spool, its books balance: what each hop took waits, is in
-/// flight, was dropped or was released, the peers' numbers count what the hops took, and each limit
-/// is kept.
+/// flight, was dropped, expired or was released, the peers' numbers count what the hops took, and
+/// each limit is kept.
 pub fn law_balance<C: Content>()
     ensures { (params : Params) (commands : List (Command C)) → IsWithinLimits params
         → IsSound C.length_of (fold C.length_of (new_state params) commands) }
+{}
+
+/// What expires at a pick is the longest front of the queue whose items are all past their limit: each of them is, and the one
+/// after them, where there is one, isn't.
+pub fn law_expiry<C: Content>()
+    ensures all { (h : HopState C) (now k : ℕ) (item : Item C) → k < expired_count h now → slice_get h.queue k ≡ Some item
+        → is_expired (max now h.moment) item ≡ true }
+    ensures ends { (h : HopState C) (now : ℕ) (item : Item C) → slice_get h.queue (expired_count h now) ≡ Some item
+        → is_expired (max now h.moment) item ≡ false }
 {}
 
 /// A map of payloads that keeps the lengths of those that a state holds and a command brings goes through the step: the reply is
@@ -48,8 +59,8 @@ pub fn law_relocate<P: Content, Q: Content>()
         → map_state f (relocated s hop index content) ≡ map_state f s }
 {}
 
-/// Whatever commands come to a new spool, at each hop: each id that was answered Taken waits, or was
-/// dropped, or went into flight, as often as it was taken, which is once; those in flight are those
+/// Whatever commands come to a new spool, at each hop: each id that was answered Taken waits, was dropped,
+/// expired, or went into flight, as often as it was taken, which is once; those in flight are those
 /// that went into flight less those whose numbers were released; and custody numbers rise by one. No
 /// id is taken at two hops.
 pub fn law_custody<C: Content>()

@@ -27,7 +27,7 @@ pub use crate::command::{Ask, Command, Query};
 pub use crate::content::{Content, Payload};
 pub use crate::history_law::law_history;
 pub use crate::hop::{Hop, Item};
-pub use crate::laws::{law_balance, law_custody, law_map, law_relocate};
+pub use crate::laws::{law_balance, law_custody, law_expiry, law_map, law_relocate};
 pub use crate::machine::Machine;
 pub use crate::queue::Queue;
 pub use crate::reply::{HopStatus, Ids, Reply};

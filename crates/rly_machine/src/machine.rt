@@ -5,7 +5,7 @@ ghost use Rattle.rly_machine.specs.HelpersMachine.{IsHopAt};
 ghost use Rattle.rly_machine.specs.Kept.{hop_state};
 ghost use Rattle.rly_machine.specs.Sound.{IsSound};
 ghost use Rattle.rly_machine.specs.State.{has_hop, has_peer, hop_at, last_at, live_bytes, live_items, live_line, new_state};
-ghost use Rattle.rly_machine.specs.Step.{HasRoom, NeedsRoom, drops_of, listed_count, step};
+ghost use Rattle.rly_machine.specs.Step.{HasRoom, NeedsRoom, drops_of, expires_of, listed_count, step};
 ghost use Rattle.rly_machine.specs.Query.{item_of, show_reply, window_reply};
 ghost use Rattle.rly_machine.specs.Take.{take_refusal, take_step};
 ghost use Rattle.rly_machine.specs.Pick.{pick_refusal, pick_step};
@@ -173,7 +173,7 @@ impl<C: Content> Machine<C> {
     pub fn reserve_for(&mut self, alloc: Global, command: &Command<C>) -> Result<Room, AllocError>
         ensures state { self.new.state ≡ self.old.state }
         ensures room { IfOk result (λ room. HasRoom C.length_of self.new room command.now) }
-        ensures bounded { IfOk result (λ room. room ≤ listed_count C.length_of self.old.state command.now) }
+        ensures bounded { IfOk result (λ room. room.expired + room.dropped ≤ listed_count C.length_of self.old.state command.now) }
         ensures memory { OnErr result (NeedsRoom C.length_of self.old command.now) }
     {
         match command {
@@ -182,9 +182,17 @@ impl<C: Content> Machine<C> {
                 number,
                 hop,
                 stamp,
+                limit,
                 payload,
             } => {
-                let refusal = self.take_refusal(*peer, *number, *hop, *stamp, payload.len());
+                let refusal = self.take_refusal(
+                    *peer,
+                    *number,
+                    *hop,
+                    *stamp,
+                    *limit,
+                    payload.len(),
+                );
                 if refusal.is_some() {
                     return Ok(Room::none(alloc));
                 }
@@ -195,8 +203,8 @@ impl<C: Content> Machine<C> {
                 if self.pick_refusal(*hop, *now).is_some() {
                     return Ok(Room::none(alloc));
                 }
-                let drops = self.reserve_pick(*hop, *now)?;
-                Room::new(alloc, drops)
+                let (expired, dropped) = self.reserve_pick(*hop, *now)?;
+                Room::new(alloc, expired, dropped)
             }
             Command::Release { .. } => Ok(Room::none(alloc)),
         }
@@ -214,8 +222,9 @@ impl<C: Content> Machine<C> {
                 number,
                 hop,
                 stamp,
+                limit,
                 payload,
-            } => self.take(peer, number, hop, stamp, payload),
+            } => self.take(peer, number, hop, stamp, limit, payload),
             Command::Pick { hop, now } => self.pick(hop, now, room),
             Command::Release { hop, number } => self.release(hop, number),
         }
@@ -298,31 +307,42 @@ impl<C: Content> Machine<C> {
         self.hops[hop.0 as usize - 1].reserve_queue()
     }
 
-    /// Makes room in flight for a Pick that no check refuses, and answers how many datagrams it will drop.
-    fn reserve_pick(&mut self, hop: HopId, now: u64) -> Result<usize, AllocError>
+    /// Makes room in flight for a Pick that no check refuses, and answers how many datagrams will expire at it, and how many of
+    /// those after them it will drop.
+    fn reserve_pick(&mut self, hop: HopId, now: u64) -> Result<(usize, usize), AllocError>
         requires { pick_refusal self.old.state hop now ≡ None }
         ensures state { self.new.state ≡ self.old.state }
         ensures room { OnOk result (0 < slice_index self.new.flight_spare (hop.0 - 1)) }
-        ensures drops { IfOk result (λ count. count ≡ drops_of C.length_of self.old.state hop now) }
+        ensures expired { IfOk result (λ counts. counts.0 ≡ expires_of self.old.state hop now) }
+        ensures drops { IfOk result (λ counts. counts.1 ≡ drops_of C.length_of self.old.state hop now) }
         ensures memory { OnErr result (slice_index self.old.flight_spare (hop.0 - 1) ≡ 0) }
     {
         let hop = &mut self.hops[hop.0 as usize - 1];
-        let (_, drops) = hop.decide(now, &self.rules);
+        let late = hop.expired_count(now);
+        let (_, drops) = hop.decide(now, late, &self.rules);
         hop.reserve_flight()?;
-        Ok(drops)
+        Ok((late, drops))
     }
 
     /// Takes a datagram.
-    fn take(&mut self, peer: PeerId, number: u64, hop: HopId, stamp: u64, payload: C) -> Reply
-        requires { take_refusal C.length_of self.old.state peer number hop stamp (C.length_of payload) ≡ None
+    fn take(
+        &mut self,
+        peer: PeerId,
+        number: u64,
+        hop: HopId,
+        stamp: u64,
+        limit: u64,
+        payload: C,
+    ) -> Reply
+        requires { take_refusal C.length_of self.old.state peer number hop stamp limit (C.length_of payload) ≡ None
             → 0 < slice_index self.old.queue_spare (hop.0 - 1) }
-        ensures state { self.new.state ≡ (take_step C.length_of self.old.state peer number hop stamp payload).0 }
-        ensures reply { result ≡ (take_step C.length_of self.old.state peer number hop stamp payload).1 }
+        ensures state { self.new.state ≡ (take_step C.length_of self.old.state peer number hop stamp limit payload).0 }
+        ensures reply { result ≡ (take_step C.length_of self.old.state peer number hop stamp limit payload).1 }
     {
-        if let Some(reply) = self.take_refusal(peer, number, hop, stamp, payload.len()) {
+        if let Some(reply) = self.take_refusal(peer, number, hop, stamp, limit, payload.len()) {
             return reply;
         }
-        self.accept_take(peer, number, hop, stamp, payload)
+        self.accept_take(peer, number, hop, stamp, limit, payload)
     }
 
     /// The first check of a Take that fails.
@@ -332,9 +352,10 @@ impl<C: Content> Machine<C> {
         number: u64,
         hop: HopId,
         stamp: u64,
+        limit: u64,
         length: usize,
     ) -> Option<Reply>
-        ensures { result ≡ take_refusal C.length_of self.now.state peer number hop stamp length }
+        ensures { result ≡ take_refusal C.length_of self.now.state peer number hop stamp limit length }
     {
         let Some(from) = self.peer_index(peer) else {
             return Some(Reply::Refused(Refusal::NoSuchPeer));
@@ -343,6 +364,9 @@ impl<C: Content> Machine<C> {
             return Some(Reply::Refused(Refusal::NoSuchHop));
         }
         if stamp >= limits::MOMENT_LIMIT {
+            return Some(Reply::Refused(Refusal::BadMoment));
+        }
+        if limit >= limits::AGE_LIMIT {
             return Some(Reply::Refused(Refusal::BadMoment));
         }
         let length = length as u64;
@@ -373,11 +397,12 @@ impl<C: Content> Machine<C> {
         number: u64,
         hop: HopId,
         stamp: u64,
+        limit: u64,
         payload: C,
     ) -> Reply
         requires room { 0 < slice_index self.old.queue_spare (hop.0 - 1) }
-        requires accepted { take_refusal C.length_of self.old.state peer number hop stamp (C.length_of payload) ≡ None }
-        ensures state { self.new.state ≡ (take_step C.length_of self.old.state peer number hop stamp payload).0 }
+        requires accepted { take_refusal C.length_of self.old.state peer number hop stamp limit (C.length_of payload) ≡ None }
+        ensures state { self.new.state ≡ (take_step C.length_of self.old.state peer number hop stamp limit payload).0 }
         ensures reply { result ≡ Reply.Taken (self.old.state.seq + 1) }
     {
         let id = self.seq + 1;
@@ -385,7 +410,7 @@ impl<C: Content> Machine<C> {
         self.live_items += 1;
         self.live_bytes += payload.len() as u64;
         self.lasts[peer.0 as usize - 1] = number;
-        self.hops[hop.0 as usize - 1].take(id, stamp, payload);
+        self.hops[hop.0 as usize - 1].take(id, stamp, limit, payload);
         Reply::Taken(id)
     }
 
@@ -437,8 +462,8 @@ impl<C: Content> Machine<C> {
     /// Picks from a queue.
     fn pick(&mut self, hop: HopId, now: u64, room: Room) -> Reply
         requires { pick_refusal self.old.state hop now ≡ None
-            → (0 < slice_index self.old.flight_spare (hop.0 - 1))
-            × (drops_of C.length_of self.old.state hop now ≤ room) }
+            → (0 < slice_index self.old.flight_spare (hop.0 - 1)) × (expires_of self.old.state hop now ≤ room.expired)
+            × (drops_of C.length_of self.old.state hop now ≤ room.dropped) }
         ensures state { self.new.state ≡ (pick_step C.length_of self.old.state hop now).0 }
         ensures reply { result ≡ (pick_step C.length_of self.old.state hop now).1 }
     {
@@ -473,15 +498,16 @@ impl<C: Content> Machine<C> {
     /// Picks what no check refuses.
     fn accept_pick(&mut self, hop: HopId, now: u64, room: Room) -> Reply
         requires accepted { pick_refusal self.old.state hop now ≡ None }
-        requires room { (0 < slice_index self.old.flight_spare (hop.0 - 1)) × (drops_of C.length_of self.old.state hop now ≤ room) }
+        requires room { (0 < slice_index self.old.flight_spare (hop.0 - 1)) × (expires_of self.old.state hop now ≤ room.expired)
+            × (drops_of C.length_of self.old.state hop now ≤ room.dropped) }
         ensures state { self.new.state ≡ (pick_step C.length_of self.old.state hop now).0 }
         ensures reply { result ≡ (pick_step C.length_of self.old.state hop now).1 }
     {
         let hop = &mut self.hops[hop.0 as usize - 1];
-        let (reply, dropped) = hop.pick(now, &self.rules, room.into_ids());
+        let (reply, gone) = hop.pick(now, &self.rules, room);
         self.seq += 1;
-        self.live_items -= dropped.items;
-        self.live_bytes -= dropped.bytes;
+        self.live_items -= gone.items;
+        self.live_bytes -= gone.bytes;
         reply
     }
 }

@@ -16,7 +16,10 @@ impl Machine<Payload> {
     {
         match query {
             Query::Fetch { hop, number } => match self.item(hop, number) {
-                Ok(item) => Ok(Reply::Bytes(Payload::copy_of(alloc, item.payload.as_slice())?)),
+                Ok(item) => Ok(Reply::Bytes {
+                    payload: Payload::copy_of(alloc, item.payload.as_slice())?,
+                    limit: item.limit,
+                }),
                 Err(refusal) => Ok(Reply::Refused(refusal)),
             },
             Query::Window { hop } => Ok(self.ask_window(hop)),

@@ -18,17 +18,27 @@ pub enum Reply {
         number: u64,
         /// Its id.
         id: u64,
-        /// The ids of the datagrams that CoDel dropped before it, in order.
+        /// The ids of the datagrams that were past their limit, in order.
+        expired: Ids,
+        /// The ids of the datagrams that CoDel dropped of those after them, in order.
         dropped: Ids,
     },
-    /// The queue was empty.
-    Nothing,
+    /// Nothing waits, or nothing is left once those past their limit are gone.
+    Nothing {
+        /// The ids of the datagrams that were past their limit, in order.
+        expired: Ids,
+    },
     /// So many datagrams were released.
     Released(u64),
     /// Nothing in flight has a number that low.
     Unchanged,
-    /// The payload in flight under the number that was asked for.
-    Bytes(Payload),
+    /// The payload in flight under the number that was asked for, and its limit.
+    Bytes {
+        /// The payload.
+        payload: Payload,
+        /// How long it could wait in the queue, 0 for no limit.
+        limit: u64,
+    },
     /// The custody numbers in flight.
     WindowIs {
         /// The least of them, or `next` where there is none.
@@ -52,7 +62,7 @@ impl Reply {
     {
         matches!(
             self,
-            Reply::Taken(_) | Reply::Picked { .. } | Reply::Nothing | Reply::Released(_)
+            Reply::Taken(_) | Reply::Picked { .. } | Reply::Nothing { .. } | Reply::Released(_)
         )
     }
 }
@@ -68,6 +78,8 @@ pub struct HopStatus {
     pub flight: u64,
     /// Datagrams dropped by CoDel.
     pub dropped: u64,
+    /// Datagrams that were past their limit when a Pick came.
+    pub expired: u64,
     /// Datagrams that the next hop took custody of.
     pub released: u64,
     /// CoDel's state.

@@ -1,7 +1,8 @@
-//! Checkpoints, byte by byte.
+//! Checkpoints, byte by byte, in heads of both forms.
 use crate::commands::{run, take};
 use rly_checkpoint::{
-    DecodeFault, checkpoint_len, law_length, law_one_state, read_checkpoint, write_checkpoint,
+    DecodeFault, HeadForm, checkpoint_len, law_length, law_one_state, read_checkpoint,
+    write_checkpoint,
 };
 use rly_core::{HopId, Params};
 use rly_machine::{Command, Machine, Payload};
@@ -21,7 +22,23 @@ const PARAMS: Params = Params {
 };
 
 /// The checkpoint after `take 1 1 1 0 41`.
-const TAKEN: [u8; 107] = [
+const TAKEN: [u8; 102] = [
+    // one command was accepted, and the last number of peer 1 is 1
+    0, 0, 0, 0, 0, 0, 0, 1, 0, 0, 0, 0, 0, 0, 0, 1,
+    // the hop's last moment
+    0, 0, 0, 0, 0, 0, 0,
+    // CoDel's state
+    0, 0, 0, 0, 0, 0, 0, 0, 0, 0, 0, 0, 0, 0, 0, 0, 0, 0, 0, 0, 0, 0, 0, 0, 0, 0, 0,
+    // one datagram was taken, and none was dropped, was released or expired
+    0, 0, 0, 0, 0, 1, 0, 0, 0, 0, 0, 0, 0, 0, 0, 0, 0, 0, 0, 0, 0, 0, 0, 0,
+    // none is in flight, and one waits
+    0, 0, 0, 0, 0, 1,
+    // its id, stamp, limit, length and form, and its payload
+    0, 0, 0, 0, 0, 1, 0, 0, 0, 0, 0, 0, 0, 0, 0, 0, 0, 0, 0, 1, 0, 0x41,
+];
+
+/// The same in a head of the first form.
+const OLD_TAKEN: [u8; 107] = [
     // one command was accepted, and the last number of peer 1 is 1
     0, 0, 0, 0, 0, 0, 0, 1, 0, 0, 0, 0, 0, 0, 0, 1,
     // the hop's last moment
@@ -69,10 +86,10 @@ fn written(alloc: Global, machine: &Machine<Payload>) -> Result<Vec<u8>, AllocEr
     Ok(out)
 }
 
-/// Whether bytes are the checkpoint of no spool.
-fn is_malformed(alloc: Global, bytes: &[u8]) -> bool {
+/// Whether bytes are the checkpoint of no spool, in a head of a form.
+fn is_malformed(alloc: Global, form: HeadForm, bytes: &[u8]) -> bool {
     matches!(
-        read_checkpoint(alloc, PARAMS, bytes),
+        read_checkpoint(alloc, form, PARAMS, bytes),
         Err(DecodeFault::Malformed)
     )
 }
@@ -90,18 +107,25 @@ fn expect_written(
     Ok(())
 }
 
-/// Reads a checkpoint of so many commands, and writes it again.
-fn expect_read(rt: &impl Abort, alloc: Global, bytes: &[u8], seq: u64) -> Result<(), DecodeFault> {
-    let machine = read_checkpoint(alloc, PARAMS, bytes)?;
+/// Reads a checkpoint of a form, of so many commands, and writes what it stands for.
+fn expect_read(
+    rt: &impl Abort,
+    alloc: Global,
+    (form, bytes): (HeadForm, &[u8]),
+    seq: u64,
+    want: &[u8],
+) -> Result<(), DecodeFault> {
+    let machine = read_checkpoint(alloc, form, PARAMS, bytes)?;
     expect!(rt; machine.seq() == seq);
-    expect_written(rt, alloc, &machine, bytes)?;
+    expect_written(rt, alloc, &machine, want)?;
     Ok(())
 }
 
 #[test]
 fn an_empty_spool_has_zeros(rt: HostRuntime) -> Result<(), Fail> {
     let machine: Machine<Payload> = Machine::new(rt.alloc(), PARAMS)?;
-    expect_written(&rt, rt.alloc(), &machine, &[0; 87])?;
+    expect_written(&rt, rt.alloc(), &machine, &[0; 80])?;
+    expect_read(&rt, rt.alloc(), (HeadForm::First, &[0; 87]), 0, &[0; 80])?;
     Ok(())
 }
 
@@ -111,7 +135,8 @@ fn the_worked_checkpoint_is_written_and_read(rt: HostRuntime) -> Result<(), Fail
     let mut machine: Machine<Payload> = Machine::new(alloc, PARAMS)?;
     take_into(alloc, &mut machine, 1, &[0x41])?;
     expect_written(&rt, alloc, &machine, &TAKEN)?;
-    expect_read(&rt, alloc, &TAKEN, 1)?;
+    expect_read(&rt, alloc, (HeadForm::Second, &TAKEN), 1, &TAKEN)?;
+    expect_read(&rt, alloc, (HeadForm::First, &OLD_TAKEN), 1, &TAKEN)?;
     law_length();
     law_one_state();
     Ok(())
@@ -121,33 +146,133 @@ fn the_worked_checkpoint_is_written_and_read(rt: HostRuntime) -> Result<(), Fail
 fn what_was_written_is_read(rt: HostRuntime) -> Result<(), Fail> {
     let alloc = rt.alloc();
     let first = written(alloc, &spool(alloc)?)?;
-    assert!(rt; first.len() == 147);
-    expect_read(&rt, alloc, &first, 4)?;
+    assert!(rt; first.len() == 146);
+    expect_read(&rt, alloc, (HeadForm::Second, &first), 4, &first)?;
     Ok(())
 }
 
-/// The last command, which took a datagram at the last moment.
-#[test]
-fn the_last_numbers_are_read(rt: HostRuntime) -> Result<(), Fail> {
+/// The last command, which took a datagram at the last moment: the count of commands and the id are 2^48 - 1, the hop's moment and the
+/// stamp 2^52 - 1.
+fn last_taken() -> [u8; 102] {
     let mut bytes = TAKEN;
-    // the count of commands and the id are 2^48 - 1
+    for index in 2..8 {
+        bytes[index] = 0xff;
+        bytes[index + 78] = 0xff;
+    }
+    bytes[16] = 0x0f;
+    bytes[86] = 0x0f;
+    for index in 17..23 {
+        bytes[index] = 0xff;
+        bytes[index + 70] = 0xff;
+    }
+    bytes
+}
+
+/// The same in a head of the first form.
+fn old_last_taken() -> [u8; 107] {
+    let mut bytes = OLD_TAKEN;
     for index in 2..8 {
         bytes[index] = 0xff;
         bytes[index + 87] = 0xff;
     }
-    // the hop's moment and the stamp are 2^52 - 1
     bytes[17] = 0x0f;
     bytes[96] = 0x0f;
     for index in 18..24 {
         bytes[index] = 0xff;
         bytes[index + 79] = 0xff;
     }
-    expect_read(&rt, rt.alloc(), &bytes, 281_474_976_710_655)?;
+    bytes
+}
+
+#[test]
+fn the_last_numbers_are_read(rt: HostRuntime) -> Result<(), Fail> {
+    let (alloc, last) = (rt.alloc(), 281_474_976_710_655);
+    let mut bytes = last_taken();
+    expect_read(&rt, alloc, (HeadForm::Second, &bytes), last, &bytes)?;
+    let old = old_last_taken();
+    expect_read(&rt, alloc, (HeadForm::First, &old), last, &bytes)?;
+    // the greatest limit, 2^40 - 1
+    for index in 93..98 {
+        bytes[index] = 0xff;
+    }
+    expect_read(&rt, alloc, (HeadForm::Second, &bytes), last, &bytes)?;
+    Ok(())
+}
+
+/// Sets six bytes to a count near the greatest, 2^48 - 1, whose lowest byte is given.
+fn set_count(rt: &impl Abort, bytes: &mut [u8; 102], place: usize, low: u8) {
+    assert!(rt; place <= 96);
+    for index in 0..5 {
+        bytes[place + index] = 0xff;
+    }
+    bytes[place + 5] = low;
+}
+
+/// All datagrams but one have expired, or were dropped, or released: so many were taken as there may be commands. CoDel's counts are as
+/// great as they may be where they were dropped, and its moments are an interval after the last one.
+#[test]
+fn the_greatest_counts_are_read(rt: HostRuntime) -> Result<(), Fail> {
+    let (alloc, last) = (rt.alloc(), 281_474_976_710_655);
+    for place in [56, 62, 68] {
+        let mut bytes = last_taken();
+        // what the peer gave, what was taken, and what isn't there any more
+        set_count(&rt, &mut bytes, 10, 0xff);
+        set_count(&rt, &mut bytes, 50, 0xff);
+        set_count(&rt, &mut bytes, place, 0xfe);
+        expect_read(&rt, alloc, (HeadForm::Second, &bytes), last, &bytes)?;
+        // count and lastcount are at most what was dropped
+        set_count(&rt, &mut bytes, 37, 0xfe);
+        set_count(&rt, &mut bytes, 43, 0xfe);
+        expect!(rt; is_malformed(alloc, HeadForm::Second, &bytes) == (place != 56));
+    }
+    let mut bytes = last_taken();
+    for index in [23, 30] {
+        bytes[index] = 0x10;
+        bytes[index + 4] = 0x01;
+        bytes[index + 5] = 0x86;
+        bytes[index + 6] = 0x9f;
+    }
+    expect_read(&rt, alloc, (HeadForm::Second, &bytes), last, &bytes)?;
+    bytes[36] = 0xa0;
+    expect!(rt; is_malformed(alloc, HeadForm::Second, &bytes));
     Ok(())
 }
 
 /// Changes of single bytes of the worked checkpoint.
-const FOREIGN: [(usize, u8); 17] = [
+const FOREIGN: [(usize, u8); 21] = [
+    // fewer commands than datagrams, and more than there may be
+    (7, 0),
+    (1, 1),
+    // a peer's number above what was taken
+    (15, 2),
+    // moments that are none
+    (16, 0xff),
+    (16, 0x10),
+    // CoDel's moments, its counts, and a flag that is none
+    (23, 0xff),
+    (30, 0xff),
+    (42, 1),
+    (48, 1),
+    (49, 2),
+    // books that don't balance
+    (50, 0xff),
+    (61, 1),
+    (67, 1),
+    (73, 1),
+    // more entries than bytes
+    (74, 0xff),
+    (76, 0xff),
+    // an id of 0, one above all, and a stamp above the hop's moment
+    (85, 0),
+    (85, 2),
+    (92, 1),
+    // a length that isn't the payload's, and another form
+    (99, 0),
+    (100, 1),
+];
+
+/// The same in a head of the first form.
+const OLD_FOREIGN: [(usize, u8); 17] = [
     // fewer commands than datagrams, and more than there may be
     (7, 0),
     (1, 1),
@@ -179,21 +304,24 @@ const FOREIGN: [(usize, u8); 17] = [
 fn expect_malformed_with(
     rt: &impl Abort,
     alloc: Global,
-    bytes: &[u8],
+    (form, bytes): (HeadForm, &[u8]),
     change: (usize, u8),
 ) -> Result<(), AllocError> {
     let (index, value) = change;
     let mut changed = Vec::from_slice(alloc, bytes)?;
     assert!(rt; index < changed.len());
     changed[index] = value;
-    assert!(rt; is_malformed(alloc, &changed), "byte {index}");
+    assert!(rt; is_malformed(alloc, form, &changed), "byte {index}");
     Ok(())
 }
 
 #[test]
 fn foreign_bytes_are_malformed(rt: HostRuntime) -> Result<(), Fail> {
     for change in &FOREIGN {
-        expect_malformed_with(&rt, rt.alloc(), &TAKEN, *change)?;
+        expect_malformed_with(&rt, rt.alloc(), (HeadForm::Second, &TAKEN), *change)?;
+    }
+    for change in &OLD_FOREIGN {
+        expect_malformed_with(&rt, rt.alloc(), (HeadForm::First, &OLD_TAKEN), *change)?;
     }
     Ok(())
 }
@@ -203,9 +331,25 @@ fn other_lengths_are_malformed(rt: HostRuntime) -> Result<(), Fail> {
     let alloc = rt.alloc();
     let mut long = Vec::from_slice(alloc, &TAKEN)?;
     long.push(0)?;
-    expect!(rt; is_malformed(alloc, &long));
-    expect!(rt; is_malformed(alloc, &TAKEN[..106]));
-    expect!(rt; is_malformed(alloc, &[]));
+    expect!(rt; is_malformed(alloc, HeadForm::Second, &long));
+    expect!(rt; is_malformed(alloc, HeadForm::Second, &TAKEN[..101]));
+    let mut long = Vec::from_slice(alloc, &OLD_TAKEN)?;
+    long.push(0)?;
+    expect!(rt; is_malformed(alloc, HeadForm::First, &long));
+    expect!(rt; is_malformed(alloc, HeadForm::First, &OLD_TAKEN[..106]));
+    for form in [HeadForm::First, HeadForm::Second] {
+        expect!(rt; is_malformed(alloc, form, &[]));
+    }
+    Ok(())
+}
+
+/// What one form has is nothing in the other.
+#[test]
+fn the_forms_are_apart(rt: HostRuntime) -> Result<(), Fail> {
+    expect!(rt; is_malformed(rt.alloc(), HeadForm::First, &TAKEN));
+    expect!(rt; is_malformed(rt.alloc(), HeadForm::Second, &OLD_TAKEN));
+    expect!(rt; is_malformed(rt.alloc(), HeadForm::First, &[0; 80]));
+    expect!(rt; is_malformed(rt.alloc(), HeadForm::Second, &[0; 87]));
     Ok(())
 }
 
@@ -214,9 +358,9 @@ fn other_lengths_are_malformed(rt: HostRuntime) -> Result<(), Fail> {
 fn other_orders_are_malformed(rt: HostRuntime) -> Result<(), Fail> {
     let alloc = rt.alloc();
     let several = written(alloc, &spool(alloc)?)?;
-    expect!(rt; !is_malformed(alloc, &several));
-    for change in [(114, 1), (94, 3)] {
-        expect_malformed_with(&rt, alloc, &several, change)?;
+    expect!(rt; !is_malformed(alloc, HeadForm::Second, &several));
+    for change in [(107, 1), (85, 3)] {
+        expect_malformed_with(&rt, alloc, (HeadForm::Second, &several), change)?;
     }
     Ok(())
 }

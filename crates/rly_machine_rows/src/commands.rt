@@ -3,7 +3,7 @@ use rly_core::{HopId, PeerId};
 use rly_machine::{Command, Machine, Payload, Reply};
 use std::alloc::{AllocError, Global};
 
-/// Takes a datagram of peer 1.
+/// Takes a datagram of peer 1, without a limit.
 pub(crate) fn take(
     alloc: Global,
     number: u64,
@@ -17,6 +17,26 @@ pub(crate) fn take(
         number,
         hop: HopId(hop),
         stamp,
+        limit: 0,
+        payload,
+    })
+}
+
+/// Takes so many bytes 07 of peer 1 at hop 1, with a limit or without.
+pub(crate) fn take_within(
+    alloc: Global,
+    number: u64,
+    stamp: u64,
+    limit: u64,
+    length: usize,
+) -> Result<Command<Payload>, AllocError> {
+    let payload = Payload::new(vec![in alloc; 7u8; length]?);
+    Ok(Command::Take {
+        peer: PeerId(1),
+        number,
+        hop: HopId(1),
+        stamp,
+        limit,
         payload,
     })
 }

@@ -1,6 +1,6 @@
 //! The largest spool: each hop, peer and place that the limits allow is used, and nothing is refused for its size.
 use crate::commands::run;
-use rly_checkpoint::{checkpoint_len, read_checkpoint, write_checkpoint};
+use rly_checkpoint::{HeadForm, checkpoint_len, read_checkpoint, write_checkpoint};
 use rly_core::{HopId, Params, PeerId, Refusal, limits};
 use rly_machine::{Command, Machine, Payload, Query, Reply};
 use std::alloc::{AllocError, Global};
@@ -33,6 +33,7 @@ fn take_last(
         number,
         hop: HopId(64),
         stamp: number,
+        limit: 0,
         payload: Payload::new(vec![in alloc; 7u8; size]?),
     };
     run(alloc, machine, command)
@@ -72,13 +73,13 @@ fn written(
     Ok(out)
 }
 
-/// Its 710,752 bytes: 8, 8 for each peer, 71 for each hop, 19 for each datagram, and the payloads.
+/// Its 743,072 bytes: 8, 8 for each peer, 64 for each hop, 21 for each datagram, and the payloads.
 #[test]
 fn the_largest_checkpoint_is_written_and_read(rt: HostRuntime) -> Result<(), Fail> {
     let alloc = rt.alloc();
     let first = written(&rt, alloc, &filled(&rt, alloc)?)?;
-    expect!(rt; first.len() == 710_752);
-    let machine = read_checkpoint(alloc, LARGEST, &first)?;
+    expect!(rt; first.len() == 743_072);
+    let machine = read_checkpoint(alloc, HeadForm::Second, LARGEST, &first)?;
     expect!(rt; machine.seq() == 16_384 && machine.item_count() == 16_384);
     let second = written(&rt, alloc, &machine)?;
     expect!(rt; second.as_slice() == first.as_slice());
@@ -107,7 +108,7 @@ fn expect_fetched(
         number,
     };
     match &machine.answer(alloc, fetch)? {
-        Reply::Bytes(payload) => expect!(rt; payload.as_slice().len() == size),
+        Reply::Bytes { payload, .. } => expect!(rt; payload.as_slice().len() == size),
         _ => panic!(rt; "not fetched"),
     }
     Ok(())

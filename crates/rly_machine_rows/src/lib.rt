@@ -26,7 +26,11 @@ mod dequeues;
 #[cfg(test)]
 mod expect;
 #[cfg(test)]
+mod expiry;
+#[cfg(test)]
 mod extremes;
+#[cfg(test)]
+mod limited_records;
 #[cfg(test)]
 mod machine;
 #[cfg(test)]

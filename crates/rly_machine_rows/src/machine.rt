@@ -50,9 +50,11 @@ fn expect_pick(
         Reply::Picked {
             number,
             id,
+            expired,
             dropped,
         } => {
-            expect!(rt; *number == 1 && *id == 1 && dropped.as_slice().is_empty());
+            expect!(rt; *number == 1 && *id == 1);
+            expect!(rt; expired.as_slice().is_empty() && dropped.as_slice().is_empty());
         }
         _ => panic!(rt; "not picked"),
     }
@@ -108,11 +110,13 @@ fn expect_status(rt: &impl Abort, status: &HopStatus) {
         queued,
         flight,
         dropped,
+        expired,
         released,
         moment,
         ..
     } = *status;
-    expect!(rt; taken == 1 && queued == 0 && flight == 0 && dropped == 0 && released == 1);
+    expect!(rt; taken == 1 && queued == 0 && flight == 0 && released == 1);
+    expect!(rt; dropped == 0 && expired == 0);
     expect!(rt; moment == 900);
 }
 
@@ -146,13 +150,18 @@ const SMALL: Params = Params {
     ..Params::DEFAULT
 };
 
-/// A list of one item.
+/// A list of one item, without a limit.
 fn alone(alloc: Global, id: u64, stamp: u64, bytes: &[u8]) -> Result<Vec<Item<Payload>>, AllocError>
-    ensures { IfOk result (λ items. items.items ≡ (record { id = id; stamp = stamp; payload = bytes.now }) ∷ []) }
+    ensures { IfOk result (λ items. items.items ≡ (record { id = id; stamp = stamp; limit = 0; payload = bytes.now }) ∷ []) }
 {
     let payload = Payload::new(bytes.to_vec(alloc)?);
     let mut items = Vec::new(alloc);
-    items.push(Item { id, stamp, payload })?;
+    items.push(Item {
+        id,
+        stamp,
+        limit: 0,
+        payload,
+    })?;
     Ok(items)
 }
 
@@ -171,6 +180,7 @@ fn restored(alloc: Global) -> Result<Machine<Payload>, AllocError>
         moment: 20,
         taken: 3,
         dropped: 0,
+        expired: 0,
         released: 1,
     };
     Machine::restore(SMALL, 6, vec![in alloc; 3u64]?, vec![in alloc; hop]?)
@@ -185,6 +195,7 @@ fn restored_empty(alloc: Global) -> Result<Machine<Payload>, AllocError> {
         moment: 0,
         taken: 0,
         dropped: 0,
+        expired: 0,
         released: 0,
     };
     Machine::restore(SMALL, 0, vec![in alloc; 0u64]?, vec![in alloc; hop]?)

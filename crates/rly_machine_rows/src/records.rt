@@ -1,6 +1,6 @@
 //! Records and bodies of records, byte by byte.
 ghost use Rattle.std.specs.Prelude.{◌≤◌, length, IfOk};
-ghost use Rattle.rly_record.specs.Spelling.{IsShort};
+ghost use Rattle.rly_record.specs.Spelling.{IsRecordable};
 
 use rly_core::{HopId, PeerId};
 use rly_machine::{Command, Payload};
@@ -34,19 +34,20 @@ const TWO: [u8; 24] = [
 
 fn take(alloc: Global, payload: &[u8]) -> Result<Command<Payload>, AllocError>
     requires { length payload.now ≤ 1200 }
-    ensures { IfOk result IsShort }
+    ensures { IfOk result IsRecordable }
 {
     Ok(Command::Take {
         peer: PeerId(1),
         number: 1,
         hop: HopId(1),
         stamp: 0,
+        limit: 0,
         payload: Payload::new(Vec::from_slice(alloc, payload)?),
     })
 }
 
 fn pick() -> Command<Payload>
-    ensures { IsShort result }
+    ensures { IsRecordable result }
 {
     Command::Pick {
         hop: HopId(1),
@@ -55,7 +56,7 @@ fn pick() -> Command<Payload>
 }
 
 fn release() -> Command<Payload>
-    ensures { IsShort result }
+    ensures { IsRecordable result }
 {
     Command::Release {
         hop: HopId(1),
@@ -64,7 +65,7 @@ fn release() -> Command<Payload>
 }
 
 fn write_one(command: Command<Payload>, out: &mut Vec<u8>) -> Result<(), AllocError>
-    requires { IsShort command }
+    requires { IsRecordable command }
 {
     write_body(&[command], out)
 }
@@ -74,19 +75,19 @@ fn write_two(
     second: Command<Payload>,
     out: &mut Vec<u8>,
 ) -> Result<(), AllocError>
-    requires first { IsShort first }
-    requires second { IsShort second }
+    requires first { IsRecordable first }
+    requires second { IsRecordable second }
 {
     write_body(&[first, second], out)
 }
 
 /// Whether the bytes are refused as no body.
-fn is_malformed(alloc: Global, bytes: &[u8]) -> bool {
+pub(crate) fn is_malformed(alloc: Global, bytes: &[u8]) -> bool {
     matches!(read_body(alloc, bytes), Err(DecodeFault::Malformed))
 }
 
 /// Whether the bytes are refused as no record.
-fn is_no_record(alloc: Global, bytes: &[u8]) -> bool {
+pub(crate) fn is_no_record(alloc: Global, bytes: &[u8]) -> bool {
     matches!(read_command(alloc, bytes), Err(DecodeFault::Malformed))
 }
 
@@ -97,7 +98,7 @@ fn expect_record(
     command: &Command<Payload>,
     want: &[u8],
 ) -> Result<(), AllocError>
-    requires { IsShort command.now }
+    requires { IsRecordable command.now }
 {
     assert!(rt; record_len(command) == want.len());
     let mut out = Vec::new(alloc);
@@ -162,12 +163,14 @@ fn is_worked_take(command: &Command<Payload>) -> bool {
             number,
             hop,
             stamp,
+            limit,
             payload,
         } => {
             *peer == PeerId(1)
                 && *number == 1
                 && *hop == HopId(1)
                 && *stamp == 0
+                && *limit == 0
                 && payload.as_slice() == [0x41].as_slice()
         }
         _ => false,
@@ -289,7 +292,7 @@ fn a_body_has_1_to_64_records(rt: HostRuntime) -> Result<(), Fail> {
 }
 
 /// Whether a command is a Take of 1,200 bytes.
-fn has_longest_payload(command: &Command<Payload>) -> bool {
+pub(crate) fn has_longest_payload(command: &Command<Payload>) -> bool {
     matches!(command, Command::Take { payload, .. } if payload.as_slice().len() == 1_200)
 }
 
@@ -347,13 +350,14 @@ fn expect_long_take(rt: &impl Abort, alloc: Global, bytes: &[u8]) -> Result<(), 
         number,
         hop,
         stamp,
+        limit,
         payload,
     } = &command
     else {
         panic!(rt; "the record is a Take's");
     };
     expect!(rt; *peer == PeerId(0xfffe) && *number == u64::MAX);
-    expect!(rt; *hop == HopId(0xfffd) && *stamp == u64::MAX - 1);
+    expect!(rt; *hop == HopId(0xfffd) && *stamp == u64::MAX - 1 && *limit == 0);
     expect!(rt; payload.as_slice().iter().eq(bytes.iter().skip(23)));
     Ok(())
 }
@@ -387,6 +391,7 @@ fn lengths_of_records_over_another_content(rt: HostRuntime) {
         number: 1,
         hop: HopId(1),
         stamp: 0,
+        limit: 0,
         payload: Length { length: 1_200 },
     };
     expect!(rt; record_len(&command) == 1_223);

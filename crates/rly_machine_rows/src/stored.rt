@@ -1,9 +1,15 @@
-//! States whose payloads may be places on the device, byte by byte.
+//! States whose payloads may be places on the device, byte by byte, in heads of both forms.
+
+ghost use Rattle.std.specs.Prelude.{All};
+ghost use Rattle.rly_checkpoint.specs.Forms.{HaveForms};
+ghost use Rattle.rly_checkpoint.specs.Stored.{IsStorable};
+
 use rly_checkpoint::{
-    DecodeFault, Place, Stored, append_state, law_inline, law_one_spelling, most_len, read_state,
+    DecodeFault, HeadForm, Place, Stored, append_state, law_inline, law_one_spelling, most_len,
+    read_state,
 };
 use rly_core::{HopId, Params};
-use rly_machine::Machine;
+use rly_machine::{Machine, Reply};
 use std::alloc::{AllocError, Global};
 use std::process::Abort;
 use std::test::Fail;
@@ -20,7 +26,27 @@ const PARAMS: Params = Params {
 };
 
 /// One datagram was released, one is in flight whose two bytes lie at 300, and two wait.
-const SPELLED: [u8; 153] = [
+const SPELLED: [u8; 149] = [
+    // six commands were accepted, and the last number of peer 1 is 4
+    0, 0, 0, 0, 0, 0, 0, 6, 0, 0, 0, 0, 0, 0, 0, 4,
+    // the hop's last moment
+    0, 0, 0, 0, 0, 0, 20,
+    // CoDel's state
+    0, 0, 0, 0, 0, 0, 0, 0, 0, 0, 0, 0, 0, 0, 0, 0, 0, 0, 0, 0, 0, 0, 0, 0, 0, 0, 0,
+    // four datagrams were taken, none dropped, one released, and none has expired
+    0, 0, 0, 0, 0, 4, 0, 0, 0, 0, 0, 0, 0, 0, 0, 0, 0, 1, 0, 0, 0, 0, 0, 0,
+    // one is in flight, and two wait
+    0, 1, 0, 0, 0, 2,
+    // the id, stamp, limit, length, form and place of the first
+    0, 0, 0, 0, 0, 4, 0, 0, 0, 0, 0, 0, 10, 0, 0, 0, 0, 0, 0, 2, 1, 0, 0, 0, 1, 44,
+    // the id, stamp, limit, length and form of the second, and its payload
+    0, 0, 0, 0, 0, 5, 0, 0, 0, 0, 0, 0, 20, 0, 0, 0, 0, 0, 0, 1, 0, 0x43,
+    // the third, which has none
+    0, 0, 0, 0, 0, 6, 0, 0, 0, 0, 0, 0, 20, 0, 0, 0, 0, 0, 0, 0, 0,
+];
+
+/// The same in a head of the first form.
+const OLD_SPELLED: [u8; 153] = [
     // six commands were accepted, and the last number of peer 1 is 4
     0, 0, 0, 0, 0, 0, 0, 6, 0, 0, 0, 0, 0, 0, 0, 4,
     // the hop's last moment
@@ -40,13 +66,16 @@ const SPELLED: [u8; 153] = [
     0, 0, 0, 0, 0, 0, 0, 6, 0, 0, 0, 0, 0, 0, 0, 20, 0, 0, 0,
 ];
 
-/// Where the length of the first entry ends, and where the form of the third one stands.
-const FIRST_LENGTH: usize = 104;
+/// Where the length of the first entry ends.
+const FIRST_LENGTH: usize = 99;
 
-const THIRD_FORM: usize = 152;
+/// Where the form of the third one stands.
+const THIRD_FORM: usize = 148;
 
 /// A spool is spelled in the room that it has at most.
-fn spelled(alloc: Global, machine: &Machine<Stored>) -> Result<Vec<u8>, AllocError> {
+fn spelled(alloc: Global, machine: &Machine<Stored>) -> Result<Vec<u8>, AllocError>
+    requires { All (HaveForms (IsStorable HeadForm.Second)) machine.now.state.hops }
+{
     let mut out = Vec::with_capacity(alloc, most_len(machine) as usize)?;
     append_state(machine, &mut out);
     Ok(out)
@@ -74,15 +103,63 @@ fn a_state_with_places_is_read_and_spelled(rt: HostRuntime) -> Result<(), Fail> 
     let alloc = rt.alloc();
     law_inline();
     law_one_spelling::<Stored>();
-    let machine: Machine<Stored> = read_state(alloc, PARAMS, &SPELLED)?;
+    let machine: Machine<Stored> = read_state(alloc, HeadForm::Second, PARAMS, &SPELLED)?;
     expect_places(&rt, &machine);
     expect!(rt; spelled(alloc, &machine)?.as_slice() == SPELLED.as_slice());
     Ok(())
 }
 
-/// Whether bytes are read as no state.
+#[test]
+fn a_state_of_the_first_form_is_read(rt: HostRuntime) -> Result<(), Fail> {
+    let machine: Machine<Stored> = read_state(rt.alloc(), HeadForm::First, PARAMS, &OLD_SPELLED)?;
+    expect_places(&rt, &machine);
+    Ok(())
+}
+
+/// The state after one more was taken, which has expired. What is in flight has the greatest limit, and the greatest place.
+fn limited() -> [u8; 149] {
+    let mut bytes = SPELLED;
+    // the counts of commands, of the peer, of what was taken and of what has expired
+    bytes[7] = 7;
+    bytes[15] = 5;
+    bytes[55] = 5;
+    bytes[73] = 1;
+    for index in 93..98 {
+        bytes[index] = 0xff;
+        bytes[index + 8] = 0xff;
+    }
+    bytes
+}
+
+/// What is in flight has the greatest limit, and one has expired.
+fn expect_limited(rt: &impl Abort, machine: &Machine<Stored>) {
+    match machine.item(HopId(1), 2) {
+        Ok(item) => expect!(rt; item.limit == 1_099_511_627_775),
+        Err(refusal) => panic!(rt; "{refusal}"),
+    }
+    match machine.ask_show(HopId(1)) {
+        Reply::Shown(status) => expect!(rt; status.taken == 5 && status.expired == 1),
+        _ => panic!(rt; "no such hop"),
+    }
+}
+
+#[test]
+fn a_state_with_limits_is_read_and_spelled(rt: HostRuntime) -> Result<(), Fail> {
+    let (alloc, bytes) = (rt.alloc(), limited());
+    let machine: Machine<Stored> = read_state(alloc, HeadForm::Second, PARAMS, &bytes)?;
+    expect_limited(&rt, &machine);
+    expect!(rt; spelled(alloc, &machine)?.as_slice() == bytes.as_slice());
+    Ok(())
+}
+
+/// Whether bytes are read as no state, of the second form.
 fn is_malformed(alloc: Global, bytes: &[u8]) -> bool {
-    let read: Result<Machine<Stored>, DecodeFault> = read_state(alloc, PARAMS, bytes);
+    let read: Result<Machine<Stored>, DecodeFault> = read_state(
+        alloc,
+        HeadForm::Second,
+        PARAMS,
+        bytes,
+    );
     matches!(&read, Err(DecodeFault::Malformed))
 }
 

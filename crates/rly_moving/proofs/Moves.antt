@@ -15,7 +15,10 @@ use Rattle.rly_machine.specs.Sound.{IsSound}
 use Rattle.rly_machine.specs.State.{HopState, State, bytes_of, live_bytes, live_line}
 use Rattle.rly_machine.specs.declared.hop.Item.{Item}
 use Rattle.rly_checkpoint.specs.Checkpoint.{entry_spelled, hop_spelled, state_spelled}
-use Rattle.rly_checkpoint.specs.Stored.{stored_form, stored_length}
+use Rattle.rly_checkpoint.specs.Stored.{stored_form_of, stored_length, stored_spelled}
+use Rattle.rly_checkpoint.specs.Widths.{entry_width, hop_width}
+use Rattle.rly_checkpoint.specs.declared.head_form.HeadForm.{HeadForm}
+use Rattle.rly_checkpoint.specs.declared.head_form.HeadForm.TheVariants.{First, Second}
 use Rattle.rly_checkpoint.specs.declared.stored.Place.{Place}
 use Rattle.rly_checkpoint.specs.declared.stored.Stored.{Stored}
 use Rattle.rly_checkpoint.specs.declared.stored.Stored.TheVariants.{Inline, Placed}
@@ -36,165 +39,172 @@ use Rattle.rly_segment.specs.Heads.{segment_place}
 use Rattle.rly_segment.specs.Settling.{settled, settled_hop, settled_hops, settled_items, settled_state}
 use Rattle.rly_moving.specs.Moving.{LiesThere, MayMove, moved_state, unread}
 
--- an entry has a byte at least before its payload, which it has whole where it is inline
-form_least : (p : Stored) → 1 + inline_length p ≤ length (stored_form p)
-form_least (Inline payload) = omega arith
-form_least (Placed place) = let e : length (stored_form (Placed place)) ≡ 9 = refl in omega (arith, e)
+-- ---- a head of a form
 
-abbrev entries : List (Item Stored) → List ℕ
-entries = flat_map (entry_spelled stored_length stored_form)
+module _ (which : HeadForm) where
+  -- an entry has a byte at least before its payload, which it has whole where it is inline
+  form_least : (p : Stored) → 1 + inline_length p ≤ length (stored_form_of which p)
+  form_least (Inline payload) = omega arith
+  form_least (Placed place) = by_form which
+    where
+      by_form : (w : HeadForm) → 1 ≤ length (stored_form_of w (Placed place))
+      by_form First = let e : length (stored_form_of First (Placed place)) ≡ 9 = refl in omega (arith, e)
+      by_form Second = let e : length (stored_form_of Second (Placed place)) ≡ 6 = refl in omega (arith, e)
 
-abbrev spelled_hop : HopState Stored → List ℕ
-spelled_hop = hop_spelled stored_length stored_form
+  abbrev entries : List (Item Stored) → List ℕ
+  entries = flat_map (entry_spelled stored_length (stored_spelled which))
 
-entries_cons : (item : Item Stored) (items : List (Item Stored))
-    → length (entries (item ∷ items)) ≡ length (entry_spelled stored_length stored_form item) + length (entries items)
-entries_cons item items =
-    let one : Item Stored → List ℕ = entry_spelled stored_length stored_form in
-    ap (λ (l : List ℕ). length l) (flat_map-cons one item items) ∙ length-append (one item) (flat_map one items)
+  abbrev spelled_hop : HopState Stored → List ℕ
+  spelled_hop = hop_spelled stored_length (stored_spelled which)
 
-entries_both : (xs ys : List (Item Stored)) → length (entries (xs ++ ys)) ≡ length (entries xs) + length (entries ys)
-entries_both xs ys =
-    let one : Item Stored → List ℕ = entry_spelled stored_length stored_form in
-    ap (λ (l : List ℕ). length l) (flat_map-append one xs ys) ∙ length-append (flat_map one xs) (flat_map one ys)
+  entries_cons : (item : Item Stored) (items : List (Item Stored))
+      → length (entries (item ∷ items)) ≡ length (entry_spelled stored_length (stored_spelled which) item) + length (entries items)
+  entries_cons item items =
+      let one : Item Stored → List ℕ = entry_spelled stored_length (stored_spelled which) in
+      ap (λ (l : List ℕ). length l) (flat_map-cons one item items) ∙ length-append (one item) (flat_map one items)
 
-hops_cons : (h : HopState Stored) (hops : List (HopState Stored))
-    → length (flat_map spelled_hop (h ∷ hops)) ≡ length (spelled_hop h) + length (flat_map spelled_hop hops)
-hops_cons h hops = ap (λ (l : List ℕ). length l) (flat_map-cons spelled_hop h hops) ∙ length-append (spelled_hop h) (flat_map spelled_hop hops)
+  entries_both : (xs ys : List (Item Stored)) → length (entries (xs ++ ys)) ≡ length (entries xs) + length (entries ys)
+  entries_both xs ys =
+      let one : Item Stored → List ℕ = entry_spelled stored_length (stored_spelled which) in
+      ap (λ (l : List ℕ). length l) (flat_map-append one xs ys) ∙ length-append (flat_map one xs) (flat_map one ys)
 
--- what settles in a range of places
-module _ (from to : ℕ) where
-  -- ---- a sum over payloads
+  hops_cons : (h : HopState Stored) (hops : List (HopState Stored))
+      → length (flat_map spelled_hop (h ∷ hops)) ≡ length (spelled_hop h) + length (flat_map spelled_hop hops)
+  hops_cons h hops = ap (λ (l : List ℕ). length l) (flat_map-cons spelled_hop h hops) ∙ length-append (spelled_hop h) (flat_map spelled_hop hops)
 
-  module _ (v w : Stored → ℕ) (each : (at : ℕ) (p : Stored) → from ≤ at → at + inline_length p ≤ to → v (settled at p) ≡ w p) where
-    items_sum : (at : ℕ) (items : List (Item Stored)) → from ≤ at → at + length (entries items) ≤ to → bytes_of v (settled_items at items) ≡ bytes_of w items
-    items_sum at [] above within = refl
-    items_sum at (item ∷ items) above within =
-        let next : ℕ = at + length (entry_spelled stored_length stored_form item) in
-        let size : length (entry_spelled stored_length stored_form item) ≡ 18 + length (stored_form item.payload) = length-entry stored_length stored_form item in
-        omega (
-          arith,
-          sum_by-cons (λ (x : Item Stored). v x.payload) (map_item (settled (at + 19)) item) (settled_items next items),
-          sum_by-cons (λ (x : Item Stored). w x.payload) item items,
-          each (at + 19) item.payload (omega (arith, above)) (omega (arith, within, entries_cons item items, size, form_least item.payload)),
-          items_sum next items (omega (arith, above)) (omega (arith, within, entries_cons item items)),
-        )
+  -- what settles in a range of places
+  module _ (from to : ℕ) where
+    -- ---- a sum over payloads
 
-    hop_sum : (at : ℕ) (h : HopState Stored) → from ≤ at → at + length (spelled_hop h) ≤ to → bytes_of v (live_line (settled_hop at h)) ≡ bytes_of w (live_line h)
-    hop_sum at h above within =
-        let behind : ℕ = at + 71 + length (entries h.flight) in
-        let size : length (spelled_hop h) ≡ 71 + length (entries (live_line h)) = length-hop stored_length stored_form h in
-        omega (
-          arith,
-          sum_by-append (λ (x : Item Stored). v x.payload) (settled_items (at + 71) h.flight) (settled_items behind h.queue),
-          sum_by-append (λ (x : Item Stored). w x.payload) h.flight h.queue,
-          items_sum (at + 71) h.flight (omega (arith, above)) (omega (arith, within, size, entries_both h.flight h.queue)),
-          items_sum behind h.queue (omega (arith, above)) (omega (arith, within, size, entries_both h.flight h.queue)),
-        )
+    module _ (v w : Stored → ℕ) (each : (at : ℕ) (p : Stored) → from ≤ at → at + inline_length p ≤ to → v (settled at p) ≡ w p) where
+      items_sum : (at : ℕ) (items : List (Item Stored)) → from ≤ at → at + length (entries items) ≤ to → bytes_of v (settled_items which at items) ≡ bytes_of w items
+      items_sum at [] above within = refl
+      items_sum at (item ∷ items) above within =
+          let next : ℕ = at + length (entry_spelled stored_length (stored_spelled which) item) in
+          let size : length (entry_spelled stored_length (stored_spelled which) item) + 1 ≡ entry_width which + length (stored_form_of which item.payload) = length-entry stored_length (stored_spelled which) item in
+          omega (
+            arith,
+            sum_by-cons (λ (x : Item Stored). v x.payload) (map_item (settled (at + entry_width which)) item) (settled_items which next items),
+            sum_by-cons (λ (x : Item Stored). w x.payload) item items,
+            each (at + entry_width which) item.payload (omega (arith, above)) (omega (arith, within, entries_cons item items, size, form_least item.payload)),
+            items_sum next items (omega (arith, above)) (omega (arith, within, entries_cons item items)),
+          )
 
-    hops_sum : (at : ℕ) (hops : List (HopState Stored)) → from ≤ at → at + length (flat_map spelled_hop hops) ≤ to
-        → sum_by (λ h. bytes_of v (live_line h)) (settled_hops at hops) ≡ sum_by (λ h. bytes_of w (live_line h)) hops
-    hops_sum at [] above within = refl
-    hops_sum at (h ∷ hops) above within =
-        let next : ℕ = at + length (spelled_hop h) in
-        omega (
-          arith,
-          sum_by-cons (λ (x : HopState Stored). bytes_of v (live_line x)) (settled_hop at h) (settled_hops next hops),
-          sum_by-cons (λ (x : HopState Stored). bytes_of w (live_line x)) h hops,
-          hop_sum at h above (omega (arith, within, hops_cons h hops)),
-          hops_sum next hops (omega (arith, above)) (omega (arith, within, hops_cons h hops)),
-        )
+      hop_sum : (at : ℕ) (h : HopState Stored) → from ≤ at → at + length (spelled_hop h) ≤ to → bytes_of v (live_line (settled_hop which at h)) ≡ bytes_of w (live_line h)
+      hop_sum at h above within =
+          let behind : ℕ = at + hop_width which + length (entries h.flight) in
+          let size : length (spelled_hop h) ≡ hop_width which + length (entries (live_line h)) = length-hop stored_length (stored_spelled which) h in
+          omega (
+            arith,
+            sum_by-append (λ (x : Item Stored). v x.payload) (settled_items which (at + hop_width which) h.flight) (settled_items which behind h.queue),
+            sum_by-append (λ (x : Item Stored). w x.payload) h.flight h.queue,
+            items_sum (at + hop_width which) h.flight (omega (arith, above)) (omega (arith, within, size, entries_both h.flight h.queue)),
+            items_sum behind h.queue (omega (arith, above)) (omega (arith, within, size, entries_both h.flight h.queue)),
+          )
 
-  -- ---- what is true of each payload
+      hops_sum : (at : ℕ) (hops : List (HopState Stored)) → from ≤ at → at + length (flat_map spelled_hop hops) ≤ to
+          → sum_by (λ h. bytes_of v (live_line h)) (settled_hops which at hops) ≡ sum_by (λ h. bytes_of w (live_line h)) hops
+      hops_sum at [] above within = refl
+      hops_sum at (h ∷ hops) above within =
+          let next : ℕ = at + length (spelled_hop h) in
+          omega (
+            arith,
+            sum_by-cons (λ (x : HopState Stored). bytes_of v (live_line x)) (settled_hop which at h) (settled_hops which next hops),
+            sum_by-cons (λ (x : HopState Stored). bytes_of w (live_line x)) h hops,
+            hop_sum at h above (omega (arith, within, hops_cons h hops)),
+            hops_sum next hops (omega (arith, above)) (omega (arith, within, hops_cons h hops)),
+          )
 
-  module _ (S T : Stored → Type 0) (each : (at : ℕ) (p : Stored) → from ≤ at → at + inline_length p ≤ to → S p → T (settled at p)) where
-    items_all : (at : ℕ) (items : List (Item Stored)) → from ≤ at → at + length (entries items) ≤ to
-        → All (λ item. S item.payload) items → All (λ item. T item.payload) (settled_items at items)
-    items_all at [] above within all = All-nil (λ (item : Item Stored). T item.payload)
-    items_all at (item ∷ items) above within all =
-        let next : ℕ = at + length (entry_spelled stored_length stored_form item) in
-        let size : length (entry_spelled stored_length stored_form item) ≡ 18 + length (stored_form item.payload) = length-entry stored_length stored_form item in
-        All-cons (λ (x : Item Stored). T x.payload) (map_item (settled (at + 19)) item) (settled_items next items)
-        (each (at + 19) item.payload (omega (arith, above)) (omega (arith, within, entries_cons item items, size, form_least item.payload)) (All-head (λ (x : Item Stored). S x.payload) item items all))
-        (items_all next items (omega (arith, above)) (omega (arith, within, entries_cons item items)) (All-tail (λ (x : Item Stored). S x.payload) item items all))
+    -- ---- what is true of each payload
 
-    abbrev live_all : (Stored → Type 0) → HopState Stored → Type 0
-    live_all U h = All (λ (item : Item Stored). U item.payload) (live_line h)
+    module _ (S T : Stored → Type 0) (each : (at : ℕ) (p : Stored) → from ≤ at → at + inline_length p ≤ to → S p → T (settled at p)) where
+      items_all : (at : ℕ) (items : List (Item Stored)) → from ≤ at → at + length (entries items) ≤ to
+          → All (λ item. S item.payload) items → All (λ item. T item.payload) (settled_items which at items)
+      items_all at [] above within all = All-nil (λ (item : Item Stored). T item.payload)
+      items_all at (item ∷ items) above within all =
+          let next : ℕ = at + length (entry_spelled stored_length (stored_spelled which) item) in
+          let size : length (entry_spelled stored_length (stored_spelled which) item) + 1 ≡ entry_width which + length (stored_form_of which item.payload) = length-entry stored_length (stored_spelled which) item in
+          All-cons (λ (x : Item Stored). T x.payload) (map_item (settled (at + entry_width which)) item) (settled_items which next items)
+          (each (at + entry_width which) item.payload (omega (arith, above)) (omega (arith, within, entries_cons item items, size, form_least item.payload)) (All-head (λ (x : Item Stored). S x.payload) item items all))
+          (items_all next items (omega (arith, above)) (omega (arith, within, entries_cons item items)) (All-tail (λ (x : Item Stored). S x.payload) item items all))
 
-    hops_all : (at : ℕ) (hops : List (HopState Stored)) → from ≤ at → at + length (flat_map spelled_hop hops) ≤ to
-        → All (live_all S) hops → All (live_all T) (settled_hops at hops)
-    hops_all at [] above within all = All-nil (live_all T)
-    hops_all at (h ∷ hops) above within all =
-        let next : ℕ = at + length (spelled_hop h) in
-        let behind : ℕ = at + 71 + length (entries h.flight) in
-        let size : length (spelled_hop h) ≡ 71 + length (entries (live_line h)) = length-hop stored_length stored_form h in
-        let here : live_all S h = All-head (live_all S) h hops all in
-        let P : Item Stored → Type 0 = λ x. S x.payload in
-        let Q : Item Stored → Type 0 = λ x. T x.payload in
-        let flight : All P h.flight = subst (All P) (take-append_seam h.flight h.queue) (All-take P (length h.flight) (live_line h) here) in
-        let queue : All P h.queue = subst (All P) (drop-append_seam h.flight h.queue) (All-drop P (length h.flight) (live_line h) here) in
-        All-cons (live_all T) (settled_hop at h) (settled_hops next hops)
-        (All-append Q (settled_items (at + 71) h.flight) (settled_items behind h.queue)
-        (items_all (at + 71) h.flight (omega (arith, above)) (omega (arith, within, hops_cons h hops, size, entries_both h.flight h.queue)) flight)
-        (items_all behind h.queue (omega (arith, above)) (omega (arith, within, hops_cons h hops, size, entries_both h.flight h.queue)) queue))
-        (hops_all next hops (omega (arith, above)) (omega (arith, within, hops_cons h hops)) (All-tail (live_all S) h hops all))
+      abbrev live_all : (Stored → Type 0) → HopState Stored → Type 0
+      live_all U h = All (λ (item : Item Stored). U item.payload) (live_line h)
 
--- ---- a state whose head has room in a segment
+      hops_all : (at : ℕ) (hops : List (HopState Stored)) → from ≤ at → at + length (flat_map spelled_hop hops) ≤ to
+          → All (live_all S) hops → All (live_all T) (settled_hops which at hops)
+      hops_all at [] above within all = All-nil (live_all T)
+      hops_all at (h ∷ hops) above within all =
+          let next : ℕ = at + length (spelled_hop h) in
+          let behind : ℕ = at + hop_width which + length (entries h.flight) in
+          let size : length (spelled_hop h) ≡ hop_width which + length (entries (live_line h)) = length-hop stored_length (stored_spelled which) h in
+          let here : live_all S h = All-head (live_all S) h hops all in
+          let P : Item Stored → Type 0 = λ x. S x.payload in
+          let Q : Item Stored → Type 0 = λ x. T x.payload in
+          let flight : All P h.flight = subst (All P) (take-append_seam h.flight h.queue) (All-take P (length h.flight) (live_line h) here) in
+          let queue : All P h.queue = subst (All P) (drop-append_seam h.flight h.queue) (All-drop P (length h.flight) (live_line h) here) in
+          All-cons (live_all T) (settled_hop which at h) (settled_hops which next hops)
+          (All-append Q (settled_items which (at + hop_width which) h.flight) (settled_items which behind h.queue)
+          (items_all (at + hop_width which) h.flight (omega (arith, above)) (omega (arith, within, hops_cons h hops, size, entries_both h.flight h.queue)) flight)
+          (items_all behind h.queue (omega (arith, above)) (omega (arith, within, hops_cons h hops, size, entries_both h.flight h.queue)) queue))
+          (hops_all next hops (omega (arith, above)) (omega (arith, within, hops_cons h hops)) (All-tail (live_all S) h hops all))
 
-module _ (g : Geometry) (target : ℕ) where
-  abbrev from : ℕ
-  from = segment_place g target
+  -- ---- a state whose head has room in a segment
 
-  abbrev to : ℕ
-  to = segment_place g target + g.length
+  module _ (g : Geometry) (target : ℕ) where
+    abbrev from : ℕ
+    from = segment_place g target
 
-  lies_here : (at : ℕ) → from ≤ at → at < to → segment_of g at ≡ target
-  lies_here at above below = in_segment g target (at - 64) (omega (arith, above)) (omega (arith, above, below))
+    abbrev to : ℕ
+    to = segment_place g target + g.length
 
-  -- the bytes that a payload brings into a segment, where it is inline
-  abbrev brought : ℕ → Stored → ℕ
-  brought segment p = cond (eqb target segment) (inline_length p) 0
+    lies_here : (at : ℕ) → from ≤ at → at < to → segment_of g at ≡ target
+    lies_here at above below = in_segment g target (at - 64) (omega (arith, above)) (omega (arith, above, below))
 
-  none_brought : (b : Bool) → ◌≡◌ {A = ℕ} (cond b 0 0) 0
-  none_brought true = refl
-  none_brought false = refl
+    -- the bytes that a payload brings into a segment, where it is inline
+    abbrev brought : ℕ → Stored → ℕ
+    brought segment p = cond (eqb target segment) (inline_length p) 0
 
-  one_weight : (segment at : ℕ) (p : Stored) → from ≤ at → at + inline_length p ≤ to → bytes_in g segment (settled at p) ≡ bytes_in g segment p + brought segment p
-  one_weight segment at (Inline []) above within = omega (arith, none_brought (eqb target segment))
-  one_weight segment at (Inline (byte ∷ bytes)) above within =
-      let same : ◌≡◌ {A = ℕ} (cond (eqb (segment_of g at) segment) (length (byte ∷ bytes)) 0) (cond (eqb target segment) (length (byte ∷ bytes)) 0) =
-      ap (λ (t : ℕ). cond (eqb t segment) (length (byte ∷ bytes)) 0) (lies_here at above (omega (arith, within))) in
-      omega (arith, same)
-  one_weight segment at (Placed place) above within = omega (arith, none_brought (eqb target segment))
+    none_brought : (b : Bool) → ◌≡◌ {A = ℕ} (cond b 0 0) 0
+    none_brought true = refl
+    none_brought false = refl
 
-  one_there : target < g.segments → (at : ℕ) (p : Stored) → from ≤ at → at + inline_length p ≤ to → LiesThere g p → LiesThere g (settled at p)
-  one_there there at (Inline []) above within lies = tt
-  one_there there at (Inline (byte ∷ bytes)) above within lies =
-      let some : 1 ≤ length (byte ∷ bytes) = omega arith in
-      (some, (target, record { there = there; from = omega (arith, above); to = omega (arith, within) }))
-  one_there there at (Placed place) above within lies = lies
+    one_weight : (segment at : ℕ) (p : Stored) → from ≤ at → at + inline_length p ≤ to → bytes_in g segment (settled at p) ≡ bytes_in g segment p + brought segment p
+    one_weight segment at (Inline []) above within = omega (arith, none_brought (eqb target segment))
+    one_weight segment at (Inline (byte ∷ bytes)) above within =
+        let same : ◌≡◌ {A = ℕ} (cond (eqb (segment_of g at) segment) (length (byte ∷ bytes)) 0) (cond (eqb target segment) (length (byte ∷ bytes)) 0) =
+        ap (λ (t : ℕ). cond (eqb t segment) (length (byte ∷ bytes)) 0) (lies_here at above (omega (arith, within))) in
+        omega (arith, same)
+    one_weight segment at (Placed place) above within = omega (arith, none_brought (eqb target segment))
 
-  module _ (t : State Stored) (room : 13 + length (state_spelled stored_length stored_form t) ≤ g.length) where
-    room_for_hops : segment_place g target + 21 + 8 * length t.lasts + length (flat_map spelled_hop t.hops) ≤ to
-    room_for_hops = omega (arith, room, length-parts stored_length stored_form t, length-numbers t.lasts)
+    one_there : target < g.segments → (at : ℕ) (p : Stored) → from ≤ at → at + inline_length p ≤ to → LiesThere g p → LiesThere g (settled at p)
+    one_there there at (Inline []) above within lies = tt
+    one_there there at (Inline (byte ∷ bytes)) above within lies =
+        let some : 1 ≤ length (byte ∷ bytes) = omega arith in
+        (some, (target, record { there = there; from = omega (arith, above); to = omega (arith, within) }))
+    one_there there at (Placed place) above within lies = lies
 
-    pub settled_live : (segment : ℕ) → live_in g segment (settled_state g target t) ≡ live_in g segment t + live_bytes (brought segment) t
-    settled_live segment =
-        hops_sum from to (bytes_in g segment) (λ p. bytes_in g segment p + brought segment p) (one_weight segment)
-        (segment_place g target + 21 + 8 * length t.lasts) t.hops (omega arith) room_for_hops
-        ∙ bytes_both (bytes_in g segment) (brought segment) t
+    module _ (t : State Stored) (room : 13 + length (state_spelled stored_length (stored_spelled which) t) ≤ g.length) where
+      room_for_hops : segment_place g target + 21 + 8 * length t.lasts + length (flat_map spelled_hop t.hops) ≤ to
+      room_for_hops = omega (arith, room, length-parts stored_length (stored_spelled which) t, length-numbers t.lasts)
 
-    pub settled_here : live_bytes (brought target) t ≡ inline_bytes t
-    settled_here = bytes_same (brought target) inline_length (λ p. ap (λ (b : Bool). cond b (inline_length p) 0) (eq-eqb target target refl)) t
+      pub settled_live : (segment : ℕ) → live_in g segment (settled_state which g target t) ≡ live_in g segment t + live_bytes (brought segment) t
+      settled_live segment =
+          hops_sum from to (bytes_in g segment) (λ p. bytes_in g segment p + brought segment p) (one_weight segment)
+          (segment_place g target + 21 + 8 * length t.lasts) t.hops (omega arith) room_for_hops
+          ∙ bytes_both (bytes_in g segment) (brought segment) t
 
-    pub settled_elsewhere : (segment : ℕ) → segment ≢ target → live_bytes (brought segment) t ≡ 0
-    settled_elsewhere segment other = bytes_none (brought segment) (λ p. ap (λ (b : Bool). cond b (inline_length p) 0) (ne_eqb target segment (λ same. other (sym same)))) t
+      pub settled_here : live_bytes (brought target) t ≡ inline_bytes t
+      settled_here = bytes_same (brought target) inline_length (λ p. ap (λ (b : Bool). cond b (inline_length p) 0) (eq-eqb target target refl)) t
 
-    pub settled_there : target < g.segments → All (LiesThere g) (payloads_of t) → All (LiesThere g) (payloads_of (settled_state g target t))
-    settled_there there lies =
-        let start : ℕ = segment_place g target + 21 + 8 * length t.lasts in
-        of_payloads (LiesThere g) (settled_hops start t.hops)
-        (hops_all from to (LiesThere g) (LiesThere g) (one_there there) start t.hops (omega arith) room_for_hops (of_items (LiesThere g) t.hops lies))
+      pub settled_elsewhere : (segment : ℕ) → segment ≢ target → live_bytes (brought segment) t ≡ 0
+      settled_elsewhere segment other = bytes_none (brought segment) (λ p. ap (λ (b : Bool). cond b (inline_length p) 0) (ne_eqb target segment (λ same. other (sym same)))) t
+
+      pub settled_there : target < g.segments → All (LiesThere g) (payloads_of t) → All (LiesThere g) (payloads_of (settled_state which g target t))
+      settled_there there lies =
+          let start : ℕ = segment_place g target + 21 + 8 * length t.lasts in
+          of_payloads (LiesThere g) (settled_hops which start t.hops)
+          (hops_all from to (LiesThere g) (LiesThere g) (one_there there) start t.hops (omega arith) room_for_hops (of_items (LiesThere g) t.hops lies))
 
 -- ---- the victim's move
 
@@ -206,7 +216,7 @@ items_mapped S f keeps (item ∷ items) all =
     let P : Item Stored → Type 0 = λ x. S x.payload in
     All-cons P (map_item f item) (map (map_item f) items) (keeps item.payload (All-head P item items all)) (items_mapped S f keeps items (All-tail P item items all))
 
-hops_mapped : (S : Stored → Type 0) (f : Stored → Stored) → ((p : Stored) → S p → S (f p)) → (hops : List (HopState Stored))
+pub hops_mapped : (S : Stored → Type 0) (f : Stored → Stored) → ((p : Stored) → S p → S (f p)) → (hops : List (HopState Stored))
     → All (λ h. All (λ item. S item.payload) (live_line h)) hops → All (λ h. All (λ item. S item.payload) (live_line h)) (map (map_hop f) hops)
 hops_mapped S f keeps [] all = All-nil (λ (h : HopState Stored). All (λ (item : Item Stored). S item.payload) (live_line h))
 hops_mapped S f keeps (h ∷ hops) all =
@@ -232,18 +242,18 @@ module _ (g : Geometry) (target victim : ℕ) (s : State Stored) where
   head = drawn_state g victim unread s
 
   pub moved_sound : IsSound stored_length s → IsSound stored_length (moved_state g target victim s)
-  moved_sound sound = settled_sound g target head (drawn_sound g victim unread s unread_long sound)
+  moved_sound sound = settled_sound Second g target head (drawn_sound g victim unread s unread_long sound)
 
   pub moved_inline : inline_bytes (moved_state g target victim s) ≡ 0
-  moved_inline = settled_inline g target head
+  moved_inline = settled_inline Second g target head
 
   module _ (may : MayMove g target victim s) where
     pub moved_target : live_in g target (moved_state g target victim s) ≡ live_in g victim s
     moved_target =
         omega (
           arith,
-          settled_live g target head may.room target,
-          settled_here g target head may.room,
+          settled_live Second g target head may.room target,
+          settled_here Second g target head may.room,
           drawn_inline g victim unread s unread_long,
           may.inline,
           drawn_other g victim unread s target (λ same. may.other (sym same)),
@@ -251,13 +261,13 @@ module _ (g : Geometry) (target victim : ℕ) (s : State Stored) where
         )
 
     pub moved_victim : live_in g victim (moved_state g target victim s) ≡ 0
-    moved_victim = omega (arith, settled_live g target head may.room victim, settled_elsewhere g target head may.room victim may.other, drawn_empty g victim unread s)
+    moved_victim = omega (arith, settled_live Second g target head may.room victim, settled_elsewhere Second g target head may.room victim may.other, drawn_empty g victim unread s)
 
     pub moved_others : (t : ℕ) → t ≢ target → t ≢ victim → live_in g t (moved_state g target victim s) ≡ live_in g t s
-    moved_others t other apart = omega (arith, settled_live g target head may.room t, settled_elsewhere g target head may.room t other, drawn_other g victim unread s t apart)
+    moved_others t other apart = omega (arith, settled_live Second g target head may.room t, settled_elsewhere Second g target head may.room t other, drawn_other g victim unread s t apart)
 
     pub moved_there : All (LiesThere g) (payloads_of (moved_state g target victim s))
-    moved_there = settled_there g target head may.room may.there
+    moved_there = settled_there Second g target head may.room may.there
         (of_payloads (LiesThere g) head.hops (hops_mapped (LiesThere g) (drawn g victim unread) (drawn_there g victim) s.hops (of_items (LiesThere g) s.hops may.lies)))
 
     pub moved_free : victim < g.segments → MayOpen (live_by_segment g (moved_state g target victim s)) target victim

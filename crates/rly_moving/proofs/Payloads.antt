@@ -14,7 +14,11 @@ use Rattle.rly_machine.specs.State.{HopState, State, has_hop, hop_at, is_among, 
 use Rattle.rly_machine.specs.declared.hop.Item.{Item}
 use Rattle.rly_machine.proofs.Mapping.{get_mapped}
 use Rattle.rly_machine.proofs.Refusals.{among}
-use Rattle.rly_checkpoint.specs.Stored.{stored_form, stored_length}
+use Rattle.rly_checkpoint.specs.Stored.{stored_form_of, stored_length, stored_spelled}
+use Rattle.rly_checkpoint.specs.Widths.{entry_width, place_width}
+use Rattle.rly_checkpoint.specs.declared.head_form.HeadForm.{HeadForm}
+use Rattle.rly_checkpoint.specs.declared.head_form.HeadForm.TheVariants.{First, Second}
+use Rattle.rly_checkpoint.specs.declared.stored.Place.{Place}
 use Rattle.rly_checkpoint.specs.declared.stored.Stored.{Stored}
 use Rattle.rly_checkpoint.specs.declared.stored.Stored.TheVariants.{Inline, Placed}
 use Rattle.rly_checkpoint.proofs.Parts.{length-entry}
@@ -57,28 +61,48 @@ module _ (g : Geometry) (victim : ℕ) where
           settled_some at (unread place) (omega (arith, n, some)) ∙ ap (λ (k : ℕ). let p : Stored = Placed (record { start = at; length = k }) in p) n
       by_cases false here = absurd here
 
-  form_there : (p : Stored) → (IsInline (drawn_blank g victim p) → ⊥) → length (stored_form (drawn_blank g victim p)) ≡ 9
+-- the form of its entry
+
+module _ (which : HeadForm) (g : Geometry) (victim : ℕ) where
+  placed_form : (place : Place) → length (stored_form_of which (Placed place)) ≡ 1 + place_width which
+  placed_form place = by_form which
+    where
+      by_form : (w : HeadForm) → length (stored_form_of w (Placed place)) ≡ 1 + place_width w
+      by_form First = refl
+      by_form Second = refl
+
+  form_there : (p : Stored) → (IsInline (drawn_blank g victim p) → ⊥) → length (stored_form_of which (drawn_blank g victim p)) ≡ 1 + place_width which
   form_there (Inline payload) other = absurd (other tt)
   form_there (Placed place) other = by_cases (eqb (segment_of g place.start) victim) other
     where
-      by_cases : (b : Bool) → (IsInline (cond b (Inline (unread place)) (Placed place)) → ⊥) → length (stored_form (cond b (Inline (unread place)) (Placed place))) ≡ 9
+      by_cases : (b : Bool) → (IsInline (cond b (Inline (unread place)) (Placed place)) → ⊥)
+          → length (stored_form_of which (cond b (Inline (unread place)) (Placed place))) ≡ 1 + place_width which
       by_cases true never = absurd (never tt)
-      by_cases false never = refl
+      by_cases false never = placed_form place
 
-  form_here : (p : Stored) → IsInline (drawn_blank g victim p) → length (stored_form (drawn_blank g victim p)) ≡ 1 + stored_length p
+  form_here : (p : Stored) → IsInline (drawn_blank g victim p) → length (stored_form_of which (drawn_blank g victim p)) ≡ 1 + stored_length p
   form_here (Inline payload) inline = omega arith
   form_here (Placed place) inline = by_cases (eqb (segment_of g place.start) victim) inline
     where
       by_cases : (b : Bool) → IsInline (cond b (Inline (unread place)) (Placed place))
-          → length (stored_form (cond b (Inline (unread place)) (Placed place))) ≡ 1 + place.length
+          → length (stored_form_of which (cond b (Inline (unread place)) (Placed place))) ≡ 1 + place.length
       by_cases true here = let n : length (unread place) ≡ place.length = length-replicate place.length 0 in omega (arith, n)
       by_cases false here = absurd here
 
-  pub size_there : (item : Item Stored) → (IsInline (drawn_blank g victim item.payload) → ⊥) → entry_size (map_item (drawn_blank g victim) item) ≡ 27
-  size_there item other = omega (arith, length-entry stored_length stored_form (map_item (drawn_blank g victim) item), form_there item.payload other)
+  pub size_there : (item : Item Stored) → (IsInline (drawn_blank g victim item.payload) → ⊥)
+      → entry_size which (map_item (drawn_blank g victim) item) ≡ entry_width which + place_width which
+  size_there item other =
+      omega (arith, length-entry stored_length (stored_spelled which) (map_item (drawn_blank g victim) item), form_there item.payload other)
 
-  pub size_here : (item : Item Stored) → IsInline (drawn_blank g victim item.payload) → entry_size (map_item (drawn_blank g victim) item) ≡ 19 + stored_length item.payload
-  size_here item inline = omega (arith, length-entry stored_length stored_form (map_item (drawn_blank g victim) item), form_here item.payload inline)
+  pub size_here : (item : Item Stored) → IsInline (drawn_blank g victim item.payload)
+      → entry_size which (map_item (drawn_blank g victim) item) ≡ entry_width which + stored_length item.payload
+  size_here item inline =
+      omega (arith, length-entry stored_length (stored_spelled which) (map_item (drawn_blank g victim) item), form_here item.payload inline)
+
+-- an entry without the bytes of its payload is short
+pub entry_short : (which : HeadForm) → entry_width which + place_width which ≤ 27
+entry_short First = omega arith
+entry_short Second = omega arith
 
 -- ---- an item of a spool
 

@@ -6,6 +6,7 @@ use Rattle.rly_machine.specs.Map.{payloads_of}
 use Rattle.rly_machine.specs.State.{State}
 use Rattle.rly_checkpoint.specs.Checkpoint.{state_spelled}
 use Rattle.rly_checkpoint.specs.Stored.{stored_form, stored_length}
+use Rattle.rly_checkpoint.specs.declared.head_form.HeadForm.TheVariants.{Second}
 use Rattle.rly_checkpoint.specs.declared.stored.Place.{Place}
 use Rattle.rly_checkpoint.specs.declared.stored.Stored.{Stored}
 use Rattle.rly_checkpoint.specs.declared.stored.Stored.TheVariants.{Inline, Placed}
@@ -22,9 +23,10 @@ LiesThere g (Placed place) = (1 ≤ place.length) × ((segment : ℕ) × LiesIn 
 abbrev pub unread : Place → List ℕ
 unread place = replicate place.length 0
 
--- where the payloads lie once the victim's have moved into the head of the target, whatever their bytes are
+-- where the payloads lie once the victim's have moved into the head of the target, which is of form 2, whatever their
+-- bytes are
 abbrev pub moved_state : Geometry → ℕ → ℕ → State Stored → State Stored
-moved_state g target victim s = settled_state g target (drawn_state g victim unread s)
+moved_state g target victim s = settled_state Second g target (drawn_state g victim unread s)
 
 -- the victim's payloads can move into a head that the target gets: the target has no live bytes, nothing is inline,
 -- each payload lies in a segment, and the head has room

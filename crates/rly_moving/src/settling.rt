@@ -4,13 +4,14 @@ ghost use Rattle.rly_machine.specs.Relocate.{relocated};
 ghost use Rattle.rly_machine.specs.State.{has_hop, hop_at, live_line};
 ghost use Rattle.rly_machine.specs.declared.hop.Item.{Item};
 ghost use Rattle.rly_checkpoint.specs.Checkpoint.{entry_spelled, hop_spelled, state_spelled};
-ghost use Rattle.rly_checkpoint.specs.Stored.{stored_form, stored_length};
+ghost use Rattle.rly_checkpoint.specs.Stored.{stored_length, stored_spelled};
+ghost use Rattle.rly_checkpoint.specs.Widths.{entry_width};
 ghost use Rattle.rly_places.specs.Room.{drawn_state};
-ghost use Rattle.rly_segment.specs.Settling.{settled, settled_hop};
+ghost use Rattle.rly_segment.specs.Settling.{settled, settled_hop, settled_state};
 ghost use Rattle.rly_moving.specs.HelpersSettling.{HasBytes, IsInline, blank_hop, drawn_blank, with_hop};
-ghost use Rattle.rly_moving.specs.Moving.{LiesThere, moved_state, unread};
+ghost use Rattle.rly_moving.specs.Moving.{LiesThere, unread};
 
-use rly_checkpoint::{Place, Stored};
+use rly_checkpoint::{HeadForm, Place, Stored};
 use rly_core::{Geometry, HopId};
 use rly_machine::{Content, Item, Machine};
 use rly_places::{live_at, segment_of};
@@ -22,36 +23,35 @@ const HEAD_BYTES: u64 = 21;
 /// The bytes of a peer's last number.
 const PEER_BYTES: u64 = 8;
 
-/// The bytes of a hop before its entries.
-const HOP_BYTES: u64 = 71;
-
-/// The bytes of an entry before a payload that is inline.
-const INLINE_BYTES: u64 = 19;
-
-/// The bytes of an entry by place.
-const PLACED_BYTES: u64 = 27;
-
-/// Gives a spool the places that its payloads have once the head of the target stands, in which the victim's payloads are inline.
-/// Where the victim is no segment, only what is inline gets a place. No payload's length changes, and no device is asked. It takes
-/// no memory.
-pub fn settle_moved(geometry: &Geometry, target: u64, victim: u64, machine: &mut Machine<Stored>)
+/// Gives a spool the places that its payloads have once the head of the target stands, of that form, in which the victim's payloads
+/// are inline. Where the victim is no segment, only what is inline gets a place. No payload's length changes, and no device is asked.
+/// It takes no memory.
+pub fn settle_moved(
+    form: HeadForm,
+    geometry: &Geometry,
+    target: u64,
+    victim: u64,
+    machine: &mut Machine<Stored>,
+)
     requires target { target < 256 }
     requires length { geometry.now.length < 2 ^ 31 }
     requires lies { All (LiesThere geometry.now) (payloads_of machine.old.state) }
-    requires room { 13 + length (state_spelled stored_length stored_form (drawn_state geometry.now victim unread machine.old.state)) ≤ geometry.now.length }
-    ensures { machine.new.state ≡ moved_state geometry.now target victim machine.old.state }
+    requires room { 13 + length (state_spelled stored_length (stored_spelled form) (drawn_state geometry.now victim unread machine.old.state))
+        ≤ geometry.now.length }
+    ensures { machine.new.state ≡ settled_state form geometry.now target (drawn_state geometry.now victim unread machine.old.state) }
 {
     machine.law_sound();
     let peers = machine.lasts().len() as u64;
     let mut at = segment_place(geometry, target) + HEAD_BYTES + PEER_BYTES * peers;
     let count = machine.hops().len() as u16;
     for index in 0..count {
-        at = settle_hop(geometry, victim, machine, HopId(index + 1), at);
+        at = settle_hop(form, geometry, victim, machine, HopId(index + 1), at);
     }
 }
 
 /// Gives a hop's payloads the places that they have in a head where the hop stands at a place, and answers the place after it.
 fn settle_hop(
+    form: HeadForm,
     geometry: &Geometry,
     victim: u64,
     machine: &mut Machine<Stored>,
@@ -61,20 +61,21 @@ fn settle_hop(
     requires length { 1 ≤ geometry.now.length }
     requires there { IsTrue (has_hop machine.old.state hop) }
     requires bytes { All (λ item. HasBytes item.payload) (live_line (hop_at machine.old.state hop)) }
-    requires fits { at + length (hop_spelled stored_length stored_form (blank_hop geometry.now victim (hop_at machine.old.state hop))) < 2 ^ 63 }
-    ensures state { machine.new.state ≡ with_hop machine.old.state hop (settled_hop at (blank_hop geometry.now victim (hop_at machine.old.state hop))) }
-    ensures next { result ≡ at + length (hop_spelled stored_length stored_form (blank_hop geometry.now victim (hop_at machine.old.state hop))) }
+    requires fits { at + length (hop_spelled stored_length (stored_spelled form) (blank_hop geometry.now victim (hop_at machine.old.state hop))) < 2 ^ 63 }
+    ensures state { machine.new.state ≡ with_hop machine.old.state hop (settled_hop form at (blank_hop geometry.now victim (hop_at machine.old.state hop))) }
+    ensures next { result ≡ at + length (hop_spelled stored_length (stored_spelled form) (blank_hop geometry.now victim (hop_at machine.old.state hop))) }
 {
-    let mut next = at + HOP_BYTES;
+    let mut next = at + form.hop_len();
     let count = live_count(machine, hop);
     for index in 0..count {
-        next = settle_item(geometry, victim, machine, hop, index, next);
+        next = settle_item(form, geometry, victim, machine, hop, index, next);
     }
     next
 }
 
 /// Gives a payload the place that it has in a head where its entry stands at a place, and answers the place after the entry.
 fn settle_item(
+    form: HeadForm,
     geometry: &Geometry,
     victim: u64,
     machine: &mut Machine<Stored>,
@@ -88,16 +89,16 @@ fn settle_item(
     requires bytes { (item : Item Stored) → item ≡ slice_index_or (live_line (hop_at machine.old.state hop)) index item → HasBytes item.payload }
     requires fits { at + 2 ^ 32 < 2 ^ 64 }
     ensures { (item : Item Stored) × (item ≡ slice_index_or (live_line (hop_at machine.old.state hop)) index item)
-        × (machine.new.state ≡ relocated machine.old.state hop index (settled (at + 19) (drawn_blank geometry.now victim item.payload)))
-        × (result ≡ at + length (entry_spelled stored_length stored_form (map_item (drawn_blank geometry.now victim) item))) }
+        × (machine.new.state ≡ relocated machine.old.state hop index (settled (at + entry_width form) (drawn_blank geometry.now victim item.payload)))
+        × (result ≡ at + length (entry_spelled stored_length (stored_spelled form) (map_item (drawn_blank geometry.now victim) item))) }
 {
     machine.law_sound();
     let payload = &live_item(machine, hop, index).payload;
     let length = payload.len() as u16;
     if !stands_inline(geometry, victim, payload) {
-        return at + PLACED_BYTES;
+        return at + form.placed_len();
     }
-    let start = at + INLINE_BYTES;
+    let start = at + form.entry_len();
     if length > 0 {
         machine.relocate(hop, index, Stored::Placed(Place { start, length }));
     }

@@ -100,20 +100,20 @@ message_sent other None = other
 
 -- the message that a core sends on an answer has the payload that the answer gave
 sent_payload : (s : Sender) (an : Ask) (r : Reply) (m : Message (List ℕ)) (payload : List ℕ) → (sending_step s (sender_event an r)).1 ≡ Some (action.Send m)
-    → ((p : List ℕ) → r ≡ reply.Bytes p → payload ≡ p) → message_map (λ (_ : List ℕ). payload) m ≡ m
-sent_payload s (ask.Query (query.Fetch hop number)) (reply.Bytes p) m payload is same =
+    → ((p : List ℕ) (limit : ℕ) → r ≡ reply.Bytes p limit → payload ≡ p) → message_map (λ (_ : List ℕ). payload) m ≡ m
+sent_payload s (ask.Query (query.Fetch hop number)) (reply.Bytes p limit) m payload is same =
     let handed : Message (List ℕ) = Data s.own s.hop number p in
     cond_both (s.ready && (number == s.cursor) && nat_lt s.cursor s.next) (record s { cursor = number + 1 }, Some (action.Send handed)) (s, None)
     (λ (result : SendingResult). result.1 ≡ Some (action.Send m) → message_map (λ (_ : List ℕ). payload) m ≡ m)
     (λ _. λ sends. subst (λ (x : Message (List ℕ)). message_map (λ (_ : List ℕ). payload) x ≡ x) (ap (message_sent handed) sends)
-    (ap (λ (bytes : List ℕ). Data s.own s.hop number bytes) (same p refl)))
+    (ap (λ (bytes : List ℕ). Data s.own s.hop number bytes) (same p limit refl)))
     (λ _. λ sends. absurd (none-some (action.Send m) sends)) is
-sent_payload s (ask.Query (query.Window hop)) (reply.Bytes p) m payload is same = absurd (none-some (action.Send m) is)
-sent_payload s (ask.Query (query.Show hop)) (reply.Bytes p) m payload is same = absurd (none-some (action.Send m) is)
-sent_payload s (ask.Command any) (reply.Bytes p) m payload is same = absurd (none-some (action.Send m) is)
+sent_payload s (ask.Query (query.Window hop)) (reply.Bytes p limit) m payload is same = absurd (none-some (action.Send m) is)
+sent_payload s (ask.Query (query.Show hop)) (reply.Bytes p limit) m payload is same = absurd (none-some (action.Send m) is)
+sent_payload s (ask.Command any) (reply.Bytes p limit) m payload is same = absurd (none-some (action.Send m) is)
 sent_payload s an (reply.WindowIs first next) m payload is same = absurd (none-some (action.Send m) is)
-sent_payload s an (reply.Picked number id dropped) m payload is same = absurd (none-some (action.Send m) is)
-sent_payload s an reply.Nothing m payload is same = absurd (none-some (action.Send m) is)
+sent_payload s an (reply.Picked number id expired dropped) m payload is same = absurd (none-some (action.Send m) is)
+sent_payload s an (reply.Nothing expired) m payload is same = absurd (none-some (action.Send m) is)
 sent_payload s an (reply.Released count) m payload is same = absurd (none-some (action.Send m) is)
 sent_payload s an reply.Unchanged m payload is same = absurd (none-some (action.Send m) is)
 sent_payload s an (reply.Refused refusal) m payload is same = absurd (none-some (action.Send m) is)
@@ -125,7 +125,7 @@ sent_payload s an (reply.Shown status) m payload is same = absurd (none-some (ac
 pub sent_by_upper : (w : PairWorld) (e : End) (r : Replied) (rest : List Replied) (s : Sender) (m : Message (List ℕ)) (payload : List ℕ)
     → w.upper.replied ≡ r ∷ rest → e ≡ with_told (record w.upper { replied = rest }) r.reply r.position
     → s ≡ (sending_step w.sender (sender_event r.call.ask r.reply)).0 → Some (action.Send m) ≡ (sending_step w.sender (sender_event r.call.ask r.reply)).1
-    → ((p : List ℕ) → r.reply ≡ reply.Bytes p → payload ≡ p)
+    → ((p : List ℕ) (limit : ℕ) → r.reply ≡ reply.Bytes p limit → payload ≡ p)
     → record w { upper = e; sender = s; packets = w.packets ++ message_map (λ (_ : List ℕ). payload) m ∷ [] } ≡ pair_step w (UpperAnswers true)
 sent_by_upper w e r rest s m payload is told steps sends same =
     let after : End = with_told (record w.upper { replied = rest }) r.reply r.position in
@@ -212,12 +212,12 @@ pub heard_by_lower : (w : PairWorld) (packet core : ℕ) (hop : HopId) (stamp : 
     → Some (in_action.Take number named) ≡ (receiving_step r (in_event.Heard m)).1
     → ((from to : StationId) (n : ℕ) (p : List ℕ) → m ≡ Data from to n p → payload ≡ p)
     → record w {
-      lower = with_asked w.lower core (ask.Command (command.Take w.setup.peer number hop stamp payload) ∷ []);
+      lower = with_asked w.lower core (ask.Command (command.Take w.setup.peer number hop stamp 0 payload) ∷ []);
       receivers = slice_set w.receivers core next;
     } ≡ pair_step w (LowerHears packet core hop stamp)
 heard_by_lower w packet core hop stamp r next m number named payload found there steps names same =
     let result : ReceivingResult = receiving_step r (in_event.Heard m) in
-    let asked : List ℕ → End = λ p. with_asked w.lower core (ask.Command (command.Take w.setup.peer number hop stamp p) ∷ []) in
+    let asked : List ℕ → End = λ p. with_asked w.lower core (ask.Command (command.Take w.setup.peer number hop stamp 0 p) ∷ []) in
     ap (λ (p : List ℕ). record w { lower = asked p; receivers = slice_set w.receivers core next }) (same r.peer r.own number named (heard_data r m number named (sym names)))
     ∙ ap (λ (x : Receiver). record w { lower = asked named; receivers = slice_set w.receivers core x }) steps
     ∙ ap (λ (l : List (Message (List ℕ))). record w { lower = asked named; receivers = slice_set w.receivers core result.0; packets = l }) (sym (append-nil w.packets))

@@ -30,12 +30,12 @@ IsServed call answer s t =
 
 -- only an ask that may want memory is lost
 bytes_carried : (reply : Reply) → HasBytes reply → carries_bytes reply ≡ true
-bytes_carried (Bytes payload) has = lt-ltb 0 (length payload) has
+bytes_carried (Bytes payload limit) has = lt-ltb 0 (length payload) has
 bytes_carried (Refused _) has = absurd has
 bytes_carried (Taken _) has = absurd has
 bytes_carried (Already _) has = absurd has
-bytes_carried (Picked _ _ _) has = absurd has
-bytes_carried Nothing has = absurd has
+bytes_carried (Picked _ _ _ _) has = absurd has
+bytes_carried (Nothing _) has = absurd has
 bytes_carried (Released _) has = absurd has
 bytes_carried Unchanged has = absurd has
 bytes_carried (WindowIs _ _) has = absurd has

@@ -76,12 +76,14 @@ fn copy_command(alloc: Global, command: &Command<Payload>) -> Result<Command<Pay
             number,
             hop,
             stamp,
+            limit,
             payload,
         } => Ok(Command::Take {
             peer: *peer,
             number: *number,
             hop: *hop,
             stamp: *stamp,
+            limit: *limit,
             payload: Payload::copy_of(alloc, payload.as_slice())?,
         }),
         Command::Pick { hop, now } => Ok(Command::Pick {

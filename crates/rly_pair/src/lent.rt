@@ -98,11 +98,13 @@ pub(crate) fn sender_event<'a>(ask: &Ask, reply: &'a Reply) -> OutEvent<&'a [u8]
             next: *next,
         },
         (Reply::Picked { number, .. }, _) => OutEvent::Picked(*number),
-        (Reply::Nothing, _) => OutEvent::Nothing,
-        (Reply::Bytes(payload), Ask::Query(Query::Fetch { number, .. })) => OutEvent::Fetched {
-            number: *number,
-            payload: payload.as_slice(),
-        },
+        (Reply::Nothing { .. }, _) => OutEvent::Nothing,
+        (Reply::Bytes { payload, .. }, Ask::Query(Query::Fetch { number, .. })) => {
+            OutEvent::Fetched {
+                number: *number,
+                payload: payload.as_slice(),
+            }
+        }
         (Reply::Released(_), _) => OutEvent::Released,
         (Reply::Unchanged, _) => OutEvent::Unchanged,
         (Reply::Refused(refusal), _) => OutEvent::Refused(*refusal),

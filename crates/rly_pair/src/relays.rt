@@ -166,6 +166,7 @@ impl Pair {
             number,
             hop,
             stamp,
+            limit: 0,
             payload,
         };
         match self.lower.ask(core, Ask::Command(take)) {

@@ -84,8 +84,8 @@ impl Station {
 
     /// A copy of the bytes that the first answer which waits gives. It is empty where that gives none.
     pub(crate) fn first_bytes(&self, alloc: Global) -> Result<Payload, AllocError>
-        ensures { (made : Replied) (rest : List Replied) (payload : List ℕ) → self.now.replied ≡ made ∷ rest → made.reply ≡ Reply.Bytes payload
-            → IfOk result (λ copy. copy ≡ payload) }
+        ensures { (made : Replied) (rest : List Replied) (payload : List ℕ) (limit : ℕ) → self.now.replied ≡ made ∷ rest
+            → made.reply ≡ Reply.Bytes payload limit → IfOk result (λ copy. copy ≡ payload) }
     {
         match self.replied.first() {
             Some(made) => bytes_of(alloc, &made.reply),
@@ -222,10 +222,10 @@ fn first_ask(alloc: Global, asked: &[WaitingCall]) -> Result<Ask, AllocError>
 
 /// A copy of the bytes that a reply gives. It is empty where that gives none.
 fn bytes_of(alloc: Global, reply: &Reply) -> Result<Payload, AllocError>
-    ensures { (payload : List ℕ) → reply.now ≡ Reply.Bytes payload → IfOk result (λ copy. copy ≡ payload) }
+    ensures { (payload : List ℕ) (limit : ℕ) → reply.now ≡ Reply.Bytes payload limit → IfOk result (λ copy. copy ≡ payload) }
 {
     match reply {
-        Reply::Bytes(payload) => Payload::copy_of(alloc, payload.as_slice()),
+        Reply::Bytes { payload, .. } => Payload::copy_of(alloc, payload.as_slice()),
         _ => Ok(Payload::new(Vec::new(alloc))),
     }
 }

@@ -44,6 +44,7 @@ fn heard_by(alloc: Global, core: &mut Receiving, seat: u16) -> Result<Call, Fail
         number,
         hop: HopId(1),
         stamp: 0,
+        limit: 0,
         payload: Payload::copy_of(alloc, payload)?,
     };
     Ok(Call {

@@ -1,13 +1,15 @@
 //! Tests of two relays that run: the packets that they send over a bad link.
 //!
 //! What arrives too early, a copy, a lower that crashes before its answer, with the command or without it, an upper
-//! that crashes, and copies that arrive together (docs/PROTOCOL.md). They stand over the built libraries, so that these
-//! are proved once. No crate may call it: it has no code but tests.
+//! that crashes, copies that arrive together, and datagrams that are past their limit (docs/PROTOCOL.md). They stand
+//! over the built libraries, so that these are proved once. No crate may call it: it has no code but tests.
 #![tactic(auto)]
 
 #[cfg(test)]
 mod copies;
 #[cfg(test)]
 mod expect;
+#[cfg(test)]
+mod limits;
 #[cfg(test)]
 mod pairs;

@@ -188,12 +188,12 @@ fn expect_packets(rt: &impl Abort, pair: &Pair, wanted: &[Said]) {
 }
 
 /// A pair of small devices.
-fn new_pair(alloc: Global) -> Result<Pair, Fail> {
+pub(crate) fn new_pair(alloc: Global) -> Result<Pair, Fail> {
     Ok(Pair::new(alloc, &SMALL, &SMALL).ok().ok_or("a pair")?)
 }
 
 /// The pair makes a step. No clause says what it leaves, so that what makes many is proved as soon as what makes few.
-fn step(alloc: Global, pair: &mut Pair, step: Step) -> Result<(), Fail> {
+pub(crate) fn step(alloc: Global, pair: &mut Pair, step: Step) -> Result<(), Fail> {
     pair.step(alloc, step)?;
     Ok(())
 }
@@ -205,6 +205,7 @@ fn comes_in(alloc: Global, pair: &mut Pair, number: u64) -> Result<(), Fail> {
         number,
         hop: HopId(1),
         stamp: 0,
+        limit: 0,
         payload,
     };
     let serves = Step::UpperServes {
@@ -236,7 +237,7 @@ fn heard(packet: usize) -> Step {
     }
 }
 
-fn lower_takes(alloc: Global, pair: &mut Pair, packet: usize) -> Result<(), Fail> {
+pub(crate) fn lower_takes(alloc: Global, pair: &mut Pair, packet: usize) -> Result<(), Fail> {
     step(alloc, pair, heard(packet))?;
     step(alloc, pair, Step::LowerMakes)?;
     step(alloc, pair, Step::LowerAnswers { is_sent: true })

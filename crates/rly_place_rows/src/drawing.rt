@@ -3,7 +3,7 @@ ghost use Rattle.std.specs.Prelude.{◌≡◌, IfOk, IsTrue};
 ghost use Rattle.rly_core.specs.Limits.{IsWithinLimits};
 ghost use Rattle.rly_segment.specs.Device.{IsLayout};
 
-use rly_checkpoint::{DecodeFault, Place, Stored, read_state};
+use rly_checkpoint::{DecodeFault, HeadForm, Place, Stored, read_state};
 use rly_core::limits::{MAX_SEGMENTS, SEGMENT_LENGTH_LIMIT};
 use rly_core::{Geometry, Params};
 use rly_disk::{Disk, DiskCall, MemDisk, ToldCall, Watched};
@@ -32,8 +32,8 @@ pub(crate) const FOUR: Geometry = Geometry {
 
 const SIZE: usize = 422_896;
 
-/// One datagram is in flight, whose three bytes lie at 105,900. Three wait: two bytes of the first lie at 211,600, four of the second
-/// at 107,000, and the last has none.
+/// The body of a head of form 1. One datagram is in flight, whose three bytes lie at 105,900. Three wait: two bytes of the first lie at
+/// 211,600, four of the second at 107,000, and the last has none.
 pub(crate) const BODY: [u8; 187] = [
     // five commands were accepted, and the last number of peer 1 is 4; hop 1's last moment is 20
     0, 0, 0, 0, 0, 0, 0, 5, 0, 0, 0, 0, 0, 0, 0, 4, 0, 0, 0, 0, 0, 0, 0, 20,
@@ -73,7 +73,7 @@ pub(crate) fn disk_of(alloc: Global) -> Result<Watched<MemDisk>, AllocError> {
     Ok(Watched::new(MemDisk::new(alloc, bytes), told))
 }
 
-/// The spool of a head's body.
+/// The spool of the body of a head of form 1.
 pub(crate) fn spool_of(
     rt: &impl Abort,
     alloc: Global,
@@ -83,14 +83,14 @@ pub(crate) fn spool_of(
     requires { IsWithinLimits geometry.now.params }
     ensures { IfOk result (λ spool. spool.state.params ≡ geometry.now.params) }
 {
-    match read_state(alloc, geometry.params, body) {
+    match read_state(alloc, HeadForm::First, geometry.params, body) {
         Ok(spool) => Ok(spool),
         Err(DecodeFault::OutOfMemory) => Err(AllocError),
         Err(DecodeFault::Malformed) => panic!(rt; "no state"),
     }
 }
 
-/// The spool of a head's body with the payloads of a segment read.
+/// The spool of such a body with the payloads of a segment read.
 fn drawn_of(
     rt: &impl Abort,
     alloc: Global,
@@ -219,8 +219,9 @@ fn put_inline(body: &mut Vec<u8>, id: u64, length: u16) -> Result<(), AllocError
     Ok(())
 }
 
-/// 2^40 commands were accepted. Of each of the hops 1 to 63 one datagram is in flight, whose 1,200 bytes lie in the last segment. Of
-/// hop 64 there are 40 in flight, the first two inline, and 50 that wait; the others have 100 bytes each there. Peer 1 gave all.
+/// The body of a head of form 1. 2^40 commands were accepted. Of each of the hops 1 to 63 one datagram is in flight, whose 1,200 bytes
+/// lie in the last segment. Of hop 64 there are 40 in flight, the first two inline, and 50 that wait; the others have 100 bytes each
+/// there. Peer 1 gave all.
 fn broad_body(alloc: Global) -> Result<Vec<u8>, AllocError> {
     let mut body = Vec::new(alloc);
     put_numbers(&mut body, &[1_099_511_627_776, 64 * DROPPED + 153])?;

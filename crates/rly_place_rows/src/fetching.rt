@@ -47,12 +47,13 @@ fn place(start: u64, length: u16) -> Option<Place> {
     Some(Place { start, length })
 }
 
-/// A Fetch under a number, at a position, of a payload that lies at a place, if it has bytes.
+/// A Fetch under a number, at a position, of a payload that lies at a place, if it has bytes. Its limit is 1,000 times the number.
 pub(crate) fn wanted(number: u64, position: u64, place: Option<Place>) -> Outcome {
     Outcome::Wanted {
         seat: SeatId(7),
         number,
         position,
+        limit: number.saturating_mul(1_000),
         place,
     }
 }
@@ -62,7 +63,7 @@ fn answered(number: u64) -> Outcome {
     Outcome::Answered(Answer {
         seat: SeatId(8),
         number,
-        reply: Reply::Nothing,
+        reply: Reply::Taken(number),
         position: 50,
     })
 }
@@ -75,10 +76,12 @@ fn read_of(place: u64, count: u64, failed: bool) -> ToldCall {
     }
 }
 
-/// Whether a reply gives these bytes.
-pub(crate) fn gives(reply: &Reply, bytes: &[u8]) -> bool {
+/// Whether a reply gives these bytes, and the limit of a Fetch under that number.
+pub(crate) fn gives(reply: &Reply, number: u64, bytes: &[u8]) -> bool {
     match reply {
-        Reply::Bytes(payload) => payload.as_slice() == bytes,
+        Reply::Bytes { payload, limit } => {
+            payload.as_slice() == bytes && *limit == number.saturating_mul(1_000)
+        }
         _ => false,
     }
 }
@@ -107,12 +110,12 @@ fn a_failed_read_refuses_its_call_alone(rt: HostRuntime) -> Result<(), Fail> {
     let [first, second, third, fourth, fifth] = answers.as_slice() else {
         panic!(rt; "not five answers");
     };
-    expect!(rt; gives(&first.reply, &[10, 11, 12]));
+    expect!(rt; gives(&first.reply, 1, &[10, 11, 12]));
     expect!(rt; first.seat == SeatId(7) && first.number == 1 && first.position == 41);
-    expect!(rt; matches!(second.reply, Reply::Nothing) && second.seat == SeatId(8) && second.position == 50);
-    expect!(rt; gives(&third.reply, &[]));
+    expect!(rt; matches!(second.reply, Reply::Taken(2)) && second.seat == SeatId(8) && second.position == 50);
+    expect!(rt; gives(&third.reply, 3, &[]));
     expect!(rt; matches!(fourth.reply, Reply::Refused(Refusal::DeviceRead)) && fourth.number == 4 && fourth.position == 44);
-    expect!(rt; gives(&fifth.reply, &[255]));
+    expect!(rt; gives(&fifth.reply, 5, &[255]));
     expect!(rt; outcomes.is_empty());
     Ok(())
 }
@@ -147,6 +150,7 @@ fn a_payload_is_read(rt: HostRuntime) -> Result<(), Fail> {
     assert!(rt; there == Some(place));
     let found = read_payload(alloc, &mut disk, Some(place));
     expect!(rt; matches!(&found, Ok(payload) if payload.as_slice() == [1, 2, 3, 4].as_slice()));
+    assert!(rt; disk.size() == 256);
     let failed = read_payload(alloc, &mut disk, Some(place));
     expect!(rt; matches!(failed, Err(Refusal::DeviceRead)));
     let empty = Stored::Inline(Payload::new(Vec::new(alloc)));
@@ -181,7 +185,7 @@ fn far_number(index: u16) -> u64
 
 /// Whether a reply gives the low byte of each place.
 fn gives_low(reply: &Reply, place: Place) -> bool {
-    let Reply::Bytes(payload) = reply else {
+    let Reply::Bytes { payload, .. } = reply else {
         return false;
     };
     let bytes = payload.as_slice();
@@ -204,6 +208,7 @@ fn payloads_of_a_round_are_read_far_away(rt: HostRuntime) -> Result<(), Fail> {
             seat: SeatId(255 - index),
             number: far_number(index),
             position: 1_099_511_627_776 + u64::from(index),
+            limit: 0,
             place: Some(far_place(index)),
         })?;
     }

@@ -64,12 +64,12 @@ fn payloads_of_a_round(rt: HostRuntime) -> Result<(), Fail> {
     answer_all(alloc, &mut disk, &mut outcomes, &mut answers);
     let refused = was_refused(alloc);
     let mut starved = false;
-    for (answer, length) in answers.iter().zip([3usize, 0, 1_200]) {
+    for (answer, (number, length)) in answers.iter().zip([(1, 3usize), (2, 0), (3, 1_200)]) {
         if matches!(answer.reply, Reply::Refused(Refusal::OutOfMemory)) {
             expect!(rt; length > 0 && !starved);
             starved = true;
         } else {
-            expect!(rt; gives(&answer.reply, vec![in alloc; 7u8; length]?.as_slice()));
+            expect!(rt; gives(&answer.reply, number, vec![in alloc; 7u8; length]?.as_slice()));
         }
     }
     expect!(rt; answers.len() == 3 && starved == refused);

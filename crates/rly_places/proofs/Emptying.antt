@@ -15,6 +15,7 @@ use Rattle.rly_machine.specs.declared.command.Command.{Command}
 use Rattle.rly_machine.proofs.Lifting.{step_map}
 use Rattle.rly_machine.proofs.Mapping.{sum_mapped}
 use Rattle.rly_checkpoint.specs.Stored.{IsStorable, stored_length}
+use Rattle.rly_checkpoint.specs.declared.head_form.HeadForm.{HeadForm}
 use Rattle.rly_checkpoint.specs.declared.stored.Stored.{Stored}
 use Rattle.rly_checkpoint.specs.declared.stored.Stored.TheVariants.{Inline, Placed}
 use Rattle.rly_reclaim.specs.Reclaiming.{MayOpen}
@@ -75,18 +76,18 @@ in_segment g segment start from to =
     let below : start / g.length < suc segment = div_below start g.length (suc segment) some (omega (arith, to, suc_times segment g.length)) in
     omega (arith, below, le-div segment start g.length some from)
 
-one_lies_not : (g : Geometry) (segment : ℕ) (p : Stored) → IsStorable p → bytes_in g segment p ≡ 0 → LiesNotIn g segment p
-one_lies_not g segment (Inline payload) storable none = tt
-one_lies_not g segment (Placed place) storable none = λ lies.
+one_lies_not : (which : HeadForm) (g : Geometry) (segment : ℕ) (p : Stored) → IsStorable which p → bytes_in g segment p ≡ 0 → LiesNotIn g segment p
+one_lies_not which g segment (Inline payload) storable none = tt
+one_lies_not which g segment (Placed place) storable none = λ lies.
     let here : segment_of g place.start ≡ segment =
     in_segment g segment (place.start - 64) (omega (arith, lies.from)) (omega (arith, lies.from, lies.to, storable.1)) in
     let all : bytes_in g segment (Placed place) ≡ place.length = ap (λ (b : Bool). cond b place.length 0) (eq-eqb (segment_of g place.start) segment here) in
     omega (arith, none, all, storable.1)
 
-pub none_lies : (g : Geometry) (segment : ℕ) (s : State Stored) → All IsStorable (payloads_of s)
+pub none_lies : (which : HeadForm) (g : Geometry) (segment : ℕ) (s : State Stored) → All (IsStorable which) (payloads_of s)
     → live_in g segment s ≡ 0 → All (LiesNotIn g segment) (payloads_of s)
-none_lies g segment s storable none = λ k d below.
-    one_lies_not g segment (get_or (payloads_of s) k d) (storable k d below)
+none_lies which g segment s storable none = λ k d below.
+    one_lies_not which g segment (get_or (payloads_of s) k d) (storable k d below)
     (none_each (bytes_in g segment) (payloads_of s) (payloads_sum (bytes_in g segment) s ∙ none) k d below)
 
 pub may_open : (g : Geometry) (current segment : ℕ) (s : State Stored) → segment < g.segments → segment ≢ current

@@ -7,7 +7,8 @@ use Rattle.rly_machine.specs.declared.hop.Item.{Item}
 use Rattle.rly_machine.specs.declared.reply.Reply.{Reply}
 use Rattle.rly_machine.specs.Accepted.{is_accepted, unless}
 use Rattle.rly_machine.specs.Map.{payload_of}
-use Rattle.rly_machine.specs.Pick.{outcome_of, pick_refusal}
+use Rattle.rly_machine.specs.Expiry.{expired_count}
+use Rattle.rly_machine.specs.Pick.{pick_outcome, pick_refusal}
 use Rattle.rly_machine.specs.Release.{covered_count, release_refusal}
 use Rattle.rly_machine.specs.State.{State, hop_at, live_bytes}
 use Rattle.rly_machine.specs.Step.{step}
@@ -27,22 +28,23 @@ unless_counts (Some reply) s accepted G counts gives = absurd (omega (arith, cou
 
 pub leaves_sum : {P : Type 0} (len w : P → ℕ) (s : State P) (command : Command P) → is_accepted (step len s command).1 ≡ true
     → live_bytes w (step len s command).0 + sum_by w (leaving len s command) ≡ live_bytes w s + sum_by w (payload_of command)
-leaves_sum {P} len w s (Take peer number hop stamp payload) accepted =
-    unless_counts (take_refusal len s peer number hop stamp (len payload)) s _
+leaves_sum {P} len w s (Take peer number hop stamp limit payload) accepted =
+    unless_counts (take_refusal len s peer number hop stamp limit (len payload)) s _
     (λ (t : State P). live_bytes w t + 0 ≡ live_bytes w s + sum_by w (payload ∷ []))
-    (counted len s (Take peer number hop stamp payload) accepted)
+    (counted len s (Take peer number hop stamp limit payload) accepted)
     (λ none.
-    let may = may_take len s peer number hop stamp (len payload) none in
-    omega (arith, bytes_taken w s hop stamp payload may.hop_from may.hop_to, sum_by-cons w payload []))
+    let may = may_take len s peer number hop stamp limit (len payload) none in
+    omega (arith, bytes_taken w s hop stamp limit payload may.hop_from may.hop_to, sum_by-cons w payload []))
 leaves_sum {P} len w s (Pick hop now) accepted =
-    let outcome = outcome_of len s.params (hop_at s hop) now in
-    let gone = take outcome.dropped (hop_at s hop).queue in
+    let late = expired_count (hop_at s hop) now in
+    let outcome = pick_outcome len s.params (hop_at s hop) now in
+    let gone = take (late + outcome.dropped) (hop_at s hop).queue in
     unless_counts (pick_refusal s hop now) s _
     (λ (t : State P). live_bytes w t + sum_by w (map (λ (item : Item P). item.payload) gone) ≡ live_bytes w s + 0)
     (counted len s (Pick hop now) accepted)
     (λ none.
     let may = may_pick s hop now none in
-    omega (arith, bytes_picked w s hop now outcome may.hop_from may.hop_to, names_sum w gone))
+    omega (arith, bytes_picked w s hop now late outcome may.hop_from may.hop_to, names_sum w gone))
 leaves_sum {P} len w s (Release hop number) accepted =
     let gone = take (covered_count (hop_at s hop) number) (hop_at s hop).flight in
     unless_counts (release_refusal s hop number) s _

@@ -19,7 +19,7 @@ use Rattle.rly_reclaim.specs.Room.{Fits}
 use Rattle.rly_reclaim.proofs.Rooms.{has_room}
 use Rattle.rly_places.specs.Places.{bytes_in, live_by_segment, live_in, segment_of}
 use Rattle.rly_places.specs.Room.{HasRoomFor, inline_bytes, inline_length}
-use Rattle.rly_places.proofs.Weights.{bytes_both, bytes_nine, bytes_less, bytes_none, bytes_same}
+use Rattle.rly_places.proofs.Weights.{bytes_both, bytes_six, bytes_less, bytes_none, bytes_same}
 
 -- of numbers that count from a on, n where one is k: nothing where all are above k
 abbrev count_at : ℕ → ℕ → ℕ → ℕ
@@ -77,20 +77,21 @@ live_length g s = length-map-range_with_len (λ t. live_in g t s) 0 g.segments
 pub live_at : (g : Geometry) (s : State Stored) (t : ℕ) → t < g.segments → slice_index (live_by_segment g s) t ≡ live_in g t s
 live_at g s t below = get_or-map-range_with_len (λ u. live_in g u s) 0 g.segments t t 0 below (omega arith)
 
--- the form of a payload has 9 bytes at most beside those that are inline
-form_length : (p : Stored) → length (stored_form p) ≤ 9 + inline_length p
+-- the form of a payload has 6 bytes at most beside those that are inline
+form_length : (p : Stored) → length (stored_form.form p) ≤ 6 + inline_length p
 form_length (Inline payload) = omega arith
-form_length (Placed place) = let e : length (stored_form (Placed place)) ≡ 9 = refl in omega (arith, e)
+form_length (Placed place) = let e : length (stored_form.form (Placed place)) ≡ 6 = refl in omega (arith, e)
 
+-- which is less than a head of form 1 may have
 pub spelled_bound : (t : State Stored) → IsSound stored_length t
     → length (state_spelled stored_length stored_form t) ≤ 8 + 8 * t.params.peers + 71 * t.params.hops + 27 * live_items t + inline_bytes t
 spelled_bound t sound =
     omega (
       arith,
       spelled_length stored_length stored_form t sound,
-      bytes_less (λ (p : Stored). length (stored_form p)) (λ (p : Stored). 9 + inline_length p) form_length t,
-      bytes_both (λ (p : Stored). 9) inline_length t,
-      bytes_nine t,
+      bytes_less (λ (p : Stored). length (stored_form.form p)) (λ (p : Stored). 6 + inline_length p) form_length t,
+      bytes_both (λ (p : Stored). 6) inline_length t,
+      bytes_six t,
     )
 
 pub has_room_for : (g : Geometry) (s : State Stored) (current free victim : ℕ) → IsIn 2 256 g.segments → Fits g

@@ -25,10 +25,10 @@ sum_less : {X : Type 0} (v w : X → ℕ) → ((x : X) → v x ≤ w x) → (xs 
 sum_less v w less [] = omega arith
 sum_less v w less (x ∷ xs) = omega (arith, sum_by-cons v x xs, sum_by-cons w x xs, less x, sum_less v w less xs)
 
--- nine of each
-sum_nine : {X : Type 0} (xs : List X) → sum_by (λ x. 9) xs ≡ 9 * length xs
-sum_nine [] = refl
-sum_nine {X} (x ∷ xs) = omega (arith, sum_by-cons (λ (y : X). 9) x xs, sum_nine xs)
+-- six of each
+sum_six : {X : Type 0} (xs : List X) → sum_by (λ x. 6) xs ≡ 6 * length xs
+sum_six [] = refl
+sum_six {X} (x ∷ xs) = omega (arith, sum_by-cons (λ (y : X). 6) x xs, sum_six xs)
 
 -- ---- sums over payloads
 
@@ -49,29 +49,29 @@ pub bytes_less : {P : Type 0} (v w : P → ℕ) → ((p : P) → v p ≤ w p) �
 bytes_less {P} v w less s = sum_less (λ (h : HopState P). bytes_of v (live_line h)) (λ h. bytes_of w (live_line h))
     (λ h. sum_less (λ (item : Item P). v item.payload) (λ item. w item.payload) (λ item. less item.payload) (live_line h)) s.hops
 
--- nine of each payload
-nine_hops : {P : Type 0} (hops : List (HopState P))
-    → sum_by (λ h. bytes_of (λ p. 9) (live_line h)) hops ≡ 9 * sum_by (λ h. length (live_line h)) hops
-nine_hops [] = refl
-nine_hops {P} (h ∷ hops) =
-    let first : bytes_of (λ p. 9) (live_line h) ≡ 9 * length (live_line h) = sum_nine (live_line h) in
+-- six of each payload
+six_hops : {P : Type 0} (hops : List (HopState P))
+    → sum_by (λ h. bytes_of (λ p. 6) (live_line h)) hops ≡ 6 * sum_by (λ h. length (live_line h)) hops
+six_hops [] = refl
+six_hops {P} (h ∷ hops) =
+    let first : bytes_of (λ p. 6) (live_line h) ≡ 6 * length (live_line h) = sum_six (live_line h) in
     omega (
       arith,
       first,
-      sum_by-cons (λ (x : HopState P). bytes_of (λ p. 9) (live_line x)) h hops,
+      sum_by-cons (λ (x : HopState P). bytes_of (λ p. 6) (live_line x)) h hops,
       sum_by-cons (λ (x : HopState P). length (live_line x)) h hops,
-      nine_hops hops,
+      six_hops hops,
     )
 
-pub bytes_nine : {P : Type 0} (s : State P) → live_bytes (λ p. 9) s ≡ 9 * live_items s
-bytes_nine s = nine_hops s.hops
+pub bytes_six : {P : Type 0} (s : State P) → live_bytes (λ p. 6) s ≡ 6 * live_items s
+bytes_six s = six_hops s.hops
 
 -- ---- two maps that give the same
 
 items_same : {P Q : Type 0} (f g : P → Q) → ((p : P) → f p ≡ g p) → (items : List (Item P)) → map (map_item f) items ≡ map (map_item g) items
 items_same f g same [] = refl
 items_same {P} {Q} f g same (item ∷ items) =
-    ap (λ (q : Q). let x : Item Q = record { id = item.id; stamp = item.stamp; payload = q } in x ∷ map (map_item f) items) (same item.payload)
+    ap (λ (q : Q). let x : Item Q = record { id = item.id; stamp = item.stamp; limit = item.limit; payload = q } in x ∷ map (map_item f) items) (same item.payload)
     ∙ ap (λ (rest : List (Item Q)). map_item g item ∷ rest) (items_same f g same items)
 
 hop_same : {P Q : Type 0} (f g : P → Q) → ((p : P) → f p ≡ g p) → (h : HopState P) → map_hop f h ≡ map_hop g h

@@ -1,14 +1,16 @@
 -- What an accepted command takes away of a spool.
-use Rattle.std.specs.Prelude.{ℕ, List, [], map, take}
+use Rattle.std.specs.Prelude.{ℕ, ◌+◌, List, [], map, take}
 use Rattle.rly_machine.specs.declared.command.Command.{Command}
 use Rattle.rly_machine.specs.declared.command.Command.TheVariants.{Take, Pick, Release}
 use Rattle.rly_machine.specs.Release.{covered_count}
 use Rattle.rly_machine.specs.State.{State, hop_at}
-use Rattle.rly_machine.specs.Step.{drops_of}
+use Rattle.rly_machine.specs.Step.{drops_of, expires_of}
 
--- the payloads that are gone: of the items that a Pick drops, and of those in flight that a Release names
+-- the payloads that are gone: of the items that expire at a Pick and that it drops, and of those in flight that a
+-- Release names
 abbrev pub leaving : {P : Type 0} → (P → ℕ) → State P → Command P → List P
-leaving len s (Take peer number hop stamp payload) = []
-leaving len s (Pick hop now) = map (λ item. item.payload) (take (drops_of len s hop now) (hop_at s hop).queue)
+leaving len s (Take peer number hop stamp limit payload) = []
+leaving len s (Pick hop now) =
+    map (λ item. item.payload) (take (expires_of s hop now + drops_of len s hop now) (hop_at s hop).queue)
 leaving len s (Release hop number) =
     map (λ item. item.payload) (take (covered_count (hop_at s hop) number) (hop_at s hop).flight)

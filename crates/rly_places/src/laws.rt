@@ -10,6 +10,7 @@ ghost use Rattle.rly_machine.specs.State.{State};
 ghost use Rattle.rly_machine.specs.Step.{step};
 ghost use Rattle.rly_machine.specs.declared.command.Command.{Command};
 ghost use Rattle.rly_checkpoint.specs.Stored.{IsStorable, payload_in, state_in, stored_length};
+ghost use Rattle.rly_checkpoint.specs.declared.head_form.HeadForm.{HeadForm};
 ghost use Rattle.rly_checkpoint.specs.declared.stored.Place.{Place};
 ghost use Rattle.rly_checkpoint.specs.declared.stored.Stored.{Stored};
 ghost use Rattle.rly_checkpoint.specs.declared.stored.Stored.TheVariants.{Placed};
@@ -62,7 +63,7 @@ pub fn law_leaving()
 
 /// No payload by place lies in a segment without live bytes, which may be opened where it isn't the current one.
 pub fn law_none_lies()
-    ensures lies { (g : Geometry) (segment : ℕ) (s : State Stored) → All IsStorable (payloads_of s)
+    ensures lies { (which : HeadForm) (g : Geometry) (segment : ℕ) (s : State Stored) → All (IsStorable which) (payloads_of s)
         → live_in g segment s ≡ 0 → All (LiesNotIn g segment) (payloads_of s) }
     ensures opens { (g : Geometry) (current segment : ℕ) (s : State Stored) → segment < g.segments → segment ≢ current
         → live_in g segment s ≡ 0 → MayOpen (live_by_segment g s) current segment }

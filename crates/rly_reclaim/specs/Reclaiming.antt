@@ -24,11 +24,11 @@ pub record IsVictim (live : List ℕ) (free segment : ℕ) : Type 0 where
   pub fewest : (s : ℕ) → s < length live → s ≢ free → slice_index live segment ≤ slice_index live s
   pub first : (s : ℕ) → s < segment → s ≢ free → slice_index live segment < slice_index live s
 
--- the bytes of a head with so many entries by place and so many inline, whose payloads have so many bytes:
--- up to the gate of the first group
+-- the bytes of a head as it is written, of form 2, with so many entries by place and so many inline, whose payloads
+-- have so many bytes: up to the gate of the first group
 abbrev pub head_length : Geometry → ℕ → ℕ → ℕ → ℕ
 head_length g by_place inline payload_bytes =
-    21 + 8 * g.params.peers + 71 * g.params.hops + 27 * by_place + 19 * inline + payload_bytes
+    21 + 8 * g.params.peers + 64 * g.params.hops + 26 * by_place + 21 * inline + payload_bytes
 
 -- the live payload bytes of each segment once the victim's payloads moved into the head of the segment that was opened
 abbrev pub moved : List ℕ → ℕ → ℕ → List ℕ

@@ -6,7 +6,8 @@ use Rattle.rly_core.specs.declared.params.Geometry.{Geometry}
 abbrev pub group_room : ℕ
 group_room = 78280
 
--- the least length of a device's segments
+-- the least length of a device's segments: as long as heads of form 1 need it, of 71 bytes a hop and 27 an item; a head
+-- of form 2 is shorter, so it finds room wherever one of form 1 did
 abbrev pub least_length : Geometry → ℕ
 least_length g =
     21 + 8 * g.params.peers + 71 * g.params.hops + 27 * g.params.items + g.params.bytes / (g.segments - 1) + group_room

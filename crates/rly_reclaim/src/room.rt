@@ -15,10 +15,10 @@ const HEAD_BYTES: u64 = 21;
 /// The bytes of a peer in a head.
 const PEER_BYTES: u64 = 8;
 
-/// The bytes of a hop in a head, without its items.
+/// The bytes of a hop in a head, without its items: those of form 1, which is the longer one.
 const HOP_BYTES: u64 = 71;
 
-/// The bytes of an item in a head whose payload stands in another segment.
+/// The bytes of an item in a head whose payload stands in another segment, of form 1 too.
 const ITEM_BYTES: u64 = 27;
 
 /// The least length of the segments of a device, in bytes.

@@ -14,7 +14,7 @@ use Rattle.rly_machine.specs.declared.command.Command.{Command}
 use Rattle.rly_machine.specs.declared.command.Command.TheVariants.{Take, Pick, Release}
 use Rattle.rly_record.specs.declared.decode_fault.DecodeFault.{DecodeFault}
 use Rattle.rly_record.specs.declared.decode_fault.DecodeFault.TheVariants.{OutOfMemory, Malformed}
-use Rattle.rly_record.specs.Spelling.{IsShort, record_of, record_length, body_of, body_length, HasRecord, HaveBody}
+use Rattle.rly_record.specs.Spelling.{IsRecordable, IsShort, record_of, record_length, body_of, body_length, HasRecord, HaveBody}
 use Rattle.rly_record.specs.HelpersReading.{◌>>=◌, Fails, Gives, behind, in_front, many_at, field_at, command_at, body_at, whole_body}
 use Rattle.rly_record.proofs.Fields.{IsBytes, bind_some, bind_is, some_is, Takes, Takes-then, wide_2, number_takes, number_again}
 use Rattle.rly_record.proofs.Readers.{Reads, many_reads}
@@ -179,13 +179,23 @@ lengths_end commands i all = ap (sum_by (record_length length)) (drop_all i comm
 
 -- the record of a command with a short payload
 pub record_length-short : (command : Command (List ℕ)) → IsShort command → record_length length command ≤ 1223
-record_length-short (Take peer number hop stamp payload) short = omega (arith, short)
+record_length-short (Take peer number hop stamp limit payload) short = omega (arith, short)
 record_length-short (Pick hop now) short = omega arith
 record_length-short (Release hop number) short = omega arith
 
+-- a command that can be recorded has a short payload
+pub recordable_short : (command : Command (List ℕ)) → IsRecordable command → IsShort command
+recordable_short (Take peer number hop stamp limit payload) recordable = recordable.0
+recordable_short (Pick hop now) recordable = tt
+recordable_short (Release hop number) recordable = tt
+
 -- what holds of all holds of the one at a place
-pub short_at : (commands : List (Command (List ℕ))) (i : ℕ) (command : Command (List ℕ)) → All IsShort commands → i < length commands → command ≡ get_or commands i command → IsShort command
-short_at commands i command short lt is = subst IsShort (sym is) (short i command lt)
+pub recordable_at : (commands : List (Command (List ℕ))) (i : ℕ) (command : Command (List ℕ)) → All IsRecordable commands → i < length commands → command ≡ get_or commands i command
+    → IsRecordable command
+recordable_at commands i command recordable lt is = subst IsRecordable (sym is) (recordable i command lt)
+
+pub short_at : (commands : List (Command (List ℕ))) (i : ℕ) (command : Command (List ℕ)) → All IsRecordable commands → i < length commands → command ≡ get_or commands i command → IsShort command
+short_at commands i command recordable lt is = recordable_short command (recordable_at commands i command recordable lt is)
 
 -- one more command that has a record
 pub has_next : (commands : List (Command (List ℕ))) (i : ℕ) (command : Command (List ℕ)) → i < length commands → command ≡ get_or commands i command → HasRecord command
@@ -222,7 +232,7 @@ length-body_of commands =
     cut ∙ ap (λ (n : ℕ). 2 + n) (sum-lengths commands)
 
 pub record_length-has : (command : Command (List ℕ)) → HasRecord command → record_length length command ≤ 1223
-record_length-has (Take peer number hop stamp payload) has = omega (arith, has.4)
+record_length-has (Take peer number hop stamp limit payload) has = omega (arith, has.4)
 record_length-has (Pick hop now) has = omega arith
 record_length-has (Release hop number) has = omega arith
 

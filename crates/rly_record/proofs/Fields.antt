@@ -1,10 +1,10 @@
 -- A field that is read is the field that was written, and what was written is read again.
-use Rattle.std.proofs.Common.{◌≡◌, ℕ, suc, ◌+◌, ◌^◌, ◌<◌, ◌≤◌, Bool, true, false, cond, ◌||◌, ltb, List, ◌∷◌, ◌++◌, ◌⊎◌, length, get_or, take, drop, Option, Some, None, refl, sym, ap, subst, ◌∙◌, append_assoc, arith, inl, inr}
+use Rattle.std.proofs.Common.{◌≡◌, ℕ, zero, suc, ◌+◌, ◌^◌, ◌<◌, ◌≤◌, Bool, true, false, cond, ◌||◌, ltb, List, ◌∷◌, ◌++◌, ◌⊎◌, length, get_or, take, drop, Option, Some, None, refl, sym, ap, subst, ◌∙◌, append_assoc, arith, inl, inr}
 use Rattle.std.proofs.lemmas.Bool.{cases_lt, ltb-false, le-ltb, or_parts, or_from}
 use Rattle.std.proofs.lemmas.List.{take_at, drop_at, take-append-drop, length-append, length-take, get_or-drop, get_or-take, get_or_past}
 use Rattle.std.proofs.lemmas.Nat.{be_bytes_2, be_bytes_4, be_bytes_8}
 use Rattle.byteorder.specs.Endian.{big_bytes, big_number}
-use Rattle.byteorder.specs.Numbers.{big_from-lt, big_number-reads_back, length-bytes_high_first}
+use Rattle.byteorder.specs.Numbers.{big_from-cons, big_from-lt, big_number-reads_back, length-bytes_high_first}
 use Rattle.rly_record.specs.HelpersReading.{◌>>=◌, field_at, payload_at}
 
 -- each item is a byte
@@ -80,6 +80,34 @@ pub wide_8 : IsWide 8
 wide_8 bytes fits long =
     be_bytes_8 (take 8 bytes) (big_number 8 bytes) (omega (arith, length-take 8 bytes)) (IsBytes-take 8 bytes fits)
     (omega (arith, item 8 0 bytes (omega arith), item 8 1 bytes (omega arith), item 8 2 bytes (omega arith), item 8 3 bytes (omega arith), item 8 4 bytes (omega arith), item 8 5 bytes (omega arith), item 8 6 bytes (omega arith), item 8 7 bytes (omega arith)))
+
+-- a byte 0 in front
+IsBytes-zero : (bytes : List ℕ) → IsBytes bytes → IsBytes (0 ∷ bytes)
+IsBytes-zero bytes fits zero = omega arith
+IsBytes-zero bytes fits (suc i) = fits i
+
+-- a number is spelled as one of a byte more is that begins with a byte 0
+wide_below : (width : ℕ) → IsWide (suc width) → IsWide width
+wide_below width wide bytes fits long =
+    let moved = big_from-cons 0 width 0 bytes in
+    let same : big_number (suc width) (0 ∷ bytes) ≡ big_number width bytes = omega (arith, moved) in
+    ap (big_bytes width) (sym same) ∙ ap (drop 1) (wide (0 ∷ bytes) (IsBytes-zero bytes fits) (omega (arith, long)))
+
+pub wide_7 : IsWide 7
+wide_7 = wide_below 7 wide_8
+
+pub wide_6 : IsWide 6
+wide_6 = wide_below 6 wide_7
+
+pub wide_5 : IsWide 5
+wide_5 = wide_below 5 wide_6
+
+pub wide_1 : IsWide 1
+wide_1 = wide_below 1 wide_2
+
+-- a field of no bytes, which reads as 0
+pub wide_0 : IsWide 0
+wide_0 bytes fits long = refl
 
 pub number_takes : (width : ℕ) → IsWide width → (bytes : List ℕ) (n : ℕ) (rest : List ℕ) → IsBytes bytes → field_at width bytes ≡ Some (n, rest) → Takes bytes (big_bytes width n) rest × (n < 256 ^ width)
 number_takes width wide bytes n rest fits e =

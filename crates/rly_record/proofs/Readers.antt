@@ -4,24 +4,40 @@ use Rattle.std.specs.List.{AllByRecursion, flat_map}
 use Rattle.std.proofs.lemmas.List.Concat.{flat_map-cons}
 use Rattle.byteorder.specs.Endian.{big_bytes}
 use Rattle.rly_record.specs.HelpersReading.{◌>>=◌, Reader, ◌⊗◌, made_at, many_at, field_at, then_at}
-use Rattle.rly_record.proofs.Fields.{IsBytes, bind_some, bind_is, some_is, Takes, Takes-then, IsWide, wide_2, wide_4, wide_8, number_takes, number_again}
+use Rattle.rly_record.proofs.Fields.{IsBytes, bind_some, bind_is, some_is, Takes, Takes-then, IsWide, wide_0, wide_1, wide_2, wide_4, wide_5, wide_6, wide_7, wide_8, number_takes, number_again}
 
 -- what is read is what was spelled, and what is spelled is read again
 pub record Reads {A : Type 0} (read : Reader A) (spell : A → List ℕ) (Fits : A → Type 0) : Type 0 where
   pub takes : (bytes : List ℕ) (a : A) (rest : List ℕ) → IsBytes bytes → read bytes ≡ Some (a, rest) → Takes bytes (spell a) rest × Fits a
   pub again : (a : A) (rest : List ℕ) → Fits a → read (spell a ++ rest) ≡ Some (a, rest)
 
-number_reads : (width : ℕ) → IsWide width → Reads (field_at width) (big_bytes width) (λ n. n < 256 ^ width)
+pub number_reads : (width : ℕ) → IsWide width → Reads (field_at width) (big_bytes width) (λ n. n < 256 ^ width)
 number_reads width wide = record {
   takes = λ bytes n rest fits e. number_takes width wide bytes n rest fits e;
   again = λ n rest lt. number_again width n rest lt;
 }
+
+-- a field of no bytes
+pub none_reads : Reads (field_at 0) (big_bytes 0) (λ n. n < 256 ^ 0)
+none_reads = number_reads 0 wide_0
+
+pub u8_reads : Reads (field_at 1) (big_bytes 1) (λ n. n < 256 ^ 1)
+u8_reads = number_reads 1 wide_1
 
 pub u16_reads : Reads (field_at 2) (big_bytes 2) (λ n. n < 256 ^ 2)
 u16_reads = number_reads 2 wide_2
 
 pub u32_reads : Reads (field_at 4) (big_bytes 4) (λ n. n < 256 ^ 4)
 u32_reads = number_reads 4 wide_4
+
+pub u40_reads : Reads (field_at 5) (big_bytes 5) (λ n. n < 256 ^ 5)
+u40_reads = number_reads 5 wide_5
+
+pub u48_reads : Reads (field_at 6) (big_bytes 6) (λ n. n < 256 ^ 6)
+u48_reads = number_reads 6 wide_6
+
+pub u56_reads : Reads (field_at 7) (big_bytes 7) (λ n. n < 256 ^ 7)
+u56_reads = number_reads 7 wide_7
 
 pub u64_reads : Reads (field_at 8) (big_bytes 8) (λ n. n < 256 ^ 8)
 u64_reads = number_reads 8 wide_8

@@ -1,6 +1,6 @@
 -- A record that is read is the record that was written, and what was written is read again.
-use Rattle.std.proofs.Common.{◌≡◌, ℕ, ◌-◌, ◌≤◌, cond, eqb, List, [], ◌∷◌, ◌++◌, length, drop, Option, Some, None, refl, sym, ap, subst, ◌∙◌, append_assoc, arith, inl, inr}
-use Rattle.std.proofs.lemmas.Bool.{eqb-true}
+use Rattle.std.proofs.Common.{◌≡◌, ℕ, zero, suc, ◌^◌, ◌-◌, ◌<◌, ◌≤◌, false, cond, eqb, List, [], ◌∷◌, ◌++◌, length, drop, Option, Some, None, refl, sym, ap, subst, ◌∙◌, append_assoc, arith, inl, inr}
+use Rattle.std.proofs.lemmas.Bool.{eqb-true, ne_eqb}
 use Rattle.std.proofs.lemmas.List.{drop_at, length-append}
 use Rattle.byteorder.specs.Endian.{big_bytes}
 use Rattle.rly_core.specs.declared.ids.HopId.{HopId}
@@ -9,10 +9,10 @@ use Rattle.rly_machine.specs.declared.command.Command.{Command}
 use Rattle.rly_machine.specs.declared.command.Command.TheVariants.{Take, Pick, Release}
 use Rattle.rly_record.specs.declared.decode_fault.DecodeFault.{DecodeFault}
 use Rattle.rly_record.specs.declared.decode_fault.DecodeFault.TheVariants.{OutOfMemory, Malformed}
-use Rattle.rly_record.specs.Spelling.{record_of, record_length, CarriesBytes, HasRecord}
-use Rattle.rly_record.specs.HelpersReading.{Fails, Reader, made_at, payload_at, take_at, pick_at, release_at, command_at}
-use Rattle.rly_record.proofs.Fields.{IsBytes, IsBytes-rest, bind_some, bind_is, chosen, some_is, Takes, payload_takes, payload_again}
-use Rattle.rly_record.proofs.Readers.{Reads, u16_reads, u64_reads, pair_reads}
+use Rattle.rly_record.specs.Spelling.{limited_take_of, plain_take_of, record_of, record_length, CarriesBytes, HasRecord}
+use Rattle.rly_record.specs.HelpersReading.{◌⊗◌, Fails, Reader, field_at, limit_at, made_at, payload_at, take_at, pick_at, release_at, limited_take_at, command_at}
+use Rattle.rly_record.proofs.Fields.{IsBytes, IsBytes-rest, bind_some, bind_is, chosen, guard_some, some_is, Takes, wide_5, number_again, number_takes, payload_takes, payload_again}
+use Rattle.rly_record.proofs.Readers.{Reads, u8_reads, u16_reads, u48_reads, u56_reads, u64_reads, pair_reads}
 
 -- what is read of a record: the command and the bytes after it
 abbrev pub Found : Type 0
@@ -20,13 +20,13 @@ Found = Command (List ℕ) × List ℕ
 
 -- a record of a kind is read by what reads its fields
 fields_take : {A : Type 0} {read : Reader A} {s : A → List ℕ} {F : A → Type 0} (kind : ℕ) (made : A → Command (List ℕ))
-    → Reads read s F → ((a : A) → kind ∷ s a ≡ record_of (made a)) → ((a : A) → F a → HasRecord (made a))
+    → Reads read s F → ((a : A) → F a → kind ∷ s a ≡ record_of (made a)) → ((a : A) → F a → HasRecord (made a))
     → (bytes : List ℕ) (x : Found) → IsBytes bytes → made_at made read bytes ≡ Some x → Takes (kind ∷ bytes) (record_of x.0) x.1 × HasRecord x.0
 fields_take {A} {read} kind made reads spelled has bytes x fits e =
     let a = bind_some (read bytes) (λ (y : A × List ℕ). Some (made y.0, y.1)) x e in
     let t = reads.takes bytes a.0.0 a.0.1 fits a.1 in
     subst (λ (y : Found). Takes (kind ∷ bytes) (record_of y.0) y.1 × HasRecord y.0) (some_is (made a.0.0, a.0.1) x a.2)
-    (record { parts = ap (λ (l : List ℕ). kind ∷ l) t.0.parts ∙ ap (λ (l : List ℕ). l ++ a.0.1) (spelled a.0.0); rest_fits = t.0.rest_fits }, has a.0.0 t.1)
+    (record { parts = ap (λ (l : List ℕ). kind ∷ l) t.0.parts ∙ ap (λ (l : List ℕ). l ++ a.0.1) (spelled a.0.0 t.1); rest_fits = t.0.rest_fits }, has a.0.0 t.1)
 
 fields_again : {A : Type 0} {read : Reader A} {s : A → List ℕ} {F : A → Type 0} (made : A → Command (List ℕ))
     → Reads read s F → (a : A) (rest : List ℕ) → F a → made_at made read (s a ++ rest) ≡ Some (made a, rest)
@@ -44,7 +44,75 @@ abbrev TakeFields : Type 0
 TakeFields = ℕ × (ℕ × (ℕ × (ℕ × List ℕ)))
 
 abbrev take_made : TakeFields → Command (List ℕ)
-take_made x = Take (record { 0 = x.0 }) x.1.0 (record { 0 = x.1.1.0 }) x.1.1.1.0 x.1.1.1.1
+take_made x = Take (record { 0 = x.0 }) x.1.0 (record { 0 = x.1.1.0 }) x.1.1.1.0 0 x.1.1.1.1
+
+-- and of a Take with a limit
+abbrev LimitedFields : Type 0
+LimitedFields = ℕ × (ℕ × (ℕ × (ℕ × (ℕ × List ℕ))))
+
+abbrev limited_made : LimitedFields → Command (List ℕ)
+limited_made x = Take (record { 0 = x.0 }) x.1.0 (record { 0 = x.1.1.0 }) x.1.1.1.0 x.1.1.1.1.0 x.1.1.1.1.1
+
+positive : (n : ℕ) → eqb n 0 ≡ false → 0 < n
+positive zero e = absurd cc
+positive (suc n) e = omega arith
+
+-- a limit is read that isn't 0
+limit_takes : (bytes : List ℕ) (limit : ℕ) (rest : List ℕ) → IsBytes bytes → limit_at bytes ≡ Some (limit, rest)
+    → Takes bytes (big_bytes 5 limit) rest × ((0 < limit) × (limit < 256 ^ 5))
+unfolding limit_at
+limit_takes bytes limit rest fits e =
+    let a = bind_some (field_at 5 bytes) (λ (found : ℕ × List ℕ). cond (eqb found.0 0) None (Some found)) (limit, rest) e in
+    let g = guard_some (eqb a.0.0 0) a.0 (limit, rest) a.2 in
+    let t = number_takes 5 wide_5 bytes a.0.0 a.0.1 fits a.1 in
+    subst (λ (x : ℕ × List ℕ). Takes bytes (big_bytes 5 x.0) x.1 × ((0 < x.0) × (x.0 < 256 ^ 5))) g.1 (t.0, (positive a.0.0 g.0, t.1))
+
+limit_again : (limit : ℕ) (rest : List ℕ) → (0 < limit) × (limit < 256 ^ 5) → limit_at (big_bytes 5 limit ++ rest) ≡ Some (limit, rest)
+unfolding limit_at
+limit_again limit rest fits =
+    bind_is (field_at 5 (big_bytes 5 limit ++ rest)) (limit, rest) (λ (found : ℕ × List ℕ). cond (eqb found.0 0) None (Some found)) (Some (limit, rest))
+    (number_again 5 limit rest fits.1) (rw (ne_eqb limit 0 (λ none. omega (arith, fits.0))) refl)
+
+limit_reads : Reads limit_at (big_bytes 5) (λ n. (0 < n) × (n < 256 ^ 5))
+limit_reads = record { takes = limit_takes; again = limit_again }
+
+-- the fields of a Take with a limit: how they are read, how they are spelled, and that they fit
+abbrev limited_fields_at : Reader LimitedFields
+limited_fields_at = field_at 1 ⊗ field_at 6 ⊗ field_at 1 ⊗ field_at 7 ⊗ limit_at ⊗ payload_at
+
+abbrev limited_text : LimitedFields → List ℕ
+limited_text x =
+    big_bytes 1 x.0 ++ big_bytes 6 x.1.0 ++ big_bytes 1 x.1.1.0 ++ big_bytes 7 x.1.1.1.0 ++ big_bytes 5 x.1.1.1.1.0
+    ++ big_bytes 2 (length x.1.1.1.1.1) ++ x.1.1.1.1.1
+
+abbrev LimitedFit : LimitedFields → Type 0
+LimitedFit x =
+    (x.0 < 256 ^ 1) × ((x.1.0 < 256 ^ 6) × ((x.1.1.0 < 256 ^ 1) × ((x.1.1.1.0 < 256 ^ 7) × (((0 < x.1.1.1.1.0) × (x.1.1.1.1.0 < 256 ^ 5))
+    × (length x.1.1.1.1.1 ≤ 1200)))))
+
+limited_reads : Reads limited_fields_at limited_text LimitedFit
+limited_reads = pair_reads u8_reads (pair_reads u48_reads (pair_reads u8_reads (pair_reads u56_reads (pair_reads limit_reads payload_reads))))
+
+-- a Take with a limit has the record that such a one has
+pub limited_record : (peer : PeerId) (number : ℕ) (hop : HopId) (stamp limit : ℕ) (payload : List ℕ) → 0 < limit
+    → limited_take_of peer number hop stamp limit payload ≡ record_of (Take peer number hop stamp limit payload)
+unfolding record_of
+limited_record peer number hop stamp zero payload above = absurd (omega (arith, above))
+limited_record peer number hop stamp (suc limit) payload above = refl
+
+limited_spelled : (x : LimitedFields) → LimitedFit x → 5 ∷ limited_text x ≡ record_of (limited_made x)
+unfolding limited_take_of
+limited_spelled x fit = limited_record (record { 0 = x.0 }) x.1.0 (record { 0 = x.1.1.0 }) x.1.1.1.0 x.1.1.1.1.0 x.1.1.1.1.1 fit.1.1.1.1.0.0
+
+limited_has : (x : LimitedFields) → LimitedFit x → HasRecord (limited_made x)
+limited_has x fit = (
+  omega (arith, fit.0),
+  omega (arith, fit.1.0),
+  omega (arith, fit.1.1.0),
+  omega (arith, fit.1.1.1.0),
+  fit.1.1.1.1.1,
+  λ above. record { peer = fit.0; number = fit.1.0; hop = fit.1.1.0; stamp = fit.1.1.1.0; limit = fit.1.1.1.1.0.1 },
+)
 
 abbrev pick_made : ℕ × ℕ → Command (List ℕ)
 pick_made x = Pick (record { 0 = x.0 }) x.1
@@ -53,26 +121,33 @@ abbrev release_made : ℕ × ℕ → Command (List ℕ)
 release_made x = Release (record { 0 = x.0 }) x.1
 
 pub command_takes : (bytes : List ℕ) (x : Found) → IsBytes bytes → command_at bytes ≡ Some x → Takes bytes (record_of x.0) x.1 × HasRecord x.0
-unfolding command_at take_at pick_at release_at record_of
+unfolding command_at take_at pick_at release_at limited_take_at record_of plain_take_of
 command_takes [] x fits e = absurd cc
 command_takes (kind ∷ bytes) x fits e =
     let rest-fits = IsBytes-rest kind bytes fits in
     let P : ℕ → Type 0 = λ k. Takes (k ∷ bytes) (record_of x.0) x.1 × HasRecord x.0 in
-    elim (chosen (eqb kind 1) (take_at bytes) (cond (eqb kind 2) (pick_at bytes) (cond (eqb kind 3) (release_at bytes) None)) (Some x) e) [
-      | inl taken ↦ subst P (sym (eqb-true _ _ taken.0)) (fields_take 1 take_made (pair_reads u16_reads (pair_reads u64_reads (pair_reads u16_reads (pair_reads u64_reads payload_reads)))) (λ a. refl) (λ a h. (h.0, h.1.0, h.1.1.0, h.1.1.1.0, h.1.1.1.1)) bytes x rest-fits taken.1)
-      | inr others ↦ elim (chosen (eqb kind 2) (pick_at bytes) (cond (eqb kind 3) (release_at bytes) None) (Some x) others.1) [
-        | inl picked ↦ subst P (sym (eqb-true _ _ picked.0)) (fields_take 2 pick_made (pair_reads u16_reads u64_reads) (λ a. refl) (λ a has. has) bytes x rest-fits picked.1)
-        | inr last ↦ elim (chosen (eqb kind 3) (release_at bytes) None (Some x) last.1) [
-          | inl released ↦ subst P (sym (eqb-true _ _ released.0)) (fields_take 3 release_made (pair_reads u16_reads u64_reads) (λ a. refl) (λ a has. has) bytes x rest-fits released.1)
-          | inr none ↦ let no : None ≡ Some x = none.1 in absurd cc
+    elim (chosen (eqb kind 1) (take_at bytes) (cond (eqb kind 2) (pick_at bytes) (cond (eqb kind 3) (release_at bytes) (cond (eqb kind 5) (limited_take_at bytes) None))) (Some x) e) [
+      | inl taken ↦ subst P (sym (eqb-true _ _ taken.0)) (fields_take 1 take_made (pair_reads u16_reads (pair_reads u64_reads (pair_reads u16_reads (pair_reads u64_reads payload_reads)))) (λ a has. refl) (λ a h. (h.0, h.1.0, h.1.1.0, h.1.1.1.0, h.1.1.1.1, λ above. absurd (omega (arith, above)))) bytes x rest-fits taken.1)
+      | inr others ↦ elim (chosen (eqb kind 2) (pick_at bytes) (cond (eqb kind 3) (release_at bytes) (cond (eqb kind 5) (limited_take_at bytes) None)) (Some x) others.1) [
+        | inl picked ↦ subst P (sym (eqb-true _ _ picked.0)) (fields_take 2 pick_made (pair_reads u16_reads u64_reads) (λ a has. refl) (λ a has. has) bytes x rest-fits picked.1)
+        | inr last ↦ elim (chosen (eqb kind 3) (release_at bytes) (cond (eqb kind 5) (limited_take_at bytes) None) (Some x) last.1) [
+          | inl released ↦ subst P (sym (eqb-true _ _ released.0)) (fields_take 3 release_made (pair_reads u16_reads u64_reads) (λ a has. refl) (λ a has. has) bytes x rest-fits released.1)
+          | inr limits ↦ elim (chosen (eqb kind 5) (limited_take_at bytes) None (Some x) limits.1) [
+            | inl limited ↦ subst P (sym (eqb-true _ _ limited.0)) (fields_take 5 limited_made limited_reads limited_spelled limited_has bytes x rest-fits limited.1)
+            | inr none ↦ let no : None ≡ Some x = none.1 in absurd cc
+          ]
         ]
       ]
     ]
 
 pub command_again : (command : Command (List ℕ)) (rest : List ℕ) → HasRecord command → command_at (record_of command ++ rest) ≡ Some (command, rest)
-unfolding record_of command_at take_at pick_at release_at
-command_again (Take peer number hop stamp payload) rest fits =
+unfolding record_of plain_take_of limited_take_of command_at take_at pick_at release_at limited_take_at
+command_again (Take peer number hop stamp zero payload) rest fits =
     fields_again take_made (pair_reads u16_reads (pair_reads u64_reads (pair_reads u16_reads (pair_reads u64_reads payload_reads)))) (peer.0, (number, (hop.0, (stamp, payload)))) rest (fits.0, (fits.1, (fits.2, (fits.3, fits.4))))
+command_again (Take peer number hop stamp (suc limit) payload) rest fits =
+    let numbers = fits.5 (omega arith) in
+    fields_again limited_made limited_reads (peer.0, (number, (hop.0, (stamp, (suc limit, payload))))) rest
+    (numbers.peer, (numbers.number, (numbers.hop, (numbers.stamp, ((omega arith, numbers.limit), fits.4)))))
 command_again (Pick hop now) rest fits = fields_again pick_made (pair_reads u16_reads u64_reads) (hop.0, now) rest fits
 command_again (Release hop number) rest fits = fields_again release_made (pair_reads u16_reads u64_reads) (hop.0, number) rest fits
 
@@ -97,18 +172,36 @@ pub record_once : (a b : Command (List ℕ)) (x y : List ℕ) → HasRecord a �
 record_once a b x y fits_a fits_b same = one_reading command_at (record_of a ++ x) (record_of b ++ y) a b x y same (command_again a x fits_a) (command_again b y fits_b)
 
 pub length-record_of : (command : Command (List ℕ)) → length (record_of command) ≡ record_length length command
-unfolding record_of
-length-record_of (Take peer number hop stamp payload) = omega arith
+unfolding record_of plain_take_of limited_take_of
+length-record_of (Take peer number hop stamp zero payload) = omega arith
+length-record_of (Take peer number hop stamp (suc limit) payload) = omega arith
 length-record_of (Pick hop now) = refl
 length-record_of (Release hop number) = refl
 
+-- the front of a Take's record and its payload, where it has no limit and where it has one
+pub plain_front : (peer : PeerId) (number : ℕ) (hop : HopId) (stamp limit size : ℕ) (payload front : List ℕ) → limit ≡ 0 → length payload ≡ size
+    → front ≡ 1 ∷ big_bytes 2 peer.0 ++ big_bytes 8 number ++ big_bytes 2 hop.0 ++ big_bytes 8 stamp ++ big_bytes 2 size
+    → front ++ payload ≡ record_of (Take peer number hop stamp limit payload)
+unfolding record_of plain_take_of
+plain_front peer number hop stamp zero size payload front none long is =
+    ap (λ (t : List ℕ). t ++ payload) is
+    ∙ ap (λ (n : ℕ). (1 ∷ big_bytes 2 peer.0 ++ big_bytes 8 number ++ big_bytes 2 hop.0 ++ big_bytes 8 stamp ++ big_bytes 2 n) ++ payload) (sym long)
+plain_front peer number hop stamp (suc limit) size payload front none long is = absurd (omega (arith, none))
+
+pub limited_front : (peer : PeerId) (number : ℕ) (hop : HopId) (stamp limit size : ℕ) (payload front : List ℕ) → 0 < limit → length payload ≡ size
+    → front ≡ 5 ∷ big_bytes 1 peer.0 ++ big_bytes 6 number ++ big_bytes 1 hop.0 ++ big_bytes 7 stamp ++ big_bytes 5 limit ++ big_bytes 2 size
+    → front ++ payload ≡ record_of (Take peer number hop stamp limit payload)
+unfolding limited_take_of
+limited_front peer number hop stamp limit size payload front above long is =
+    ap (λ (t : List ℕ). t ++ payload) is
+    ∙ ap (λ (n : ℕ). (5 ∷ big_bytes 1 peer.0 ++ big_bytes 6 number ++ big_bytes 1 hop.0 ++ big_bytes 7 stamp ++ big_bytes 5 limit ++ big_bytes 2 n) ++ payload) (sym long)
+    ∙ limited_record peer number hop stamp limit payload above
+
 -- the record of a Take that was written in two parts
-pub take_written : (peer : PeerId) (number : ℕ) (hop : HopId) (stamp : ℕ) (payload fields old middle new : List ℕ)
-    → fields ≡ 1 ∷ big_bytes 2 peer.0 ++ big_bytes 8 number ++ big_bytes 2 hop.0 ++ big_bytes 8 stamp ++ big_bytes 2 (length payload)
-    → middle ≡ old ++ fields → new ≡ middle ++ payload → new ≡ old ++ record_of (Take peer number hop stamp payload)
-unfolding record_of
-take_written peer number hop stamp payload fields old middle new is first last =
-    last ∙ ap (λ (t : List ℕ). t ++ payload) first ∙ append_assoc old fields payload ∙ ap (λ (f : List ℕ). old ++ (f ++ payload)) is
+pub take_written : (command : Command (List ℕ)) (payload front old middle new : List ℕ)
+    → front ++ payload ≡ record_of command → middle ≡ old ++ front → new ≡ middle ++ payload → new ≡ old ++ record_of command
+take_written command payload front old middle new whole first last =
+    last ∙ ap (λ (t : List ℕ). t ++ payload) first ∙ append_assoc old front payload ∙ ap (λ (t : List ℕ). old ++ t) whole
 
 -- what a function found fault with was memory alone, where there was something to read
 pub is_refused : {A : Type 0} (fault : DecodeFault) (read : Option A) (x : A) → Fails fault read → read ≡ Some x → fault ≡ OutOfMemory

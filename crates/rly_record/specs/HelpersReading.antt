@@ -77,11 +77,25 @@ payload_at bytes = do
   size ← field_at 2 bytes
   if nat_lt 1200 size.0 || nat_lt (length size.1) size.0 then None else Some (take size.0 size.1, drop size.0 size.1)
 
--- the fields of a Take
+-- the fields of a Take without a limit
 unfoldable pub take_at : Reader (Command (List ℕ))
 take_at = made_at
-    (λ (peer, (number, (hop, (stamp, payload)))). Take (record { 0 = peer }) number (record { 0 = hop }) stamp payload)
+    (λ (peer, (number, (hop, (stamp, payload)))).
+    Take (record { 0 = peer }) number (record { 0 = hop }) stamp 0 payload)
     (field_at 2 ⊗ field_at 8 ⊗ field_at 2 ⊗ field_at 8 ⊗ payload_at)
+
+-- a limit: five bytes that aren't all 0
+unfoldable pub limit_at : Reader ℕ
+limit_at bytes = do
+  limit ← field_at 5 bytes
+  if limit.0 == 0 then None else Some limit
+
+-- the fields of a Take with a limit
+unfoldable pub limited_take_at : Reader (Command (List ℕ))
+limited_take_at = made_at
+    (λ (peer, (number, (hop, (stamp, (limit, payload))))).
+    Take (record { 0 = peer }) number (record { 0 = hop }) stamp limit payload)
+    (field_at 1 ⊗ field_at 6 ⊗ field_at 1 ⊗ field_at 7 ⊗ limit_at ⊗ payload_at)
 
 -- the fields of a Pick
 unfoldable pub pick_at : Reader (Command (List ℕ))
@@ -98,6 +112,7 @@ command_at (kind ∷ bytes) =
     if kind == 1 then take_at bytes
     else if kind == 2 then pick_at bytes
     else if kind == 3 then release_at bytes
+    else if kind == 5 then limited_take_at bytes
     else None
 
 -- a body: a count of 1 to 64, and so many records

@@ -7,18 +7,20 @@ pub(crate) enum Kind {
     Take = 1,
     Pick = 2,
     Release = 3,
+    LimitedTake = 5,
 }
 
 impl Kind {
     /// The kind that the byte says, if it says one.
     pub(crate) fn from_byte(byte: u8) -> Option<Kind>
         ensures known { IfSome result (λ kind. byte ≡ record_kind_byte kind) }
-        ensures unknown { IfNone result (((byte == 1) || (byte == 2) || (byte == 3)) ≡ false) }
+        ensures unknown { IfNone result (((byte == 1) || (byte == 2) || (byte == 3) || (byte == 5)) ≡ false) }
     {
         match byte {
             1 => Some(Kind::Take),
             2 => Some(Kind::Pick),
             3 => Some(Kind::Release),
+            5 => Some(Kind::LimitedTake),
             _ => None,
         }
     }

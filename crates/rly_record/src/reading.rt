@@ -1,7 +1,8 @@
 ghost use Rattle.std.specs.Prelude.{◌≡◌, ◌≤◌, ◌<◌, ◌++◌, ◌∷◌, ℕ, List, length, drop, Some, Err, IfOk, IsOkUnless, IsSome, MatchResult, OnErr};
+ghost use Rattle.rly_core.specs.Bounds.{IsIn};
 ghost use Rattle.rly_machine.specs.declared.command.Command.{Command};
 ghost use Rattle.rly_record.specs.Spelling.{CarriesBytes, HasRecord, HaveBody, body_of, record_of};
-ghost use Rattle.rly_record.specs.HelpersReading.{Gives, behind, command_at, command_bytes, in_front, many_at, field_at, payload_at, pick_at, release_at, take_at, whole_body};
+ghost use Rattle.rly_record.specs.HelpersReading.{Gives, behind, command_at, command_bytes, in_front, limit_at, limited_take_at, many_at, field_at, payload_at, pick_at, release_at, take_at, whole_body};
 
 use crate::decode_fault::DecodeFault;
 use crate::kind::Kind;
@@ -10,6 +11,15 @@ use rly_core::limits::{MAX_PAYLOAD, MAX_ROUND};
 use rly_core::{HopId, PeerId};
 use rly_machine::{Command, Payload};
 use std::alloc::{AllocError, Global};
+
+/// The length in bytes of a number in the record of a Take with a limit.
+const NUMBER_LENGTH: usize = 6;
+
+/// The length in bytes of its stamp.
+const STAMP_LENGTH: usize = 7;
+
+/// The length in bytes of its limit.
+const LIMIT_LENGTH: usize = 5;
 
 /// The command whose record stands at the front of the bytes, and how many bytes that record takes; other bytes may
 /// follow it.
@@ -45,6 +55,29 @@ pub fn read_body(alloc: Global, bytes: &[u8]) -> Result<Vec<Command<Payload>>, D
         (commands : List (Command (List ℕ))) × HaveBody commands × (bytes.now ≡ body_of commands) }
 {
     body_of_bytes(alloc, bytes)
+}
+
+/// A number of one byte, and what stands after it.
+fn u8_of(bytes: &[u8]) -> Result<(u8, &[u8]), DecodeFault>
+    ensures gives { Gives (λ x. (x.0, x.1.now)) result (field_at 1 bytes.now) }
+    ensures malformed { IsOkUnless result DecodeFault.Malformed }
+{
+    let [byte, rest @ ..] = bytes else {
+        return Err(DecodeFault::Malformed);
+    };
+    Ok((*byte, rest))
+}
+
+/// A number of so many bytes, and what stands after it.
+fn uint_of(bytes: &[u8], width: usize) -> Result<(u64, &[u8]), DecodeFault>
+    requires { IsIn 1 8 width }
+    ensures gives { Gives (λ x. (x.0, x.1.now)) result (field_at width bytes.now) }
+    ensures malformed { IsOkUnless result DecodeFault.Malformed }
+{
+    if bytes.len() < width {
+        return Err(DecodeFault::Malformed);
+    }
+    Ok((BigEndian::read_uint(bytes, width), &bytes[width..]))
 }
 
 /// A number of two bytes, and what stands after it.
@@ -83,7 +116,20 @@ fn payload_of(bytes: &[u8]) -> Result<(&[u8], &[u8]), DecodeFault>
     Ok(rest.split_at(length))
 }
 
-/// The fields of a Take.
+/// A limit, which isn't 0, and what stands after it.
+#[tactic(auto, unfolding(crate::specs::HelpersReading::limit_at))]
+fn limit_of(bytes: &[u8]) -> Result<(u64, &[u8]), DecodeFault>
+    ensures gives { Gives (λ x. (x.0, x.1.now)) result (limit_at bytes.now) }
+    ensures malformed { IsOkUnless result DecodeFault.Malformed }
+{
+    let (limit, rest) = uint_of(bytes, LIMIT_LENGTH)?;
+    if limit == 0 {
+        return Err(DecodeFault::Malformed);
+    }
+    Ok((limit, rest))
+}
+
+/// The fields of a Take without a limit.
 #[tactic(auto, unfolding(crate::specs::HelpersReading::take_at))]
 fn take_of(bytes: &[u8]) -> Result<(Command<&[u8]>, &[u8]), DecodeFault>
     ensures gives { Gives (λ x. (command_bytes x.0, x.1.now)) result (take_at bytes.now) }
@@ -99,6 +145,30 @@ fn take_of(bytes: &[u8]) -> Result<(Command<&[u8]>, &[u8]), DecodeFault>
         number,
         hop: HopId(hop),
         stamp,
+        limit: 0,
+        payload,
+    };
+    Ok((command, rest))
+}
+
+/// The fields of a Take with a limit.
+#[tactic(auto, unfolding(crate::specs::HelpersReading::limited_take_at))]
+fn limited_take_of(bytes: &[u8]) -> Result<(Command<&[u8]>, &[u8]), DecodeFault>
+    ensures gives { Gives (λ x. (command_bytes x.0, x.1.now)) result (limited_take_at bytes.now) }
+    ensures malformed { IsOkUnless result DecodeFault.Malformed }
+{
+    let (peer, rest) = u8_of(bytes)?;
+    let (number, rest) = uint_of(rest, NUMBER_LENGTH)?;
+    let (hop, rest) = u8_of(rest)?;
+    let (stamp, rest) = uint_of(rest, STAMP_LENGTH)?;
+    let (limit, rest) = limit_of(rest)?;
+    let (payload, rest) = payload_of(rest)?;
+    let command = Command::Take {
+        peer: PeerId(u16::from(peer)),
+        number,
+        hop: HopId(u16::from(hop)),
+        stamp,
+        limit,
         payload,
     };
     Ok((command, rest))
@@ -141,6 +211,7 @@ fn command_of(bytes: &[u8]) -> Result<(Command<&[u8]>, &[u8]), DecodeFault>
         Kind::Take => take_of(fields),
         Kind::Pick => pick_of(fields),
         Kind::Release => release_of(fields),
+        Kind::LimitedTake => limited_take_of(fields),
     }
 }
 
@@ -155,12 +226,14 @@ fn keep(alloc: Global, command: Command<&[u8]>) -> Result<Command<Payload>, Allo
             number,
             hop,
             stamp,
+            limit,
             payload,
         } => Command::Take {
             peer,
             number,
             hop,
             stamp,
+            limit,
             payload: Payload::copy_of(alloc, payload)?,
         },
         Command::Pick { hop, now } => Command::Pick { hop, now },

@@ -1,9 +1,10 @@
-ghost use Rattle.std.specs.Prelude.{◌≡◌, ◌≤◌, ◌<◌, ◌+◌, ◌^◌, ◌++◌, ◌∷◌, All, length, sum_by, IsOk, OnErr, OnOk, vec_len};
+ghost use Rattle.std.specs.Prelude.{◌≡◌, ◌≤◌, ◌<◌, ◌+◌, ◌^◌, ◌++◌, ◌∷◌, ℕ, All, List, length, sum_by, IsOk, OnErr, OnOk, vec_len};
 ghost use Rattle.std.specs.Vec.{vec_capacity};
 ghost use Rattle.byteorder.specs.Endian.{big_bytes};
 ghost use Rattle.rly_core.specs.Bounds.{IsIn};
+ghost use Rattle.rly_machine.specs.declared.command.Command.TheVariants.{Take};
 ghost use Rattle.rly_record.specs.HelpersKinds.{record_kind_byte};
-ghost use Rattle.rly_record.specs.Spelling.{HasRecord, HaveBody, IsShort, body_length, body_of, record_length, record_of};
+ghost use Rattle.rly_record.specs.Spelling.{FitsLimited, HasRecord, HaveBody, IsLimited, IsRecordable, body_length, body_of, record_length, record_of};
 
 use crate::kind::Kind;
 use byteorder::{BigEndian, ByteOrder};
@@ -34,7 +35,7 @@ pub fn record_len<C: Content>(command: &Command<C>) -> usize
 /// Adds the record of a command at the end of `out`. It takes memory only where `out` lacks the room for it, and an `Err`
 /// leaves the bytes of `out` as they were.
 pub fn write_command(command: &Command<Payload>, out: &mut Vec<u8>) -> Result<(), AllocError>
-    requires { IsShort command.now }
+    requires { IsRecordable command.now }
     ensures command { OnOk result (HasRecord command.now) }
     ensures written { OnOk result (out.new.items ≡ out.old.items ++ record_of command.now) }
     ensures err { OnErr result (out.new.items ≡ out.old.items) }
@@ -50,7 +51,7 @@ pub fn write_command(command: &Command<Payload>, out: &mut Vec<u8>) -> Result<()
 /// `Err` leaves the bytes of `out` as they were.
 pub fn write_body(commands: &[Command<Payload>], out: &mut Vec<u8>) -> Result<(), AllocError>
     requires count { IsIn 1 64 (length commands.now) }
-    requires short { All IsShort commands.now }
+    requires recordable { All IsRecordable commands.now }
     ensures commands { OnOk result (HaveBody commands.now) }
     ensures written { OnOk result (out.new.items ≡ out.old.items ++ body_of commands.now) }
     ensures err { OnErr result (out.new.items ≡ out.old.items) }
@@ -65,7 +66,7 @@ pub fn write_body(commands: &[Command<Payload>], out: &mut Vec<u8>) -> Result<()
 /// How many bytes the body of the commands takes.
 fn body_len(commands: &[Command<Payload>]) -> usize
     requires count { length commands.now ≤ 64 }
-    requires short { All IsShort commands.now }
+    requires recordable { All IsRecordable commands.now }
     ensures { result ≡ body_length length commands.now }
 {
     let mut total = COUNT_LENGTH;
@@ -78,7 +79,7 @@ fn body_len(commands: &[Command<Payload>]) -> usize
 /// Adds a body for which there is room.
 fn append_body(commands: &[Command<Payload>], out: &mut Vec<u8>)
     requires count { IsIn 1 64 (length commands.now) }
-    requires short { All IsShort commands.now }
+    requires recordable { All IsRecordable commands.now }
     requires room { vec_len out.old + body_length length commands.now ≤ vec_capacity out.old }
     ensures commands { HaveBody commands.now }
     ensures items { out.new.items ≡ out.old.items ++ body_of commands.now }
@@ -95,7 +96,7 @@ fn append_body(commands: &[Command<Payload>], out: &mut Vec<u8>)
 /// Adds a record for which there is room.
 #[tactic(auto, unfolding(crate::specs::Spelling::record_of))]
 fn append_record(command: &Command<Payload>, out: &mut Vec<u8>)
-    requires short { IsShort command.now }
+    requires recordable { IsRecordable command.now }
     requires room { vec_len out.old + record_length length command.now ≤ vec_capacity out.old }
     ensures command { HasRecord command.now }
     ensures items { out.new.items ≡ out.old.items ++ record_of command.now }
@@ -108,11 +109,12 @@ fn append_record(command: &Command<Payload>, out: &mut Vec<u8>)
             number,
             hop,
             stamp,
+            limit,
             payload,
         } => {
             let payload = payload.as_slice();
             let size = payload.len() as u16;
-            append(&take_fields(*peer, *number, *hop, *stamp, size), out);
+            append(&take_front(*peer, *number, *hop, *stamp, *limit, size), out);
             append(payload, out);
         }
         Command::Pick { hop, now } => append(&short_record(Kind::Pick, *hop, *now), out),
@@ -133,6 +135,27 @@ fn append(bytes: &[u8], out: &mut Vec<u8>)
 }
 
 /// The record of a Take up to its payload, which is `size` bytes long.
+fn take_front(
+    peer: PeerId,
+    number: u64,
+    hop: HopId,
+    stamp: u64,
+    limit: u64,
+    size: u16,
+) -> [u8; TAKE_LENGTH]
+    requires { 0 < limit → IsLimited peer number hop stamp limit }
+    ensures record { (payload : List ℕ) → length payload ≡ size →
+        result ++ payload ≡ record_of (Take peer number hop stamp limit payload) }
+    ensures fits { (peer.0 < 2 ^ 16) × (number < 2 ^ 64) × (hop.0 < 2 ^ 16) × (stamp < 2 ^ 64)
+        × (0 < limit → FitsLimited peer number hop stamp limit) }
+{
+    if limit == 0 {
+        return take_fields(peer, number, hop, stamp, size);
+    }
+    limited_fields(peer, number, hop, stamp, limit, size)
+}
+
+/// The record of a Take without a limit up to its payload, which is `size` bytes long.
 fn take_fields(peer: PeerId, number: u64, hop: HopId, stamp: u64, size: u16) -> [u8; TAKE_LENGTH]
     ensures fields { result ≡ 1 ∷ big_bytes 2 peer.0 ++ big_bytes 8 number ++ big_bytes 2 hop.0 ++ big_bytes 8 stamp ++ big_bytes 2 size }
     ensures fits { (peer.0 < 2 ^ 16) × (number < 2 ^ 64) × (hop.0 < 2 ^ 16) × (stamp < 2 ^ 64) }
@@ -143,6 +166,29 @@ fn take_fields(peer: PeerId, number: u64, hop: HopId, stamp: u64, size: u16) -> 
     BigEndian::write_u64(&mut fields[3..], number);
     BigEndian::write_u16(&mut fields[11..], hop.0);
     BigEndian::write_u64(&mut fields[13..], stamp);
+    BigEndian::write_u16(&mut fields[21..], size);
+    fields
+}
+
+/// The record of a Take with a limit up to its payload, which is `size` bytes long.
+fn limited_fields(
+    peer: PeerId,
+    number: u64,
+    hop: HopId,
+    stamp: u64,
+    limit: u64,
+    size: u16,
+) -> [u8; TAKE_LENGTH]
+    requires { IsLimited peer number hop stamp limit }
+    ensures { result ≡ 5 ∷ big_bytes 1 peer.0 ++ big_bytes 6 number ++ big_bytes 1 hop.0 ++ big_bytes 7 stamp ++ big_bytes 5 limit ++ big_bytes 2 size }
+{
+    let mut fields = [0; TAKE_LENGTH];
+    fields[0] = Kind::LimitedTake.byte();
+    fields[1] = peer.0 as u8;
+    BigEndian::write_uint(&mut fields[2..], number, 6);
+    fields[8] = hop.0 as u8;
+    BigEndian::write_uint(&mut fields[9..], stamp, 7);
+    BigEndian::write_uint(&mut fields[16..], limit, 5);
     BigEndian::write_u16(&mut fields[21..], size);
     fields
 }

@@ -112,7 +112,7 @@ no_row told has rows never none = record {
 }
 
 fetch_read : (reply told : Reply) (rows : List Try) → AreFetching reply told rows → IsRead told (HasBytes reply) rows
-fetch_read (Bytes payload) told rows fetching = record {
+fetch_read (Bytes payload limit) told rows fetching = record {
   reads = subst Reads (sym fetching.2) (row_reads fetching.0 told, tt);
   fails = λ is some.
       ap (λ l. fails_by false (events_of l)) (fetching.2 ∙ ap (λ t. row_for fetching.0 t ∷ []) is)

@@ -74,6 +74,7 @@ pub(crate) fn ask(alloc: Global, kind: Kind, number: u64) -> Result<Ask, AllocEr
             number,
             hop: HOP,
             stamp: 0,
+            limit: 0,
             payload: Payload::new(vec![in alloc; number.to_le_bytes()[0]; LENGTH]?),
         }),
         Kind::Pick => Ask::Command(Command::Pick { hop: HOP, now: 0 }),
@@ -92,11 +93,18 @@ fn is_due(kind: Kind, number: u64, id: u64, reply: &Reply) -> bool {
             Reply::Picked {
                 number: picked,
                 id: datagram,
+                expired,
                 dropped,
             },
-        ) => *picked == number && *datagram == id && dropped.as_slice().is_empty(),
-        (Kind::Fetch, Reply::Bytes(payload)) => {
-            payload.as_slice().len() == LENGTH
+        ) => {
+            *picked == number
+                && *datagram == id
+                && expired.as_slice().is_empty()
+                && dropped.as_slice().is_empty()
+        }
+        (Kind::Fetch, Reply::Bytes { payload, limit }) => {
+            *limit == 0
+                && payload.as_slice().len() == LENGTH
                 && payload
                     .as_slice()
                     .iter()

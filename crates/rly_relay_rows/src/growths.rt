@@ -22,6 +22,7 @@ fn asks(alloc: Global) -> Result<Vec<Ask>, AllocError> {
             number,
             hop: HOP,
             stamp: 0,
+            limit: 0,
             payload: Payload::new(vec![in alloc; 7u8; 100]?),
         }))?;
     }

@@ -1,5 +1,5 @@
-//! Tests of a relay that runs, step by step: three cycles of takes, picks, fetches and releases, a crash, and an opening; reads of
-//! the device that fail; and steps where one growth of memory is refused.
+//! Tests of a relay that runs, step by step: three cycles of takes, picks, fetches and releases, a crash, and an opening; datagrams
+//! with age limits through every phase of a round; reads of the device that fail; and steps where one growth of memory is refused.
 //!
 //! `Relay::step` may refuse any step for want of memory, and is proved then too. So one row runs with ample memory and
 //! compares every answer. The crate has no code but tests, so no crate may call it.
@@ -9,5 +9,7 @@
 mod cycles;
 #[cfg(test)]
 mod growths;
+#[cfg(test)]
+mod limits;
 #[cfg(test)]
 mod reads;

@@ -19,11 +19,11 @@ shown (reply.Shown status) = Some (Ok status)
 shown (reply.Refused refusal) = Some (Err refusal)
 shown (reply.Taken id) = None
 shown (reply.Already last) = None
-shown (reply.Picked number id dropped) = None
-shown reply.Nothing = None
+shown (reply.Picked number id expired dropped) = None
+shown (reply.Nothing expired) = None
 shown (reply.Released count) = None
 shown reply.Unchanged = None
-shown (reply.Bytes payload) = None
+shown (reply.Bytes payload limit) = None
 shown (reply.WindowIs first next) = None
 
 -- what is told of a hop by that, where it is something

@@ -108,6 +108,7 @@ fn spool<R: Abort>(rt: &R, alloc: Global) -> Machine<Payload> {
         number: 1,
         hop: HopId(1),
         stamp: 0,
+        limit: 0,
         payload: Payload::new(b"\x00\x0c\x41".to_vec(alloc).expect(rt, "memory")),
     };
     let Ok(room) = machine.reserve_for(alloc, &command) else {

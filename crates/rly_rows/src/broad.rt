@@ -51,6 +51,7 @@ fn ask_of(alloc: Global, kind: Kind, id: u16) -> Result<Ask, AllocError> {
             number: 1,
             hop,
             stamp: 0,
+            limit: 0,
             payload: Payload::new(vec![in alloc; 0x41; length_of(id)]?),
         },
         Kind::Pick => Command::Pick { hop, now: 0 },

@@ -1,8 +1,9 @@
-//! A device of two segments as it was written while a journal kept every payload inline: it opens as it is, and is carried on.
+//! A device of two segments as it was written while a journal kept every payload inline, with heads of the first form: it opens as it is,
+//! and is carried on with heads of the second. And what the same rounds write today.
 use crate::comparison::{expect_replies, expect_state, machine_after};
-use crate::device::{DEVICE_E, FIRST_TAKE, SIZE, bytes_of, device_e, opened};
+use crate::device::{DEVICE_E, FIRST_TAKE, SECOND_GATE, SIZE, bytes_of, device_e, opened};
 use crate::script::{Script, Step, ask_all, ask_each, take};
-use crate::stored_devices::{HEAD, HEADER};
+use crate::stored_devices::{FIRST_HEAD, HEAD, HEADER};
 use rly_disk::MemDisk;
 use rly_journal::Journal;
 use rly_machine::{Machine, Payload};
@@ -13,7 +14,8 @@ use std::test::Fail;
 /// How many rounds wrote it, of a step each.
 const ROUNDS: usize = 9;
 
-/// Those rounds. The second segment is opened before the eighth: the offset 5,074 of the gate and 78,280 exceed 82,908.
+/// Those rounds. The second segment is opened before the eighth: the offset 5,074 of the gate and 78,280 exceed 82,908, and so does 5,067
+/// where the first head is of the second form.
 pub(crate) fn steps() -> [Step; ROUNDS] {
     [
         take(1, 0, 1_200),
@@ -34,15 +36,26 @@ const PICKED: [u8; 18] = [0xa5, 0, 0, 0, 0x0d, 0, 1, 2, 0, 1, 0, 0, 0, 0, 0, 0, 
 /// A group of one Release up to 1.
 const RELEASED: [u8; 18] = [0xa5, 0, 0, 0, 0x0d, 0, 1, 3, 0, 1, 0, 0, 0, 0, 0, 0, 0, 1];
 
-/// The second head up to its entries: generation 2, a body of 3,744 bytes, 7 accepted commands, the peer's last 4, CoDel at
+/// The second head of the first form, up to its entries: generation 2, a body of 3,744 bytes, 7 accepted commands, the peer's last 4, CoDel at
 /// first, 4 taken, none dropped, 1 released, 1 in flight and 2 that wait.
-const SECOND_HEAD: [u8; 100] = [
+const OLD_HEAD: [u8; 100] = [
     0xa5, 0, 0, 0, 0, 0, 0, 0, 2, 0, 0, 0x0e, 0xa0, // the gate, the generation and the length
     0, 0, 0, 0, 0, 0, 0, 7, 0, 0, 0, 0, 0, 0, 0, 4, // accepted commands, and the peer's last number
     0, 0, 0, 0, 0, 0, 0, 0, // the hop's last moment
     0, 0, 0, 0, 0, 0, 0, 0, 0, 0, 0, 0, 0, 0, 0, 0, // CoDel
     0, 0, 0, 0, 0, 0, 0, 0, 0, 0, 0, 0, 0, 0, 0, 0, 0, //
     0, 0, 0, 0, 0, 0, 0, 4, 0, 0, 0, 0, 0, 0, 0, 0, 0, 0, 0, 0, 0, 0, 0, 1, // the counts
+    0, 1, 0, 0, 0, 2, // how many are in flight, and how many wait
+];
+
+/// The same of the second form: a body of 3,743 bytes.
+const NEW_HEAD: [u8; 93] = [
+    0xa5, 0, 0, 0, 0, 0, 0, 0, 2, 0x80, 0, 0x0e, 0x9f, // the gate, the generation, the form and the length
+    0, 0, 0, 0, 0, 0, 0, 7, 0, 0, 0, 0, 0, 0, 0, 4, // accepted commands, and the peer's last number
+    0, 0, 0, 0, 0, 0, 0, // the hop's last moment
+    0, 0, 0, 0, 0, 0, 0, 0, 0, 0, 0, 0, 0, 0, // CoDel
+    0, 0, 0, 0, 0, 0, 0, 0, 0, 0, 0, 0, 0, //
+    0, 0, 0, 0, 0, 4, 0, 0, 0, 0, 0, 0, 0, 0, 0, 0, 0, 1, 0, 0, 0, 0, 0, 0, // the counts
     0, 1, 0, 0, 0, 2, // how many are in flight, and how many wait
 ];
 
@@ -67,10 +80,17 @@ fn add_take(bytes: &mut Vec<u8>, number: u8) -> Result<(), AllocError> {
     add_payload(bytes, number)
 }
 
-/// Adds an entry of 1,200 bytes that stand inline.
-fn add_entry(bytes: &mut Vec<u8>, id: u8, number: u8) -> Result<(), AllocError> {
+/// Adds an entry of 1,200 bytes that stand inline, in a head of the first form.
+fn add_old_entry(bytes: &mut Vec<u8>, id: u8, number: u8) -> Result<(), AllocError> {
     bytes.extend_from_slice(&[0, 0, 0, 0, 0, 0, 0, id])?;
     bytes.extend_from_slice(&[0, 0, 0, 0, 0, 0, 0, 0, 0x04, 0xb0, 0])?;
+    add_payload(bytes, number)
+}
+
+/// The same in one of the second, without a limit.
+fn add_entry(bytes: &mut Vec<u8>, id: u8, number: u8) -> Result<(), AllocError> {
+    bytes.extend_from_slice(&[0, 0, 0, 0, 0, id, 0, 0, 0, 0, 0, 0, 0])?;
+    bytes.extend_from_slice(&[0, 0, 0, 0, 0, 0x04, 0xb0, 0])?;
     add_payload(bytes, number)
 }
 
@@ -82,15 +102,17 @@ enum Part {
     ZeroTo(usize),
     /// A group of one Take of 1,200 bytes, each the datagram's number.
     Take(u8),
-    /// An entry of a head, with its id and its number. Its 1,200 bytes stand inline.
+    /// An entry of a head of the first form, with its id and its number. Its 1,200 bytes stand inline.
+    OldEntry(u8, u8),
+    /// The same of the second form.
     Entry(u8, u8),
 }
 
-/// The device, from its beginning to its end.
+/// The device as it was written with heads of the first form, from its beginning to its end.
 const STORED: [Part; 18] = [
     Part::Bytes(&HEADER),
     Part::ZeroTo(64),
-    Part::Bytes(&HEAD),
+    Part::Bytes(&FIRST_HEAD),
     Part::ZeroTo(164),
     Part::Take(1),
     Part::Take(2),
@@ -100,7 +122,29 @@ const STORED: [Part; 18] = [
     Part::Bytes(&RELEASED),
     Part::Take(4),
     Part::ZeroTo(82_972),
-    Part::Bytes(&SECOND_HEAD),
+    Part::Bytes(&OLD_HEAD),
+    Part::OldEntry(2, 2),
+    Part::OldEntry(3, 3),
+    Part::OldEntry(7, 4),
+    Part::Bytes(&LAST_GROUPS),
+    Part::ZeroTo(SIZE),
+];
+
+/// As it is written today.
+const WRITTEN: [Part; 18] = [
+    Part::Bytes(&HEADER),
+    Part::ZeroTo(64),
+    Part::Bytes(&HEAD),
+    Part::ZeroTo(157),
+    Part::Take(1),
+    Part::Take(2),
+    Part::Take(3),
+    Part::Bytes(&PICKED),
+    Part::Bytes(&PICKED),
+    Part::Bytes(&RELEASED),
+    Part::Take(4),
+    Part::ZeroTo(82_972),
+    Part::Bytes(&NEW_HEAD),
     Part::Entry(2, 2),
     Part::Entry(3, 3),
     Part::Entry(7, 4),
@@ -114,6 +158,7 @@ fn add(bytes: &mut Vec<u8>, part: Part) -> Result<(), AllocError> {
         Part::Bytes(more) => bytes.extend_from_slice(more),
         Part::ZeroTo(place) => bytes.resize(place, 0),
         Part::Take(number) => add_take(bytes, number),
+        Part::OldEntry(id, number) => add_old_entry(bytes, id, number),
         Part::Entry(id, number) => add_entry(bytes, id, number),
     }
 }
@@ -157,8 +202,8 @@ fn written(rt: &impl Abort, alloc: Global) -> Result<Vec<u8>, AllocError> {
 #[test]
 fn a_device_with_two_heads(rt: HostRuntime) -> Result<(), Fail> {
     let written = written(&rt, rt.alloc())?;
-    let stored = bytes_of_all(rt.alloc(), &STORED)?;
-    expect!(rt; written.as_slice() == stored.as_slice());
+    let want = bytes_of_all(rt.alloc(), &WRITTEN)?;
+    expect!(rt; written.as_slice() == want.as_slice());
     Ok(())
 }
 
@@ -172,22 +217,22 @@ fn it_opens_as_it_is(rt: HostRuntime) -> Result<(), Fail> {
     Ok(())
 }
 
-/// A round of a take, a pick, a fetch and a release, once the datagrams up to this number were sent.
+/// A round of a release, a take, a pick and a fetch, in which a datagram is sent under this number.
 fn next_round(sent: u8) -> [Step; 5] {
     [
-        take(sent.saturating_add(4), 9, 900),
+        Step::Release {
+            number: u64::from(sent.saturating_sub(1)),
+        },
+        take(sent.saturating_add(4), 9, 800),
         Step::Pick { now: 9 },
         Step::Fetch {
             number: u64::from(sent),
-        },
-        Step::Release {
-            number: u64::from(sent.saturating_sub(1)),
         },
         Step::Show,
     ]
 }
 
-/// Twelve such rounds.
+/// Twelve such rounds. Each takes one, which has room once the one before it is released.
 fn carry_on(
     rt: &impl Abort,
     alloc: Global,
@@ -213,19 +258,27 @@ fn carried(
     Ok(journal.into_disk())
 }
 
-/// Rounds of a take, a pick, a fetch and a release go on from there, until both segments were opened once more.
+/// Whether the head at a place is of the second form: the top bit of its length says so.
+fn is_of_second_form(bytes: &[u8], gate: usize) -> bool {
+    matches!(bytes.get(gate.saturating_add(9)), Some(byte) if *byte >= 0x80)
+}
+
+/// Rounds of a release, a take, a pick and a fetch go on from there. Both segments are opened again and again, with heads of the second
+/// form.
 #[test]
 fn it_is_carried_on(rt: HostRuntime) -> Result<(), Fail> {
     let alloc = rt.alloc();
     let mut machine = machine(alloc)?;
-    let disk = carried(&rt, alloc, &mut machine)?;
+    let mut disk = carried(&rt, alloc, &mut machine)?;
+    let bytes = bytes_of(&rt, alloc, &mut disk)?;
+    expect!(rt; is_of_second_form(&bytes, 64) && is_of_second_form(&bytes, SECOND_GATE));
     let mut journal = opened(&rt, alloc, disk);
     expect_state(&rt, alloc, &mut journal, &mut machine)?;
     Ok(())
 }
 
-/// A device whose head has one datagram that waits, with its one byte inline.
-const ONE_INLINE: [Part; 11] = [
+/// A device whose head, of the first form, has one datagram that waits, with its one byte inline.
+const OLD_INLINE: [Part; 11] = [
     Part::Bytes(&HEADER),
     Part::ZeroTo(64),
     Part::Bytes(&[0xa5, 0, 0, 0, 0, 0, 0, 0, 1, 0, 0, 0, 0x6b]),
@@ -235,6 +288,24 @@ const ONE_INLINE: [Part; 11] = [
     Part::ZeroTo(163),
     Part::Bytes(&[1, 0, 0, 0, 0, 0, 0, 0, 1]),
     Part::ZeroTo(181),
+    Part::Bytes(&[1, 0, 0x41]),
+    Part::ZeroTo(SIZE),
+];
+
+/// The same of the second form.
+const ONE_INLINE: [Part; 11] = [
+    Part::Bytes(&HEADER),
+    Part::ZeroTo(64),
+    Part::Bytes(&[0xa5, 0, 0, 0, 0, 0, 0, 0, 1, 0x80, 0, 0, 0x66]),
+    Part::Bytes(&[0, 0, 0, 0, 0, 0, 0, 1, 0, 0, 0, 0, 0, 0, 0, 1]),
+    // one was taken
+    Part::ZeroTo(132),
+    Part::Bytes(&[1]),
+    // one waits, of id 1
+    Part::ZeroTo(156),
+    Part::Bytes(&[1, 0, 0, 0, 0, 0, 1]),
+    // its length and form, and its payload
+    Part::ZeroTo(176),
     Part::Bytes(&[1, 0, 0x41]),
     Part::ZeroTo(SIZE),
 ];
@@ -252,8 +323,10 @@ fn machine_of_one(alloc: Global) -> Result<Machine<Payload>, AllocError> {
 #[test]
 fn a_head_of_one_inline(rt: HostRuntime) -> Result<(), Fail> {
     let alloc = rt.alloc();
-    let mut machine = machine_of_one(alloc)?;
-    let mut journal = opened_of(&rt, alloc, &ONE_INLINE)?;
-    expect_state(&rt, alloc, &mut journal, &mut machine)?;
+    for parts in [OLD_INLINE.as_slice(), ONE_INLINE.as_slice()] {
+        let mut machine = machine_of_one(alloc)?;
+        let mut journal = opened_of(&rt, alloc, parts)?;
+        expect_state(&rt, alloc, &mut journal, &mut machine)?;
+    }
     Ok(())
 }

@@ -68,6 +68,7 @@ fn take_first(
 pub(crate) const FIRST_TAKE: Step = Step::Take {
     number: 1,
     stamp: 0,
+    limit: 0,
     byte: 0x41,
     length: 1,
 };

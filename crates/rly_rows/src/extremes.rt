@@ -51,6 +51,7 @@ fn takes(alloc: Global, first: u64, length: usize) -> Result<Vec<Step>, AllocErr
         steps.push(Step::Take {
             number,
             stamp: 0,
+            limit: 0,
             byte: number.to_be_bytes()[7],
             length,
         })?;
@@ -185,11 +186,11 @@ const WIDE_FETCHED: [Round; 2] = [
     ]),
 ];
 
-/// The generation and the length of the head of the second segment: 2, and 156,119 bytes, which are 87 and 1,219 for each of
-/// 128.
+/// The generation and the length of the head of the second segment: 2, and 156,368 bytes, which are 80 and 1,221 for each of
+/// 128. The top bit says that it is of the second form.
 const WIDE_HEAD: Found = Found {
     place: 235_501,
-    bytes: &[0, 0, 0, 0, 0, 0, 0, 2, 0, 0x02, 0x61, 0xd7],
+    bytes: &[0, 0, 0, 0, 0, 0, 0, 2, 0x80, 0x02, 0x62, 0xd0],
 };
 
 /// The device once its second segment was opened.
@@ -345,8 +346,8 @@ fn expect_full(rt: &impl Abort, alloc: Global, filling: &Filling) -> Result<(), 
     go_on(rt, alloc, disk, &mut machine, filling.next())
 }
 
-/// A segment is due after the first turn: the offset 17,223,684 and 78,280 exceed 17,297,964. Its head has 17,088,599 bytes, which are
-/// 87 and 1,043 for each of 16,384.
+/// A segment is due after the first turn: the offset 17,223,677 and 78,280 exceed 17,297,964. Its head has 17,121,360 bytes, which are
+/// 80 and 1,045 for each of 16,384.
 #[test]
 fn the_greatest_spool(rt: HostRuntime) -> Result<(), Fail> {
     let filling = Filling {
@@ -355,16 +356,16 @@ fn the_greatest_spool(rt: HostRuntime) -> Result<(), Fail> {
         turns: 1,
         heads: &[Found {
             place: 17_298_029,
-            bytes: &[0, 0, 0, 0, 0, 0, 0, 2, 0x01, 0x04, 0xc0, 0x57],
+            bytes: &[0, 0, 0, 0, 0, 0, 0, 2, 0x81, 0x05, 0x40, 0x50],
         }],
     };
     expect_full(&rt, rt.alloc(), &filling)?;
     Ok(())
 }
 
-/// The second segment is opened where 8,448 datagrams lie in the first: a head of 228,183 bytes, which are 87 and 27 for each of them.
-/// The third is after five turns: the offset 8,876,776 and 78,280 exceed 8,909,356. The 8,128 that are left in the first are moved
-/// into its head, of 8,700,503 bytes: 87, 1,043 for each of them, and 27 for each of the other 8,256.
+/// The second segment is opened where 8,448 datagrams lie in the first: a head of 219,728 bytes, which are 80 and 26 for each of them.
+/// The third is after five turns: the offset 8,868,321 and 78,280 exceed 8,909,356. The 8,128 that are left in the first are moved
+/// into its head, of 8,708,496 bytes: 80, 1,045 for each of them, and 26 for each of the other 8,256.
 #[test]
 fn the_greatest_spool_on_three_segments(rt: HostRuntime) -> Result<(), Fail> {
     let filling = Filling {
@@ -374,11 +375,11 @@ fn the_greatest_spool_on_three_segments(rt: HostRuntime) -> Result<(), Fail> {
         heads: &[
             Found {
                 place: 8_909_421,
-                bytes: &[0, 0, 0, 0, 0, 0, 0, 2, 0, 0x03, 0x7b, 0x57],
+                bytes: &[0, 0, 0, 0, 0, 0, 0, 2, 0x80, 0x03, 0x5a, 0x50],
             },
             Found {
                 place: 17_818_777,
-                bytes: &[0, 0, 0, 0, 0, 0, 0, 3, 0, 0x84, 0xc2, 0x57],
+                bytes: &[0, 0, 0, 0, 0, 0, 0, 3, 0x80, 0x84, 0xe1, 0x90],
             },
         ],
     };

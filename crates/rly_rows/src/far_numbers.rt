@@ -4,7 +4,7 @@ use crate::comparison::is_same;
 use crate::device::{DEVICE_E, SECOND_GATE, SIZE, bytes_of, device_e, formatted, opened};
 use crate::extremes::{Found, Round, ask_both, ask_opened, device_of, expect_found};
 use crate::script::{HOP, Step, ask_all};
-use rly_checkpoint::read_checkpoint;
+use rly_checkpoint::{HeadForm, read_checkpoint};
 use rly_core::{Geometry, Refusal};
 use rly_disk::MemDisk;
 use rly_journal::Journal;
@@ -27,15 +27,16 @@ fn aged_bytes(
     Ok(bytes)
 }
 
-/// The machine that stands in the body of a head of 87 bytes.
+/// The machine that stands in the body of a head of 80 bytes.
 fn machine_at(
     rt: &impl Abort,
     alloc: Global,
     bytes: &[u8],
     place: usize,
 ) -> Result<Machine<Payload>, Fail> {
-    assert!(rt; place < bytes.len() && 87 <= bytes.len() - place);
-    Ok(read_checkpoint(alloc, DEVICE_E.params, &bytes[place..place + 87])?)
+    assert!(rt; place < bytes.len() && 80 <= bytes.len() - place);
+    let body = &bytes[place..place + 80];
+    Ok(read_checkpoint(alloc, HeadForm::Second, DEVICE_E.params, body)?)
 }
 
 /// A device of those bytes, and the machine that it stands for.
@@ -61,6 +62,7 @@ fn pass_forty(
             Step::Take {
                 number,
                 stamp: 0,
+                limit: 0,
                 byte: 0x41,
                 length: 1_200,
             },
@@ -90,7 +92,7 @@ const PASSED: Found = Found {
     bytes: &[0, 0, 0, 0, 0, 1, 0, 6],
 };
 
-/// A datagram of 1,200 bytes passes through in each round of 1,252 bytes. Each segment has four of them: the offset 5,108 and
+/// A datagram of 1,200 bytes passes through in each round of 1,252 bytes. Each segment has four of them: the offset 5,101 and
 /// 78,280 exceed 82,908. So nine segments are opened for forty rounds.
 #[test]
 fn generations_past_65535(rt: HostRuntime) -> Result<(), Fail> {
@@ -118,8 +120,8 @@ const FAR_GATE: usize = 1_048_640;
 /// Copies the first head to the second segment, with generation 2 and one accepted command.
 fn copy_head(rt: &impl Abort, alloc: Global, bytes: &mut [u8]) -> Result<(), AllocError> {
     assert!(rt; bytes.len() == FAR_SIZE);
-    let head = Vec::from_slice(alloc, &bytes[64..164])?;
-    bytes[FAR_GATE..FAR_GATE + 100].copy_from_slice(&head);
+    let head = Vec::from_slice(alloc, &bytes[64..157])?;
+    bytes[FAR_GATE..FAR_GATE + 93].copy_from_slice(&head);
     bytes[FAR_GATE + 8] = 2;
     bytes[FAR_GATE + 20] = 1;
     Ok(())
@@ -138,6 +140,7 @@ const FAR_TAKEN: [Step; 4] = [
     Step::Take {
         number: 1,
         stamp: 0,
+        limit: 0,
         byte: 0x41,
         length: 1_200,
     },
@@ -166,6 +169,7 @@ const LAST_STEPS: [Step; 5] = [
     Step::Take {
         number: 1,
         stamp: 0,
+        limit: 0,
         byte: 0x41,
         length: 1,
     },
@@ -231,6 +235,7 @@ const GREATEST: [(Step, Reply); 8] = [
         Step::Take {
             number: u64::MAX,
             stamp: 0,
+            limit: 0,
             byte: 0,
             length: 1,
         },
@@ -240,6 +245,7 @@ const GREATEST: [(Step, Reply); 8] = [
         Step::Take {
             number: 1,
             stamp: u64::MAX,
+            limit: 0,
             byte: 0,
             length: 1,
         },
@@ -249,6 +255,7 @@ const GREATEST: [(Step, Reply); 8] = [
         Step::Take {
             number: 0,
             stamp: 0,
+            limit: 0,
             byte: 0,
             length: 1,
         },

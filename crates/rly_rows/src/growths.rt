@@ -5,7 +5,7 @@ use crate::comparison::{expect_state, is_same, machine_after, make_all, reply_of
 use crate::device::{DEVICE_E, SIZE, bytes_of, formatted, opened};
 use crate::faults::KINDS;
 use crate::script::{HOP, Script, Step, ask_all, calls_of, take};
-use rly_checkpoint::{DecodeFault, read_checkpoint, write_checkpoint};
+use rly_checkpoint::{DecodeFault, HeadForm, read_checkpoint, write_checkpoint};
 use rly_core::Refusal;
 use rly_disk::{Disk, MemDisk, Torn};
 use rly_journal::Journal;
@@ -17,24 +17,27 @@ use std::alloc::{AllocError, Global};
 use std::process::Abort;
 use std::test::Fail;
 
-/// What stands before the round: three datagrams were taken, two of them picked, and one of these released. It is asked in one
-/// round, so no segment is due.
+/// What stands before the round: three datagrams were taken, the last of them with a limit, two of them picked, and one of these
+/// released. It is asked in one round, so no segment is due.
 const FRONT: [Step; 6] = [
     Step::Take {
         number: 1,
         stamp: 0,
+        limit: 0,
         byte: 1,
         length: 1_200,
     },
     Step::Take {
         number: 2,
         stamp: 100,
+        limit: 0,
         byte: 2,
         length: 1_200,
     },
     Step::Take {
         number: 3,
         stamp: 200,
+        limit: 250,
         byte: 3,
         length: 1_200,
     },
@@ -43,11 +46,12 @@ const FRONT: [Step; 6] = [
     Step::Release { number: 1 },
 ];
 
-/// A round of every kind of ask, some of which no memory is wanted for.
+/// A round of every kind of ask, some of which no memory is wanted for. Its first Pick finds the one with a limit expired.
 const ROUND: [Step; 9] = [
     Step::Take {
         number: 4,
         stamp: 400,
+        limit: 0,
         byte: 4,
         length: 700,
     },
@@ -59,6 +63,7 @@ const ROUND: [Step; 9] = [
     Step::Take {
         number: 9,
         stamp: 400,
+        limit: 0,
         byte: 9,
         length: 1,
     },
@@ -91,6 +96,7 @@ fn prepared(rt: &impl Abort, alloc: Global, due: bool) -> Result<Journal<MemDisk
 const FILLING: [Step; 1] = [Step::Take {
     number: 4,
     stamp: 300,
+    limit: 0,
     byte: 4,
     length: 1_200,
 }];
@@ -206,13 +212,13 @@ fn opening(rt: HostRuntime) -> Result<(), Fail> {
     Ok(())
 }
 
-/// Whether a step may be refused memory in a state that the plain machine has: that which it would accept with bytes or drops,
+/// Whether a step may be refused memory in a state that the plain machine has: that which it would accept with bytes or with ids to list,
 /// and a Fetch of bytes.
 fn may_want(step: Step, reply: &Reply) -> bool {
     match step {
         Step::Take { .. } => matches!(reply, Reply::Taken(_)),
-        Step::Pick { .. } => matches!(reply, Reply::Picked { .. } | Reply::Nothing),
-        Step::Fetch { .. } => matches!(reply, Reply::Bytes(_)),
+        Step::Pick { .. } => { matches!(reply, Reply::Picked { .. } | Reply::Nothing { .. }) },
+        Step::Fetch { .. } => matches!(reply, Reply::Bytes { .. }),
         Step::Release { .. } | Step::Window | Step::Show => false,
     }
 }
@@ -258,7 +264,7 @@ fn expect_answers(
 
 /// A machine as it was written.
 fn read_again(rt: &impl Abort, alloc: Global, body: &[u8]) -> Machine<Payload> {
-    match read_checkpoint(alloc, DEVICE_E.params, body) {
+    match read_checkpoint(alloc, HeadForm::Second, DEVICE_E.params, body) {
         Ok(machine) => machine,
         Err(_) => panic!(rt; "a checkpoint that was written is read"),
     }
@@ -495,6 +501,41 @@ fn steps_of_a_machine(rt: HostRuntime) -> Result<(), Fail> {
     Ok(())
 }
 
+/// Five datagrams, the second of them with a limit, and a Pick that arms CoDel.
+fn armed() -> [Step; 6] {
+    [
+        take(1, 0, 1_200),
+        Step::Take {
+            number: 2,
+            stamp: 100,
+            limit: 20_000,
+            byte: 2,
+            length: 100,
+        },
+        take(3, 200, 1_100),
+        take(4, 200, 1_000),
+        take(5, 200, 600),
+        Step::Pick { now: 10_000 },
+    ]
+}
+
+/// An interval later the second has expired, and the third is dropped: the Pick's memory has a list for each.
+#[test]
+fn a_pick_that_lists_both(rt: HostRuntime) -> Result<(), Fail> {
+    let alloc = rt.alloc();
+    let mut machine = Machine::new(alloc, DEVICE_E.params)?;
+    make_all(alloc, &mut machine, &armed())?;
+    let mut same = Machine::new(alloc, DEVICE_E.params)?;
+    make_all(alloc, &mut same, &armed())?;
+    let pick = Step::Pick { now: 120_000 };
+    expect_step(&rt, alloc, &mut machine, &mut same, pick)?;
+    match machine.ask_show(HOP) {
+        Reply::Shown(status) => expect!(rt; status.expired == 1 && status.dropped == 1),
+        _ => panic!(rt; "no such hop"),
+    }
+    Ok(())
+}
+
 #[test]
 fn writing_a_checkpoint(rt: HostRuntime) -> Result<(), Fail> {
     let alloc = rt.alloc();
@@ -515,7 +556,7 @@ fn reading_a_checkpoint(rt: HostRuntime) -> Result<(), Fail> {
     let mut out = Vec::new(alloc);
     write_checkpoint(&machine, &mut out)?;
     before(alloc)?;
-    let told = read_checkpoint(alloc, DEVICE_E.params, &out);
+    let told = read_checkpoint(alloc, HeadForm::Second, DEVICE_E.params, &out);
     let refused = was_refused(alloc);
     match told {
         Ok(found) => expect!(rt; is_same(&found.ask_show(HOP), &machine.ask_show(HOP))),

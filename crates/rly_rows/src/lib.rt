@@ -38,6 +38,8 @@ mod faults;
 #[cfg(test)]
 mod growths;
 #[cfg(test)]
+mod limits;
+#[cfg(test)]
 mod refused_devices;
 #[cfg(test)]
 mod refused_memory;

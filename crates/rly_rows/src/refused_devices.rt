@@ -1,6 +1,7 @@
 //! Changed devices, and what opening answers to each.
 use crate::comparison::expect_state;
 use crate::device::{DEVICE_E, SIZE, bytes_of, formatted, taken};
+use crate::stored_devices::{stored, stored_taken};
 use rly_disk::MemDisk;
 use rly_journal::Journal;
 use rly_machine::Machine;
@@ -16,11 +17,15 @@ enum Base {
     Formatted,
     /// Device E once the first datagram was taken.
     Taken,
+    /// Device E as it was formatted with a head of the first form.
+    Stored,
+    /// The same once the first datagram was taken.
+    StoredTaken,
 }
 
-/// Changes of device E, and of device E after its first take: how many bytes stay, which bytes are set, and why it isn't
-/// opened. `None` opens to the empty state.
-const ROWS: [(Base, usize, &[(usize, u8)], Option<OpenFault>); 17] = [
+/// Changes of device E, and of device E after its first take, with heads of both forms: how many bytes stay, which bytes are set, and why
+/// it isn't opened. `None` opens to the empty state.
+const ROWS: [(Base, usize, &[(usize, u8)], Option<OpenFault>); 28] = [
     (Base::Formatted, SIZE, &[], None),
     (Base::Formatted, 63, &[], Some(OpenFault::NotADevice)),
     (
@@ -77,19 +82,92 @@ const ROWS: [(Base, usize, &[(usize, u8)], Option<OpenFault>); 17] = [
     (
         Base::Formatted,
         SIZE,
-        &[(164, 0xa5)],
-        Some(OpenFault::Damaged(164)),
+        &[(157, 0xa5)],
+        Some(OpenFault::Damaged(157)),
     ),
     // a group with a count of 0
     (
         Base::Formatted,
         SIZE,
-        &[(164, 0xa5), (168, 0x02)],
-        Some(OpenFault::Damaged(164)),
+        &[(157, 0xa5), (161, 0x02)],
+        Some(OpenFault::Damaged(157)),
+    ),
+    // one that expired and was never taken
+    (
+        Base::Formatted,
+        SIZE,
+        &[(150, 1)],
+        Some(OpenFault::Damaged(64)),
+    ),
+    // its bytes as a head of the first form
+    (
+        Base::Formatted,
+        SIZE,
+        &[(73, 0x00)],
+        Some(OpenFault::Damaged(64)),
     ),
     // a head of one datagram that waits, whose one byte is by place in the other segment: of two segments none is left then
     (
         Base::Formatted,
+        SIZE,
+        &[
+            (76, 0x6a),
+            (84, 1),
+            (92, 1),
+            (132, 1),
+            (156, 1),
+            (162, 1),
+            (176, 1),
+            (177, 1),
+            (180, 0x01),
+            (181, 0x44),
+            (182, 0x29),
+        ],
+        Some(OpenFault::Damaged(64)),
+    ),
+    (Base::Taken, SIZE, &[(157, 0xa4)], None),
+    (
+        Base::Taken,
+        SIZE,
+        &[(161, 0x1b)],
+        Some(OpenFault::Damaged(157)),
+    ),
+    // the record of a limit of 0
+    (
+        Base::Taken,
+        SIZE,
+        &[(164, 0x05)],
+        Some(OpenFault::Damaged(157)),
+    ),
+    // heads of the first form
+    (Base::Stored, SIZE, &[], None),
+    (
+        Base::Stored,
+        SIZE,
+        &[(72, 0x00)],
+        Some(OpenFault::Damaged(64)),
+    ),
+    // its bytes as a head of the second form
+    (
+        Base::Stored,
+        SIZE,
+        &[(73, 0x80)],
+        Some(OpenFault::Damaged(64)),
+    ),
+    (
+        Base::Stored,
+        SIZE,
+        &[(164, 0xa5)],
+        Some(OpenFault::Damaged(164)),
+    ),
+    (
+        Base::Stored,
+        SIZE,
+        &[(164, 0xa5), (168, 0x02)],
+        Some(OpenFault::Damaged(164)),
+    ),
+    (
+        Base::Stored,
         SIZE,
         &[
             (76, 0x72),
@@ -106,9 +184,9 @@ const ROWS: [(Base, usize, &[(usize, u8)], Option<OpenFault>); 17] = [
         ],
         Some(OpenFault::Damaged(64)),
     ),
-    (Base::Taken, SIZE, &[(164, 0xa4)], None),
+    (Base::StoredTaken, SIZE, &[(164, 0xa4)], None),
     (
-        Base::Taken,
+        Base::StoredTaken,
         SIZE,
         &[(168, 0x1b)],
         Some(OpenFault::Damaged(164)),
@@ -183,14 +261,22 @@ fn set_all(rt: &impl Abort, bytes: &mut [u8], changes: &[(usize, u8)]) {
     }
 }
 
+/// The bytes of the device that a row begins with.
+fn bytes_of_base(rt: &impl Abort, alloc: Global, base: Base) -> Result<Vec<u8>, AllocError> {
+    match base {
+        Base::Formatted => formatted(rt, alloc),
+        Base::Taken => taken(rt, alloc),
+        Base::Stored => stored(alloc),
+        Base::StoredTaken => stored_taken(alloc),
+    }
+}
+
 #[test]
 fn changed_devices(rt: HostRuntime) -> Result<(), Fail> {
     let alloc = rt.alloc();
-    let new = formatted(&rt, alloc)?;
-    let used = taken(&rt, alloc)?;
     for (base, size, changes, want) in &ROWS {
-        let device = if *base == Base::Taken { &used } else { &new };
-        expect_row(&rt, alloc, device, *size, changes, *want)?;
+        let device = bytes_of_base(&rt, alloc, *base)?;
+        expect_row(&rt, alloc, &device, *size, changes, *want)?;
     }
     Ok(())
 }
@@ -199,7 +285,7 @@ fn changed_devices(rt: HostRuntime) -> Result<(), Fail> {
 #[test]
 fn a_group_that_stands_twice(rt: HostRuntime) -> Result<(), Fail> {
     let alloc = rt.alloc();
-    let mut bytes = taken(&rt, alloc)?;
+    let mut bytes = stored_taken(alloc)?;
     assert!(rt; bytes.len() == SIZE);
     for place in 164..195 {
         bytes[place + 31] = bytes[place];

@@ -4,7 +4,7 @@
 use crate::comparison::{expect_broken, expect_refused, is_same, machine_after, reply_of};
 use crate::device::{DEVICE_E, SIZE, bytes_of, opened};
 use crate::script::{HOP, Script, Step, calls_of, take};
-use rly_checkpoint::{DecodeFault, read_checkpoint, write_checkpoint};
+use rly_checkpoint::{DecodeFault, HeadForm, read_checkpoint, write_checkpoint};
 use rly_core::Refusal;
 use rly_disk::{Disk, MemDisk};
 use rly_journal::Journal;
@@ -393,11 +393,11 @@ fn expect_written(
 
 /// Reads a machine. Where memory is refused, the next try succeeds.
 fn expect_read(rt: &impl Abort, alloc: Global, body: &[u8]) -> Result<Machine<Payload>, Fail> {
-    match read_checkpoint(alloc, DEVICE_E.params, body) {
+    match read_checkpoint(alloc, HeadForm::Second, DEVICE_E.params, body) {
         Ok(machine) => Ok(machine),
         Err(fault) => {
             expect!(rt; fault == DecodeFault::OutOfMemory);
-            Ok(read_checkpoint(alloc, DEVICE_E.params, body)?)
+            Ok(read_checkpoint(alloc, HeadForm::Second, DEVICE_E.params, body)?)
         }
     }
 }

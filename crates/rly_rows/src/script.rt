@@ -19,6 +19,8 @@ pub(crate) enum Step {
     Take {
         number: u64,
         stamp: u64,
+        /// How long it may wait, 0 for no limit.
+        limit: u64,
         byte: u8,
         length: usize,
     },
@@ -42,6 +44,7 @@ impl Step {
             Step::Take {
                 number,
                 stamp,
+                limit,
                 byte,
                 length,
             } => Ask::Command(Command::Take {
@@ -49,6 +52,7 @@ impl Step {
                 number,
                 hop: HOP,
                 stamp,
+                limit,
                 payload: Payload::new(vec![in alloc; byte; length]?),
             }),
             Step::Pick { now } => Ask::Command(Command::Pick { hop: HOP, now }),
@@ -60,11 +64,12 @@ impl Step {
     }
 }
 
-/// Takes so many bytes, each the datagram's number.
+/// Takes so many bytes, each the datagram's number, without a limit.
 pub(crate) fn take(number: u8, stamp: u64, length: usize) -> Step {
     Step::Take {
         number: u64::from(number),
         stamp,
+        limit: 0,
         byte: number,
         length,
     }

@@ -1,5 +1,7 @@
-//! Devices byte by byte, as docs/FORMATS.md writes them out.
+//! Devices byte by byte, as docs/FORMATS.md writes them out: with heads of the first form, as they were written before there were limits,
+//! and of the second.
 use crate::device::{SECOND_GATE, SIZE, formatted, taken};
+use std::alloc::{AllocError, Global};
 use std::test::Fail;
 
 /// Places 0 to 50, the header: the gate, the mark, the counts, the segments' length, and the limits.
@@ -10,14 +12,38 @@ pub(crate) const HEADER: [u8; 51] = [
     0x01, 0x86, 0xa0,
 ];
 
-/// Places 64 to 76, the head of the empty state up to its body, which is 87 bytes 00.
-pub(crate) const HEAD: [u8; 13] = [0xa5, 0, 0, 0, 0, 0, 0, 0, 1, 0, 0, 0, 0x57];
+/// Places 64 to 76, the head of the empty state up to its body, which is 80 bytes 00.
+pub(crate) const HEAD: [u8; 13] = [0xa5, 0, 0, 0, 0, 0, 0, 0, 1, 0x80, 0, 0, 0x50];
 
-/// Places 164 to 195 once the first datagram was taken: a group of one Take, and the closed gate after it.
+/// The same of the first form, whose body is 87 bytes 00.
+pub(crate) const FIRST_HEAD: [u8; 13] = [0xa5, 0, 0, 0, 0, 0, 0, 0, 1, 0, 0, 0, 0x57];
+
+/// What stands after the head once the first datagram was taken: a group of one Take, and the closed gate after it. It is at places 157
+/// to 188, and behind a head of the first form at 164 to 195.
 pub(crate) const FIRST_GROUP: [u8; 32] = [
     0xa5, 0, 0, 0, 0x1a, 0, 1, 1, 0, 1, 0, 0, 0, 0, 0, 0, 0, 1, 0, 1, 0, 0, 0, 0, 0, 0, 0, 0, 0, 1,
     0x41, 0,
 ];
+
+/// Device E as it was formatted with a head of the first form.
+pub(crate) fn stored(alloc: Global) -> Result<Vec<u8>, AllocError> {
+    let mut bytes = Vec::from_slice(alloc, &HEADER)?;
+    bytes.resize(64, 0)?;
+    bytes.extend_from_slice(&FIRST_HEAD)?;
+    bytes.resize(SIZE, 0)?;
+    Ok(bytes)
+}
+
+/// The same once the first datagram was taken.
+pub(crate) fn stored_taken(alloc: Global) -> Result<Vec<u8>, AllocError> {
+    let mut bytes = Vec::from_slice(alloc, &HEADER)?;
+    bytes.resize(64, 0)?;
+    bytes.extend_from_slice(&FIRST_HEAD)?;
+    bytes.resize(164, 0)?;
+    bytes.extend_from_slice(&FIRST_GROUP)?;
+    bytes.resize(SIZE, 0)?;
+    Ok(bytes)
+}
 
 /// Whether so many bytes from a place on are 00.
 fn are_zero(bytes: &[u8], place: usize, count: usize) -> bool {
@@ -36,8 +62,8 @@ fn a_device_that_was_formatted(rt: HostRuntime) -> Result<(), Fail> {
     expect!(rt; stand_at(&bytes, 0, &HEADER));
     expect!(rt; are_zero(&bytes, 51, 13));
     expect!(rt; stand_at(&bytes, 64, &HEAD));
-    expect!(rt; are_zero(&bytes, 77, 87));
-    expect!(rt; are_zero(&bytes, 164, SIZE - 164));
+    expect!(rt; are_zero(&bytes, 77, 80));
+    expect!(rt; are_zero(&bytes, 157, SIZE - 157));
     expect!(rt; bytes.get(SECOND_GATE) == Some(&0));
     Ok(())
 }
@@ -48,8 +74,8 @@ fn a_device_that_took_one_datagram(rt: HostRuntime) -> Result<(), Fail> {
     assert!(rt; bytes.len() == SIZE);
     expect!(rt; stand_at(&bytes, 0, &HEADER));
     expect!(rt; stand_at(&bytes, 64, &HEAD));
-    expect!(rt; are_zero(&bytes, 77, 87));
-    expect!(rt; stand_at(&bytes, 164, &FIRST_GROUP));
-    expect!(rt; are_zero(&bytes, 196, SIZE - 196));
+    expect!(rt; are_zero(&bytes, 77, 80));
+    expect!(rt; stand_at(&bytes, 157, &FIRST_GROUP));
+    expect!(rt; are_zero(&bytes, 189, SIZE - 189));
     Ok(())
 }

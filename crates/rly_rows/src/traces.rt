@@ -65,7 +65,7 @@ const FORMATTED: [Made; 14] = [
     Made::Sync,
     Made::Write(SECOND_GATE as u64, 1),
     Made::Sync,
-    Made::Write(65, 100),
+    Made::Write(65, 93),
     Made::Sync,
     Made::Write(1, 50),
     Made::Sync,
@@ -93,12 +93,12 @@ const OPENED_AND_TAKEN: [Made; 11] = [
     Made::Read(64, 9),
     Made::Read(SECOND_GATE as u64, 9),
     Made::Read(65, 12),
-    Made::Read(77, 87),
-    Made::Read(164, 1),
+    Made::Read(77, 80),
+    Made::Read(157, 1),
     // The frame after the gate, and then the gate.
-    Made::Write(165, 31),
+    Made::Write(158, 31),
     Made::Sync,
-    Made::Write(164, 1),
+    Made::Write(157, 1),
     Made::Sync,
 ];
 
@@ -109,12 +109,12 @@ const OPENED: [Made; 10] = [
     Made::Read(64, 9),
     Made::Read(SECOND_GATE as u64, 9),
     Made::Read(65, 12),
-    Made::Read(77, 87),
+    Made::Read(77, 80),
     // The group's gate, its length and its body, and the closed gate after it.
-    Made::Read(164, 1),
-    Made::Read(165, 4),
-    Made::Read(169, 26),
-    Made::Read(195, 1),
+    Made::Read(157, 1),
+    Made::Read(158, 4),
+    Made::Read(162, 26),
+    Made::Read(188, 1),
 ];
 
 /// The device after the opening and the round.
@@ -151,7 +151,7 @@ fn a_round_whose_first_sync_fails(rt: HostRuntime) -> Result<(), Fail> {
         failed: true,
     };
     expect!(rt; disk.told().len() == 9);
-    let want = [Made::Write(165, 31).told(), last];
+    let want = [Made::Write(158, 31).told(), last];
     expect!(rt; disk.told().iter().skip(7).eq(want.iter()));
     Ok(())
 }
@@ -161,12 +161,14 @@ const FETCHING: [Step; 9] = [
     Step::Take {
         number: 1,
         stamp: 0,
+        limit: 0,
         byte: 0x41,
         length: 3,
     },
     Step::Take {
         number: 2,
         stamp: 0,
+        limit: 0,
         byte: 0,
         length: 0,
     },
@@ -181,17 +183,17 @@ const FETCHING: [Step; 9] = [
 
 /// What two rounds and two fetches ask of the device.
 const FETCHED: [Made; 10] = [
-    Made::Write(165, 89),
+    Made::Write(158, 89),
     Made::Sync,
-    Made::Write(164, 1),
+    Made::Write(157, 1),
     Made::Sync,
-    Made::Read(194, 3),
+    Made::Read(187, 3),
     // The second group, and its payload after 7 and 23 bytes.
-    Made::Write(254, 46),
+    Made::Write(247, 46),
     Made::Sync,
-    Made::Write(253, 1),
+    Made::Write(246, 1),
     Made::Sync,
-    Made::Read(283, 5),
+    Made::Read(276, 5),
 ];
 
 /// Asks two rounds.
@@ -230,19 +232,19 @@ fn fetches(rt: HostRuntime) -> Result<(), Fail> {
 
 /// The round in which a segment is opened.
 const MOVED: [Made; 12] = [
-    Made::Read(1_424, 1_200),
-    Made::Read(2_654, 1_200),
-    Made::Read(3_938, 1_200),
-    // The second segment's gate reads closed. Its head of 3,757 bytes but for the gate, a closed gate after it, and then the gate.
+    Made::Read(1_417, 1_200),
+    Made::Read(2_647, 1_200),
+    Made::Read(3_931, 1_200),
+    // The second segment's gate reads closed. Its head of 3,756 bytes but for the gate, a closed gate after it, and then the gate.
     Made::Sync,
-    Made::Write(SECOND_GATE as u64 + 1, 3_757),
+    Made::Write(SECOND_GATE as u64 + 1, 3_756),
     Made::Sync,
     Made::Write(SECOND_GATE as u64, 1),
     Made::Sync,
     // The group.
-    Made::Write(86_730, 30),
+    Made::Write(86_729, 30),
     Made::Sync,
-    Made::Write(86_729, 1),
+    Made::Write(86_728, 1),
     Made::Sync,
 ];
 

@@ -19,6 +19,7 @@ const TWICE: [Step; 2] = [FIRST_TAKE, FIRST_TAKE];
 const SECOND_TAKE: Step = Step::Take {
     number: 2,
     stamp: 0,
+    limit: 0,
     byte: 0x42,
     length: 2,
 };
@@ -27,6 +28,7 @@ const SECOND_TAKE: Step = Step::Take {
 const THIRD_TAKE: Step = Step::Take {
     number: 3,
     stamp: 0,
+    limit: 0,
     byte: 0x43,
     length: 3,
 };
@@ -124,7 +126,7 @@ fn expect_first_group(
     disk: &mut MemDisk,
 ) -> Result<(), AllocError> {
     let bytes = bytes_of(rt, alloc, disk)?;
-    expect!(rt; stand_at(&bytes, 164, &FIRST_GROUP));
+    expect!(rt; stand_at(&bytes, 157, &FIRST_GROUP));
     Ok(())
 }
 

@@ -6,12 +6,17 @@ use Rattle.rly_core.specs.declared.params.Geometry.{Geometry}
 use Rattle.rly_machine.specs.Map.{payloads_of}
 use Rattle.rly_machine.specs.Sound.{IsSound}
 use Rattle.rly_machine.specs.State.{State}
-use Rattle.rly_checkpoint.specs.Checkpoint.{state_spelled}
+use Rattle.rly_checkpoint.specs.Checkpoint.{IsOfForm, state_spelled}
 use Rattle.rly_checkpoint.specs.Forms.{HaveForms}
-use Rattle.rly_checkpoint.specs.Stored.{IsStorable, state_in, stored_form, stored_length}
+use Rattle.rly_checkpoint.specs.Stored.{IsStorable, state_in, stored_form_of, stored_length, stored_spelled}
+use Rattle.rly_checkpoint.specs.Widths.{mark_of}
+use Rattle.rly_checkpoint.specs.declared.head_form.HeadForm.{HeadForm}
+use Rattle.rly_checkpoint.specs.declared.head_form.HeadForm.TheVariants.{First, Second}
+use Rattle.rly_checkpoint.specs.declared.stored.Place.{Place}
 use Rattle.rly_checkpoint.specs.declared.stored.Stored.{Stored}
 use Rattle.rly_checkpoint.specs.declared.stored.Stored.TheVariants.{Inline, Placed}
 use Rattle.rly_places.specs.Placed.{IsPlaced, LiesElsewhere}
+use Rattle.rly_places.specs.Places.{LiesIn}
 use Rattle.rly_places.proofs.Placing.{of_items}
 use Rattle.rly_segment.specs.Device.{IsLayout}
 use Rattle.rly_segment.specs.Heads.{HoldsHeadOf, segment_place}
@@ -19,63 +24,81 @@ use Rattle.rly_segment.specs.declared.heads.HeadFault.{HeadFault}
 use Rattle.rly_segment.specs.declared.heads.HeadFault.TheVariants as head
 use Rattle.rly_segment.specs.Answers.{HoldsNoHeadOf, IsReadHeadOf}
 use Rattle.rly_segment.specs.PlacedHeads.{HeadStandsFor, HoldsNonePlaced, IsReadPlaced}
-use Rattle.rly_segment.proofs.HeadBytes.{head_begins, head_body, start_once}
+use Rattle.rly_segment.proofs.HeadBytes.{body_short, head_begins, head_body, mark_fits, mark_once, start_once}
+
+-- where a payload that lies in a segment begins fits 5 bytes
+pub lies_storable : (g : Geometry) (size segment : ℕ) (place : Place) → IsLayout g size → LiesIn g segment place → place.start < 2 ^ 40
+lies_storable g size segment place geometry lies =
+    let few : segment ≤ 255 = omega (arith, lies.there, geometry.segments.1) in
+    omega (arith, lies.to, geometry.length, mul-le-mul_right g.length few)
+
+-- so it has a form, in both forms of a head
+pub place_storable : (which : HeadForm) (place : Place) → place.start < 2 ^ 40 → 1 ≤ place.length → IsStorable which (Placed place)
+place_storable First place below some = (omega (arith, below), some)
+place_storable Second place below some = (omega (arith, below), some)
 
 -- what lies elsewhere has a form
-storable : (g : Geometry) (size own : ℕ) (p : Stored) → IsLayout g size → LiesElsewhere g own p → IsStorable p
-storable g size own (Inline payload) geometry elsewhere = tt
-storable g size own (Placed place) geometry elsewhere =
-    let lies = elsewhere.1.2 in
-    let few : elsewhere.1.0 ≤ 255 = omega (arith, lies.there, geometry.segments.1) in
-    (omega (arith, lies.to, geometry.length, mul-le-mul_right g.length few), elsewhere.0)
+storable : (which : HeadForm) (g : Geometry) (size own : ℕ) (p : Stored) → IsLayout g size → LiesElsewhere g own p → IsStorable which p
+storable which g size own (Inline payload) geometry elsewhere = tt
+storable which g size own (Placed place) geometry elsewhere = place_storable which place (lies_storable g size elsewhere.1.0 place geometry elsewhere.1.2) elsewhere.0
 
-pub forms_of : (g : Geometry) (size own : ℕ) (s : State Stored) → IsLayout g size → IsPlaced g own s → All (HaveForms IsStorable) s.hops
-forms_of g size own s geometry placed = of_items IsStorable s.hops (λ k d lt. storable g size own (get_or (payloads_of s) k d) geometry (placed.elsewhere k d lt))
+pub forms_of : (which : HeadForm) (g : Geometry) (size own : ℕ) (s : State Stored) → IsLayout g size → IsPlaced g own s → All (HaveForms (IsStorable which)) s.hops
+forms_of which g size own s geometry placed = of_items (IsStorable which) s.hops (λ k d lt. storable which g size own (get_or (payloads_of s) k d) geometry (placed.elsewhere k d lt))
 
 -- one spelling is one state: the law of `rly_checkpoint`
 abbrev pub OneSpelling : Type 0
-OneSpelling = (a b : State Stored) → IsSound stored_length a → IsSound stored_length b → All (HaveForms IsStorable) a.hops → All (HaveForms IsStorable) b.hops
-    → a.params ≡ b.params → state_spelled stored_length stored_form a ≡ state_spelled stored_length stored_form b → a ≡ b
+OneSpelling = (which : HeadForm) (a b : State Stored) → IsSound stored_length a → IsSound stored_length b
+    → All (HaveForms (IsStorable which)) a.hops → All (HaveForms (IsStorable which)) b.hops → IsOfForm which a → IsOfForm which b
+    → a.params ≡ b.params → state_spelled stored_length (stored_spelled which) a ≡ state_spelled stored_length (stored_spelled which) b → a ≡ b
 
--- two heads of one segment
-pub stored_once : OneSpelling → (image : List ℕ) (g : Geometry) (segment n m : ℕ) (a b : State Stored) → g.length < 2 ^ 31
-    → HoldsHeadOf stored_length stored_form image g segment n a → HoldsHeadOf stored_length stored_form image g segment m b
-    → All (HaveForms IsStorable) a.hops → All (HaveForms IsStorable) b.hops → (n ≡ m) × (a ≡ b)
-stored_once one image g segment n m a b short first second forms_a forms_b =
+-- two heads of one segment, of whatever forms
+pub stored_once : OneSpelling → (image : List ℕ) (g : Geometry) (segment : ℕ) (w v : HeadForm) (n m : ℕ) (a b : State Stored) → g.length < 2 ^ 31
+    → HoldsHeadOf stored_length (stored_spelled w) image g segment n a → HoldsHeadOf stored_length (stored_spelled v) image g segment m b
+    → All (HaveForms (IsStorable w)) a.hops → All (HaveForms (IsStorable v)) b.hops → (w ≡ v) × (n ≡ m) × (a ≡ b)
+stored_once one image g segment w v n m a b short first second forms_a forms_b =
     let place : ℕ = segment_place g segment in
-    let spelled : State Stored → List ℕ = state_spelled stored_length stored_form in
-    let starts : (n ≡ m) × (length (spelled a) ≡ length (spelled b)) =
-    start_once image (place + 1) n (length (spelled a)) m (length (spelled b))
-    (omega (arith, first.head.most, first.sound.seq)) (omega (arith, second.head.most, second.sound.seq)) (omega (arith, first.head.room, short)) (omega (arith, second.head.room, short))
-    (head_begins stored_length stored_form image (place + 1) n a first.bytes) (head_begins stored_length stored_form image (place + 1) m b second.bytes) in
-    let same : spelled a ≡ spelled b =
-    sym (head_body stored_length stored_form image place n a first.bytes)
-    ∙ ap (λ (k : ℕ). take k (drop (place + 13) image)) starts.1
-    ∙ head_body stored_length stored_form image place m b second.bytes in
-    (starts.0, one a b first.sound second.sound forms_a forms_b (first.head.params ∙ sym second.head.params) same)
+    let spelled : HeadForm → State Stored → List ℕ = λ which s. state_spelled stored_length (stored_spelled which) s in
+    let fits_a : length (spelled w a) < 2 ^ 31 = body_short stored_length (stored_spelled w) g segment n a short first.head in
+    let fits_b : length (spelled v b) < 2 ^ 31 = body_short stored_length (stored_spelled v) g segment m b short second.head in
+    let starts : (n ≡ m) × (mark_of w + length (spelled w a) ≡ mark_of v + length (spelled v b)) =
+    start_once image (place + 1) n (mark_of w + length (spelled w a)) m (mark_of v + length (spelled v b))
+    (omega (arith, first.head.most, first.sound.seq)) (omega (arith, second.head.most, second.sound.seq)) (mark_fits w (length (spelled w a)) fits_a) (mark_fits v (length (spelled v b)) fits_b)
+    (head_begins stored_length (stored_spelled w) image (place + 1) n a first.bytes) (head_begins stored_length (stored_spelled v) image (place + 1) m b second.bytes) in
+    let marks : (w ≡ v) × (length (spelled w a) ≡ length (spelled v b)) = mark_once w v (length (spelled w a)) (length (spelled v b)) fits_a fits_b starts.1 in
+    let same : spelled w a ≡ spelled v b =
+    sym (head_body stored_length (stored_spelled w) image place n a first.bytes)
+    ∙ ap (λ (k : ℕ). take k (drop (place + 13) image)) marks.1
+    ∙ head_body stored_length (stored_spelled v) image place m b second.bytes in
+    let forms : All (HaveForms (IsStorable v)) a.hops = subst (λ (x : HeadForm). All (HaveForms (IsStorable x)) a.hops) marks.0 forms_a in
+    let plain : IsOfForm v a = subst (λ (x : HeadForm). IsOfForm x a) marks.0 first.plain in (
+      marks.0,
+      starts.0,
+      one v a b first.sound second.sound forms forms_b plain second.plain (first.head.params ∙ sym second.head.params)
+          (ap (λ (x : HeadForm). spelled x a) (sym marks.0) ∙ same),
+    )
 
 pub one_head : OneSpelling → (image : List ℕ) (g : Geometry) (segment n m : ℕ) (a b : State (List ℕ)) → IsLayout g (length image)
     → HeadStandsFor image g segment n a → HeadStandsFor image g segment m b → (n ≡ m) × (a ≡ b)
 one_head one image g segment n m a b geometry first second =
-    let once = stored_once one image g segment n m first.stored second.stored geometry.length first.holds.head second.holds.head
-    (forms_of g (length image) segment first.stored geometry first.holds.placed) (forms_of g (length image) segment second.stored geometry second.holds.placed) in
-    (once.0, sym first.bytes ∙ ap (state_in image) once.1 ∙ second.bytes)
+    let once = stored_once one image g segment first.form second.form n m first.stored second.stored geometry.length first.holds.head second.holds.head
+    (forms_of first.form g (length image) segment first.stored geometry first.holds.placed) (forms_of second.form g (length image) segment second.stored geometry second.holds.placed) in
+    (once.1, sym first.bytes ∙ ap (state_in image) once.2 ∙ second.bytes)
 
 -- a head that was read holds no other state
-pub not_placed : OneSpelling → (image : List ℕ) (g : Geometry) (size segment n : ℕ) (found : State Stored) → IsLayout g size
-    → HoldsHeadOf stored_length stored_form image g segment n found → All (HaveForms IsStorable) found.hops → (IsPlaced g segment found → ⊥)
+pub not_placed : OneSpelling → (image : List ℕ) (g : Geometry) (size segment : ℕ) (which : HeadForm) (n : ℕ) (found : State Stored) → IsLayout g size
+    → HoldsHeadOf stored_length (stored_spelled which) image g segment n found → All (HaveForms (IsStorable which)) found.hops → (IsPlaced g segment found → ⊥)
     → HoldsNonePlaced image g segment
-not_placed one image g size segment n found geometry holds forms astray m s other =
-    let same : s ≡ found = (stored_once one image g segment m n s found geometry.length other.head holds (forms_of g size segment s geometry other.placed) forms).1 in
+not_placed one image g size segment which n found geometry holds forms astray v m s other =
+    let same : s ≡ found = (stored_once one image g segment v which m n s found geometry.length other.head holds (forms_of v g size segment s geometry other.placed) forms).2 in
     astray (subst (IsPlaced g segment) same other.placed)
 
 -- where no state is held, none is held that is placed
-pub none_placed : (image : List ℕ) (g : Geometry) (size segment : ℕ) → IsLayout g size → HoldsNoHeadOf stored_length stored_form IsStorable image g segment
+pub none_placed : (image : List ℕ) (g : Geometry) (size segment : ℕ) → IsLayout g size → HoldsNoHeadOf stored_length stored_form_of IsStorable image g segment
     → HoldsNonePlaced image g segment
-none_placed image g size segment geometry none m s other = none m s (forms_of g size segment s geometry other.placed) other.head
+none_placed image g size segment geometry none v m s other = none v m s (forms_of v g size segment s geometry other.placed) other.head
 
 pub fault_placed : (image : List ℕ) (g : Geometry) (size segment : ℕ) (fault : HeadFault) → IsLayout g size
-    → IsReadHeadOf stored_length stored_form IsStorable image g segment (Err fault) → IsReadPlaced image g segment (Err fault)
+    → IsReadHeadOf stored_length stored_form_of IsStorable image g segment (Err fault) → IsReadPlaced image g segment (Err fault)
 fault_placed image g size segment head.Damaged geometry none = none_placed image g size segment geometry none
 fault_placed image g size segment head.OutOfMemory geometry none = tt
 fault_placed image g size segment head.Device geometry none = tt

@@ -14,6 +14,7 @@ use Rattle.rly_gate.proofs.Frames.{gate_and_frame}
 use Rattle.rly_gate.specs.Calls.{settling}
 use Rattle.rly_gate.specs.Group.{IsClosed, IsOpen, StandsAt, open_gate}
 use Rattle.rly_core.specs.declared.params.Geometry.{Geometry}
+use Rattle.rly_checkpoint.specs.Checkpoint.{Spelled}
 use Rattle.rly_machine.specs.State.{State}
 use Rattle.rly_segment.specs.Calls.{closing, replacing}
 use Rattle.rly_segment.specs.Device.{IsLayout}
@@ -132,7 +133,7 @@ replaced place bytes old mid then new within same second third =
     ∙ ap (λ l. (take place old ++ (open_gate ∷ bytes)) ++ l) (behind place 1 same (place + length (open_gate ∷ bytes)) (omega arith))
 
 -- the opening of a segment
-pub opening : {P : Type 0} (len : P → ℕ) (form : P → List ℕ) (g : Geometry) (segment generation : ℕ) (s : State P) (bytes old image : List ℕ) → bytes ≡ head_spelled len form generation s ++ 0 ∷ [] → 1 + length bytes ≤ g.length
+pub opening : {P : Type 0} (len : P → ℕ) (form : Spelled P) (g : Geometry) (segment generation : ℕ) (s : State P) (bytes old image : List ℕ) → bytes ≡ head_spelled len form generation s ++ 0 ∷ [] → 1 + length bytes ≤ g.length
     → IsReplacing (segment_place g segment) bytes old image → IsOpeningOf len form g segment generation s old image
 opening len form g segment generation s bytes old image is room replacing = record {
   outside = wider (segment_place g segment) g.length (segment_place g segment) (length (open_gate ∷ bytes)) (omega arith) (omega arith) replacing.outside;
@@ -143,7 +144,7 @@ opening len form g segment generation s bytes old image is room replacing = reco
       replacing.whole;
 }
 
-module _ {P : Type 0} (len : P → ℕ) (form : P → List ℕ) (g : Geometry) (segment generation : ℕ) (s : State P) (closed : Bool) where
+module _ {P : Type 0} (len : P → ℕ) (form : Spelled P) (g : Geometry) (segment generation : ℕ) (s : State P) (closed : Bool) where
   pub image_of_opening : (old c : List ℕ) → IsLayout g (length old) → segment < g.segments → IsHeadOf len form g segment generation s → (IsTrue closed ↔ IsClosed old (segment_place g segment))
       → images_within (replacing (segment_place g segment) closed (head_spelled len form generation s ++ 0 ∷ [])) old (λ d. d ≡ old) c → IsOpeningOf len form g segment generation s old c
   image_of_opening old c geometry there head told image =
@@ -163,7 +164,7 @@ module _ {P : Type 0} (len : P → ℕ) (form : P → List ℕ) (g : Geometry) (
       ∙ seen_joined (settling (place + 1) behind) (settling place (open_gate ∷ [])) mid
       ∙ ap (overwritten place (open_gate ∷ [])) (settling_seen (place + 1) behind mid))
 
-pub opening_leaves : {P : Type 0} (len : P → ℕ) (form : P → List ℕ) {D : Type 0} (state : D → DiskState) {a b : D} (g : Geometry) (segment generation : ℕ) (s : State P) (closed : Bool) {whole : Bool}
+pub opening_leaves : {P : Type 0} (len : P → ℕ) (form : Spelled P) {D : Type 0} (state : D → DiskState) {a b : D} (g : Geometry) (segment generation : ℕ) (s : State P) (closed : Bool) {whole : Bool}
     → IsLayout g (state a).size → segment < g.segments → IsHeadOf len form g segment generation s → (IsTrue closed ↔ IsClosed (state a).seen (segment_place g segment))
     → Settled (state a) → Makes state (replacing (segment_place g segment) closed (head_spelled len form generation s ++ 0 ∷ [])) whole a b
     → LeavesOnly (state a) (state b) (IsOpeningOf len form g segment generation s (state a).seen)

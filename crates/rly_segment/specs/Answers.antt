@@ -2,7 +2,9 @@
 use Rattle.std.specs.Prelude.{◌≡◌, ◌↔◌, ℕ, ◌<◌, List, length, Bool, true, false, All, Result, Ok, Err, slice_index_or}
 use Rattle.rly_core.specs.declared.params.Geometry.{Geometry}
 use Rattle.rly_machine.specs.State.{State}
+use Rattle.rly_checkpoint.specs.Checkpoint.{spelled_by}
 use Rattle.rly_checkpoint.specs.Forms.{HaveForms}
+use Rattle.rly_checkpoint.specs.declared.head_form.HeadForm.{HeadForm}
 use Rattle.rly_gate.specs.Group.{IsClosed}
 use Rattle.rly_segment.specs.declared.header.HeaderFault.{HeaderFault}
 use Rattle.rly_segment.specs.declared.header.HeaderFault.TheVariants as header
@@ -33,28 +35,30 @@ IsReadNewest image g (Ok found) = IsNewest image g found.segment × AreClosed im
 IsReadNewest image g (Err (newest.Damaged place)) = IsAmbiguous image g place
 IsReadNewest image g (Err newest.Device) = Unit {0}
 
--- the head of a segment holds no state
+-- the head of a segment holds no state, in either form
 abbrev pub HoldsNoHead : List ℕ → Geometry → ℕ → Type 0
-HoldsNoHead image g segment = (generation : ℕ) (s : State (List ℕ)) → HoldsHead image g segment generation s → ⊥
+HoldsNoHead image g segment =
+    (which : HeadForm) (generation : ℕ) (s : State (List ℕ)) → HoldsHead which image g segment generation s → ⊥
 
 -- nor one of content that has forms
-abbrev pub HoldsNoHeadOf : {P : Type 0} → (P → ℕ) → (P → List ℕ) → (P → Type 0) → List ℕ → Geometry → ℕ → Type 0
+abbrev pub HoldsNoHeadOf : {P : Type 0} → (P → ℕ) → (HeadForm → P → List ℕ) → (HeadForm → P → Type 0)
+    → List ℕ → Geometry → ℕ → Type 0
 HoldsNoHeadOf {P} len form HasForm image g segment =
-    (generation : ℕ) (s : State P) → All (HaveForms HasForm) s.hops
-    → HoldsHeadOf len form image g segment generation s → ⊥
+    (which : HeadForm) (generation : ℕ) (s : State P) → All (HaveForms (HasForm which)) s.hops
+    → HoldsHeadOf len (spelled_by form which) image g segment generation s → ⊥
 
 -- of what a head holds: a state whose content has forms, or that there is none
-abbrev pub IsReadHeadOf : {P : Type 0} → (P → ℕ) → (P → List ℕ) → (P → Type 0)
+abbrev pub IsReadHeadOf : {P : Type 0} → (P → ℕ) → (HeadForm → P → List ℕ) → (HeadForm → P → Type 0)
     → List ℕ → Geometry → ℕ → Result (Head P) HeadFault → Type 0
 IsReadHeadOf len form HasForm image g segment (Ok found) =
-    HoldsHeadOf len form image g segment found.generation found.machine.state
+    HoldsHeadOf len (spelled_by form found.form) image g segment found.generation found.machine.state
 IsReadHeadOf len form HasForm image g segment (Err head.Damaged) = HoldsNoHeadOf len form HasForm image g segment
 IsReadHeadOf len form HasForm image g segment (Err head.OutOfMemory) = Unit {0}
 IsReadHeadOf len form HasForm image g segment (Err head.Device) = Unit {0}
 
 -- the same where every payload is inline
 abbrev pub IsReadHead : List ℕ → Geometry → ℕ → Result (Head (List ℕ)) HeadFault → Type 0
-IsReadHead image g segment (Ok found) = HoldsHead image g segment found.generation found.machine.state
+IsReadHead image g segment (Ok found) = HoldsHead found.form image g segment found.generation found.machine.state
 IsReadHead image g segment (Err head.Damaged) = HoldsNoHead image g segment
 IsReadHead image g segment (Err head.OutOfMemory) = Unit {0}
 IsReadHead image g segment (Err head.Device) = Unit {0}

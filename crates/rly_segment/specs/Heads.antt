@@ -5,7 +5,9 @@ use Rattle.rly_core.specs.declared.params.Geometry.{Geometry}
 use Rattle.rly_disk.specs.DiskModel.{SameOutside}
 use Rattle.rly_machine.specs.Sound.{IsSound}
 use Rattle.rly_machine.specs.State.{State}
-use Rattle.rly_checkpoint.specs.Checkpoint.{inline_form, state_spelled}
+use Rattle.rly_checkpoint.specs.Checkpoint.{IsOfForm, Spelled, inline_form, inline_form_of, spelled_by, state_spelled}
+use Rattle.rly_checkpoint.specs.Widths.{mark_of}
+use Rattle.rly_checkpoint.specs.declared.head_form.HeadForm.{HeadForm}
 use Rattle.rly_gate.specs.Group.{IsClosed, IsOpen, StandsAt, open_gate}
 use Rattle.rly_reclaim.specs.Room.{group_room}
 use Rattle.rly_segment.specs.Device.{number_in}
@@ -52,21 +54,23 @@ IsAmbiguous image g place =
     (NoneIsOpen image g × (place ≡ 64))
     ⊎ ((segment : ℕ) × IsLastOfTie image g segment × (place ≡ segment_place g segment))
 
--- what stands after the gate of a segment whose head holds a state; what its entries carry has a length and a form
-unfoldable pub head_spelled : {P : Type 0} → (P → ℕ) → (P → List ℕ) → ℕ → State P → List ℕ
+-- what stands after the gate of a segment whose head holds a state; what its entries carry has a length and a form. The
+-- top bit of the length says which form the head has
+unfoldable pub head_spelled : {P : Type 0} → (P → ℕ) → Spelled P → ℕ → State P → List ℕ
 head_spelled len form generation s =
-    big_bytes 8 generation ++ big_bytes 4 (length (state_spelled len form s)) ++ state_spelled len form s
+    big_bytes 8 generation ++ big_bytes 4 (mark_of form.which + length (state_spelled len form s))
+    ++ state_spelled len form s
 
 -- a whole head: its gate, and the closed gate of the first group after it
-abbrev pub opened_spelled : {P : Type 0} → (P → ℕ) → (P → List ℕ) → ℕ → State P → List ℕ
+abbrev pub opened_spelled : {P : Type 0} → (P → ℕ) → Spelled P → ℕ → State P → List ℕ
 opened_spelled len form generation s = open_gate ∷ head_spelled len form generation s ++ 0 ∷ []
 
 -- the place of the first group's gate, after a head that holds a state
-abbrev pub gate_after : {P : Type 0} → (P → ℕ) → (P → List ℕ) → Geometry → ℕ → State P → ℕ
+abbrev pub gate_after : {P : Type 0} → (P → ℕ) → Spelled P → Geometry → ℕ → State P → ℕ
 gate_after len form g segment s = segment_place g segment + 13 + length (state_spelled len form s)
 
 -- a head of this generation may hold a state there
-pub record IsHeadOf {P : Type 0} (len : P → ℕ) (form : P → List ℕ) (g : Geometry) (segment generation : ℕ) (s : State P)
+pub record IsHeadOf {P : Type 0} (len : P → ℕ) (form : Spelled P) (g : Geometry) (segment generation : ℕ) (s : State P)
     : Type 0 where
   pub params : s.params ≡ g.params
   pub least : 1 ≤ generation
@@ -74,27 +78,29 @@ pub record IsHeadOf {P : Type 0} (len : P → ℕ) (form : P → List ℕ) (g : 
   pub room : gate_after len form g segment s + group_room ≤ segment_end g segment
 
 -- the head of a segment holds a state
-pub record HoldsHeadOf {P : Type 0} (len : P → ℕ) (form : P → List ℕ) (image : List ℕ) (g : Geometry)
+pub record HoldsHeadOf {P : Type 0} (len : P → ℕ) (form : Spelled P) (image : List ℕ) (g : Geometry)
     (segment generation : ℕ) (s : State P) : Type 0 where
   pub bytes : StandsAt image (segment_place g segment + 1) (head_spelled len form generation s)
   pub sound : IsSound len s
+  pub plain : IsOfForm form.which s
   pub head : IsHeadOf len form g segment generation s
 
--- the same where every payload is inline
+-- the same where every payload is inline, in the form of heads that are written
 abbrev pub head_of : ℕ → State (List ℕ) → List ℕ
 head_of = head_spelled length inline_form
 
 abbrev pub opened_head : ℕ → State (List ℕ) → List ℕ
 opened_head = opened_spelled length inline_form
 
-abbrev pub first_gate : Geometry → ℕ → State (List ℕ) → ℕ
-first_gate = gate_after length inline_form
+-- and in either form, as a head is read
+abbrev pub first_gate : HeadForm → Geometry → ℕ → State (List ℕ) → ℕ
+first_gate which = gate_after length (spelled_by inline_form_of which)
 
-abbrev pub IsHead : Geometry → ℕ → ℕ → State (List ℕ) → Type 0
-IsHead = IsHeadOf length inline_form
+abbrev pub IsHead : HeadForm → Geometry → ℕ → ℕ → State (List ℕ) → Type 0
+IsHead which = IsHeadOf length (spelled_by inline_form_of which)
 
-abbrev pub HoldsHead : List ℕ → Geometry → ℕ → ℕ → State (List ℕ) → Type 0
-HoldsHead = HoldsHeadOf length inline_form
+abbrev pub HoldsHead : HeadForm → List ℕ → Geometry → ℕ → ℕ → State (List ℕ) → Type 0
+HoldsHead which = HoldsHeadOf length (spelled_by inline_form_of which)
 
 -- the head of a segment is open only where it was, with the generation that it had
 abbrev pub IsPassedOver : Geometry → ℕ → List ℕ → List ℕ → Type 0
@@ -103,7 +109,7 @@ IsPassedOver g segment old image = IsOpen image (segment_place g segment)
 
 -- what a crash within the opening of a segment may leave: all bytes outside it as they were, and the whole head, or
 -- none that is newer
-pub record IsOpeningOf {P : Type 0} (len : P → ℕ) (form : P → List ℕ) (g : Geometry) (segment generation : ℕ)
+pub record IsOpeningOf {P : Type 0} (len : P → ℕ) (form : Spelled P) (g : Geometry) (segment generation : ℕ)
     (s : State P) (old image : List ℕ) : Type 0 where
   pub outside : SameOutside (segment_place g segment) g.length old image
   pub whole : IsPassedOver g segment old image

@@ -7,7 +7,9 @@ use Rattle.rly_machine.specs.declared.hop.Item.{Item}
 use Rattle.rly_machine.specs.Map.{map_item}
 use Rattle.rly_machine.specs.State.{HopState, State}
 use Rattle.rly_checkpoint.specs.Checkpoint.{entry_spelled, hop_spelled}
-use Rattle.rly_checkpoint.specs.Stored.{stored_form, stored_length}
+use Rattle.rly_checkpoint.specs.Stored.{stored_length, stored_spelled}
+use Rattle.rly_checkpoint.specs.Widths.{entry_width, hop_width}
+use Rattle.rly_checkpoint.specs.declared.head_form.HeadForm.{HeadForm}
 use Rattle.rly_checkpoint.specs.declared.stored.Stored.{Stored}
 use Rattle.rly_checkpoint.specs.declared.stored.Stored.TheVariants.{Inline, Placed}
 use Rattle.rly_segment.specs.Heads.{segment_place}
@@ -18,25 +20,30 @@ settled at (Inline []) = Inline []
 settled at (Inline (byte ∷ bytes)) = Placed (record { start = at; length = length (byte ∷ bytes) })
 settled at (Placed place) = Placed place
 
--- items whose entries stand one after the other from a place on; a payload that is inline
--- stands 19 bytes into its entry
-abbrev pub settled_items : ℕ → List (Item Stored) → List (Item Stored)
-settled_items at [] = []
-settled_items at (item ∷ items) =
-    map_item (settled (at + 19)) item ∷ settled_items (at + length (entry_spelled stored_length stored_form item)) items
+-- items whose entries stand one after the other from a place on, in a head of a form; a payload that is inline stands
+-- behind the other fields of its entry
+abbrev pub settled_items : HeadForm → ℕ → List (Item Stored) → List (Item Stored)
+settled_items which at [] = []
+settled_items which at (item ∷ items) =
+    map_item (settled (at + entry_width which)) item
+    ∷ settled_items which (at + length (entry_spelled stored_length (stored_spelled which) item)) items
 
--- a hop that stands from a place on: its entries stand after 71 bytes, those in flight first
-abbrev pub settled_hop : ℕ → HopState Stored → HopState Stored
-settled_hop at h = record h {
-  flight = settled_items (at + 71) h.flight;
-  queue = settled_items (at + 71 + length (flat_map (entry_spelled stored_length stored_form) h.flight)) h.queue;
+-- a hop that stands from a place on: its entries stand behind its numbers, those in flight first
+abbrev pub settled_hop : HeadForm → ℕ → HopState Stored → HopState Stored
+settled_hop which at h = record h {
+  flight = settled_items which (at + hop_width which) h.flight;
+  queue = settled_items which
+      (at + hop_width which + length (flat_map (entry_spelled stored_length (stored_spelled which)) h.flight)) h.queue;
 }
 
-abbrev pub settled_hops : ℕ → List (HopState Stored) → List (HopState Stored)
-settled_hops at [] = []
-settled_hops at (h ∷ hops) =
-    settled_hop at h ∷ settled_hops (at + length (hop_spelled stored_length stored_form h)) hops
+abbrev pub settled_hops : HeadForm → ℕ → List (HopState Stored) → List (HopState Stored)
+settled_hops which at [] = []
+settled_hops which at (h ∷ hops) =
+    settled_hop which at h
+    ∷ settled_hops which (at + length (hop_spelled stored_length (stored_spelled which) h)) hops
 
--- the state that the head of a segment holds, with its payloads where they lie then: none is inline that has bytes
-abbrev pub settled_state : Geometry → ℕ → State Stored → State Stored
-settled_state g segment s = record s { hops = settled_hops (segment_place g segment + 21 + 8 * length s.lasts) s.hops }
+-- the state that the head of a segment holds, in that form, with its payloads where they lie then: none is inline that
+-- has bytes
+abbrev pub settled_state : HeadForm → Geometry → ℕ → State Stored → State Stored
+settled_state which g segment s =
+    record s { hops = settled_hops which (segment_place g segment + 21 + 8 * length s.lasts) s.hops }

@@ -1,24 +1,28 @@
-ghost use Rattle.std.specs.Prelude.{◌≡◌, ◌++◌, ◌∷◌, [], ◌<◌, ◌≤◌, ◌^◌, IfOk, drop, length, vec_len};
+ghost use Rattle.std.specs.Prelude.{All, ◌≡◌, ◌++◌, ◌∷◌, [], ◌<◌, ◌≤◌, ◌^◌, IfOk, drop, length, vec_len};
 ghost use Rattle.std.specs.Vec.{vec_capacity};
 ghost use Rattle.byteorder.specs.Endian.{big_bytes};
-ghost use Rattle.rly_checkpoint.specs.Checkpoint.{state_spelled};
+ghost use Rattle.rly_checkpoint.specs.Checkpoint.{spelled_by, state_spelled};
+ghost use Rattle.rly_checkpoint.specs.Forms.{HaveForms};
 ghost use Rattle.rly_segment.specs.Heads.{head_spelled};
 
 use crate::heads::START_BYTES;
 use byteorder::{BigEndian, ByteOrder};
-use rly_checkpoint::{Form, append_state, most_len};
+use rly_checkpoint::{Form, HeadForm, append_state, most_len};
 use rly_gate::CLOSED_GATE;
 use rly_machine::Machine;
 use std::alloc::{AllocError, Global};
 
-/// What stands after a segment's gate: a head that holds the machine's state, and the closed gate of the first group.
+/// What stands after a segment's gate: a head of the second form that holds the machine's state, and the closed gate of the first
+/// group.
 pub(crate) fn head_bytes<C: Form>(
     alloc: Global,
     generation: u64,
     machine: &Machine<C>,
 ) -> Result<Vec<u8>, AllocError>
-    requires { length (state_spelled C.length_of C.form machine.now.state) < 2 ^ 32 }
-    ensures { IfOk result (λ head. head.items ≡ head_spelled C.length_of C.form generation machine.now.state ++ 0 ∷ []) }
+    requires length { length (state_spelled C.length_of (spelled_by C.form HeadForm.Second) machine.now.state) < 2 ^ 31 }
+    requires fits { All (HaveForms (C.has_form HeadForm.Second)) machine.now.state.hops }
+    ensures { IfOk result
+        (λ head. head.items ≡ head_spelled C.length_of (spelled_by C.form HeadForm.Second) generation machine.now.state ++ 0 ∷ []) }
 {
     machine.law_sound();
     let room = most_len(machine) as usize;
@@ -26,7 +30,8 @@ pub(crate) fn head_bytes<C: Form>(
     head.extend_from_slice(&[0; START_BYTES])?;
     append_state(machine, &mut head);
     let length = head.len() - START_BYTES;
-    write_start(&mut head, generation, length as u32);
+    let field = HeadForm::Second.length_field(length as u32);
+    write_start(&mut head, generation, field);
     head.push(CLOSED_GATE)?;
     Ok(head)
 }

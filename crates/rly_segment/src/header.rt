@@ -6,7 +6,7 @@ ghost use Rattle.rly_segment.specs.Calls.{header_reads, reads_header};
 ghost use Rattle.rly_segment.specs.Device.{IsLayout, device_mark, geometry_in};
 
 use crate::layout::{FIRST_SEGMENT, number_in};
-use rly_core::limits::{MAX_SEGMENTS, SEGMENT_LENGTH_LIMIT, SEGMENTS};
+use rly_core::limits::{MAX_SEGMENTS, MIN_SEGMENTS, SEGMENT_LENGTH_LIMIT};
 use rly_core::{Geometry, Params};
 use rly_disk::Disk;
 use rly_gate::{OPEN_GATE, fill};
@@ -86,7 +86,7 @@ pub(crate) fn is_layout(geometry: &Geometry, size: u64) -> bool
     ensures { IsTrue result ↔ IsLayout geometry.now size }
 {
     geometry.params.check().is_ok()
-        && SEGMENTS <= geometry.segments
+        && MIN_SEGMENTS <= geometry.segments
         && geometry.segments <= MAX_SEGMENTS
         && geometry.length < SEGMENT_LENGTH_LIMIT
         && fits(geometry)

@@ -1,7 +1,8 @@
 ghost use Rattle.std.specs.Prelude.{All, ◌≡◌, ◌+◌, ◌<◌, ◌≤◌, ◌^◌, ◌++◌, ◌∷◌, [], ◌↔◌, IfOk, IsTrue, Option, Some, is_ok, length, ℕ};
 ghost use Rattle.byteorder.specs.Endian.{big_bytes};
-ghost use Rattle.rly_checkpoint.specs.Checkpoint.{checkpoint_of, state_spelled};
+ghost use Rattle.rly_checkpoint.specs.Checkpoint.{IsOfForm, inline_form_of, spelled_by, state_spelled};
 ghost use Rattle.rly_checkpoint.specs.Forms.{HaveForms};
+ghost use Rattle.rly_checkpoint.specs.Widths.{mark_of};
 ghost use Rattle.rly_core.specs.Bounds.{IsIn};
 ghost use Rattle.rly_disk.specs.Trace.{Makes, Read};
 ghost use Rattle.rly_gate.specs.Group.{StandsAt};
@@ -11,7 +12,7 @@ ghost use Rattle.rly_segment.specs.Device.{IsLayout};
 ghost use Rattle.rly_segment.specs.Heads.{IsHead, IsHeadOf, first_gate, gate_after, segment_place};
 
 use crate::layout::{number_of_4, number_of_8, segment_place};
-use rly_checkpoint::{DecodeFault, Form, read_state};
+use rly_checkpoint::{DecodeFault, Form, HeadForm, read_state};
 use rly_core::Geometry;
 use rly_disk::{Disk, DiskFault};
 use rly_gate::{ReadFault, fill, read_bytes};
@@ -30,6 +31,8 @@ const BODY_OFFSET: u64 = 13;
 pub struct Head<C: Content> {
     /// The number of the opening that wrote the head, counted from 1.
     pub generation: u64,
+    /// The form that it was read in.
+    pub form: HeadForm,
     /// The state, in a machine.
     pub machine: Machine<C>,
     /// The place of the gate of the first group.
@@ -51,6 +54,7 @@ pub enum HeadFault {
 #[derive(Clone, Copy)]
 struct Start {
     generation: u64,
+    form: HeadForm,
     length: u32,
 }
 
@@ -64,10 +68,12 @@ pub fn read_head<D: Disk>(
 ) -> Result<Head<Payload>, HeadFault>
     requires geometry { IsLayout geometry.now (D.state disk.old).size }
     requires segment { segment < geometry.now.segments }
-    ensures head { IfOk result (λ head. IsHead geometry.now segment head.generation head.machine.state) }
-    ensures gate { IfOk result (λ head. head.gate ≡ first_gate geometry.now segment head.machine.state) }
+    ensures head { IfOk result (λ head. IsHead head.form geometry.now segment head.generation head.machine.state) }
+    ensures gate { IfOk result (λ head. head.gate ≡ first_gate head.form geometry.now segment head.machine.state) }
+    ensures plain { IfOk result (λ head. IsOfForm head.form head.machine.state) }
     ensures read { (D.state disk.old).honest → IsReadHead (D.state disk.old).seen geometry.now segment result }
-    ensures trace { (body : Option ℕ) × IfOk result (λ head. body ≡ Some (length (checkpoint_of head.machine.state)))
+    ensures trace { (body : Option ℕ)
+        × IfOk result (λ head. body ≡ Some (length (state_spelled length (spelled_by inline_form_of head.form) head.machine.state)))
         × Makes D.state (head_reads (segment_place geometry.now segment) body) (reads_head result) disk.old disk.new }
 {
     read_head_of(alloc, disk, geometry, segment)
@@ -83,12 +89,16 @@ pub fn read_head_of<D: Disk, C: Form>(
 ) -> Result<Head<C>, HeadFault>
     requires geometry { IsLayout geometry.now (D.state disk.old).size }
     requires segment { segment < geometry.now.segments }
-    ensures head { IfOk result (λ head. IsHeadOf C.length_of C.form geometry.now segment head.generation head.machine.state) }
-    ensures gate { IfOk result (λ head. head.gate ≡ gate_after C.length_of C.form geometry.now segment head.machine.state) }
-    ensures forms { IfOk result (λ head. All (HaveForms C.has_form) head.machine.state.hops) }
+    ensures head { IfOk result
+        (λ head. IsHeadOf C.length_of (spelled_by C.form head.form) geometry.now segment head.generation head.machine.state) }
+    ensures gate { IfOk result
+        (λ head. head.gate ≡ gate_after C.length_of (spelled_by C.form head.form) geometry.now segment head.machine.state) }
+    ensures forms { IfOk result (λ head. All (HaveForms (C.has_form head.form)) head.machine.state.hops) }
+    ensures plain { IfOk result (λ head. IsOfForm head.form head.machine.state) }
     ensures read { (D.state disk.old).honest
         → IsReadHeadOf C.length_of C.form C.has_form (D.state disk.old).seen geometry.now segment result }
-    ensures trace { (body : Option ℕ) × IfOk result (λ head. body ≡ Some (length (state_spelled C.length_of C.form head.machine.state)))
+    ensures trace { (body : Option ℕ)
+        × IfOk result (λ head. body ≡ Some (length (state_spelled C.length_of (spelled_by C.form head.form) head.machine.state)))
         × Makes D.state (head_reads (segment_place geometry.now segment) body) (reads_head result) disk.old disk.new }
 {
     let place = segment_place(geometry, segment);
@@ -104,7 +114,7 @@ pub fn read_head_of<D: Disk, C: Form>(
         Err(ReadFault::OutOfMemory) => return Err(HeadFault::OutOfMemory),
         Err(ReadFault::Device) => return Err(HeadFault::Device),
     };
-    let machine = match read_state(alloc, geometry.params, &body) {
+    let machine = match read_state(alloc, start.form, geometry.params, &body) {
         Ok(machine) => machine,
         Err(DecodeFault::Malformed) => return Err(HeadFault::Damaged),
         Err(DecodeFault::OutOfMemory) => return Err(HeadFault::OutOfMemory),
@@ -115,25 +125,29 @@ pub fn read_head_of<D: Disk, C: Form>(
     }
     Ok(Head {
         generation: start.generation,
+        form: start.form,
         machine,
         gate: place + end,
     })
 }
 
-/// Reads the generation and the length after the gate of a head.
+/// Reads the generation, the form and the length after the gate of a head.
 fn read_start<D: Disk>(disk: &mut D, place: u64) -> Result<Start, DiskFault>
     requires place_fits { place + 1 < 2 ^ 64 }
     requires room { place + 13 ≤ (D.state disk.old).size }
     ensures read { (D.state disk.old).honest
-        → IfOk result (λ start. StandsAt (D.state disk.old).seen (place + 1) (big_bytes 8 start.generation ++ big_bytes 4 start.length)) }
-    ensures fits { IfOk result (λ start. (start.generation < 2 ^ 64) × (start.length < 2 ^ 32)) }
+        → IfOk result (λ start. StandsAt (D.state disk.old).seen (place + 1)
+        (big_bytes 8 start.generation ++ big_bytes 4 (mark_of start.form + start.length))) }
+    ensures fits { IfOk result (λ start. (start.generation < 2 ^ 64) × (start.length < 2 ^ 31)) }
     ensures trace { Makes D.state (Read (place + 1) 12 ∷ []) (is_ok result) disk.old disk.new }
 {
     let mut start = [0u8; START_BYTES];
     fill(disk, place + 1, &mut start)?;
+    let (form, length) = HeadForm::of_length(number_of_4(&start[8..]));
     Ok(Start {
         generation: number_of_8(&start[..8]),
-        length: number_of_4(&start[8..]),
+        form,
+        length,
     })
 }
 

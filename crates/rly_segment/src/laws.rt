@@ -12,7 +12,10 @@ ghost use Rattle.rly_segment.specs.Device.{IsLayout};
 ghost use Rattle.rly_segment.specs.Heads.{HoldsHeadOf, IsHeadOf, IsOpeningOf, head_spelled, segment_place};
 ghost use Rattle.rly_segment.specs.PlacedHeads.{HeadStandsFor};
 ghost use Rattle.rly_segment.specs.Settling.{settled_state};
-ghost use Rattle.rly_checkpoint.specs.Stored.{state_in, stored_form, stored_length};
+ghost use Rattle.rly_checkpoint.specs.Checkpoint.{spelled_by};
+ghost use Rattle.rly_checkpoint.specs.Stored.{state_in, stored_length, stored_spelled};
+ghost use Rattle.rly_checkpoint.specs.declared.head_form.HeadForm.{HeadForm as AForm};
+ghost use Rattle.rly_checkpoint.specs.declared.head_form.HeadForm.TheVariants.{Second};
 ghost use Rattle.rly_checkpoint.specs.declared.stored.Stored.{Stored as AStored};
 ghost use Rattle.rly_machine.specs.Sound.{IsSound};
 ghost use Rattle.rly_places.specs.Room.{inline_bytes};
@@ -24,10 +27,14 @@ use rly_disk::Disk;
 /// there, and all bytes outside the segment as they were. Its gate is closed first where it reads open.
 pub fn law_opening<D: Disk, C: Form>(old: &D, new: &D)
     ensures { (g : AGeometry) (segment generation : ℕ) (s : State C) (closed whole : Bool)
-        → IsLayout g (D.state old.now).size → segment < g.segments → IsHeadOf C.length_of C.form g segment generation s
+        → IsLayout g (D.state old.now).size → segment < g.segments
+        → IsHeadOf C.length_of (spelled_by C.form Second) g segment generation s
         → (IsTrue closed ↔ IsClosed (D.state old.now).seen (segment_place g segment)) → Settled (D.state old.now)
-        → Makes D.state (replacing (segment_place g segment) closed (head_spelled C.length_of C.form generation s ++ 0 ∷ [])) whole old.now new.now
-        → LeavesOnly (D.state old.now) (D.state new.now) (IsOpeningOf C.length_of C.form g segment generation s (D.state old.now).seen) }
+        → Makes D.state
+        (replacing (segment_place g segment) closed (head_spelled C.length_of (spelled_by C.form Second) generation s ++ 0 ∷ []))
+        whole old.now new.now
+        → LeavesOnly (D.state old.now) (D.state new.now)
+        (IsOpeningOf C.length_of (spelled_by C.form Second) g segment generation s (D.state old.now).seen) }
 {}
 
 /// The head of a segment stands for one state, and has one generation, whatever of its payloads stands by place.
@@ -41,10 +48,11 @@ pub fn law_one_head()
 /// Once a head stands, the payloads that it has inline lie in it: the state that has their places is sound, has no bytes inline, and
 /// stands for the same over every image in which the head stands.
 pub fn law_settled()
-    ensures same { (image : List ℕ) (g : AGeometry) (segment generation : ℕ) (s : State AStored)
-        → HoldsHeadOf stored_length stored_form image g segment generation s
-        → state_in image (settled_state g segment s) ≡ state_in image s }
-    ensures sound { (g : AGeometry) (segment : ℕ) (s : State AStored) → IsSound stored_length s
-        → IsSound stored_length (settled_state g segment s) }
-    ensures inline { (g : AGeometry) (segment : ℕ) (s : State AStored) → inline_bytes (settled_state g segment s) ≡ 0 }
+    ensures same { (which : AForm) (image : List ℕ) (g : AGeometry) (segment generation : ℕ) (s : State AStored)
+        → HoldsHeadOf stored_length (stored_spelled which) image g segment generation s
+        → state_in image (settled_state which g segment s) ≡ state_in image s }
+    ensures sound { (which : AForm) (g : AGeometry) (segment : ℕ) (s : State AStored) → IsSound stored_length s
+        → IsSound stored_length (settled_state which g segment s) }
+    ensures inline { (which : AForm) (g : AGeometry) (segment : ℕ) (s : State AStored)
+        → inline_bytes (settled_state which g segment s) ≡ 0 }
 {}

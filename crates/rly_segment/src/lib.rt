@@ -1,7 +1,8 @@
 //! Segments: what a device is, and which of its segments holds the newest state.
 //!
 //! A device has a header and 2 to 256 segments. A segment begins with its head, the checkpoint header:
-//! a whole state after a gate (`docs/FORMATS.md`, "The device" and "Heads"). `read_header`,
+//! a whole state after a gate (`docs/FORMATS.md`, "The device" and "Heads"). A head has one of two
+//! forms: the second is written, both are read. `read_header`,
 //! `newest` and `read_head` make the checks before the first group, in that order
 //! (`specs/Answers.antt`). `read_placed_head` makes the check of a head whose payloads may stand by
 //! place, and `law_one_head` says that it stands for one state (`specs/PlacedHeads.antt`). `format`

@@ -1,4 +1,7 @@
-ghost use Rattle.std.specs.Prelude.{◌^◌, ◌≡◌, ◌+◌, ◌<◌, ◌≤◌, ◌∷◌, ◌++◌, [], IfOk, is_ok, length};
+ghost use Rattle.std.specs.Prelude.{All, ◌^◌, ◌≡◌, ◌+◌, ◌<◌, ◌≤◌, ◌∷◌, ◌++◌, [], IfOk, is_ok, length};
+ghost use Rattle.rly_checkpoint.specs.Checkpoint.{spelled_by};
+ghost use Rattle.rly_checkpoint.specs.Forms.{HaveForms};
+ghost use Rattle.rly_checkpoint.specs.declared.head_form.HeadForm.TheVariants.{Second};
 ghost use Rattle.rly_disk.specs.Trace.{Makes};
 ghost use Rattle.rly_segment.specs.Calls.{closing, opening_calls, opens, replacing};
 ghost use Rattle.rly_segment.specs.Device.{IsLayout};
@@ -31,8 +34,9 @@ pub enum OpeningFault {
     Device,
 }
 
-/// Opens a segment: writes a head that holds the machine's state, with a closed gate after it, and
-/// answers that gate's place. What a crash at any moment of the call leaves is said by `law_opening`.
+/// Opens a segment: writes a head of the second form that holds the machine's state, with a closed gate
+/// after it, and answers that gate's place. What a crash at any moment of the call leaves is said by
+/// `law_opening`.
 pub fn open_segment<D: Disk, C: Form>(
     alloc: Global,
     disk: &mut D,
@@ -43,10 +47,14 @@ pub fn open_segment<D: Disk, C: Form>(
 ) -> Result<u64, OpeningFault>
     requires geometry { IsLayout geometry.now (D.state disk.old).size }
     requires target { target.segment < geometry.now.segments }
-    requires head { IsHeadOf C.length_of C.form geometry.now target.segment generation machine.now.state }
-    ensures gate { IfOk result (λ gate. gate ≡ gate_after C.length_of C.form geometry.now target.segment machine.now.state) }
+    requires head { IsHeadOf C.length_of (spelled_by C.form Second) geometry.now target.segment generation machine.now.state }
+    // Each number of the head fits its field: those of a sound state do, and so does what stands for its payloads.
+    requires fits { All (HaveForms (C.has_form Second)) machine.now.state.hops }
+    ensures gate { IfOk result
+        (λ gate. gate ≡ gate_after C.length_of (spelled_by C.form Second) geometry.now target.segment machine.now.state) }
     ensures trace { Makes D.state (opening_calls result (replacing (segment_place geometry.now target.segment) target.closed
-        (head_spelled C.length_of C.form generation machine.now.state ++ 0 ∷ []))) (opens result) disk.old disk.new }
+        (head_spelled C.length_of (spelled_by C.form Second) generation machine.now.state ++ 0 ∷ [])))
+        (opens result) disk.old disk.new }
 {
     let place = segment_place(geometry, target.segment);
     let Ok(behind) = head_bytes(alloc, generation, machine) else {

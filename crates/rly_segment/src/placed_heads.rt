@@ -1,6 +1,6 @@
 ghost use Rattle.std.specs.Prelude.{◌≡◌, ◌<◌, ℕ, IfOk, Option, Some, length};
-ghost use Rattle.rly_checkpoint.specs.Checkpoint.{state_spelled};
-ghost use Rattle.rly_checkpoint.specs.Stored.{stored_form, stored_length};
+ghost use Rattle.rly_checkpoint.specs.Checkpoint.{IsOfForm, state_spelled};
+ghost use Rattle.rly_checkpoint.specs.Stored.{stored_length, stored_spelled};
 ghost use Rattle.rly_disk.specs.Trace.{Makes};
 ghost use Rattle.rly_places.specs.Placed.{IsPlaced};
 ghost use Rattle.rly_segment.specs.Calls.{head_reads, reads_head};
@@ -25,12 +25,15 @@ pub fn read_placed_head<D: Disk>(
 ) -> Result<Head<Stored>, HeadFault>
     requires geometry { IsLayout geometry.now (D.state disk.old).size }
     requires segment { segment < geometry.now.segments }
-    ensures head { IfOk result (λ head. IsHeadOf stored_length stored_form geometry.now segment head.generation head.machine.state) }
+    ensures head { IfOk result
+        (λ head. IsHeadOf stored_length (stored_spelled head.form) geometry.now segment head.generation head.machine.state) }
+    ensures plain { IfOk result (λ head. IsOfForm head.form head.machine.state) }
     ensures placed { IfOk result (λ head. IsPlaced geometry.now segment head.machine.state) }
-    ensures gate { IfOk result (λ head. head.gate ≡ gate_after stored_length stored_form geometry.now segment head.machine.state) }
+    ensures gate { IfOk result
+        (λ head. head.gate ≡ gate_after stored_length (stored_spelled head.form) geometry.now segment head.machine.state) }
     ensures read { (D.state disk.old).honest → IsReadPlaced (D.state disk.old).seen geometry.now segment result }
     ensures trace { (body : Option ℕ)
-        × IfOk result (λ head. body ≡ Some (length (state_spelled stored_length stored_form head.machine.state)))
+        × IfOk result (λ head. body ≡ Some (length (state_spelled stored_length (stored_spelled head.form) head.machine.state)))
         × Makes D.state (head_reads (segment_place geometry.now segment) body) (reads_head result) disk.old disk.new }
 {
     law_one_spelling::<Stored>();

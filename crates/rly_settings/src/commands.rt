@@ -8,13 +8,16 @@ use std::alloc::{AllocError, Global};
 
 /// The help on the options of `sim` and `play`.
 const LINES: &str = "Each line of standard input is one command, and gets one line of answer:
-  take PEER NUMBER HOP STAMP PAYLOAD   a datagram comes in; PAYLOAD is hexadecimal, or - for none
+  take PEER NUMBER HOP STAMP PAYLOAD [LIMIT]
+                                       a datagram comes in; PAYLOAD is hexadecimal, or - for none
   pick HOP NOW                         CoDel lets a datagram of the hop into flight, and may drop some
   done HOP NUMBER                      the next hop took custody up to this number
   fetch HOP NUMBER                     the payload in flight under this number
   window HOP                           the first number in flight, and the next one
   show HOP                             all numbers of the hop
-Any other line answers `refused 16 line`. STAMP and NOW are microseconds of the hop's link clock.";
+Any other line answers `refused 16 line`. STAMP and NOW are microseconds of the hop's link clock.
+LIMIT is how many of these a datagram may wait: a pick takes away those at the front of the queue
+that waited longer. There is no limit where it is 0 or left out.";
 
 /// The help on the options of `format`.
 const FORMATTED: &str =
@@ -25,9 +28,9 @@ Values out of their limits answer `refused 21 badgeometry` before the file is to
 /// The help on the options of `audit`.
 const AUDITED: &str =
     "Prints a line for each hop, then one for each peer, the count of accepted commands, and
-`balance ok`: what each hop took waits, is in flight, was dropped or was released, and the peers'
-last numbers sum up to what the hops took. The file is locked meanwhile, for which it has to be one
-that may be written.";
+`balance ok`: what each hop took waits, is in flight, was dropped, expired or was released, and the
+peers' last numbers sum up to what the hops took. The file is locked meanwhile, for which it has to
+be one that may be written.";
 
 /// The help on the options of `serve`.
 const SERVED: &str =

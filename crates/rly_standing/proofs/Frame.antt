@@ -4,8 +4,9 @@ use Rattle.byteorder.specs.Endian.{big_bytes}
 use Rattle.rly_machine.specs.State.{State}
 use Rattle.rly_gate.specs.Group.{IsClosed, open_gate}
 use Rattle.rly_record.specs.Spelling.{body_of}
-use Rattle.rly_checkpoint.specs.Checkpoint.{checkpoint_of, inline_form, state_spelled}
-use Rattle.rly_checkpoint.specs.Stored.{stored_form, stored_length}
+use Rattle.rly_checkpoint.specs.Checkpoint.{Spelled, checkpoint_of, inline_form, state_spelled}
+use Rattle.rly_checkpoint.specs.Widths.{mark_of}
+use Rattle.rly_checkpoint.specs.Stored.{stored_length, stored_spelled}
 use Rattle.rly_checkpoint.specs.Stored.{state_in as state_over}
 use Rattle.rly_segment.specs.Device.{IsDevice, IsLayout, device_mark, geometry_in}
 use Rattle.rly_segment.specs.Heads.{IsNewest, IsPassedOver, generation_in, head_of, head_spelled, segment_place}
@@ -27,12 +28,13 @@ gate_above at [] = omega arith
 gate_above at (commands ∷ groups) = omega (arith, gate_above (next_gate at commands) groups)
 
 -- how long a head is after its gate
-pub length-spelled : {P : Type 0} (len : P → ℕ) (form : P → List ℕ) (generation : ℕ) (s : State P)
+pub length-spelled : {P : Type 0} (len : P → ℕ) (form : Spelled P) (generation : ℕ) (s : State P)
     → length (head_spelled len form generation s) ≡ 12 + length (state_spelled len form s)
 unfolding head_spelled
 length-spelled len form generation s =
     let body : List ℕ = state_spelled len form s in
-    omega (arith, length-append (big_bytes 8 generation ++ big_bytes 4 (length body)) body, length-append (big_bytes 8 generation) (big_bytes 4 (length body)))
+    let number : ℕ = mark_of form.which + length body in
+    omega (arith, length-append (big_bytes 8 generation ++ big_bytes 4 number) body, length-append (big_bytes 8 generation) (big_bytes 4 number))
 
 pub length-head : (generation : ℕ) (s : State (List ℕ)) → length (head_of generation s) ≡ 12 + length (checkpoint_of s)
 length-head generation s = length-spelled length inline_form generation s
@@ -72,15 +74,16 @@ newest_still {old} {new} x heads same newest =
     }
 
 pub head_still : {old new : List ℕ} (x : Standing) → SameBytes (segment_place x.geometry x.segment) (gate_of x) old new
-    → HoldsPlaced old x.geometry x.segment x.generation x.head → HoldsPlaced new x.geometry x.segment x.generation x.head
+    → HoldsPlaced x.form old x.geometry x.segment x.generation x.head → HoldsPlaced x.form new x.geometry x.segment x.generation x.head
 head_still x same holds =
     let above = gate_above (first_of x) x.groups in
     let place : ℕ = segment_place x.geometry x.segment in
     record {
       head = record {
-        bytes = stands_still place (gate_of x) (place + 1) (head_spelled stored_length stored_form x.generation x.head) (omega arith)
-            (omega (arith, above, length-spelled stored_length stored_form x.generation x.head)) same holds.head.bytes;
+        bytes = stands_still place (gate_of x) (place + 1) (head_spelled stored_length (stored_spelled x.form) x.generation x.head) (omega arith)
+            (omega (arith, above, length-spelled stored_length (stored_spelled x.form) x.generation x.head)) same holds.head.bytes;
         sound = holds.head.sound;
+        plain = holds.head.plain;
         head = holds.head.head;
       };
       placed = holds.placed;

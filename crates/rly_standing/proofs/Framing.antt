@@ -48,12 +48,12 @@ all_whole image g own s fits lie = All-weaker (LiesElsewhere g own) (Whole image
 -- ---- what groups make of a state whose payloads stand for bytes
 
 brought_whole : (image : List ℕ) (command : Command (List ℕ)) → All (Whole image) (payload_of (map_command Inline command))
-brought_whole image (Take peer number hop stamp payload) = All-cons (Whole image) (Inline payload) [] refl (All-nil (Whole image))
+brought_whole image (Take peer number hop stamp limit payload) = All-cons (Whole image) (Inline payload) [] refl (All-nil (Whole image))
 brought_whole image (Pick hop now) = All-nil (Whole image)
 brought_whole image (Release hop number) = All-nil (Whole image)
 
 command_again : (image : List ℕ) (command : Command (List ℕ)) → map_command (payload_in image) (map_command Inline command) ≡ command
-command_again image (Take peer number hop stamp payload) = refl
+command_again image (Take peer number hop stamp limit payload) = refl
 command_again image (Pick hop now) = refl
 command_again image (Release hop number) = refl
 

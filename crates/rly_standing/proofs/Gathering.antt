@@ -11,7 +11,7 @@ use Rattle.rly_standing.specs.Standing.{Commands}
 
 -- how long a record is at most
 record_most : (command : Command (List ℕ)) → HasRecord command → record_length length command ≤ 1223
-record_most (Take peer number hop stamp payload) has = omega (arith, has.4)
+record_most (Take peer number hop stamp limit payload) has = omega (arith, has.4)
 record_most (Pick hop now) has = omega arith
 record_most (Release hop number) has = omega arith
 

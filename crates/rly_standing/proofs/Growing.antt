@@ -14,8 +14,10 @@ use Rattle.rly_gate.specs.Reading.{HoldsGroup}
 use Rattle.rly_disk.proofs.Ranges.{wider}
 use Rattle.rly_record.specs.Spelling.{HaveBody, body_of}
 use Rattle.rly_machine.specs.Map.{map_state}
-use Rattle.rly_checkpoint.specs.Checkpoint.{state_spelled}
-use Rattle.rly_checkpoint.specs.Stored.{stored_form, stored_length}
+use Rattle.rly_checkpoint.specs.Checkpoint.{Spelled, state_spelled}
+use Rattle.rly_checkpoint.specs.Widths.{mark_of}
+use Rattle.rly_checkpoint.specs.Stored.{stored_form, stored_length, stored_spelled}
+use Rattle.rly_checkpoint.specs.declared.head_form.HeadForm.TheVariants.{Second}
 use Rattle.rly_checkpoint.specs.declared.stored.Stored.{Stored}
 use Rattle.rly_places.specs.Placed.{IsPlaced}
 use Rattle.rly_checkpoint.specs.Stored.{state_in as state_over}
@@ -136,18 +138,18 @@ grown {old} x commands stands body accepted fits within image left =
 -- ---- one segment more
 
 -- the generation of a head that stands
-pub generation_there : {P : Type 0} (len : P → ℕ) (form : P → List ℕ) (image : List ℕ) (place generation : ℕ) (s : State P) → generation < 2 ^ 64
+pub generation_there : {P : Type 0} (len : P → ℕ) (form : Spelled P) (image : List ℕ) (place generation : ℕ) (s : State P) → generation < 2 ^ 64
     → StandsAt image place (head_spelled len form generation s) → number_in image place 8 ≡ generation
 unfolding head_spelled
 generation_there len form image place generation s fits stands =
     let body : List ℕ = state_spelled len form s in
     number_of_bytes image place 8 generation refl fits
-    (stands_front image place (big_bytes 8 generation) (big_bytes 4 (length body) ++ body)
-    (subst (StandsAt image place) (append_assoc (big_bytes 8 generation) (big_bytes 4 (length body)) body) stands))
+    (stands_front image place (big_bytes 8 generation) (big_bytes 4 (mark_of form.which + length body) ++ body)
+    (subst (StandsAt image place) (append_assoc (big_bytes 8 generation) (big_bytes 4 (mark_of form.which + length body)) body) stands))
 
 -- the standing with a new segment
 abbrev pub with_head : Standing → ℕ → State Stored → State (List ℕ) → Standing
-with_head x t s checkpoint = record { geometry = x.geometry; segment = t; generation = x.generation + 1; head = s; checkpoint = checkpoint; groups = [] }
+with_head x t s checkpoint = record { geometry = x.geometry; segment = t; generation = x.generation + 1; form = Second; head = s; checkpoint = checkpoint; groups = [] }
 
 -- the whole head of another segment
 pub opened_with : {old new : List ℕ} (x : Standing) (t : ℕ) (s : State Stored) (checkpoint : State (List ℕ)) → IsStanding old x → t < x.geometry.segments → t ≢ x.segment
@@ -166,7 +168,7 @@ opened_with {old} {new} x t s checkpoint stands below other sound head placed sm
     let gate : StandsAt new place (open_gate ∷ []) = stands_front new place (open_gate ∷ []) text both in
     let bytes : StandsAt new (place + 1) text = stands_back new place (open_gate ∷ []) text both in
     let number : generation_in new g t ≡ x.generation + 1 = generation_there stored_length stored_form new (place + 1) (x.generation + 1) s small bytes in
-    let before : generation_in old g x.segment ≡ x.generation = generation_there stored_length stored_form old (segment_place g x.segment + 1) x.generation x.head (omega (arith, small)) stands.scanned.head.head.bytes in
+    let before : generation_in old g x.segment ≡ x.generation = generation_there stored_length (stored_spelled x.form) old (segment_place g x.segment + 1) x.generation x.head (omega (arith, small)) stands.scanned.head.head.bytes in
     let last : StandsAt new (place + length front) (0 ∷ []) = stands_back new place front (0 ∷ []) whole in
     let ends : place + length front ≡ gate_of (with_head x t s checkpoint) = omega (arith, length-spelled stored_length stored_form (x.generation + 1) s) in
     record {
@@ -184,7 +186,7 @@ opened_with {old} {new} x t s checkpoint stands below other sound head placed sm
                 | inr differs ↦ let less = stands.scanned.newest.newest u small_u differs kept.0 in omega (arith, number, before, less, kept.1)
               ];
         };
-        head = record { head = record { bytes = bytes; sound = sound; head = head }; placed = placed };
+        head = record { head = record { bytes = bytes; sound = sound; plain = tt; head = head }; placed = placed };
         payloads = is;
         groups = tt;
         accepted = tt;
@@ -197,14 +199,14 @@ abbrev pub with_segment : Standing → ℕ → Standing
 with_segment x t = with_head x t (map_state Inline (state_in x)) (state_in x)
 
 pub opened : {old new : List ℕ} (x : Standing) (t : ℕ) → IsStanding old x → t < x.geometry.segments → t ≢ x.segment
-    → IsSound length (state_in x) → IsHead x.geometry t (x.generation + 1) (state_in x) → x.generation + 1 < 2 ^ 64
+    → IsSound length (state_in x) → IsHead Second x.geometry t (x.generation + 1) (state_in x) → x.generation + 1 < 2 ^ 64
     → SameOutside (segment_place x.geometry t) x.geometry.length old new → StandsAt new (segment_place x.geometry t) (opened_head (x.generation + 1) (state_in x))
     → IsStanding new (with_segment x t)
 opened {old} {new} x t stands below other sound head small outside whole =
     let s : State (List ℕ) = state_in x in
-    opened_with x t (map_state Inline s) s stands below other (inline_sound s sound) (inline_is_head x.geometry t (x.generation + 1) s head)
+    opened_with x t (map_state Inline s) s stands below other (inline_sound s sound) (inline_is_head Second x.geometry t (x.generation + 1) s head)
     (inline_placed x.geometry t s stands.scanned.fits.segments.0) small (sym (bytes_inline new s)) outside
-    (subst (λ (text : List ℕ). StandsAt new (segment_place x.geometry t) (open_gate ∷ text ++ 0 ∷ [])) (sym (head_inline (x.generation + 1) s)) whole)
+    (subst (λ (text : List ℕ). StandsAt new (segment_place x.geometry t) (open_gate ∷ text ++ 0 ∷ [])) (sym (head_inline Second (x.generation + 1) s)) whole)
 
 -- the first closed gate lies in the segment
 pub gate_within : (image : List ℕ) (end at : ℕ) (groups : List Commands) → at < end → HoldGroups image end at groups → gate_behind at groups < end
@@ -219,9 +221,9 @@ gate_of-within {image} x scanned = gate_within image (standing_end x) (first_of 
 
 -- what is read of a device that was formatted
 abbrev pub new_standing : Geometry → Standing
-new_standing g = record { geometry = g; segment = 0; generation = 1; head = map_state Inline (new_state g.params); checkpoint = new_state g.params; groups = [] }
+new_standing g = record { geometry = g; segment = 0; generation = 1; form = Second; head = map_state Inline (new_state g.params); checkpoint = new_state g.params; groups = [] }
 
-formatted : {image : List ℕ} (g : Geometry) → IsFormatted g image → IsHead g 0 1 (new_state g.params) → IsSound {P = List ℕ} length (new_state g.params) → IsStanding image (new_standing g)
+formatted : {image : List ℕ} (g : Geometry) → IsFormatted g image → IsHead Second g 0 1 (new_state g.params) → IsSound {P = List ℕ} length (new_state g.params) → IsStanding image (new_standing g)
 formatted {image} g is head sound =
     let place : ℕ = segment_place g 0 in
     let front : List ℕ = open_gate ∷ head_of 1 (new_state g.params) in
@@ -229,7 +231,7 @@ formatted {image} g is head sound =
     let gate : StandsAt image place (open_gate ∷ []) = stands_front image place (open_gate ∷ []) (head_of 1 (new_state g.params)) both in
     let bytes : StandsAt image (place + 1) (head_of 1 (new_state g.params)) = stands_back image place (open_gate ∷ []) (head_of 1 (new_state g.params)) both in
     let last : StandsAt image (place + length front) (0 ∷ []) = stands_back image place front (0 ∷ []) is.head in
-    let ends : place + length front ≡ gate_of (new_standing g) = omega (arith, length-head 1 (new_state g.params), gate_inline g 0 (new_state g.params)) in
+    let ends : place + length front ≡ gate_of (new_standing g) = omega (arith, length-head 1 (new_state g.params), gate_inline Second g 0 (new_state g.params)) in
     record {
       scanned = record {
         device = is.device;
@@ -240,7 +242,7 @@ formatted {image} g is head sound =
           gate = byte_there image place open_gate gate;
           newest = λ u small_u apart_u opened_u. absurd (is.others u (omega (arith, apart_u)) small_u opened_u);
         };
-        head = inline_holds image g 0 1 (new_state g.params) is.fits.segments.0 (record { bytes = bytes; sound = sound; head = head });
+        head = inline_holds Second image g 0 1 (new_state g.params) is.fits.segments.0 (record { bytes = bytes; sound = sound; plain = tt; head = head });
         payloads = sym (bytes_inline image (new_state g.params));
         groups = tt;
         accepted = tt;
@@ -250,7 +252,7 @@ formatted {image} g is head sound =
 
 pub formatted_stands : (g : Geometry) (image : List ℕ) → IsFormatted g image → Stands image (new_state g.params)
 formatted_stands g image is =
-    let head : IsHead g 0 1 (new_state g.params) = record {
+    let head : IsHead Second g 0 1 (new_state g.params) = record {
       params = refl;
       least = omega arith;
       most = omega arith;

@@ -14,17 +14,21 @@ use Rattle.rly_machine.specs.Sound.{IsSound}
 use Rattle.rly_machine.specs.State.{State, HopState, live_line}
 use Rattle.rly_machine.proofs.Alike.{sound_alike}
 use Rattle.rly_machine.proofs.Lifting.{state_twice}
-use Rattle.rly_checkpoint.specs.Stored.{payload_in, stored_form, stored_length}
+use Rattle.rly_checkpoint.specs.Checkpoint.{IsOfForm, inline_form_of, spelled_by}
+use Rattle.rly_checkpoint.specs.Stored.{payload_in, stored_length, stored_spelled}
+use Rattle.rly_checkpoint.specs.Widths.{mark_of}
+use Rattle.rly_checkpoint.specs.declared.head_form.HeadForm.{HeadForm}
 use Rattle.rly_checkpoint.specs.Stored.{state_in as state_over}
 use Rattle.rly_checkpoint.specs.declared.stored.Stored.{Stored}
 use Rattle.rly_checkpoint.specs.declared.stored.Stored.TheVariants.{Inline, Placed}
-use Rattle.rly_checkpoint.proofs.Inlined.{spelled_inline}
+use Rattle.rly_checkpoint.proofs.OfForm.{ofform_map}
 use Rattle.rly_gate.specs.Group.{StandsAt}
-use Rattle.rly_segment.specs.Heads.{HoldsHead, HoldsHeadOf, IsHead, IsHeadOf, first_gate, gate_after, head_of, head_spelled, segment_end, segment_place}
+use Rattle.rly_segment.specs.Heads.{HoldsHead, HoldsHeadOf, IsHead, IsHeadOf, first_gate, gate_after, head_spelled, segment_end, segment_place}
 use Rattle.rly_places.specs.Placed.{IsPlaced, LiesElsewhere}
 use Rattle.rly_places.specs.Places.{LiesIn, LiesNotIn}
 use Rattle.rly_segment.specs.PlacedHeads.{HoldsPlaced}
 use Rattle.rly_standing.proofs.Agreeing.{other_bytes, part_of}
+use Rattle.rly_standing.proofs.InlineSpelling.{spelled_inline}
 
 -- ---- parts of what holds of each element
 
@@ -45,7 +49,7 @@ of_hop h = names (live_line h)
 items_same : {P Q : Type 0} (f g : P → Q) (items : List (Item P)) → All (λ p. f p ≡ g p) (names items) → map (map_item f) items ≡ map (map_item g) items
 items_same f g [] same = refl
 items_same {P} {Q} f g (item ∷ items) same =
-    ap (λ (q : Q). let x : Item Q = record { id = item.id; stamp = item.stamp; payload = q } in x ∷ map (map_item f) items) (All-head (λ p. f p ≡ g p) item.payload (names items) same)
+    ap (λ (q : Q). let x : Item Q = record { id = item.id; stamp = item.stamp; limit = item.limit; payload = q } in x ∷ map (map_item f) items) (All-head (λ p. f p ≡ g p) item.payload (names items) same)
     ∙ ap (λ (rest : List (Item Q)). map_item g item ∷ rest) (items_same f g items (All-tail (λ p. f p ≡ g p) item.payload (names items) same))
 
 hop_same : {P Q : Type 0} (f g : P → Q) (h : HopState P) → All (λ p. f p ≡ g p) (of_hop h) → map_hop f h ≡ map_hop g h
@@ -156,12 +160,15 @@ inline_payloads g segment s two below placed k d lt = one _ (placed.elsewhere k 
         not_there (subst (λ t. LiesIn g t place) same there.2)
 
 -- the same bytes
-pub head_inline : (generation : ℕ) (s : State (List ℕ)) → head_spelled stored_length stored_form generation (map_state Inline s) ≡ head_of generation s
+pub head_inline : (which : HeadForm) (generation : ℕ) (s : State (List ℕ))
+    → head_spelled stored_length (stored_spelled which) generation (map_state Inline s) ≡ head_spelled length (spelled_by inline_form_of which) generation s
 unfolding head_spelled
-head_inline generation s = ap (λ (body : List ℕ). big_bytes 8 generation ++ big_bytes 4 (length body) ++ body) (spelled_inline s)
+head_inline which generation s =
+    ap (λ (body : List ℕ). big_bytes 8 generation ++ big_bytes 4 (mark_of which + length body) ++ body) (spelled_inline which s)
 
-pub gate_inline : (g : Geometry) (segment : ℕ) (s : State (List ℕ)) → gate_after stored_length stored_form g segment (map_state Inline s) ≡ first_gate g segment s
-gate_inline g segment s = ap (λ (body : List ℕ). segment_place g segment + 13 + length body) (spelled_inline s)
+pub gate_inline : (which : HeadForm) (g : Geometry) (segment : ℕ) (s : State (List ℕ))
+    → gate_after stored_length (stored_spelled which) g segment (map_state Inline s) ≡ first_gate which g segment s
+gate_inline which g segment s = ap (λ (body : List ℕ). segment_place g segment + 13 + length body) (spelled_inline which s)
 
 -- the same lengths
 sizes_inline : (s : State (List ℕ)) → map_state length s ≡ map_state stored_length (map_state Inline s)
@@ -170,13 +177,13 @@ sizes_inline s = sym (state_twice stored_length Inline s)
 pub inline_sound : (s : State (List ℕ)) → IsSound length s → IsSound stored_length (map_state Inline s)
 inline_sound s sound = sound_alike length stored_length s (map_state Inline s) (sizes_inline s) sound
 
-pub inline_is_head : (g : Geometry) (segment generation : ℕ) (s : State (List ℕ)) → IsHead g segment generation s
-    → IsHeadOf stored_length stored_form g segment generation (map_state Inline s)
-inline_is_head g segment generation s head = record {
+pub inline_is_head : (which : HeadForm) (g : Geometry) (segment generation : ℕ) (s : State (List ℕ)) → IsHead which g segment generation s
+    → IsHeadOf stored_length (stored_spelled which) g segment generation (map_state Inline s)
+inline_is_head which g segment generation s head = record {
   params = head.params;
   least = head.least;
   most = head.most;
-  room = omega (arith, gate_inline g segment s, head.room);
+  room = omega (arith, gate_inline which g segment s, head.room);
 }
 
 pub inline_placed : (g : Geometry) (segment : ℕ) (s : State (List ℕ)) → 2 ≤ g.segments → IsPlaced g segment (map_state Inline s)
@@ -192,35 +199,37 @@ inline_placed g segment s two = record {
   );
 }
 
-pub bytes_head : (image : List ℕ) (g : Geometry) (segment generation : ℕ) (s : State (List ℕ))
-    → HoldsHeadOf stored_length stored_form image g segment generation (map_state Inline s) → HoldsHead image g segment generation s
-bytes_head image g segment generation s head = record {
-  bytes = subst (StandsAt image (segment_place g segment + 1)) (head_inline generation s) head.bytes;
+pub bytes_head : (which : HeadForm) (image : List ℕ) (g : Geometry) (segment generation : ℕ) (s : State (List ℕ)) → IsOfForm which s
+    → HoldsHeadOf stored_length (stored_spelled which) image g segment generation (map_state Inline s) → HoldsHead which image g segment generation s
+bytes_head which image g segment generation s plain head = record {
+  bytes = subst (StandsAt image (segment_place g segment + 1)) (head_inline which generation s) head.bytes;
   sound = sound_alike stored_length length (map_state Inline s) s (sym (sizes_inline s)) head.sound;
+  plain = plain;
   head = record {
     params = head.head.params;
     least = head.head.least;
     most = head.head.most;
-    room = omega (arith, gate_inline g segment s, head.head.room);
+    room = omega (arith, gate_inline which g segment s, head.head.room);
   };
 }
 
 -- a head of bytes is one of payloads inline
-pub inline_holds : (image : List ℕ) (g : Geometry) (segment generation : ℕ) (s : State (List ℕ)) → 2 ≤ g.segments
-    → HoldsHead image g segment generation s → HoldsPlaced image g segment generation (map_state Inline s)
-inline_holds image g segment generation s two head = record {
+pub inline_holds : (which : HeadForm) (image : List ℕ) (g : Geometry) (segment generation : ℕ) (s : State (List ℕ)) → 2 ≤ g.segments
+    → HoldsHead which image g segment generation s → HoldsPlaced which image g segment generation (map_state Inline s)
+inline_holds which image g segment generation s two head = record {
   head = record {
-    bytes = subst (StandsAt image (segment_place g segment + 1)) (sym (head_inline generation s)) head.bytes;
+    bytes = subst (StandsAt image (segment_place g segment + 1)) (sym (head_inline which generation s)) head.bytes;
     sound = inline_sound s head.sound;
-    head = inline_is_head g segment generation s head.head;
+    plain = ofform_map which Inline s head.plain;
+    head = inline_is_head which g segment generation s head.head;
   };
   placed = inline_placed g segment s two;
 }
 
 -- and there is no other
-pub bytes_hold : (image : List ℕ) (g : Geometry) (segment generation : ℕ) (s : State Stored) → g.segments ≡ 2 → segment < g.segments
-    → HoldsPlaced image g segment generation s → HoldsHead image g segment generation (state_over image s)
-bytes_hold image g segment generation s two below holds =
+pub bytes_hold : (which : HeadForm) (image : List ℕ) (g : Geometry) (segment generation : ℕ) (s : State Stored) → g.segments ≡ 2 → segment < g.segments
+    → HoldsPlaced which image g segment generation s → HoldsHead which image g segment generation (state_over image s)
+bytes_hold which image g segment generation s two below holds =
     let inline = inline_payloads g segment s two below holds.placed in
-    bytes_head image g segment generation (state_over image s)
-    (subst (HoldsHeadOf stored_length stored_form image g segment generation) (sym (inlined image s inline)) holds.head)
+    bytes_head which image g segment generation (state_over image s) (ofform_map which (payload_in image) s holds.head.plain)
+    (subst (HoldsHeadOf stored_length (stored_spelled which) image g segment generation) (sym (inlined image s inline)) holds.head)

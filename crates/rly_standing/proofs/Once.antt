@@ -11,6 +11,7 @@ use Rattle.rly_gate.proofs.Frames.{group_length}
 use Rattle.rly_record.specs.Spelling.{body_of}
 use Rattle.rly_record.proofs.Bodies.{body_once}
 use Rattle.rly_checkpoint.specs.Stored.{state_in as state_over}
+use Rattle.rly_checkpoint.specs.declared.head_form.HeadForm.{HeadForm}
 use Rattle.rly_checkpoint.specs.declared.stored.Stored.{Stored}
 use Rattle.rly_checkpoint.proofs.Fitness.{one_spelled}
 use Rattle.rly_checkpoint.proofs.StoredForms.{stored_forms}
@@ -38,11 +39,11 @@ newest_once {image} g s t first second =
     ]
 
 -- two heads of one segment
-pub head_once : {image : List ℕ} (g : Geometry) (segment n m : ℕ) (a b : State Stored) → IsLayout g (length image)
-    → HoldsPlaced image g segment n a → HoldsPlaced image g segment m b → (n ≡ m) × (a ≡ b)
-head_once {image} g segment n m a b geometry one other =
-    stored_once (one_spelled stored_forms) image g segment n m a b geometry.length one.head other.head
-    (forms_of g (length image) segment a geometry one.placed) (forms_of g (length image) segment b geometry other.placed)
+pub head_once : {image : List ℕ} (g : Geometry) (segment : ℕ) (w v : HeadForm) (n m : ℕ) (a b : State Stored) → IsLayout g (length image)
+    → HoldsPlaced w image g segment n a → HoldsPlaced v image g segment m b → (w ≡ v) × (n ≡ m) × (a ≡ b)
+head_once {image} g segment w v n m a b geometry one other =
+    stored_once (λ which. one_spelled (stored_forms which)) image g segment w v n m a b geometry.length one.head other.head
+    (forms_of w g (length image) segment a geometry one.placed) (forms_of v g (length image) segment b geometry other.placed)
 
 -- two bodies after one gate
 pub body_there_once : {image : List ℕ} (at end : ℕ) (a b : List ℕ) → HoldsGroup image at end a → HoldsGroup image at end b → a ≡ b
@@ -84,11 +85,12 @@ standing_once {image} x y first second =
     let y2 : Standing = record y1 { segment = x.segment } in
     let to_y2 : y1 ≡ y2 = ap (λ k. record y1 { segment = k }) s in
     let second2 : IsStanding image y2 = subst (IsStanding image) to_y2 second1 in
-    let heads = head_once x.geometry x.segment y.generation x.generation y.head x.head first.scanned.fits second2.scanned.head first.scanned.head in
-    let payloads : y.checkpoint ≡ x.checkpoint = second2.scanned.payloads ∙ ap (state_over image) heads.1 ∙ sym first.scanned.payloads in
-    let y3 : Standing = record y2 { generation = x.generation; head = x.head; checkpoint = x.checkpoint } in
-    let to_y3 : y2 ≡ y3 = ap (λ n. record y2 { generation = n }) heads.0 ∙ ap (λ c. record y2 { generation = x.generation; head = c }) heads.1
-    ∙ ap (λ c. record y2 { generation = x.generation; head = x.head; checkpoint = c }) payloads in
+    let heads = head_once x.geometry x.segment y.form x.form y.generation x.generation y.head x.head first.scanned.fits second2.scanned.head first.scanned.head in
+    let payloads : y.checkpoint ≡ x.checkpoint = second2.scanned.payloads ∙ ap (state_over image) heads.2 ∙ sym first.scanned.payloads in
+    let y3 : Standing = record y2 { form = x.form; generation = x.generation; head = x.head; checkpoint = x.checkpoint } in
+    let to_y3 : y2 ≡ y3 = ap (λ w. record y2 { form = w }) heads.0 ∙ ap (λ n. record y2 { form = x.form; generation = n }) heads.1
+    ∙ ap (λ c. record y2 { form = x.form; generation = x.generation; head = c }) heads.2
+    ∙ ap (λ c. record y2 { form = x.form; generation = x.generation; head = x.head; checkpoint = c }) payloads in
     let second3 : IsStanding image y3 = subst (IsStanding image) to_y3 second2 in
     let groups : y.groups ≡ x.groups = groups_once image (standing_end x) (first_of x) y.groups x.groups second3.scanned.groups second3.closed first.scanned.groups first.closed in
     sym (to_y1 ∙ to_y2 ∙ to_y3 ∙ ap (λ l. record y3 { groups = l }) groups)

@@ -66,20 +66,21 @@ not_stuck {image} x y scanned opened none second =
     let y2 : Standing = record y1 { segment = x.segment } in
     let to_y2 : y1 ≡ y2 = ap (λ k. record y1 { segment = k }) s in
     let second2 : IsStanding image y2 = subst (IsStanding image) to_y2 second1 in
-    let heads = head_once x.geometry x.segment y.generation x.generation y.head x.head scanned.fits second2.scanned.head scanned.head in
-    let payloads : y.checkpoint ≡ x.checkpoint = second2.scanned.payloads ∙ ap (state_over image) heads.1 ∙ sym scanned.payloads in
-    let y3 : Standing = record y2 { generation = x.generation; head = x.head; checkpoint = x.checkpoint } in
-    let to_y3 : y2 ≡ y3 = ap (λ n. record y2 { generation = n }) heads.0 ∙ ap (λ c. record y2 { generation = x.generation; head = c }) heads.1
-    ∙ ap (λ c. record y2 { generation = x.generation; head = x.head; checkpoint = c }) payloads in
+    let heads = head_once x.geometry x.segment y.form x.form y.generation x.generation y.head x.head scanned.fits second2.scanned.head scanned.head in
+    let payloads : y.checkpoint ≡ x.checkpoint = second2.scanned.payloads ∙ ap (state_over image) heads.2 ∙ sym scanned.payloads in
+    let y3 : Standing = record y2 { form = x.form; generation = x.generation; head = x.head; checkpoint = x.checkpoint } in
+    let to_y3 : y2 ≡ y3 = ap (λ w. record y2 { form = w }) heads.0 ∙ ap (λ n. record y2 { form = x.form; generation = n }) heads.1
+    ∙ ap (λ c. record y2 { form = x.form; generation = x.generation; head = c }) heads.2
+    ∙ ap (λ c. record y2 { form = x.form; generation = x.generation; head = x.head; checkpoint = c }) payloads in
     let second3 : IsStanding image y3 = subst (IsStanding image) to_y3 second2 in
     not_broken image (standing_end x) (first_of x) x.checkpoint x.groups y.groups scanned.groups opened none second3.scanned.groups second3.scanned.accepted second3.closed
 
 not_headless : {image : List ℕ} (g : Geometry) (place : ℕ) (y : Standing) → y.geometry ≡ g → IsHeadless image g place → IsStanding image y → ⊥
 not_headless {image} g place y same headless second =
     let newest : IsNewest image g y.segment = subst (λ h. IsNewest image h y.segment) same second.scanned.newest in
-    let head : HoldsPlaced image g y.segment y.generation y.head = subst (λ h. HoldsPlaced image h y.segment y.generation y.head) same second.scanned.head in
+    let head : HoldsPlaced y.form image g y.segment y.generation y.head = subst (λ h. HoldsPlaced y.form image h y.segment y.generation y.head) same second.scanned.head in
     let segment : y.segment ≡ headless.segment = newest_once g y.segment headless.segment newest headless.newest in
-    headless.none y.generation y.head (subst (λ k. HoldsPlaced image g k y.generation y.head) segment head)
+    headless.none y.form y.generation y.head (subst (λ k. HoldsPlaced y.form image g k y.generation y.head) segment head)
 
 pub not_damaged : {image : List ℕ} (place : ℕ) (y : Standing) → IsDamagedAt image (geometry_in image) place → IsStanding image y → ⊥
 not_damaged {image} place y damaged second =

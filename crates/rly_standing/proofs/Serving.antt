@@ -1,7 +1,8 @@
 -- How many commands of a round are accepted, and which never are.
-use Rattle.std.proofs.Common.{◌≡◌, ℕ, ◌+◌, ◌≤◌, List, [], ◌∷◌, length, Bool, true, false, Option, Some, None, refl, arith, length-append}
+use Rattle.std.proofs.Common.{◌≡◌, ℕ, ◌+◌, ◌-◌, ◌<◌, ◌≤◌, List, [], ◌∷◌, length, Bool, true, false, Option, Some, None, refl, arith, length-append}
 use Rattle.std.specs.Prelude.{if◌then◌else◌}
 use Rattle.std.specs.List.{zip}
+use Rattle.std.proofs.lemmas.List.Elements.{All-get_or}
 use Rattle.rly_machine.specs.declared.call.Answer.{Answer}
 use Rattle.rly_machine.specs.declared.call.Call.{Call}
 use Rattle.rly_machine.specs.declared.command.Ask.{Ask}
@@ -11,12 +12,13 @@ use Rattle.rly_machine.specs.declared.command.Command.TheVariants.{Take, Pick, R
 use Rattle.rly_machine.specs.declared.reply.Reply.{Reply}
 use Rattle.rly_machine.specs.Accepted.{is_accepted, unless}
 use Rattle.rly_machine.specs.History.{accepted_by, accepted_of}
-use Rattle.rly_machine.specs.State.{State}
+use Rattle.rly_machine.specs.Sound.{IsSound}
+use Rattle.rly_machine.specs.State.{State, last_at}
 use Rattle.rly_machine.specs.Step.{step}
 use Rattle.rly_machine.specs.Take.{take_refusal}
 use Rattle.rly_machine.proofs.RealReplies.{counted}
 use Rattle.rly_machine.proofs.Refusals.{may_take}
-use Rattle.rly_record.specs.Spelling.{IsShort}
+use Rattle.rly_record.specs.Spelling.{IsRecordable}
 
 -- how many commands are accepted
 accepted_once : (an : Ask) (reply : Reply) → length (accepted_by an reply) ≤ 1
@@ -44,10 +46,27 @@ never_true : (b : Bool) → (b ≡ true → ⊥) → b ≡ false
 never_true true never = absurd (never refl)
 never_true false _ = refl
 
--- a payload that is too long for a record isn't taken
-pub long_leaves : (s : State (List ℕ)) (command : Command (List ℕ)) → (IsShort command → ⊥) → is_accepted (step length s command).1 ≡ false
-long_leaves s (Take peer number hop stamp payload) long = never_true _ (λ accepts.
-    long (may_take length s peer number hop stamp (length payload)
-    (accepted_none (take_refusal length s peer number hop stamp (length payload)) s _ (counted length s (Take peer number hop stamp payload)) accepts)).short)
-long_leaves s (Pick hop now) long = absurd (long tt)
-long_leaves s (Release hop number) long = absurd (long tt)
+-- each accepted command can be recorded: its payload is short, and its numbers are those of a spool
+pub accepted_recordable : (s : State (List ℕ)) (command : Command (List ℕ)) → IsSound length s → is_accepted (step length s command).1 ≡ true
+    → IsRecordable command
+accepted_recordable s (Take peer number hop stamp limit payload) sound accepts =
+    let may = may_take length s peer number hop stamp limit (length payload)
+    (accepted_none (take_refusal length s peer number hop stamp limit (length payload)) s _ (counted length s (Take peer number hop stamp limit payload)) accepts) in
+    let place : peer.0 - 1 < length s.lasts = omega (arith, may.peer_from, may.peer_to) in
+    let last : last_at s peer ≤ s.seq = All-get_or (λ last. last ≤ s.seq) s.lasts (peer.0 - 1) 0 place sound.lasts in (
+      may.short,
+      λ limited. record {
+        peer = (omega (arith, may.peer_from), omega (arith, may.peer_to, sound.peer_count, sound.params.peers));
+        number = omega (arith, may.next, may.seq, last);
+        hop = (omega (arith, may.hop_from), omega (arith, may.hop_to, sound.hop_count, sound.params.hops));
+        stamp = may.moment;
+        limit = may.limit;
+      },
+    )
+accepted_recordable s (Pick hop now) sound accepts = tt
+accepted_recordable s (Release hop number) sound accepts = tt
+
+-- so what can't be recorded isn't taken
+pub long_leaves : (s : State (List ℕ)) (command : Command (List ℕ)) → IsSound length s → (IsRecordable command → ⊥)
+    → is_accepted (step length s command).1 ≡ false
+long_leaves s command sound long = never_true _ (λ accepts. long (accepted_recordable s command sound accepts))

@@ -10,8 +10,9 @@ use Rattle.rly_machine.specs.State.{State}
 use Rattle.rly_gate.specs.Group.{IsClosed}
 use Rattle.rly_gate.specs.Reading.{HoldsGroup}
 use Rattle.rly_record.specs.Spelling.{HaveBody, body_of}
-use Rattle.rly_checkpoint.specs.Stored.{stored_form, stored_length}
+use Rattle.rly_checkpoint.specs.Stored.{stored_length, stored_spelled}
 use Rattle.rly_checkpoint.specs.Stored.{state_in as state_over}
+use Rattle.rly_checkpoint.specs.declared.head_form.HeadForm.{HeadForm}
 use Rattle.rly_checkpoint.specs.declared.stored.Stored.{Stored}
 use Rattle.rly_checkpoint.specs.declared.stored.Stored.TheVariants.{Inline}
 use Rattle.rly_segment.specs.Device.{IsDevice, IsLayout, geometry_in}
@@ -47,19 +48,20 @@ abbrev pub AreAccepted : State (List ℕ) → List Commands → Type 0
 AreAccepted s [] = ⊤
 AreAccepted s (commands ∷ groups) = AllAccepted length s commands × AreAccepted (fold length s commands) groups
 
--- what is read of an image: the geometry, the newest segment with the generation of its head and the state that it
--- holds, that state with its payloads as the image has them, and the groups after the head
+-- what is read of an image: the geometry, the newest segment with the generation and the form of its head and the
+-- state that it holds, that state with its payloads as the image has them, and the groups after the head
 pub record Standing : Type 0 where
   pub geometry : Geometry
   pub segment : ℕ
   pub generation : ℕ
+  pub form : HeadForm
   pub head : State Stored
   pub checkpoint : State (List ℕ)
   pub groups : List Commands
 
 -- the gate after the head
 abbrev pub first_of : Standing → ℕ
-first_of x = gate_after stored_length stored_form x.geometry x.segment x.head
+first_of x = gate_after stored_length (stored_spelled x.form) x.geometry x.segment x.head
 
 -- the end of the segment
 abbrev pub standing_end : Standing → ℕ
@@ -90,7 +92,7 @@ pub record IsScanned (image : List ℕ) (x : Standing) : Type 0 where
   pub geometry : x.geometry ≡ geometry_in image
   pub fits : IsLayout x.geometry (length image)
   pub newest : IsNewest image x.geometry x.segment
-  pub head : HoldsPlaced image x.geometry x.segment x.generation x.head
+  pub head : HoldsPlaced x.form image x.geometry x.segment x.generation x.head
   pub payloads : x.checkpoint ≡ state_over image x.head
   pub groups : HoldGroups image (standing_end x) (first_of x) x.groups
   pub accepted : AreAccepted x.checkpoint x.groups

@@ -7,6 +7,7 @@ ghost use Rattle.rly_machine.specs.Map.{map_state};
 ghost use Rattle.rly_machine.specs.State.{State, new_state};
 ghost use Rattle.rly_checkpoint.specs.Stored.{stored_form, stored_length};
 ghost use Rattle.rly_checkpoint.specs.Stored.{state_in as state_over};
+ghost use Rattle.rly_checkpoint.specs.declared.head_form.HeadForm.{HeadForm};
 ghost use Rattle.rly_checkpoint.specs.declared.stored.Stored.{Stored};
 ghost use Rattle.rly_checkpoint.specs.declared.stored.Stored.TheVariants.{Inline};
 ghost use Rattle.rly_segment.specs.Formatted.{IsFormatted};
@@ -25,14 +26,14 @@ pub fn law_formatted_stands()
     ensures { (g : AGeometry) (image : List ℕ) → IsFormatted g image → Stands image (new_state g.params) }
 {}
 
-/// On a device of two segments a head has no payload by place: what it holds is a state of bytes, with each payload inline, and
-/// that is what it stands for.
+/// On a device of two segments a head, of either form, has no payload by place: what it holds is a state of bytes, with each payload
+/// inline, and that is what it stands for.
 pub fn law_inline_head()
-    ensures inline { (image : List ℕ) (g : AGeometry) (segment generation : ℕ) (s : State (List ℕ)) → g.segments ≡ 2 → segment < g.segments
-        → HoldsHead image g segment generation s → HoldsPlaced image g segment generation (map_state Inline s) }
-    ensures only { (image : List ℕ) (g : AGeometry) (segment generation : ℕ) (s : State Stored) → g.segments ≡ 2 → segment < g.segments
-        → HoldsPlaced image g segment generation s
-        → (map_state Inline (state_over image s) ≡ s) × HoldsHead image g segment generation (state_over image s) }
+    ensures inline { (which : HeadForm) (image : List ℕ) (g : AGeometry) (segment generation : ℕ) (s : State (List ℕ)) → g.segments ≡ 2
+        → segment < g.segments → HoldsHead which image g segment generation s → HoldsPlaced which image g segment generation (map_state Inline s) }
+    ensures only { (which : HeadForm) (image : List ℕ) (g : AGeometry) (segment generation : ℕ) (s : State Stored) → g.segments ≡ 2
+        → segment < g.segments → HoldsPlaced which image g segment generation s
+        → (map_state Inline (state_over image s) ≡ s) × HoldsHead which image g segment generation (state_over image s) }
 {}
 
 /// An image in which all is as it was that decides what a standing stands for stands for the same: bytes of payloads that are

@@ -106,7 +106,7 @@ none_lost (one ∷ told) fed read = (
 
 -- a failure has no bytes
 shown_failure : (reply : Reply) → is_failure (without_bytes reply) ≡ is_failure reply
-shown_failure (Bytes payload) = refl
+shown_failure (Bytes payload limit) = refl
 shown_failure reply = refl
 
 line_right : (disk : DiskState) (s : ByteState) (asked : Option Ask) (reply : Reply) → IsLineServed disk s asked reply → (IsLost reply → ⊥)

@@ -62,15 +62,22 @@ abbrev pub HasBytes : Option (List ℕ) → Type 0
 HasBytes None = ⊥
 HasBytes (Some bytes) = 0 < length bytes
 
--- take PEER NUMBER HOP STAMP PAYLOAD
-abbrev pub take_in : List (List ℕ) → Option Ask
-take_in (peer ∷ number ∷ hop ∷ stamp ∷ payload ∷ []) = do
+-- a Take of its words, with its limit as it was read
+abbrev pub take_of : (peer number hop stamp payload : List ℕ) → Option ℕ → Option Ask
+take_of peer number hop stamp payload limit = do
   p ← peer_in peer
   n ← number_in number
   h ← hop_in hop
   s ← number_in stamp
+  l ← limit
   bytes ← payload_in payload
-  Some (ask.Command (Take p n h s bytes))
+  Some (ask.Command (Take p n h s l bytes))
+
+-- take PEER NUMBER HOP STAMP PAYLOAD [LIMIT]; without LIMIT there is none, which is 0
+abbrev pub take_in : List (List ℕ) → Option Ask
+take_in (peer ∷ number ∷ hop ∷ stamp ∷ payload ∷ []) = take_of peer number hop stamp payload (Some 0)
+take_in (peer ∷ number ∷ hop ∷ stamp ∷ payload ∷ limit ∷ []) =
+    take_of peer number hop stamp payload (number_in limit)
 take_in _ = None
 
 -- HOP NUMBER
@@ -131,7 +138,7 @@ ask_in_line line = if nat_lt longest_line (length line) then None else ask_in_wo
 
 -- a Take whose payload has bytes: to read it takes memory, and to read anything else takes none
 abbrev pub CarriesBytes : Option Ask → Type 0
-CarriesBytes (Some (ask.Command (Take peer number hop stamp payload))) = 0 < length payload
+CarriesBytes (Some (ask.Command (Take peer number hop stamp limit payload))) = 0 < length payload
 CarriesBytes (Some (ask.Command (Pick hop now))) = ⊥
 CarriesBytes (Some (ask.Command (Release hop number))) = ⊥
 CarriesBytes (Some (ask.Query query)) = ⊥

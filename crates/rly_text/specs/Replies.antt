@@ -1,9 +1,9 @@
 -- The line of a reply, without its newline (docs/COMMANDS.md, "Replies").
-use Rattle.std.specs.Prelude.{ℕ, List, [], ◌∷◌, ◌++◌, Bool, true, false, codes}
+use Rattle.std.specs.Prelude.{ℕ, nat_lt, if◌then◌else◌, List, [], ◌∷◌, ◌++◌, Bool, true, false, codes}
 use Rattle.std.specs.Fmt.{decimal}
 use Rattle.std.specs.List.{flat_map}
 use Rattle.hex.specs.Hex.{encode_lower}
-use Rattle.rly_audit.specs.Report.{counts_text}
+use Rattle.rly_audit.specs.Report.{counts_text, expired_text}
 use Rattle.rly_core.specs.Refusals.{refusal_line}
 use Rattle.rly_core.specs.declared.ids.HopId.{HopId}
 use Rattle.rly_machine.specs.declared.command.Ask.{Ask}
@@ -19,7 +19,7 @@ use Rattle.rly_text.specs.declared.reply_line.Subject.{Subject}
 
 -- what of an ask its reply repeats
 abbrev pub subject_of : Ask → Subject
-subject_of (ask.Command (Take peer number hop stamp payload)) = record { peer = peer; hop = hop; number = number }
+subject_of (ask.Command (Take peer number hop stamp limit payload)) = record { peer = peer; hop = hop; number = number }
 subject_of (ask.Command (Pick hop now)) = record { peer = record { 0 = 0 }; hop = hop; number = 0 }
 subject_of (ask.Command (Release hop number)) = record { peer = record { 0 = 0 }; hop = hop; number = number }
 subject_of (ask.Query (Fetch hop number)) = record { peer = record { 0 = 0 }; hop = hop; number = number }
@@ -39,14 +39,19 @@ discards_text c =
     ++ codes " last " ++ decimal c.lastcount
     ++ codes " dropping " ++ yes_or_no c.dropping
 
--- all numbers of a hop
+-- all numbers of a hop, at their end how many expired, where any did
 abbrev pub status_text : HopId → HopStatus → List ℕ
 status_text hop s = codes "hop " ++ decimal hop.0 ++ counts_text s ++ discards_text s.codel
-    ++ codes " moment " ++ decimal s.moment
+    ++ codes " moment " ++ decimal s.moment ++ expired_text s.expired
 
 -- ids, each after a space
 unfoldable pub ids_text : List ℕ → List ℕ
 ids_text ids = flat_map (λ id. 32 ∷ decimal id) ids
+
+-- the ids that expired, where there are any
+unfoldable pub expired_ids_text : List ℕ → List ℕ
+expired_ids_text [] = []
+expired_ids_text (id ∷ ids) = codes " expired" ++ ids_text (id ∷ ids)
 
 -- the ids that were dropped, where there are any
 unfoldable pub dropped_text : List ℕ → List ℕ
@@ -58,17 +63,23 @@ unfoldable pub payload_text : List ℕ → List ℕ
 payload_text [] = codes "-"
 payload_text (byte ∷ bytes) = encode_lower (byte ∷ bytes)
 
+-- a limit, where there is one
+unfoldable pub limit_text : ℕ → List ℕ
+limit_text limit = if nat_lt 0 limit then 32 ∷ decimal limit else []
+
 -- the line of a reply to an ask with that subject
 abbrev pub reply_text : Subject → Reply → List ℕ
 reply_text subject (Taken id) = codes "taken " ++ decimal subject.peer.0 ++ 32 ∷ decimal id
 reply_text subject (Already last) = codes "already " ++ decimal subject.peer.0 ++ 32 ∷ decimal last
-reply_text subject (Picked number id dropped) =
-    codes "picked " ++ decimal subject.hop.0 ++ 32 ∷ decimal number ++ 32 ∷ decimal id ++ dropped_text dropped
-reply_text subject Nothing = codes "nothing " ++ decimal subject.hop.0
+reply_text subject (Picked number id expired dropped) =
+    codes "picked " ++ decimal subject.hop.0 ++ 32 ∷ decimal number ++ 32 ∷ decimal id ++ expired_ids_text expired
+    ++ dropped_text dropped
+reply_text subject (Nothing expired) = codes "nothing " ++ decimal subject.hop.0 ++ expired_ids_text expired
 reply_text subject (Released count) = codes "released " ++ decimal subject.hop.0 ++ 32 ∷ decimal count
 reply_text subject Unchanged = codes "unchanged " ++ decimal subject.hop.0
-reply_text subject (Bytes payload) =
+reply_text subject (Bytes payload limit) =
     codes "bytes " ++ decimal subject.hop.0 ++ 32 ∷ decimal subject.number ++ 32 ∷ payload_text payload
+    ++ limit_text limit
 reply_text subject (WindowIs first next) =
     codes "window " ++ decimal subject.hop.0 ++ 32 ∷ decimal first ++ 32 ∷ decimal next
 reply_text subject (Shown status) = status_text subject.hop status

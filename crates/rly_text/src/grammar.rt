@@ -2,7 +2,7 @@ ghost use Rattle.std.specs.Prelude.{◌≡◌, ◌∷◌, [], IfOk, MatchOption,
 ghost use Rattle.std.specs.Char.{is_ascii_digit};
 ghost use Rattle.std.specs.List.{list_all};
 ghost use Rattle.rly_text.specs.HelpersReading.{HasTwo};
-ghost use Rattle.rly_text.specs.Grammar.{CarriesBytes, HasBytes, ask_in_line, done_in, fetch_in, hop_and_number_in, hop_in, id_in, is_numeral, number_in, payload_in, peer_in, pick_in, show_in, take_in, window_in, ask_in_words, words_of};
+ghost use Rattle.rly_text.specs.Grammar.{CarriesBytes, HasBytes, ask_in_line, done_in, fetch_in, hop_and_number_in, hop_in, id_in, is_numeral, number_in, payload_in, peer_in, pick_in, show_in, take_in, take_of, window_in, ask_in_words, words_of};
 
 use crate::bytes::{decode_hexadecimal, is_hexadecimal, position_of};
 use rly_core::{HopId, PeerId, limits};
@@ -46,7 +46,8 @@ fn parse_words(alloc: Global, verb: &[u8], args: &[u8]) -> Result<Option<Ask>, A
     }
 }
 
-/// `PEER NUMBER HOP STAMP PAYLOAD`.
+/// `PEER NUMBER HOP STAMP PAYLOAD`, and a LIMIT after it or none.
+#[tactic(auto, using(crate::proofs::Payloads::limited_words))]
 fn parse_take(alloc: Global, args: &[u8]) -> Result<Option<Ask>, AllocError>
     ensures asks { IfOk result (λ ask. ask ≡ take_in (words_of args.now)) }
     ensures memory { OnErr result (CarriesBytes (take_in (words_of args.now))) }
@@ -60,15 +61,19 @@ fn parse_take(alloc: Global, args: &[u8]) -> Result<Option<Ask>, AllocError>
     let Some((hop, args)) = cut(args) else {
         return Ok(None);
     };
-    let Some((stamp, payload)) = cut(args) else {
+    let Some((stamp, rest)) = cut(args) else {
         return Ok(None);
     };
-    take_ask(alloc, peer, number, hop, stamp, payload)
+    match cut(rest) {
+        Some((payload, limit)) => {
+            let limit = parse_number(limit);
+            take_ask(alloc, peer, number, hop, stamp, payload, limit)
+        }
+        None => take_ask(alloc, peer, number, hop, stamp, rest, Some(0)),
+    }
 }
 
-/// The Take of four words and the rest of the line, which is a payload only where it is one word: no
-/// space is a digit.
-#[tactic(auto, using(crate::proofs::Payloads::take_words))]
+/// The Take of five words and its limit. The payload is read last, so that what is no Take takes no memory.
 fn take_ask(
     alloc: Global,
     peer: &[u8],
@@ -76,9 +81,10 @@ fn take_ask(
     hop: &[u8],
     stamp: &[u8],
     payload: &[u8],
+    limit: Option<u64>,
 ) -> Result<Option<Ask>, AllocError>
-    ensures asks { IfOk result (λ ask. ask ≡ take_in (peer.now ∷ number.now ∷ hop.now ∷ stamp.now ∷ words_of payload.now)) }
-    ensures memory { OnErr result (CarriesBytes (take_in (peer.now ∷ number.now ∷ hop.now ∷ stamp.now ∷ words_of payload.now))) }
+    ensures asks { IfOk result (λ ask. ask ≡ take_of peer.now number.now hop.now stamp.now payload.now limit) }
+    ensures memory { OnErr result (CarriesBytes (take_of peer.now number.now hop.now stamp.now payload.now limit)) }
 {
     let Some(peer) = parse_peer(peer) else {
         return Ok(None);
@@ -92,6 +98,9 @@ fn take_ask(
     let Some(stamp) = parse_number(stamp) else {
         return Ok(None);
     };
+    let Some(limit) = limit else {
+        return Ok(None);
+    };
     let Some(payload) = parse_payload(alloc, payload)? else {
         return Ok(None);
     };
@@ -100,6 +109,7 @@ fn take_ask(
         number,
         hop,
         stamp,
+        limit,
         payload,
     })))
 }

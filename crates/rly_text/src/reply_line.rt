@@ -1,7 +1,7 @@
 ghost use Rattle.std.specs.Prelude.{◌≡◌, ◌≤◌, Some, length};
 ghost use Rattle.hex.specs.Hex.{encode_lower};
 
-use rly_audit::HopCounts;
+use rly_audit::{Expired, HopCounts};
 use rly_core::{HopId, PeerId};
 use rly_machine::{Ask, CodelState, Command, HopStatus, Ids, Payload, Query, Reply};
 use std::fmt;
@@ -77,12 +77,21 @@ impl fmt::Display for ReplyLine<'_> {
             Reply::Picked {
                 number,
                 id,
+                expired,
                 dropped,
-            } => write!(f, "picked {hop} {number} {id}{}", Dropped { ids: dropped }),
-            Reply::Nothing => write!(f, "nothing {hop}"),
+            } => {
+                let (expired, dropped) = (ExpiredIds { ids: expired }, Dropped { ids: dropped });
+                write!(f, "picked {hop} {number} {id}{expired}{dropped}")
+            }
+            Reply::Nothing { expired } => {
+                write!(f, "nothing {hop}{}", ExpiredIds { ids: expired })
+            }
             Reply::Released(count) => write!(f, "released {hop} {count}"),
             Reply::Unchanged => write!(f, "unchanged {hop}"),
-            Reply::Bytes(payload) => write!(f, "bytes {hop} {number} {}", Hexadecimal { payload }),
+            Reply::Bytes { payload, limit } => {
+                let (payload, limit) = (Hexadecimal { payload }, Limit { limit: *limit });
+                write!(f, "bytes {hop} {number} {payload}{limit}")
+            }
             Reply::WindowIs { first, next } => write!(f, "window {hop} {first} {next}"),
             Reply::Shown(status) => {
                 let hop = self.subject.hop;
@@ -90,6 +99,27 @@ impl fmt::Display for ReplyLine<'_> {
             }
             Reply::Refused(refusal) => write!(f, "{refusal}"),
         }
+    }
+}
+
+/// The ids that expired, where there are any.
+#[derive(Drop)]
+struct ExpiredIds<'a> {
+    ids: &'a Ids,
+}
+
+impl fmt::Display for ExpiredIds<'_> {
+    ghost use Rattle.rly_text.specs.Replies.{expired_ids_text};
+
+    ghost output = { λ expired. Some (expired_ids_text expired.ids.now) };
+
+    #[tactic(auto, unfolding(crate::specs::Replies::expired_ids_text))]
+    fn fmt<W: fmt::Write>(&self, f: &mut fmt::Formatter<W>) -> fmt::Result {
+        let ids = self.ids.as_slice();
+        if ids.is_empty() {
+            return Ok(());
+        }
+        write!(f, " expired{}", SpacedIds { ids })
     }
 }
 
@@ -186,6 +216,27 @@ fn digits_of<'a>(bytes: &[u8], buffer: &'a mut [u8; 2 * PIECE]) -> &'a str
     str::from_utf8(digits).unwrap()
 }
 
+/// A limit after a space, where there is one.
+#[derive(Drop)]
+struct Limit {
+    limit: u64,
+}
+
+impl fmt::Display for Limit {
+    ghost use Rattle.rly_text.specs.Replies.{limit_text};
+
+    ghost output = { λ limit. Some (limit_text limit.limit) };
+
+    #[tactic(auto, unfolding(crate::specs::Replies::limit_text))]
+    fn fmt<W: fmt::Write>(&self, f: &mut fmt::Formatter<W>) -> fmt::Result {
+        let limit = self.limit;
+        if limit == 0 {
+            return Ok(());
+        }
+        write!(f, " {limit}")
+    }
+}
+
 /// All numbers of a hop, as a line.
 #[derive(Drop)]
 pub struct StatusLine<'a> {
@@ -206,7 +257,9 @@ impl fmt::Display for StatusLine<'_> {
         let codel = Discards {
             codel: &status.codel,
         };
-        write!(f, "hop {hop}{counts}{codel} moment {}", status.moment)
+        let (moment, count) = (status.moment, status.expired);
+        let expired = Expired { count };
+        write!(f, "hop {hop}{counts}{codel} moment {moment}{expired}")
     }
 }
 

@@ -23,6 +23,8 @@ mod flushing;
 #[cfg(test)]
 mod growths;
 #[cfg(test)]
+mod limits;
+#[cfg(test)]
 mod playing;
 #[cfg(test)]
 mod rows;

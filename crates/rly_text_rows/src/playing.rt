@@ -139,6 +139,23 @@ fn ten_takes_and_a_late_pick_on_a_device(rt: HostRuntime) -> Result<(), Fail> {
     expect(&rt, NARROW, input.as_bytes(), output.as_bytes())
 }
 
+/// Limits outlive the program: an item's, in the queue and in flight, and the count of those that expired.
+#[test]
+fn limits_are_kept_on_a_device(rt: HostRuntime) -> Result<(), Fail> {
+    expect(
+        &rt,
+        SMALL,
+        b"take 1 1 1 0 41 5000\ntake 1 2 1 0 42 6000\ntake 1 3 1 0 43\ntake 1 4 1 0 44 1099511627776\n\
+pick 1 5001\nfetch 1 1\ntake 1 4 1 0 - 10\npick 1 5011\npick 1 5012\nshow 1\ndone 1 2\n"
+            .as_slice(),
+        b"taken 1 1\ntaken 1 2\ntaken 1 3\nrefused 3 badmoment\n\
+picked 1 1 2 expired 1\nbytes 1 1 42 6000\ntaken 1 5\npicked 1 2 3\nnothing 1 expired 5\n\
+hop 1 taken 4 queued 0 flight 2 dropped 0 released 0 first 0 next 0 count 0 last 0 dropping no moment 5012 expired 2\n\
+released 1 2\n"
+            .as_slice(),
+    )
+}
+
 #[test]
 fn refused_lines_stand_in_their_places(rt: HostRuntime) -> Result<(), Fail> {
     expect(

@@ -37,7 +37,7 @@ pub(super) fn replies(alloc: Global, params: Params, input: &str) -> Result<Vec<
 }
 
 /// Checks what `sim` writes for an input.
-fn expect(
+pub(super) fn expect(
     rt: &(impl Abort + AllocGlobal),
     params: Params,
     input: &str,
@@ -120,7 +120,7 @@ fn one_item_fills_a_spool_of_one(rt: HostRuntime) -> Result<(), Fail> {
 }
 
 /// Lines that ask nothing.
-const NO_COMMANDS: [&str; 22] = [
+const NO_COMMANDS: [&str; 31] = [
     "",
     "take",
     "take ",
@@ -129,6 +129,15 @@ const NO_COMMANDS: [&str; 22] = [
     "take 1 1 1 0 ",
     "take 1 1 1 0 41 ",
     "take 1  1 1 0 41",
+    "take 1 1 1 0 41 -",
+    "take 1 1 1 0 41 01",
+    "take 1 1 1 0 41 +5",
+    "take 1 1 1 0 41 18446744073709551616",
+    "take 1 1 1 0 41 5000 ",
+    "take 1 1 1 0 41 5000 1",
+    "take 1 1 1 0 41  5000",
+    "take 1 1 1 0 41 5000\r",
+    "take 1 1 1 0 4 5000",
     " take 1 1 1 0 41",
     "take 1 01 1 0 41",
     "take 1 +1 1 0 41",

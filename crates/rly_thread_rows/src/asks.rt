@@ -20,6 +20,7 @@ pub(super) fn take<R: Abort>(rt: &R, alloc: Global, peer: u16, number: u64) -> A
         number,
         hop: HopId(1),
         stamp: 0,
+        limit: 0,
         payload,
     })
 }

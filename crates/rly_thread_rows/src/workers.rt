@@ -93,6 +93,7 @@ pub(super) fn take_for<R: Abort>(
         number,
         hop,
         stamp: 0,
+        limit: 0,
         payload: Payload::new(payload.to_vec(alloc).expect(rt, "memory")),
     };
     let Ok(room) = machine.reserve_for(alloc, &command) else {

@@ -44,20 +44,20 @@ hop_of_payload plan payload =
     if nat_lt (length payload) 2 then record { 0 = 0 }
     else unwrap_or (hop_for plan (big_number 2 payload)) (record { 0 = 0 })
 
--- the command that takes a datagram, stamped by the link clock of its hop
+-- the command that takes a datagram, stamped by the link clock of its hop, with no limit
 abbrev pub take_ask : Intake → ℕ → ℕ → HopId → List ℕ → Ask
-take_ask w now number hop payload = Command (command.Take w.peer number hop (link w.plan hop now) payload)
+take_ask w now number hop payload = Command (command.Take w.peer number hop (link w.plan hop now) 0 payload)
 
 -- what the core is told of the reply to its Take
 abbrev pub answer_in : Reply → TakeAnswer
 answer_in (reply.Taken id) = answer.Taken
 answer_in (reply.Already last) = answer.Already last
 answer_in (reply.Refused refusal) = answer.Refused refusal
-answer_in (reply.Picked number id dropped) = answer.Other
-answer_in reply.Nothing = answer.Other
+answer_in (reply.Picked number id expired dropped) = answer.Other
+answer_in (reply.Nothing expired) = answer.Other
 answer_in (reply.Released count) = answer.Other
 answer_in reply.Unchanged = answer.Other
-answer_in (reply.Bytes payload) = answer.Other
+answer_in (reply.Bytes payload limit) = answer.Other
 answer_in (reply.WindowIs first next) = answer.Other
 answer_in (reply.Shown status) = answer.Other
 

@@ -92,9 +92,9 @@ fetch_event (action.Send m) payload = event.Other
 
 abbrev pub event_in : OutAction (List ℕ) → Reply → OutEvent (List ℕ)
 event_in named (reply.WindowIs first next) = event.WindowIs first next
-event_in named (reply.Picked number id dropped) = event.Picked number
-event_in named reply.Nothing = event.Nothing
-event_in named (reply.Bytes payload) = fetch_event named payload
+event_in named (reply.Picked number id expired dropped) = event.Picked number
+event_in named (reply.Nothing expired) = event.Nothing
+event_in named (reply.Bytes payload limit) = fetch_event named payload
 event_in named (reply.Released count) = event.Released
 event_in named reply.Unchanged = event.Unchanged
 event_in named (reply.Refused refusal) = event.Refused refusal

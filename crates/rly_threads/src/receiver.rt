@@ -273,7 +273,8 @@ impl<'a> Intake<'a> {
         }
     }
 
-    /// The command that takes a datagram for a hop which arrived under a number.
+    /// The command that takes a datagram for a hop which arrived under a number. Workers give no limit
+    /// (`docs/PROTOCOL.md`).
     fn take_ask(&self, now: u64, number: u64, hop: HopId, payload: Payload) -> Ask
         ensures { result ≡ take_ask (intake self.now.plan.now self.now.peer) now number hop payload }
     {
@@ -282,6 +283,7 @@ impl<'a> Intake<'a> {
             number,
             hop,
             stamp: self.plan.link(hop, now),
+            limit: 0,
             payload,
         })
     }

@@ -397,8 +397,8 @@ fn event_in<'a>(action: OutAction<&[u8]>, reply: &'a Reply) -> OutEvent<&'a [u8]
             next: *next,
         },
         (Reply::Picked { number, .. }, _) => OutEvent::Picked(*number),
-        (Reply::Nothing, _) => OutEvent::Nothing,
-        (Reply::Bytes(payload), OutAction::Fetch(number)) => OutEvent::Fetched {
+        (Reply::Nothing { .. }, _) => OutEvent::Nothing,
+        (Reply::Bytes { payload, .. }, OutAction::Fetch(number)) => OutEvent::Fetched {
             number,
             payload: payload.as_slice(),
         },

@@ -46,7 +46,7 @@ IsSafe given kept (message.Refused from to number refusal) = Unit {0}
 -- a call of the sending core: it releases only what was taken, and fetches from its hop
 abbrev pub IsSafeAsk : HopId → ℕ → Ask → Type 0
 IsSafeAsk hop kept (Command (command.Release to number)) = number ≤ kept
-IsSafeAsk hop kept (Command (command.Take peer number to stamp payload)) = Unit {0}
+IsSafeAsk hop kept (Command (command.Take peer number to stamp limit payload)) = Unit {0}
 IsSafeAsk hop kept (Command (command.Pick to now)) = Unit {0}
 IsSafeAsk hop kept (Query (query.Fetch to number)) = to ≡ hop
 IsSafeAsk hop kept (Query (query.Window to)) = Unit {0}
@@ -205,7 +205,7 @@ event_later given more kept rest p below Timeout safe = tt
 pub ask_later : (hop : HopId) (kept rest : ℕ) → kept ≤ rest → (ask : Ask) → IsSafeAsk hop kept ask
     → IsSafeAsk hop rest ask
 ask_later hop kept rest below (Command (command.Release to number)) safe = omega (arith, safe, below)
-ask_later hop kept rest below (Command (command.Take peer number to stamp payload)) safe = tt
+ask_later hop kept rest below (Command (command.Take peer number to stamp limit payload)) safe = tt
 ask_later hop kept rest below (Command (command.Pick to now)) safe = tt
 ask_later hop kept rest below (Query (query.Fetch to number)) safe = safe
 ask_later hop kept rest below (Query (query.Window to)) safe = tt
@@ -219,7 +219,7 @@ acked_later kept rest below (Some a) safe = omega (arith, safe, below)
 
 -- a call of a receiving core is a Take of what was picked
 abbrev pub IsSafeTake : PeerId → List (Numbered (List ℕ)) → Ask → Type 0
-IsSafeTake peer given (Command (command.Take from number to stamp payload)) = (from ≡ peer)
+IsSafeTake peer given (Command (command.Take from number to stamp limit payload)) = (from ≡ peer)
     × IsUnder given number payload
 IsSafeTake peer given (Command (command.Pick to now)) = ⊥
 IsSafeTake peer given (Command (command.Release to number)) = ⊥
@@ -227,7 +227,7 @@ IsSafeTake peer given (Query any) = ⊥
 
 pub take_later : (peer : PeerId) (given more : List (Numbered (List ℕ))) → IsPrefix given more → (ask : Ask)
     → IsSafeTake peer given ask → IsSafeTake peer more ask
-take_later peer given more p (Command (command.Take from number to stamp payload)) safe =
+take_later peer given more p (Command (command.Take from number to stamp limit payload)) safe =
     (safe.0, under_later given more number payload p safe.1)
 take_later peer given more p (Command (command.Pick to now)) safe = safe
 take_later peer given more p (Command (command.Release to number)) safe = safe
@@ -251,7 +251,7 @@ answer_later kept rest number below answer.Other is = tt
 
 -- the numbers of Takes
 abbrev pub take_number : Ask → List ℕ
-take_number (Command (command.Take from number to stamp payload)) = number ∷ []
+take_number (Command (command.Take from number to stamp limit payload)) = number ∷ []
 take_number (Command (command.Pick to now)) = []
 take_number (Command (command.Release to number)) = []
 take_number (Query any) = []

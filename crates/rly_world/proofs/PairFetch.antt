@@ -22,7 +22,7 @@ use Rattle.rly_machine.specs.Release.{release_refusal}
 use Rattle.rly_machine.specs.State.{State, HopState, has_hop, hop_at, is_among, new_hop, next_number}
 use Rattle.rly_machine.specs.Step.{step}
 use Rattle.rly_machine.specs.Take.{take_refusal}
-use Rattle.rly_world.proofs.PairRuns.{Flows, either_way}
+use Rattle.rly_world.proofs.PairRuns.{Flows, either_way, under}
 use Rattle.rly_world.specs.PairPayloads.{Numbered, payloads_of}
 
 -- a payload is in a list under a number: at its place, counted from 1
@@ -33,8 +33,9 @@ pub record IsUnder {P : Type 0} (xs : List (Numbered P)) (number : ℕ) (payload
 -- no command adds a hop or takes one away
 hops_step : {P : Type 0} (len : P → ℕ) (s : State P) (command : Command P)
     → length (step len s command).0.hops ≡ length s.hops
-hops_step len s (Take from number to stamp payload) =
-    either_way len s (Take from number to stamp payload) (take_refusal len s from number to stamp (len payload)) _ refl
+hops_step len s (Take from number to stamp limit payload) =
+    either_way len s (Take from number to stamp limit payload)
+    (take_refusal len s from number to stamp limit (len payload)) _ refl
     (λ after reply. length after.hops ≡ length s.hops) (λ reply refuses. refl) (λ none. length-set s.hops (to.0 - 1) _)
 hops_step len s (Pick to now) =
     either_way len s (Pick to now) (pick_refusal s to now) _ refl
@@ -94,40 +95,34 @@ under_of {P} xs k payload numbered below at =
     }
 
 -- the first reply that isn't a refusal
-not_refused : (b : Bool) (refusal : Refusal) (rest : Result (Item (List ℕ)) Refusal) (payload : List ℕ)
-    → fetch_reply (cond b (Err refusal) rest) ≡ Bytes payload → (b ≡ false) × (fetch_reply rest ≡ Bytes payload)
-not_refused true refusal rest payload is = absurd (let e : Refused refusal ≡ Bytes payload = is in cc)
-not_refused false refusal rest payload is = (refl, is)
+not_refused : (b : Bool) (refusal : Refusal) (rest : Result (Item (List ℕ)) Refusal) (payload : List ℕ) (limit : ℕ)
+    → fetch_reply (cond b (Err refusal) rest) ≡ Bytes payload limit
+    → (b ≡ false) × (fetch_reply rest ≡ Bytes payload limit)
+not_refused true refusal rest payload limit is = absurd (let e : Refused refusal ≡ Bytes payload limit = is in cc)
+not_refused false refusal rest payload limit is = (refl, is)
 
-item_given : (o : Option (Item (List ℕ))) (payload : List ℕ) → fetch_reply (ok_or o NotInFlight) ≡ Bytes payload
+item_given : (o : Option (Item (List ℕ))) (payload : List ℕ) (limit : ℕ)
+    → fetch_reply (ok_or o NotInFlight) ≡ Bytes payload limit
     → option_map (λ (item : Item (List ℕ)). item.payload) o ≡ Some payload
-item_given None payload is = absurd (let e : Refused NotInFlight ≡ Bytes payload = is in cc)
-item_given (Some item) payload is =
-    let e : Bytes item.payload ≡ Bytes payload = is in
+item_given None payload limit is = absurd (let e : Refused NotInFlight ≡ Bytes payload limit = is in cc)
+item_given (Some item) payload limit is =
+    let e : Bytes item.payload item.limit ≡ Bytes payload limit = is in
     let same : item.payload ≡ payload = (cc) in
     ap (λ (p : List ℕ). let o : Option (List ℕ) = Some p in o) same
 
-gives_item : (o : Option (Item (List ℕ))) (payload : List ℕ)
-    → option_map (λ (item : Item (List ℕ)). item.payload) o ≡ Some payload
-    → fetch_reply (ok_or o NotInFlight) ≡ Bytes payload
-gives_item None payload is = absurd (let e : (let o : Option (List ℕ) = None in o) ≡ Some payload = is in cc)
-gives_item (Some item) payload is =
-    let e : (let o : Option (List ℕ) = Some item.payload in o) ≡ Some payload = is in
-    let same : item.payload ≡ payload = (cc) in
-    ap (λ (p : List ℕ). Bytes p) same
-
-pub fetched_is_picked : (s : State (List ℕ)) (hop : HopId) (number : ℕ) (payload : List ℕ)
+pub fetched_is_picked : (s : State (List ℕ)) (hop : HopId) (number : ℕ) (payload : List ℕ) (limit : ℕ)
     (xs : List (Numbered (List ℕ)))
-    → Flows new_hop (hop_at s hop) xs → query_reply s (Fetch hop number) ≡ Bytes payload → IsUnder xs number payload
-fetched_is_picked s hop number payload xs flows is =
+    → Flows new_hop (hop_at s hop) xs → query_reply s (Fetch hop number) ≡ Bytes payload limit
+    → IsUnder xs number payload
+fetched_is_picked s hop number payload limit xs flows is =
     let h : HopState (List ℕ) = hop_at s hop in
-    let a = not_refused (not (has_hop s hop)) NoSuchHop _ payload is in
-    let b = not_refused (nat_le (next_number (hop_at s hop)) number) NeverSent _ payload a.1 in
-    let c = not_refused (nat_le number (hop_at s hop).released) NotInFlight _ payload b.1 in
+    let a = not_refused (not (has_hop s hop)) NoSuchHop _ payload limit is in
+    let b = not_refused (nat_le (next_number (hop_at s hop)) number) NeverSent _ payload limit a.1 in
+    let c = not_refused (nat_le number (hop_at s hop).released) NotInFlight _ payload limit b.1 in
     let sent : number < (hop_at s hop).released + length (hop_at s hop).flight + 1 = leb-false _ _ b.0 in
     let kept : (hop_at s hop).released < number = leb-false _ _ c.0 in
     let i : ℕ = number - (hop_at s hop).released - 1 in
-    let given = item_given (slice_get (hop_at s hop).flight (number - (hop_at s hop).released - 1)) payload c.1 in
+    let given = item_given (slice_get (hop_at s hop).flight (number - (hop_at s hop).released - 1)) payload limit c.1 in
     let in_flight : slice_get (payloads_of (hop_at s hop).flight)
     (number - (hop_at s hop).released - 1) ≡ Some payload =
     slice_get-map (λ (item : Item (List ℕ)). item.payload) (hop_at s hop).flight (number - (hop_at s hop).released - 1)
@@ -143,16 +138,42 @@ fetched_is_picked s hop number payload xs flows is =
     (under_of xs (number - 1) payload (λ k x found. (let e = flows.numbered k x found in omega (arith, e)))
     (omega (arith, sent, kept, picked_count (hop_at s hop) xs flows)) at)
 
--- what was picked and isn't released is what a Fetch gives
+-- no item
+no_item : Item (List ℕ)
+no_item = record { id = 0; stamp = 0; limit = 0; payload = [] }
+
+-- the limit of what is in flight under a number
+pub limit_under : HopState (List ℕ) → ℕ → ℕ
+limit_under h number = (under h number no_item).limit
+
+-- it stays, until that is released
+pub limit_stays : (before after : HopState (List ℕ)) (more : List (Numbered (List ℕ))) (number : ℕ)
+    → Flows before after more → number < next_number before → after.released < number
+    → limit_under after number ≡ limit_under before number
+unfolding limit_under
+limit_stays before after more number flows sent kept =
+    ap (λ (item : Item (List ℕ)). item.limit) (flows.stays number no_item sent kept)
+
+-- what was picked has a number that was given
+pub picked_sent : (h : HopState (List ℕ)) (k : ℕ) (one : Numbered (List ℕ)) (xs : List (Numbered (List ℕ)))
+    → Flows new_hop h xs → slice_get xs k ≡ Some one → one.number < next_number h
+picked_sent h k one xs flows found =
+    let place = flows.numbered k one found in
+    let below = slice_get_within xs k one found in
+    omega (arith, place, below, picked_count h xs flows)
+
+-- what was picked and isn't released is what a Fetch gives, with its limit
 pub picked_is_fetched : (s : State (List ℕ)) (hop : HopId) (k : ℕ) (one : Numbered (List ℕ))
     (xs : List (Numbered (List ℕ)))
     → has_hop s hop ≡ true → Flows new_hop (hop_at s hop) xs → slice_get xs k ≡ Some one
     → (hop_at s hop).released < one.number
-    → query_reply s (Fetch hop one.number) ≡ Bytes one.payload
+    → query_reply s (Fetch hop one.number) ≡ Bytes one.payload (limit_under (hop_at s hop) one.number)
+unfolding limit_under under
 picked_is_fetched s hop k one xs there flows found kept =
     let place = flows.numbered k one found in
     let below = slice_get_within xs k one found in
     let count = picked_count (hop_at s hop) xs flows in
+    let flight : List (Item (List ℕ)) = (hop_at s hop).flight in
     let i : ℕ = one.number - (hop_at s hop).released - 1 in
     let size = length-map (hop_at s hop).flight (λ (item : Item (List ℕ)). item.payload) in
     let pays : List (List ℕ) = map (λ (x : Numbered (List ℕ)). x.payload) xs in
@@ -166,14 +187,24 @@ picked_is_fetched s hop k one xs there flows found kept =
     (let e : (hop_at s hop).released + (one.number - (hop_at s hop).released - 1) ≡ k = omega
     (arith, kept, place) in e)
     ∙ get_or_from_slice_get pays k one.payload one.payload in_map in
+    let within : one.number - (hop_at s hop).released - 1 < length (hop_at s hop).flight = omega
+    (arith, kept, place, below, count) in
+    let there_is : slice_get (hop_at s hop).flight (one.number - (hop_at s hop).released - 1) ≡ Some
+    (get_or (hop_at s hop).flight (one.number - (hop_at s hop).released - 1) no_item) =
+    slice_get-get_or (hop_at s hop).flight (one.number - (hop_at s hop).released - 1) no_item within in
     let in_flight : slice_get (payloads_of (hop_at s hop).flight)
-    (one.number - (hop_at s hop).released - 1) ≡ Some one.payload =
-    slice_get-get_or (payloads_of (hop_at s hop).flight) (one.number - (hop_at s hop).released - 1) one.payload
-    (omega (arith, kept, place, below, count, size))
-    ∙ ap (λ (p : List ℕ). let o : Option (List ℕ) = Some p in o) at in
-    let given = gives_item (slice_get (hop_at s hop).flight (one.number - (hop_at s hop).released - 1)) one.payload
-    (sym (slice_get-map (λ (item : Item (List ℕ)). item.payload) (hop_at s hop).flight
-    (one.number - (hop_at s hop).released - 1)) ∙ in_flight) in
+    (one.number - (hop_at s hop).released - 1) ≡ Some
+    (get_or (hop_at s hop).flight (one.number - (hop_at s hop).released - 1) no_item).payload =
+    slice_get-map (λ (item : Item (List ℕ)). item.payload) (hop_at s hop).flight
+    (one.number - (hop_at s hop).released - 1)
+    ∙ ap (option_map (λ (item : Item (List ℕ)). item.payload)) there_is in
+    let payload_is : (get_or (hop_at s hop).flight (one.number - (hop_at s hop).released - 1) no_item).payload
+    ≡ one.payload =
+    sym (get_or_from_slice_get (payloads_of (hop_at s hop).flight) (one.number - (hop_at s hop).released - 1)
+    (get_or (hop_at s hop).flight (one.number - (hop_at s hop).released - 1) no_item).payload one.payload in_flight)
+    ∙ at in
+    let given = ap (λ (o : Option (Item (List ℕ))). fetch_reply (ok_or o NotInFlight)) there_is
+    ∙ ap (λ (p : List ℕ). Bytes p (get_or flight i no_item).limit) payload_is in
     let inner : Result (Item (List ℕ)) Refusal = ok_or
     (slice_get (hop_at s hop).flight (one.number - (hop_at s hop).released - 1)) NotInFlight in
     ap (λ b. fetch_reply

@@ -240,7 +240,7 @@ waits_for (Some n) number rest is =
 -- the Take that is answered
 answered_take : (kept : ℕ) (an : Ask) (r : Reply) → low.IsTrueTake kept an r → (number : ℕ)
     × (take_number an ≡ number ∷ []) × IsTrueAnswer kept number (take_answer r)
-answered_take kept (ask.Command (Take from number hop stamp payload)) r is = (number, refl, is)
+answered_take kept (ask.Command (Take from number hop stamp limit payload)) r is = (number, refl, is)
 answered_take kept (ask.Command (Pick hop now)) r is = absurd is
 answered_take kept (ask.Command (Release hop number)) r is = absurd is
 answered_take kept (ask.Query q) r is = absurd is

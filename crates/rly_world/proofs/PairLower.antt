@@ -65,7 +65,7 @@ pending_at receivers core = waiting (get_or receivers core idle).pending
 
 -- an answer that is due says no more than was taken by its position
 abbrev pub IsTrueTake : ℕ → Ask → Reply → Type 0
-IsTrueTake kept (ask.Command (Take from number hop stamp payload)) r = IsTrueAnswer kept number (take_answer r)
+IsTrueTake kept (ask.Command (Take from number hop stamp limit payload)) r = IsTrueAnswer kept number (take_answer r)
 IsTrueTake kept (ask.Command (Pick hop now)) r = ⊥
 IsTrueTake kept (ask.Command (Release hop number)) r = ⊥
 IsTrueTake kept (ask.Query q) r = ⊥
@@ -104,7 +104,7 @@ lower_later peer given more e receivers p low = record {
 
 -- a Take of the peer takes what was picked under its number
 abbrev pub TakesGiven : PeerId → List (Numbered (List ℕ)) → Command (List ℕ) → Type 0
-TakesGiven peer given (Take from number hop stamp payload) = from.0 ≡ peer.0 → IsUnder given number payload
+TakesGiven peer given (Take from number hop stamp limit payload) = from.0 ≡ peer.0 → IsUnder given number payload
 TakesGiven peer given (Pick hop now) = Unit {0}
 TakesGiven peer given (Release hop number) = Unit {0}
 
@@ -114,14 +114,14 @@ AskTakesGiven peer given (ask.Query q) = Unit {0}
 
 pub own_takes : (peer : PeerId) (given : List (Numbered (List ℕ))) (an : Ask) → IsSafeTake peer given an
     → AskTakesGiven peer given an
-own_takes peer given (ask.Command (Take from number hop stamp payload)) safe = λ same. safe.1
+own_takes peer given (ask.Command (Take from number hop stamp limit payload)) safe = λ same. safe.1
 own_takes peer given (ask.Command (Pick hop now)) safe = tt
 own_takes peer given (ask.Command (Release hop number)) safe = tt
 own_takes peer given (ask.Query q) safe = tt
 
 pub others_take : (peer : PeerId) (given : List (Numbered (List ℕ))) (an : Ask) → is_for_receiver peer an ≡ false
     → AskTakesGiven peer given an
-others_take peer given (ask.Command (Take from number hop stamp payload)) other = λ same. absurd
+others_take peer given (ask.Command (Take from number hop stamp limit payload)) other = λ same. absurd
     (true≢false (sym (eq-eqb from.0 peer.0 same) ∙ other))
 others_take peer given (ask.Command (Pick hop now)) other = tt
 others_take peer given (ask.Command (Release hop number)) other = tt
@@ -133,7 +133,7 @@ record IsGiven (given more : List (Numbered (List ℕ))) : Type 0 where
 
 is_given : (peer : PeerId) (given : List (Numbered (List ℕ))) (c : Command (List ℕ)) (r : Reply)
     → TakesGiven peer given c → IsGiven given (taken_by peer c r)
-is_given peer given (Take from number hop stamp payload) (reply.Taken id) takes =
+is_given peer given (Take from number hop stamp limit payload) (reply.Taken id) takes =
     let x : Numbered (List ℕ) = record { number = number; payload = payload } in
     elim (cases_eq from.0 peer.0) [
       | inl same ↦ record {
@@ -142,15 +142,18 @@ is_given peer given (Take from number hop stamp payload) (reply.Taken id) takes 
       }
       | inr differ ↦ record { one = inl (ap (λ b. cond b (x ∷ []) []) (ne_eqb from.0 peer.0 differ)) }
     ]
-is_given peer given (Take from number hop stamp payload) (reply.Already last) takes = record { one = inl refl }
-is_given peer given (Take from number hop stamp payload) (reply.Picked n id dropped) takes = record { one = inl refl }
-is_given peer given (Take from number hop stamp payload) reply.Nothing takes = record { one = inl refl }
-is_given peer given (Take from number hop stamp payload) (reply.Released count) takes = record { one = inl refl }
-is_given peer given (Take from number hop stamp payload) reply.Unchanged takes = record { one = inl refl }
-is_given peer given (Take from number hop stamp payload) (reply.Bytes bytes) takes = record { one = inl refl }
-is_given peer given (Take from number hop stamp payload) (reply.WindowIs first next) takes = record { one = inl refl }
-is_given peer given (Take from number hop stamp payload) (reply.Shown status) takes = record { one = inl refl }
-is_given peer given (Take from number hop stamp payload) (reply.Refused refusal) takes = record { one = inl refl }
+is_given peer given (Take from number hop stamp limit payload) (reply.Already last) takes = record { one = inl refl }
+is_given peer given (Take from number hop stamp limit payload) (reply.Picked n id expired dropped) takes =
+    record { one = inl refl }
+is_given peer given (Take from number hop stamp limit payload) (reply.Nothing expired) takes = record { one = inl refl }
+is_given peer given (Take from number hop stamp limit payload) (reply.Released count) takes = record { one = inl refl }
+is_given peer given (Take from number hop stamp limit payload) reply.Unchanged takes = record { one = inl refl }
+is_given peer given (Take from number hop stamp limit payload) (reply.Bytes bytes limit') takes =
+    record { one = inl refl }
+is_given peer given (Take from number hop stamp limit payload) (reply.WindowIs first next) takes =
+    record { one = inl refl }
+is_given peer given (Take from number hop stamp limit payload) (reply.Shown status) takes = record { one = inl refl }
+is_given peer given (Take from number hop stamp limit payload) (reply.Refused refusal) takes = record { one = inl refl }
 is_given peer given (Pick hop now) r takes = record { one = inl refl }
 is_given peer given (Release hop number) r takes = record { one = inl refl }
 
@@ -246,19 +249,20 @@ passes kept number = record {
       (let e : (let o : Option Reply = None in o) ≡ Some r = is in cc);
 }
 
-checks : (s : State (List ℕ)) (peer : PeerId) (number : ℕ) (hop : HopId) (stamp bytes : ℕ)
-    → IsTrueCheck (last_at s peer) number (take_refusal length s peer number hop stamp bytes)
-checks s peer number hop stamp bytes =
+checks : (s : State (List ℕ)) (peer : PeerId) (number : ℕ) (hop : HopId) (stamp limit bytes : ℕ)
+    → IsTrueCheck (last_at s peer) number (take_refusal length s peer number hop stamp limit bytes)
+checks s peer number hop stamp limit bytes =
     row (last_at s peer) number (not (has_peer s peer)) (reply.Refused refusal.NoSuchPeer) _ tt
     (row (last_at s peer) number (not (has_hop s hop)) (reply.Refused refusal.NoSuchHop) _ tt
     (row (last_at s peer) number (nat_le (2 ^ 52) stamp) (reply.Refused refusal.BadMoment) _ tt
+    (row (last_at s peer) number (nat_le (2 ^ 40) limit) (reply.Refused refusal.BadMoment) _ tt
     (row (last_at s peer) number (nat_lt 1200 bytes) (reply.Refused refusal.TooLong) _ tt
     (row (last_at s peer) number (nat_le number (last_at s peer)) (reply.Already (last_at s peer)) _ (omega arith)
     (row (last_at s peer) number (nat_lt (last_at s peer + 1) number)
     (reply.Refused (refusal.Gap (last_at s peer + 1))) _ (omega arith)
     (row (last_at s peer) number (is_full length s bytes) (reply.Refused refusal.Full) _ tt
     (row (last_at s peer) number (nat_le max_seq s.seq) (reply.Refused refusal.Spent) _ tt
-    (passes (last_at s peer) number))))))))
+    (passes (last_at s peer) number)))))))))
 
 comes_true : (s : State (List ℕ)) (peer : PeerId) (number : ℕ) (o : Option Reply) (accepted : State (List ℕ) × Reply)
     → IsTrueCheck (last_at s peer) number o
@@ -267,13 +271,13 @@ comes_true : (s : State (List ℕ)) (peer : PeerId) (number : ℕ) (o : Option R
 comes_true s peer number None accepted check may = may refl
 comes_true s peer number (Some r) accepted check may = check.refuses r refl
 
-answer_true : (s : State (List ℕ)) (peer : PeerId) (number : ℕ) (hop : HopId) (stamp : ℕ) (payload : List ℕ)
-    → IsTrueAnswer (last_at (step length s (Take peer number hop stamp payload)).0 peer) number
-    (take_answer (step length s (Take peer number hop stamp payload)).1)
-answer_true s peer number hop stamp payload =
-    comes_true s peer number (take_refusal length s peer number hop stamp (length payload)) _
-    (checks s peer number hop stamp (length payload))
-    (λ none. (let may = may_take length s peer number hop stamp (length payload) none in
+answer_true : (s : State (List ℕ)) (peer : PeerId) (number : ℕ) (hop : HopId) (stamp limit : ℕ) (payload : List ℕ)
+    → IsTrueAnswer (last_at (step length s (Take peer number hop stamp limit payload)).0 peer) number
+    (take_answer (step length s (Take peer number hop stamp limit payload)).1)
+answer_true s peer number hop stamp limit payload =
+    comes_true s peer number (take_refusal length s peer number hop stamp limit (length payload)) _
+    (checks s peer number hop stamp limit (length payload))
+    (λ none. (let may = may_take length s peer number hop stamp limit (length payload) none in
     let last : get_or (set s.lasts (peer.0 - 1) number) (peer.0 - 1) 0 ≡ number = get_or-set_same s.lasts
     (peer.0 - 1) number 0 (omega (arith, may.peer_from, may.peer_to)) in
     omega (arith, last)))
@@ -295,29 +299,30 @@ due_true : (peer : PeerId) (given : List (Numbered (List ℕ))) (e : End) (an : 
     → has_peer (new_state {P = List ℕ} e.params) peer ≡ true → IsSafeTake peer given an
     → IsTrueTake (length (taken length peer (new_state e.params) (accepted_after e an outcome))) an
     (reply_by outcome (reply_at e an))
-due_true peer given e (ask.Command (Take from number hop stamp payload)) Done there safe =
-    let c : Command (List ℕ) = Take from number hop stamp payload in
-    let all : List (Command (List ℕ)) = accepted_after e (ask.Command (Take from number hop stamp payload)) Done in
+due_true peer given e (ask.Command (Take from number hop stamp limit payload)) Done there safe =
+    let c : Command (List ℕ) = Take from number hop stamp limit payload in
+    let all : List (Command (List ℕ)) =
+    accepted_after e (ask.Command (Take from number hop stamp limit payload)) Done in
     let whole : fold length (new_state e.params)
-    (accepted_after e (ask.Command (Take from number hop stamp payload)) Done) ≡
-    (step length (state_of e) (Take from number hop stamp payload)).0 =
+    (accepted_after e (ask.Command (Take from number hop stamp limit payload)) Done) ≡
+    (step length (state_of e) (Take from number hop stamp limit payload)).0 =
     fold_append length (new_state e.params) e.accepted (accepted_by (ask.Command c) (step length (state_of e) c).1)
     ∙ state_made (state_of e) c in
-    let last : last_at (step length (state_of e) (Take from number hop stamp payload)).0 peer ≡ length
+    let last : last_at (step length (state_of e) (Take from number hop stamp limit payload)).0 peer ≡ length
     (taken length peer (new_state e.params)
-    (accepted_after e (ask.Command (Take from number hop stamp payload)) Done)) =
+    (accepted_after e (ask.Command (Take from number hop stamp limit payload)) Done)) =
     ap (λ (s : State (List ℕ)). last_at s peer) (sym whole) ∙ (takes_from_new length e.params all peer there).last
     ∙ zero_more (length (taken length peer (new_state e.params) all)) in
     subst (λ (kept : ℕ). IsTrueAnswer kept number
-    (take_answer (step length (state_of e) (Take from number hop stamp payload)).1)) last
+    (take_answer (step length (state_of e) (Take from number hop stamp limit payload)).1)) last
     (subst (λ (p : PeerId). IsTrueAnswer
-    (last_at (step length (state_of e) (Take from number hop stamp payload)).0 p) number
-    (take_answer (step length (state_of e) (Take from number hop stamp payload)).1)) safe.0
-    (answer_true (state_of e) from number hop stamp payload))
-due_true peer given e (ask.Command (Take from number hop stamp payload)) (Unsure stands) there safe = tt
-due_true peer given e (ask.Command (Take from number hop stamp payload)) Broken there safe = tt
-due_true peer given e (ask.Command (Take from number hop stamp payload)) DeviceRead there safe = tt
-due_true peer given e (ask.Command (Take from number hop stamp payload)) OutOfMemory there safe = tt
+    (last_at (step length (state_of e) (Take from number hop stamp limit payload)).0 p) number
+    (take_answer (step length (state_of e) (Take from number hop stamp limit payload)).1)) safe.0
+    (answer_true (state_of e) from number hop stamp limit payload))
+due_true peer given e (ask.Command (Take from number hop stamp limit payload)) (Unsure stands) there safe = tt
+due_true peer given e (ask.Command (Take from number hop stamp limit payload)) Broken there safe = tt
+due_true peer given e (ask.Command (Take from number hop stamp limit payload)) DeviceRead there safe = tt
+due_true peer given e (ask.Command (Take from number hop stamp limit payload)) OutOfMemory there safe = tt
 due_true peer given e (ask.Command (Pick hop now)) outcome there safe = absurd safe
 due_true peer given e (ask.Command (Release hop number)) outcome there safe = absurd safe
 due_true peer given e (ask.Query q) outcome there safe = absurd safe
@@ -332,10 +337,10 @@ due_told peer given e an Done there safe =
     subst (λ (l : List (Command (List ℕ))). IsTrueTake (length (taken length peer (new_state e.params) l)) an
     (reply_by Done (reply_at e an))) (sym (take-length (accepted_after e an Done)))
     (due_true peer given e an Done there safe)
-due_told peer given e (ask.Command (Take from number hop stamp payload)) (Unsure stands) there safe = tt
-due_told peer given e (ask.Command (Take from number hop stamp payload)) Broken there safe = tt
-due_told peer given e (ask.Command (Take from number hop stamp payload)) DeviceRead there safe = tt
-due_told peer given e (ask.Command (Take from number hop stamp payload)) OutOfMemory there safe = tt
+due_told peer given e (ask.Command (Take from number hop stamp limit payload)) (Unsure stands) there safe = tt
+due_told peer given e (ask.Command (Take from number hop stamp limit payload)) Broken there safe = tt
+due_told peer given e (ask.Command (Take from number hop stamp limit payload)) DeviceRead there safe = tt
+due_told peer given e (ask.Command (Take from number hop stamp limit payload)) OutOfMemory there safe = tt
 due_told peer given e (ask.Command (Pick hop now)) (Unsure stands) there safe = absurd safe
 due_told peer given e (ask.Command (Pick hop now)) Broken there safe = absurd safe
 due_told peer given e (ask.Command (Pick hop now)) DeviceRead there safe = absurd safe
@@ -430,11 +435,11 @@ failed_answer kept number (reply.Taken id) fails = absurd (true≢false (sym fai
 failed_answer kept number (reply.Already last) fails = absurd (true≢false (sym fails))
 failed_answer kept number (reply.Refused (refusal.Gap expected)) fails = absurd (true≢false (sym fails))
 failed_answer kept number (reply.Refused other) fails = tt
-failed_answer kept number (reply.Picked n id dropped) fails = tt
-failed_answer kept number reply.Nothing fails = tt
+failed_answer kept number (reply.Picked n id expired dropped) fails = tt
+failed_answer kept number (reply.Nothing expired) fails = tt
 failed_answer kept number (reply.Released count) fails = tt
 failed_answer kept number reply.Unchanged fails = tt
-failed_answer kept number (reply.Bytes payload) fails = tt
+failed_answer kept number (reply.Bytes payload limit) fails = tt
 failed_answer kept number (reply.WindowIs first next) fails = tt
 failed_answer kept number (reply.Shown status) fails = tt
 

@@ -1,12 +1,13 @@
 -- What was taken from a peer and what went into flight, over any row of commands.
 use Rattle.std.proofs.Common.{ℕ, ◌≡◌, ◌+◌, ◌-◌, ◌<◌, ◌≤◌, Bool, true, false, true≢false, cond, ◌⊎◌, inl, inr, List}
-use Rattle.std.proofs.Common.{[], ◌∷◌, ◌++◌, length, get_or, set, take, drop, map, min, refl, arith, sym, ◌∙◌, ap}
+use Rattle.std.proofs.Common.{[], ◌∷◌, ◌++◌, length, get_or, set, take, drop, map, max, min, refl, arith, sym, ◌∙◌, ap}
 use Rattle.std.proofs.Common.{subst, Option, Some, None, append_assoc, replicate}
 use Rattle.std.specs.Prelude.{nat_eq, slice_get}
 use Rattle.std.proofs.lemmas.Bool.{cases_eq, cases_lt, eq-eqb, ne_eqb}
-use Rattle.std.proofs.lemmas.List.{append-nil, drop-append-le, drop-drop, drop-map, get_or-append_right}
+use Rattle.std.proofs.lemmas.List.{append-nil, drop-append-le, drop-drop, drop-map, get_or-append_right, get_or-drop}
 use Rattle.std.proofs.lemmas.List.{get_or_append_left, get_or-set_other, get_or-set_same, length-append, length-drop}
 use Rattle.std.proofs.lemmas.List.{get_or-replicate, length-map, length-replicate, length-take, map-append}
+use Rattle.std.proofs.lemmas.List.Sums.{prefix_len-le-length}
 use Rattle.std.proofs.lemmas.Option.{get_or_from_slice_get, slice_get-get_or, slice_get_within}
 use Rattle.rly_codel.specs.Cases.{Outcome}
 use Rattle.rly_core.specs.declared.ids.HopId.{HopId}
@@ -20,7 +21,8 @@ use Rattle.rly_machine.specs.declared.reply.Reply.TheVariants.{Taken, Already, P
 use Rattle.rly_machine.specs.declared.reply.Reply.TheVariants.{Bytes, WindowIs, Shown, Refused}
 use Rattle.rly_machine.specs.Accepted.{accept, is_accepted, unless}
 use Rattle.rly_machine.specs.Fold.{fold}
-use Rattle.rly_machine.specs.Pick.{outcome_of, pick_refusal, picked_reply, with_picked}
+use Rattle.rly_machine.specs.Expiry.{expired_count, is_expired, with_expired}
+use Rattle.rly_machine.specs.Pick.{after_pick, pick_outcome, pick_refusal, picked_reply, with_picked}
 use Rattle.rly_machine.specs.Release.{covered_count, release_refusal, with_released}
 use Rattle.rly_machine.specs.Take.{take_refusal, with_taken}
 use Rattle.rly_machine.specs.State.{State, HopState, has_hop, has_peer, hop_at, last_at, new_hop, new_state}
@@ -102,32 +104,32 @@ takes_one {P} n number payload next =
 -- a reply that accepts nothing takes nothing and picks nothing
 none_taken : {P : Type 0} (peer : PeerId) (command : Command P) (reply : Reply) → is_accepted reply ≡ false
     → taken_by peer command reply ≡ []
-none_taken peer (Take from number hop stamp payload) (Taken id) refuses = absurd (true≢false refuses)
-none_taken peer (Take from number hop stamp payload) (Already last) refuses = refl
-none_taken peer (Take from number hop stamp payload) (Picked n id dropped) refuses = refl
-none_taken peer (Take from number hop stamp payload) Nothing refuses = refl
-none_taken peer (Take from number hop stamp payload) (Released count) refuses = refl
-none_taken peer (Take from number hop stamp payload) Unchanged refuses = refl
-none_taken peer (Take from number hop stamp payload) (Bytes bytes) refuses = refl
-none_taken peer (Take from number hop stamp payload) (WindowIs first next) refuses = refl
-none_taken peer (Take from number hop stamp payload) (Shown status) refuses = refl
-none_taken peer (Take from number hop stamp payload) (Refused refusal) refuses = refl
+none_taken peer (Take from number hop stamp limit payload) (Taken id) refuses = absurd (true≢false refuses)
+none_taken peer (Take from number hop stamp limit payload) (Already last) refuses = refl
+none_taken peer (Take from number hop stamp limit payload) (Picked n id expired dropped) refuses = refl
+none_taken peer (Take from number hop stamp limit payload) (Nothing expired) refuses = refl
+none_taken peer (Take from number hop stamp limit payload) (Released count) refuses = refl
+none_taken peer (Take from number hop stamp limit payload) Unchanged refuses = refl
+none_taken peer (Take from number hop stamp limit payload) (Bytes bytes limit') refuses = refl
+none_taken peer (Take from number hop stamp limit payload) (WindowIs first next) refuses = refl
+none_taken peer (Take from number hop stamp limit payload) (Shown status) refuses = refl
+none_taken peer (Take from number hop stamp limit payload) (Refused refusal) refuses = refl
 none_taken peer (Pick hop now) reply refuses = refl
 none_taken peer (Release hop number) reply refuses = refl
 
 none_picked : {P : Type 0} (hop : HopId) (h : HopState P) (command : Command P) (reply : Reply)
     → is_accepted reply ≡ false → picked_by hop h command reply ≡ []
-none_picked hop h (Pick to now) (Picked number id dropped) refuses = absurd (true≢false refuses)
+none_picked hop h (Pick to now) (Picked number id expired dropped) refuses = absurd (true≢false refuses)
 none_picked hop h (Pick to now) (Taken id) refuses = refl
 none_picked hop h (Pick to now) (Already last) refuses = refl
-none_picked hop h (Pick to now) Nothing refuses = refl
+none_picked hop h (Pick to now) (Nothing expired) refuses = refl
 none_picked hop h (Pick to now) (Released count) refuses = refl
 none_picked hop h (Pick to now) Unchanged refuses = refl
-none_picked hop h (Pick to now) (Bytes bytes) refuses = refl
+none_picked hop h (Pick to now) (Bytes bytes limit) refuses = refl
 none_picked hop h (Pick to now) (WindowIs first next) refuses = refl
 none_picked hop h (Pick to now) (Shown status) refuses = refl
 none_picked hop h (Pick to now) (Refused refusal) refuses = refl
-none_picked hop h (Take from number to stamp payload) reply refuses = refl
+none_picked hop h (Take from number to stamp limit payload) reply refuses = refl
 none_picked hop h (Release to number) reply refuses = refl
 
 -- the peer that a Take names has the new last number, and every other peer has the old one
@@ -154,15 +156,15 @@ takes_at {P} lasts from peer number payload from_one within peer_one next =
 
 pub takes_step : {P : Type 0} (len : P → ℕ) (s : State P) (command : Command P) (peer : PeerId) → 0 < peer.0
     → Takes (last_at s peer) (last_at (step len s command).0 peer) (taken_by peer command (step len s command).1)
-takes_step {P} len s (Take from number hop stamp payload) peer there =
-    either_way len s (Take from number hop stamp payload)
-    (take_refusal len s from number hop stamp (len payload)) _ refl
+takes_step {P} len s (Take from number hop stamp limit payload) peer there =
+    either_way len s (Take from number hop stamp limit payload)
+    (take_refusal len s from number hop stamp limit (len payload)) _ refl
     (λ after reply. Takes {P = P} (last_at s peer) (last_at after peer)
-    (taken_by peer (Take from number hop stamp payload) reply))
+    (taken_by peer (Take from number hop stamp limit payload) reply))
     (λ reply refuses. subst (Takes (last_at s peer) (last_at s peer))
-    (sym (none_taken peer (Take from number hop stamp payload) reply refuses))
+    (sym (none_taken peer (Take from number hop stamp limit payload) reply refuses))
     (takes_none (last_at s peer) (last_at s peer) refl))
-    (λ none. (let may = may_take len s from number hop stamp (len payload) none in
+    (λ none. (let may = may_take len s from number hop stamp limit (len payload) none in
     takes_at s.lasts from.0 peer.0 number payload may.peer_from may.peer_to there may.next))
 takes_step {P} len s (Pick to now) peer there =
     either_way len s (Pick to now) (pick_refusal s to now) _ refl
@@ -226,6 +228,10 @@ takes_from_new {P} len params commands peer there =
 
 -- ---- what goes into flight
 
+-- the item in flight under a number
+unfoldable pub under : {P : Type 0} → HopState P → ℕ → Item P → Item P
+under h number d = get_or h.flight (number - h.released - 1) d
+
 -- some commands took a hop from one state to another, and put this into its flight
 pub record Flows {P : Type 0} (before after : HopState P) (more : List (Numbered P)) : Type 0 where
   pub fewer : before.released ≤ after.released
@@ -234,6 +240,9 @@ pub record Flows {P : Type 0} (before after : HopState P) (more : List (Numbered
       (payloads_of before.flight ++ map (λ (x : Numbered P). x.payload) more)
   pub numbered : (k : ℕ) (x : Numbered P) → slice_get more k ≡ Some x
       → x.number ≡ before.released + length before.flight + k + 1
+  -- what was in flight under a number is so until it is released
+  pub stays : (number : ℕ) (d : Item P) → number < next_number before → after.released < number
+      → under after number d ≡ under before number d
 
 length-payloads : {P : Type 0} (items : List (Item P)) → length (payloads_of items) ≡ length items
 length-payloads {P} items = length-map items (λ (item : Item P). item.payload)
@@ -244,6 +253,7 @@ length-numbered {P} xs = length-map xs (λ (x : Numbered P). x.payload)
 -- the flight is the same
 still_flows : {P : Type 0} (h after : HopState P) → after.flight ≡ h.flight → after.released ≡ h.released
     → Flows h after []
+unfolding under
 still_flows {P} h after same released = record {
   fewer = omega (arith, released);
   within = omega (arith, released);
@@ -251,6 +261,8 @@ still_flows {P} h after same released = record {
       ∙ sym ((let e : after.released - h.released ≡ 0 = omega (arith, released) in ap
       (λ k. drop k (payloads_of h.flight ++ [])) e) ∙ append-nil (payloads_of h.flight));
   numbered = λ k x found. absurd (omega (arith, slice_get_within [] k x found));
+  stays = λ number d sent kept. ap (λ (l : List (Item P)). get_or l (number - after.released - 1) d) same
+      ∙ ap (λ n. get_or h.flight (number - n - 1) d) released;
 }
 
 flows_again : {P : Type 0} (a b c : HopState P) (one two : List (Numbered P)) → Flows a b one → Flows b c two
@@ -299,11 +311,16 @@ flows_again {P} a b c one two first second =
         | inr back ↦ (let at = second.numbered (k - length one) x back.1 in omega
             (arith, at, flown, first.fewer, first.within, size_line, size_old, size_one, back.0))
       ];
+      stays = λ number d sent kept.
+          second.stays number d
+          (omega (arith, sent, flown, first.fewer, first.within, size_line, size_old, size_one)) kept
+          ∙ first.stays number d sent (omega (arith, kept, second.fewer));
     }
 
 -- the first in flight are released
 flows_released : {P : Type 0} (h : HopState P) (count : ℕ) → count ≤ length h.flight
     → Flows h (with_released h count) []
+unfolding under
 flows_released {P} h count within =
     let gone : h.released + count - h.released ≡ count = omega arith in
     record {
@@ -313,16 +330,20 @@ flows_released {P} h count within =
           ∙ ap (drop count) (sym (append-nil (payloads_of h.flight)))
           ∙ ap (λ k. drop k (payloads_of h.flight ++ [])) (sym gone);
       numbered = λ k x found. absurd (omega (arith, slice_get_within [] k x found));
+      stays = λ number d sent kept.
+          get_or-drop count h.flight (number - (h.released + count) - 1) d
+          ∙ ap (λ n. get_or h.flight n d)
+          (let e : count + (number - (h.released + count) - 1) ≡ number - h.released - 1 = omega (arith, kept) in e);
     }
 
--- what a pick put into flight at its own hop: what is left after those dropped, if anything is
+-- what a pick put into flight at its own hop: what is left after those expired and dropped, if anything is
 picked_of : {P : Type 0} → ℕ → List (Item P) → List (Numbered P)
 picked_of number [] = []
 picked_of number (item ∷ behind) = (record { number = number; payload = item.payload }) ∷ []
 
 flows_picked : {P : Type 0} (h : HopState P) (now : ℕ) (outcome : Outcome) (rest : List (Item P))
     → drop outcome.dropped h.queue ≡ rest → Flows h (with_picked h now outcome) (picked_of (next_number h) rest)
-unfolding picked_of
+unfolding picked_of under
 flows_picked {P} h now outcome [] is =
     still_flows h (with_picked h now outcome)
     (ap (λ (q : List (Item P)). h.flight ++ take 1 q) is ∙ append-nil h.flight) refl
@@ -341,36 +362,64 @@ flows_picked {P} h now outcome (item ∷ behind) is =
           let same : one ≡ x = (cc) in
           let number_is : x.number ≡ next_number h = ap (λ (y : Numbered P). y.number) (sym same) in
           omega (arith, number_is, first));
+      stays = λ number d sent kept.
+          get_or_append_left h.flight (take 1 (drop outcome.dropped h.queue)) d (number - h.released - 1)
+          (omega (arith, sent, kept));
     }
+
+-- the expired are gone from the queue alone
+flows_expired : {P : Type 0} (h after : HopState P) (count : ℕ) (more : List (Numbered P))
+    → Flows (with_expired h count) after more → Flows h after more
+unfolding under
+flows_expired h after count more flows = record {
+  fewer = flows.fewer;
+  within = flows.within;
+  flight = flows.flight;
+  numbered = flows.numbered;
+  stays = flows.stays;
+}
 
 -- nothing, either way
 both_none : {P : Type 0} (b : Bool) → cond b (let l : List (Numbered P) = [] in l) [] ≡ []
 both_none true = refl
 both_none false = refl
 
+-- so many ids as items are taken from the front of a queue
+ids_count : {P : Type 0} (count : ℕ) (queue : List (Item P)) → count ≤ length queue
+    → length (map (λ (item : Item P). item.id) (take count queue)) ≡ count
+ids_count {P} count queue within =
+    length-map (take count queue) (λ (item : Item P). item.id) ∙ length-take count queue
+    ∙ (let e : min count (length queue) ≡ count = omega (arith, within) in e)
+
 -- what the reply to a pick says that it put into flight
-picked_by_pick : {P : Type 0} (hop to : HopId) (now : ℕ) (h g : HopState P) (count : ℕ) (rest : List (Item P))
-    → (to.0 ≡ hop.0 → g ≡ h) → drop count h.queue ≡ rest
+picked_by_pick : {P : Type 0} (hop to : HopId) (now : ℕ) (h g : HopState P) (expired dropped : ℕ)
+    (rest : List (Item P))
+    → (to.0 ≡ hop.0 → g ≡ h) → expired ≤ length h.queue → drop dropped (drop expired h.queue) ≡ rest
     → picked_by hop g (Pick to now)
-    (picked_reply (next_number h) (map (λ (item : Item P). item.id) (take count h.queue)) rest) ≡ cond
+    (picked_reply (next_number h) (map (λ (item : Item P). item.id) (take expired h.queue))
+    (map (λ (item : Item P). item.id) (take dropped (drop expired h.queue))) rest) ≡ cond
     (nat_eq to.0 hop.0) (picked_of (next_number h) rest) []
 unfolding picked_of
-picked_by_pick {P} hop to now h g count [] same is = sym (both_none {P = P} (nat_eq to.0 hop.0))
-picked_by_pick {P} hop to now h g count (item ∷ behind) same is =
-    let ids : List ℕ = map (λ (item : Item P). item.id) (take count h.queue) in
+picked_by_pick {P} hop to now h g expired dropped [] same within is = sym (both_none {P = P} (nat_eq to.0 hop.0))
+picked_by_pick {P} hop to now h g expired dropped (item ∷ behind) same within is =
+    let late : List ℕ = map (λ (item : Item P). item.id) (take expired h.queue) in
+    let ids : List ℕ = map (λ (item : Item P). item.id) (take dropped (drop expired h.queue)) in
     let shown : List (Item P)
     → List (Numbered P) = λ q. map (λ (item : Item P). record { number = next_number h; payload = item.payload })
     (take 1 q) in
-    let left : length (drop count h.queue) ≡ length (item ∷ behind) = ap length is in
-    let dropped : length (map (λ (item : Item P). item.id) (take count h.queue)) ≡ count =
-    length-map (take count h.queue) (λ (item : Item P). item.id) ∙ length-take count h.queue
-    ∙ (let e : min count (length h.queue) ≡ count = omega (arith, left, length-drop count h.queue) in e) in
+    let left : length (drop dropped (drop expired h.queue)) ≡ length (item ∷ behind) = ap length is in
+    let gone : length (map (λ (item : Item P). item.id) (take dropped (drop expired h.queue))) ≡ dropped =
+    ids_count dropped (drop expired h.queue)
+    (omega (arith, left, length-drop dropped (drop expired h.queue))) in
     elim (cases_eq to.0 hop.0) [
-      | inl here ↦ ap (λ b. cond b (shown (drop (length ids) g.queue)) []) (eq-eqb to.0 hop.0 here)
-          ∙ ap (λ (x : HopState P). shown (drop (length ids) x.queue)) (same here)
-          ∙ ap (λ n. shown (drop n h.queue)) dropped ∙ ap shown is
+      | inl here ↦ ap (λ b. cond b (shown (drop (length ids) (drop (length late) g.queue))) [])
+          (eq-eqb to.0 hop.0 here)
+          ∙ ap (λ (x : HopState P). shown (drop (length ids) (drop (length late) x.queue))) (same here)
+          ∙ ap (λ n. shown (drop (length ids) (drop n h.queue))) (ids_count expired h.queue within)
+          ∙ ap (λ n. shown (drop n (drop expired h.queue))) gone ∙ ap shown is
           ∙ sym (ap (λ b. cond b (picked_of (next_number h) (item ∷ behind)) []) (eq-eqb to.0 hop.0 here))
-      | inr elsewhere ↦ ap (λ b. cond b (shown (drop (length ids) g.queue)) []) (ne_eqb to.0 hop.0 elsewhere)
+      | inr elsewhere ↦ ap (λ b. cond b (shown (drop (length ids) (drop (length late) g.queue))) [])
+          (ne_eqb to.0 hop.0 elsewhere)
           ∙ sym (ap (λ b. cond b (picked_of (next_number h) (item ∷ behind)) []) (ne_eqb to.0 hop.0 elsewhere))
     ]
 
@@ -405,16 +454,17 @@ flows_at {P} s hop to h more hop_from from below flows = elim (cases_eq to.0 hop
 pub flows_step : {P : Type 0} (len : P → ℕ) (s : State P) (command : Command P) (hop : HopId) → 0 < hop.0
     → Flows (hop_at s hop) (hop_at (step len s command).0 hop)
     (picked_by hop (hop_at s hop) command (step len s command).1)
-flows_step {P} len s (Take from number to stamp payload) hop there =
-    either_way len s (Take from number to stamp payload) (take_refusal len s from number to stamp (len payload)) _ refl
+flows_step {P} len s (Take from number to stamp limit payload) hop there =
+    either_way len s (Take from number to stamp limit payload)
+    (take_refusal len s from number to stamp limit (len payload)) _ refl
     (λ after reply. Flows (hop_at s hop) (hop_at after hop)
-    (picked_by hop (hop_at s hop) (Take from number to stamp payload) reply))
+    (picked_by hop (hop_at s hop) (Take from number to stamp limit payload) reply))
     (λ reply refuses. still_flows (hop_at s hop) (hop_at s hop) refl refl)
-    (λ none. (let may = may_take len s from number to stamp (len payload) none in
-    subst (Flows (hop_at s hop) (hop_at (accept s to (with_taken (hop_at s to) (s.seq + 1) stamp payload)) hop))
+    (λ none. (let may = may_take len s from number to stamp limit (len payload) none in
+    subst (Flows (hop_at s hop) (hop_at (accept s to (with_taken (hop_at s to) (s.seq + 1) stamp limit payload)) hop))
     (both_none {P = P} (nat_eq to.0 hop.0))
-    (flows_at s hop to (with_taken (hop_at s to) (s.seq + 1) stamp payload) [] there may.hop_from may.hop_to
-    (still_flows (hop_at s to) (with_taken (hop_at s to) (s.seq + 1) stamp payload) refl refl))))
+    (flows_at s hop to (with_taken (hop_at s to) (s.seq + 1) stamp limit payload) [] there may.hop_from may.hop_to
+    (still_flows (hop_at s to) (with_taken (hop_at s to) (s.seq + 1) stamp limit payload) refl refl))))
 flows_step {P} len s (Pick to now) hop there =
     either_way len s (Pick to now) (pick_refusal s to now) _ refl
     (λ after reply. Flows (hop_at s hop) (hop_at after hop) (picked_by hop (hop_at s hop) (Pick to now) reply))
@@ -422,14 +472,18 @@ flows_step {P} len s (Pick to now) hop there =
     (sym (none_picked hop (hop_at s hop) (Pick to now) reply refuses))
     (still_flows (hop_at s hop) (hop_at s hop) refl refl))
     (λ none. (let may = may_pick s to now none in
-    let outcome : Outcome = outcome_of len s.params (hop_at s to) now in
-    subst (Flows (hop_at s hop)
-    (hop_at (accept s to (with_picked (hop_at s to) now (outcome_of len s.params (hop_at s to) now))) hop))
-    (sym (picked_by_pick hop to now (hop_at s to) (hop_at s hop) outcome.dropped
-    (drop outcome.dropped (hop_at s to).queue) (λ same. sym (ap (λ n. get_or s.hops (n - 1) new_hop) same)) refl))
-    (flows_at s hop to (with_picked (hop_at s to) now outcome)
-    (picked_of (next_number (hop_at s to)) (drop outcome.dropped (hop_at s to).queue)) there may.hop_from may.hop_to
-    (flows_picked (hop_at s to) now outcome (drop outcome.dropped (hop_at s to).queue) refl))))
+    let late : ℕ = expired_count (hop_at s to) now in
+    let outcome : Outcome = pick_outcome len s.params (hop_at s to) now in
+    let rest : List (Item P) = drop outcome.dropped (drop late (hop_at s to).queue) in
+    subst (Flows (hop_at s hop) (hop_at (accept s to (after_pick len s.params (hop_at s to) now)) hop))
+    (sym (picked_by_pick hop to now (hop_at s to) (hop_at s hop) late outcome.dropped rest
+    (λ same. sym (ap (λ n. get_or s.hops (n - 1) new_hop) same))
+    (prefix_len-le-length (is_expired (max now (hop_at s to).moment)) (hop_at s to).queue) refl))
+    (flows_at s hop to (after_pick len s.params (hop_at s to) now) (picked_of (next_number (hop_at s to)) rest) there
+    may.hop_from may.hop_to
+    (flows_expired (hop_at s to) (after_pick len s.params (hop_at s to) now) late
+    (picked_of (next_number (hop_at s to)) rest)
+    (flows_picked (with_expired (hop_at s to) late) now outcome rest refl)))))
 flows_step {P} len s (Release to number) hop there =
     either_way len s (Release to number) (release_refusal s to number) _ refl
     (λ after reply. Flows (hop_at s hop) (hop_at after hop) (picked_by hop (hop_at s hop) (Release to number) reply))

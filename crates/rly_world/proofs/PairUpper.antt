@@ -20,7 +20,7 @@ use Rattle.rly_machine.specs.Accepted.{accept, is_accepted}
 use Rattle.rly_machine.specs.Ask.{ask_step}
 use Rattle.rly_machine.specs.Fold.{fold}
 use Rattle.rly_machine.specs.History.{accepted_by, is_failure}
-use Rattle.rly_machine.specs.Pick.{outcome_of, pick_refusal, with_picked}
+use Rattle.rly_machine.specs.Pick.{after_pick, pick_refusal}
 use Rattle.rly_machine.specs.Query.{query_reply}
 use Rattle.rly_machine.specs.Release.{covered_count, release_refusal, with_released}
 use Rattle.rly_machine.specs.State.{HopState, State, has_hop, hop_at, new_state}
@@ -97,7 +97,7 @@ upper_later hop kept rest e s below up = record {
 -- a command releases at the hop only what the lower has taken
 abbrev pub ReleasesKept : HopId → ℕ → Command (List ℕ) → Type 0
 ReleasesKept hop kept (Release to number) = to.0 ≡ hop.0 → number ≤ kept
-ReleasesKept hop kept (Take from number to stamp payload) = Unit {0}
+ReleasesKept hop kept (Take from number to stamp limit payload) = Unit {0}
 ReleasesKept hop kept (Pick to now) = Unit {0}
 
 released_at : (s : State (List ℕ)) (hop to : HopId) (h : HopState (List ℕ)) (kept : ℕ) → 0 < hop.0 → 0 < to.0
@@ -113,21 +113,20 @@ released_at s hop to h kept hop_from from below old new = elim (cases_eq to.0 ho
 released_step : (s : State (List ℕ)) (c : Command (List ℕ)) (hop : HopId) (kept : ℕ) → 0 < hop.0
     → ReleasesKept hop kept c
     → (hop_at s hop).released ≤ kept → (hop_at (step length s c).0 hop).released ≤ kept
-released_step s (Take from number to stamp payload) hop kept there only old =
-    either_way length s (Take from number to stamp payload)
-    (take_refusal length s from number to stamp (length payload)) _ refl
+released_step s (Take from number to stamp limit payload) hop kept there only old =
+    either_way length s (Take from number to stamp limit payload)
+    (take_refusal length s from number to stamp limit (length payload)) _ refl
     (λ after reply. (hop_at after hop).released ≤ kept) (λ reply refuses. old)
-    (λ none. (let may = may_take length s from number to stamp (length payload) none in
-    released_at s hop to (with_taken (hop_at s to) (s.seq + 1) stamp payload) kept there may.hop_from may.hop_to old
+    (λ none. (let may = may_take length s from number to stamp limit (length payload) none in
+    released_at s hop to (with_taken (hop_at s to) (s.seq + 1) stamp limit payload) kept there may.hop_from
+    may.hop_to old
     (λ same. (let here : (hop_at s to).released ≡ (hop_at s hop).released = ap
     (λ n. (let id : HopId = record { 0 = n } in (hop_at s id).released)) same in omega (arith, here, old)))))
 released_step s (Pick to now) hop kept there only old =
     either_way length s (Pick to now) (pick_refusal s to now) _ refl
     (λ after reply. (hop_at after hop).released ≤ kept) (λ reply refuses. old)
     (λ none. (let may = may_pick s to now none in
-    released_at s hop to
-    (with_picked (hop_at s to) now
-    (outcome_of length s.params (hop_at s to) now)) kept there may.hop_from may.hop_to old
+    released_at s hop to (after_pick length s.params (hop_at s to) now) kept there may.hop_from may.hop_to old
     (λ same. (let here : (hop_at s to).released ≡ (hop_at s hop).released = ap
     (λ n. (let id : HopId = record { 0 = n } in (hop_at s id).released)) same in omega (arith, here, old)))))
 released_step s (Release to number) hop kept there only old =
@@ -145,14 +144,14 @@ AskReleasesKept hop kept (ask.Query q) = Unit {0}
 
 pub own_releases : (hop : HopId) (kept : ℕ) (an : Ask) → IsSafeAsk hop kept an → AskReleasesKept hop kept an
 own_releases hop kept (ask.Command (Release to number)) safe = λ same. safe
-own_releases hop kept (ask.Command (Take peer number to stamp payload)) safe = tt
+own_releases hop kept (ask.Command (Take peer number to stamp limit payload)) safe = tt
 own_releases hop kept (ask.Command (Pick to now)) safe = tt
 own_releases hop kept (ask.Query q) safe = tt
 
 pub others_release : (hop : HopId) (kept : ℕ) (an : Ask) → is_for_sender hop an ≡ false → AskReleasesKept hop kept an
 others_release hop kept (ask.Command (Release to number)) other = λ same. absurd
     (true≢false (sym (eq-eqb to.0 hop.0 same) ∙ other))
-others_release hop kept (ask.Command (Take peer number to stamp payload)) other = tt
+others_release hop kept (ask.Command (Take peer number to stamp limit payload)) other = tt
 others_release hop kept (ask.Command (Pick to now)) other = tt
 others_release hop kept (ask.Query q) other = tt
 
@@ -204,12 +203,12 @@ upper_called hop kept e s an outcome releases up =
 
 -- what the machine replies to a call of the sending core is safe to tell
 told_of : (xs : List (Numbered (List ℕ))) (an : Ask) (r : Reply)
-    → ((payload : List ℕ) → r ≡ reply.Bytes payload → IsSafeEvent xs 0 (fetched_event an payload))
+    → ((payload : List ℕ) (limit : ℕ) → r ≡ reply.Bytes payload limit → IsSafeEvent xs 0 (fetched_event an payload))
     → IsSafeEvent xs 0 (sender_event an r)
-told_of xs an (reply.Bytes payload) bytes = bytes payload refl
+told_of xs an (reply.Bytes payload limit) bytes = bytes payload limit refl
 told_of xs an (reply.WindowIs first next) bytes = tt
-told_of xs an (reply.Picked number id dropped) bytes = tt
-told_of xs an reply.Nothing bytes = tt
+told_of xs an (reply.Picked number id expired dropped) bytes = tt
+told_of xs an (reply.Nothing expired) bytes = tt
 told_of xs an (reply.Released count) bytes = tt
 told_of xs an reply.Unchanged bytes = tt
 told_of xs an (reply.Refused refusal) bytes = tt
@@ -224,20 +223,20 @@ machine_told : (hop : HopId) (kept : ℕ) (params : Params) (accepted : List (Co
 machine_told hop kept params accepted (ask.Query (query.Fetch to number)) there safe =
     told_of (picked length hop (new_state params) accepted) (ask.Query (query.Fetch to number))
     (query_reply (fold length (new_state params) accepted) (query.Fetch to number))
-    (λ payload is. fetched_is_picked (fold length (new_state params) accepted) hop number payload
+    (λ payload limit is. fetched_is_picked (fold length (new_state params) accepted) hop number payload limit
     (picked length hop (new_state params) accepted)
     (flows_from_new length params accepted hop there)
     (subst (λ (h : HopId). query_reply (fold length (new_state params) accepted)
-    (query.Fetch h number) ≡ reply.Bytes payload) safe is))
+    (query.Fetch h number) ≡ reply.Bytes payload limit) safe is))
 machine_told hop kept params accepted (ask.Query (query.Window to)) there safe =
     told_of (picked length hop (new_state params) accepted) (ask.Query (query.Window to))
-    (query_reply (fold length (new_state params) accepted) (query.Window to)) (λ payload is. tt)
+    (query_reply (fold length (new_state params) accepted) (query.Window to)) (λ payload limit is. tt)
 machine_told hop kept params accepted (ask.Query (query.Show to)) there safe =
     told_of (picked length hop (new_state params) accepted) (ask.Query (query.Show to))
-    (query_reply (fold length (new_state params) accepted) (query.Show to)) (λ payload is. tt)
+    (query_reply (fold length (new_state params) accepted) (query.Show to)) (λ payload limit is. tt)
 machine_told hop kept params accepted (ask.Command c) there safe =
     told_of (picked length hop (new_state params) accepted) (ask.Command c)
-    (step length (fold length (new_state params) accepted) c).1 (λ payload is. tt)
+    (step length (fold length (new_state params) accepted) c).1 (λ payload limit is. tt)
 
 -- the accepted commands begin those after a call, and what was given stays
 pub called_front : (e : End) (an : Ask) (outcome : Outcome)
@@ -343,10 +342,10 @@ upper_told hop kept e s r position within up =
 -- what the core is told is then given for good
 failed_told : (xs : List (Numbered (List ℕ))) (an : Ask) (r : Reply) → is_failure r ≡ true
     → IsSafeEvent xs 0 (sender_event an r)
-failed_told xs an (reply.Bytes payload) fails = absurd (true≢false (sym fails))
+failed_told xs an (reply.Bytes payload limit) fails = absurd (true≢false (sym fails))
 failed_told xs an (reply.WindowIs first next) fails = tt
-failed_told xs an (reply.Picked number id dropped) fails = tt
-failed_told xs an reply.Nothing fails = tt
+failed_told xs an (reply.Picked number id expired dropped) fails = tt
+failed_told xs an (reply.Nothing expired) fails = tt
 failed_told xs an (reply.Released count) fails = tt
 failed_told xs an reply.Unchanged fails = tt
 failed_told xs an (reply.Refused refusal) fails = tt

@@ -13,7 +13,7 @@ use Rattle.rly_machine.specs.declared.command.Command.TheVariants.{Pick, Release
 use Rattle.rly_machine.specs.declared.reply.Reply.{Reply}
 use Rattle.rly_machine.specs.Accepted.{accept, is_accepted, unless}
 use Rattle.rly_machine.specs.Fold.{AllAccepted, fold}
-use Rattle.rly_machine.specs.Pick.{outcome_of, pick_refusal, with_picked}
+use Rattle.rly_machine.specs.Pick.{after_pick, pick_refusal}
 use Rattle.rly_machine.specs.Release.{covered_count, release_refusal, with_released}
 use Rattle.rly_machine.specs.Sound.{IsSoundHop}
 use Rattle.rly_machine.specs.State.{HopState, State, has_hop, hop_at, new_hop, new_state}
@@ -77,17 +77,17 @@ released_own s to hop number after some left = elim (cases_eq to.0 hop.0) [
       ∙ sym (ap (λ b. cond b (max (hop_at s hop).released number) (hop_at s hop).released) (ne_eqb to.0 hop.0 differs))
 ]
 
-released_take : (s : State (List ℕ)) (peer : PeerId) (number : ℕ) (to : HopId) (stamp : ℕ) (payload : List ℕ)
+released_take : (s : State (List ℕ)) (peer : PeerId) (number : ℕ) (to : HopId) (stamp limit : ℕ) (payload : List ℕ)
     (hop : HopId) → 0 < hop.0
-    → is_accepted (step length s (Take peer number to stamp payload)).1 ≡ true
-    → (hop_at (step length s (Take peer number to stamp payload)).0 hop).released ≡ (hop_at s hop).released
-released_take s peer number to stamp payload hop from accepts =
-    let none = unrefused (take_refusal length s peer number to stamp (length payload)) s _
-    (counted length s (Take peer number to stamp payload) accepts) in
-    let may = may_take length s peer number to stamp (length payload) none in
-    through (take_refusal length s peer number to stamp (length payload)) s _ hop (hop_at s hop).released none
+    → is_accepted (step length s (Take peer number to stamp limit payload)).1 ≡ true
+    → (hop_at (step length s (Take peer number to stamp limit payload)).0 hop).released ≡ (hop_at s hop).released
+released_take s peer number to stamp limit payload hop from accepts =
+    let none = unrefused (take_refusal length s peer number to stamp limit (length payload)) s _
+    (counted length s (Take peer number to stamp limit payload) accepts) in
+    let may = may_take length s peer number to stamp limit (length payload) none in
+    through (take_refusal length s peer number to stamp limit (length payload)) s _ hop (hop_at s hop).released none
     (released_still s to hop _
-    (released_at s to hop (with_taken (hop_at s to) (s.seq + 1) stamp payload) (set s.lasts (peer.0 - 1) number)
+    (released_at s to hop (with_taken (hop_at s to) (s.seq + 1) stamp limit payload) (set s.lasts (peer.0 - 1) number)
     may.hop_from may.hop_to from))
 
 released_pick : (s : State (List ℕ)) (to : HopId) (now : ℕ) (hop : HopId) → 0 < hop.0
@@ -98,8 +98,7 @@ released_pick s to now hop from accepts =
     let may = may_pick s to now none in
     through (pick_refusal s to now) s _ hop (hop_at s hop).released none
     (released_still s to hop _
-    (released_at s to hop (with_picked (hop_at s to) now (outcome_of length s.params (hop_at s to) now)) s.lasts
-    may.hop_from may.hop_to from))
+    (released_at s to hop (after_pick length s.params (hop_at s to) now) s.lasts may.hop_from may.hop_to from))
 
 released_release : (s : State (List ℕ)) (to : HopId) (number : ℕ) (hop : HopId) → 0 < hop.0
     → is_accepted (step length s (Release to number)).1 ≡ true
@@ -124,9 +123,10 @@ one_more false released number numbers = refl
 released_all : (s : State (List ℕ)) (commands : Commands) (hop : HopId) → 0 < hop.0 → AllAccepted length s commands
     → (hop_at (fold length s commands) hop).released ≡ greatest_of (hop_at s hop).released (releases_of hop commands)
 released_all s [] hop from all = refl
-released_all s (Take peer number to stamp payload ∷ commands) hop from all =
-    released_all (step length s (Take peer number to stamp payload)).0 commands hop from all.1
-    ∙ ap (λ r. greatest_of r (releases_of hop commands)) (released_take s peer number to stamp payload hop from all.0)
+released_all s (Take peer number to stamp limit payload ∷ commands) hop from all =
+    released_all (step length s (Take peer number to stamp limit payload)).0 commands hop from all.1
+    ∙ ap (λ r. greatest_of r (releases_of hop commands))
+    (released_take s peer number to stamp limit payload hop from all.0)
 released_all s (Pick to now ∷ commands) hop from all =
     released_all (step length s (Pick to now)).0 commands hop from all.1
     ∙ ap (λ r. greatest_of r (releases_of hop commands)) (released_pick s to now hop from all.0)

@@ -27,10 +27,10 @@ unrefused (Some reply) s accepted counts = absurd (omega (arith, counts))
 
 pub accepted_record : (s : State (List ℕ)) (command : Command (List ℕ)) → IsSound length s
     → is_accepted (step length s command).1 ≡ true → HasRecord command
-accepted_record s (Take peer number hop stamp payload) sound accepts =
-    let may = may_take length s peer number hop stamp (length payload)
-    (unrefused (take_refusal length s peer number hop stamp (length payload)) s _
-    (counted length s (Take peer number hop stamp payload) accepts)) in
+accepted_record s (Take peer number hop stamp limit payload) sound accepts =
+    let may = may_take length s peer number hop stamp limit (length payload)
+    (unrefused (take_refusal length s peer number hop stamp limit (length payload)) s _
+    (counted length s (Take peer number hop stamp limit payload) accepts)) in
     let place : peer.0 - 1 < length s.lasts = omega (arith, may.peer_from, may.peer_to) in
     let last : last_at s peer ≤ s.seq = All-get_or (λ last. last ≤ s.seq) s.lasts (peer.0 - 1) 0 place sound.lasts in (
       omega (arith, may.peer_to, sound.peer_count, sound.params.peers),
@@ -38,6 +38,13 @@ accepted_record s (Take peer number hop stamp payload) sound accepts =
       omega (arith, may.hop_to, sound.hop_count, sound.params.hops),
       omega (arith, may.moment),
       may.short,
+      λ limited. record {
+        peer = omega (arith, may.peer_to, sound.peer_count, sound.params.peers);
+        number = omega (arith, may.next, may.seq, last);
+        hop = omega (arith, may.hop_to, sound.hop_count, sound.params.hops);
+        stamp = omega (arith, may.moment);
+        limit = may.limit;
+      },
     )
 accepted_record s (Pick hop now) sound accepts =
     let may = may_pick s hop now (unrefused (pick_refusal s hop now) s _ (counted length s (Pick hop now) accepts)) in

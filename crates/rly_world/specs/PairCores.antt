@@ -35,11 +35,11 @@ sender_sends (Some (out_action.Fetch number)) = []
 sender_sends (Some out_action.Pick) = []
 sender_sends None = []
 
--- the call that a receiving core names for a peer, of a datagram for this hop with this stamp; and the message that it
--- sends
+-- the call that a receiving core names for a peer, of a datagram for this hop with this stamp and without a limit; and
+-- the message that it sends
 abbrev pub receiver_asks : PeerId → HopId → ℕ → Option (InAction (List ℕ)) → List Ask
 receiver_asks peer hop stamp (Some (in_action.Take number payload)) =
-    Command (command.Take peer number hop stamp payload) ∷ []
+    Command (command.Take peer number hop stamp 0 payload) ∷ []
 receiver_asks peer hop stamp (Some (in_action.Send m)) = []
 receiver_asks peer hop stamp None = []
 
@@ -58,9 +58,9 @@ fetched_event (Command any) payload = event.Other
 -- what a sending core is told of the reply to its call
 abbrev pub sender_event : Ask → Reply → OutEvent (List ℕ)
 sender_event ask (reply.WindowIs first next) = event.WindowIs first next
-sender_event ask (reply.Picked number id dropped) = event.Picked number
-sender_event ask reply.Nothing = event.Nothing
-sender_event ask (reply.Bytes payload) = fetched_event ask payload
+sender_event ask (reply.Picked number id expired dropped) = event.Picked number
+sender_event ask (reply.Nothing expired) = event.Nothing
+sender_event ask (reply.Bytes payload limit) = fetched_event ask payload
 sender_event ask (reply.Released count) = event.Released
 sender_event ask reply.Unchanged = event.Unchanged
 sender_event ask (reply.Refused refusal) = event.Refused refusal
@@ -73,11 +73,11 @@ abbrev pub take_answer : Reply → TakeAnswer
 take_answer (reply.Taken id) = answer.Taken
 take_answer (reply.Already last) = answer.Already last
 take_answer (reply.Refused refusal) = answer.Refused refusal
-take_answer (reply.Picked number id dropped) = answer.Other
-take_answer reply.Nothing = answer.Other
+take_answer (reply.Picked number id expired dropped) = answer.Other
+take_answer (reply.Nothing expired) = answer.Other
 take_answer (reply.Released count) = answer.Other
 take_answer reply.Unchanged = answer.Other
-take_answer (reply.Bytes payload) = answer.Other
+take_answer (reply.Bytes payload limit) = answer.Other
 take_answer (reply.WindowIs first next) = answer.Other
 take_answer (reply.Shown status) = answer.Other
 
@@ -85,12 +85,12 @@ take_answer (reply.Shown status) = answer.Other
 abbrev pub is_for_sender : HopId → Ask → Bool
 is_for_sender hop (Command (command.Pick to now)) = to.0 == hop.0
 is_for_sender hop (Command (command.Release to number)) = to.0 == hop.0
-is_for_sender hop (Command (command.Take peer number to stamp payload)) = false
+is_for_sender hop (Command (command.Take peer number to stamp limit payload)) = false
 is_for_sender hop (Query any) = false
 
 -- the calls that the receiving cores of a peer alone make: its Takes
 abbrev pub is_for_receiver : PeerId → Ask → Bool
-is_for_receiver peer (Command (command.Take from number hop stamp payload)) = from.0 == peer.0
+is_for_receiver peer (Command (command.Take from number hop stamp limit payload)) = from.0 == peer.0
 is_for_receiver peer (Command (command.Pick to now)) = false
 is_for_receiver peer (Command (command.Release to number)) = false
 is_for_receiver peer (Query any) = false

@@ -94,7 +94,7 @@ reply_at e ask = (ask_step (state_of e) ask).1
 
 -- whether a reply carries bytes
 abbrev pub carries_bytes : Reply → Bool
-carries_bytes (Bytes payload) = nat_lt 0 (length payload)
+carries_bytes (Bytes payload limit) = nat_lt 0 (length payload)
 carries_bytes _ = false
 
 -- whether memory may be refused to an ask: to a command, before which a segment may be due, and to a Fetch of a payload

@@ -37,9 +37,9 @@ exchange_setup = record {
   receivers = 1;
 }
 
--- the upper takes a datagram of one byte from its own peer
+-- the upper takes a datagram of one byte, without a limit, from its own peer
 abbrev pub comes_in : ℕ → PairEvent
-comes_in n = UpperServes (Command (Take (record { 0 = 1 }) n (record { 0 = 1 }) 0 (n ∷ []))) Done true
+comes_in n = UpperServes (Command (Take (record { 0 = 1 }) n (record { 0 = 1 }) 0 0 (n ∷ []))) Done true
 
 -- the sending core names a call, which is made and answered
 abbrev pub one_call : List PairEvent

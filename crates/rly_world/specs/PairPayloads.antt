@@ -22,7 +22,7 @@ payloads_of items = map (λ item. item.payload) items
 
 -- what a command took from a peer, by its reply
 abbrev pub taken_by : {P : Type 0} → PeerId → Command P → Reply → List (Numbered P)
-taken_by peer (Take from number to stamp payload) (Taken id) =
+taken_by peer (Take from number to stamp limit payload) (Taken id) =
     if from.0 == peer.0 then (record { number = number; payload = payload }) ∷ [] else []
 taken_by peer _ _ = []
 
@@ -32,11 +32,13 @@ taken len peer s [] = []
 taken len peer s (command ∷ commands) =
     taken_by peer command (step len s command).1 ++ taken len peer (step len s command).0 commands
 
--- what a command put into the flight of a hop, by its reply: the first that waits after those dropped
+-- what a command put into the flight of a hop, by its reply: the first that waits after those expired and
+-- dropped
 abbrev pub picked_by : {P : Type 0} → HopId → HopState P → Command P → Reply → List (Numbered P)
-picked_by hop h (Pick to now) (Picked number id dropped) =
+picked_by hop h (Pick to now) (Picked number id expired dropped) =
     if to.0 == hop.0
-    then map (λ item. record { number = number; payload = item.payload }) (take 1 (drop (length dropped) h.queue))
+    then map (λ item. record { number = number; payload = item.payload })
+    (take 1 (drop (length dropped) (drop (length expired) h.queue)))
     else []
 picked_by hop h _ _ = []
 

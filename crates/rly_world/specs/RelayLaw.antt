@@ -13,7 +13,7 @@ abbrev pub releases_of : HopId → Commands → List ℕ
 releases_of hop [] = []
 releases_of hop (Release to number ∷ commands) =
     if to.0 == hop.0 then number ∷ releases_of hop commands else releases_of hop commands
-releases_of hop (Take peer number to stamp payload ∷ commands) = releases_of hop commands
+releases_of hop (Take peer number to stamp limit payload ∷ commands) = releases_of hop commands
 releases_of hop (Pick to now ∷ commands) = releases_of hop commands
 
 -- the greatest of a number and others
@@ -22,15 +22,16 @@ greatest_of n [] = n
 greatest_of n (m ∷ numbers) = greatest_of (max n m) numbers
 
 -- the books of a hop after accepted commands of a new spool: each id that was taken is in the queue, in flight, among
--- the dropped ids of one Pick, or released; what is released went into flight under a number up to the greatest that a
--- Release covered; and the counts add up
+-- the dropped or among the expired ids of one Pick, or released; what is released went into flight under a number up
+-- to the greatest that a Release covered; and the counts add up
 pub record KeepsBooks (params : Params) (commands : Commands) (hop : HopId) : Type 0 where
   pub custody : KeepsCustody (hop_at (state_from params commands) hop)
       (account_along length hop (new_state params) commands)
   pub released : (hop_at (state_from params commands) hop).released ≡ greatest_of 0 (releases_of hop commands)
   pub balance : (hop_at (state_from params commands) hop).taken
       ≡ length (hop_at (state_from params commands) hop).queue + length (hop_at (state_from params commands) hop).flight
-      + (hop_at (state_from params commands) hop).dropped + (hop_at (state_from params commands) hop).released
+      + (hop_at (state_from params commands) hop).dropped + (hop_at (state_from params commands) hop).expired
+      + (hop_at (state_from params commands) hop).released
 
 -- an image stands for the state after the first n accepted commands, which count n; no answer that was put has a later
 -- position; and the books of each hop are kept

@@ -41,14 +41,15 @@ pub fn law_flight<C: Content>()
         → IsPrefix (picked C.length_of hop (new_state params) commands) (picked C.length_of hop (new_state params) (commands ++ more)) }
 {}
 
-/// What an accepted Pick put into flight is what a Fetch of its number gives, at once and after any further commands, until
-/// it is released.
+/// What an accepted Pick put into flight is what a Fetch of its number gives, with one limit, at once and after any further
+/// commands, until it is released.
 pub fn law_fetch()
-    ensures { (params : Params) (commands more : List (Command (List ℕ))) (hop : HopId) (k : ℕ) (one : Numbered (List ℕ))
+    ensures { (params : Params) (commands : List (Command (List ℕ))) (hop : HopId) (k : ℕ) (one : Numbered (List ℕ))
         → IsTrue (has_hop (new_state {P = List ℕ} params) hop)
         → slice_get (picked length hop (new_state params) commands) k ≡ Some one
+        → (limit : ℕ) × ((more : List (Command (List ℕ)))
         → (hop_at (fold length (new_state params) (commands ++ more)) hop).released < one.number
-        → query_reply (fold length (new_state params) (commands ++ more)) (Query.Fetch hop one.number) ≡ Reply.Bytes one.payload }
+        → query_reply (fold length (new_state params) (commands ++ more)) (Query.Fetch hop one.number) ≡ Reply.Bytes one.payload limit) }
 {}
 
 /// Two relays, both new at first, over any list of events. What the lower has taken from the upper, in order and with its

@@ -62,6 +62,7 @@ fn one_waiting(alloc: Global) -> Result<Pair, Fail> {
         number: 1,
         hop: HopId(1),
         stamp: 0,
+        limit: 0,
         payload: Payload::new(vec![in alloc; 0x41u8; 1_200]?),
     };
     pair.step(

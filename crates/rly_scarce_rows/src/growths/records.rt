@@ -1,7 +1,7 @@
 //! Records and bodies. What is refused leaves the bytes that are written to as they were.
 
 ghost use Rattle.std.specs.Prelude.{◌≤◌, IfOk};
-ghost use Rattle.rly_record.specs.Spelling.{IsShort};
+ghost use Rattle.rly_record.specs.Spelling.{IsRecordable};
 
 use rly_core::{HopId, PeerId};
 use rly_machine::{Command, Payload};
@@ -23,19 +23,20 @@ const BODY: [u8; 37] = [
 ];
 
 fn take(alloc: Global) -> Result<Command<Payload>, AllocError>
-    ensures { IfOk result IsShort }
+    ensures { IfOk result IsRecordable }
 {
     Ok(Command::Take {
         peer: PeerId(1),
         number: 1,
         hop: HopId(1),
         stamp: 0,
+        limit: 0,
         payload: Payload::new(vec![in alloc; 0x41u8; 1]?),
     })
 }
 
 fn release() -> Command<Payload>
-    ensures { IsShort result }
+    ensures { IsRecordable result }
 {
     Command::Release {
         hop: HopId(1),
@@ -54,7 +55,7 @@ fn expect_written(rt: &impl Abort, is_written: bool, refused: bool, out: &[u8], 
 
 /// Writes a record of a command.
 fn write_one(rt: &impl Abort, alloc: Global, command: Command<Payload>) -> Result<(), AllocError>
-    requires { IsShort command }
+    requires { IsRecordable command }
 {
     let mut out = Vec::new(alloc);
     before(alloc)?;
@@ -70,8 +71,8 @@ fn write_two(
     first: Command<Payload>,
     second: Command<Payload>,
 ) -> Result<(), AllocError>
-    requires first { IsShort first }
-    requires second { IsShort second }
+    requires first { IsRecordable first }
+    requires second { IsRecordable second }
 {
     let mut out = Vec::new(alloc);
     let commands = [first, second];

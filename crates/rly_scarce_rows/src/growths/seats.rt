@@ -114,6 +114,7 @@ fn take<R: Abort>(rt: &R, alloc: Global, peer: u16) -> Ask {
         number: 1,
         hop: HopId(1),
         stamp: 0,
+        limit: 0,
         payload: Payload::new(payload),
     })
 }

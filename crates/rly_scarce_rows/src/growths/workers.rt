@@ -109,6 +109,7 @@ fn take(
         number: u64::from(number),
         hop: HopId(1),
         stamp: 0,
+        limit: 0,
         payload: Payload::new(payload(alloc, number)?),
     };
     let room = machine.reserve_for(alloc, &command)?;

@@ -7,6 +7,6 @@ use Rattle.rly_checkpoint.proofs.reading.entries_of.Given as goal
 
 abbrev pub invariant-loop : goal.invariant-loop
 invariant-loop g l = record {
-  so_far : with_front l.entries.items (many_at (entry_at g.C.Form.form_at) (l.count - l.counter) l.rest) ≡ many_at (entry_at g.C.Form.form_at) l.count l.bytes;
+  so_far : with_front l.entries.items (many_at (entry_at l.form (g.C.Form.form_at l.form)) (l.count - l.counter) l.rest) ≡ many_at (entry_at l.form (g.C.Form.form_at l.form)) l.count l.bytes;
   room : vec_len l.entries + (l.count - l.counter) ≤ vec_capacity l.entries;
 }

@@ -8,6 +8,6 @@ use Rattle.rly_checkpoint.proofs.reading.hops_of.Given as goal
 
 abbrev pub invariant-loop : goal.invariant-loop
 invariant-loop g l = record {
-  so_far : with_front (map hop_state l.hops.items) (many_at (hop_bytes_at g.C.Form.form_at) (l.count - l.counter) l.rest) ≡ many_at (hop_bytes_at g.C.Form.form_at) l.count l.bytes;
+  so_far : with_front (map hop_state l.hops.items) (many_at (hop_bytes_at l.form (g.C.Form.form_at l.form)) (l.count - l.counter) l.rest) ≡ many_at (hop_bytes_at l.form (g.C.Form.form_at l.form)) l.count l.bytes;
   room : vec_len l.hops + (l.count - l.counter) ≤ vec_capacity l.hops;
 }

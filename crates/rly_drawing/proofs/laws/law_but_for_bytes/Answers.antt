@@ -1,4 +1,5 @@
 use Rattle.rly_drawing.proofs.Blank.{same_inline, same_live, same_moved, same_settled, same_sound, same_spelled}
+use Rattle.rly_drawing.proofs.Storable.{same_storable}
 use Rattle.rly_drawing.proofs.laws.law_but_for_bytes.Goals as goal
 
 pub returns-clause-sound : goal.returns-clause-sound
@@ -6,6 +7,9 @@ returns-clause-sound c = same_sound
 
 pub returns-clause-spelled : goal.returns-clause-spelled
 returns-clause-spelled c = same_spelled
+
+pub returns-clause-fits : goal.returns-clause-fits
+returns-clause-fits c = same_storable
 
 pub returns-clause-inline : goal.returns-clause-inline
 returns-clause-inline c = same_inline

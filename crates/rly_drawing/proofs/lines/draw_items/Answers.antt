@@ -33,7 +33,7 @@ loop-index-preserved g c =
     let n = c.loop-index.index in
     let item = c.live_at-item.result.now in
     let seen = (g.D.Disk.state c.args.disk.now).seen in
-    let carrying : Stored → Item Stored = λ p. record { id = item.id; stamp = item.stamp; payload = p } in
+    let carrying : Stored → Item Stored = λ p. record { id = item.id; stamp = item.stamp; limit = item.limit; payload = p } in
     let lt : n < length part = omega (arith, part_length (live_line h) c.args.from c.args.count c.requires.within, c.loop-index-test.true) in
     let is = part_at (live_line h) c.args.from c.args.count n item c.loop-index-test.true c.live_at-item.ensures in
     record {

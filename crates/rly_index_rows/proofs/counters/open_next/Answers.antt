@@ -4,14 +4,17 @@ use Rattle.rly_core.specs.declared.params.Geometry.{Geometry}
 use Rattle.rly_machine.specs.Sound.{IsSound}
 use Rattle.rly_machine.specs.State.{Spool, State}
 use Rattle.rly_checkpoint.specs.Stored.{stored_form, stored_length}
+use Rattle.rly_checkpoint.specs.declared.head_form.HeadForm.TheVariants.{Second}
 use Rattle.rly_checkpoint.specs.declared.stored.Place.{Place}
 use Rattle.rly_checkpoint.specs.declared.stored.Stored.{Stored}
 use Rattle.rly_places.specs.Places.{live_in}
 use Rattle.rly_places.specs.Room.{drawn_state, inline_bytes}
 use Rattle.rly_places.proofs.Rooms.{live_length}
+use Rattle.rly_segment.specs.Device.{device_length}
 use Rattle.rly_segment.specs.Heads.{IsHeadOf, gate_after}
 use Rattle.rly_moving.specs.Moving.{unread}
 use Rattle.rly_drawing.specs.Drawing.{IsSameButForBytes}
+use Rattle.rly_drawing.proofs.Storable.{drawn_storable}
 use Rattle.rly_index_rows.proofs.Opening.{may_hold, same_gate}
 use Rattle.rly_index_rows.proofs.counters.open_next.Goals as goal
 
@@ -36,6 +39,19 @@ open_segment-requires-clause-head e c =
     let most : 2 ≤ copy.seq + 1 = omega (arith, c.seq-seq.ensures) in
     subst (λ (h : Geometry). IsHeadOf stored_length stored_form h target 2 copy) (sym c.geometry-geometry.ensures)
     (may_hold g target victim 2 s copy same holds.params c.choose-choice.ensures.room sound bytes holds.index.inline (omega arith) most)
+
+pub open_segment-requires-clause-fits : goal.open_segment-requires-clause-fits
+open_segment-requires-clause-fits e c =
+    let g = c.args.index.now.geometry in
+    let s = c.args.index.now.spool.state in
+    let victim : ℕ = c.choose-choice.result.victim in
+    let copy : State Stored = c.in-Ok.copy.state in
+    let drawn : State Stored = drawn_state g victim unread s in
+    let holds = c.law_index.ensures.holds in
+    let same : IsSameButForBytes copy drawn =
+    subst (λ (h : Geometry). IsSameButForBytes copy (drawn_state h victim unread s)) c.geometry-geometry.ensures
+    (subst (λ (m : Spool Stored). IsSameButForBytes copy (drawn_state c.geometry-geometry.result victim unread m.state)) c.machine.ensures c.in-Ok.ensures.lengths) in
+    c.law_but_for_bytes.ensures.fits Second drawn copy (sym same) (drawn_storable Second g (device_length g) victim s holds.layout holds.index.there)
 
 pub moved-requires-clause-victim : goal.moved-requires-clause-victim
 moved-requires-clause-victim e c =

@@ -1,5 +1,6 @@
 use Rattle.std.proofs.Common.{◌≡◌, ◌+◌, ◌∙◌, arith, ap, inl, inr, map, refl, rules, subst, sym, true}
 use Rattle.rly_machine.specs.Step.{NeedsRoom}
+use Rattle.rly_record.proofs.Bodies.{recordable_short}
 use Rattle.rly_checkpoint.specs.Stored.{stored_length}
 use Rattle.rly_grouping.specs.Groups.{record_place}
 use Rattle.rly_grouping.proofs.Records.{place_after}
@@ -10,16 +11,16 @@ use Rattle.rly_journal.proofs.answering.answer_command.Goals as goal
 
 pub overflow_add-next : goal.overflow_add-next
 overflow_add-next c =
-    let yes : c.is_short.result ≡ true = search rules in
+    let yes : c.is_recordable.result ≡ true = search rules in
     let small = place_small c.args.gate c.args.index.now c.args.group.now c.requires.grouping c.requires.room c.law_index.ensures.holds c.requires.ready c.args.command
-    (c.is_short.ensures.yes yes) in
+    (recordable_short c.args.command (c.is_recordable.ensures.yes yes)) in
     omega (arith, small, c.len.ensures)
 
 pub overflow_add-next-2 : goal.overflow_add-next-2
 overflow_add-next-2 c =
-    let yes : c.is_short.result ≡ true = search rules in
+    let yes : c.is_recordable.result ≡ true = search rules in
     let small = place_small c.args.gate c.args.index.now c.args.group.now c.requires.grouping c.requires.room c.law_index.ensures.holds c.requires.ready c.args.command
-    (c.is_short.ensures.yes yes) in
+    (recordable_short c.args.command (c.is_recordable.ensures.yes yes)) in
     omega (arith, small, c.len.ensures, c.record_len.ensures)
 
 pub returns-in_default-clause-told : goal.returns-in_default-clause-told

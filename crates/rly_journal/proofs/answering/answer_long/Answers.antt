@@ -1,29 +1,43 @@
 use Rattle.std.proofs.Common.{◌≡◌, ◌∙◌, false, subst, sym}
 use Rattle.std.proofs.lemmas.Bool.{false≢true}
 use Rattle.rly_machine.specs.Accepted.{is_accepted}
-use Rattle.rly_machine.specs.Step.{step}
+use Rattle.rly_machine.specs.Sound.{IsSound}
+use Rattle.rly_machine.specs.Map.{map_command}
+use Rattle.rly_machine.specs.Step.{NeedsRoom, step}
 use Rattle.rly_checkpoint.specs.Stored.{stored_length}
+use Rattle.rly_checkpoint.specs.declared.stored.Stored.TheVariants.{Inline}
 use Rattle.rly_journal.proofs.Outcomes.{long_refused, long_told}
+use Rattle.rly_journal.proofs.Wanting.{needs_accepts}
 use Rattle.rly_journal.proofs.answering.answer_long.Goals as goal
 
 pub apply-requires-clause-brought : goal.apply-requires-clause-brought
 apply-requires-clause-brought c = λ accepts.
     let refused : is_accepted (step stored_length c.reserve_for.new.self.spool.state c.inlined-placed.result).1 ≡ false =
     subst (λ p. is_accepted (step stored_length c.reserve_for.new.self.spool.state p).1 ≡ false) (sym c.inlined-placed.ensures)
-    (long_refused c.reserve_for.new.self.spool.state c.args.command c.requires.long) in
+    (long_refused c.reserve_for.new.self.spool.state c.args.command
+    (subst (IsSound stored_length) (sym c.in-Ok.ensures.state) c.law_index.ensures.sound) c.requires.long) in
     absurd (false≢true (sym refused ∙ accepts))
 
 pub returns-in-Ok-clause-told : goal.returns-in-Ok-clause-told
 returns-in-Ok-clause-told c =
-    (long_told c.args.index.now.spool.state c.reserve_for.new.self.spool.state c.apply.new.self.spool.state c.args.command c.inlined-placed.result c.apply.result c.requires.long
+    (long_told c.args.index.now.spool.state c.reserve_for.new.self.spool.state c.apply.new.self.spool.state c.args.command c.inlined-placed.result c.apply.result c.law_index.ensures.sound c.requires.long
     c.inlined-placed.ensures c.in-Ok.ensures.state c.apply.ensures.state c.apply.ensures.reply).2
 
 pub returns-in-Ok-clause-refused : goal.returns-in-Ok-clause-refused
 returns-in-Ok-clause-refused c =
-    (long_told c.args.index.now.spool.state c.reserve_for.new.self.spool.state c.apply.new.self.spool.state c.args.command c.inlined-placed.result c.apply.result c.requires.long
+    (long_told c.args.index.now.spool.state c.reserve_for.new.self.spool.state c.apply.new.self.spool.state c.args.command c.inlined-placed.result c.apply.result c.law_index.ensures.sound c.requires.long
     c.inlined-placed.ensures c.in-Ok.ensures.state c.apply.ensures.state c.apply.ensures.reply).0
 
 pub returns-in-Ok-clause-state : goal.returns-in-Ok-clause-state
 returns-in-Ok-clause-state c =
-    (long_told c.args.index.now.spool.state c.reserve_for.new.self.spool.state c.apply.new.self.spool.state c.args.command c.inlined-placed.result c.apply.result c.requires.long
+    (long_told c.args.index.now.spool.state c.reserve_for.new.self.spool.state c.apply.new.self.spool.state c.args.command c.inlined-placed.result c.apply.result c.law_index.ensures.sound c.requires.long
     c.inlined-placed.ensures c.in-Ok.ensures.state c.apply.ensures.state c.apply.ensures.reply).1
+
+-- memory is wanted only for a command that would be accepted
+pub returns-in-Err-clause-told : goal.returns-in-Err-clause-told
+returns-in-Err-clause-told c = λ t alike.
+    let refused : is_accepted (step stored_length c.args.index.now.spool.state (map_command Inline c.args.command)).1 ≡ false =
+    long_refused c.args.index.now.spool.state c.args.command c.law_index.ensures.sound c.requires.long in
+    let needs : NeedsRoom stored_length c.args.index.now.spool (map_command Inline c.args.command) =
+    subst (NeedsRoom stored_length c.args.index.now.spool) c.inlined-placed.ensures c.in-Err.ensures.memory in
+    absurd (false≢true (sym refused ∙ needs_accepts c.args.index.now.spool (map_command Inline c.args.command) needs))

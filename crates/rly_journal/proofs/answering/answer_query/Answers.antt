@@ -1,4 +1,4 @@
-use Rattle.std.proofs.Common.{◌∙◌, ap, subst, sym}
+use Rattle.std.proofs.Common.{◌∙◌, ap, refl, subst, sym}
 use Rattle.rly_machine.specs.declared.call.Answer.{Answer}
 use Rattle.rly_machine.specs.declared.call.Call.{Call}
 use Rattle.rly_machine.specs.declared.command.Ask.TheVariants as ask
@@ -17,9 +17,9 @@ returns-in-Ok-clause-outcome c = λ t alike.
     let lean = item_lean c.args.index.now.geometry c.args.index.now.segment c.args.index.now.used (device_length c.args.index.now.geometry) c.args.index.now.spool.state
     c.law_index.ensures.holds c.law_index.ensures.holds.layout c.in-Fetch.hop c.in-Fetch.custody c.in-Ok.item.now c.in-Ok.ensures.ok in
     subst (λ (q : Query). IsWanted c.args.index.now.geometry (let a : Call = record { seat = c.args.seat; number = c.args.number; ask = ask.Query q } in a)
-    c.args.seat c.args.number c.seq-position.result c.place_of.result c.args.index.now.spool.state t) (sym c.in-Fetch.is)
-    (wanted_there c.args.seat c.args.number c.seq-position.result c.in-Fetch.hop c.in-Fetch.custody c.in-Ok.item.now c.place_of.result c.args.index.now t
-    c.law_index.ensures.holds alike (c.seq-position.ensures ∙ ap (λ m. m.state.seq) c.machine.ensures) c.in-Ok.ensures.ok (c.place_of.ensures lean))
+    c.args.seat c.args.number c.seq-position.result c.in-Ok.item.now.limit c.place_of.result c.args.index.now.spool.state t) (sym c.in-Fetch.is)
+    (wanted_there c.args.seat c.args.number c.seq-position.result c.in-Fetch.hop c.in-Fetch.custody c.in-Ok.item.now c.in-Ok.item.now.limit c.place_of.result c.args.index.now t
+    c.law_index.ensures.holds alike (c.seq-position.ensures ∙ ap (λ m. m.state.seq) c.machine.ensures) c.in-Ok.ensures.ok refl (c.place_of.ensures lean))
 
 pub returns-clause-outcome : goal.returns-clause-outcome
 returns-clause-outcome c = λ t alike.

@@ -1,6 +1,6 @@
 use Rattle.std.proofs.Common.{Ok, length}
 use Rattle.rly_checkpoint.specs.Checkpoint.{state_spelled}
-use Rattle.rly_checkpoint.specs.Stored.{stored_form, stored_length}
+use Rattle.rly_checkpoint.specs.Stored.{stored_length, stored_spelled}
 use Rattle.rly_gate.proofs.Rereading.{only_read}
 use Rattle.rly_segment.specs.Answers.{IsReadNewest}
 use Rattle.rly_segment.specs.Heads.{IsAmbiguous}
@@ -86,18 +86,18 @@ returns-clause-replayed g c honest =
     let header = c.in-Ok.ensures.read honest in
     let newest = read_again (λ image. IsReadNewest image c.in-Ok.geometry (Ok c.in-Ok-newest.newest)) only c.in-Ok-newest.ensures.read honest in
     let head = read_again (λ image. IsReadPlaced image c.in-Ok.geometry c.in-Ok-newest.newest.segment (Ok c.in-Ok-read_placed_head.head)) both c.in-Ok-read_placed_head.ensures.read honest in
-    head_replayed (g.D.Disk.state c.args.disk.now).seen c.in-Ok.geometry c.in-Ok-newest.newest.segment c.in-Ok-read_placed_head.head.generation
+    head_replayed c.in-Ok-read_placed_head.head.form (g.D.Disk.state c.args.disk.now).seen c.in-Ok.geometry c.in-Ok-newest.newest.segment c.in-Ok-read_placed_head.head.generation
     c.in-Ok-read_placed_head.head.gate c.in-Ok-newest.newest.closed c.in-Ok-read_placed_head.head.machine.state c.begin.result
     header.0 header.1 header.2 newest.0 newest.1 head c.in-Ok-read_placed_head.ensures.gate c.begin.ensures.state
 
 pub returns-clause-trace : goal.returns-clause-trace
 returns-clause-trace g c =
     let read = c.in-Ok-read_placed_head.ensures.trace in
-    head_whole g.D.Disk.state c.in-Ok.geometry c.in-Ok-newest.newest.segment (g.D.Disk.state c.args.disk.now).size (length (state_spelled stored_length stored_form c.in-Ok-read_placed_head.head.machine.state))
+    head_whole g.D.Disk.state c.in-Ok.geometry c.in-Ok-newest.newest.segment (g.D.Disk.state c.args.disk.now).size (length (state_spelled stored_length (stored_spelled c.in-Ok-read_placed_head.head.form) c.in-Ok-read_placed_head.head.machine.state))
     c.in-Ok-read_placed_head.head.gate read.0 c.in-Ok.ensures.geometry read.1 c.in-Ok-read_placed_head.ensures.gate c.in-Ok.ensures.trace c.in-Ok-newest.ensures.trace read.2
 
 pub returns-clause-shaped : goal.returns-clause-shaped
 returns-clause-shaped g c =
-    head_shaped (g.D.Disk.state c.args.disk.now).size c.in-Ok.geometry c.in-Ok-newest.newest.segment c.in-Ok-read_placed_head.head.generation
+    head_shaped c.in-Ok-read_placed_head.head.form (g.D.Disk.state c.args.disk.now).size c.in-Ok.geometry c.in-Ok-newest.newest.segment c.in-Ok-read_placed_head.head.generation
     c.in-Ok-read_placed_head.head.gate c.in-Ok-newest.newest.closed c.in-Ok-read_placed_head.head.machine.state c.begin.result
     c.in-Ok.ensures.geometry c.in-Ok-newest.ensures.within c.in-Ok-read_placed_head.ensures.head c.in-Ok-read_placed_head.ensures.gate c.begin.ensures.state

@@ -14,7 +14,7 @@ use Rattle.rly_journal.specs.HelpersJournal.{IsShaped, IsTaggedIn}
 use Rattle.rly_journal.proofs.Drew.{chosen_of, front_leaves, front_of, front_whole, has_drawn, moved_is}
 use Rattle.rly_journal.proofs.Renewed.{behind, renew_durable, renew_kept, renew_leaves, renew_tagged}
 use Rattle.rly_journal.proofs.Rows.{two_tried}
-use Rattle.rly_journal.proofs.Renewing.{head_there, lies_there, moved_gate, renew_room, renew_shape, renewed_tail, victim_there}
+use Rattle.rly_journal.proofs.Renewing.{forms_there, head_there, lies_there, moved_gate, renew_room, renew_shape, renewed_tail, victim_there}
 use Rattle.rly_journal.proofs.Traced.{renewal, renewal_drawn, renewal_undrawn}
 use Rattle.rly_journal.proofs.tail.renew.Goals as goal
 
@@ -27,6 +27,13 @@ open_segment-requires-clause-head g c =
     c.requires.ends c.law_index.ensures.holds c.law_index.ensures.sound c.choose-choice.ensures.target c.choose-choice.ensures.victim c.choose-choice.ensures.may c.choose-choice.ensures.room
     c.machine.ensures c.in-Ok.ensures.lengths c.in-Ok.ensures.drawn c.in-Ok.ensures.trace in
     head_there c.args.tail.now c.args.index.now c.choose-choice.result.target c.choose-choice.result.victim c.in-Ok.copy.state d.drawn_for c.requires.shaped c.requires.full
+
+pub open_segment-requires-clause-fits : goal.open_segment-requires-clause-fits
+open_segment-requires-clause-fits g c =
+    let d = has_drawn g.D.Disk.state c.args.tail.now c.args.index.now c.machine.result.now c.choose-choice.result.target c.choose-choice.result.victim c.in-Ok.copy.state
+    c.requires.ends c.law_index.ensures.holds c.law_index.ensures.sound c.choose-choice.ensures.target c.choose-choice.ensures.victim c.choose-choice.ensures.may c.choose-choice.ensures.room
+    c.machine.ensures c.in-Ok.ensures.lengths c.in-Ok.ensures.drawn c.in-Ok.ensures.trace in
+    forms_there c.args.tail.now c.args.index.now c.choose-choice.result.target c.choose-choice.result.victim c.in-Ok.copy.state d.drawn_for c.requires.shaped c.requires.full
 
 pub moved-requires-clause-gate : goal.moved-requires-clause-gate
 moved-requires-clause-gate g c =

@@ -7,7 +7,7 @@ pub returns-clause-index : goal.returns-clause-index
 returns-clause-index g c = begun
 
 pub returns-clause-kept : goal.returns-clause-kept
-returns-clause-kept g c geometry segment generation s t holds kept = record {
-  alike = begun_alike geometry segment s t kept.alike;
-  bytes = λ honest. settled_stands (g.D.Disk.state c.args.disk.now).seen geometry segment generation s (holds honest) ∙ kept.bytes honest;
+returns-clause-kept g c which geometry segment generation s t holds kept = record {
+  alike = begun_alike which geometry segment s t kept.alike;
+  bytes = λ honest. settled_stands which (g.D.Disk.state c.args.disk.now).seen geometry segment generation s (holds honest) ∙ kept.bytes honest;
 }

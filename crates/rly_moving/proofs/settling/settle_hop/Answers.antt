@@ -1,6 +1,7 @@
 use Rattle.std.proofs.Common.{◌+◌, ◌<◌, ◌≤◌, ℕ, List, arith, length, refl, sym, ap, subst, ◌∙◌}
 use Rattle.rly_machine.specs.State.{hop_at, live_line}
 use Rattle.rly_machine.specs.declared.hop.Item.{Item}
+use Rattle.rly_checkpoint.specs.Widths.{hop_width}
 use Rattle.rly_checkpoint.specs.declared.stored.Stored.{Stored}
 use Rattle.rly_moving.specs.HelpersSettling.{HasBytes, drawn_blank, with_hop}
 use Rattle.rly_moving.proofs.Payloads.{hop_below}
@@ -12,41 +13,41 @@ settle_item-next-requires-clause-live c =
     let s = c.args.machine.now.state in
     let D : Stored → Stored = drawn_blank c.args.geometry.now c.args.victim in
     let line = live_line (hop_at s c.args.hop) in
-    let is = line_is D s c.args.hop (hop_below s c.args.hop c.requires.there) c.loop-index.index (c.args.at + 71) c.loop-index.machine.state c.loop-index.invariant.state in
-    omega (arith, ap (λ (l : List (Item Stored)). length l) is, moved_length D c.loop-index.index (c.args.at + 71) line, c.loop-index-test.true, c.live_count-count.ensures)
+    let is = line_is c.args.form D s c.args.hop (hop_below s c.args.hop c.requires.there) c.loop-index.index (c.args.at + hop_width c.args.form) c.loop-index.machine.state c.loop-index.invariant.state in
+    omega (arith, ap (λ (l : List (Item Stored)). length l) is, moved_length c.args.form D c.loop-index.index (c.args.at + hop_width c.args.form) line, c.loop-index-test.true, c.live_count-count.ensures)
 
 pub settle_item-next-requires-clause-bytes : goal.settle_item-next-requires-clause-bytes
 settle_item-next-requires-clause-bytes c item found =
     let s = c.args.machine.now.state in
     let D : Stored → Stored = drawn_blank c.args.geometry.now c.args.victim in
-    let is = item_is D s c.args.hop (hop_below s c.args.hop c.requires.there) c.loop-index.index (c.args.at + 71) c.loop-index.machine.state c.loop-index.invariant.state item found in
+    let is = item_is c.args.form D s c.args.hop (hop_below s c.args.hop c.requires.there) c.loop-index.index (c.args.at + hop_width c.args.form) c.loop-index.machine.state c.loop-index.invariant.state item found in
     subst (λ (x : Item Stored). HasBytes x.payload) (sym is) (c.requires.bytes c.loop-index.index item (omega (arith, c.loop-index-test.true, c.live_count-count.ensures)))
 
 pub settle_item-next-requires-clause-fits : goal.settle_item-next-requires-clause-fits
 settle_item-next-requires-clause-fits c =
     let h = hop_at c.args.machine.now.state c.args.hop in
     let D : Stored → Stored = drawn_blank c.args.geometry.now c.args.victim in
-    omega (arith, c.loop-index.invariant.next, past_within D c.loop-index.index (c.args.at + 71) (live_line h), size_of_hop D h, c.requires.fits)
+    omega (arith, c.loop-index.invariant.next, past_within c.args.form D c.loop-index.index (c.args.at + hop_width c.args.form) (live_line h), size_of_hop c.args.form D h, c.requires.fits)
 
 pub loop-index-init : goal.loop-index-init
 loop-index-init c =
     let s = c.args.machine.now.state in
-    record { state = sym (ap (with_hop s c.args.hop) (lined_self (hop_at s c.args.hop)) ∙ with_own s c.args.hop); next = refl }
+    record { state = sym (ap (with_hop s c.args.hop) (lined_self (hop_at s c.args.hop)) ∙ with_own s c.args.hop); next = omega (arith, c.hop_len.ensures) }
 
 pub loop-index-preserved : goal.loop-index-preserved
 loop-index-preserved c =
     let s = c.args.machine.now.state in
     let D : Stored → Stored = drawn_blank c.args.geometry.now c.args.victim in
     let n = c.loop-index.index in
-    let at : ℕ = c.args.at + 71 in
+    let at : ℕ = c.args.at + hop_width c.args.form in
     let line = live_line (hop_at s c.args.hop) in
     let below = hop_below s c.args.hop c.requires.there in
     let item = c.settle_item-next.ensures.0 in
-    let found = item_is D s c.args.hop below n at c.loop-index.machine.state c.loop-index.invariant.state item c.settle_item-next.ensures.1 in
+    let found = item_is c.args.form D s c.args.hop below n at c.loop-index.machine.state c.loop-index.invariant.state item c.settle_item-next.ensures.1 in
     let lt : n < length line = omega (arith, c.loop-index-test.true, c.live_count-count.ensures) in
     record {
-      state = c.settle_item-next.ensures.2 ∙ item_settled D s c.args.hop below n at c.loop-index.machine.state c.loop-index.invariant.state c.loop-index.next c.loop-index.invariant.next item lt found;
-      next = omega (arith, c.settle_item-next.ensures.3, c.loop-index.invariant.next, past_next D n at line item lt found);
+      state = c.settle_item-next.ensures.2 ∙ item_settled c.args.form D s c.args.hop below n at c.loop-index.machine.state c.loop-index.invariant.state c.loop-index.next c.loop-index.invariant.next item lt found;
+      next = omega (arith, c.settle_item-next.ensures.3, c.loop-index.invariant.next, past_next c.args.form D n at line item lt found);
     }
 
 pub returns-clause-state : goal.returns-clause-state
@@ -56,11 +57,11 @@ returns-clause-state c =
     let D : Stored → Stored = drawn_blank c.args.geometry.now c.args.victim in
     let all : length (live_line h) ≤ c.loop-index.index = omega (arith, c.loop-index-test.false, c.live_count-count.ensures) in
     c.loop-index.invariant.state
-    ∙ ap (with_hop s c.args.hop) (ap (lined h) (moved_all D c.loop-index.index (c.args.at + 71) (live_line h) all) ∙ hop_moved D c.args.at h)
+    ∙ ap (with_hop s c.args.hop) (ap (lined h) (moved_all c.args.form D c.loop-index.index (c.args.at + hop_width c.args.form) (live_line h) all) ∙ hop_moved c.args.form D c.args.at h)
 
 pub returns-clause-next : goal.returns-clause-next
 returns-clause-next c =
     let h = hop_at c.args.machine.now.state c.args.hop in
     let D : Stored → Stored = drawn_blank c.args.geometry.now c.args.victim in
     let all : length (live_line h) ≤ c.loop-index.index = omega (arith, c.loop-index-test.false, c.live_count-count.ensures) in
-    omega (arith, c.loop-index.invariant.next, past_all D c.loop-index.index (c.args.at + 71) (live_line h) all, size_of_hop D h)
+    omega (arith, c.loop-index.invariant.next, past_all c.args.form D c.loop-index.index (c.args.at + hop_width c.args.form) (live_line h) all, size_of_hop c.args.form D h)

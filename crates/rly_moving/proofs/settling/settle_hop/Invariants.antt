@@ -1,5 +1,6 @@
 use Rattle.std.proofs.Common.{◌≡◌, ◌+◌}
 use Rattle.rly_machine.specs.State.{hop_at, live_line}
+use Rattle.rly_checkpoint.specs.Widths.{hop_width}
 use Rattle.rly_moving.specs.HelpersSettling.{drawn_blank, with_hop}
 use Rattle.rly_moving.proofs.Relocations.{first_moved, lined, past}
 use Rattle.rly_moving.proofs.settling.settle_hop.Given as goal
@@ -9,6 +10,6 @@ abbrev pub invariant-loop-index : goal.invariant-loop-index
 invariant-loop-index l = record {
   state : l.machine.state ≡ with_hop l.initial.machine.state l.hop
       (lined (hop_at l.initial.machine.state l.hop)
-      (first_moved (drawn_blank l.geometry l.victim) l.index (l.at + 71) (live_line (hop_at l.initial.machine.state l.hop))));
-  next : l.next ≡ past (drawn_blank l.geometry l.victim) l.index (l.at + 71) (live_line (hop_at l.initial.machine.state l.hop));
+      (first_moved l.form (drawn_blank l.geometry l.victim) l.index (l.at + hop_width l.form) (live_line (hop_at l.initial.machine.state l.hop))));
+  next : l.next ≡ past l.form (drawn_blank l.geometry l.victim) l.index (l.at + hop_width l.form) (live_line (hop_at l.initial.machine.state l.hop));
 }

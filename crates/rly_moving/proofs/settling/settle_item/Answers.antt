@@ -4,11 +4,12 @@ use Rattle.std.proofs.lemmas.Bool.{iff_false}
 use Rattle.rly_machine.specs.Map.{map_item}
 use Rattle.rly_machine.specs.State.{Spool, hop_at, live_line}
 use Rattle.rly_machine.specs.Relocate.{relocated}
+use Rattle.rly_checkpoint.specs.Widths.{entry_width}
 use Rattle.rly_checkpoint.specs.declared.stored.Stored.{Stored}
 use Rattle.rly_checkpoint.specs.declared.stored.Stored.TheVariants.{Placed}
 use Rattle.rly_moving.specs.HelpersSettling.{drawn_blank}
 use Rattle.rly_moving.proofs.Relocations.{entry_size}
-use Rattle.rly_moving.proofs.Payloads.{carried, empty_stays, hop_below, live_short, same_relocated, settles, size_here, size_there, stays_there}
+use Rattle.rly_moving.proofs.Payloads.{carried, empty_stays, entry_short, hop_below, live_short, same_relocated, settles, size_here, size_there, stays_there}
 use Rattle.rly_moving.proofs.settling.settle_item.Goals as goal
 use Rattle.rly_moving.proofs.settling.settle_item.Goals.{then-length-gt0, else-length-gt0}
 
@@ -24,8 +25,8 @@ returns-then-not-stands_inline c =
     let other = iff_false c.stands_inline.ensures c.if-not-stands_inline.true in (
       item,
       c.live_item.ensures,
-      same_relocated s c.args.hop c.args.index item _ c.requires.live c.live_item.ensures (stays_there c.args.geometry.now c.args.victim (c.args.at + 19) item.payload other),
-      omega (arith, size_there c.args.geometry.now c.args.victim item other),
+      same_relocated s c.args.hop c.args.index item _ c.requires.live c.live_item.ensures (stays_there c.args.geometry.now c.args.victim (c.args.at + entry_width c.args.form) item.payload other),
+      omega (arith, size_there c.args.form c.args.geometry.now c.args.victim item other),
     )
 
 pub relocate-requires-clause-live : goal.relocate-requires-clause-live
@@ -37,7 +38,7 @@ relocate-requires-clause-live c =
 pub overflow_add-result-2 : goal.overflow_add-result-2
 overflow_add-result-2 c =
     let s = c.args.machine.now.state in
-    omega (arith, c.requires.fits, c.len-length.ensures, live_short s c.args.hop c.args.index c.live_item.result.now c.law_sound.ensures (hop_below s c.args.hop c.requires.there) c.requires.live c.live_item.ensures)
+    omega (arith, c.requires.fits, c.entry_len.ensures, entry_short c.args.form, c.len-length.ensures, live_short s c.args.hop c.args.index c.live_item.result.now c.law_sound.ensures (hop_below s c.args.hop c.requires.there) c.requires.live c.live_item.ensures)
 
 pub returns : goal.returns
 returns c =
@@ -45,15 +46,18 @@ returns c =
     let g = c.args.geometry.now in
     let item = c.live_item.result.now in
     let here = c.stands_inline.ensures.0 c.if-not-stands_inline.false in
-    let size : c.args.at + 19 + c.from.result ≡ c.args.at + entry_size (map_item (drawn_blank g c.args.victim) item) = omega (arith, size_here g c.args.victim item here, c.from.ensures, c.len-length.ensures) in
+    let start : c.args.at + c.entry_len.result ≡ c.args.at + entry_width c.args.form = omega (arith, c.entry_len.ensures) in
+    let size : c.args.at + c.entry_len.result + c.from.result ≡ c.args.at + entry_size c.args.form (map_item (drawn_blank g c.args.victim) item) =
+    omega (arith, start, size_here c.args.form g c.args.victim item here, c.from.ensures, c.len-length.ensures) in
     elim c.if-length-gt0.branch [
       | then-length-gt0 w ↦ (
         item,
         c.live_item.ensures,
         ap (λ (m : Spool Stored). m.state) w.machine-is ∙ w.relocate.ensures
             ∙ ap (relocated s c.args.hop c.args.index)
-            (ap (λ (n : ℕ). let p : Stored = Placed (record { start = c.args.at + 19; length = n }) in p) c.len-length.ensures
-            ∙ sym (settles g c.args.victim (c.args.at + 19) item.payload here (omega (arith, w.if-length-gt0.true, c.len-length.ensures)))),
+            (ap (λ (n : ℕ). let p : Stored = Placed (record { start = n; length = c.len-length.result }) in p) start
+            ∙ ap (λ (n : ℕ). let p : Stored = Placed (record { start = c.args.at + entry_width c.args.form; length = n }) in p) c.len-length.ensures
+            ∙ sym (settles g c.args.victim (c.args.at + entry_width c.args.form) item.payload here (omega (arith, w.if-length-gt0.true, c.len-length.ensures)))),
         size,
       )
       | else-length-gt0 w ↦ (
@@ -61,7 +65,7 @@ returns c =
         c.live_item.ensures,
         ap (λ (m : Spool Stored). m.state) w.machine-is
             ∙ same_relocated s c.args.hop c.args.index item _ c.requires.live c.live_item.ensures
-            (empty_stays g c.args.victim (c.args.at + 19) item.payload (c.requires.bytes item c.live_item.ensures) (omega (arith, w.if-length-gt0.false, c.len-length.ensures))),
+            (empty_stays g c.args.victim (c.args.at + entry_width c.args.form) item.payload (c.requires.bytes item c.live_item.ensures) (omega (arith, w.if-length-gt0.false, c.len-length.ensures))),
         size,
       )
     ]

@@ -6,7 +6,7 @@ use Rattle.rly_machine.specs.Kept.{hop_state}
 use Rattle.rly_machine.specs.State.{HopState, State, live_line, new_hop}
 use Rattle.rly_machine.specs.declared.hop.Hop.{Hop}
 use Rattle.rly_machine.specs.declared.hop.Item.{Item}
-use Rattle.rly_checkpoint.specs.Stored.{stored_form, stored_length}
+use Rattle.rly_checkpoint.specs.Stored.{stored_length, stored_spelled}
 use Rattle.rly_checkpoint.specs.declared.stored.Stored.{Stored}
 use Rattle.rly_checkpoint.proofs.Sizes.{length-parts}
 use Rattle.rly_places.proofs.Placing.{of_items}
@@ -28,7 +28,7 @@ settle_hop-at-requires-clause-there c =
     (omega (
       arith,
       ap (λ (t : State Stored). length t.hops) c.loop-index.invariant.state,
-      hops_length D c.loop-index.index at s.hops,
+      hops_length c.args.form D c.loop-index.index at s.hops,
       c.loop-index-test.true,
       ap (λ (l : List (HopState Stored)). length l) c.hops.ensures,
       length-map c.hops.result.now view,
@@ -41,7 +41,7 @@ settle_hop-at-requires-clause-bytes c =
     let view : Hop Stored → HopState Stored = hop_state in
     let at : ℕ = segment_place c.args.geometry.now c.args.target + 21 + 8 * length s.lasts in
     let lt : c.loop-index.index < length s.hops = omega (arith, c.loop-index-test.true, ap (λ (l : List (HopState Stored)). length l) c.hops.ensures, length-map c.hops.result.now view) in
-    subst (λ (h : HopState Stored). All (λ (item : Item Stored). HasBytes item.payload) (live_line h)) (sym (hop_is D s c.loop-index.index at c.loop-index.machine.state c.loop-index.invariant.state))
+    subst (λ (h : HopState Stored). All (λ (item : Item Stored). HasBytes item.payload) (live_line h)) (sym (hop_is c.args.form D s c.loop-index.index at c.loop-index.machine.state c.loop-index.invariant.state))
     (of_items HasBytes s.hops (λ k d below. have_bytes c.args.geometry.now (get_or (payloads_of s) k d) (c.requires.lies k d below)) c.loop-index.index new_hop lt)
 
 pub settle_hop-at-requires-clause-fits : goal.settle_hop-at-requires-clause-fits
@@ -54,10 +54,10 @@ settle_hop-at-requires-clause-fits c =
     let lt : c.loop-index.index < length s.hops = omega (arith, c.loop-index-test.true, ap (λ (l : List (HopState Stored)). length l) c.hops.ensures, length-map c.hops.result.now view) in
     omega (
       arith,
-      ap (λ (h : HopState Stored). hop_size D h) (hop_is D s c.loop-index.index at c.loop-index.machine.state c.loop-index.invariant.state),
+      ap (λ (h : HopState Stored). hop_size c.args.form D h) (hop_is c.args.form D s c.loop-index.index at c.loop-index.machine.state c.loop-index.invariant.state),
       c.loop-index.invariant.next,
-      hops_within D c.loop-index.index at s.hops new_hop lt,
-      length-parts stored_length stored_form (drawn_state g c.args.victim unread s),
+      hops_within c.args.form D c.loop-index.index at s.hops new_hop lt,
+      length-parts stored_length (stored_spelled c.args.form) (drawn_state g c.args.victim unread s),
       c.requires.room,
       c.requires.length,
       place_below g c.args.target c.requires.target c.requires.length,
@@ -76,13 +76,13 @@ loop-index-preserved c =
     let at : ℕ = segment_place c.args.geometry.now c.args.target + 21 + 8 * length s.lasts in
     let lt : c.loop-index.index < length s.hops = omega (arith, c.loop-index-test.true, ap (λ (l : List (HopState Stored)). length l) c.hops.ensures, length-map c.hops.result.now view) in
     record {
-      state = c.settle_hop-at.ensures.state ∙ hop_settled D s c.loop-index.index at c.loop-index.machine.state c.loop-index.invariant.state c.loop-index.at c.loop-index.invariant.next lt;
+      state = c.settle_hop-at.ensures.state ∙ hop_settled c.args.form D s c.loop-index.index at c.loop-index.machine.state c.loop-index.invariant.state c.loop-index.at c.loop-index.invariant.next lt;
       next = omega (
         arith,
         c.settle_hop-at.ensures.next,
-        ap (λ (h : HopState Stored). hop_size D h) (hop_is D s c.loop-index.index at c.loop-index.machine.state c.loop-index.invariant.state),
+        ap (λ (h : HopState Stored). hop_size c.args.form D h) (hop_is c.args.form D s c.loop-index.index at c.loop-index.machine.state c.loop-index.invariant.state),
         c.loop-index.invariant.next,
-        hops_past_next D c.loop-index.index at s.hops new_hop lt,
+        hops_past_next c.args.form D c.loop-index.index at s.hops new_hop lt,
       );
     }
 
@@ -93,4 +93,4 @@ returns c =
     let view : Hop Stored → HopState Stored = hop_state in
     let at : ℕ = segment_place c.args.geometry.now c.args.target + 21 + 8 * length s.lasts in
     let all : length s.hops ≤ c.loop-index.index = omega (arith, c.loop-index-test.false, ap (λ (l : List (HopState Stored)). length l) c.hops.ensures, length-map c.hops.result.now view) in
-    c.loop-index.invariant.state ∙ ap (hops_so_far D s c.loop-index.index at s) (hops_all D c.loop-index.index at s.hops all)
+    c.loop-index.invariant.state ∙ ap (hops_so_far c.args.form D s c.loop-index.index at s) (hops_all c.args.form D c.loop-index.index at s.hops all)

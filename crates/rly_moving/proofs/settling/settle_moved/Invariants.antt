@@ -8,7 +8,7 @@ use Rattle.rly_moving.proofs.settling.settle_moved.Given as goal
 abbrev pub invariant-loop-index : goal.invariant-loop-index
 invariant-loop-index l = record {
   state : l.machine.state ≡ record l.initial.machine.state {
-    hops = first_hops (drawn_blank l.geometry l.victim) l.index (segment_place l.geometry l.target + 21 + 8 * length l.initial.machine.state.lasts) l.initial.machine.state.hops;
+    hops = first_hops l.form (drawn_blank l.geometry l.victim) l.index (segment_place l.geometry l.target + 21 + 8 * length l.initial.machine.state.lasts) l.initial.machine.state.hops;
   };
-  next : l.at ≡ hops_past (drawn_blank l.geometry l.victim) l.index (segment_place l.geometry l.target + 21 + 8 * length l.initial.machine.state.lasts) l.initial.machine.state.hops;
+  next : l.at ≡ hops_past l.form (drawn_blank l.geometry l.victim) l.index (segment_place l.geometry l.target + 21 + 8 * length l.initial.machine.state.lasts) l.initial.machine.state.hops;
 }

@@ -2,13 +2,13 @@ use Rattle.std.proofs.Common.{List, ℕ, ◌++◌, ◌∙◌, append_assoc, arit
 use Rattle.std.specs.List.{flat_map}
 use Rattle.byteorder.specs.Endian.{big_bytes}
 use Rattle.rly_record.specs.Spelling.{record_of}
-use Rattle.rly_record.proofs.Bodies.{has_next, have_all, lengths_next, short_at}
+use Rattle.rly_record.proofs.Bodies.{has_next, have_all, lengths_next, recordable_at}
 use Rattle.rly_record.proofs.Written.{written_all, written_next}
 use Rattle.rly_record.proofs.writing.append_body.Goals as goal
 
-pub append_record-requires-clause-short : goal.append_record-requires-clause-short
-append_record-requires-clause-short c =
-    short_at c.args.commands.now c.loop-command.command-index c.command-item.result c.requires.short c.loop-command-test.true c.command-item.is
+pub append_record-requires-clause-recordable : goal.append_record-requires-clause-recordable
+append_record-requires-clause-recordable c =
+    recordable_at c.args.commands.now c.loop-command.command-index c.command-item.result c.requires.recordable c.loop-command-test.true c.command-item.is
 
 pub append_record-requires-clause-room : goal.append_record-requires-clause-room
 append_record-requires-clause-room c =

@@ -27,6 +27,13 @@ loop-answer-preserved-else-index-len-2 c =
     (omega (arith, c.if-index-len.false, c.len.ensures, c.from-index.ensures)) in
     (tt, tt, next.0, next.1)
 
+pub loop-answer-preserved-else-index-len-3 : goal.loop-answer-preserved-else-index-len-3
+loop-answer-preserved-else-index-len-3 c =
+    let next = replies_none c.loop-answer.seats.items c.in-Some.answer (into_iter_items c.loop-answer.answer-iterator) (into_iter_items c.next.new.self)
+    (all_replied (views_of c.args.seats.now.items) c.args.answers.items) c.in-Some.ensures.steps.0 c.loop-answer.invariant.2 c.loop-answer.invariant.3
+    (omega (arith, c.if-index-len.false, c.len.ensures, c.from-index.ensures)) in
+    (tt, tt, next.0, next.1)
+
 pub loop-answer-preserved : goal.loop-answer-preserved
 loop-answer-preserved c =
     let next = replies_none c.loop-answer.seats.items c.in-Some.answer (into_iter_items c.loop-answer.answer-iterator) (into_iter_items c.next.new.self)

@@ -1,6 +1,6 @@
 use Rattle.std.proofs.Common.{rules, ◌≡◌, ◌+◌, ◌∷◌, [], arith, ap, length, refl, sym, true, ◌∙◌}
 use Rattle.std.specs.Prelude.{Some}
-use Rattle.rly_checkpoint.specs.Checkpoint.{state_spelled}
+use Rattle.rly_checkpoint.specs.Checkpoint.{spelled_by, state_spelled}
 use Rattle.rly_disk.specs.Trace.{Read}
 use Rattle.rly_disk.proofs.Making.{quiet_new}
 use Rattle.rly_disk.proofs.Traces.{makes_joined}
@@ -11,21 +11,21 @@ use Rattle.rly_segment.proofs.heads.read_head_of.Goals as goal
 
 pub returns-then-geometry-end-clause-read : goal.returns-then-geometry-end-clause-read
 returns-then-geometry-end-clause-read g c honest =
-    too_long g.C.Content.length_of g.C.Form.form g.C.Form.has_form (g.D.Disk.state c.args.disk.now).seen c.args.geometry.now c.args.segment c.segment_place-place.result c.in-Ok.start.generation c.in-Ok.start.length
+    too_long g.C.Content.length_of g.C.Form.form g.C.Form.has_form (g.D.Disk.state c.args.disk.now).seen c.args.geometry.now c.args.segment c.segment_place-place.result c.in-Ok.start.generation c.in-Ok.start.form c.in-Ok.start.length
     c.requires.geometry.length c.segment_place-place.ensures c.in-Ok.ensures.fits (c.in-Ok.ensures.read honest) (omega arith)
 
 pub returns-in-Err-Malformed-clause-read : goal.returns-in-Err-Malformed-clause-read
 returns-in-Err-Malformed-clause-read g c honest =
     let first = quiet_new g.D.Disk.state c.in-Ok.ensures.trace refl honest (g.met.D.Disk.consistent c.args.disk.now honest) in
-    no_checkpoint g.C.Content.length_of g.C.Form.form g.C.Form.has_form (g.D.Disk.state c.args.disk.now).seen c.args.geometry.now c.args.segment c.segment_place-place.result c.in-Ok.start.generation c.in-Ok.start.length
+    no_checkpoint g.C.Content.length_of g.C.Form.form g.C.Form.has_form (g.D.Disk.state c.args.disk.now).seen c.args.geometry.now c.args.segment c.segment_place-place.result c.in-Ok.start.generation c.in-Ok.start.form c.in-Ok.start.length
     c.requires.geometry.length c.segment_place-place.ensures c.in-Ok.ensures.fits (c.in-Ok.ensures.read honest)
     c.deref.result.now (g.D.Disk.state c.read_start.new.disk).seen first.seen (c.deref.ensures.value ∙ c.in-Ok-read_bytes.ensures.read first.honest)
-    (λ s sound has params same. let refused = c.in-Err-Malformed.ensures.only s sound has params same in absurd cc)
+    (λ s sound has plain params same. let refused = c.in-Err-Malformed.ensures.only s sound has plain params same in absurd cc)
 
 pub returns-then-not-is_generation-clause-read : goal.returns-then-not-is_generation-clause-read
 returns-then-not-is_generation-clause-read g c honest =
     let first = quiet_new g.D.Disk.state c.in-Ok.ensures.trace refl honest (g.met.D.Disk.consistent c.args.disk.now honest) in
-    other_generation g.C.Content.length_of g.C.Form.form g.C.Form.has_form (g.D.Disk.state c.args.disk.now).seen c.args.geometry.now c.args.segment c.segment_place-place.result c.in-Ok.start.generation c.in-Ok.start.length
+    other_generation g.C.Content.length_of g.C.Form.form g.C.Form.has_form (g.D.Disk.state c.args.disk.now).seen c.args.geometry.now c.args.segment c.segment_place-place.result c.in-Ok.start.generation c.in-Ok.start.form c.in-Ok.start.length
     c.requires.geometry.length c.segment_place-place.ensures c.in-Ok.ensures.fits (c.in-Ok.ensures.read honest)
     c.deref.result.now (g.D.Disk.state c.read_start.new.disk).seen first.seen (c.deref.ensures.value ∙ c.in-Ok-read_bytes.ensures.read first.honest)
     c.in-Ok-read_state.machine.state c.in-Ok-read_state.ensures.only
@@ -35,11 +35,11 @@ pub returns-clause-read : goal.returns-clause-read
 returns-clause-read g c honest =
     let first = quiet_new g.D.Disk.state c.in-Ok.ensures.trace refl honest (g.met.D.Disk.consistent c.args.disk.now honest) in
     let within = c.is_generation.ensures.0 (search rules) in
-    holds_head g.C.Content.length_of g.C.Form.form g.C.Form.has_form (g.D.Disk.state c.args.disk.now).seen c.args.geometry.now c.args.segment c.segment_place-place.result c.in-Ok.start.generation c.in-Ok.start.length
+    holds_head g.C.Content.length_of g.C.Form.form g.C.Form.has_form (g.D.Disk.state c.args.disk.now).seen c.args.geometry.now c.args.segment c.segment_place-place.result c.in-Ok.start.generation c.in-Ok.start.form c.in-Ok.start.length
     c.requires.geometry.length c.segment_place-place.ensures c.in-Ok.ensures.fits (c.in-Ok.ensures.read honest)
     c.deref.result.now (g.D.Disk.state c.read_start.new.disk).seen first.seen (c.deref.ensures.value ∙ c.in-Ok-read_bytes.ensures.read first.honest)
     c.in-Ok-read_state.machine.state (ap length c.deref.ensures.value ∙ c.in-Ok-read_bytes.ensures.length) c.in-Ok-read_state.ensures.found c.in-Ok-read_state.ensures.params
-    c.law_sound.ensures (within.0, omega (arith, within.1, c.seq.ensures)) (omega (arith, c.if-geometry-end.false, c.from-end.ensures))
+    c.law_sound.ensures c.in-Ok-read_state.ensures.plain (within.0, omega (arith, within.1, c.seq.ensures)) (omega (arith, c.if-geometry-end.false, c.from-end.ensures))
 
 pub returns-in_default-clause-trace : goal.returns-in_default-clause-trace
 returns-in_default-clause-trace g c = start_read g.D.Disk.state c.segment_place-place.result (segment_place c.args.geometry.now c.args.segment) c.segment_place-place.ensures (search rules)
@@ -68,7 +68,7 @@ returns-then-not-is_generation-clause-trace g c = head_read g.D.Disk.state c.seg
 
 pub returns-clause-trace : goal.returns-clause-trace
 returns-clause-trace g c =
-    let size : c.in-Ok.start.length ≡ length (state_spelled g.C.Content.length_of g.C.Form.form c.in-Ok-read_state.machine.state) =
+    let size : c.in-Ok.start.length ≡ length (state_spelled g.C.Content.length_of (spelled_by g.C.Form.form c.in-Ok.start.form) c.in-Ok-read_state.machine.state) =
     sym c.in-Ok-read_bytes.ensures.length ∙ ap length (sym c.deref.ensures.value ∙ c.in-Ok-read_state.ensures.found) in (
       Some c.in-Ok.start.length,
       ap Some size,

@@ -1,4 +1,6 @@
 use Rattle.std.proofs.Common.{◌∙◌, arith, ap, false, length, rules}
+use Rattle.rly_checkpoint.specs.Checkpoint.{spelled_by}
+use Rattle.rly_checkpoint.specs.declared.head_form.HeadForm.TheVariants.{Second}
 use Rattle.rly_disk.specs.Trace.{Makes}
 use Rattle.rly_disk.proofs.Traces.{makes_nothing}
 use Rattle.rly_segment.specs.Calls.{replacing}
@@ -14,14 +16,14 @@ replace-requires-clause-room g c =
       segment_within c.args.geometry.now c.args.target.segment _ c.requires.geometry c.requires.target,
       c.requires.head.room,
       ap length is,
-      length-head g.C.Content.length_of g.C.Form.form c.args.generation c.args.machine.now.state,
+      length-head g.C.Content.length_of (spelled_by g.C.Form.form Second) c.args.generation c.args.machine.now.state,
       c.segment_place-place.ensures,
     )
 
 pub returns-in-Ok-replace-clause-gate : goal.returns-in-Ok-replace-clause-gate
 returns-in-Ok-replace-clause-gate g c =
     let is = c.deref.ensures.value ∙ c.in-Ok.ensures in
-    omega (arith, ap length is, length-head g.C.Content.length_of g.C.Form.form c.args.generation c.args.machine.now.state, c.segment_place-place.ensures, c.len.ensures, c.deref.ensures.len)
+    omega (arith, ap length is, length-head g.C.Content.length_of (spelled_by g.C.Form.form Second) c.args.generation c.args.machine.now.state, c.segment_place-place.ensures, c.len.ensures, c.deref.ensures.len)
 
 pub returns-in_default-clause-trace : goal.returns-in_default-clause-trace
 returns-in_default-clause-trace g c = makes_nothing g.D.Disk.state c.args.disk.now

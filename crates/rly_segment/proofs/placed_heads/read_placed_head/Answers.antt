@@ -8,5 +8,5 @@ returns-in-Err-clause-read g c honest =
 
 pub returns-then-not-is_placed-clause-read : goal.returns-then-not-is_placed-clause-read
 returns-then-not-is_placed-clause-read g c honest =
-    not_placed c.law_one_spelling.ensures (g.D.Disk.state c.args.disk.now).seen c.args.geometry.now (g.D.Disk.state c.args.disk.now).size c.args.segment c.in-Ok.head.generation c.in-Ok.head.machine.state
+    not_placed c.law_one_spelling.ensures (g.D.Disk.state c.args.disk.now).seen c.args.geometry.now (g.D.Disk.state c.args.disk.now).size c.args.segment c.in-Ok.head.form c.in-Ok.head.generation c.in-Ok.head.machine.state
     c.requires.geometry (c.in-Ok.ensures.read honest) c.in-Ok.ensures.forms (iff_false c.is_placed.ensures c.if-not-is_placed.true)

@@ -2,4 +2,4 @@ use Rattle.rly_checkpoint.proofs.StoredForms.{stored_forms}
 use Rattle.rly_checkpoint.proofs.stored.StoredForm.law_forms.Goals as goal
 
 pub returns : goal.returns
-returns c = stored_forms
+returns c which = stored_forms which

@@ -1,5 +1,6 @@
 use Rattle.std.proofs.Common.{◌≡◌, ◌+◌, ◌++◌, ◌∙◌, [], ap, arith, drop, length, length-append, ℕ}
 use Rattle.rly_record.specs.Spelling.{record_of}
+use Rattle.rly_record.proofs.Bodies.{recordable_short}
 use Rattle.rly_record.proofs.Records.{length-record_of}
 use Rattle.rly_grouping.specs.Groups.{GroupState, record_place}
 use Rattle.rly_grouping.specs.Lying.{placed_at}
@@ -13,14 +14,14 @@ unwrap-requires c =
     c.write_command.ensures.reserved
     (stage_room c.self.inside.kept c.self.inside.count _ _ _ c.self.inside.frame.items c.self.inside.frame.ok.0
     (all_kept c.self.inside.kept c.self.inside.frame.items c.self.invariant.1 none) c.self.invariant.2 (omega (arith, count, c.requires.room)) c.self.invariant.5
-    (record_fits c.args.command c.requires.short))
+    (record_fits c.args.command (recordable_short c.args.command c.requires.recordable)))
 
 pub invariant_of-self : goal.invariant_of-self
 invariant_of-self c =
     let none : drop c.self.inside.kept c.self.inside.frame.items ≡ [] = ap (λ (g : GroupState). g.staged) c.self.view_is ∙ c.requires.nothing in
     let count : c.self.inside.count ≡ c.args.self.now.count = ap (λ (g : GroupState). g.count) c.self.view_is in
     let full = all_kept c.self.inside.kept c.self.inside.frame.items c.self.invariant.1 none in
-    let small = record_fits c.args.command c.requires.short in
+    let small = record_fits c.args.command (recordable_short c.args.command c.requires.recordable) in
     let ok = c.write_command.ensures.reserved
     (stage_room c.self.inside.kept c.self.inside.count _ _ _ c.self.inside.frame.items c.self.inside.frame.ok.0
     full c.self.invariant.2 (omega (arith, count, c.requires.room)) c.self.invariant.5 small) in
@@ -41,3 +42,6 @@ returns-clause-placed c =
     let size = records_length c.self.inside.kept c.self.inside.count c.self.inside.frame.items c.args.self.now c.self.view_is c.self.invariant.0 c.self.invariant.1 in
     let place : c.args.gate + 1 + c.self.inside.kept ≡ record_place c.args.gate c.args.self.now = omega (arith, size) in
     c.placed_at.ensures ∙ ap (λ (n : ℕ). placed_at n c.args.command) place
+
+pub placed_at-requires-clause-short : goal.placed_at-requires-clause-short
+placed_at-requires-clause-short c = recordable_short c.args.command c.requires.recordable

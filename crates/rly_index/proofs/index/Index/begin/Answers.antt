@@ -10,10 +10,11 @@ use Rattle.rly_index.proofs.index.Index.begin.Goals as goal
 pub invariant_of-result : goal.invariant_of-result
 invariant_of-result c =
     let g = c.args.geometry in
+    let w = c.args.head.form in
     let s = c.args.head.machine.state in
     let live : List ℕ = c.live_by_segment-live.result in
-    let same : c.settle_read.new.machine.state ≡ settled_state g c.args.segment s = c.settle_read.ensures in
-    let keeps = keeps_begun g c.args.segment c.args.head.generation s live c.requires.layout c.requires.segment c.requires.head c.requires.placed
+    let same : c.settle_read.new.machine.state ≡ settled_state w g c.args.segment s = c.settle_read.ensures in
+    let keeps = keeps_begun w g c.args.segment c.args.head.generation s live c.requires.layout c.requires.segment c.requires.head c.requires.placed
     (c.live_by_segment-live.ensures ∙ ap (λ (t : State Stored). live_by_segment g t) same) in
     subst (λ (t : State Stored). KeepsIndex g c.args.segment c.args.head.gate t live) (sym same)
-    (subst (λ (n : ℕ). KeepsIndex g c.args.segment n (settled_state g c.args.segment s) live) (sym c.requires.gate) keeps)
+    (subst (λ (n : ℕ). KeepsIndex g c.args.segment n (settled_state w g c.args.segment s) live) (sym c.requires.gate) keeps)

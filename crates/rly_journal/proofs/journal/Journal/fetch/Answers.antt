@@ -56,8 +56,8 @@ read_payload-requires g c =
 -- the disk was only read
 pub invariant_of-self : goal.invariant_of-self
 invariant_of-self g c =
-    let only = only_tried g.D.Disk.state g.met.D.Disk.consistent (row_for c.place_of-place.result (reply_of c.read_payload.result) ∷ []) c.read_payload.ensures.trace
-    (row_reads c.place_of-place.result (reply_of c.read_payload.result)) in (
+    let only = only_tried g.D.Disk.state g.met.D.Disk.consistent (row_for c.place_of-place.result (reply_of 0 c.read_payload.result) ∷ []) (c.read_payload.ensures.trace 0)
+    (row_reads c.place_of-place.result (reply_of 0 c.read_payload.result)) in (
       sound_read (g.D.Disk.state c.self.inside.disk) (g.D.Disk.state c.read_payload.new.disk) c.self.inside.tail c.self.inside.index _ c.self.inside.position
           c.self.inside.broken only c.self.invariant.0,
       c.self.invariant.1,
@@ -67,8 +67,8 @@ invariant_of-self g c =
 
 pub invariant_of-self-2 : goal.invariant_of-self-2
 invariant_of-self-2 g c =
-    let only = only_tried g.D.Disk.state g.met.D.Disk.consistent (row_for c.place_of-place.result (reply_of c.read_payload.result) ∷ []) c.read_payload.ensures.trace
-    (row_reads c.place_of-place.result (reply_of c.read_payload.result)) in (
+    let only = only_tried g.D.Disk.state g.met.D.Disk.consistent (row_for c.place_of-place.result (reply_of 0 c.read_payload.result) ∷ []) (c.read_payload.ensures.trace 0)
+    (row_reads c.place_of-place.result (reply_of 0 c.read_payload.result)) in (
       sound_read (g.D.Disk.state c.self.inside.disk) (g.D.Disk.state c.read_payload.new.disk) c.self.inside.tail c.self.inside.index _ c.self.inside.position
           c.self.inside.broken only c.self.invariant.0,
       c.self.invariant.1,
@@ -79,14 +79,14 @@ invariant_of-self-2 g c =
 pub returns-in-Err-read_payload-clause-only : goal.returns-in-Err-read_payload-clause-only
 returns-in-Err-read_payload-clause-only g c =
     subst (λ j. OnlyRead (g.D.Disk.state j.disk) (g.D.Disk.state c.read_payload.new.disk)) c.self.view_is
-    (only_tried g.D.Disk.state g.met.D.Disk.consistent (row_for c.place_of-place.result (reply_of c.read_payload.result) ∷ []) c.read_payload.ensures.trace
-    (row_reads c.place_of-place.result (reply_of c.read_payload.result)))
+    (only_tried g.D.Disk.state g.met.D.Disk.consistent (row_for c.place_of-place.result (reply_of 0 c.read_payload.result) ∷ []) (c.read_payload.ensures.trace 0)
+    (row_reads c.place_of-place.result (reply_of 0 c.read_payload.result)))
 
 pub returns-clause-only : goal.returns-clause-only
 returns-clause-only g c =
     subst (λ j. OnlyRead (g.D.Disk.state j.disk) (g.D.Disk.state c.read_payload.new.disk)) c.self.view_is
-    (only_tried g.D.Disk.state g.met.D.Disk.consistent (row_for c.place_of-place.result (reply_of c.read_payload.result) ∷ []) c.read_payload.ensures.trace
-    (row_reads c.place_of-place.result (reply_of c.read_payload.result)))
+    (only_tried g.D.Disk.state g.met.D.Disk.consistent (row_for c.place_of-place.result (reply_of 0 c.read_payload.result) ∷ []) (c.read_payload.ensures.trace 0)
+    (row_reads c.place_of-place.result (reply_of 0 c.read_payload.result)))
 
 pub returns-in-Err-read_payload-clause-refused : goal.returns-in-Err-read_payload-clause-refused
 returns-in-Err-read_payload-clause-refused g c =
@@ -101,8 +101,8 @@ returns-in-Err-read_payload-clause-refused g c =
     inr (
       sym (ap (λ j. j.broken) c.self.view_is) ∙ c.if-self.false,
       inr (subst (λ j. IsLostRead c.in-Err-read_payload.refusal × HasBytes (fetch_reply (item_of j.state c.args.hop c.args.number))) c.self.view_is
-          (lost_as (g.D.Disk.state c.self.inside.disk) x.geometry x.spool.state _ c.args.hop c.args.number c.in-Ok.item.now c.place_of-place.result c.in-Err-read_payload.refusal
-          sound.alike c.in-Ok.ensures.ok (c.place_of-place.ensures lean) lies c.in-Err-read_payload.ensures.payload)),
+          (lost_as (g.D.Disk.state c.self.inside.disk) x.geometry x.spool.state _ c.args.hop c.args.number c.in-Ok.item.now c.place_of-place.result 0 c.in-Err-read_payload.refusal
+          sound.alike c.in-Ok.ensures.ok (c.place_of-place.ensures lean) lies (c.in-Err-read_payload.ensures.payload 0))),
     )
 
 pub returns-clause-found : goal.returns-clause-found
@@ -116,8 +116,8 @@ returns-clause-found g c =
     let lean = item_lean x.geometry x.segment x.used size x.spool.state c.law_index.ensures.holds layout c.args.hop c.args.number c.in-Ok.item.now c.in-Ok.ensures.ok in (
       sym (ap (λ j. j.broken) c.self.view_is) ∙ c.if-self.false,
       subst (λ j. IsFetchedAs (g.D.Disk.state j.disk) (fetch_reply (item_of j.state c.args.hop c.args.number)) c.into_bytes.result.items) c.self.view_is
-          (fetched_as (g.D.Disk.state c.self.inside.disk) x.spool.state _ c.args.hop c.args.number c.in-Ok.item.now c.place_of-place.result c.in-Ok-read_payload.payload
-          c.into_bytes.result.items (sound.kept c.if-self.false) c.in-Ok.ensures.ok (c.place_of-place.ensures lean) c.in-Ok-read_payload.ensures.payload c.into_bytes.ensures),
+          (fetched_as (g.D.Disk.state c.self.inside.disk) x.spool.state _ c.args.hop c.args.number c.in-Ok.item.now c.place_of-place.result 0 c.in-Ok-read_payload.payload
+          c.into_bytes.result.items (sound.kept c.if-self.false) c.in-Ok.ensures.ok (c.place_of-place.ensures lean) (c.in-Ok-read_payload.ensures.payload 0) c.into_bytes.ensures),
     )
 
 pub returns-in-Err-read_payload-clause-trace : goal.returns-in-Err-read_payload-clause-trace
@@ -132,7 +132,7 @@ returns-in-Err-read_payload-clause-trace g c =
     let told : Reply = Refused c.in-Err-read_payload.refusal in
     let rows : List Try = row_for c.place_of-place.result (Refused c.in-Err-read_payload.refusal) ∷ [] in (
       rows,
-      subst (λ j. Tries g.D.Disk.state rows j.disk c.read_payload.new.disk) c.self.view_is c.in-Err-read_payload.ensures.trace,
+      subst (λ j. Tries g.D.Disk.state rows j.disk c.read_payload.new.disk) c.self.view_is (c.in-Err-read_payload.ensures.trace 0),
       λ broken. let e : false ≡ true = sym c.if-self.false ∙ ap (λ j. j.broken) c.self.view_is ∙ broken in absurd cc,
       λ _.
           subst (λ j. AreFetching (fetch_reply (item_of j.state c.args.hop c.args.number)) told rows) c.self.view_is
@@ -148,10 +148,10 @@ returns-clause-trace g c =
     let layout : IsLayout c.self.inside.index.geometry (g.D.Disk.state c.self.inside.disk).size =
     subst (λ h. IsLayout h (g.D.Disk.state c.self.inside.disk).size) (sym ends.geometry) sound.shaped.geometry in
     let lean = item_lean x.geometry x.segment x.used size x.spool.state c.law_index.ensures.holds layout c.args.hop c.args.number c.in-Ok.item.now c.in-Ok.ensures.ok in
-    let told : Reply = Bytes [] in
-    let rows : List Try = row_for c.place_of-place.result (Bytes c.in-Ok-read_payload.payload) ∷ [] in (
+    let told : Reply = Bytes [] 0 in
+    let rows : List Try = row_for c.place_of-place.result (Bytes c.in-Ok-read_payload.payload 0) ∷ [] in (
       rows,
-      subst (λ j. Tries g.D.Disk.state rows j.disk c.read_payload.new.disk) c.self.view_is c.in-Ok-read_payload.ensures.trace,
+      subst (λ j. Tries g.D.Disk.state rows j.disk c.read_payload.new.disk) c.self.view_is (c.in-Ok-read_payload.ensures.trace 0),
       λ broken. let e : false ≡ true = sym c.if-self.false ∙ ap (λ j. j.broken) c.self.view_is ∙ broken in absurd cc,
       λ _.
           subst (λ j. AreFetching (fetch_reply (item_of j.state c.args.hop c.args.number)) told rows) c.self.view_is

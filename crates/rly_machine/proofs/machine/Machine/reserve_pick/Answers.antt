@@ -8,7 +8,16 @@ use Rattle.rly_machine.specs.declared.hop.Hop.{Hop}
 use Rattle.rly_machine.proofs.Keeping.{place_of, same_state, sound_read, told_of_written}
 use Rattle.rly_machine.proofs.Refusals.{may_pick}
 use Rattle.rly_machine.proofs.Soundness.{sound_later}
+use Rattle.rly_machine.proofs.Waiting.{items_came}
 use Rattle.rly_machine.proofs.machine.Machine.reserve_pick.Goals as goal
+
+pub expired_count-late-requires : goal.expired_count-late-requires
+expired_count-late-requires g c =
+    let len : g.row.C.Denot → ℕ = g.C.Content.length_of in
+    let same = ap (λ (v : Spool g.row.C.Denot). v.state) c.self.view_is in
+    let below = place_of c.self.inside.rules c.self.inside.hops c.self.inside.lasts c.self.inside.seq c.args.self.now.state c.args.hop same (may_pick c.args.self.now.state c.args.hop c.args.now c.requires).hop_there in
+    let sound = sound_read len c.self.inside.rules c.self.inside.hops c.self.inside.lasts c.self.inside.seq c.self.inside.live_items c.self.inside.live_bytes _ c.index_mut-hop.result.now c.self.invariant below c.index_mut-hop.ensures.value in
+    record { sound = items_came len c.self.inside.rules c.self.inside.seq (hop_state c.index_mut-hop.result.now) sound }
 
 pub decide-drops-requires-clause-sound : goal.decide-drops-requires-clause-sound
 decide-drops-requires-clause-sound g c =

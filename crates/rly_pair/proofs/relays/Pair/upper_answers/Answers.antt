@@ -23,7 +23,7 @@ returns-in-Some-Send-clause-ok c =
     let sent = sent_by_upper before c.answer.new.self r told.0 c.step.new.self m c.in_ok-payload.payload told.1 told.2
     (c.step.ensures.state ∙ ap (λ (x : OutEvent (List ℕ)). (sending_step i.sender x).0) c.sender_event-event.ensures)
     (ap (λ (x : OutAction (Bor (List ℕ))). Some (out_action_bytes x)) (sym c.in-Some-Send.field-0-is) ∙ c.in-Some-Send.ensures.action ∙ ap (λ (x : OutEvent (List ℕ)). (sending_step i.sender x).1) c.sender_event-event.ensures)
-    (λ p gives. c.in_ok-payload.ensures r told.0 p told.1 gives) in
+    (λ p limit gives. c.in_ok-payload.ensures r told.0 p limit told.1 gives) in
     let packets = c.push_reserved.ensures.items ∙ ap (λ (l : List (Message (List ℕ))). l ++ c.owned.result ∷ []) c.in_ok-reserve.ensures.items
     ∙ ap (λ (x : Message (List ℕ)). i.packets.items ++ x ∷ []) c.owned.ensures in
     subst

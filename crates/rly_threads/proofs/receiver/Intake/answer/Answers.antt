@@ -60,6 +60,24 @@ loop-answer-preserved-in-Some-2 g c =
       },
     )
 
+pub loop-answer-preserved-in-Some-3 : goal.loop-answer-preserved-in-Some-3
+loop-answer-preserved-in-Some-3 g c =
+    let before = c.loop-answer.invariant.2 in
+    let steps = c.in-Some.ensures.steps in
+    let told = c.tell-custody.ensures in
+    let taken = c.take_last.ensures.items in (
+      tt,
+      tt,
+      record {
+        each = omega (arith, ap length steps.0, ap length taken, length-append c.take_last.new.self.items (c.take_last.result ∷ []), before.each);
+        capacity = c.take_last.ensures.capacity ∙ before.capacity;
+        answering = answering_more (intake c.args.self.now.plan.now c.args.self.now.peer) (receiver c.args.self.now.own c.args.self.now.station) c.args.ends.now c.loop-answer.ends c.tell-custody.new.ends
+            c.args.takes.now.waiting.items (reverse c.loop-answer.waiting.items) (reverse c.take_last.new.self.items) c.args.takes.now.answers.items
+            (drain_items c.loop-answer.answer-iterator) (drain_items c.next.new.self) c.loop-answer.last c.tell-custody.result c.greater-last.result c.take_last.result c.in-Some.answer told.said.0
+            before.answering (first_of_reversed c.loop-answer.waiting.items c.take_last.new.self.items c.take_last.result taken) steps.0 told.sent told.said.1 told.same told.custody c.greater-last.ensures;
+      },
+    )
+
 pub loop-answer-preserved : goal.loop-answer-preserved
 loop-answer-preserved g c =
     let before = c.loop-answer.invariant.2 in

@@ -2,7 +2,7 @@ use Rattle.std.proofs.Common.{◌≡◌, drop, map, take, vec_capacity}
 use Rattle.std.specs.VecDeque.{deque_capacity}
 use Rattle.rly_machine.specs.Kept.{hop_state}
 use Rattle.rly_machine.specs.State.{bytes_of}
-use Rattle.rly_machine.proofs.hop.Hop.drop_front.Given as goal
+use Rattle.rly_machine.proofs.hop.Hop.take_front.Given as goal
 
 -- so many went from the front of the queue, their ids were listed, and their bytes counted
 abbrev pub invariant-loop-item : goal.invariant-loop-item

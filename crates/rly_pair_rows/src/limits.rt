@@ -1,0 +1,136 @@
+//! Two relays, where the upper's datagrams have age limits: what is past its limit goes to no relay, and what is sent has no
+//! limit at the next one.
+use crate::expect::expect;
+use crate::pairs::{lower_takes, new_pair, step};
+use rly_core::{HopId, PeerId};
+use rly_disk::{After, Torn};
+use rly_hop::Message;
+use rly_machine::{Ask, Command, Payload};
+use rly_pair::{Fault, Pair, Step};
+use std::alloc::Global;
+use std::process::Abort;
+use std::test::Fail;
+
+/// A limit. All datagrams come at moment 0.
+const LIMIT: u64 = 10;
+
+/// The first moment at which one with that limit is past it.
+const LATE: u64 = 11;
+
+/// The upper takes a datagram of one byte, its number, from its own peer.
+fn comes_in(alloc: Global, pair: &mut Pair, number: u64, limit: u64) -> Result<(), Fail> {
+    let take = Command::Take {
+        peer: PeerId(1),
+        number,
+        hop: HopId(1),
+        stamp: 0,
+        limit,
+        payload: Payload::new(vec![in alloc; number.to_le_bytes()[0]; 1]?),
+    };
+    let serves = Step::UpperServes {
+        ask: Ask::Command(take),
+        is_answered: true,
+    };
+    step(alloc, pair, serves)
+}
+
+/// The sending core names calls at a late moment, which are made and answered.
+fn late_calls(alloc: Global, pair: &mut Pair, count: u64) -> Result<(), Fail> {
+    for _call in 0..count {
+        let turn = Step::Turns {
+            is_open: true,
+            moment: LATE,
+        };
+        step(alloc, pair, turn)?;
+        step(alloc, pair, Step::UpperMakes)?;
+        step(alloc, pair, Step::UpperAnswers { is_sent: true })?;
+    }
+    Ok(())
+}
+
+/// A packet is a datagram under this custody number, with this one byte.
+fn is_data(message: &Message<Payload>, sent: u64, byte: u8) -> bool {
+    match message {
+        Message::Data {
+            number,
+            payload,
+            ..
+        } => *number == sent && payload.as_slice() == [byte].as_slice(),
+        Message::Custody { .. } | Message::Refused { .. } => false,
+    }
+}
+
+/// A packet takes custody up to this number.
+fn is_custody(message: &Message<Payload>, taken: u64) -> bool {
+    match message {
+        Message::Custody { last, .. } => *last == taken,
+        Message::Data { .. } | Message::Refused { .. } => false,
+    }
+}
+
+/// The datagrams 2, 4 and 5 are sent, of which 2 and 5 have no limit and 4 isn't past its own: it came in after the late moment.
+fn expect_sent(rt: &impl Abort, packets: &[Message<Payload>]) {
+    assert!(rt; packets.len() == 3, "three packets");
+    expect(rt, is_data(&packets[0], 1, 2), "the second datagram");
+    expect(rt, is_data(&packets[1], 2, 4), "the fourth datagram");
+    expect(rt, is_data(&packets[2], 3, 5), "the fifth datagram");
+}
+
+/// The first of three expires at the Pick of the second, and the third at one after which nothing is left. Their custody numbers go
+/// on without a gap.
+#[test]
+fn late_datagrams_are_not_sent(rt: HostRuntime) -> Result<(), Fail> {
+    let alloc = rt.alloc();
+    let mut pair = new_pair(alloc)?;
+    some_are_late(&rt, alloc, &mut pair)
+}
+
+/// Of five datagrams two are late.
+fn some_are_late(rt: &impl Abort, alloc: Global, pair: &mut Pair) -> Result<(), Fail> {
+    comes_in(alloc, pair, 1, LIMIT)?;
+    comes_in(alloc, pair, 2, 0)?;
+    comes_in(alloc, pair, 3, LIMIT)?;
+    late_calls(alloc, pair, 4)?;
+    comes_in(alloc, pair, 4, LIMIT)?;
+    comes_in(alloc, pair, 5, 0)?;
+    late_calls(alloc, pair, 4)?;
+    expect_sent(rt, pair.packets());
+    for packet in 0..3 {
+        lower_takes(alloc, pair, packet)?;
+    }
+    let packets = pair.packets();
+    assert!(rt; packets.len() == 6, "three answers");
+    expect(rt, is_custody(&packets[5], 3), "all are taken");
+    Ok(())
+}
+
+/// An upper that crashes after a Pick sends what was in flight, whatever its limit: only what waits expires.
+#[test]
+fn limits_end_in_flight(rt: HostRuntime) -> Result<(), Fail> {
+    let alloc = rt.alloc();
+    let mut pair = new_pair(alloc)?;
+    one_is_in_flight(&rt, alloc, &mut pair)
+}
+
+/// A crash comes once a datagram is in flight, and then its limit passes.
+fn one_is_in_flight(rt: &impl Abort, alloc: Global, pair: &mut Pair) -> Result<(), Fail> {
+    comes_in(alloc, pair, 1, LIMIT)?;
+    step(alloc, pair, Step::PicksAhead { moment: LIMIT })?;
+    step(alloc, pair, Step::UpperMakes)?;
+    step(alloc, pair, Step::UpperAnswers { is_sent: true })?;
+    let fault = Fault {
+        at: 0,
+        torn: 0,
+        after: After::GoesOn,
+    };
+    let crash = Step::UpperCrashes {
+        torn: Torn::AsSynced,
+        fault,
+    };
+    step(alloc, pair, crash)?;
+    late_calls(alloc, pair, 2)?;
+    let packets = pair.packets();
+    assert!(rt; packets.len() == 1, "one packet");
+    expect(rt, is_data(&packets[0], 1, 1), "the datagram");
+    Ok(())
+}

@@ -1,0 +1,332 @@
+//! Datagrams with age limits, through every phase of a round: in records, in the head of a segment that is opened, over crashes and
+//! openings, until a pick finds them past their limit.
+use crate::cycles::{HOP, PEER, SEAT, open, step};
+use rly_core::{Geometry, Params, Refusal};
+use rly_disk::{After, Torn};
+use rly_machine::{Ask, Command, HopStatus, Payload, Query, Reply};
+use rly_relay::{Relay, Step};
+use std::alloc::{AllocError, Global};
+use std::process::Abort;
+use std::test::Fail;
+
+/// The least device of two segments for 16 datagrams and 4,096 bytes.
+const SMALL: Geometry = Geometry {
+    params: Params {
+        hops: 1,
+        peers: 1,
+        window: 16,
+        items: 16,
+        bytes: 4_096,
+        maxpacket: 1_500,
+        target: 5_000,
+        interval: 100_000,
+    },
+    segments: 2,
+    length: 82_908,
+};
+
+/// A limit. All datagrams come at moment 0, so this is also the last moment at which one isn't past it.
+const LIMIT: u64 = 10;
+
+/// The first moment at which one is.
+const LATE: u64 = 11;
+
+/// The bytes of a datagram. Two groups of eight and one of as many picks end at 93 + 2 * (7 + 8 * (23 + 255)) + 7 + 8 * 11 = 4,650,
+/// from which on the largest group of 78,280 bytes has no room: a segment is due.
+const LENGTH: usize = 255;
+
+/// So many datagrams go into flight in time, and as many wait behind them.
+const HALF: u64 = 8;
+
+/// The last datagram, which has no limit.
+const LAST: u64 = 16;
+
+/// An opening and a round in which a segment is opened make fewer calls of the device than this.
+const MOST_CALLS: u64 = 64;
+
+/// The limit of a datagram: in the first half every other one has one, in the second half each but the last.
+fn limit_of(number: u64) -> u64 {
+    if number % 2 == 1 || (number > HALF && number < LAST) {
+        return LIMIT;
+    }
+    0
+}
+
+fn take(alloc: Global, number: u64, limit: u64) -> Result<Ask, AllocError> {
+    Ok(Ask::Command(Command::Take {
+        peer: PEER,
+        number,
+        hop: HOP,
+        stamp: 0,
+        limit,
+        payload: Payload::new(vec![in alloc; number.to_le_bytes()[0]; LENGTH]?),
+    }))
+}
+
+fn pick(now: u64) -> Ask {
+    Ask::Command(Command::Pick { hop: HOP, now })
+}
+
+/// Asks in one round and hears the answers. Says how many were heard before.
+fn round(rt: &impl Abort, relay: &mut Relay, asks: Vec<Ask>) -> usize {
+    let before = relay.known(SEAT).len();
+    step(rt, relay, Step::Put(SEAT, asks));
+    step(rt, relay, Step::Round(64));
+    step(rt, relay, Step::Hear(SEAT));
+    before
+}
+
+/// Asks once and hears the answer, if one is given: none is where the relay isn't open.
+fn ask_once<'a>(
+    rt: &impl Abort,
+    alloc: Global,
+    relay: &'a mut Relay,
+    ask: Ask,
+) -> Result<Option<&'a Reply>, AllocError> {
+    let before = round(rt, relay, vec![in alloc; ask]?);
+    Ok(relay.known(SEAT).get(before).map(|answer| &answer.reply))
+}
+
+/// Half of the datagrams are taken, each with its limit.
+fn takes(rt: &impl Abort, alloc: Global, relay: &mut Relay, first: u64) -> Result<(), AllocError> {
+    let mut asks = Vec::new(alloc);
+    for index in 0..HALF {
+        let number = first.saturating_add(index);
+        asks.push(take(alloc, number, limit_of(number))?)?;
+    }
+    let before = round(rt, relay, asks);
+    let mut number = first;
+    for answer in relay.known(SEAT).iter().skip(before) {
+        assert!(rt; matches!(answer.reply, Reply::Taken(id) if id == number));
+        number = number.saturating_add(1);
+    }
+    assert!(rt; number == first.saturating_add(HALF));
+    Ok(())
+}
+
+/// The first half is picked when none is past its limit.
+fn picks_in_time(rt: &impl Abort, alloc: Global, relay: &mut Relay) -> Result<(), AllocError> {
+    let mut asks = Vec::new(alloc);
+    for _index in 0..HALF {
+        asks.push(pick(LIMIT))?;
+    }
+    let before = round(rt, relay, asks);
+    let mut next = 1u64;
+    for answer in relay.known(SEAT).iter().skip(before) {
+        assert!(rt; is_picked(&answer.reply, next, next, 0));
+        next = next.saturating_add(1);
+    }
+    assert!(rt; next == HALF.saturating_add(1));
+    Ok(())
+}
+
+/// Whether ids are so many, one after the other, from the datagram on that is the first of the second half.
+fn are_from_half(ids: &[u64], count: u64) -> bool {
+    let mut next = HALF;
+    for id in ids {
+        next = next.saturating_add(1);
+        if *id != next {
+            return false;
+        }
+    }
+    ids.len() as u64 == count
+}
+
+/// Whether a datagram went into flight, so many of the second half expired, and none was dropped.
+fn is_picked(reply: &Reply, picked: u64, datagram: u64, count: u64) -> bool {
+    match reply {
+        Reply::Picked {
+            number,
+            id,
+            expired,
+            dropped,
+        } => {
+            *number == picked
+                && *id == datagram
+                && are_from_half(expired.as_slice(), count)
+                && dropped.as_slice().is_empty()
+        }
+        _ => false,
+    }
+}
+
+/// The reply to a late pick: all but the last expire, and that goes into flight.
+fn is_late(reply: &Reply) -> bool {
+    is_picked(reply, HALF.saturating_add(1), LAST, HALF - 1)
+}
+
+/// Datagrams in flight are fetched, each with its bytes and its limit.
+fn fetches(
+    rt: &impl Abort,
+    alloc: Global,
+    relay: &mut Relay,
+    first: u64,
+) -> Result<(), AllocError> {
+    for number in first..=HALF {
+        let found = ask_once(
+            rt,
+            alloc,
+            relay,
+            Ask::Query(Query::Fetch { hop: HOP, number }),
+        )?;
+        assert!(rt;
+            match found {
+                Some(Reply::Bytes { payload, limit }) => {
+                    *limit == limit_of(number)
+                        && payload.as_slice().len() == LENGTH
+                        && payload
+                            .as_slice()
+                            .iter()
+                            .all(|byte| *byte == number.to_le_bytes()[0])
+                }
+                _ => false,
+            }
+        );
+    }
+    Ok(())
+}
+
+/// How many a hop took, has waiting and in flight, dropped, expired and released.
+type Counts = (u64, u64, u64, u64, u64, u64);
+
+fn counts_of(status: &HopStatus) -> Counts {
+    (
+        status.taken,
+        status.queued,
+        status.flight,
+        status.dropped,
+        status.expired,
+        status.released,
+    )
+}
+
+/// What the relay shows of its hop.
+fn shown(rt: &impl Abort, alloc: Global, relay: &mut Relay) -> Result<Counts, AllocError> {
+    match ask_once(rt, alloc, relay, Ask::Query(Query::Show { hop: HOP }))? {
+        Some(Reply::Shown(status)) => Ok(counts_of(status)),
+        _ => panic!(rt; "the hop is not shown"),
+    }
+}
+
+/// The relay stops and is opened on what its disk has.
+fn open_again(rt: &impl Abort, relay: &mut Relay, torn: Torn) {
+    step(rt, relay, Step::Crash(torn));
+    open(rt, relay);
+}
+
+/// A relay with 16 datagrams that have their limits, of which 8 are in flight: its segment is full. It crashed between the groups.
+fn filled(rt: &impl Abort, alloc: Global) -> Result<Relay, AllocError> {
+    let Ok(mut relay) = Relay::new(alloc, &SMALL, 1) else {
+        panic!(rt; "no relay");
+    };
+    open(rt, &mut relay);
+    takes(rt, alloc, &mut relay, 1)?;
+    open_again(rt, &mut relay, Torn::AsSynced);
+    takes(rt, alloc, &mut relay, HALF.saturating_add(1))?;
+    picks_in_time(rt, alloc, &mut relay)?;
+    Ok(relay)
+}
+
+/// The limits are in records, and from the release on, for which a segment is opened, in its head. None expires in flight.
+#[test]
+fn limits_through_a_segment_that_is_opened(rt: HostRuntime) -> Result<(), Fail> {
+    let alloc = rt.alloc();
+    let mut relay = filled(&rt, alloc)?;
+    fetches(&rt, alloc, &mut relay, 1)?;
+    let released = Ask::Command(Command::Release {
+        hop: HOP,
+        number: 4,
+    });
+    let told = ask_once(&rt, alloc, &mut relay, released)?;
+    assert!(rt; matches!(told, Some(Reply::Released(4))));
+    open_again(&rt, &mut relay, Torn::AsSynced);
+    fetches(&rt, alloc, &mut relay, 5)?;
+    assert!(rt; shown(&rt, alloc, &mut relay)? == (16, 8, 4, 0, 0, 4));
+    let told = ask_once(&rt, alloc, &mut relay, pick(LATE))?;
+    assert!(rt; told.is_some_and(is_late));
+    assert!(rt; shown(&rt, alloc, &mut relay)? == (16, 0, 5, 0, 7, 4));
+    open_again(&rt, &mut relay, Torn::AsSynced);
+    fetches(&rt, alloc, &mut relay, 5)?;
+    assert!(rt; shown(&rt, alloc, &mut relay)? == (16, 0, 5, 0, 7, 4));
+    Ok(())
+}
+
+/// A pick that all expire at leaves nothing for another one.
+#[test]
+fn all_expire_at_a_pick(rt: HostRuntime) -> Result<(), Fail> {
+    let alloc = rt.alloc();
+    let Ok(mut relay) = Relay::new(alloc, &SMALL, 1) else {
+        panic!(rt; "no relay");
+    };
+    open(&rt, &mut relay);
+    for number in 1..=3 {
+        let told = ask_once(&rt, alloc, &mut relay, take(alloc, number, LIMIT)?)?;
+        assert!(rt; matches!(told, Some(Reply::Taken(id)) if *id == number));
+    }
+    open_again(&rt, &mut relay, Torn::AsSynced);
+    match ask_once(&rt, alloc, &mut relay, pick(LATE))? {
+        Some(Reply::Nothing { expired }) => assert!(rt; expired.as_slice() == [1, 2, 3].as_slice()),
+        _ => panic!(rt; "something is left"),
+    }
+    open_again(&rt, &mut relay, Torn::AsSynced);
+    assert!(rt; shown(&rt, alloc, &mut relay)? == (3, 0, 0, 0, 3, 0));
+    let told = ask_once(&rt, alloc, &mut relay, pick(LATE))?;
+    assert!(rt; matches!(told, Some(Reply::Refused(Refusal::Empty))));
+    Ok(())
+}
+
+/// After a late pick whose round failed at some call of the device, and a crash, it was made or it wasn't. Then it is made.
+fn expect_either(
+    rt: &impl Abort,
+    alloc: Global,
+    relay: &mut Relay,
+    torn: Torn,
+) -> Result<bool, AllocError> {
+    open_again(rt, relay, torn);
+    let counts = shown(rt, alloc, relay)?;
+    let made = counts == (16, 0, 9, 0, 7, 0);
+    assert!(rt; made || counts == (16, 8, 8, 0, 0, 0));
+    if !made {
+        let told = ask_once(rt, alloc, relay, pick(LATE))?;
+        assert!(rt; told.is_some_and(is_late));
+    }
+    assert!(rt; shown(rt, alloc, relay)? == (16, 0, 9, 0, 7, 0));
+    fetches(rt, alloc, relay, 1)?;
+    Ok(made)
+}
+
+/// Each call of the device fails in turn while a full relay opens, opens a segment for a late pick, and appends it. Returns how
+/// many of them were writes and syncs, each of which makes the pick unsure.
+fn fails_at_each(rt: &impl Abort, alloc: Global, torn: Torn) -> Result<u64, AllocError> {
+    let mut unsure = 0u64;
+    for at in 1..MOST_CALLS {
+        let mut relay = filled(rt, alloc)?;
+        let after = After::GoesOn;
+        step(rt, &mut relay, Step::Opening { at, torn: 0, after });
+        let told = ask_once(rt, alloc, &mut relay, pick(LATE))?;
+        let picked = told.is_some_and(is_late);
+        let failed = matches!(told, Some(Reply::Refused(Refusal::Unsure)));
+        assert!(rt;
+            picked || failed || matches!(told, None | Some(Reply::Refused(Refusal::DeviceRead)))
+        );
+        let made = expect_either(rt, alloc, &mut relay, torn)?;
+        assert!(rt; made || !picked);
+        if picked {
+            return Ok(unsure);
+        }
+        if failed {
+            unsure = unsure.saturating_add(1);
+        }
+    }
+    panic!(rt; "some call fails in every round");
+}
+
+/// The head, its gate, the body and its gate are written and synced: that are eight calls at least.
+#[test]
+fn limits_through_every_phase(rt: HostRuntime) -> Result<(), Fail> {
+    let alloc = rt.alloc();
+    for torn in [Torn::AsSynced, Torn::AsRead] {
+        assert!(rt; fails_at_each(&rt, alloc, torn)? >= 8);
+    }
+    Ok(())
+}
