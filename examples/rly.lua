@@ -10,11 +10,11 @@
 local rly = Proto("rly", "Hop protocol of rly")
 
 local MARK, VERSION = 0x524c, 1
-local HEAD, LONGEST_PAYLOAD = 8, 1200
-local DATA, CUSTODY, REFUSED = 1, 2, 3
-local KINDS = { [DATA] = "Data", [CUSTODY] = "Custody", [REFUSED] = "Refused" }
+local HEAD, LONGEST_PAYLOAD = 8, 8192
+local DATA, CUSTODY, REFUSED, LIMITED = 1, 2, 3, 4
+local KINDS = { [DATA] = "Data", [CUSTODY] = "Custody", [REFUSED] = "Refused", [LIMITED] = "Data with a limit" }
 -- The length of each kind's messages, without a payload.
-local LENGTHS = { [DATA] = 18, [CUSTODY] = 16, [REFUSED] = 17 }
+local LENGTHS = { [DATA] = 18, [CUSTODY] = 16, [REFUSED] = 17, [LIMITED] = 23 }
 
 -- What `rly` tells a peer station: in words, and as the text that follows the number in a line of `rly`.
 local REFUSALS = {
@@ -35,12 +35,13 @@ local FAULTS = {
     { "another kind", 44 },
     { "from or to station 0", 45 },
     { "fewer bytes than the kind has without a payload", 40 },
-    { "a Data whose length is above 1,200", 41 },
+    { "a Data of kind 04 whose limit is 0", 44 },
+    { "a Data whose length is above 8,192", 41 },
     { "fewer bytes of payload than the length says", 40 },
     { "bytes after the end", 41 },
 }
 -- The faults of a packet that has too few bytes.
-local TOO_FEW = { [1] = true, [6] = true, [8] = true }
+local TOO_FEW = { [1] = true, [6] = true, [9] = true }
 -- Stands in the place of a fault where what has to be read isn't there, though it was sent.
 local CUT = "cut"
 
@@ -56,6 +57,7 @@ local fields = {
     from = ProtoField.uint16("rly.from", "From station"),
     to = ProtoField.uint16("rly.to", "To station"),
     number = ProtoField.uint64("rly.number", "Custody number"),
+    limit = ProtoField.uint64("rly.limit", "Age limit in microseconds"),
     length = ProtoField.uint16("rly.length", "Length of the payload"),
     payload = ProtoField.bytes("rly.payload", "Payload"),
     destination = ProtoField.uint16("rly.destination", "Destination station, where relays forward it"),
@@ -131,27 +133,35 @@ local function read_body(packet, tree, message)
         if TEXTS[message.refusal] then
             item:add(fields.refusal_text, packet(16, 1), TEXTS[message.refusal]):set_generated()
         end
-    elseif message.kind == DATA then
-        message.length = packet(16, 2):uint()
-        tree:add(fields.length, packet(16, 2))
+    elseif message.kind == DATA or message.kind == LIMITED then
+        if message.kind == LIMITED then
+            message.limit = tostring(packet(16, 5):uint64())
+            tree:add(fields.limit, packet(16, 5))
+            if message.limit == "0" then
+                return 7, fixed - 2
+            end
+        end
+        message.length = packet(fixed - 2, 2):uint()
+        tree:add(fields.length, packet(fixed - 2, 2))
         if message.length > LONGEST_PAYLOAD then
-            return 7, fixed
+            return 8, fixed
         end
         if size < fixed + message.length then
-            return 8, fixed
+            return 9, fixed
         end
         show_payload(packet, tree, message, fixed)
     end
     local read = fixed + message.length
     if size > read then
-        return 9, read
+        return 10, read
     end
     return nil, read
 end
 
 -- A message in a line.
 local function line_of(message)
-    local line = message.from .. " to " .. message.to .. ": " .. KINDS[message.kind] .. " " .. message.number
+    local kind = KINDS[message.kind == LIMITED and DATA or message.kind]
+    local line = message.from .. " to " .. message.to .. ": " .. kind .. " " .. message.number
     if message.kind == REFUSED then
         local words = REFUSALS[message.refusal]
         return line .. ", " .. (words and words .. " (" .. message.refusal .. ")" or message.refusal)
@@ -163,7 +173,10 @@ local function line_of(message)
         line = line .. ", which asks for the last number"
     end
     line = line .. ", " .. message.length .. (message.length == 1 and " byte" or " bytes")
-    return message.destination and line .. " for station " .. message.destination or line
+    if message.destination then
+        line = line .. " for station " .. message.destination
+    end
+    return message.limit and line .. ", limit " .. message.limit or line
 end
 
 -- Shows the bytes from `at` on, which were not read.

@@ -32,7 +32,7 @@ ahead_failed failed a = failed a.link
 
 -- the number of a Data from the peer to this station, if the message is one
 abbrev pub data_in : StationId → StationId → Option (Message (List ℕ)) → Option ℕ
-data_in own peer (Some (Data from to number payload)) =
+data_in own peer (Some (Data from to number limit payload)) =
     if (from.0 == peer.0) && (to.0 == own.0) then Some number else None
 data_in own peer (Some (Custody from to last)) = None
 data_in own peer (Some (Refused from to number refusal)) = None
@@ -41,7 +41,7 @@ data_in own peer None = None
 -- the last number of a custody from this station to the peer, if the message is one
 abbrev pub custody_in : StationId → StationId → Option (Message (List ℕ)) → Option ℕ
 custody_in own peer (Some (Custody from to last)) = if (from.0 == own.0) && (to.0 == peer.0) then Some last else None
-custody_in own peer (Some (Data from to number payload)) = None
+custody_in own peer (Some (Data from to number limit payload)) = None
 custody_in own peer (Some (Refused from to number refusal)) = None
 custody_in own peer None = None
 

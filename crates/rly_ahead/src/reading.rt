@@ -1,17 +1,16 @@
 //! What a packet is to a link with a peer: a Data of the peer, or a custody of this station.
 
-ghost use Rattle.std.specs.Prelude.{◌≡◌, ◌≤◌, IfSome, Some, length};
+ghost use Rattle.std.specs.Prelude.{◌≡◌, Some};
 ghost use Rattle.rly_ahead.specs.AheadLink.{custody_in, data_in};
 ghost use Rattle.rly_hop.specs.Payloads.{message_bytes};
 ghost use Rattle.rly_threads.specs.Turns.{message_in};
 ghost use Rattle.std.specs.Option.{option_map};
 
-use rly_hop::{Message, StationId, law_longest_message, read_message};
+use rly_hop::{Message, StationId, read_message};
 
 /// The number of a Data from a peer to a station, if a packet is one.
 pub(crate) fn data_of(own: StationId, peer: StationId, packet: &[u8]) -> Option<u64>
-    ensures number { result ≡ data_in own peer (message_in (Some packet.now)) }
-    ensures short { IfSome result (λ _. length packet.now ≤ 1218) }
+    ensures { result ≡ data_in own peer (message_in (Some packet.now)) }
 {
     match message_in(packet) {
         Some(
@@ -36,12 +35,10 @@ pub(crate) fn custody_of(own: StationId, peer: StationId, packet: &[u8]) -> Opti
     }
 }
 
-/// The message that a packet spells, if it spells one. No message is longer than what is kept of one.
+/// The message that a packet spells, if it spells one.
 fn message_in(packet: &[u8]) -> Option<Message<&[u8]>>
-    ensures message { option_map message_bytes result ≡ message_in (Some packet.now) }
-    ensures short { IfSome result (λ _. length packet.now ≤ 1218) }
+    ensures { option_map message_bytes result ≡ message_in (Some packet.now) }
 {
-    law_longest_message();
     match read_message(packet) {
         Ok(message) => Some(message),
         Err(_) => None,

@@ -8,7 +8,7 @@ use std::test::Fail;
 fn places_for_early_data(rt: HostRuntime) -> Result<(), Fail> {
     let alloc = rt.alloc();
     before(alloc)?;
-    let made = Early::new(alloc);
+    let made = Early::new(alloc, 1_223);
     let refused = was_refused(alloc);
     expect!(rt; refused || made.is_ok());
     if let Ok(mut early) = made {

@@ -1,5 +1,5 @@
 //! A link that keeps early Data, over a link in memory. The stations are those of docs/PROTOCOL.md, "An exchange, byte for byte".
-use crate::packets::{custody, data};
+use crate::packets::{custody, data, limited};
 use rly_ahead::Ahead;
 use rly_early::Early;
 use rly_hop::StationId;
@@ -8,8 +8,19 @@ use std::alloc::Global;
 use std::process::Abort;
 use std::test::Fail;
 
-/// Station 7's link with station 3 over one that gives these packets, and nothing where one is empty.
+/// Station 7's link with station 3 over one that gives these packets, and nothing where one is empty. It keeps Data of payloads up to
+/// 1,200 bytes.
 fn ahead_over(alloc: Global, coming: &[&[u8]], fails_at: u64) -> Result<Ahead<MemLink>, Fail> {
+    ahead_for(alloc, 1_223, coming, fails_at)
+}
+
+/// The same for packets of at most so many bytes.
+fn ahead_for(
+    alloc: Global,
+    longest: usize,
+    coming: &[&[u8]],
+    fails_at: u64,
+) -> Result<Ahead<MemLink>, Fail> {
     let mut packets = Vec::new(alloc);
     for packet in coming {
         if packet.is_empty() {
@@ -19,7 +30,7 @@ fn ahead_over(alloc: Global, coming: &[&[u8]], fails_at: u64) -> Result<Ahead<Me
         }
     }
     let below = MemLink::new(alloc, packets, fails_at);
-    let early = Early::new(alloc)?;
+    let early = Early::new(alloc, longest)?;
     Ok(Ahead::new(below, StationId(7), StationId(3), early))
 }
 
@@ -117,19 +128,60 @@ fn a_failure_below_is_told(rt: HostRuntime) -> Result<(), Fail> {
     Ok(())
 }
 
-/// A Data with the longest payload comes whole, waited for or not, and whole once more when its turn has come.
-#[test]
-fn the_longest_data_is_given_again(rt: HostRuntime) -> Result<(), Fail> {
+/// A packet of Data 2 comes whole, waited for or not, and whole once more when its turn has come.
+fn expect_given_again(
+    rt: &impl Abort,
+    alloc: Global,
+    longest: usize,
+    packet: &[u8],
+) -> Result<(), Fail> {
+    let mut link = ahead_for(alloc, longest, &[packet, packet], 0)?;
+    let mut buffer = [0; MAX_PACKET];
+    gives(rt, &mut link, packet, 1);
+    expect!(rt; link.recv(&mut buffer) == Ok(Some(packet.len())));
+    expect!(rt; link.send(&custody(1)) == Ok(()));
+    gives(rt, &mut link, packet, 2);
+    expect!(rt; link.link().calls() == 3);
+    Ok(())
+}
+
+/// Data 2 with a payload of 1,200 bytes.
+fn long_data() -> [u8; 1_218] {
     let mut packet = [0; 1_218];
     packet[..21].copy_from_slice(&data(2));
     packet[16] = 0x04;
     packet[17] = 0xb0;
-    let mut link = ahead_over(rt.alloc(), &[&packet, &packet], 0)?;
+    packet
+}
+
+/// Data 2 with a limit and a payload of 8,192 bytes.
+fn longest_data() -> [u8; 8_215] {
+    let mut packet = [0; 8_215];
+    packet[..26].copy_from_slice(&limited(2));
+    packet[21] = 0x20;
+    packet[22] = 0x00;
+    packet
+}
+
+#[test]
+fn the_longest_data_is_given_again(rt: HostRuntime) -> Result<(), Fail> {
+    expect_given_again(&rt, rt.alloc(), 1_223, &long_data())?;
+    expect_given_again(&rt, rt.alloc(), 8_215, &longest_data())
+}
+
+#[test]
+fn a_data_with_a_limit_is_given_again(rt: HostRuntime) -> Result<(), Fail> {
+    expect_given_again(&rt, rt.alloc(), 1_223, &limited(2))
+}
+
+/// A Data that is longer than what the spool takes is heard, and isn't kept.
+#[test]
+fn a_longer_data_is_not_kept(rt: HostRuntime) -> Result<(), Fail> {
+    let packet = longest_data();
+    let mut link = ahead_for(rt.alloc(), 8_214, &[&packet], 0)?;
     let mut buffer = [0; MAX_PACKET];
     gives(&rt, &mut link, &packet, 1);
-    expect!(rt; link.recv(&mut buffer) == Ok(Some(1_218)));
     expect!(rt; link.send(&custody(1)) == Ok(()));
-    gives(&rt, &mut link, &packet, 2);
-    expect!(rt; link.link().calls() == 3);
+    expect!(rt; link.recv(&mut buffer) == Ok(None));
     Ok(())
 }

@@ -46,7 +46,7 @@ fn receive<R: Abort + Wait>(rt: &R, alloc: Global, turns: &[&[u8]]) -> Result<Me
     let plan = Plan::from_toml(alloc, PLAN).ok().ok_or("a plan")?;
     let below = MemLink::new(alloc, coming, 0);
     let mut ends = Ends {
-        link: Ahead::new(below, StationId(7), StationId(3), Early::new(alloc)?),
+        link: Ahead::new(below, StationId(7), StationId(3), Early::new(alloc, 1_223)?),
         desk: MemDesk::new(alloc, Machine::new(alloc, Params::DEFAULT)?),
         turn: MemTurn::new(150, 1, turns.len() as u64),
     };

@@ -54,13 +54,13 @@ limit_fits : {P : Type 0} (which : HeadForm) (h : HopState P) → IsHopOfForm wh
 limit_fits First h plain k d below lt = omega (arith, plain.1 k d below)
 limit_fits Second h plain k d below lt = omega (arith, lt)
 
-entry_fits : {P : Type 0} (which : HeadForm) (len : P → ℕ) (HasForm : P → Type 0) (moment seq : ℕ) (item : Item P) → moment < 2 ^ 52
-    → seq ≤ max_seq → IsLive len moment seq item → FitsBytes (limit_width which) item.limit → HasForm item.payload → EntryFits which len HasForm item
-entry_fits which len HasForm moment seq item early few live limit has = record {
+entry_fits : {P : Type 0} (which : HeadForm) (len : P → ℕ) (HasForm : P → Type 0) (params : Params) (moment seq : ℕ) (item : Item P)
+    → IsWithinLimits params → moment < 2 ^ 52 → seq ≤ max_seq → IsLive len params moment seq item → FitsBytes (limit_width which) item.limit → HasForm item.payload → EntryFits which len HasForm item
+entry_fits which len HasForm params moment seq item within early few live limit has = record {
   id = count_fits which item.id (omega (arith, live.last, few));
   stamp = moment_fits which item.stamp (omega (arith, live.stamp, early));
   limit = limit;
-  payload = omega (arith, live.length);
+  payload = omega (arith, live.length, within.payload.1);
   form = has;
 }
 
@@ -70,7 +70,7 @@ pub hop_fits : {P : Type 0} (which : HeadForm) (len : P → ℕ) (HasForm : P �
 hop_fits which len HasForm params seq h within few live sound plain has =
     let early : h.moment < 2 ^ 52 = sound.moment in
     let all : All (EntryFits which len HasForm) (live_line h) =
-    λ k d lt. entry_fits which len HasForm h.moment seq (get_or (live_line h) k d) early few (sound.items k d lt) (limit_fits which h plain k d lt (sound.items k d lt).limit) (has k d lt) in
+    λ k d lt. entry_fits which len HasForm params h.moment seq (get_or (live_line h) k d) within early few (sound.items k d lt) (limit_fits which h plain k d lt (sound.items k d lt).limit) (has k d lt) in
     let count : length (live_line h) ≡ length h.flight + length h.queue = length-append h.flight h.queue in
     record {
       moment = moment_fits which h.moment (omega (arith, early));

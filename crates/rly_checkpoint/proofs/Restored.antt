@@ -84,6 +84,10 @@ pub plain_found : {P : Type 0} {len : P → ℕ} {form : Spelled P} {HasForm : P
     → IsOfForm form.which state
 plain_found {P} {form = form} forms params bytes found state fits is same = subst (IsOfForm form.which) (sym same) (of_form_read forms params bytes found fits is)
 
+pub only_found : {P : Type 0} {len : P → ℕ} {form : Spelled P} {HasForm : P → Type 0} {form_at : ℕ → Reader P} (forms : AreForms len form HasForm form_at) (params : Params) (bytes : List ℕ) (found state s : State P) → whole_state form.which form_at params bytes ≡ Some found → state ≡ found
+    → IsSound len s → All (HaveForms HasForm) s.hops → IsOfForm form.which s → s.params ≡ params → bytes ≡ state_spelled len form s → state ≡ s
+only_found forms params bytes found state s is made sound has plain given same = made ∙ same_state forms params bytes found s is sound has plain given same
+
 -- it is sound where another state could have been read
 pub sound_found : {P : Type 0} {len : P → ℕ} {form : Spelled P} {HasForm : P → Type 0} {form_at : ℕ → Reader P} (forms : AreForms len form HasForm form_at) (params : Params) (bytes : List ℕ) (found s : State P) → whole_state form.which form_at params bytes ≡ Some found → IsSound len s → All (HaveForms HasForm) s.hops → IsOfForm form.which s → s.params ≡ params
     → bytes ≡ state_spelled len form s → IsSound len found

@@ -27,28 +27,29 @@ sum_below f most (x ∷ xs) all =
     omega (arith, sum_by-cons f x xs, first, others)
 
 -- the payload bytes of live items
-pub bytes_below : {P : Type 0} (len : P → ℕ) (moment seq : ℕ) (items : List (Item P)) → All (IsLive len moment seq) items → bytes_of len items ≤ 1200 * length items
-bytes_below {P} len moment seq items live = sum_below (λ (item : Item P). len item.payload) 1200 items (λ k d lt. (live k d lt).length)
+pub bytes_below : {P : Type 0} (len : P → ℕ) (params : Params) (moment seq : ℕ) (items : List (Item P)) → params.payload ≤ 8192
+    → All (IsLive len params moment seq) items → bytes_of len items ≤ 8192 * length items
+bytes_below {P} len params moment seq items most live = sum_below (λ (item : Item P). len item.payload) 8192 items (λ k d lt. omega (arith, (live k d lt).length, most))
 
 -- a hop is sound where its numbers are, and its items stand in a row
 pub hop_is : {P : Type 0} (len : P → ℕ) (params : Params) (seq : ℕ) (h : HopState P) (row : Bool)
     → h.taken ≡ length h.queue + length h.flight + h.dropped + h.expired + h.released → h.taken ≤ seq → h.moment < 2 ^ 52 → length h.flight ≤ params.window
     → (h.codel.first_above_time ≤ h.moment + params.interval) × (h.codel.drop_next ≤ h.moment + params.interval) × (h.codel.lastcount ≤ h.codel.count) × (h.codel.count ≤ h.dropped)
-    → ((row ≡ true) ↔ IsRow len h.moment seq 0 0 (live_line h)) → (row ≡ true) ↔ IsSoundHop len params seq h
+    → ((row ≡ true) ↔ IsRow len params h.moment seq 0 0 (live_line h)) → (row ≡ true) ↔ IsSoundHop len params seq h
 hop_is len params seq h row balance taken moment window codel test = (
   λ yes. record {
     balance = balance;
     taken = taken;
     moment = moment;
     window = window;
-    items = row_live len h.moment seq (live_line h) (test.0 yes);
-    order = row_order len h.moment seq (live_line h) (test.0 yes);
+    items = row_live len params h.moment seq (live_line h) (test.0 yes);
+    order = row_order len params h.moment seq (live_line h) (test.0 yes);
     first_above_time = codel.0;
     drop_next = codel.1;
     lastcount = codel.2;
     count = codel.3;
   },
-  λ sound. test.1 (row_from len h.moment seq (live_line h) sound.items sound.order),
+  λ sound. test.1 (row_from len params h.moment seq (live_line h) sound.items sound.order),
 )
 
 -- ---- the hops, one after the other
@@ -75,8 +76,8 @@ pub too_many : {P : Type 0} (hops : List (Hop P)) (i : ℕ) (old : Hop P) (most 
 too_many {P} hops i old most lt is many few = omega (arith, counted_le (λ (h : HopState P). length (live_line h)) hops i old lt is, many, few)
 
 -- the payload bytes of a sound hop
-pub hop_bytes_below : {P : Type 0} (len : P → ℕ) (params : Params) (seq : ℕ) (h : HopState P) → IsWithinLimits params → IsSoundHop len params seq h → length (live_line h) ≤ params.items → bytes_of len (live_line h) ≤ 19660800
-hop_bytes_below len params seq h within sound few = omega (arith, bytes_below len h.moment seq (live_line h) sound.items, few, within.items.1)
+pub hop_bytes_below : {P : Type 0} (len : P → ℕ) (params : Params) (seq : ℕ) (h : HopState P) → IsWithinLimits params → IsSoundHop len params seq h → length (live_line h) ≤ params.items → bytes_of len (live_line h) ≤ 134217728
+hop_bytes_below len params seq h within sound few = omega (arith, bytes_below len params h.moment seq (live_line h) within.payload.1 sound.items, few, within.items.1)
 
 -- ---- whole states
 

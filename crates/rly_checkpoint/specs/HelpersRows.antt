@@ -1,19 +1,20 @@
 -- Helpers: a hop's live datagrams, looked at from left to right. Nothing here is claimed.
 use Rattle.std.specs.Prelude.{ℕ, ◌<◌, ◌≤◌, ◌^◌, List, [], ◌∷◌}
+use Rattle.rly_core.specs.declared.params.Params.{Params}
 use Rattle.rly_machine.specs.declared.hop.Item.{Item}
 
--- an item may stand after one with that id and stamp, in a hop whose last moment is given and a spool that accepted so
--- many commands
-pub record Follows {P : Type 0} (len : P → ℕ) (moment seq id stamp : ℕ) (item : Item P) : Type 0 where
+-- an item may stand after one with that id and stamp, in a hop whose last moment is given and a spool with these
+-- parameters that accepted so many commands
+pub record Follows {P : Type 0} (len : P → ℕ) (params : Params) (moment seq id stamp : ℕ) (item : Item P) : Type 0 where
   pub later : id < item.id
   pub last : item.id ≤ seq
   pub not_before : stamp ≤ item.stamp
   pub not_after : item.stamp ≤ moment
   pub limit : item.limit < 2 ^ 40
-  pub short : len item.payload ≤ 1200
+  pub short : len item.payload ≤ params.payload
 
 -- each item follows the one before it, and the first one that id and stamp
-abbrev pub IsRow : {P : Type 0} → (P → ℕ) → (moment seq id stamp : ℕ) → List (Item P) → Type 0
-IsRow len moment seq id stamp [] = Unit {0}
-IsRow len moment seq id stamp (item ∷ items) =
-    Follows len moment seq id stamp item × IsRow len moment seq item.id item.stamp items
+abbrev pub IsRow : {P : Type 0} → (P → ℕ) → Params → (moment seq id stamp : ℕ) → List (Item P) → Type 0
+IsRow len params moment seq id stamp [] = Unit {0}
+IsRow len params moment seq id stamp (item ∷ items) =
+    Follows len params moment seq id stamp item × IsRow len params moment seq item.id item.stamp items

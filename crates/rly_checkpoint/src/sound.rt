@@ -98,7 +98,7 @@ fn is_sound_hop<C: Form>(params: &Params, seq: u64, hop: &Hop<C>) -> bool
     if hop.moment >= limits::MOMENT_LIMIT || hop.flight.len() as u64 > params.window {
         return false;
     }
-    is_codel(&hop.codel, hop.moment + params.interval, hop.dropped) && is_row(hop, seq)
+    is_codel(&hop.codel, hop.moment + params.interval, hop.dropped) && is_row(hop, seq, params)
 }
 
 /// Whether what a hop took waits, is in flight, was dropped, expired or was released.
@@ -125,16 +125,16 @@ fn is_codel(codel: &CodelState, latest: u64, dropped: u64) -> bool
 }
 
 /// Whether a hop's live datagrams stand in order.
-fn is_row<C: Form>(hop: &Hop<C>, seq: u64) -> bool
+fn is_row<C: Form>(hop: &Hop<C>, seq: u64, params: &Params) -> bool
     requires { length (live_line (hop_state hop.now)) < 2 ^ 64 }
-    ensures { IsTrue result ↔ IsRow C.length_of hop.now.moment seq 0 0 (live_line (hop_state hop.now)) }
+    ensures { IsTrue result ↔ IsRow C.length_of params.now hop.now.moment seq 0 0 (live_line (hop_state hop.now)) }
 {
     let count = hop.flight.len() + hop.queue.len();
     let mut id = 0;
     let mut stamp = 0;
     for index in 0..count {
         let item = live_at(hop, index);
-        if !follows(item, id, stamp, hop.moment, seq) {
+        if !follows(item, id, stamp, hop.moment, seq, params) {
             return false;
         }
         id = item.id;
@@ -157,13 +157,20 @@ pub(crate) fn live_at<C: Form>(hop: &Hop<C>, index: usize) -> &Item<C>
 }
 
 /// Whether a datagram may stand after one with that id and stamp.
-fn follows<C: Form>(item: &Item<C>, id: u64, stamp: u64, moment: u64, seq: u64) -> bool
-    ensures { IsTrue result ↔ Follows C.length_of moment seq id stamp item.now }
+fn follows<C: Form>(
+    item: &Item<C>,
+    id: u64,
+    stamp: u64,
+    moment: u64,
+    seq: u64,
+    params: &Params,
+) -> bool
+    ensures { IsTrue result ↔ Follows C.length_of params.now moment seq id stamp item.now }
 {
     id < item.id
         && item.id <= seq
         && stamp <= item.stamp
         && item.stamp <= moment
         && item.limit < limits::AGE_LIMIT
-        && item.payload.len() as u64 <= limits::MAX_PAYLOAD
+        && item.payload.len() as u64 <= params.payload
 }

@@ -12,6 +12,7 @@ pub record IsWithinLimits (p : Params) : Type 0 where
   pub maxpacket : IsIn 0 65535 p.maxpacket
   pub interval : IsIn 1 3600000000 p.interval
   pub target : IsIn 1 p.interval p.target
+  pub payload : IsIn 1 8192 p.payload
 
 -- the parameters for which none were given
 abbrev pub default_params : Params
@@ -24,4 +25,5 @@ default_params = record {
   maxpacket = 1500;
   target = 5000;
   interval = 100000;
+  payload = 1200;
 }

@@ -8,8 +8,8 @@ pub const MAX_HOPS: u64 = 64;
 /// The most peers of a spool.
 pub const MAX_PEERS: u64 = 64;
 
-/// The longest payload, in bytes.
-pub const MAX_PAYLOAD: u64 = 1_200;
+/// The longest payload that a spool may be made for, in bytes.
+pub const MAX_PAYLOAD: u64 = 8_192;
 
 /// The most datagrams in flight for one hop.
 pub const MAX_WINDOW: u64 = 64;
@@ -66,14 +66,14 @@ pub const MAX_RESEND: u64 = 3_600_000;
 pub const DEFAULT_RESEND: u64 = 160;
 
 /// The longest command line, in bytes without its newline.
-pub const MAX_LINE: u64 = 4_096;
+pub const MAX_LINE: u64 = 20_480;
 
 /// Each limit is the number of `docs/DEFINITIONS.md`. Definitions of the crates above name some of these constants,
 /// and other limits are compared with nothing, so that no contract there would refuse another number.
 pub fn law_limits()
     ensures hops { MAX_HOPS ≡ 64 }
     ensures peers { MAX_PEERS ≡ 64 }
-    ensures payload { MAX_PAYLOAD ≡ 1200 }
+    ensures payload { MAX_PAYLOAD ≡ 8192 }
     ensures window { MAX_WINDOW ≡ 64 }
     ensures round { MAX_ROUND ≡ 64 }
     ensures items { MAX_ITEMS ≡ 16384 }
@@ -92,5 +92,5 @@ pub fn law_limits()
     ensures least_resend { MIN_RESEND ≡ 10 }
     ensures resend { MAX_RESEND ≡ 3600000 }
     ensures default_resend { DEFAULT_RESEND ≡ 160 }
-    ensures line { MAX_LINE ≡ 4096 }
+    ensures line { MAX_LINE ≡ 20480 }
 {}

@@ -26,6 +26,8 @@ pub struct Params {
     /// The time over which waiting is measured (RFC 8289 section 4.3, `INTERVAL`), 1 to
     /// 3,600,000,000 microseconds.
     pub interval: u64,
+    /// The longest payload, in bytes, 1 to 8,192.
+    pub payload: u64,
 }
 
 impl Params {
@@ -41,6 +43,7 @@ impl Params {
         maxpacket: 1_500,
         target: 5_000,
         interval: 100_000,
+        payload: 1_200,
     };
 
     /// Whether each parameter is within its limits. The only refusal is `BadGeometry`.
@@ -55,7 +58,8 @@ impl Params {
             && in_range(self.bytes, 1, limits::MAX_BYTES)
             && in_range(self.maxpacket, 0, limits::MAX_MAXPACKET)
             && in_range(self.interval, 1, limits::MAX_INTERVAL)
-            && in_range(self.target, 1, self.interval);
+            && in_range(self.target, 1, self.interval)
+            && in_range(self.payload, 1, limits::MAX_PAYLOAD);
         if within {
             Ok(())
         } else {

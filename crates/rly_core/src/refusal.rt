@@ -13,11 +13,11 @@ pub enum Refusal {
     NoSuchPeer,
     /// 2: there is no such hop.
     NoSuchHop,
-    /// 3: a moment of 2^52 microseconds or more.
+    /// 3: a moment of 2^52 microseconds or more, or an age limit of 2^40 or more.
     BadMoment,
     /// 4: a peer's number left one out; carries the number that was expected.
     Gap(u64),
-    /// 5: a payload longer than the limit.
+    /// 5: a payload longer than the longest of the spool.
     TooLong,
     /// 6: the spool has no room for the datagram.
     Full,

@@ -1,5 +1,5 @@
-//! A device with heads of the first form opens as it is and takes limits at once, and the next segment that is opened has a head of the
-//! second form.
+//! A device with a header of version 1 and heads of the first form opens as it is and takes limits at once, and the next segment that is
+//! opened has a head of the second form.
 use crate::comparison::{expect_replies, is_same};
 use crate::cycles::expect_in_flight;
 use crate::device::{THREE, bytes_of, opened};
@@ -226,9 +226,9 @@ fn expect_expired(rt: &impl Abort, status: &HopStatus) {
 fn rounds(alloc: Global) -> Result<Vec<Vec<Step>>, AllocError> {
     let mut rounds = Vec::new(alloc);
     rounds.push(vec![in alloc; Step::Release { number: 64 }]?)?;
-    cycle(alloc, &mut rounds, 97, 5_000)?;
-    cycle(alloc, &mut rounds, 129, 0)?;
-    cycle(alloc, &mut rounds, 161, 1_099_511_627_775)?;
+    cycle(alloc, &mut rounds, 97, 5_000, 1_200)?;
+    cycle(alloc, &mut rounds, 129, 0, 1_200)?;
+    cycle(alloc, &mut rounds, 161, 1_099_511_627_775, 1_200)?;
     Ok(rounds)
 }
 

@@ -223,17 +223,27 @@ fn head_of(rt: &impl Abort, disk: &mut MemDisk, segment: u64) -> [u8; 13] {
     head
 }
 
+/// The journal after so many whole cycles.
+pub(crate) fn after_cycles(
+    rt: &impl Abort,
+    alloc: Global,
+    count: u64,
+) -> Result<(Journal<MemDisk>, Machine<Payload>), AllocError> {
+    let mut machine = Machine::new(alloc, THREE.params)?;
+    let mut journal = opened(rt, alloc, new_device(rt, alloc, &THREE)?);
+    for whole in 1..=count {
+        expect_cycle(rt, alloc, &mut journal, &mut machine, whole)?;
+    }
+    Ok((journal, machine))
+}
+
 /// The journal with the rounds of a cycle up to its takes, after whole ones before it.
 pub(crate) fn before_the_picks(
     rt: &impl Abort,
     alloc: Global,
     cycle: u64,
 ) -> Result<(Journal<MemDisk>, Machine<Payload>), AllocError> {
-    let mut machine = Machine::new(alloc, THREE.params)?;
-    let mut journal = opened(rt, alloc, new_device(rt, alloc, &THREE)?);
-    for whole in 1..cycle {
-        expect_cycle(rt, alloc, &mut journal, &mut machine, whole)?;
-    }
+    let (mut journal, mut machine) = after_cycles(rt, alloc, cycle.saturating_sub(1))?;
     expect_round(rt, alloc, &mut journal, &mut machine, cycle, Part::Takes)?;
     Ok((journal, machine))
 }

@@ -48,6 +48,21 @@ pub(crate) const FOUR: Geometry = Geometry {
     ..SMALL
 };
 
+/// One hop, one peer, a window of 64, 64 items and 524,288 bytes, on three segments of the least length for payloads of 8,192 bytes.
+pub(crate) const LONG: Geometry = Geometry {
+    params: Params {
+        hops: 1,
+        peers: 1,
+        window: 64,
+        items: 64,
+        bytes: 524_288,
+        payload: 8_192,
+        ..Params::DEFAULT
+    },
+    segments: 3,
+    length: 789_740,
+};
+
 /// A header of 64 bytes and the segments.
 const SIZE: usize = 355_588;
 
@@ -75,7 +90,7 @@ pub(crate) fn new_device(
     alloc: Global,
     geometry: &Geometry,
 ) -> Result<MemDisk, AllocError> {
-    assert!(rt; geometry.segments <= 256 && geometry.length <= 156_908);
+    assert!(rt; geometry.segments <= 256 && geometry.length <= 789_740);
     let size = 64 + geometry.segments * geometry.length;
     let mut disk = MemDisk::new(alloc, vec![in alloc; 0u8; size as usize]?);
     assert!(rt; format(alloc, &mut disk, geometry).is_ok());

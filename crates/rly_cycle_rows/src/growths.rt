@@ -1,10 +1,10 @@
 //! Calls of a journal where one growth of memory is refused (`bench/scarce_memory`): each says so, and keeps what it promises.
-use crate::cycles::{HOP, Part, before_the_picks, expect_in_flight, is_same, take};
+use crate::cycles::{HOP, after_cycles, before_the_picks, expect_in_flight, is_same, take};
 use crate::device::{device_with, opened};
 use crate::opening::TAKEN_AND_PICKED;
 use crate::stops::KINDS;
 use rly_core::{HopId, Refusal};
-use rly_disk::{Disk, Torn};
+use rly_disk::{Disk, MemDisk, Torn};
 use rly_journal::Journal;
 use rly_machine::{Answer, Ask, Call, Command, Machine, Payload, Query, Reply, SeatId};
 use rly_scarce::{before, was_refused};
@@ -50,14 +50,29 @@ fn a_fetch(rt: HostRuntime) -> Result<(), Fail> {
     Ok(())
 }
 
-/// A round that releases a datagram, takes one, picks one and fetches one. Where 96 were taken, 32 of the first 64 are in flight.
-fn calls_in_scarce_memory(alloc: Global) -> Result<Vec<Call>, AllocError> {
+/// Two cycles: 64 datagrams were taken and picked, of which 32 are in flight, and no segment is due. Or the takes of the third too: then a
+/// segment is due.
+fn begun(
+    rt: &impl Abort,
+    alloc: Global,
+    due: bool,
+) -> Result<(Journal<MemDisk>, Machine<Payload>), AllocError> {
+    if due {
+        before_the_picks(rt, alloc, 3)
+    } else {
+        after_cycles(rt, alloc, 2)
+    }
+}
+
+/// A round that releases a datagram, takes the next one, picks one and fetches it.
+fn calls_in_scarce_memory(alloc: Global, due: bool) -> Result<Vec<Call>, AllocError> {
+    let next = if due { 97 } else { 65 };
     let asks = vec![in alloc;
         Ask::Command(Command::Release {
             hop: HOP,
             number: 33,
         }),
-        take(alloc, 97)?,
+        take(alloc, next)?,
         Ask::Command(Command::Pick { hop: HOP, now: 0 }),
         Ask::Query(Query::Fetch {
             hop: HOP,
@@ -89,9 +104,10 @@ fn expect_answers(
     alloc: Global,
     machine: &mut Machine<Payload>,
     answers: &[Answer],
+    due: bool,
 ) -> Result<bool, AllocError> {
     let mut starved = false;
-    for (call, answer) in calls_in_scarce_memory(alloc)?.into_iter().zip(answers) {
+    for (call, answer) in calls_in_scarce_memory(alloc, due)?.into_iter().zip(answers) {
         if is_same(&answer.reply, &Reply::Refused(Refusal::OutOfMemory)) {
             expect!(rt; !matches!(call.ask, Ask::Command(Command::Release { .. })));
             starved = true;
@@ -107,12 +123,9 @@ fn expect_answers(
 /// A round, before which a segment is opened or not. What a crash leaves stands for what was accepted. Where the disk in memory could
 /// not grow, all are told unsure, and it stands for the state before or after.
 fn expect_round(rt: &impl Abort, alloc: Global, due: bool, kind: Torn) -> Result<(), AllocError> {
-    let (mut journal, mut machine) = before_the_picks(rt, alloc, 3)?;
-    if !due {
-        crate::cycles::expect_round(rt, alloc, &mut journal, &mut machine, 3, Part::Picks)?;
-    }
+    let (mut journal, mut machine) = begun(rt, alloc, due)?;
     let whole = machine.seq().saturating_add(3);
-    let mut calls = calls_in_scarce_memory(alloc)?;
+    let mut calls = calls_in_scarce_memory(alloc, due)?;
     let mut answers = Vec::new(alloc);
     assert!(rt; calls.len() == 4);
     before(alloc)?;
@@ -125,7 +138,7 @@ fn expect_round(rt: &impl Abort, alloc: Global, due: bool, kind: Torn) -> Result
     } else if are_all(&answers, Refusal::OutOfMemory) {
         expect!(rt; refused && (undone || due));
     } else {
-        let starved = expect_answers(rt, alloc, &mut machine, &answers)?;
+        let starved = expect_answers(rt, alloc, &mut machine, &answers, due)?;
         expect!(rt; refused || !starved);
     }
     let disk = journal.into_disk();
@@ -134,6 +147,15 @@ fn expect_round(rt: &impl Abort, alloc: Global, due: bool, kind: Torn) -> Result
     let position = again.position();
     expect!(rt; position == machine.seq() || broken && position == whole);
     expect_in_flight(rt, alloc, &mut again, 34, 64);
+    Ok(())
+}
+
+/// No segment is due: the round's own growths alone.
+#[test]
+fn a_round(rt: HostRuntime) -> Result<(), Fail> {
+    for kind in KINDS {
+        expect_round(&rt, rt.alloc(), false, kind)?;
+    }
     Ok(())
 }
 

@@ -35,6 +35,8 @@ mod faults;
 #[cfg(test)]
 mod growths;
 #[cfg(test)]
+mod long_payloads;
+#[cfg(test)]
 mod many_segments;
 #[cfg(test)]
 mod old_device;

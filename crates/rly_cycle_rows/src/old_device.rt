@@ -1,4 +1,4 @@
-//! A device with heads of the first form, byte by byte, as the program of before age limits wrote it (commit facb250).
+//! A device with a header of version 1 and heads of the first form, byte by byte, as the program of before age limits wrote it (commit facb250).
 //!
 //! These commands wrote it. Each call of `rly play` is one round.
 //!

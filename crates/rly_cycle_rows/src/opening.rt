@@ -123,7 +123,7 @@ fn segments_that_are_too_short(rt: HostRuntime) -> Result<(), Fail> {
 /// What is read of a device where the third segment was opened and 32 datagrams were picked: the header, three generations, the head and
 /// its body of 39,984 bytes, a group, and the closed gate after it.
 const READS: [(u64, u64); 10] = [
-    (0, 51),
+    (0, 53),
     (64, 9),
     (118_572, 9),
     (237_080, 9),

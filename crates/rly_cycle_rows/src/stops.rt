@@ -51,9 +51,20 @@ pub(crate) fn walk(
     };
     let mut disk = new_device(rt, alloc, &geometry)?;
     let image = bytes_of(rt, alloc, &mut disk)?;
-    expect_costs(rt, alloc, script, &image, costs)?;
-    expect!(rt; stop_at_each_call(rt, alloc, script, &image)? == costs.calls);
-    expect!(rt; go_on_at_each_call(rt, alloc, script, &image)? == costs.calls);
+    walk_image(rt, alloc, script, &image, costs)
+}
+
+/// The same on a device with these bytes.
+pub(crate) fn walk_image(
+    rt: &impl Abort,
+    alloc: Global,
+    script: Script,
+    image: &[u8],
+    costs: Costs,
+) -> Result<(), AllocError> {
+    expect_costs(rt, alloc, script, image, costs)?;
+    expect!(rt; stop_at_each_call(rt, alloc, script, image)? == costs.calls);
+    expect!(rt; go_on_at_each_call(rt, alloc, script, image)? == costs.calls);
     Ok(())
 }
 
@@ -130,7 +141,7 @@ pub(crate) fn expect_costs(
 
 /// The call of a device that failed.
 #[derive(Clone, Copy, PartialEq, Eq)]
-enum Failed {
+pub(crate) enum Failed {
     /// None did.
     Nothing,
     /// A read: nothing was put, however many bytes a failing write puts.
@@ -201,16 +212,29 @@ fn stop_in_each_way(
 ) -> Result<Failed, AllocError> {
     let mut failed = Failed::Nothing;
     for kind in KINDS {
-        let disk = failing(alloc, image, at, torn, After::Stops)?;
-        let machine = new_machine(rt, alloc, script)?;
-        let ended = run(rt, alloc, disk, script, (0, machine))?;
-        failed = failed_call(&ended.disk);
-        expect!(rt; (failed != Failed::Nothing) == (ended.disk.calls() >= at));
-        expect!(rt; failed != Failed::Nothing || ended.answered == script.rounds.len());
-        let answered = ended.answered;
-        let stand = expect_crashed(rt, alloc, script, ended, kind)?;
-        left[usize::from(stand > answered)] = true;
+        failed = stop_in_way(rt, alloc, script, image, (at, torn, kind), left)?;
     }
+    Ok(failed)
+}
+
+/// The same in one way.
+pub(crate) fn stop_in_way(
+    rt: &impl Abort,
+    alloc: Global,
+    script: Script,
+    image: &[u8],
+    (at, torn, kind): (u64, u64, Torn),
+    left: &mut [bool; 2],
+) -> Result<Failed, AllocError> {
+    let disk = failing(alloc, image, at, torn, After::Stops)?;
+    let machine = new_machine(rt, alloc, script)?;
+    let ended = run(rt, alloc, disk, script, (0, machine))?;
+    let failed = failed_call(&ended.disk);
+    expect!(rt; (failed != Failed::Nothing) == (ended.disk.calls() >= at));
+    expect!(rt; failed != Failed::Nothing || ended.answered == script.rounds.len());
+    let answered = ended.answered;
+    let stand = expect_crashed(rt, alloc, script, ended, kind)?;
+    left[usize::from(stand > answered)] = true;
     Ok(failed)
 }
 

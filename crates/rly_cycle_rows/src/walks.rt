@@ -1,8 +1,9 @@
 //! Scripts that are walked: without a failure, stopped at each call of the device, and with each call failing.
-use crate::device::{FOUR, SMALL, THREE};
-use crate::script::{Step, in_rounds, take, take_within};
-use crate::stops::{Costs, walk};
+use crate::device::{FOUR, SMALL, THREE, bytes_of, new_device};
+use crate::script::{Script, Step, in_rounds, take, take_within};
+use crate::stops::{Costs, walk, walk_image};
 use std::alloc::{AllocError, Global};
+use std::process::Abort;
 use std::test::Fail;
 
 /// Commands one by one: three datagrams are taken, CoDel begins to drop, and segments are opened. On two segments these are two,
@@ -194,18 +195,19 @@ fn payloads_in_three_segments(rt: HostRuntime) -> Result<(), Fail> {
     Ok(())
 }
 
-/// The rounds of a worked cycle, which takes 32 datagrams from a number on, with a limit or without, picks them, and fetches all in
-/// flight. From the second on the older 32 are released then.
+/// The rounds of a worked cycle, which takes 32 datagrams of so many bytes from a number on, with a limit or without, picks them, and
+/// fetches all in flight. From the second on the older 32 are released then.
 pub(crate) fn cycle(
     alloc: Global,
     rounds: &mut Vec<Vec<Step>>,
     first: u64,
     limit: u64,
+    length: usize,
 ) -> Result<(), AllocError> {
     let after = first.saturating_add(32);
     let mut takes = Vec::new(alloc);
     for number in first..after {
-        takes.push(take_within(number, 0, limit, 1_200))?;
+        takes.push(take_within(number, 0, limit, length))?;
     }
     rounds.push(takes)?;
     rounds.push(vec![in alloc; Step::Pick { now: 0 }; 32]?)?;
@@ -221,21 +223,60 @@ pub(crate) fn cycle(
     Ok(())
 }
 
-/// The first three of the worked cycles, in eleven rounds. Three segments are opened: before the picks of the second, where nothing
-/// is moved, before those of the third, and before its release, where 32 payloads are.
+/// The first three of the worked cycles, in eleven rounds.
+pub(crate) fn three_cycles_of(alloc: Global, length: usize) -> Result<Vec<Vec<Step>>, AllocError> {
+    let mut rounds = Vec::new(alloc);
+    for first in [1, 33, 65] {
+        cycle(alloc, &mut rounds, first, 0, length)?;
+    }
+    Ok(rounds)
+}
+
+/// What they ask of their device. Three segments are opened: before the picks of the second cycle, where nothing is moved, before those of
+/// the third, and before its release, where 32 payloads are. Opening the device makes 8 calls; each of the eight rounds with commands 4;
+/// fetches of all in flight 32, and 64 twice; two of the segments that are opened 5, and the third 6, since its gate is open; and two of
+/// them 32 reads.
+pub(crate) const THREE_CYCLES: Costs = Costs {
+    calls: 280,
+    syncs: 26,
+    generations: &[4, 2, 3],
+};
+
 #[test]
 fn three_cycles(rt: HostRuntime) -> Result<(), Fail> {
     let alloc = rt.alloc();
-    let mut rounds = Vec::new(alloc);
-    for first in [1, 33, 65] {
-        cycle(alloc, &mut rounds, first, 0)?;
-    }
+    let rounds = three_cycles_of(alloc, 1_200)?;
     expect!(rt; rounds.len() == 11);
-    let costs = Costs {
-        calls: 280,
-        syncs: 26,
-        generations: &[4, 2, 3],
+    walk(&rt, alloc, THREE, &rounds, THREE_CYCLES)?;
+    Ok(())
+}
+
+/// The bytes of a new device, with a header of version 1 as programs wrote it that knew no longer payloads, and `ff` after its fields.
+fn first_version(rt: &impl Abort, alloc: Global) -> Result<Vec<u8>, AllocError> {
+    let mut disk = new_device(rt, alloc, &THREE)?;
+    let mut image = bytes_of(rt, alloc, &mut disk)?;
+    assert!(rt; image.len() == 355_588);
+    image[10] = 1;
+    image[51..64].fill(0xff);
+    Ok(image)
+}
+
+/// The same rounds on a device of version 1, whose longest payload has 1,200 bytes.
+#[test]
+fn three_cycles_on_a_device_of_version_1(rt: HostRuntime) -> Result<(), Fail> {
+    let alloc = rt.alloc();
+    let rounds = three_cycles_of(alloc, 1_200)?;
+    let script = Script {
+        geometry: THREE,
+        before: &[],
+        rounds: &rounds,
     };
-    walk(&rt, alloc, THREE, &rounds, costs)?;
+    walk_image(
+        &rt,
+        alloc,
+        script,
+        &first_version(&rt, alloc)?,
+        THREE_CYCLES,
+    )?;
     Ok(())
 }

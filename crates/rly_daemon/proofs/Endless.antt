@@ -6,6 +6,7 @@ use Rattle.std.proofs.lemmas.Option.{IfSome_then, none-some}
 use Rattle.std.specs.List.{AllZip, list_all, zip}
 use Rattle.std.specs.Option.{is_none, option_map, unwrap_or}
 use Rattle.std.specs.Prelude.{IfSome, None, Option, Some}
+use Rattle.rly_core.specs.declared.params.Params.{Params}
 use Rattle.rly_daemon.specs.declared.plan_keys.KeyedWorker.{KeyedWorker}
 use Rattle.rly_daemon.specs.Serving.{Duty, PostOver, addresses_of, clock_endless, clock_told, duties, duty_of, duty_over}
 use Rattle.rly_line.specs.Replies.{ReplyId}
@@ -43,10 +44,10 @@ if_there : {N : Type 0} (o : Option N) (f : N → Endpoints) (a : Endpoints) (Q 
 if_there None f a Q e q = absurd (none-some _ (sym e))
 if_there (Some n) f a Q e q = q
 
-worked_ended : (plan : ContactPlan) (window : ℕ) (w : Worker) (a : Endpoints) (old new : EndsView) → Some a ≡ addresses_of plan w → HasWorked plan window w old new → WasOff old new
-worked_ended plan window (worker.Receiver peer) a old new there worked =
+worked_ended : (plan : ContactPlan) (params : Params) (w : Worker) (a : Endpoints) (old new : EndsView) → Some a ≡ addresses_of plan w → HasWorked plan params w old new → WasOff old new
+worked_ended plan params (worker.Receiver peer) a old new there worked =
     if_there (peer_at plan peer) (λ n. n.addresses) a (WasOff old new) there (IfSome_then (peer_at plan peer) worked.1 (λ n did. ran_ended old new (worker.Receiver peer) _ did.3))
-worked_ended plan window (worker.Sender hop) a old new there worked =
+worked_ended plan params (worker.Sender hop) a old new there worked =
     if_there (next_hop_at plan hop) (λ n. n.addresses) a (WasOff old new) there (IfSome_then (next_hop_at plan hop) worked.1 (λ n did. ran_ended old new (worker.Sender hop) _ did.3))
 
 -- what turns handed out where a worker was to go on each time
@@ -59,9 +60,9 @@ last_on before h all =
     let both : (list_all (λ (h : Handed). h.2.on) before && (h.2.on && true)) ≡ true = sym (list_all-append (λ (h : Handed). h.2.on) before (h ∷ [])) ∙ all in
     (and_parts h.2.on true (and_parts (list_all (λ (h : Handed). h.2.on) before) (h.2.on && true) both).1).0
 
-first_duty : (d : Duty) (ds : List Duty) (plan : ContactPlan) (turns : ℕ) (links : List KeyedWorker) → d ∷ ds ≡ map (duty_of plan turns) links → (link : KeyedWorker) × (d ≡ duty_of plan turns link)
-first_duty d ds plan turns [] e = absurd (omega (arith, ap length e))
-first_duty d ds plan turns (link ∷ links) e = (link, ap (λ l. get_or l 0 d) e)
+first_duty : (d : Duty) (ds : List Duty) (plan : ContactPlan) (longest turns : ℕ) (links : List KeyedWorker) → d ∷ ds ≡ map (duty_of plan longest turns) links → (link : KeyedWorker) × (d ≡ duty_of plan longest turns link)
+first_duty d ds plan longest turns [] e = absurd (omega (arith, ap length e))
+first_duty d ds plan longest turns (link ∷ links) e = (link, ap (λ l. get_or l 0 d) e)
 
 or_parts : (a b : Bool) → (a || b) ≡ false → (a ≡ false) × (b ≡ false)
 or_parts true b e = absurd (true≢false e)
@@ -85,20 +86,20 @@ uncut (l ∷ looks) e =
     let both = or_parts l.cut (was_cut looks) e in
     λ i. uncut_one l both.0 i ∷ uncut looks both.1 i
 
-endless_goes_on : {L C : Type 0} (below : L → NeighbourLink C) (plan : ContactPlan) (links : List KeyedWorker) (window : ℕ) (line : LineId) (names : List (Option ReplyId)) (number : ℕ) (posts : List (PostOver L C)) (ended : List (Option (Ended L (WallClock C)))) → map (duty_over below) posts ≡ duties plan links 0 → 1 ≤ length posts → length posts ≤ length names
-    → AllZip (HaveEnded (λ l. neighbour_heard (below l)) (λ l. neighbour_sent (below l)) clock_told clock_endless plan window) (zip posts (new_callers line number names)) ended
+endless_goes_on : {L C : Type 0} (below : L → NeighbourLink C) (plan : ContactPlan) (links : List KeyedWorker) (params : Params) (longest : ℕ) (line : LineId) (names : List (Option ReplyId)) (number : ℕ) (posts : List (PostOver L C)) (ended : List (Option (Ended L (WallClock C)))) → map (duty_over below) posts ≡ duties plan links longest 0 → 1 ≤ length posts → length posts ≤ length names
+    → AllZip (HaveEnded (λ l. neighbour_heard (below l)) (λ l. neighbour_sent (below l)) clock_told clock_endless plan params) (zip posts (new_callers line number names)) ended
     → list_all has_run_out ended ≡ true → ⊥
-endless_goes_on below plan links window line names number [] ended e some count worked all = absurd (omega (arith, some))
-endless_goes_on below plan links window line [] number (post ∷ posts) ended e some count worked all = absurd (omega (arith, count))
-endless_goes_on below plan links window line (name ∷ names) number (post ∷ posts) [] e some count worked all = absurd worked
-endless_goes_on below plan links window line (name ∷ names) number (post ∷ posts) (None ∷ ended) e some count worked all = absurd (true≢false (sym all))
-endless_goes_on below plan links window line (name ∷ names) number (post ∷ posts) (Some left ∷ ended) e some count worked all =
+endless_goes_on below plan links params longest line names number [] ended e some count worked all = absurd (omega (arith, some))
+endless_goes_on below plan links params longest line [] number (post ∷ posts) ended e some count worked all = absurd (omega (arith, count))
+endless_goes_on below plan links params longest line (name ∷ names) number (post ∷ posts) [] e some count worked all = absurd worked
+endless_goes_on below plan links params longest line (name ∷ names) number (post ∷ posts) (None ∷ ended) e some count worked all = absurd (true≢false (sym all))
+endless_goes_on below plan links params longest line (name ∷ names) number (post ∷ posts) (Some left ∷ ended) e some count worked all =
     let did = worked.0 in
-    let first = first_duty _ _ plan 0 links e in
+    let first = first_duty _ _ plan longest 0 links e in
     let is : post.worker ≡ first.0.worker = ap (λ d. d.worker) first.1 in
     let there : Some (link_below (below post.link).link.link).addresses.value ≡ addresses_of plan post.worker = ap (λ d. d.addresses) first.1 ∙ ap (addresses_of plan) (sym is) in
     let none : post.turn.left ≡ None = ap (λ d. d.left) first.1 in
-    let end = worked_ended plan window post.worker (link_below (below post.link).link.link).addresses.value _ _ there did.worked in
+    let end = worked_ended plan params post.worker (link_below (below post.link).link.link).addresses.value _ _ there did.worked in
     let not_cut : was_cut did.looks ≡ false = sym did.was_cut ∙ not_false left.was_cut (and_parts (not left.was_cut) (list_all has_run_out ended) all).0 in
     let whole : map (λ l. l.handed) did.looks ≡ end.before ++ (end.worker, Start, end.last) ∷ [] =
     uncut did.looks not_cut ∙ ap (λ (o : Option (List Handed)). unwrap_or o []) end.handed in
@@ -107,8 +108,8 @@ endless_goes_on below plan links window line (name ∷ names) number (post ∷ p
     true≢false (sym (last_on end.before (end.worker, Start, end.last) on) ∙ end.off)
 
 -- where each worker of a plan ran until its turns were ended, the turns have an end
-pub turns_end : {L C : Type 0} (below : L → NeighbourLink C) (plan : ContactPlan) (links : List KeyedWorker) (window turns : ℕ) (line : LineId) (names : List (Option ReplyId)) (posts : List (PostOver L C)) (ended : List (Option (Ended L (WallClock C)))) → map (duty_over below) posts ≡ duties plan links turns → 1 ≤ length posts → length posts ≤ length names
-    → AllZip (HaveEnded (λ l. neighbour_heard (below l)) (λ l. neighbour_sent (below l)) clock_told clock_endless plan window) (seated line names posts) ended
+pub turns_end : {L C : Type 0} (below : L → NeighbourLink C) (plan : ContactPlan) (links : List KeyedWorker) (params : Params) (longest turns : ℕ) (line : LineId) (names : List (Option ReplyId)) (posts : List (PostOver L C)) (ended : List (Option (Ended L (WallClock C)))) → map (duty_over below) posts ≡ duties plan links longest turns → 1 ≤ length posts → length posts ≤ length names
+    → AllZip (HaveEnded (λ l. neighbour_heard (below l)) (λ l. neighbour_sent (below l)) clock_told clock_endless plan params) (seated line names posts) ended
     → list_all has_run_out ended ≡ true → 1 ≤ turns
-turns_end below plan links window zero line names posts ended e some count worked all = absurd (endless_goes_on below plan links window line names 0 posts ended e some count worked all)
-turns_end below plan links window (suc n) line names posts ended e some count worked all = omega arith
+turns_end below plan links params longest zero line names posts ended e some count worked all = absurd (endless_goes_on below plan links params longest line names 0 posts ended e some count worked all)
+turns_end below plan links params longest (suc n) line names posts ended e some count worked all = omega arith

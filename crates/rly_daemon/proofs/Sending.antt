@@ -14,8 +14,8 @@ use Rattle.rly_ahead.specs.contracts.ahead.Ahead as Ahead
 use Rattle.rly_ahead.specs.contracts.ahead.Ahead.TheInside as AheadInside
 use Rattle.rly_early.specs.contracts.early.Early as Early
 use Rattle.rly_early.specs.contracts.early.Early.TheInside as EarlyInside
-use Rattle.rly_early.specs.contracts.kept.KeptData as KeptData
-use Rattle.rly_early.specs.contracts.kept.KeptData.TheInside as KeptInside
+use Rattle.rly_early.specs.contracts.place.Place as Place
+use Rattle.rly_early.specs.contracts.place.Place.TheInside as PlaceInside
 use Rattle.rly_tag.specs.contracts.key.Key as Key
 use Rattle.rly_tag.specs.contracts.key.Key.TheInside as KeyInside
 use Rattle.rly_seal.specs.contracts.sealed.Sealed as Sealed
@@ -88,16 +88,16 @@ station_send L g l =
     let each : EachSend (E.shape link).variants = ((l, tt), ((sealed_send L g l, tt), tt)) in
     recorded_send (Enum (E.shape link)) link.D link.to link.to_one (enum_send (E.shape link) each)
 
-kept_send : IsSend KeptData.the_row
-kept_send =
-    let inside : Declared = KeptInside.the_type in
-    let fields : AllSend (rows inside.parts) = (search sendable depth 20, (search sendable depth 20, (search (sendable, crosses) depth 20, tt))) in
-    view_send KeptInside.the_row _ _ _ _ (recorded_send (Struct (shape inside)) inside.D inside.to inside.to_one (struct_send (shape inside) fields))
+place_send : IsSend Place.the_row
+place_send =
+    let inside : Declared = PlaceInside.the_type in
+    let fields : AllSend (rows inside.parts) = (search (sendable, crosses) depth 20, (search (sendable, crosses) depth 20, tt)) in
+    view_send PlaceInside.the_row _ _ _ _ (recorded_send (Struct (shape inside)) inside.D inside.to inside.to_one (struct_send (shape inside) fields))
 
 early_send : IsSend Early.the_row
 early_send =
     let inside : Declared = EarlyInside.the_type in
-    let fields : AllSend (rows inside.parts) = (search sendable depth 20, (search sendable depth 20, (search (sendable, crosses, kept_send) depth 40, tt))) in
+    let fields : AllSend (rows inside.parts) = (search sendable depth 20, (search sendable depth 20, (search sendable depth 20, (search (sendable, crosses, place_send) depth 40, tt)))) in
     view_send EarlyInside.the_row _ _ _ _ (recorded_send (Struct (shape inside)) inside.D inside.to inside.to_one (struct_send (shape inside) fields))
 
 ahead_send : (L : RattleType) (g : Link.Ghosts L.Denot) → IsSend L → IsSend (Ahead.the_row L g)

@@ -29,7 +29,7 @@ links_count plan links e =
     sym (length-map links assigned) ∙ ap length e ∙ length-map (workers_of plan) (λ w. (w, key_file_of plan w))
 
 -- and as many posts
-pub posts_count : {A : Type 0} (f : A → Duty) (posts : List A) (plan : ContactPlan) (links : List KeyedWorker) (turns : ℕ) → AreKeysOf plan links → map f posts ≡ duties plan links turns
+pub posts_count : {A : Type 0} (f : A → Duty) (posts : List A) (plan : ContactPlan) (links : List KeyedWorker) (longest turns : ℕ) → AreKeysOf plan links → map f posts ≡ duties plan links longest turns
     → length posts ≡ length plan.peers + length plan.hops
-posts_count f posts plan links turns keys e =
-    sym (length-map posts f) ∙ ap length e ∙ length-map links (duty_of plan turns) ∙ links_count plan links keys ∙ workers_count plan
+posts_count f posts plan links longest turns keys e =
+    sym (length-map posts f) ∙ ap length e ∙ length-map links (duty_of plan longest turns) ∙ links_count plan links keys ∙ workers_count plan

@@ -1,5 +1,5 @@
 -- What the link of a worker keeps of Data that comes ahead of a gap.
-use Rattle.std.specs.Prelude.{◌≡◌, None, Option, option_map}
+use Rattle.std.specs.Prelude.{◌≡◌, ℕ, None, Option, option_map}
 use Rattle.rly_core.specs.declared.refusal.Refusal.TheVariants.{OutOfMemory}
 use Rattle.rly_daemon.specs.declared.command_fault.ServeFault.{ServeFault}
 use Rattle.rly_daemon.specs.declared.command_fault.ServeFault.TheVariants as fault
@@ -17,10 +17,10 @@ keeping_with plan early neighbour =
     option_map
     (λ n. record { own = record { 0 = plan.station }; peer = record { 0 = n.station }; early = early }) neighbour
 
--- of a peer up to 64 Data are kept, and of a hop none
-abbrev pub keeping_of : ContactPlan → Worker → Option Keeping
-keeping_of plan (worker.Receiver peer) = keeping_with plan (new_early 64) (peer_at plan peer)
-keeping_of plan (worker.Sender hop) = keeping_with plan (new_early 0) (next_hop_at plan hop)
+-- of a peer up to 64 Data are kept whose packets have at most so many bytes, and of a hop none
+abbrev pub keeping_of : ContactPlan → ℕ → Worker → Option Keeping
+keeping_of plan longest (worker.Receiver peer) = keeping_with plan (new_early 64 longest) (peer_at plan peer)
+keeping_of plan longest (worker.Sender hop) = keeping_with plan (new_early 0 0) (next_hop_at plan hop)
 
 -- the neighbour isn't in the plan
 abbrev pub IsNotKept : Option Keeping → ServeFault → Type 0

@@ -12,6 +12,7 @@ use Rattle.rly_daemon.specs.declared.neighbour_link.NeighbourLink.{NeighbourLink
 use Rattle.rly_daemon.specs.declared.plan_keys.KeyedWorker.{KeyedWorker}
 use Rattle.rly_daemon.specs.declared.wall_clock.WallClock.{WallClock}
 use Rattle.rly_daemon.specs.WallClock.{turns_left}
+use Rattle.rly_hop.specs.Spelling.{longest_message}
 use Rattle.rly_line.specs.EndViews.{names_of}
 use Rattle.rly_line.specs.Responding.{Responding}
 use Rattle.rly_plan.specs.ContactPlan.{ContactPlan, next_hop_at, peer_at}
@@ -120,32 +121,33 @@ duty_over below post =
 abbrev pub duty_at : {C : Type 0} → StationPost C → Duty
 duty_at post = duty_over (λ l. l) post
 
--- what a plan and its keys say of a worker
-abbrev pub duty_of : ContactPlan → ℕ → KeyedWorker → Duty
-duty_of plan turns link =
-    duty link.worker (addresses_of plan link.worker) (option_map (λ k. k.keys) link.key) (keeping_of plan link.worker)
-    (turns_left turns) (warned_of link.worker)
+-- what a plan and its keys say of a worker, where no longer packet is kept and it has so many turns
+abbrev pub duty_of : ContactPlan → (longest turns : ℕ) → KeyedWorker → Duty
+duty_of plan longest turns link =
+    duty link.worker (addresses_of plan link.worker) (option_map (λ k. k.keys) link.key)
+    (keeping_of plan longest link.worker) (turns_left turns) (warned_of link.worker)
 
 -- what they say of all workers
-abbrev pub duties : ContactPlan → List KeyedWorker → ℕ → List Duty
-duties plan links turns = map (duty_of plan turns) links
+abbrev pub duties : ContactPlan → List KeyedWorker → (longest turns : ℕ) → List Duty
+duties plan links longest turns = map (duty_of plan longest turns) links
 
 -- Each worker of a plan had a thread, did at its post and its seat what the plan says of it, from its start to the end
--- of its turns, and left that post. What its seat put and knows stands beside who answered it. Its link is sealed with
--- the key that there is for it, and no other link is. A socket tells nothing of what it heard and sent; a seat and a
--- clock tell all. So many seats are others', behind those of the workers.
+-- of its turns, and left that post. Early Data are kept up to the longest message of the spool, which has these
+-- parameters. What its seat put and knows stands beside who answered it. Its link is sealed with the key that there is
+-- for it, and no other link is. A socket tells nothing of what it heard and sent; a seat and a clock tell all. So many
+-- seats are others', behind those of the workers.
 pub record HasRunOver {L C : Type 0} (below : L → NeighbourLink C) (others : ℕ) (plan : ContactPlan)
-    (links : List KeyedWorker) (window turns : ℕ) (r : Responding) (ended : List (Option (Ended L (WallClock C))))
-    : Type 0 where
+    (links : List KeyedWorker) (params : Params) (turns : ℕ) (r : Responding)
+    (ended : List (Option (Ended L (WallClock C)))) : Type 0 where
   pub posts : List (PostOver L C)
-  pub planned : map (duty_over below) posts ≡ duties plan links turns
+  pub planned : map (duty_over below) posts ≡ duties plan links (longest_message params.payload) turns
   pub worked : AllZip (HaveEnded (λ l. neighbour_heard (below l)) (λ l. neighbour_sent (below l)) clock_told
-      clock_endless plan window) (seated r.of (names_of r.lines) posts) ended
+      clock_endless plan params) (seated r.of (names_of r.lines) posts) ended
   pub seats : length r.lines ≡ length posts + others
   pub answered : AreAnsweredBy r ended
   pub complete : list_all has_run_out ended ≡ true
 
 -- the same where each worker has the link to its neighbour itself, and no one else a seat
-abbrev pub HasRun : {C : Type 0} → ContactPlan → List KeyedWorker → ℕ → ℕ → Responding
+abbrev pub HasRun : {C : Type 0} → ContactPlan → List KeyedWorker → Params → ℕ → Responding
     → List (Option (Ended (NeighbourLink C) (WallClock C))) → Type 0
-HasRun plan links window turns r ended = HasRunOver (λ l. l) 0 plan links window turns r ended
+HasRun plan links params turns r ended = HasRunOver (λ l. l) 0 plan links params turns r ended

@@ -19,15 +19,22 @@ pub(crate) struct Keeping {
 }
 
 impl Keeping {
-    /// What the link of a worker keeps at first. A peer's Data may come early, and there is room for 64. A hop sends none. A worker
-    /// whose neighbour isn't in the plan has no link.
-    pub(crate) fn new(alloc: Global, plan: &Plan, worker: Worker) -> Result<Keeping, ServeFault>
-        ensures kept { IfOk result (λ k. Some k ≡ keeping_of plan.now worker) }
+    /// What the link of a worker keeps at first. A peer's Data may come early, and there is room for 64 whose packets have at most so
+    /// many bytes. A hop sends none. A worker whose neighbour isn't in the plan has no link.
+    pub(crate) fn new(
+        alloc: Global,
+        plan: &Plan,
+        worker: Worker,
+        longest: usize,
+    ) -> Result<Keeping, ServeFault>
+        ensures kept { IfOk result (λ k. Some k ≡ keeping_of plan.now longest worker) }
         // Only the Data of a peer need memory.
-        ensures refused { IfErr result (λ fault. IsNotKept (keeping_of plan.now worker) fault ⊎ IsUnheld worker fault) }
+        ensures refused { IfErr result (λ fault. IsNotKept (keeping_of plan.now longest worker) fault ⊎ IsUnheld worker fault) }
     {
         match worker {
-            Worker::Receiver(peer) => keeping_with(plan, plan.peer(peer), Early::new(alloc)?),
+            Worker::Receiver(peer) => {
+                keeping_with(plan, plan.peer(peer), Early::new(alloc, longest)?)
+            }
             Worker::Sender(hop) => keeping_with(plan, plan.hop(hop), Early::without_room(alloc)),
         }
     }

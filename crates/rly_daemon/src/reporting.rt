@@ -90,7 +90,7 @@ pub fn serve_reporting<
     // A relay whose turns are without end never ends well.
     ensures ends { OnOk result (1 ≤ turns) }
     // Each worker of the plan did at its post and its seat what the plan says of it, as far as its link tells.
-    ensures worked { IfOk result (λ r. HasRunOver link_below 1 plan.now keys.entry journal.state.params.window turns
+    ensures worked { IfOk result (λ r. HasRunOver link_below 1 plan.now keys.entry journal.state.params turns
         r.relayed.finished.last.value.line r.relayed.ended.items) }
     // The journal is what its flusher's rounds made of it, and not broken.
     ensures served { IfOk result (λ r. (line : LineId) × (names : List (Option ReplyId)) × (length names ≡ length (workers_of plan.now) + 1)

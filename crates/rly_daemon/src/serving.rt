@@ -10,6 +10,7 @@ ghost use Rattle.rly_daemon.specs.Keys.{AreKeysOf};
 ghost use Rattle.rly_daemon.specs.Serving.{HasRoom, HasRun, LacksRoom, addresses_of, duties, duty_at, duty_of, is_first, receivers, senders, workers_of};
 ghost use Rattle.rly_daemon.specs.WallClock.{turns_left};
 ghost use Rattle.rly_daemon.specs.declared.file_fault.SystemWord.{SystemWord as AWord};
+ghost use Rattle.rly_hop.specs.Spelling.{longest_message};
 ghost use Rattle.rly_flush.specs.Flushing.{IsServed, new_flusher};
 ghost use Rattle.rly_line.specs.Replies.{ReplyId};
 ghost use Rattle.rly_line.specs.Submission.{LineId};
@@ -34,6 +35,7 @@ use crate::wall_clock::WallClock;
 use crate::worker_name::WorkerName;
 use rly_core::{HopId, Params, PeerId, Refusal};
 use rly_disk::Disk;
+use rly_hop::longest_message;
 use rly_journal::Journal;
 use rly_plan::{Addresses, Plan, law_plan_is_sound};
 use rly_threads::{Post, Relayed, Worker, run_relay};
@@ -97,7 +99,7 @@ pub fn serve<'a, H: AllocGlobal + Net + Threads + Wait + Clock + Sync, D: Disk +
     // A relay whose turns are without end never ends well.
     ensures ends { OnOk result (1 ≤ turns) }
     // Each worker of the plan did at its post and its seat what the plan says of it, as far as its link tells.
-    ensures worked { IfOk result (λ relayed. HasRun plan.now keys.entry journal.state.params.window turns
+    ensures worked { IfOk result (λ relayed. HasRun plan.now keys.entry journal.state.params turns
         relayed.finished.last.value.line relayed.ended.items) }
     // The journal is what its flusher's rounds made of it, and not broken.
     ensures served { IfOk result (λ relayed. (line : LineId) × (names : List (Option ReplyId)) × (length names ≡ length (workers_of plan.now))
@@ -131,13 +133,15 @@ pub(crate) fn ready_posts<'a, H: AllocGlobal + Net + Clock, D: Disk>(
     ensures room { OnOk result (HasRoom plan.now journal.now.state.params) }
     ensures lacks { LacksRoom plan.now journal.now.state.params → result ≡ Err (fault.Refused refusal.BadGeometry cause.Plan) }
     ensures whole { OnOk result (journal.now.broken ≡ false) }
-    ensures posts { IfOk result (λ posts. map duty_at posts.items ≡ duties plan.now keys.entry turns) }
+    ensures posts { IfOk result (λ posts. map duty_at posts.items
+        ≡ duties plan.now keys.entry (longest_message journal.now.state.params.payload) turns) }
 {
-    check_room(plan, journal.params())?;
+    let params = journal.params();
+    check_room(plan, params)?;
     if journal.is_broken() {
         return Err(ServeFault::Refused(Refusal::Broken, Cause::Told));
     }
-    posts_of(rt, plan, keys, turns)
+    posts_of(rt, plan, keys, longest_message(params.payload), turns)
 }
 
 /// Says what is served: the station, its neighbours, how much of the device is taken, and whose links anyone can speak on.
@@ -212,15 +216,16 @@ pub(crate) fn outcome_of(
     told
 }
 
-/// The workers of a plan, each with its link and its turns.
+/// The workers of a plan, each with its link, which keeps no longer packet than `longest` bytes, and its turns.
 fn posts_of<'a, H: AllocGlobal + Net + Clock>(
     rt: &'a H,
     plan: &Plan,
     keys: PlanKeys<'_>,
+    longest: usize,
     turns: u64,
 ) -> Result<Vec<UdpPost<'a, H>>, ServeFault>
     requires { IsSoundPlan plan.now }
-    ensures { IfOk result (λ posts. map duty_at posts.items ≡ duties plan.now keys.entry turns) }
+    ensures { IfOk result (λ posts. map duty_at posts.items ≡ duties plan.now keys.entry longest turns) }
 {
     let Ok(bells) = Arc::new(rt.alloc(), Bells::open(rt, rt.alloc(), plan)?) else {
         return Err(AllocError.into());
@@ -230,7 +235,7 @@ fn posts_of<'a, H: AllocGlobal + Net + Clock>(
     };
     let mut posts = Vec::new(rt.alloc());
     for link in keys.links {
-        let post = post_of(rt, plan, link, turns, &bells, &lines)?;
+        let post = post_of(rt, plan, link, longest, turns, &bells, &lines)?;
         if posts.push(post).is_err() {
             return Err(AllocError.into());
         }
@@ -238,18 +243,19 @@ fn posts_of<'a, H: AllocGlobal + Net + Clock>(
     Ok(posts)
 }
 
-/// A worker of a plan, with its link and its turns. Its link is sealed where it has a key, and keeps what comes early from a peer. Its turns tell the bells, and a
-/// sender's link has the bell of its hop. What is to be warned of goes to the lines. A worker whose neighbour isn't in the
-/// plan has no link.
+/// A worker of a plan, with its link and its turns. Its link is sealed where it has a key, and keeps what comes early from a peer, up
+/// to `longest` bytes of a packet. Its turns tell the bells, and a sender's link has the bell of its hop. What is to be warned of goes
+/// to the lines. A worker whose neighbour isn't in the plan has no link.
 fn post_of<'a, H: AllocGlobal + Net + Clock>(
     rt: &'a H,
     plan: &Plan,
     link: KeyedWorker<'_>,
+    longest: usize,
     turns: u64,
     bells: &Arc<Bells, Global>,
     lines: &Arc<ErrorLines, Global>,
 ) -> Result<UdpPost<'a, H>, ServeFault>
-    ensures { IfOk result (λ post. duty_at post ≡ duty_of plan.now turns link.entry) }
+    ensures { IfOk result (λ post. duty_at post ≡ duty_of plan.now longest turns link.entry) }
 {
     let KeyedWorker { worker, key } = link;
     let Some(addresses) = addresses_of(plan, worker) else {
@@ -266,7 +272,7 @@ fn post_of<'a, H: AllocGlobal + Net + Clock>(
     let failed_sends = FailedSends::new(worker, Teller::new(lines.clone()?));
     let socket = socket.with_failed_sends(failed_sends);
     let key = key.map(|key| key.into_key());
-    let keeping = Keeping::new(rt.alloc(), plan, worker)?;
+    let keeping = Keeping::new(rt.alloc(), plan, worker, longest)?;
     let link = NeighbourLink::new(socket, key, worker, Teller::new(lines.clone()?), keeping);
     let turn = turn_of(rt, worker, turns, bells, lines)?;
     Ok(Post { worker, link, turn })

@@ -49,15 +49,14 @@ fn expect_play_refused(rt: &(impl Abort + Host), path: &str, errors: &[u8]) {
 }
 
 /// The header of the small device.
-const SMALL_HEADER: &[u8] = b"a5524c594445563031000100010001000800040001\
-39310000001000001000000005dc000000000000138800000000000186a0";
+const SMALL_HEADER: &[u8] = b"a5524c594445563031000200010001000800040001\
+39310000001000001000000005dc000000000000138800000000000186a004b0";
 
-/// Checks the header of a new small device.
-fn expect_header(rt: &(impl Abort + AllocGlobal), bytes: &[u8]) {
-    let header = hex::decode(rt.alloc(), SMALL_HEADER)
-        .ok()
-        .expect(rt, "a header");
-    expect!(*rt; bytes.iter().take(51).eq(header.iter()));
+/// Checks that these bytes, given by their digits, stand at a place of a device.
+fn expect_bytes(rt: &(impl Abort + AllocGlobal), bytes: &[u8], place: usize, digits: &[u8]) {
+    let expected = hex::decode(rt.alloc(), digits).ok().expect(rt, "bytes");
+    let length = expected.len();
+    expect!(*rt; bytes.iter().skip(place).take(length).eq(expected.iter()));
 }
 
 /// Checks the rest of its first bytes.
@@ -74,7 +73,7 @@ fn a_new_device_is_as_the_format_says(rt: HostRuntime) {
     make_small(&rt, path.as_str());
     let bytes = read(&rt, path.as_str());
     expect!(rt; bytes.len() == 320_772);
-    expect_header(&rt, bytes.as_slice());
+    expect_bytes(&rt, bytes.as_slice(), 0, SMALL_HEADER);
     expect_head(&rt, bytes.as_slice());
     remove(&rt, path.as_str());
 }
@@ -101,6 +100,82 @@ fn expect_runs(rt: &(impl Abort + Host), path: &str) {
     for (input, output) in &RUNS {
         expect_played(rt, path, *input, *output);
     }
+}
+
+/// Plays a take of so many zero bytes from peer 1 on a device.
+fn expect_take(rt: &(impl Abort + Host), path: &str, bytes: usize, output: &[u8]) {
+    let line = takes(rt.alloc(), 1, bytes).ok().expect(rt, "memory");
+    expect_played(rt, path, line.as_bytes(), output);
+}
+
+/// The header of a device of one hop, one peer, two segments, 16 items and 8,192 bytes, for payloads of 8,192 bytes, and the group of
+/// its first take up to the payload.
+const LONG_HEADER: &[u8] = b"a5524c594445563031000200010001000800020008\
+27dc0000001000002000000005dc000000000000138800000000000186a02000";
+
+const LONG_TAKE: &[u8] = b"a5000020190001010001000000000000000100010000000000000000\
+2000";
+
+/// Formats a file as that device.
+fn make_long(rt: &(impl Abort + Host), path: &str) {
+    let words = [
+        "rly",
+        "format",
+        path,
+        "--hops=1",
+        "--peers=1",
+        "--segments=2",
+        "--items=16",
+        "--bytes=8192",
+        "--payload=8192",
+    ];
+    expect(rt, &words, b"", 0, b"formatted 1069048\n", b"");
+}
+
+/// A device for the longest payloads takes one, and none that is longer.
+#[test]
+fn the_longest_payload_is_taken(rt: HostRuntime) {
+    let path = path_of(&rt, rt, "payload");
+    make_long(&rt, path.as_str());
+    expect_take(&rt, path.as_str(), 8_193, b"refused 5 toolong\n");
+    expect_take(&rt, path.as_str(), 8_192, b"taken 1 1\n");
+    let bytes = read(&rt, path.as_str());
+    expect!(rt; bytes.len() == 1_069_048);
+    expect_bytes(&rt, bytes.as_slice(), 0, LONG_HEADER);
+    expect_bytes(&rt, bytes.as_slice(), 157, LONG_TAKE);
+    expect!(rt; bytes.iter().skip(187).take(8_193).all(|byte| *byte == 0));
+    expect_played(
+        &rt,
+        path.as_str(),
+        b"take 1 2 1 0 41\n",
+        b"refused 6 full\n",
+    );
+    remove(&rt, path.as_str());
+}
+
+/// Makes a device of version 1 of one of version 2. After its interval version 1 has no field, and what stands there isn't read.
+fn make_first_version(rt: &(impl Abort + Host), path: &str) -> Vec<u8> {
+    let mut bytes = read(rt, path);
+    for (place, byte) in [(10usize, 1u8), (51, 0xff), (52, 0xff)] {
+        if let Some(found) = bytes.get_mut(place) {
+            *found = byte;
+        }
+    }
+    write(rt, path, bytes.as_slice());
+    bytes
+}
+
+/// A device of version 1 takes payloads of 1,200 bytes, and none that is longer. Its header stays as it is.
+#[test]
+fn a_device_of_version_1_is_played(rt: HostRuntime) {
+    let path = path_of(&rt, rt, "version");
+    make_small(&rt, path.as_str());
+    let before = make_first_version(&rt, path.as_str());
+    expect_take(&rt, path.as_str(), 1_201, b"refused 5 toolong\n");
+    expect_take(&rt, path.as_str(), 1_200, b"taken 1 1\n");
+    let after = read(&rt, path.as_str());
+    expect!(rt; after.iter().take(64).eq(before.iter().take(64)));
+    remove(&rt, path.as_str());
 }
 
 /// Lines of several runs of `play` with limits, and what each writes.
@@ -130,9 +205,11 @@ fn limits_outlive_the_program(rt: HostRuntime) {
 }
 
 /// Options of geometries that are out of their limits.
-const BAD_GEOMETRIES: [&str; 8] = [
+const BAD_GEOMETRIES: [&str; 10] = [
     "--hops=65537",
     "--items=0",
+    "--payload=0",
+    "--payload=8193",
     "--segments=257",
     "--segments=1",
     "--segments=18446744073709551615",
@@ -191,6 +268,7 @@ const SHORT: &[u8] =
 fn expect_damaged(rt: &(impl Abort + Host), path: &str, device: &[u8]) {
     expect_damage(rt, path, device, 64, b"refused 22 damaged 64\n");
     expect_damage(rt, path, device, 0, b"refused 20 notadevice\n");
+    expect_damage(rt, path, device, 10, b"refused 20 notadevice\n");
     write(rt, path, &device[..device.len().saturating_sub(1)]);
     expect_play_refused(rt, path, SHORT);
 }

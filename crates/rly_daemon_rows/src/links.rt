@@ -101,16 +101,17 @@ fn neighbour_s(rt: &(impl Abort + Host)) -> UdpSocket {
 }
 
 /// A link hears packets from any address, and sends to its neighbour's. A packet that is too long for its buffer is cut. The longest
-/// that it sends has 1,234 bytes, with its tag.
+/// that it hears or sends has 8,231 bytes, with its tag.
 #[test]
 fn a_link_carries_packets(rt: HostRuntime) {
     let mut link = link_of(&rt, rt, "127.0.0.1:4021", "127.0.0.1:4022");
     expect!(rt; link.recv(&mut [0; MAX_PACKET]) == Ok(None));
     expect_heard(&rt, &mut link, b"abc", 3);
-    expect_heard(&rt, &mut link, &[7; 1_400], MAX_PACKET);
+    expect_heard(&rt, &mut link, &[7; 8_231], 8_231);
+    expect_heard(&rt, &mut link, &[7; 8_400], MAX_PACKET);
     let remote = neighbour_s(&rt);
     expect_sent(&rt, &mut link, &remote, b"xyz");
-    expect_sent(&rt, &mut link, &remote, &[7; 1_234]);
+    expect_sent(&rt, &mut link, &remote, &[7; 8_231]);
     expect!(rt; link.failures() == 0);
 }
 

@@ -72,6 +72,18 @@ fn options_reach_the_machine(rt: HostRuntime) {
 }
 
 #[test]
+fn the_longest_payload_reaches_the_machine(rt: HostRuntime) {
+    expect(
+        &rt,
+        &["rly", "sim", "--payload", "2"],
+        b"take 1 1 1 0 4142\ntake 1 2 1 0 414243\n",
+        0,
+        b"taken 1 1\nrefused 5 toolong\n",
+        b"",
+    );
+}
+
+#[test]
 fn the_last_hop_is_the_machine_s(rt: HostRuntime) {
     expect(
         &rt,
@@ -88,12 +100,14 @@ pub(super) const BAD_OPTIONS: &[u8] =
     b"refused 21 badgeometry\nrly: options: a value is out of its limits\n";
 
 /// Options whose values are out of their limits.
-const OUT_OF_LIMITS: [&str; 5] = [
+const OUT_OF_LIMITS: [&str; 7] = [
     "--hops=65537",
     "--hops=0",
     "--items=16385",
     "--target=100001",
     "--window=65",
+    "--payload=0",
+    "--payload=8193",
 ];
 
 #[test]
@@ -105,13 +119,15 @@ fn options_out_of_limits_are_refused(rt: HostRuntime) {
 }
 
 /// Command lines that say nothing, or nothing that `rly` does.
-const BAD_COMMAND_LINES: [&[&str]; 17] = [
+const BAD_COMMAND_LINES: [&[&str]; 19] = [
     &["rly", "sim", "--hops=x"],
     &["rly", "sim", "--hops=-1"],
     &["rly", "sim", "--hops=18446744073709551616"],
     &["rly", "sim", "--lanes=1"],
     &["rly", "sim", "1"],
     &["rly", "sim", "--hops=1", "--hops=1"],
+    &["rly", "sim", "--payload=x"],
+    &["rly", "format", "x", "--payload=1", "--payload=1"],
     &["rly"],
     &["rly", "simulate"],
     &["rly", "play", "--batch=1"],

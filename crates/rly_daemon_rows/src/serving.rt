@@ -44,12 +44,16 @@ pub(super) const DATA: &[u8] =
 pub(super) const CUSTODY: &[u8] =
     b"\x52\x4c\x01\x02\x00\x07\x00\x03\x00\x00\x00\x00\x00\x00\x00\x01";
 
+/// The same with a limit of 5,000 microseconds.
+const LIMITED: &[u8] =
+    b"\x52\x4c\x01\x04\x00\x03\x00\x07\x00\x00\x00\x00\x00\x00\x00\x01\x00\x00\x00\x13\x88\x00\x03\x00\x0c\x41";
+
 /// A neighbour that sends a datagram every 10 ms, so many times at most, until it hears something. Whether
 /// that is the datagram's custody.
-pub(super) fn hears_custody(socket: &UdpSocket, relay: &str, times: u64) -> bool {
+fn hears_custody(socket: &UdpSocket, data: &[u8], relay: &str, times: u64) -> bool {
     let mut buffer = [0; 64];
     for _sent in 0..times {
-        let _lost = socket.send_to(DATA, relay);
+        let _lost = socket.send_to(data, relay);
         if let Ok(count) = socket.recv(&mut buffer) {
             return &buffer[..count] == CUSTODY;
         }
@@ -72,15 +76,32 @@ pub(super) fn neighbour(
     relay: &'static str,
     times: u64,
 ) -> JoinHandle<bool> {
+    neighbour_with(rt, DATA, address, relay, times)
+}
+
+/// The same with this datagram.
+fn neighbour_with(
+    rt: &(impl Abort + Host),
+    data: &'static [u8],
+    address: &str,
+    relay: &'static str,
+    times: u64,
+) -> JoinHandle<bool> {
     let socket = socket_at(rt, address);
-    thread::spawn(rt, move || hears_custody(&socket, relay, times))
+    thread::spawn(rt, move || hears_custody(&socket, data, relay, times))
         .ok()
         .expect(rt, "a thread")
 }
 
-/// Runs a relay beside a neighbour that sends a datagram, and checks that it hears the datagram's custody.
-fn expect_custody(rt: &(impl Abort + Host), device: &str, plan: &str) {
-    let neighbour = neighbour(rt, "127.0.0.1:4002", "127.0.0.1:4001", 100);
+/// Runs a relay beside a neighbour that sends this datagram, and checks that it hears the datagram's custody.
+fn expect_custody(
+    rt: &(impl Abort + Host),
+    device: &str,
+    plan: &str,
+    data: &'static [u8],
+    (address, relay): (&str, &'static str),
+) {
+    let neighbour = neighbour_with(rt, data, address, relay, 100);
     let words = ["rly", "serve", device, plan, "--turns", "20"];
     expect(rt, &words, b"", 0, b"", SERVED);
     expect!(*rt; neighbour.join(rt));
@@ -103,9 +124,37 @@ fn serve_custody(rt: HostRuntime) {
     let plan = path_of(&rt, rt, "plan");
     make_small(&rt, device.as_str());
     write(&rt, plan.as_str(), PLAN.as_bytes());
-    expect_custody(&rt, device.as_str(), plan.as_str());
+    let addresses = ("127.0.0.1:4002", "127.0.0.1:4001");
+    expect_custody(&rt, device.as_str(), plan.as_str(), DATA, addresses);
     let words = ["rly", "audit", device.as_str()];
     expect(&rt, &words, b"", 0, ONE_TAKEN, b"");
+    remove(&rt, plan.as_str());
+    remove(&rt, device.as_str());
+}
+
+/// The plan at other ports, which begin so.
+fn plan_at(rt: &(impl Abort + AllocGlobal), ports: &str) -> String {
+    let text = PLAN.replace(rt.alloc(), "127.0.0.1:400", ports);
+    text.ok().expect(rt, "memory")
+}
+
+/// Lines that ask for a datagram before the link's clock has gone on, and what `play` writes.
+const ASKED: &[u8] = b"pick 1 0\nfetch 1 1\n";
+
+const FETCHED: &[u8] = b"picked 1 1 1\nbytes 1 1 000c41 5000\n";
+
+/// A datagram that comes over UDP with a limit is taken with it, and its custody is that of any other.
+#[test]
+fn serve_custody_of_a_limit(rt: HostRuntime) {
+    let device = path_of(&rt, rt, "limit");
+    let plan = path_of(&rt, rt, "limit-plan");
+    make_small(&rt, device.as_str());
+    let text = plan_at(&rt, "127.0.0.1:405");
+    write(&rt, plan.as_str(), text.as_bytes());
+    let addresses = ("127.0.0.1:4052", "127.0.0.1:4051");
+    expect_custody(&rt, device.as_str(), plan.as_str(), LIMITED, addresses);
+    let words = ["rly", "play", device.as_str()];
+    expect(&rt, &words, ASKED, 0, FETCHED, b"");
     remove(&rt, plan.as_str());
     remove(&rt, device.as_str());
 }
@@ -359,9 +408,7 @@ rly: anyone can speak on peer 1, hop 1\n";
 fn other_plan(rt: &(impl Abort + Host), path: &str) -> Plan
     ensures { IsSoundPlan result }
 {
-    let text = PLAN.replace(rt.alloc(), "127.0.0.1:400", "127.0.0.1:403");
-    let text = text.ok().expect(rt, "memory");
-    write(rt, path, text.as_bytes());
+    write(rt, path, plan_at(rt, "127.0.0.1:403").as_bytes());
     let Ok(plan) = read_plan(rt, path) else {
         panic!(rt; "no plan");
     };

@@ -23,13 +23,21 @@ const GEOMETRY: Geometry = Geometry {
         maxpacket: 1_500,
         target: 5_000,
         interval: 100_000,
+        payload: 1_200,
     },
     segments: 2,
     length: 82_908,
 };
 
-/// Its header, places 0 to 50.
-const HEADER: [u8; 51] = [
+/// Its header, places 0 to 52.
+const HEADER: [u8; 53] = [
+    0xa5, 0x52, 0x4c, 0x59, 0x44, 0x45, 0x56, 0x30, 0x31, 0, 2, 0, 1, 0, 1, 0, 8, 0, 2, 0, 1, 0x43,
+    0xdc, 0, 0, 0, 0x10, 0, 0, 0x10, 0, 0, 0, 5, 0xdc, 0, 0, 0, 0, 0, 0, 0x13, 0x88, 0, 0, 0, 0, 0,
+    1, 0x86, 0xa0, 4, 0xb0,
+];
+
+/// The header that programs wrote which had no field for the longest payload: version 1, places 0 to 50.
+const FIRST_HEADER: [u8; 51] = [
     0xa5, 0x52, 0x4c, 0x59, 0x44, 0x45, 0x56, 0x30, 0x31, 0, 1, 0, 1, 0, 1, 0, 8, 0, 2, 0, 1, 0x43,
     0xdc, 0, 0, 0, 0x10, 0, 0, 0x10, 0, 0, 0, 5, 0xdc, 0, 0, 0, 0, 0, 0, 0x13, 0x88, 0, 0, 0, 0, 0,
     1, 0x86, 0xa0,
@@ -103,6 +111,134 @@ fn the_header_of_a_device(rt: HostRuntime) -> Result<(), Fail> {
     expect!(rt; read_header(&mut disk) == Err(HeaderFault::BadGeometry));
     put(&rt, &mut disk, 0, &[0]);
     expect!(rt; read_header(&mut disk) == Err(HeaderFault::NotADevice));
+    Ok(())
+}
+
+/// What is read of a device of so many bytes that begins with these, all others `00`.
+fn header_of(
+    alloc: Global,
+    front: &[u8],
+    size: usize,
+) -> Result<Result<Geometry, HeaderFault>, AllocError> {
+    let mut bytes = Vec::from_slice(alloc, front)?;
+    bytes.resize(size, 0)?;
+    let mut disk = MemDisk::new(alloc, bytes);
+    Ok(read_header(&mut disk))
+}
+
+/// A header of version 1 says nothing of the longest payload: it is 1,200 whatever stands after the fields.
+#[test]
+fn the_header_of_version_1(rt: HostRuntime) -> Result<(), Fail> {
+    let alloc = rt.alloc();
+    for after in [0, 1, 0xff] {
+        let mut bytes = Vec::from_slice(alloc, &FIRST_HEADER)?;
+        bytes.resize(64, after)?;
+        expect!(rt; header_of(alloc, &bytes, SIZE as usize)? == Ok(GEOMETRY));
+    }
+    Ok(())
+}
+
+/// What stands after the fields of a header of version 2 says nothing either.
+#[test]
+fn what_stands_after_a_header_is_not_read(rt: HostRuntime) -> Result<(), Fail> {
+    let alloc = rt.alloc();
+    let mut bytes = Vec::from_slice(alloc, &HEADER)?;
+    bytes.resize(64, 0xff)?;
+    expect!(rt; header_of(alloc, &bytes, SIZE as usize)? == Ok(GEOMETRY));
+    Ok(())
+}
+
+/// Only versions 1 and 2 are read.
+#[test]
+fn other_versions_are_no_device(rt: HostRuntime) -> Result<(), Fail> {
+    for version in [[0, 0], [0, 3], [0, 0xff], [1, 1], [1, 2], [2, 0]] {
+        let mut header = HEADER;
+        header[9] = version[0];
+        header[10] = version[1];
+        let read = header_of(rt.alloc(), &header, SIZE as usize)?;
+        assert!(rt; read == Err(HeaderFault::NotADevice), "{version:?}");
+    }
+    Ok(())
+}
+
+/// One hop, one peer, 16 items and 8,192 bytes on two segments of the least length for payloads of at most 8,192 bytes.
+const LONG: Geometry = Geometry {
+    params: Params {
+        hops: 1,
+        peers: 1,
+        window: 8,
+        items: 16,
+        bytes: 8_192,
+        maxpacket: 1_500,
+        target: 5_000,
+        interval: 100_000,
+        payload: 8_192,
+    },
+    segments: 2,
+    length: 534_492,
+};
+
+/// Its header.
+const LONG_HEADER: [u8; 53] = [
+    0xa5, 0x52, 0x4c, 0x59, 0x44, 0x45, 0x56, 0x30, 0x31, 0, 2, 0, 1, 0, 1, 0, 8, 0, 2, 0, 8, 0x27,
+    0xdc, 0, 0, 0, 0x10, 0, 0, 0x20, 0, 0, 0, 5, 0xdc, 0, 0, 0, 0, 0, 0, 0x13, 0x88, 0, 0, 0, 0, 0,
+    1, 0x86, 0xa0, 0x20, 0,
+];
+
+const LONG_SIZE: usize = 1_069_048;
+
+#[test]
+fn a_header_for_payloads_of_8192_bytes(rt: HostRuntime) -> Result<(), Fail> {
+    let alloc = rt.alloc();
+    expect!(rt; header_of(alloc, &LONG_HEADER, LONG_SIZE)? == Ok(LONG));
+    let short = header_of(alloc, &LONG_HEADER, LONG_SIZE - 1)?;
+    expect!(rt; short == Err(HeaderFault::BadGeometry));
+    Ok(())
+}
+
+/// A spool's longest payload has 1 to 8,192 bytes.
+#[test]
+fn a_header_for_other_payloads(rt: HostRuntime) -> Result<(), Fail> {
+    for (high, low, payload) in [
+        (0, 1, 1),
+        (4, 0xb0, 1_200),
+        (4, 0xb1, 1_201),
+        (0x1f, 0xff, 8_191),
+    ] {
+        let mut header = LONG_HEADER;
+        header[51] = high;
+        header[52] = low;
+        let params = Params {
+            payload,
+            ..LONG.params
+        };
+        let read = header_of(rt.alloc(), &header, LONG_SIZE)?;
+        assert!(rt; read == Ok(Geometry { params, ..LONG }), "{payload}");
+    }
+    for (high, low) in [(0, 0), (0x20, 1), (0xff, 0xff)] {
+        let mut header = LONG_HEADER;
+        header[51] = high;
+        header[52] = low;
+        let read = header_of(rt.alloc(), &header, LONG_SIZE)?;
+        assert!(rt; read == Err(HeaderFault::BadGeometry), "{high} {low}");
+    }
+    Ok(())
+}
+
+/// Segments of the least length for payloads of 1,200 bytes are 64 bytes too short for one byte more.
+#[test]
+fn a_header_for_longer_payloads_than_its_segments_have_room_for(
+    rt: HostRuntime,
+) -> Result<(), Fail> {
+    let mut header = HEADER;
+    header[52] = 0xb1;
+    let read = header_of(rt.alloc(), &header, SIZE as usize)?;
+    expect!(rt; read == Err(HeaderFault::BadGeometry));
+    // 82,972, on a device that is long enough for that
+    header[21] = 0x44;
+    header[22] = 0x1c;
+    let read = header_of(rt.alloc(), &header, 166_008)?;
+    expect!(rt; matches!(read, Ok(geometry) if geometry.params.payload == 1_201 && geometry.length == 82_972));
     Ok(())
 }
 

@@ -23,6 +23,7 @@ const DEVICE_E: Geometry = Geometry {
         maxpacket: 1_500,
         target: 5_000,
         interval: 100_000,
+        payload: 1_200,
     },
     segments: 2,
     length: 82_908,
@@ -33,8 +34,15 @@ const SIZE: usize = 165_880;
 /// Where the second segment begins.
 const SECOND: usize = 82_972;
 
-/// The bytes at places 0 to 50 of that device.
-const HEADER: [u8; 51] = [
+/// The bytes at places 0 to 52 of that device.
+const HEADER: [u8; 53] = [
+    0xa5, 0x52, 0x4c, 0x59, 0x44, 0x45, 0x56, 0x30, 0x31, 0, 2, 0, 1, 0, 1, 0, 8, 0, 2, 0, 1, 0x43,
+    0xdc, 0, 0, 0, 0x10, 0, 0, 0x10, 0, 0, 0, 5, 0xdc, 0, 0, 0, 0, 0, 0, 0x13, 0x88, 0, 0, 0, 0, 0,
+    1, 0x86, 0xa0, 4, 0xb0,
+];
+
+/// Those of a header of version 1, which is only read: places 0 to 50.
+const FIRST_HEADER: [u8; 51] = [
     0xa5, 0x52, 0x4c, 0x59, 0x44, 0x45, 0x56, 0x30, 0x31, 0, 1, 0, 1, 0, 1, 0, 8, 0, 2, 0, 1, 0x43,
     0xdc, 0, 0, 0, 0x10, 0, 0, 0x10, 0, 0, 0, 5, 0xdc, 0, 0, 0, 0, 0, 0, 0x13, 0x88, 0, 0, 0, 0, 0,
     1, 0x86, 0xa0,
@@ -42,6 +50,9 @@ const HEADER: [u8; 51] = [
 
 /// The bytes at the front of the head of the empty state. 80 bytes 00 and a closed gate follow.
 const HEAD: [u8; 13] = [0xa5, 0, 0, 0, 0, 0, 0, 0, 1, 0x80, 0, 0, 0x50];
+
+/// The bytes at the front of that head in the first form. 87 bytes 00 and a closed gate follow.
+const FIRST_HEAD: [u8; 13] = [0xa5, 0, 0, 0, 0, 0, 0, 0, 1, 0, 0, 0, 0x57];
 
 /// Those of a head in the first form, of a later generation. 87 bytes and a gate follow.
 const OLD_HEAD: [u8; 13] = [0xa5, 0, 0, 0, 0, 0, 0, 0, 9, 0, 0, 0, 0x57];
@@ -100,7 +111,7 @@ fn expect_formatted(rt: &impl Abort, alloc: Global, byte: u8) -> Result<(), Allo
 /// These are the bytes of a new device, and beside what was written all have the byte of before.
 fn expect_beside(rt: &impl Abort, bytes: &[u8], byte: u8) {
     expect!(rt; is_formatted(bytes));
-    expect!(rt; bytes.iter().skip(51).take(13).all(|b| *b == byte));
+    expect!(rt; bytes.iter().skip(53).take(11).all(|b| *b == byte));
     expect!(rt; bytes.get(SECOND) == Some(&0));
     expect!(rt; bytes.iter().skip(158).filter(|b| **b != byte).count() <= 1);
 }
@@ -110,6 +121,34 @@ fn a_device_is_formatted(rt: HostRuntime) -> Result<(), Fail> {
     for byte in [0xa5, 0] {
         expect_formatted(&rt, rt.alloc(), byte)?;
     }
+    Ok(())
+}
+
+/// The device as programs wrote it which knew neither limits nor longer payloads: a header of version 1, a head of the first form, and
+/// `ff` where they wrote nothing.
+fn first_device(alloc: Global) -> Result<Vec<u8>, AllocError> {
+    let mut bytes = Vec::from_slice(alloc, &FIRST_HEADER)?;
+    bytes.resize(64, 0xff)?;
+    bytes.extend_from_slice(&FIRST_HEAD)?;
+    bytes.resize(165, 0)?;
+    bytes.resize(SECOND, 0xff)?;
+    bytes.push(0)?;
+    bytes.resize(SIZE, 0xff)?;
+    Ok(bytes)
+}
+
+/// The header is of version 2 then, the head of the second form, and what is written to neither stays: places 53 to 63, and what was
+/// behind the gate that is closed at 157.
+#[test]
+fn a_device_of_version_1_is_formatted(rt: HostRuntime) -> Result<(), Fail> {
+    let alloc = rt.alloc();
+    let mut disk = MemDisk::new(alloc, first_device(alloc)?);
+    expect!(rt; format(alloc, &mut disk, &DEVICE_E) == Ok(()));
+    let bytes = bytes_of(alloc, &mut disk)?;
+    let first = first_device(alloc)?;
+    expect!(rt; is_formatted(&bytes));
+    expect!(rt; bytes.iter().skip(53).take(11).all(|byte| *byte == 0xff));
+    expect!(rt; bytes.iter().skip(158).eq(first.iter().skip(158)));
     Ok(())
 }
 
@@ -152,14 +191,16 @@ fn a_bad_geometry_is_refused(rt: HostRuntime) -> Result<(), Fail> {
     Ok(())
 }
 
-/// What is left of a format that stops at a call, after a crash.
+/// What is left of a format of a device with these bytes that stops at a call, after a crash.
 fn stopped_format(
     rt: &impl Abort,
     alloc: Global,
+    old: &[u8],
     at: u64,
     kind: Torn,
 ) -> Result<MemDisk, AllocError> {
-    let mut disk = FaultDisk::new(disk_of(alloc, 0xa5, SIZE)?, at, 1, After::Stops);
+    let disk = MemDisk::new(alloc, Vec::from_slice(alloc, old)?);
+    let mut disk = FaultDisk::new(disk, at, 1, After::Stops);
     assert!(rt;
         format(alloc, &mut disk, &DEVICE_E) == Err(FormatFault::Device),
         "call {at}"
@@ -172,29 +213,45 @@ fn expect_old_or_new(
     rt: &impl Abort,
     alloc: Global,
     disk: MemDisk,
+    old: &[u8],
     at: u64,
 ) -> Result<(), AllocError> {
     let mut disk = disk;
     let bytes = bytes_of(alloc, &mut disk)?;
-    let old = bytes.iter().all(|byte| *byte == 0xa5);
     assert!(rt; bytes.len() == SIZE);
     assert!(rt;
-        old || bytes.first() != Some(&0xa5) || is_formatted(&bytes),
+        bytes.as_slice() == old || bytes.first() != Some(&0xa5) || is_formatted(&bytes),
         "call {at}"
     );
     Ok(())
 }
 
-/// A format that stops at each of its calls, and a crash of each kind, leave the old bytes, no
+/// A format that stops at each of its 15 calls, and a crash of each kind, leave the old bytes, no
 /// device or the new one.
-#[test]
-fn a_crash_within_a_format(rt: HostRuntime) -> Result<(), Fail> {
+fn expect_crashes(rt: &impl Abort, alloc: Global, old: &[u8]) -> Result<(), AllocError> {
     for at in 1..=15 {
         for kind in KINDS {
-            let disk = stopped_format(&rt, rt.alloc(), at, kind)?;
-            expect_old_or_new(&rt, rt.alloc(), disk, at)?;
+            let disk = stopped_format(rt, alloc, old, at, kind)?;
+            expect_old_or_new(rt, alloc, disk, old, at)?;
         }
     }
+    Ok(())
+}
+
+/// Over bytes that are no device, at a gate that reads open.
+#[test]
+fn a_crash_within_a_format(rt: HostRuntime) -> Result<(), Fail> {
+    let alloc = rt.alloc();
+    let old = vec![in alloc; 0xa5u8; SIZE]?;
+    expect_crashes(&rt, alloc, &old)?;
+    Ok(())
+}
+
+/// Over a device of version 1, which is left whole or is one of version 2.
+#[test]
+fn a_crash_within_a_format_of_a_device_of_version_1(rt: HostRuntime) -> Result<(), Fail> {
+    let alloc = rt.alloc();
+    expect_crashes(&rt, alloc, &first_device(alloc)?)?;
     Ok(())
 }
 

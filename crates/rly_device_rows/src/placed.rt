@@ -292,6 +292,48 @@ fn a_body_has_one_form_and_balances(rt: HostRuntime) -> Result<(), Fail> {
     Ok(())
 }
 
+/// Whether the head of the second of three segments is damaged in a spool of so long payloads, where the one by place has so many bytes.
+fn is_too_long(
+    rt: &impl Abort,
+    alloc: Global,
+    payload: u64,
+    length: [u8; 2],
+) -> Result<bool, AllocError> {
+    let mut body = BODY;
+    body[98] = length[0];
+    body[99] = length[1];
+    let mut disk = device_with(rt, alloc, MARK, &body)?;
+    let params = Params {
+        payload,
+        ..WIDE.params
+    };
+    let geometry = Geometry { params, ..WIDE };
+    assert!(rt; may_have(&geometry, disk.size()));
+    let read: Result<Head<Stored>, HeadFault> = read_head_of(alloc, &mut disk, &geometry, 1);
+    match read {
+        Ok(_) => Ok(false),
+        Err(HeadFault::Damaged) => Ok(true),
+        Err(HeadFault::OutOfMemory) => Err(AllocError),
+        Err(HeadFault::Device) => panic!(rt; "the device failed"),
+    }
+}
+
+/// A payload is at most as long as the spool's longest, also where it stands by place.
+#[test]
+fn a_longer_payload_is_damaged(rt: HostRuntime) -> Result<(), Fail> {
+    for (payload, length, want) in [
+        (7, [0, 7], false),
+        (7, [0, 8], true),
+        (1_200, [4, 0xb0], false),
+        (1_200, [4, 0xb1], true),
+        (1_201, [4, 0xb1], false),
+    ] {
+        let damaged = is_too_long(&rt, rt.alloc(), payload, length)?;
+        assert!(rt; damaged == want, "{payload} {length:?}");
+    }
+    Ok(())
+}
+
 /// Whether the head of the second of two segments is damaged, where it has this body by hand.
 fn is_damaged(rt: &impl Abort, alloc: Global, mark: u8, body: &[u8]) -> Result<bool, AllocError> {
     let mut disk = device_with(rt, alloc, mark, body)?;

@@ -1,7 +1,8 @@
 //! The room that a segment wants.
 use rly_core::{Geometry, Params};
-use rly_reclaim::{fits, free_segment, is_due, least_length, victim};
+use rly_reclaim::{fits, free_segment, group_room, is_due, least_length, victim};
 use rly_segment::segment_end;
+use std::process::Abort;
 
 /// One hop, one peer, 16 items and 4,096 bytes on two segments.
 const SMALL: Geometry = Geometry {
@@ -14,6 +15,7 @@ const SMALL: Geometry = Geometry {
         maxpacket: 1_500,
         target: 5_000,
         interval: 100_000,
+        payload: 1_200,
     },
     segments: 2,
     length: 82_908,
@@ -79,10 +81,87 @@ fn three_segments_of_the_least_length_take_355588_bytes(rt: HostRuntime) {
     expect!(rt; segment_end(&THREE, 2) == 355_588);
 }
 
+/// The largest group has 64 Takes of the longest payload: `64 * (23 + payload) + 8` bytes with its gate and one gate more.
+#[test]
+fn the_room_of_a_group_goes_by_the_longest_payload(rt: HostRuntime) {
+    expect!(rt; group_room(1) == 1_544);
+    expect!(rt; group_room(1_200) == 78_280);
+    expect!(rt; group_room(1_201) == 78_344);
+    expect!(rt; group_room(8_192) == 525_768);
+}
+
+/// The first spool for payloads of at most so many bytes: its least length, and whether segments of a length fit.
+fn least_and_fits(rt: &impl Abort, payload: u64, length: u64) -> (u64, bool) {
+    let geometry = Geometry {
+        params: Params {
+            payload,
+            ..SMALL.params
+        },
+        segments: 2,
+        length,
+    };
+    assert!(rt; geometry.params.check().is_ok());
+    (least_length(&geometry), fits(&geometry))
+}
+
+/// The least length has the room of a group in it, beside 4,628 bytes here.
+#[test]
+fn the_least_length_goes_by_the_longest_payload(rt: HostRuntime) {
+    for (payload, least) in [
+        (1, 6_172u64),
+        (1_200, 82_908),
+        (1_201, 82_972),
+        (8_192, 530_396),
+    ] {
+        assert!(rt;
+            least_and_fits(&rt, payload, least) == (least, true),
+            "{payload}"
+        );
+        let short = least.saturating_sub(1);
+        assert!(rt;
+            least_and_fits(&rt, payload, short) == (least, false),
+            "{payload}"
+        );
+    }
+}
+
+/// One hop, one peer, 16 items and 8,192 bytes on two segments, and payloads of at most 8,192 bytes.
+const LONG: Geometry = Geometry {
+    params: Params {
+        hops: 1,
+        peers: 1,
+        window: 8,
+        items: 16,
+        bytes: 8_192,
+        payload: 8_192,
+        ..Params::DEFAULT
+    },
+    segments: 2,
+    length: 534_492,
+};
+
+#[test]
+fn the_least_length_for_payloads_of_8192_bytes(rt: HostRuntime) {
+    expect!(rt; least_length(&LONG) == 534_492);
+    expect!(rt; segment_end(&LONG, 1) == 1_069_048);
+    let default = Geometry {
+        params: Params {
+            payload: 8_192,
+            ..Params::DEFAULT
+        },
+        segments: 4,
+        length: 0,
+    };
+    expect!(rt; least_length(&default) == 903_278);
+}
+
+/// 82,908 less 78,280 bytes, and 534,492 less 525,768.
 #[test]
 fn a_segment_is_due_where_the_largest_group_has_no_room(rt: HostRuntime) {
     expect!(rt; !is_due(&SMALL, 4_628));
     expect!(rt; is_due(&SMALL, 4_629));
+    expect!(rt; !is_due(&LONG, 8_724));
+    expect!(rt; is_due(&LONG, 8_725));
 }
 
 #[test]

@@ -48,14 +48,20 @@ placed past false places n packet any h = h
 ahead_below : (covered n : ℕ) → is_ahead covered n ≡ true → n < 2 ^ 64 - 1
 ahead_below covered n e = ltb-true _ _ (and_parts (nat_le 2 (n - covered) && nat_le (n - covered) 64) (nat_lt n (2 ^ 64 - 1)) e).1
 
-is_old_if_ahead : (past : List EarlyEvent) (e : EarlyView) (n : ℕ) (packet : List ℕ) (ahead : Bool) → is_ahead e.covered n ≡ ahead
-    → IsOld (past ++ Came n packet ∷ []) (kept n packet) ⊎ (ahead ≡ false)
-is_old_if_ahead past e n packet true is = inl (record { came = Contains-push past (Came n packet); below = ahead_below e.covered n is })
-is_old_if_ahead past e n packet false is = inr refl
+-- whether a Data that comes is kept
+abbrev is_kept : EarlyView → ℕ → List ℕ → Bool
+is_kept e n packet = is_ahead e.covered n && nat_le (length packet) e.longest
+
+is_old_if_kept : (past : List EarlyEvent) (e : EarlyView) (n : ℕ) (packet : List ℕ) (is : Bool) → is_kept e n packet ≡ is
+    → IsOld (past ++ Came n packet ∷ []) (kept n packet) ⊎ (is ≡ false)
+is_old_if_kept past e n packet true same =
+    let ahead = (and_parts (is_ahead e.covered n) (nat_le (length packet) e.longest) same).0 in
+    inl (record { came = Contains-push past (Came n packet); below = ahead_below e.covered n ahead })
+is_old_if_kept past e n packet false same = inr refl
 
 history_on_data : (past : List EarlyEvent) (e : EarlyView) (n : ℕ) (packet : List ℕ) → IsHistory past e → IsHistory (past ++ Came n packet ∷ []) (after_data e n packet)
 history_on_data past e n packet h = record {
-  places = placed (past ++ Came n packet ∷ []) (is_ahead e.covered n) e.places n packet (is_old_if_ahead past e n packet (is_ahead e.covered n) refl)
+  places = placed (past ++ Came n packet ∷ []) (is_kept e n packet) e.places n packet (is_old_if_kept past e n packet (is_kept e n packet) refl)
       (all_older past (Came n packet ∷ []) e.places h.places);
   turn = turn_on_data (n == e.next) e.covered e.next n (eqb-true n e.next) h.turn;
 }
@@ -81,9 +87,9 @@ history_after past e (event ∷ events) h =
     subst (λ (p : List EarlyEvent). IsHistory p (after_events (after_event e event) events)) (append_assoc past (event ∷ []) events)
     (history_after (past ++ event ∷ []) (after_event e event) events (history_on past e event h))
 
-pub history : (places : ℕ) (events : List EarlyEvent) → IsHistory events (after_events (new_early places) events)
-history places events =
-    history_after [] (new_early places) events (record { places = All-replicate (IsOldIf []) places None tt; turn = omega arith })
+pub history : (places longest : ℕ) (events : List EarlyEvent) → IsHistory events (after_events (new_early places longest) events)
+history places longest events =
+    history_after [] (new_early places longest) events (record { places = All-replicate (IsOldIf []) places None tt; turn = omega arith })
 
 -- what lies at a place is old
 old_at : (past : List EarlyEvent) (places : List (Option Kept)) (i : ℕ) (o : Option Kept) → All (IsOldIf past) places → slice_get places i ≡ Some o → IsOldIf past o

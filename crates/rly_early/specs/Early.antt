@@ -10,20 +10,26 @@ pub record Kept : Type 0 where
 abbrev pub kept : ℕ → List ℕ → Kept
 kept number packet = record { number = number; packet = packet }
 
+-- a place: for how many bytes it has memory, and what is kept there
+pub record PlaceView : Type 0 where
+  pub room : ℕ
+  pub held : Option Kept
+
 -- The greatest number that custody went out of; the number whose turn has come: it is the next one in order that wasn't
--- handed on since that custody; and the places, each with what is kept there.
+-- handed on since that custody; the most bytes of a packet that is kept; and the places, each with what is kept there.
 pub record EarlyView : Type 0 where
   pub covered : ℕ
   pub next : ℕ
+  pub longest : ℕ
   pub places : List (Option Kept)
 
 -- one more, up to the last number of 64 bits
 abbrev pub following : ℕ → ℕ
 following number = min (number + 1) (2 ^ 64 - 1)
 
--- before the first Data, with so many places
-abbrev pub new_early : ℕ → EarlyView
-new_early places = record { covered = 0; next = 1; places = replicate places None }
+-- before the first Data, with so many places for packets of at most so many bytes
+abbrev pub new_early : ℕ → ℕ → EarlyView
+new_early places longest = record { covered = 0; next = 1; longest = longest; places = replicate places None }
 
 -- A number lies ahead of a gap: above the one after those that custody went out of, and no further above than a window
 -- reaches. The last number of 64 bits never does.
@@ -34,15 +40,15 @@ is_ahead covered number = nat_le 2 (number - covered) && nat_le (number - covere
 abbrev pub place_of : ℕ → ℕ
 place_of number = number % 64
 
--- the places after a Data came: it is kept if it lies ahead of a gap
+-- the places after a Data came: it is kept if it lies ahead of a gap and isn't too long
 abbrev pub places_with : EarlyView → ℕ → List ℕ → List (Option Kept)
 places_with e number packet =
-    if is_ahead e.covered number then slice_set e.places (place_of number) (Some (kept number packet)) else e.places
+    if is_ahead e.covered number && nat_le (length packet) e.longest
+    then slice_set e.places (place_of number) (Some (kept number packet)) else e.places
 
 -- after a Data came: where its turn had come, that of the next number has
 abbrev pub after_data : EarlyView → ℕ → List ℕ → EarlyView
-after_data e number packet = record {
-  covered = e.covered;
+after_data e number packet = record e {
   next = if number == e.next then following number else e.next;
   places = places_with e number packet;
 }

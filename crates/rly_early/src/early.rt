@@ -1,10 +1,10 @@
 //! What is kept of the Data that came ahead of a gap.
 
-ghost use Rattle.std.specs.Prelude.{◌≡◌, ◌≤◌, IfOk, IfSome, Some, length, option_copied, slice_set, take};
+ghost use Rattle.std.specs.Prelude.{◌≡◌, ◌≤◌, IfOk, IfSome, Some, length, slice_set, take};
 ghost use Rattle.std.specs.Option.{option_map};
 ghost use Rattle.rly_early.specs.Early.{after_data, after_giving, after_custody, due, following, is_ahead, kept, new_early, place_of};
 
-use crate::kept::{KeptData, LONGEST};
+use crate::place::Place;
 use std::alloc::{AllocError, Global};
 use std::marker::Model;
 
@@ -12,56 +12,63 @@ use std::marker::Model;
 pub const PLACES: usize = 64;
 
 /// The Data of a neighbour that came before their turn. Contracts see the greatest number that custody went out of, the number whose
-/// turn has come, and what is kept where.
+/// turn has come, how long a packet may be that is kept, and what is kept where.
 #[derive(Drop)]
 pub struct Early {
     covered: u64,
     next: u64,
+    /// No longer packet is kept, in bytes.
+    longest: usize,
     /// A number's place is what it leaves when it is divided by 64. There are 64 of them, or none.
-    places: Vec<Option<KeptData>>,
+    places: Vec<Place>,
 }
 
 impl Model for Early {
+    ghost use Rattle.std.specs.Prelude.{◌≤◌, All, map};
     ghost use Rattle.rly_early.specs.Early.{EarlyView};
 
     ghost Value = { EarlyView };
 
-    ghost view = { λ e. record { covered = e.covered; next = e.next; places = e.places.items } };
+    ghost view = { λ e. record { covered = e.covered; next = e.next; longest = e.longest; places = map (λ p. p.held) e.places.items } };
+
+    ghost invariant = { λ e. All (λ p. e.longest ≤ p.room) e.places.items };
 }
 
 impl Early {
-    /// Nothing is kept yet, and there is room for 64 Data. All memory is taken here.
-    pub fn new(alloc: Global) -> Result<Early, AllocError>
-        ensures { IfOk result (λ e. e ≡ new_early PLACES) }
+    /// Nothing is kept yet, and there is room for 64 Data whose packets have at most so many bytes. All memory is taken here.
+    pub fn new(alloc: Global, longest: usize) -> Result<Early, AllocError>
+        ensures { IfOk result (λ e. e ≡ new_early PLACES longest) }
     {
         let mut places = Vec::with_capacity(alloc, PLACES)?;
         for _place in 0..PLACES {
-            places.push(None)?;
+            places.push(Place::new(alloc, longest)?)?;
         }
         Ok(Early {
             covered: 0,
             next: 1,
+            longest,
             places,
         })
     }
 
     /// Nothing is kept, ever.
     pub fn without_room(alloc: Global) -> Early
-        ensures { result ≡ new_early 0 }
+        ensures { result ≡ new_early 0 0 }
     {
         Early {
             covered: 0,
             next: 1,
+            longest: 0,
             places: Vec::new(alloc),
         }
     }
 
-    /// A Data came, in this packet. It is kept if it lies ahead of a gap. If its turn has come, that of the next number comes.
+    /// A Data came, in this packet. It is kept if it lies ahead of a gap and isn't too long. If its turn has come, that of the next
+    /// number comes.
     pub fn hear(&mut self, number: u64, packet: &[u8])
-        requires { length packet.now ≤ LONGEST }
         ensures { self.new ≡ after_data self.old number packet.now }
     {
-        if is_ahead(self.covered, number) {
+        if is_ahead(self.covered, number) && packet.len() <= self.longest {
             self.keep(number, packet);
         }
         if number == self.next {
@@ -71,12 +78,12 @@ impl Early {
 
     /// Keeps a packet at its number's place, if there is one.
     fn keep(&mut self, number: u64, packet: &[u8])
-        requires { length packet.now ≤ LONGEST }
+        requires { length packet.now ≤ self.old.longest }
         ensures { self.new ≡ record self.old { places = slice_set self.old.places (place_of number) (Some (kept number packet.now)) } }
     {
         let place = place_of(number);
         if place < self.places.len() {
-            self.places[place] = Some(KeptData::new(number, packet));
+            self.places[place].keep(number, packet);
         }
     }
 
@@ -87,17 +94,10 @@ impl Early {
         ensures packet { option_map (λ count. take count buffer.new) result ≡ option_map (λ k. k.packet) (due self.old (length buffer.old)) }
         ensures after { self.new ≡ after_giving self.old (length buffer.old) }
     {
-        let count = self.due(buffer.len())?.put(buffer);
+        let place = self.places.get(place_of(self.next))?;
+        let count = place.give(self.next, buffer)?;
         self.next = following(self.next);
         Some(count)
-    }
-
-    /// The kept packet whose turn has come, if it fits into so many bytes.
-    fn due(&self, room: usize) -> Option<&KeptData>
-        ensures { option_copied result ≡ due self.now room }
-    {
-        let kept = self.places.get(place_of(self.next))?.as_ref()?;
-        kept.is_for(self.next, room).then_some(kept)
     }
 
     /// Custody of all numbers up to this one goes out. Where it is more than before, the turn of the number after it has come.

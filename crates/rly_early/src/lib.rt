@@ -8,9 +8,8 @@
 #![tactic(auto)]
 
 mod early;
-mod kept;
 mod laws;
+mod place;
 
 pub use crate::early::{Early, PLACES};
-pub use crate::kept::LONGEST;
 pub use crate::laws::law_given_again_came_before;

@@ -64,10 +64,12 @@ fn what_is_given_is_read(rt: HostRuntime) {
         "--window",
         "64",
         "--bytes=18446744073709551615",
+        "--payload=8192",
     ];
     let params = Params {
         window: 64,
         bytes: u64::MAX,
+        payload: 8_192,
         ..Params::DEFAULT
     };
     let format = settings_of(&rt, words.as_slice());
@@ -137,6 +139,8 @@ fn numbers_are_read_as_they_are(rt: HostRuntime) {
             text,
             "--interval",
             text,
+            "--payload",
+            text,
             "--segments",
             text,
             "--length",
@@ -153,6 +157,7 @@ fn numbers_are_read_as_they_are(rt: HostRuntime) {
             maxpacket: number,
             target: number,
             interval: number,
+            payload: number,
         };
         let format = settings_of(&rt, words.as_slice());
         let file = "spool";
@@ -163,11 +168,21 @@ fn numbers_are_read_as_they_are(rt: HostRuntime) {
             length: Some(number),
             force: true
         }));
-        let words = ["rly", "sim", "--hops", text, "--interval", text];
+        let words = [
+            "rly",
+            "sim",
+            "--hops",
+            text,
+            "--interval",
+            text,
+            "--payload",
+            text,
+        ];
         let sim = settings_of(&rt, words.as_slice());
         let params = Params {
             hops: number,
             interval: number,
+            payload: number,
             ..Params::DEFAULT
         };
         expect!(rt; sim == Some(Settings::Sim { params }));
@@ -244,6 +259,25 @@ fn bad_words_are_refused(rt: HostRuntime) {
     }
     let twice = ["rly", "play", "spool", "--batch=1", "--batch=1"];
     assert!(rt; are_bad(&rt, twice.as_slice()), "a repeated option");
+}
+
+#[test]
+fn a_bad_payload_is_refused(rt: HostRuntime) {
+    for payload in [
+        "--payload=x",
+        "--payload=-1",
+        "--payload=",
+        "--payload=18446744073709551616",
+    ] {
+        let words = ["rly", "sim", payload];
+        assert!(rt; are_bad(&rt, words.as_slice()), "{payload}");
+        let words = ["rly", "format", "spool", payload];
+        assert!(rt; are_bad(&rt, words.as_slice()), "{payload}");
+    }
+    let twice = ["rly", "sim", "--payload=1", "--payload=1"];
+    assert!(rt; are_bad(&rt, twice.as_slice()), "a repeated option");
+    let played = ["rly", "play", "spool", "--payload=1"];
+    assert!(rt; are_bad(&rt, played.as_slice()), "a device has its own");
 }
 
 #[test]

@@ -1,8 +1,9 @@
 -- What was staged may be gone on by, and what a group is once it was written.
-use Rattle.std.proofs.Common.{◌≡◌, ℕ, ◌+◌, ◌-◌, ◌<◌, ◌≤◌, ◌^◌, ◌∙◌, List, [], ◌∷◌, ◌++◌, length, take, drop, map, true, refl, ap, sym, subst, arith, append_assoc, inl, inr}
+use Rattle.std.proofs.Common.{◌≡◌, ℕ, suc, ◌+◌, ◌-◌, ◌*◌, ◌<◌, ◌≤◌, ◌^◌, ◌∙◌, List, [], ◌∷◌, ◌++◌, length, take, drop, map, true, refl, ap, sym, subst, arith, append_assoc, inl, inr}
 use Rattle.std.specs.Prelude.{All}
 use Rattle.std.proofs.lemmas.Bool.{cases_lt}
 use Rattle.std.proofs.lemmas.List.Elements.{All-cons, All-nil}
+use Rattle.std.proofs.Math.Nat.{mul-le-mul_left}
 use Rattle.byteorder.specs.Endian.{big_bytes}
 use Rattle.rly_core.specs.Bounds.{IsIn}
 use Rattle.rly_core.specs.declared.params.Geometry.{Geometry}
@@ -18,7 +19,8 @@ use Rattle.rly_gate.proofs.Frames.{length-frame}
 use Rattle.rly_machine.specs.Map.{map_command, payload_of}
 use Rattle.rly_machine.specs.declared.command.Command.{Command}
 use Rattle.rly_machine.specs.declared.command.Command.TheVariants.{Take, Pick, Release}
-use Rattle.rly_record.specs.Spelling.{HasRecord, body_of, record_length}
+use Rattle.rly_record.specs.Spelling.{HasRecord, IsShort, body_of, longest_record, record_length}
+use Rattle.rly_record.proofs.Bodies.{record_length-short}
 use Rattle.rly_reclaim.specs.Room.{IsDue, group_room}
 use Rattle.rly_checkpoint.specs.Stored.{payload_in}
 use Rattle.rly_checkpoint.specs.declared.stored.Stored.{Stored}
@@ -28,7 +30,7 @@ use Rattle.rly_keeping.specs.Keeping.{IsBrought, LiesBetween}
 use Rattle.rly_grouping.specs.Groups.{GroupState, Holds, group_body, record_place}
 use Rattle.rly_grouping.specs.Lying.{Commands, lying_at, placed_at, placed_group}
 use Rattle.rly_grouping.proofs.Lying.{group_commands}
-use Rattle.rly_grouping.proofs.Records.{body_length, holds_body, holds_most, record_most}
+use Rattle.rly_grouping.proofs.Records.{body_length, holds_body, holds_most, holds_small}
 
 -- ---- places
 
@@ -59,26 +61,45 @@ placed_brought g segment used place command there from below to = record {
 -- ---- room
 
 -- how much room there is after a gate
-not_due : (g : Geometry) (segment gate : ℕ) → segment_place g segment ≤ gate → (IsDue g (gate - segment_place g segment) → ⊥) → gate + group_room ≤ segment_end g segment
+pub not_due : (g : Geometry) (segment gate : ℕ) → segment_place g segment ≤ gate → (IsDue g (gate - segment_place g segment) → ⊥) → gate + group_room g.params.payload ≤ segment_end g segment
 not_due g segment gate above room =
-    elim (cases_lt g.length (gate - segment_place g segment + group_room)) [
+    elim (cases_lt g.length (gate - segment_place g segment + group_room g.params.payload)) [
       | inl due ↦ absurd (room due)
       | inr fits ↦ omega (arith, fits, above)
     ]
 
+-- how much the records of a group take there
+records_within : (g : Geometry) (commands : Commands) (group : GroupState) → group.most ≡ g.params.payload → Holds commands group
+    → length group.records ≤ longest_record g.params.payload * length commands
+records_within g commands group same holds = subst (λ (n : ℕ). length group.records ≤ longest_record n * length commands) same (holds_most commands group holds)
+
 pub brought : (g : Geometry) (segment used gate : ℕ) (commands : Commands) (command : Command (List ℕ)) (group : GroupState)
-    → segment < g.segments → segment_place g segment ≤ gate → (IsDue g (gate - segment_place g segment) → ⊥)
-    → Holds commands group → length commands < 64 → HasRecord command → segment_place g segment ≤ used → used ≤ record_place gate group
+    → group.most ≡ g.params.payload → segment < g.segments → segment_place g segment ≤ gate → (IsDue g (gate - segment_place g segment) → ⊥)
+    → Holds commands group → length commands < 64 → HasRecord command → IsShort g.params.payload command
+    → segment_place g segment ≤ used → used ≤ record_place gate group
     → IsBrought g segment used (record_place gate group + record_length length command) (placed_at (record_place gate group) command)
-brought g segment used gate commands command group there above room holds few has from below =
+brought g segment used gate commands command group same there above room holds few has short from below =
+    let less : suc (length commands) ≤ 64 = omega (arith, few) in
     placed_brought g segment used (record_place gate group) command there from below
-    (omega (arith, not_due g segment gate above room, holds_most commands group holds, record_most command has, few))
+    (omega (
+      arith,
+      not_due g segment gate above room,
+      records_within g commands group same holds,
+      record_length-short g.params.payload command short,
+      mul-le-mul_left (longest_record g.params.payload) less,
+    ))
 
 pub group_fits : (g : Geometry) (segment gate : ℕ) (commands : Commands) (group : GroupState)
-    → segment_place g segment ≤ gate → (IsDue g (gate - segment_place g segment) → ⊥) → Holds commands group → length commands ≤ 64
-    → gate + 6 + length (group_body group) ≤ segment_end g segment
-group_fits g segment gate commands group above room holds few =
-    omega (arith, not_due g segment gate above room, holds_most commands group holds, body_length group, few)
+    → group.most ≡ g.params.payload → segment_place g segment ≤ gate → (IsDue g (gate - segment_place g segment) → ⊥) → Holds commands group
+    → length commands ≤ 64 → gate + 6 + length (group_body group) ≤ segment_end g segment
+group_fits g segment gate commands group same above room holds few =
+    omega (
+      arith,
+      not_due g segment gate above room,
+      records_within g commands group same holds,
+      body_length group,
+      mul-le-mul_left (longest_record g.params.payload) few,
+    )
 
 -- ---- a group that was written
 
@@ -117,7 +138,7 @@ module _ {D : Type 0} (state : D → DiskState) {a b : D} (gate : ℕ) (commands
       ∙ part-overwritten gate (group_of (group_body group)) (state a).seen (omega (arith, within)) in
       subst (HoldsGroup (state b).seen gate end) (holds_body commands group holds)
       (stands_whole (state b).seen gate end (group_body group) stands
-      (omega (arith, body_length group, holds_most commands group holds, count.1)) fits)
+      (holds_small commands group holds count) fits)
 
   pub grouped_commands : map (map_command (payload_in (state b).seen)) (placed_group gate commands) ≡ commands
   grouped_commands = group_commands (state b).seen gate (state a).size commands (grouped_stands (state a).size room)

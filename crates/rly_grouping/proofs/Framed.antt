@@ -1,22 +1,21 @@
 -- The group in its frame.
-use Rattle.std.proofs.Common.{◌≡◌, ℕ, ◌+◌, ◌*◌, ◌<◌, ◌≤◌, ◌∙◌, List, [], ◌++◌, length, take, drop, ap, sym, arith, length-append}
+use Rattle.std.proofs.Common.{◌≡◌, ℕ, suc, ◌+◌, ◌*◌, ◌<◌, ◌≤◌, ◌∙◌, List, [], ◌++◌, length, take, drop, ap, sym, arith, length-append}
 use Rattle.std.specs.Prelude.{Result, Ok, Err, IsOk, OnOk}
 use Rattle.std.proofs.lemmas.Bool.{false≢true}
 use Rattle.std.proofs.lemmas.List.{drop-append-le, drop_all, length-drop, length-take, take-append-drop, take_all}
+use Rattle.std.proofs.Math.Nat.{mul-le-mul_left}
 use Rattle.byteorder.specs.Endian.{big_bytes}
 use Rattle.rly_gate.specs.Group as gate
-use Rattle.rly_machine.specs.declared.command.Command.{Command}
-use Rattle.rly_machine.specs.declared.command.Command.TheVariants.{Take, Pick, Release}
-use Rattle.rly_record.specs.Spelling.{IsShort, record_length}
-use Rattle.rly_grouping.specs.Groups.{GroupState, frame_room, group_body, longest_record}
+use Rattle.rly_record.specs.Spelling.{longest_record}
+use Rattle.rly_grouping.specs.Groups.{GroupState, frame_room, group_body}
 
 -- a group of these parts
-abbrev pub group_of : List ℕ → ℕ → List ℕ → GroupState
-group_of records count staged = record { records = records; count = count; staged = staged }
+abbrev pub group_of : List ℕ → ℕ → List ℕ → ℕ → GroupState
+group_of records count staged most = record { records = records; count = count; staged = staged; most = most }
 
 -- the group that stands in a frame
-abbrev pub in_frame : ℕ → ℕ → List ℕ → GroupState
-in_frame kept count frame = group_of (drop 6 (take kept frame)) count (drop kept frame)
+abbrev pub in_frame : ℕ → ℕ → ℕ → List ℕ → GroupState
+in_frame kept count most frame = group_of (drop 6 (take kept frame)) count (drop kept frame) most
 
 -- where nothing is staged, all that stands in the frame was kept
 pub all_kept : (kept : ℕ) (frame : List ℕ) → kept ≤ length frame → drop kept frame ≡ [] → length frame ≡ kept
@@ -25,30 +24,24 @@ all_kept kept frame within none =
     omega (arith, size, length-drop kept frame)
 
 -- all of a frame is kept
-pub keep_is : (kept count size : ℕ) (frame : List ℕ) → 6 ≤ kept → kept ≤ length frame → size ≡ length frame
-    → in_frame size (count + 1) frame ≡ group_of (drop 6 (take kept frame) ++ drop kept frame) (count + 1) []
-keep_is kept count size frame front within is_size =
+pub keep_is : (kept count most size : ℕ) (frame : List ℕ) → 6 ≤ kept → kept ≤ length frame → size ≡ length frame
+    → in_frame size (count + 1) most frame ≡ group_of (drop 6 (take kept frame) ++ drop kept frame) (count + 1) [] most
+keep_is kept count most size frame front within is_size =
     let long : 6 ≤ length (take kept frame) = omega (arith, length-take kept frame, front, within) in
     let parts : drop 6 frame ≡ drop 6 (take kept frame) ++ drop kept frame =
     ap (drop 6) (sym (take-append-drop kept frame)) ∙ drop-append-le 6 (take kept frame) (drop kept frame) long in
     let whole : take size frame ≡ frame = take_all size frame (omega (arith, is_size)) in
     let none : drop size frame ≡ [] = drop_all size frame (omega (arith, is_size)) in
-    ap (λ l. group_of (drop 6 l) (count + 1) (drop size frame)) whole
-    ∙ ap (λ l. group_of l (count + 1) (drop size frame)) parts
-    ∙ ap (λ l. group_of (drop 6 (take kept frame) ++ drop kept frame) (count + 1) l) none
+    ap (λ l. group_of (drop 6 l) (count + 1) (drop size frame) most) whole
+    ∙ ap (λ l. group_of l (count + 1) (drop size frame) most) parts
+    ∙ ap (λ l. group_of (drop 6 (take kept frame) ++ drop kept frame) (count + 1) l most) none
 
 -- the body of a frame that was completed is the group's
-pub body_is : (kept count : ℕ) (frame new : List ℕ) → kept ≤ length frame → drop kept frame ≡ [] → gate.body_in new ≡ big_bytes 2 count ++ drop 6 frame
-    → gate.body_in new ≡ group_body (in_frame kept count frame)
-body_is kept count frame new within none completed =
+pub body_is : (kept count most : ℕ) (frame new : List ℕ) → kept ≤ length frame → drop kept frame ≡ [] → gate.body_in new ≡ big_bytes 2 count ++ drop 6 frame
+    → gate.body_in new ≡ group_body (in_frame kept count most frame)
+body_is kept count most frame new within none completed =
     let whole : take kept frame ≡ frame = take_all kept frame (omega (arith, all_kept kept frame within none)) in
     completed ∙ ap (λ l. big_bytes 2 count ++ drop 6 l) (sym whole)
-
--- how much a frame and one more record take
-pub record_fits : (command : Command (List ℕ)) → IsShort command → record_length length command ≤ longest_record
-record_fits (Take peer number hop stamp limit payload) short = omega (arith, short)
-record_fits (Pick hop now) short = omega arith
-record_fits (Release hop number) short = omega arith
 
 -- what holds of what didn't fail
 pub on_ok_holds : {T E : Type 0} (r : Result T E) (P : Type 0) → IsOk r → OnOk r P → P
@@ -56,14 +49,16 @@ on_ok_holds (Ok x) P ok holds = holds
 on_ok_holds (Err e) P ok holds = absurd (false≢true ok)
 
 -- there is room in a frame for one more record
-pub stage_room : (kept count len cap more : ℕ) (frame : List ℕ) → len ≡ length frame → length frame ≡ kept → kept ≤ 6 + longest_record * count → count < 64
-    → frame_room ≤ cap → more ≤ longest_record → len + more ≤ cap
-stage_room kept count len cap more frame size full most few room short = omega arith
+pub stage_room : (most kept count len cap more : ℕ) (frame : List ℕ) → len ≡ length frame → length frame ≡ kept → kept ≤ 6 + longest_record most * count
+    → count < 64 → frame_room most ≤ cap → more ≤ longest_record most → len + more ≤ cap
+stage_room most kept count len cap more frame size full within few room short =
+    let less : suc count ≤ 64 = omega (arith, few) in
+    omega (arith, mul-le-mul_left (longest_record most) less)
 
 -- how much the records of a group take in a frame
-pub records_length : (kept count : ℕ) (frame : List ℕ) (group : GroupState) → in_frame kept count frame ≡ group → 6 ≤ kept → kept ≤ length frame
+pub records_length : (kept count most : ℕ) (frame : List ℕ) (group : GroupState) → in_frame kept count most frame ≡ group → 6 ≤ kept → kept ≤ length frame
     → length group.records + 6 ≡ kept
-records_length kept count frame group is_group front within =
+records_length kept count most frame group is_group front within =
     let size : length (drop 6 (take kept frame)) ≡ length group.records = ap (λ (g : GroupState). length g.records) is_group in
     omega (arith, size, length-drop 6 (take kept frame), length-take kept frame, front, within)
 

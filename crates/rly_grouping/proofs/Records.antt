@@ -1,5 +1,5 @@
 -- The commands of a group, and its bytes.
-use Rattle.std.proofs.Common.{◌≡◌, ℕ, ◌+◌, ◌*◌, ◌≤◌, ◌∙◌, List, [], ◌∷◌, ◌++◌, length, refl, ap, sym, arith, length-append}
+use Rattle.std.proofs.Common.{◌≡◌, ℕ, ◌+◌, ◌*◌, ◌^◌, ◌<◌, ◌≤◌, ◌∙◌, List, [], ◌∷◌, ◌++◌, length, refl, ap, sym, arith, length-append}
 use Rattle.std.specs.List.{AllByRecursion, flat_map}
 use Rattle.std.proofs.lemmas.List.{flat_map_more}
 use Rattle.std.proofs.lemmas.List.Concat.{flat_map-cons}
@@ -8,13 +8,14 @@ use Rattle.rly_core.specs.Bounds.{IsIn}
 use Rattle.rly_machine.specs.Map.{map_command}
 use Rattle.rly_machine.specs.declared.command.Command.{Command}
 use Rattle.rly_machine.specs.declared.command.Command.TheVariants.{Take, Pick, Release}
-use Rattle.rly_record.specs.Spelling.{HasRecord, HaveBody, body_of, record_length, record_of}
+use Rattle.rly_record.specs.Spelling.{HasRecord, HaveBody, IsShort, body_of, longest_record, record_length, record_of}
+use Rattle.rly_record.proofs.Bodies.{body_small, sum-lengths, sum-lengths-within}
 use Rattle.rly_record.proofs.Records.{length-record_of}
 use Rattle.rly_checkpoint.specs.Stored.{stored_length}
 use Rattle.rly_checkpoint.specs.declared.stored.Stored.{Stored}
 use Rattle.rly_checkpoint.specs.declared.stored.Stored.TheVariants.{Inline}
 use Rattle.rly_keeping.specs.Keeping.{IsCommandAlike}
-use Rattle.rly_grouping.specs.Groups.{GroupState, Holds, empty_group, group_body, longest_record, record_place, with_record}
+use Rattle.rly_grouping.specs.Groups.{GroupState, Holds, empty_group, group_body, record_place, with_record}
 use Rattle.rly_grouping.specs.Lying.{Commands, lying_at, placed_at, placed_from, placed_group}
 
 -- one more element of which the same holds
@@ -22,13 +23,14 @@ all_push : {X : Type 0} (P : X → Type 0) (xs : List X) (x : X) → AllByRecurs
 all_push P [] x all one = (one, tt)
 all_push P (y ∷ xs) x all one = (all.0, all_push P xs x all.1 one)
 
-pub holds_none : Holds [] empty_group
-holds_none = record { have = tt; records = refl; count = refl; staged = refl }
+pub holds_none : (most : ℕ) → Holds [] (empty_group most)
+holds_none most = record { have = tt; short = tt; records = refl; count = refl; staged = refl }
 
-pub holds_more : (commands : Commands) (command : Command (List ℕ)) (group : GroupState) → Holds commands group → HasRecord command
+pub holds_more : (commands : Commands) (command : Command (List ℕ)) (group : GroupState) → Holds commands group → HasRecord command → IsShort group.most command
     → Holds (commands ++ command ∷ []) (with_record group command)
-holds_more commands command group holds has = record {
+holds_more commands command group holds has short = record {
   have = all_push HasRecord commands command holds.have has;
+  short = all_push (IsShort group.most) commands command holds.short short;
   records = ap (λ (l : List ℕ). l ++ record_of command) holds.records ∙ flat_map_more record_of [] commands command;
   count = omega (arith, holds.count, length-append commands (command ∷ []));
   staged = refl;
@@ -43,28 +45,17 @@ holds_have commands group holds count = (count, holds.have)
 
 -- ---- lengths
 
--- how long a record is at most
-pub record_most : (command : Command (List ℕ)) → HasRecord command → record_length length command ≤ longest_record
-record_most (Take peer number hop stamp limit payload) has = omega (arith, has.4)
-record_most (Pick hop now) has = omega arith
-record_most (Release hop number) has = omega arith
-
-records_most : (commands : Commands) → AllByRecursion HasRecord commands → length (flat_map record_of commands) ≤ longest_record * length commands
-records_most [] have = omega arith
-records_most (command ∷ commands) have =
-    let one = record_most command have.0 in
-    let rest = records_most commands have.1 in
-    let both = length-append (record_of command) (flat_map record_of commands) in
-    let parts : length (flat_map record_of (command ∷ commands)) ≡ length (record_of command ++ flat_map record_of commands) = ap length (flat_map-cons record_of command commands) in
-    omega (arith, one, rest, both, parts, length-record_of command)
-
 pub body_length : (group : GroupState) → length (group_body group) ≡ 2 + length group.records
 body_length group = length-append (big_bytes 2 group.count) group.records
 
-pub holds_most : (commands : Commands) (group : GroupState) → Holds commands group → length group.records ≤ longest_record * length commands
+pub holds_most : (commands : Commands) (group : GroupState) → Holds commands group → length group.records ≤ longest_record group.most * length commands
 holds_most commands group holds =
     let size : length group.records ≡ length (flat_map record_of commands) = ap length holds.records in
-    omega (arith, size, records_most commands holds.have)
+    omega (arith, size, sum-lengths commands, sum-lengths-within group.most commands holds.short)
+
+-- its length fits four bytes
+pub holds_small : (commands : Commands) (group : GroupState) → Holds commands group → IsIn 1 64 (length commands) → length (group_body group) < 2 ^ 32
+holds_small commands group holds count = omega (arith, ap length (holds_body commands group holds), body_small commands (holds_have commands group holds count))
 
 -- ---- places
 

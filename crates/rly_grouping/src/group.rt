@@ -7,13 +7,14 @@ ghost use Rattle.rly_record.specs.Spelling.{HasRecord, IsRecordable, record_of};
 ghost use Rattle.rly_grouping.specs.Groups.{empty_group, frame_room, group_body, record_place};
 ghost use Rattle.rly_grouping.specs.Lying.{placed_at};
 
-use crate::placing::{TAKE_FIELDS, placed_at};
+use crate::placing::placed_at;
 use byteorder::{BigEndian, ByteOrder};
 use rly_checkpoint::Stored;
-use rly_core::limits::{MAX_PAYLOAD, MAX_ROUND};
+use rly_core::limits::MAX_PAYLOAD;
 use rly_disk::{Disk, DiskFault};
 use rly_gate::append_group;
 use rly_machine::{Command, Payload};
+use rly_reclaim::group_room;
 use rly_record::write_command;
 use std::alloc::{AllocError, Global};
 use std::marker::Model;
@@ -24,43 +25,42 @@ const BODY: usize = 4;
 /// The bytes before the records: the length, and the count in 2.
 const RECORDS: usize = 6;
 
-/// The bytes of the largest frame: those before the records, the longest records, and a gate.
-const FRAME_ROOM: usize = RECORDS
-    + MAX_ROUND as usize * (TAKE_FIELDS as usize + MAX_PAYLOAD as usize)
-    + 1;
-
 /// The group that a round makes, in the frame in which it is written. Its memory is reserved once,
-/// for the largest group.
+/// for the largest group of payloads that have at most so many bytes.
 #[derive(Drop)]
 pub struct Group {
     frame: Vec<u8>,
     kept: usize,
     count: u16,
+    most: u64,
 }
 
 impl Model for Group {
     ghost use Rattle.std.specs.Prelude.{◌+◌, ◌*◌, ◌≤◌, drop, length, take, vec_capacity};
-    ghost use Rattle.rly_grouping.specs.Groups.{GroupState, frame_room, longest_record};
+    ghost use Rattle.rly_record.specs.Spelling.{longest_record};
+    ghost use Rattle.rly_grouping.specs.Groups.{GroupState, frame_room};
 
     ghost Value = { GroupState };
 
-    ghost view = { λ g. record { records = drop 6 (take g.kept g.frame.items); count = g.count; staged = drop g.kept g.frame.items } };
+    ghost view = { λ g. record { records = drop 6 (take g.kept g.frame.items); count = g.count; staged = drop g.kept g.frame.items; most = g.most } };
 
-    ghost invariant = { λ g. (6 ≤ g.kept) × (g.kept ≤ length g.frame.items) × (g.kept ≤ 6 + longest_record * g.count)
-        × (length g.frame.items ≤ g.kept + longest_record) × (g.count ≤ 64) × (frame_room ≤ vec_capacity g.frame) };
+    ghost invariant = { λ g. (6 ≤ g.kept) × (g.kept ≤ length g.frame.items) × (g.kept ≤ 6 + longest_record g.most * g.count)
+        × (length g.frame.items ≤ g.kept + longest_record g.most) × (g.count ≤ 64) × (frame_room g.most ≤ vec_capacity g.frame) × (g.most ≤ 8192) };
 }
 
 impl Group {
-    /// A group that holds nothing.
-    pub fn new(alloc: Global) -> Result<Group, AllocError>
-        ensures { IfOk result (λ group. group ≡ empty_group) }
+    /// A group that holds nothing, with the memory for the largest where payloads have at most so many bytes.
+    pub fn new(alloc: Global, payload: u64) -> Result<Group, AllocError>
+        requires { payload ≤ MAX_PAYLOAD }
+        ensures { IfOk result (λ group. group ≡ empty_group payload) }
     {
-        let mut frame = Vec::with_capacity(alloc, FRAME_ROOM)?;
+        let mut frame = Vec::with_capacity(alloc, group_room(payload) as usize - 1)?;
         frame.extend_from_slice(&[0; RECORDS])?;
         Ok(Group {
             frame,
             kept: RECORDS,
             count: 0,
+            most: payload,
         })
     }
 
@@ -80,7 +80,7 @@ impl Group {
 
     /// Gives up all that it holds.
     fn clear(&mut self)
-        ensures { self.new ≡ empty_group }
+        ensures { self.new ≡ empty_group self.old.most }
     {
         self.frame.truncate(RECORDS);
         self.kept = RECORDS;
@@ -92,8 +92,8 @@ impl Group {
     pub fn stage(&mut self, gate: u64, command: Command<Payload>) -> Command<Stored>
         requires room { self.old.count < 64 }
         requires nothing { self.old.staged ≡ [] }
-        requires recordable { IsRecordable command }
-        requires gate { gate + frame_room < 2 ^ 64 }
+        requires recordable { IsRecordable self.old.most command }
+        requires gate { gate + frame_room self.old.most < 2 ^ 64 }
         ensures staged { self.new ≡ record self.old { staged = record_of command } }
         ensures has { HasRecord command }
         ensures placed { result ≡ placed_at (record_place gate self.old) command }
@@ -106,7 +106,7 @@ impl Group {
     /// Makes what was staged part of the group.
     pub fn keep(&mut self)
         requires room { self.old.count < 64 }
-        ensures { self.new ≡ record { records = self.old.records ++ self.old.staged; count = self.old.count + 1; staged = [] } }
+        ensures { self.new ≡ record self.old { records = self.old.records ++ self.old.staged; count = self.old.count + 1; staged = [] } }
     {
         self.kept = self.frame.len();
         self.count += 1;
@@ -126,7 +126,7 @@ impl Group {
         requires place_fits { at + 1 < 2 ^ 64 }
         requires room { at + 6 + length (group_body self.old) ≤ (D.state disk.old).size }
         ensures trace { Makes D.state (appending at (group_body self.old)) (is_ok result) disk.old disk.new }
-        ensures emptied { self.new ≡ empty_group }
+        ensures emptied { self.new ≡ empty_group self.old.most }
     {
         complete(&mut self.frame, self.count);
         let written = append_group(disk, at, &mut self.frame);

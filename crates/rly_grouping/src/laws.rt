@@ -12,8 +12,8 @@ ghost use Rattle.rly_machine.specs.Fold.{fold};
 ghost use Rattle.rly_machine.specs.Map.{map_command};
 ghost use Rattle.rly_machine.specs.State.{State};
 ghost use Rattle.rly_machine.specs.declared.command.Command.{Command};
-ghost use Rattle.rly_record.specs.Spelling.{HasRecord, body_of, record_length};
-ghost use Rattle.rly_reclaim.specs.Room.{IsDue};
+ghost use Rattle.rly_record.specs.Spelling.{HasRecord, IsShort, body_of, longest_body, record_length};
+ghost use Rattle.rly_reclaim.specs.Room.{IsDue, group_room};
 ghost use Rattle.rly_checkpoint.specs.Stored.{payload_in, stored_length};
 ghost use Rattle.rly_checkpoint.specs.declared.stored.Stored.{Stored};
 ghost use Rattle.rly_checkpoint.specs.declared.stored.Stored.TheVariants.{Inline};
@@ -27,9 +27,9 @@ use rly_disk::Disk;
 
 /// A group holds no commands at first, and one more where a record that was staged is kept. It is written with their body.
 pub fn law_holds()
-    ensures none { Holds [] empty_group }
+    ensures none { (most : ℕ) → Holds [] (empty_group most) }
     ensures more { (commands : Commands) (command : Command (List ℕ)) (group : GroupState) → Holds commands group → HasRecord command
-        → Holds (commands ++ command ∷ []) (with_record group command) }
+        → IsShort group.most command → Holds (commands ++ command ∷ []) (with_record group command) }
     ensures body { (commands : Commands) (group : GroupState) → Holds commands group → group_body group ≡ body_of commands }
 {}
 
@@ -45,16 +45,23 @@ pub fn law_places()
     ensures inline { (command : Command (List ℕ)) → IsCommandAlike (map_command Inline command) command }
 {}
 
+/// The room that segments keep for the largest group is that of its body, with its length, its gate and one gate more.
+pub fn law_room()
+    ensures room { (payload : ℕ) → group_room payload ≡ longest_body payload + 6 }
+    ensures worked { (group_room 1200 ≡ 78280) × (group_room 8192 ≡ 525768) }
+{}
+
 /// A command that was staged, told with its place, is one that an index may go on by, as its record and the gate after it lie in
 /// the segment, where no new one is due.
 pub fn law_brought()
     ensures brought { (g : Geometry) (segment used gate : ℕ) (commands : Commands) (command : Command (List ℕ)) (group : GroupState)
-        → segment < g.segments → segment_place g segment ≤ gate → (IsDue g (gate - segment_place g segment) → ⊥)
-        → Holds commands group → length commands < 64 → HasRecord command → segment_place g segment ≤ used → used ≤ record_place gate group
+        → group.most ≡ g.params.payload → segment < g.segments → segment_place g segment ≤ gate
+        → (IsDue g (gate - segment_place g segment) → ⊥) → Holds commands group → length commands < 64 → HasRecord command
+        → IsShort g.params.payload command → segment_place g segment ≤ used → used ≤ record_place gate group
         → IsBrought g segment used (record_place gate group + record_length length command) (placed_at (record_place gate group) command) }
     ensures room { (g : Geometry) (segment gate : ℕ) (commands : Commands) (group : GroupState)
-        → segment_place g segment ≤ gate → (IsDue g (gate - segment_place g segment) → ⊥) → Holds commands group → length commands ≤ 64
-        → gate + 6 + length (group_body group) ≤ segment_end g segment }
+        → group.most ≡ g.params.payload → segment_place g segment ≤ gate → (IsDue g (gate - segment_place g segment) → ⊥)
+        → Holds commands group → length commands ≤ 64 → gate + 6 + length (group_body group) ≤ segment_end g segment }
 {}
 
 /// A group was written. On an honest disk it stands at its gate, all other bytes are as they were, and its commands with their

@@ -13,5 +13,5 @@ mod laws;
 mod placing;
 
 pub use crate::group::Group;
-pub use crate::laws::{law_brought, law_gathered, law_grouped, law_holds, law_places};
+pub use crate::laws::{law_brought, law_gathered, law_grouped, law_holds, law_places, law_room};
 pub use crate::placing::{inlined, is_recordable, placed_at};

@@ -10,12 +10,12 @@ use rly_core::{HopId, PeerId};
 use rly_machine::{Command, Content, Payload};
 
 /// The bytes of a Take's record before its payload.
-pub(crate) const TAKE_FIELDS: u64 = 23;
+const TAKE_FIELDS: u64 = 23;
 
-/// Whether a command can be recorded, as each accepted one can.
-pub fn is_recordable(command: &Command<Payload>) -> bool
-    ensures yes { result ≡ true → IsRecordable command.now }
-    ensures no { IsRecordable command.now → result ≡ true }
+/// Whether a command can be recorded, as each can that a spool with so long payloads accepts.
+pub fn is_recordable(command: &Command<Payload>, most: u64) -> bool
+    ensures yes { result ≡ true → IsRecordable most command.now }
+    ensures no { IsRecordable most command.now → result ≡ true }
 {
     match command {
         Command::Take {
@@ -26,7 +26,7 @@ pub fn is_recordable(command: &Command<Payload>) -> bool
             limit,
             payload,
         } => {
-            payload.len() as u64 <= MAX_PAYLOAD
+            payload.len() as u64 <= most
                 && (*limit == 0 || is_limited(*peer, *number, *hop, *stamp, *limit))
         }
         Command::Pick { .. } | Command::Release { .. } => true,
@@ -49,7 +49,7 @@ fn is_limited(peer: PeerId, number: u64, hop: HopId, stamp: u64, limit: u64) -> 
 
 /// A command whose record stands at a place, with its payload by place. The bytes are given up.
 pub fn placed_at(place: u64, command: Command<Payload>) -> Command<Stored>
-    requires short { IsShort command }
+    requires short { IsShort MAX_PAYLOAD command }
     requires fits { place + TAKE_FIELDS < 2 ^ 64 }
     ensures { result ≡ placed_at place command }
 {

@@ -1,9 +1,10 @@
 -- The fields of a datagram: their bytes at a place, and what tests of them say.
-use Rattle.std.proofs.Common.{◌≡◌, ℕ, zero, suc, ◌+◌, ◌<◌, ◌≤◌, Bool, true, false, not, ◌||◌, ◌==◌, nat_lt, slice_index, List, [], ◌∷◌, ◌++◌, ◌⊎◌, length, get_or, take, drop, Option, Some, None, Ok, refl, append_assoc, arith, inl, inr}
+use Rattle.std.proofs.Common.{◌≡◌, ℕ, zero, suc, ◌+◌, ◌<◌, ◌≤◌, Bool, true, false, not, ◌||◌, ◌==◌, nat_lt, slice_index, List, [], ◌∷◌, ◌++◌, ◌⊎◌, length, get_or, take, drop, Option, Some, None, Ok, refl, sym, ap, ◌∙◌, append_assoc, arith, inl, inr}
 use Rattle.std.proofs.lemmas.Bool.{cases_lt, eqb-true, ltb-false, not-false, or_cases, or_parts}
 use Rattle.std.proofs.lemmas.List.{take-append-drop, drop-drop, length-take, length-drop, get_or-drop, get_or-take, get_or_past}
 use Rattle.std.proofs.lemmas.Nat.{be_bytes_2, be_bytes_8}
-use Rattle.byteorder.specs.Endian.{big_bytes}
+use Rattle.byteorder.specs.Endian.{big_bytes, big_number}
+use Rattle.byteorder.specs.Numbers.{big_from-cons}
 use Rattle.rly_core.specs.declared.refusal.Refusal.{Refusal}
 use Rattle.rly_hop.specs.Rows.{first_row}
 use Rattle.rly_hop.specs.Reading.{field_at, found_unless}
@@ -26,28 +27,51 @@ IsBytes-take n bytes fits i =
 abbrev pub field : ℕ → ℕ → List ℕ → List ℕ
 field width place bytes = take width (drop place bytes)
 
-field-fits : (width place : ℕ) (bytes : List ℕ) → IsBytes bytes → IsBytes (field width place bytes)
-field-fits width place bytes fits = IsBytes-take width (drop place bytes) (IsBytes-drop place bytes fits)
-
-length-field : (width place : ℕ) (bytes : List ℕ) → place + width ≤ length bytes → length (field width place bytes) ≡ width
-length-field width place bytes long = omega (arith, length-take width (drop place bytes), length-drop place bytes)
-
--- an item of a field
+-- an item of a front
 item : (width k : ℕ) (bytes : List ℕ) → k < width → get_or (take width bytes) k 0 ≡ get_or bytes k 0
 item width k bytes lt = get_or-take width bytes k 0 lt
 
--- a number of two or eight bytes, spelled again
+-- a number of so many bytes is spelled again as it was
+abbrev pub IsWide : ℕ → Type 0
+IsWide width = (bytes : List ℕ) → IsBytes bytes → width ≤ length bytes → big_bytes width (big_number width bytes) ≡ take width bytes
+
+wide_2 : IsWide 2
+wide_2 bytes fits long =
+    be_bytes_2 (take 2 bytes) (big_number 2 bytes) (omega (arith, length-take 2 bytes)) (IsBytes-take 2 bytes fits)
+    (omega (arith, item 2 0 bytes (omega arith), item 2 1 bytes (omega arith)))
+
+wide_8 : IsWide 8
+wide_8 bytes fits long =
+    be_bytes_8 (take 8 bytes) (big_number 8 bytes) (omega (arith, length-take 8 bytes)) (IsBytes-take 8 bytes fits)
+    (omega (arith, item 8 0 bytes (omega arith), item 8 1 bytes (omega arith), item 8 2 bytes (omega arith), item 8 3 bytes (omega arith), item 8 4 bytes (omega arith), item 8 5 bytes (omega arith), item 8 6 bytes (omega arith), item 8 7 bytes (omega arith)))
+
+-- a byte 0 in front
+IsBytes-zero : (bytes : List ℕ) → IsBytes bytes → IsBytes (0 ∷ bytes)
+IsBytes-zero bytes fits zero = omega arith
+IsBytes-zero bytes fits (suc i) = fits i
+
+-- a number is spelled as one of a byte more is that begins with a byte 0
+wide_below : (width : ℕ) → IsWide (suc width) → IsWide width
+wide_below width wide bytes fits long =
+    let moved = big_from-cons 0 width 0 bytes in
+    let same : big_number (suc width) (0 ∷ bytes) ≡ big_number width bytes = omega (arith, moved) in
+    ap (big_bytes width) (sym same) ∙ ap (drop 1) (wide (0 ∷ bytes) (IsBytes-zero bytes fits) (omega (arith, long)))
+
+wide_5 : IsWide 5
+wide_5 = wide_below 5 (wide_below 6 (wide_below 7 wide_8))
+
+-- a field's number, spelled again
+field-again : (width place : ℕ) (bytes : List ℕ) → IsWide width → IsBytes bytes → place + width ≤ length bytes → big_bytes width (field_at width place bytes) ≡ field width place bytes
+field-again width place bytes wide fits long = wide (drop place bytes) (IsBytes-drop place bytes fits) (omega (arith, length-drop place bytes))
+
 pub field_2 : (place : ℕ) (bytes : List ℕ) → IsBytes bytes → place + 2 ≤ length bytes → big_bytes 2 (field_at 2 place bytes) ≡ field 2 place bytes
-field_2 place bytes fits long =
-    let rest : List ℕ = drop place bytes in
-    be_bytes_2 (field 2 place bytes) (field_at 2 place bytes) (length-field 2 place bytes long) (field-fits 2 place bytes fits)
-    (omega (arith, item 2 0 rest (omega arith), item 2 1 rest (omega arith)))
+field_2 place bytes fits long = field-again 2 place bytes wide_2 fits long
+
+pub field_5 : (place : ℕ) (bytes : List ℕ) → IsBytes bytes → place + 5 ≤ length bytes → big_bytes 5 (field_at 5 place bytes) ≡ field 5 place bytes
+field_5 place bytes fits long = field-again 5 place bytes wide_5 fits long
 
 pub field_8 : (place : ℕ) (bytes : List ℕ) → IsBytes bytes → place + 8 ≤ length bytes → big_bytes 8 (field_at 8 place bytes) ≡ field 8 place bytes
-field_8 place bytes fits long =
-    let rest : List ℕ = drop place bytes in
-    be_bytes_8 (field 8 place bytes) (field_at 8 place bytes) (length-field 8 place bytes long) (field-fits 8 place bytes fits)
-    (omega (arith, item 8 0 rest (omega arith), item 8 1 rest (omega arith), item 8 2 rest (omega arith), item 8 3 rest (omega arith), item 8 4 rest (omega arith), item 8 5 rest (omega arith), item 8 6 rest (omega arith), item 8 7 rest (omega arith)))
+field_8 place bytes fits long = field-again 8 place bytes wide_8 fits long
 
 -- a field and what is after it
 pub field-append : (width place behind : ℕ) (bytes : List ℕ) → behind ≡ place + width → field width place bytes ++ drop behind bytes ≡ drop place bytes
@@ -68,38 +92,40 @@ front (a ∷ b ∷ c ∷ d ∷ bytes) kind fits long magic version is =
 pub joined_3 : (a b c d r r8 r6 r4 bytes : List ℕ) → d ++ r ≡ r8 → c ++ r8 ≡ r6 → b ++ r6 ≡ r4 → a ++ r4 ≡ bytes → ((a ++ b) ++ c) ++ d ++ r ≡ bytes
 joined_3 a b c d r r8 r6 r4 bytes e8 e6 e4 e0 = simp append_assoc (rw (e8, e6, e4) e0)
 
--- the tests of the nine rows of faults, none of which is met
-pub record NoFault (a b c d e f g h i : Bool) : Type 0 where
+-- the tests of the ten rows of faults, none of which is met
+pub record NoFault (a b c d e f g h i j : Bool) : Type 0 where
   pub header : a ≡ false
   pub magic : b ≡ false
   pub version : c ≡ false
   pub kind : d ≡ false
   pub station : e ≡ false
   pub fixed : f ≡ false
-  pub payload : g ≡ false
-  pub short : h ≡ false
-  pub long : i ≡ false
+  pub limit : g ≡ false
+  pub payload : h ≡ false
+  pub short : i ≡ false
+  pub long : j ≡ false
 
-pub no_fault : (a b c d e f g h i : Bool) (x1 x2 x3 x4 x5 x6 x7 x8 x9 : Refusal)
-    → first_row ((a, Some x1) ∷ (b, Some x2) ∷ (c, Some x3) ∷ (d, Some x4) ∷ (e, Some x5) ∷ (f, Some x6) ∷ (g, Some x7) ∷ (h, Some x8) ∷ (i, Some x9) ∷ []) None ≡ None
-    → NoFault a b c d e f g h i
-no_fault true b c d e f g h i x1 x2 x3 x4 x5 x6 x7 x8 x9 none = absurd cc
-no_fault false true c d e f g h i x1 x2 x3 x4 x5 x6 x7 x8 x9 none = absurd cc
-no_fault false false true d e f g h i x1 x2 x3 x4 x5 x6 x7 x8 x9 none = absurd cc
-no_fault false false false true e f g h i x1 x2 x3 x4 x5 x6 x7 x8 x9 none = absurd cc
-no_fault false false false false true f g h i x1 x2 x3 x4 x5 x6 x7 x8 x9 none = absurd cc
-no_fault false false false false false true g h i x1 x2 x3 x4 x5 x6 x7 x8 x9 none = absurd cc
-no_fault false false false false false false true h i x1 x2 x3 x4 x5 x6 x7 x8 x9 none = absurd cc
-no_fault false false false false false false false true i x1 x2 x3 x4 x5 x6 x7 x8 x9 none = absurd cc
-no_fault false false false false false false false false true x1 x2 x3 x4 x5 x6 x7 x8 x9 none = absurd cc
-no_fault false false false false false false false false false x1 x2 x3 x4 x5 x6 x7 x8 x9 none =
-    record { header = refl; magic = refl; version = refl; kind = refl; station = refl; fixed = refl; payload = refl; short = refl; long = refl }
+pub no_fault : (a b c d e f g h i j : Bool) (x1 x2 x3 x4 x5 x6 x7 x8 x9 x10 : Refusal)
+    → first_row ((a, Some x1) ∷ (b, Some x2) ∷ (c, Some x3) ∷ (d, Some x4) ∷ (e, Some x5) ∷ (f, Some x6) ∷ (g, Some x7) ∷ (h, Some x8) ∷ (i, Some x9) ∷ (j, Some x10) ∷ []) None ≡ None
+    → NoFault a b c d e f g h i j
+no_fault true b c d e f g h i j x1 x2 x3 x4 x5 x6 x7 x8 x9 x10 none = absurd cc
+no_fault false true c d e f g h i j x1 x2 x3 x4 x5 x6 x7 x8 x9 x10 none = absurd cc
+no_fault false false true d e f g h i j x1 x2 x3 x4 x5 x6 x7 x8 x9 x10 none = absurd cc
+no_fault false false false true e f g h i j x1 x2 x3 x4 x5 x6 x7 x8 x9 x10 none = absurd cc
+no_fault false false false false true f g h i j x1 x2 x3 x4 x5 x6 x7 x8 x9 x10 none = absurd cc
+no_fault false false false false false true g h i j x1 x2 x3 x4 x5 x6 x7 x8 x9 x10 none = absurd cc
+no_fault false false false false false false true h i j x1 x2 x3 x4 x5 x6 x7 x8 x9 x10 none = absurd cc
+no_fault false false false false false false false true i j x1 x2 x3 x4 x5 x6 x7 x8 x9 x10 none = absurd cc
+no_fault false false false false false false false false true j x1 x2 x3 x4 x5 x6 x7 x8 x9 x10 none = absurd cc
+no_fault false false false false false false false false false true x1 x2 x3 x4 x5 x6 x7 x8 x9 x10 none = absurd cc
+no_fault false false false false false false false false false false x1 x2 x3 x4 x5 x6 x7 x8 x9 x10 none =
+    record { header = refl; magic = refl; version = refl; kind = refl; station = refl; fixed = refl; limit = refl; payload = refl; short = refl; long = refl }
 
-pub quiet : (a b c d e f g h i : Bool) (x1 x2 x3 x4 x5 x6 x7 x8 x9 : Refusal)
-    → NoFault a b c d e f g h i
-    → first_row ((a, Some x1) ∷ (b, Some x2) ∷ (c, Some x3) ∷ (d, Some x4) ∷ (e, Some x5) ∷ (f, Some x6) ∷ (g, Some x7) ∷ (h, Some x8) ∷ (i, Some x9) ∷ []) None ≡ None
-quiet a b c d e f g h i x1 x2 x3 x4 x5 x6 x7 x8 x9 none =
-    rw (none.header, none.magic, none.version, none.kind, none.station, none.fixed, none.payload, none.short, none.long) refl
+pub quiet : (a b c d e f g h i j : Bool) (x1 x2 x3 x4 x5 x6 x7 x8 x9 x10 : Refusal)
+    → NoFault a b c d e f g h i j
+    → first_row ((a, Some x1) ∷ (b, Some x2) ∷ (c, Some x3) ∷ (d, Some x4) ∷ (e, Some x5) ∷ (f, Some x6) ∷ (g, Some x7) ∷ (h, Some x8) ∷ (i, Some x9) ∷ (j, Some x10) ∷ []) None ≡ None
+quiet a b c d e f g h i j x1 x2 x3 x4 x5 x6 x7 x8 x9 x10 none =
+    rw (none.header, none.magic, none.version, none.kind, none.station, none.fixed, none.limit, none.payload, none.short, none.long) refl
 
 pub ok-is : {A : Type 0} (x y : A) → found_unless None x ≡ found_unless None y → x ≡ y
 ok-is x y e = cc
@@ -119,16 +145,19 @@ pub record IsHeader (bytes : List ℕ) : Type 0 where
   pub from : 1 ≤ field_at 2 4 bytes
   pub to : 1 ≤ field_at 2 6 bytes
 
--- the kind is one of the three
-pub known_kind : (kind : ℕ) → not ((kind == 1) || (kind == 2) || (kind == 3)) ≡ false → (kind ≡ 1) ⊎ ((kind ≡ 2) ⊎ (kind ≡ 3))
+-- the kind is one of the four
+pub known_kind : (kind : ℕ) → not ((kind == 1) || (kind == 2) || (kind == 3) || (kind == 4)) ≡ false → (kind ≡ 1) ⊎ ((kind ≡ 2) ⊎ ((kind ≡ 3) ⊎ (kind ≡ 4)))
 known_kind kind e =
     elim (or_cases _ _ (not-false _ e)) [
-      | inl low ↦ elim (or_cases _ _ low) [ inl one ↦ inl (eqb-true _ _ one) | inr two ↦ inr (inl (eqb-true _ _ two)) ]
-      | inr three ↦ inr (inr (eqb-true _ _ three))
+      | inl below ↦ elim (or_cases _ _ below) [
+        | inl low ↦ elim (or_cases _ _ low) [ inl one ↦ inl (eqb-true _ _ one) | inr two ↦ inr (inl (eqb-true _ _ two)) ]
+        | inr three ↦ inr (inr (inl (eqb-true _ _ three)))
+      ]
+      | inr four ↦ inr (inr (inr (eqb-true _ _ four)))
     ]
 
 -- a number that isn't 0
-positive : (n : ℕ) → (n == 0) ≡ false → 1 ≤ n
+pub positive : (n : ℕ) → (n == 0) ≡ false → 1 ≤ n
 positive zero e = absurd cc
 positive (suc n) e = omega arith
 

@@ -1,5 +1,5 @@
 -- What is read is spelled so, and what is spelled so is read.
-use Rattle.std.proofs.Common.{◌≡◌, ℕ, ◌+◌, ◌^◌, ◌<◌, ◌≤◌, false, not, ◌&&◌, ◌||◌, ◌==◌, nat_lt, slice_index, List, [], ◌∷◌, ◌++◌, length, drop, None, Result, Ok, Err, refl, sym, ap, subst, ◌∙◌, arith, inl, inr}
+use Rattle.std.proofs.Common.{◌≡◌, ℕ, zero, suc, ◌+◌, ◌^◌, ◌<◌, ◌≤◌, false, not, ◌&&◌, ◌||◌, ◌==◌, nat_lt, slice_index, List, [], ◌∷◌, ◌++◌, length, drop, None, Result, Ok, Err, refl, sym, ap, subst, ◌∙◌, arith, inl, inr}
 use Rattle.std.specs.Prelude.{IfOk, IsOkAnd, MatchResult}
 use Rattle.std.specs.Borrow.{Bor}
 use Rattle.std.proofs.lemmas.Bool.{le-ltb, ltb-false, ne_eqb, or_from}
@@ -13,8 +13,8 @@ use Rattle.rly_hop.specs.declared.message.Message.{Message}
 use Rattle.rly_hop.specs.declared.message.Message.TheVariants.{Data, Custody, Refused}
 use Rattle.rly_hop.specs.Payloads.{message_bytes}
 use Rattle.rly_hop.specs.Spelling.{IsMessage, IsStation, header, spelling}
-use Rattle.rly_hop.specs.Reading.{first_fault, fixed_length, kind_of, message_at, field_at, reading, station_at, whole_length}
-use Rattle.rly_hop.proofs.Fields.{IsBytes, IsBytes-drop, IsHeader, IsHeader-from, NoFault, field-append, field_2, field_8, front, joined_3, known_kind, no_fault, ok-is, quiet, unless-is, unless-ok}
+use Rattle.rly_hop.specs.Reading.{first_fault, fixed_length, kind_of, message_at, field_at, payload_length, reading, station_at, whole_length}
+use Rattle.rly_hop.proofs.Fields.{IsBytes, IsBytes-drop, IsHeader, IsHeader-from, NoFault, field-append, field_2, field_5, field_8, front, joined_3, known_kind, no_fault, ok-is, positive, quiet, unless-is, unless-ok}
 
 -- a station's number, where it isn't 0
 station-fits : (place : ℕ) (bytes : List ℕ) → IsBytes bytes → 1 ≤ field_at 2 place bytes → IsStation (station_at place bytes)
@@ -24,6 +24,16 @@ station-fits place bytes fits low =
 
 number-fits : (place : ℕ) (bytes : List ℕ) → IsBytes bytes → field_at 8 place bytes < 2 ^ 64
 number-fits place bytes fits = big_from-lt 0 8 (drop place bytes) (IsBytes-drop place bytes fits)
+
+limit-fits : (place : ℕ) (bytes : List ℕ) → IsBytes bytes → field_at 5 place bytes < 2 ^ 40
+limit-fits place bytes fits = big_from-lt 0 5 (drop place bytes) (IsBytes-drop place bytes fits)
+
+-- the bytes of a payload's length, and of the payload, where the bytes end with it
+payload-spelled : (place behind : ℕ) (bytes : List ℕ) → IsBytes bytes → behind ≡ place + 2 → length bytes ≡ behind + field_at 2 place bytes
+    → drop place bytes ≡ big_bytes 2 (length (drop behind bytes)) ++ drop behind bytes
+payload-spelled place behind bytes fits after long =
+    let payload : length (drop behind bytes) ≡ field_at 2 place bytes = omega (arith, length-drop behind bytes) in
+    sym (field-append 2 place behind bytes after) ∙ ap (λ (x : List ℕ). x ++ drop behind bytes) (sym (field_2 place bytes fits (omega arith)) ∙ ap (big_bytes 2) (sym payload))
 
 -- the bytes of the header and of the number after it
 header-spelled : (bytes rest : List ℕ) (kind : ℕ) → IsBytes bytes → IsHeader bytes → kind_of bytes ≡ kind → 16 ≤ length bytes → drop 16 bytes ≡ rest
@@ -47,14 +57,29 @@ one_item (x ∷ y ∷ xs) e = absurd (omega arith)
 abbrev Spelled : ℕ → List ℕ → Type 0
 Spelled kind bytes = IsMessage (message_at kind bytes) × (bytes ≡ spelling (message_at kind bytes))
 
-data-spelled : (bytes : List ℕ) → IsBytes bytes → IsHeader bytes → kind_of bytes ≡ 1 → field_at 2 16 bytes ≤ 1200 → length bytes ≡ 18 + field_at 2 16 bytes → Spelled 1 bytes
+data-spelled : (bytes : List ℕ) → IsBytes bytes → IsHeader bytes → kind_of bytes ≡ 1 → field_at 2 16 bytes ≤ 8192 → length bytes ≡ 18 + field_at 2 16 bytes → Spelled 1 bytes
 unfolding spelling
-data-spelled bytes fits head is low long =
-    let payload : length (drop 18 bytes) ≡ field_at 2 16 bytes = omega (arith, length-drop 18 bytes) in
-    let behind : drop 16 bytes ≡ big_bytes 2 (length (drop 18 bytes)) ++ drop 18 bytes =
-    sym (field-append 2 16 18 bytes refl) ∙ ap (λ (x : List ℕ). x ++ drop 18 bytes) (sym (field_2 16 bytes fits (omega arith)) ∙ ap (big_bytes 2) (sym payload)) in (
-      (station-fits 4 bytes fits head.from, station-fits 6 bytes fits head.to, number-fits 8 bytes fits, omega arith),
-      header-spelled bytes (big_bytes 2 (length (drop 18 bytes)) ++ drop 18 bytes) 1 fits head is (omega arith) behind,
+data-spelled bytes fits head is low long = (
+  (station-fits 4 bytes fits head.from, station-fits 6 bytes fits head.to, number-fits 8 bytes fits, omega (arith, length-drop 18 bytes), omega arith),
+  header-spelled bytes (big_bytes 2 (length (drop 18 bytes)) ++ drop 18 bytes) 1 fits head is (omega arith) (payload-spelled 16 18 bytes fits refl long),
+)
+
+-- the spelling of a Data that has a limit
+pub spelling-limited : (from to : StationId) (number limit : ℕ) (payload : List ℕ) → 1 ≤ limit
+    → spelling (Data from to number limit payload) ≡ header 4 from to ++ big_bytes 8 number ++ big_bytes 5 limit ++ big_bytes 2 (length payload) ++ payload
+unfolding spelling
+spelling-limited from to number zero payload low = absurd (omega arith)
+spelling-limited from to number (suc limit) payload low = refl
+
+limited-data-spelled : (bytes : List ℕ) → IsBytes bytes → IsHeader bytes → kind_of bytes ≡ 4 → 1 ≤ field_at 5 16 bytes → field_at 2 21 bytes ≤ 8192 → length bytes ≡ 23 + field_at 2 21 bytes
+    → Spelled 4 bytes
+limited-data-spelled bytes fits head is above low long =
+    let last : drop 21 bytes ≡ big_bytes 2 (length (drop 23 bytes)) ++ drop 23 bytes = payload-spelled 21 23 bytes fits refl long in
+    let behind : drop 16 bytes ≡ big_bytes 5 (field_at 5 16 bytes) ++ (big_bytes 2 (length (drop 23 bytes)) ++ drop 23 bytes) =
+    sym (field-append 5 16 21 bytes refl) ∙ ap (λ (x : List ℕ). x ++ drop 21 bytes) (sym (field_5 16 bytes fits (omega arith))) ∙ ap (λ (x : List ℕ). big_bytes 5 (field_at 5 16 bytes) ++ x) last in (
+      (station-fits 4 bytes fits head.from, station-fits 6 bytes fits head.to, number-fits 8 bytes fits, omega (arith, length-drop 23 bytes), limit-fits 16 bytes fits),
+      header-spelled bytes (big_bytes 5 (field_at 5 16 bytes) ++ (big_bytes 2 (length (drop 23 bytes)) ++ drop 23 bytes)) 4 fits head is (omega arith) behind
+          ∙ sym (spelling-limited (station_at 4 bytes) (station_at 6 bytes) (field_at 8 8 bytes) (field_at 5 16 bytes) (drop 23 bytes) above),
     )
 
 custody-spelled : (bytes : List ℕ) → IsBytes bytes → IsHeader bytes → kind_of bytes ≡ 2 → length bytes ≡ 16 → Spelled 2 bytes
@@ -73,30 +98,30 @@ refused-spelled bytes fits head is long =
       header-spelled bytes (slice_index bytes 16 ∷ []) 3 fits head is (omega arith) last,
     )
 
--- none of the nine tests of a datagram is met
+-- none of the ten tests of a datagram is met
 abbrev IsQuiet : List ℕ → Type 0
 IsQuiet bytes = NoFault (nat_lt (length bytes) 8) (not (field_at 2 0 bytes == 0x524c)) (not (slice_index bytes 2 == 1))
-    (not ((kind_of bytes == 1) || (kind_of bytes == 2) || (kind_of bytes == 3))) ((field_at 2 4 bytes == 0) || (field_at 2 6 bytes == 0))
-    (nat_lt (length bytes) (fixed_length (kind_of bytes))) ((kind_of bytes == 1) && nat_lt 1200 (field_at 2 16 bytes))
+    (not ((kind_of bytes == 1) || (kind_of bytes == 2) || (kind_of bytes == 3) || (kind_of bytes == 4))) ((field_at 2 4 bytes == 0) || (field_at 2 6 bytes == 0))
+    (nat_lt (length bytes) (fixed_length (kind_of bytes))) ((kind_of bytes == 4) && (field_at 5 16 bytes == 0)) (nat_lt 8192 (payload_length (kind_of bytes) bytes))
     (nat_lt (length bytes) (whole_length (kind_of bytes) bytes)) (nat_lt (whole_length (kind_of bytes) bytes) (length bytes))
 
 quiet-from : (bytes : List ℕ) → first_fault bytes ≡ None → IsQuiet bytes
 unfolding first_fault
 quiet-from bytes none =
     no_fault (nat_lt (length bytes) 8) (not (field_at 2 0 bytes == 0x524c)) (not (slice_index bytes 2 == 1))
-    (not ((kind_of bytes == 1) || (kind_of bytes == 2) || (kind_of bytes == 3))) ((field_at 2 4 bytes == 0) || (field_at 2 6 bytes == 0))
-    (nat_lt (length bytes) (fixed_length (kind_of bytes))) ((kind_of bytes == 1) && nat_lt 1200 (field_at 2 16 bytes))
+    (not ((kind_of bytes == 1) || (kind_of bytes == 2) || (kind_of bytes == 3) || (kind_of bytes == 4))) ((field_at 2 4 bytes == 0) || (field_at 2 6 bytes == 0))
+    (nat_lt (length bytes) (fixed_length (kind_of bytes))) ((kind_of bytes == 4) && (field_at 5 16 bytes == 0)) (nat_lt 8192 (payload_length (kind_of bytes) bytes))
     (nat_lt (length bytes) (whole_length (kind_of bytes) bytes)) (nat_lt (whole_length (kind_of bytes) bytes) (length bytes))
-    Short Magic Version Kind Station Short Long Short Long none
+    Short Magic Version Kind Station Short Kind Long Short Long none
 
 reading-is : (bytes : List ℕ) (m : Message (List ℕ)) → IsQuiet bytes → message_at (kind_of bytes) bytes ≡ m → reading bytes ≡ Ok m
 unfolding reading first_fault
 reading-is bytes m none is =
     unless-is (first_fault bytes) (message_at (kind_of bytes) bytes) m (quiet (nat_lt (length bytes) 8) (not (field_at 2 0 bytes == 0x524c)) (not (slice_index bytes 2 == 1))
-    (not ((kind_of bytes == 1) || (kind_of bytes == 2) || (kind_of bytes == 3))) ((field_at 2 4 bytes == 0) || (field_at 2 6 bytes == 0))
-    (nat_lt (length bytes) (fixed_length (kind_of bytes))) ((kind_of bytes == 1) && nat_lt 1200 (field_at 2 16 bytes))
+    (not ((kind_of bytes == 1) || (kind_of bytes == 2) || (kind_of bytes == 3) || (kind_of bytes == 4))) ((field_at 2 4 bytes == 0) || (field_at 2 6 bytes == 0))
+    (nat_lt (length bytes) (fixed_length (kind_of bytes))) ((kind_of bytes == 4) && (field_at 5 16 bytes == 0)) (nat_lt 8192 (payload_length (kind_of bytes) bytes))
     (nat_lt (length bytes) (whole_length (kind_of bytes) bytes)) (nat_lt (whole_length (kind_of bytes) bytes) (length bytes))
-    Short Magic Version Kind Station Short Long Short Long none) is
+    Short Magic Version Kind Station Short Kind Long Short Long none) is
 
 pub reading-spelled : (bytes : List ℕ) (m : Message (List ℕ)) → IsBytes bytes → reading bytes ≡ Ok m → IsMessage m × (bytes ≡ spelling m)
 unfolding reading
@@ -109,20 +134,31 @@ reading-spelled bytes m fits e =
     let whole : length bytes ≡ whole_length (kind_of bytes) bytes = omega arith in
     subst (λ (x : Message (List ℕ)). IsMessage x × (bytes ≡ spelling x)) parts.1 (elim (known_kind (kind_of bytes) none.kind) [
       | inl first ↦
-          let payload : nat_lt 1200 (field_at 2 16 bytes) ≡ false = subst (λ (k : ℕ). ((k == 1) && nat_lt 1200 (field_at 2 16 bytes)) ≡ false) first none.payload in
+          let payload : nat_lt 8192 (field_at 2 16 bytes) ≡ false = subst (λ (k : ℕ). nat_lt 8192 (payload_length k bytes) ≡ false) first none.payload in
           let exact : length bytes ≡ whole_length 1 bytes = subst (λ (k : ℕ). length bytes ≡ whole_length k bytes) first whole in
           subst (λ (k : ℕ). Spelled k bytes) (sym first) (data-spelled bytes fits head first (ltb-false _ _ payload) exact)
       | inr rest ↦ elim rest [
         | inl custody ↦
             subst (λ (k : ℕ). Spelled k bytes) (sym custody) (custody-spelled bytes fits head custody (subst (λ (k : ℕ). length bytes ≡ whole_length k bytes) custody whole))
-        | inr refused ↦
-            subst (λ (k : ℕ). Spelled k bytes) (sym refused) (refused-spelled bytes fits head refused (subst (λ (k : ℕ). length bytes ≡ whole_length k bytes) refused whole))
+        | inr others ↦ elim others [
+          | inl refused ↦
+              subst (λ (k : ℕ). Spelled k bytes) (sym refused) (refused-spelled bytes fits head refused (subst (λ (k : ℕ). length bytes ≡ whole_length k bytes) refused whole))
+          | inr limited ↦
+              let limit : (field_at 5 16 bytes == 0) ≡ false = subst (λ (k : ℕ). ((k == 4) && (field_at 5 16 bytes == 0)) ≡ false) limited none.limit in
+              let payload : nat_lt 8192 (field_at 2 21 bytes) ≡ false = subst (λ (k : ℕ). nat_lt 8192 (payload_length k bytes) ≡ false) limited none.payload in
+              let exact : length bytes ≡ whole_length 4 bytes = subst (λ (k : ℕ). length bytes ≡ whole_length k bytes) limited whole in
+              subst (λ (k : ℕ). Spelled k bytes) (sym limited)
+              (limited-data-spelled bytes fits head limited (positive _ limit) (ltb-false _ _ payload) exact)
+        ]
       ]
     ])
 
 -- a number that was spelled, read again
 two_again : (n : ℕ) → n ≤ 65535 → big_number 2 (big_bytes 2 n ++ []) ≡ n
 two_again n fits = big_number-reads_back 2 n [] (omega arith)
+
+five_again : (n : ℕ) → n < 2 ^ 40 → big_number 5 (big_bytes 5 n ++ []) ≡ n
+five_again n fits = big_number-reads_back 5 n [] fits
 
 eight_again : (n : ℕ) → n < 2 ^ 64 → big_number 8 (big_bytes 8 n ++ []) ≡ n
 eight_again n fits = big_number-reads_back 8 n [] fits
@@ -131,9 +167,13 @@ eight_again n fits = big_number-reads_back 8 n [] fits
 stations : (from to a b : ℕ) → a ≡ from → b ≡ to → 1 ≤ from → 1 ≤ to → ((a == 0) || (b == 0)) ≡ false
 stations from to a b p q low high = or_from _ _ (ne_eqb a 0 (λ e. omega arith)) (ne_eqb b 0 (λ e. omega arith))
 
-data-again : (from to : StationId) (a b c number : ℕ) (payload : List ℕ) → a ≡ from.0 → b ≡ to.0 → c ≡ number
-    → Data (record { 0 = a }) (record { 0 = b }) c payload ≡ Data from to number payload
-data-again from to a b c number payload p q r = rw (p, q, r) refl
+-- a number that was spelled above 0 isn't 0
+above-zero : (a n : ℕ) → a ≡ suc n → (a == 0) ≡ false
+above-zero a n e = ne_eqb a 0 (λ z. omega arith)
+
+data-again : (from to : StationId) (a b c d number limit : ℕ) (payload : List ℕ) → a ≡ from.0 → b ≡ to.0 → c ≡ number → d ≡ limit
+    → Data (record { 0 = a }) (record { 0 = b }) c d payload ≡ Data from to number limit payload
+data-again from to a b c d number limit payload p q r s = rw (p, q, r, s) refl
 
 custody-again : (from to : StationId) (a b c last : ℕ) → a ≡ from.0 → b ≡ to.0 → c ≡ last
     → (let found : Message (List ℕ) = Custody (record { 0 = a }) (record { 0 = b }) c in found) ≡ Custody from to last
@@ -145,22 +185,41 @@ refused-again from to a b c number told p q r = rw (p, q, r) refl
 
 pub reading-spelling : (m : Message (List ℕ)) → IsMessage m → reading (spelling m) ≡ Ok m
 unfolding spelling
-reading-spelling (Data from to number payload) h =
+reading-spelling (Data from to number zero payload) h =
     let a = two_again from.0 h.0.1 in
     let b = two_again to.0 h.1.1 in
     let c = eight_again number h.2 in
     let d = two_again (length payload) (omega (arith, h.3)) in
-    reading-is (spelling (Data from to number payload)) (Data from to number payload) (record {
+    reading-is (spelling (Data from to number zero payload)) (Data from to number zero payload) (record {
       header = le-ltb _ _ (omega arith);
       magic = refl;
       version = refl;
       kind = refl;
       station = stations from.0 to.0 _ _ a b h.0.0 h.1.0;
       fixed = le-ltb _ _ (omega arith);
+      limit = refl;
       payload = le-ltb _ _ (omega (arith, d, h.3));
       short = le-ltb _ _ (omega (arith, d));
       long = le-ltb _ _ (omega (arith, d));
-    }) (data-again from to _ _ _ number payload a b c)
+    }) (data-again from to _ _ _ 0 number 0 payload a b c refl)
+reading-spelling (Data from to number (suc limit) payload) h =
+    let a = two_again from.0 h.0.1 in
+    let b = two_again to.0 h.1.1 in
+    let c = eight_again number h.2 in
+    let d = two_again (length payload) (omega (arith, h.3)) in
+    let l = five_again (suc limit) h.4 in
+    reading-is (spelling (Data from to number (suc limit) payload)) (Data from to number (suc limit) payload) (record {
+      header = le-ltb _ _ (omega arith);
+      magic = refl;
+      version = refl;
+      kind = refl;
+      station = stations from.0 to.0 _ _ a b h.0.0 h.1.0;
+      fixed = le-ltb _ _ (omega arith);
+      limit = above-zero _ limit l;
+      payload = le-ltb _ _ (omega (arith, d, h.3));
+      short = le-ltb _ _ (omega (arith, d));
+      long = le-ltb _ _ (omega (arith, d));
+    }) (data-again from to _ _ _ _ number (suc limit) payload a b c l)
 reading-spelling (Custody from to last) h =
     let a = two_again from.0 h.0.1 in
     let b = two_again to.0 h.1.1 in
@@ -172,6 +231,7 @@ reading-spelling (Custody from to last) h =
       kind = refl;
       station = stations from.0 to.0 _ _ a b h.0.0 h.1.0;
       fixed = refl;
+      limit = refl;
       payload = refl;
       short = refl;
       long = refl;
@@ -187,6 +247,7 @@ reading-spelling (Refused from to number told) h =
       kind = refl;
       station = stations from.0 to.0 _ _ a b h.0.0 h.1.0;
       fixed = refl;
+      limit = refl;
       payload = refl;
       short = refl;
       long = refl;
@@ -227,12 +288,16 @@ spelled-faultless bytes m fits same =
 
 -- ---- lengths
 
-pub length-spelling_data : (from to : StationId) (number : ℕ) (payload : List ℕ) → length (spelling (Data from to number payload)) ≡ 18 + length payload
-unfolding spelling
-length-spelling_data from to number payload = omega arith
+pub length-spelling_limited : (from to : StationId) (number limit : ℕ) (payload : List ℕ) → 1 ≤ limit → length (spelling (Data from to number limit payload)) ≡ 23 + length payload
+length-spelling_limited from to number limit payload above = ap length (spelling-limited from to number limit payload above) ∙ omega arith
 
-pub spelling-within : (m : Message (List ℕ)) → IsMessage m → length (spelling m) ≤ 1218
+pub spelling-most : (from to : StationId) (number limit : ℕ) (payload : List ℕ) → length (spelling (Data from to number limit payload)) ≤ 23 + length payload
 unfolding spelling
-spelling-within (Data from to number payload) fits = omega (arith, length-spelling_data from to number payload, fits.3)
+spelling-most from to number zero payload = omega arith
+spelling-most from to number (suc limit) payload = omega arith
+
+pub spelling-within : (m : Message (List ℕ)) → IsMessage m → length (spelling m) ≤ 8215
+unfolding spelling
+spelling-within (Data from to number limit payload) fits = omega (arith, spelling-most from to number limit payload, fits.3)
 spelling-within (Custody from to last) fits = omega arith
 spelling-within (Refused from to number told) fits = omega arith

@@ -33,11 +33,11 @@ abbrev asked : TakeAnswer → InEvent (List ℕ)
 asked any = Answered any
 
 -- what is named where a Data was heard
-heard : (b : Bool) (r : Receiver) (number : ℕ) (payload : List ℕ) (action : InAction (List ℕ))
-    → (let x : ReceivingResult = if b then (record r { pending = Some number }, Some (Take number payload)) else (r, None) in x).1 ≡ Some action
-    → (b ≡ true) × (Take number payload ≡ action)
-heard true r number payload action e = (refl, cc)
-heard false r number payload action e = absurd cc
+heard : (b : Bool) (r : Receiver) (number limit : ℕ) (payload : List ℕ) (action : InAction (List ℕ))
+    → (let x : ReceivingResult = if b then (record r { pending = Some number }, Some (Take number limit payload)) else (r, None) in x).1 ≡ Some action
+    → (b ≡ true) × (Take number limit payload ≡ action)
+heard true r number limit payload action e = (refl, cc)
+heard false r number limit payload action e = absurd cc
 
 -- a number above 0 that is one more than another
 above_zero : (expected n : ℕ) → (expected ≡ 0 → ⊥) → expected - 1 ≡ n → n + 1 ≡ expected
@@ -47,10 +47,10 @@ above_zero (suc k) n above e = omega arith
 -- ---- what stays
 
 pub received-stations : (r : Receiver) (event : InEvent (List ℕ)) → ((receiving_step r event).0.own ≡ r.own) × ((receiving_step r event).0.peer ≡ r.peer)
-received-stations r (Heard (message.Data from to number payload)) =
+received-stations r (Heard (message.Data from to number limit payload)) =
     elim ((from.0 == r.peer.0) && (to.0 == r.own.0) && is_none r.pending)
-    as (λ b. ((let x : ReceivingResult = if b then (record r { pending = Some number }, Some (Take number payload)) else (r, None) in x).0.own ≡ r.own)
-    × ((let x : ReceivingResult = if b then (record r { pending = Some number }, Some (Take number payload)) else (r, None) in x).0.peer ≡ r.peer))
+    as (λ b. ((let x : ReceivingResult = if b then (record r { pending = Some number }, Some (Take number limit payload)) else (r, None) in x).0.own ≡ r.own)
+    × ((let x : ReceivingResult = if b then (record r { pending = Some number }, Some (Take number limit payload)) else (r, None) in x).0.peer ≡ r.peer))
     [ true ↦ (refl, refl) | false ↦ (refl, refl) ]
 received-stations r (Heard (message.Custody from to last)) = (refl, refl)
 received-stations r (Heard (message.Refused from to number refusal)) = (refl, refl)
@@ -73,14 +73,14 @@ IsTaken r taken = (n : ℕ) → r.pending ≡ Some n → taken ≡ Some n
 
 last_take-step : (taken : Option ℕ) (action : Option (InAction (List ℕ))) (actions : List (Option (InAction (List ℕ))))
     → last_take taken (action ∷ actions) ≡ last_take (last_take taken (action ∷ [])) actions
-last_take-step taken (Some (Take number payload)) actions = refl
+last_take-step taken (Some (Take number limit payload)) actions = refl
 last_take-step taken (Some (Send m)) actions = refl
 last_take-step taken None actions = refl
 
 pub IsTaken-step : (r : Receiver) (taken : Option ℕ) (event : InEvent (List ℕ)) → IsTaken r taken → IsTaken (receiving_step r event).0 (last_take taken ((receiving_step r event).1 ∷ []))
-IsTaken-step r taken (Heard (message.Data from to number payload)) h =
+IsTaken-step r taken (Heard (message.Data from to number limit payload)) h =
     elim ((from.0 == r.peer.0) && (to.0 == r.own.0) && is_none r.pending)
-    as (λ b. let x : ReceivingResult = if b then (record r { pending = Some number }, Some (Take number payload)) else (r, None) in IsTaken x.0 (last_take taken (x.1 ∷ [])))
+    as (λ b. let x : ReceivingResult = if b then (record r { pending = Some number }, Some (Take number limit payload)) else (r, None) in IsTaken x.0 (last_take taken (x.1 ∷ [])))
     [ true ↦ (λ n e. e) | false ↦ h ]
 IsTaken-step r taken (Heard (message.Custody from to last)) h = h
 IsTaken-step r taken (Heard (message.Refused from to number refusal)) h = h
@@ -126,9 +126,9 @@ answered-custody r (Some k) taken any from to n h e =
 
 pub received-custody : (r : Receiver) (taken : Option ℕ) (event : InEvent (List ℕ)) (from to : StationId) (n : ℕ) → IsTaken r taken
     → (receiving_step r event).1 ≡ Some (Send (message.Custody from to n)) → (from ≡ r.own) × (to ≡ r.peer) × IsCustodyDue taken event n
-received-custody r taken (Heard (message.Data a b number payload)) from to n h e =
-    let take = heard (((a.0 == r.peer.0) && (b.0 == r.own.0)) && is_none r.pending) r number payload (Send (message.Custody from to n)) e in
-    let same : named (Take number payload) ≡ named (Send (message.Custody from to n)) = ap named take.1 in
+received-custody r taken (Heard (message.Data a b number limit payload)) from to n h e =
+    let take = heard (((a.0 == r.peer.0) && (b.0 == r.own.0)) && is_none r.pending) r number limit payload (Send (message.Custody from to n)) e in
+    let same : named (Take number limit payload) ≡ named (Send (message.Custody from to n)) = ap named take.1 in
     absurd cc
 received-custody r taken (Heard (message.Custody a b last)) from to n h e = absurd cc
 received-custody r taken (Heard (message.Refused a b number refusal)) from to n h e = absurd cc
@@ -159,9 +159,9 @@ answered-refused r (Some k) taken any from to n code h e =
 pub received-refused : (r : Receiver) (taken : Option ℕ) (event : InEvent (List ℕ)) (from to : StationId) (n code : ℕ) → IsTaken r taken
     → (receiving_step r event).1 ≡ Some (Send (message.Refused from to n code))
     → (from ≡ r.own) × (to ≡ r.peer) × (taken ≡ Some n) × ((refusal : Refusal) × (event ≡ Answered (answer.Refused refusal)) × (code ≡ number_of refusal))
-received-refused r taken (Heard (message.Data a b number payload)) from to n code h e =
-    let take = heard (((a.0 == r.peer.0) && (b.0 == r.own.0)) && is_none r.pending) r number payload (Send (message.Refused from to n code)) e in
-    let same : named (Take number payload) ≡ named (Send (message.Refused from to n code)) = ap named take.1 in
+received-refused r taken (Heard (message.Data a b number limit payload)) from to n code h e =
+    let take = heard (((a.0 == r.peer.0) && (b.0 == r.own.0)) && is_none r.pending) r number limit payload (Send (message.Refused from to n code)) e in
+    let same : named (Take number limit payload) ≡ named (Send (message.Refused from to n code)) = ap named take.1 in
     absurd cc
 received-refused r taken (Heard (message.Custody a b last)) from to n code h e = absurd cc
 received-refused r taken (Heard (message.Refused a b number refusal)) from to n code h e = absurd cc
@@ -172,34 +172,34 @@ received-refused r taken Lost from to n code h e = absurd cc
 
 -- ---- a Take follows the Data that was heard, and nothing is named after it
 
-told-take : (r : Receiver) (k : ℕ) (any : TakeAnswer) (n : ℕ) (payload : List ℕ) → take_reply r k any ≡ Some (Take n payload) → ⊥
-told-take r k answer.Taken n payload e = cc
-told-take r k (answer.Already last) n payload e = cc
-told-take r k (answer.Refused (Gap expected)) n payload e =
-    let gap = otherwise (expected == 0) (Send (message.Custody r.own r.peer (expected - 1))) (Take n payload) e in
-    let same : named (Send (message.Custody r.own r.peer (expected - 1))) ≡ named (Take n payload) = ap named gap.1 in
+told-take : (r : Receiver) (k : ℕ) (any : TakeAnswer) (n limit : ℕ) (payload : List ℕ) → take_reply r k any ≡ Some (Take n limit payload) → ⊥
+told-take r k answer.Taken n limit payload e = cc
+told-take r k (answer.Already last) n limit payload e = cc
+told-take r k (answer.Refused (Gap expected)) n limit payload e =
+    let gap = otherwise (expected == 0) (Send (message.Custody r.own r.peer (expected - 1))) (Take n limit payload) e in
+    let same : named (Send (message.Custody r.own r.peer (expected - 1))) ≡ named (Take n limit payload) = ap named gap.1 in
     cc
-told-take r k (answer.Refused refusal) n payload e = cc
-told-take r k answer.Other n payload e = cc
+told-take r k (answer.Refused refusal) n limit payload e = cc
+told-take r k answer.Other n limit payload e = cc
 
-answered-take : (r : Receiver) (p : Option ℕ) (any : TakeAnswer) (n : ℕ) (payload : List ℕ) → (after_answer r p any).1 ≡ Some (Take n payload) → ⊥
-answered-take r None any n payload e = cc
-answered-take r (Some k) any n payload e = told-take r k any n payload e
+answered-take : (r : Receiver) (p : Option ℕ) (any : TakeAnswer) (n limit : ℕ) (payload : List ℕ) → (after_answer r p any).1 ≡ Some (Take n limit payload) → ⊥
+answered-take r None any n limit payload e = cc
+answered-take r (Some k) any n limit payload e = told-take r k any n limit payload e
 
-pub received-take : (r : Receiver) (event : InEvent (List ℕ)) (n : ℕ) (payload : List ℕ) → (receiving_step r event).1 ≡ Some (Take n payload)
-    → (event ≡ Heard (message.Data r.peer r.own n payload)) × ((receiving_step r event).0.pending ≡ Some n)
-received-take r (Heard (message.Data from to number payload')) n payload e =
-    let take = heard (((from.0 == r.peer.0) && (to.0 == r.own.0)) && is_none r.pending) r number payload' (Take n payload) e in
-    let same : named (Take number payload') ≡ named (Take n payload) = ap named take.1 in
+pub received-take : (r : Receiver) (event : InEvent (List ℕ)) (n limit : ℕ) (payload : List ℕ) → (receiving_step r event).1 ≡ Some (Take n limit payload)
+    → (event ≡ Heard (message.Data r.peer r.own n limit payload)) × ((receiving_step r event).0.pending ≡ Some n)
+received-take r (Heard (message.Data from to number limit' payload')) n limit payload e =
+    let take = heard (((from.0 == r.peer.0) && (to.0 == r.own.0)) && is_none r.pending) r number limit' payload' (Take n limit payload) e in
+    let same : named (Take number limit' payload') ≡ named (Take n limit payload) = ap named take.1 in
     let tests = and_parts ((from.0 == r.peer.0) && (to.0 == r.own.0)) (is_none r.pending) take.0 in
     let stations = and_parts (from.0 == r.peer.0) (to.0 == r.own.0) tests.0 in
     let first : from ≡ r.peer = station-is from r.peer stations.0 in
     let second : to ≡ r.own = station-is to r.own stations.1 in
     (cc, rw take.0 cc)
-received-take r (Heard (message.Custody a b last)) n payload e = absurd cc
-received-take r (Heard (message.Refused a b number refusal)) n payload e = absurd cc
-received-take r (Answered any) n payload e = absurd (answered-take r r.pending any n payload e)
-received-take r Lost n payload e = absurd cc
+received-take r (Heard (message.Custody a b last)) n limit payload e = absurd cc
+received-take r (Heard (message.Refused a b number refusal)) n limit payload e = absurd cc
+received-take r (Answered any) n limit payload e = absurd (answered-take r r.pending any n limit payload e)
+received-take r Lost n limit payload e = absurd cc
 
 pub length-in_actions : (r : Receiver) (events : List (InEvent (List ℕ))) → length (in_actions r events) ≡ length events
 length-in_actions r [] = refl
@@ -207,7 +207,7 @@ length-in_actions r (event ∷ events) = let more = length-in_actions (receiving
 
 -- a message is not taken while a number waits
 pub waiting : (r : Receiver) (n : ℕ) (m : Message (List ℕ)) → r.pending ≡ Some n → receiving_step r (Heard m) ≡ (r, None)
-waiting r n (message.Data from to number payload) e =
+waiting r n (message.Data from to number limit payload) e =
     let some : is_none r.pending ≡ false = ap is_none e in
     rw (and_right ((from.0 == r.peer.0) && (to.0 == r.own.0)) (is_none r.pending) some) refl
 waiting r n (message.Custody from to last) e = refl

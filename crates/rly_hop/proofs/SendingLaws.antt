@@ -30,8 +30,8 @@ can_pick s number = s.ready && (number == s.next) && nat_lt number (2 ^ 64 - 1)
 abbrev can_send : Sender → ℕ → Bool
 can_send s number = s.ready && (number == s.cursor) && nat_lt s.cursor s.next
 
-abbrev fetched : Sender → ℕ → List ℕ → SendingResult
-fetched s number payload = (record s { cursor = number + 1 }, Some (Send (message.Data s.own s.hop number payload)))
+abbrev fetched : Sender → (number limit : ℕ) → List ℕ → SendingResult
+fetched s number limit payload = (record s { cursor = number + 1 }, Some (Send (message.Data s.own s.hop number limit payload)))
 
 abbrev can_acknowledge : Sender → StationId → StationId → ℕ → Bool
 can_acknowledge s from to last = (from.0 == s.hop.0) && (to.0 == s.own.0) && s.ready && nat_le s.first last && nat_lt last s.next
@@ -91,13 +91,13 @@ sent-stations s (WindowIs first next) =
     either (nat_le first next) (windowed s first next) s (λ x. (x.own ≡ s.own) × (x.hop ≡ s.hop)) (λ _. (refl, refl)) (λ _. (refl, refl))
 sent-stations s (Picked number) =
     either (can_pick s number) (record s { next = number + 1 }) s (λ x. (x.own ≡ s.own) × (x.hop ≡ s.hop)) (λ _. (refl, refl)) (λ _. (refl, refl))
-sent-stations s (Fetched number payload) =
-    either (can_send s number) (fetched s number payload) (s, None) (λ x. (x.0.own ≡ s.own) × (x.0.hop ≡ s.hop)) (λ _. (refl, refl)) (λ _. (refl, refl))
+sent-stations s (Fetched number limit payload) =
+    either (can_send s number) (fetched s number limit payload) (s, None) (λ x. (x.0.own ≡ s.own) × (x.0.hop ≡ s.hop)) (λ _. (refl, refl)) (λ _. (refl, refl))
 sent-stations s Released = moved-stations s s.acked
 sent-stations s Unchanged = moved-stations s s.acked
 sent-stations s (Heard (message.Custody from to last)) =
     either (can_acknowledge s from to last) (record s { acked = Some (option_map_or (λ a. max a last) s.acked last) }) s (λ x. (x.own ≡ s.own) × (x.hop ≡ s.hop)) (λ _. (refl, refl)) (λ _. (refl, refl))
-sent-stations s (Heard (message.Data from to number payload)) = (refl, refl)
+sent-stations s (Heard (message.Data from to number limit payload)) = (refl, refl)
 sent-stations s (Heard (message.Refused from to number refusal)) = (refl, refl)
 sent-stations s Timeout = (refl, refl)
 sent-stations s (Refused refusal) =
@@ -152,8 +152,8 @@ sent-in_order s (Picked number) h =
     let is = picked-is s number test in
     record { begun = h.begun; ended = omega (arith, h.ended, is); acked = λ n e. let within = h.acked n e in (within.0, omega (arith, within.1, is)) })
     (λ _. h)
-sent-in_order s (Fetched number payload) h =
-    either (can_send s number) (fetched s number payload) (s, None) (λ x. IsInOrder x.0)
+sent-in_order s (Fetched number limit payload) h =
+    either (can_send s number) (fetched s number limit payload) (s, None) (λ x. IsInOrder x.0)
     (λ test.
     let can = CanSend-from s number test in
     record { begun = omega (arith, h.begun, can.at); ended = omega (arith, can.at, can.below); acked = h.acked })
@@ -161,7 +161,7 @@ sent-in_order s (Fetched number payload) h =
 sent-in_order s Released h = moved-in_order s s.acked refl h
 sent-in_order s Unchanged h = moved-in_order s s.acked refl h
 sent-in_order s (Heard (message.Custody from to last)) h = acknowledged-in_order s from to last h
-sent-in_order s (Heard (message.Data from to number payload)) h = h
+sent-in_order s (Heard (message.Data from to number limit payload)) h = h
 sent-in_order s (Heard (message.Refused from to number refusal)) h = h
 sent-in_order s Timeout h = record { begun = omega arith; ended = omega (arith, h.begun, h.ended); acked = h.acked }
 sent-in_order s (Refused refusal) h =
@@ -201,15 +201,15 @@ sent-flight s (Picked number) n h flight =
       | inr le ↦ inr (omega (arith, le, found.ended))
     ])
     (λ _ found. inl found) flight
-sent-flight s (Fetched number payload) n h flight =
-    either (can_send s number) (fetched s number payload) (s, None) (λ x. Grown s (Fetched number payload) n x.0)
+sent-flight s (Fetched number limit payload) n h flight =
+    either (can_send s number) (fetched s number limit payload) (s, None) (λ x. Grown s (Fetched number limit payload) n x.0)
     (λ _ found. inl (record { ready = found.ready; begun = found.begun; ended = found.ended })) (λ _ found. inl found) flight
 sent-flight s Released n h flight = inl (moved-flight s s.acked n refl h flight)
 sent-flight s Unchanged n h flight = inl (moved-flight s s.acked n refl h flight)
 sent-flight s (Heard (message.Custody from to last)) n h flight =
     either (can_acknowledge s from to last) (record s { acked = Some (option_map_or (λ a. max a last) s.acked last) }) s (Grown s (Heard (message.Custody from to last)) n)
     (λ _ found. inl (record { ready = found.ready; begun = found.begun; ended = found.ended })) (λ _ found. inl found) flight
-sent-flight s (Heard (message.Data from to number payload)) n h flight = inl flight
+sent-flight s (Heard (message.Data from to number limit payload)) n h flight = inl flight
 sent-flight s (Heard (message.Refused from to number refusal)) n h flight = inl flight
 sent-flight s Timeout n h flight = inl (record { ready = flight.ready; begun = flight.begun; ended = flight.ended })
 sent-flight s (Refused refusal) n h flight =
@@ -246,8 +246,8 @@ sent-acked s (WindowIs first next) n e =
     either (nat_le first next) (windowed s first next) s (Acked s (WindowIs first next) n) (λ _ found. absurd cc) (λ _ found. inl found) e
 sent-acked s (Picked number) n e =
     either (can_pick s number) (record s { next = number + 1 }) s (Acked s (Picked number) n) (λ _ found. inl found) (λ _ found. inl found) e
-sent-acked s (Fetched number payload) n e =
-    either (can_send s number) (fetched s number payload) (s, None) (λ x. Acked s (Fetched number payload) n x.0) (λ _ found. inl found) (λ _ found. inl found) e
+sent-acked s (Fetched number limit payload) n e =
+    either (can_send s number) (fetched s number limit payload) (s, None) (λ x. Acked s (Fetched number limit payload) n x.0) (λ _ found. inl found) (λ _ found. inl found) e
 sent-acked s Released n e = moved-acked s s.acked Released n e
 sent-acked s Unchanged n e = moved-acked s s.acked Unchanged n e
 sent-acked s (Heard (message.Custody from to last)) n e =
@@ -264,7 +264,7 @@ sent-acked s (Heard (message.Custody from to last)) n e =
           inr (cc, subst (λ (x : ℕ). IsInFlight s x) (sym is) can.in_flight)
     ])
     (λ _ found. inl found) e
-sent-acked s (Heard (message.Data from to number payload)) n e = inl e
+sent-acked s (Heard (message.Data from to number limit payload)) n e = inl e
 sent-acked s (Heard (message.Refused from to number refusal)) n e = inl e
 sent-acked s Timeout n e = inl e
 sent-acked s (Refused refusal) n e =
@@ -324,11 +324,11 @@ rows-send true None true false true cursor m e = cc
 rows-send true None true false false cursor m e = cc
 
 -- what is sent where a payload was fetched
-sending : (b : Bool) (s : Sender) (number : ℕ) (payload : List ℕ) (action : OutAction (List ℕ))
-    → (let x : SendingResult = if b then fetched s number payload else (s, None) in x).1 ≡ Some action
-    → (b ≡ true) × (Send (message.Data s.own s.hop number payload) ≡ action)
-sending true s number payload action e = (refl, cc)
-sending false s number payload action e = absurd cc
+sending : (b : Bool) (s : Sender) (number limit : ℕ) (payload : List ℕ) (action : OutAction (List ℕ))
+    → (let x : SendingResult = if b then fetched s number limit payload else (s, None) in x).1 ≡ Some action
+    → (b ≡ true) × (Send (message.Data s.own s.hop number limit payload) ≡ action)
+sending true s number limit payload action e = (refl, cc)
+sending false s number limit payload action e = absurd cc
 
 -- an action, with its payload's type
 abbrev named : OutAction (List ℕ) → OutAction (List ℕ)
@@ -340,23 +340,23 @@ send_fetch {m} {n} e = let same : named (Send m) ≡ named (Fetch n) = ap named 
 send_release : {m : Message (List ℕ)} {n : ℕ} → Send m ≡ Release n → ⊥
 send_release {m} {n} e = let same : named (Send m) ≡ named (Release n) = ap named e in cc
 
-data-is : (a b from to : StationId) (number n : ℕ) (bytes payload : List ℕ) → named (Send (message.Data a b number bytes)) ≡ Send (message.Data from to n payload)
-    → (a ≡ from) × (b ≡ to) × (number ≡ n) × (bytes ≡ payload)
-data-is a b from to number n bytes payload e = (cc, cc, cc, cc)
+data-is : (a b from to : StationId) (number n found limit : ℕ) (bytes payload : List ℕ) → named (Send (message.Data a b number found bytes)) ≡ Send (message.Data from to n limit payload)
+    → (a ≡ from) × (b ≡ to) × (number ≡ n) × (found ≡ limit) × (bytes ≡ payload)
+data-is a b from to number n found limit bytes payload e = (cc, cc, cc, cc, cc)
 
 pub sent-fetch : (s : Sender) (event : OutEvent (List ℕ)) (n : ℕ) → IsInOrder s → (sending_step s event).1 ≡ Some (Fetch n) → IsInFlight s n
 sent-fetch s (Turn is_open) n h e =
     let found = rows-fetch s.ready s.acked is_open (nat_lt s.cursor s.next) ((s.cursor == s.next) && nat_lt (s.next - s.first) s.window) s.cursor n e in
     let below = ltb-true s.cursor s.next found.1 in
     subst (λ (x : ℕ). IsInFlight s x) found.2 (record { ready = found.0; begun = h.begun; ended = below })
-sent-fetch s (Fetched number payload) n h e =
-    let found = sending (can_send s number) s number payload (Fetch n) e in absurd (send_fetch found.1)
+sent-fetch s (Fetched number limit payload) n h e =
+    let found = sending (can_send s number) s number limit payload (Fetch n) e in absurd (send_fetch found.1)
 sent-fetch s (WindowIs first next) n h e = absurd cc
 sent-fetch s (Picked number) n h e = absurd cc
 sent-fetch s Released n h e = absurd cc
 sent-fetch s Unchanged n h e = absurd cc
 sent-fetch s (Heard (message.Custody from to last)) n h e = absurd cc
-sent-fetch s (Heard (message.Data from to number payload)) n h e = absurd cc
+sent-fetch s (Heard (message.Data from to number limit payload)) n h e = absurd cc
 sent-fetch s (Heard (message.Refused from to number refusal)) n h e = absurd cc
 sent-fetch s Timeout n h e = absurd cc
 sent-fetch s (Refused refusal) n h e = absurd cc
@@ -368,43 +368,44 @@ sent-release s (Turn is_open) n h e =
     let found = rows-release s.ready s.acked is_open (nat_lt s.cursor s.next) ((s.cursor == s.next) && nat_lt (s.next - s.first) s.window) s.cursor n e in
     let within = h.acked n found.1 in
     (found.1, record { ready = found.0; begun = within.0; ended = within.1 })
-sent-release s (Fetched number payload) n h e =
-    let found = sending (can_send s number) s number payload (Release n) e in absurd (send_release found.1)
+sent-release s (Fetched number limit payload) n h e =
+    let found = sending (can_send s number) s number limit payload (Release n) e in absurd (send_release found.1)
 sent-release s (WindowIs first next) n h e = absurd cc
 sent-release s (Picked number) n h e = absurd cc
 sent-release s Released n h e = absurd cc
 sent-release s Unchanged n h e = absurd cc
 sent-release s (Heard (message.Custody from to last)) n h e = absurd cc
-sent-release s (Heard (message.Data from to number payload)) n h e = absurd cc
+sent-release s (Heard (message.Data from to number limit payload)) n h e = absurd cc
 sent-release s (Heard (message.Refused from to number refusal)) n h e = absurd cc
 sent-release s Timeout n h e = absurd cc
 sent-release s (Refused refusal) n h e = absurd cc
 sent-release s Nothing n h e = absurd cc
 sent-release s Other n h e = absurd cc
 
-pub sent-data : (s : Sender) (event : OutEvent (List ℕ)) (from to : StationId) (n : ℕ) (payload : List ℕ) → IsInOrder s
-    → (sending_step s event).1 ≡ Some (Send (message.Data from to n payload)) → (from ≡ s.own) × (to ≡ s.hop) × (event ≡ Fetched n payload) × IsInFlight s n
-sent-data s (Turn is_open) from to n payload h e =
-    absurd (rows-send s.ready s.acked is_open (nat_lt s.cursor s.next) ((s.cursor == s.next) && nat_lt (s.next - s.first) s.window) s.cursor (message.Data from to n payload) e)
-sent-data s (Fetched number bytes) from to n payload h e =
-    let found = sending (can_send s number) s number bytes (Send (message.Data from to n payload)) e in
-    let can = CanSend-from s number found.0 in
-    let fields = data-is s.own s.hop from to number n bytes payload found.1 in
+pub sent-data : (s : Sender) (event : OutEvent (List ℕ)) (from to : StationId) (n limit : ℕ) (payload : List ℕ) → IsInOrder s
+    → (sending_step s event).1 ≡ Some (Send (message.Data from to n limit payload)) → (from ≡ s.own) × (to ≡ s.hop) × (event ≡ Fetched n limit payload) × IsInFlight s n
+sent-data s (Turn is_open) from to n limit payload h e =
+    absurd (rows-send s.ready s.acked is_open (nat_lt s.cursor s.next) ((s.cursor == s.next) && nat_lt (s.next - s.first) s.window) s.cursor (message.Data from to n limit payload) e)
+sent-data s (Fetched number found bytes) from to n limit payload h e =
+    let sent = sending (can_send s number) s number found bytes (Send (message.Data from to n limit payload)) e in
+    let can = CanSend-from s number sent.0 in
+    let fields = data-is s.own s.hop from to number n found limit bytes payload sent.1 in
     let flight : IsInFlight s number = record { ready = can.ready; begun = omega (arith, h.begun, can.at); ended = omega (arith, can.at, can.below) } in
     let same_number : number ≡ n = fields.2 in
-    let same_payload : bytes ≡ payload = fields.3 in
+    let same_limit : found ≡ limit = fields.3 in
+    let same_payload : bytes ≡ payload = fields.4 in
     (sym fields.0, sym fields.1, cc, subst (λ (x : ℕ). IsInFlight s x) same_number flight)
-sent-data s (WindowIs first next) from to n payload h e = absurd cc
-sent-data s (Picked number) from to n payload h e = absurd cc
-sent-data s Released from to n payload h e = absurd cc
-sent-data s Unchanged from to n payload h e = absurd cc
-sent-data s (Heard (message.Custody a b last)) from to n payload h e = absurd cc
-sent-data s (Heard (message.Data a b number bytes)) from to n payload h e = absurd cc
-sent-data s (Heard (message.Refused a b number refusal)) from to n payload h e = absurd cc
-sent-data s Timeout from to n payload h e = absurd cc
-sent-data s (Refused refusal) from to n payload h e = absurd cc
-sent-data s Nothing from to n payload h e = absurd cc
-sent-data s Other from to n payload h e = absurd cc
+sent-data s (WindowIs first next) from to n limit payload h e = absurd cc
+sent-data s (Picked number) from to n limit payload h e = absurd cc
+sent-data s Released from to n limit payload h e = absurd cc
+sent-data s Unchanged from to n limit payload h e = absurd cc
+sent-data s (Heard (message.Custody a b last)) from to n limit payload h e = absurd cc
+sent-data s (Heard (message.Data a b number found bytes)) from to n limit payload h e = absurd cc
+sent-data s (Heard (message.Refused a b number refusal)) from to n limit payload h e = absurd cc
+sent-data s Timeout from to n limit payload h e = absurd cc
+sent-data s (Refused refusal) from to n limit payload h e = absurd cc
+sent-data s Nothing from to n limit payload h e = absurd cc
+sent-data s Other from to n limit payload h e = absurd cc
 
 -- ---- from the first event on
 

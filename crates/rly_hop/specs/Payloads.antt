@@ -14,7 +14,7 @@ use Rattle.rly_hop.specs.declared.sending.event.OutAction.TheVariants as out_act
 
 -- the message with another form of its payload
 abbrev pub message_map : {P Q : Type 0} → (P → Q) → Message P → Message Q
-message_map f (message.Data from to number payload) = message.Data from to number (f payload)
+message_map f (message.Data from to number limit payload) = message.Data from to number limit (f payload)
 message_map f (message.Custody from to last) = message.Custody from to last
 message_map f (message.Refused from to number refusal) = message.Refused from to number refusal
 
@@ -30,7 +30,7 @@ in_event_bytes in_event.Lost = in_event.Lost
 
 -- the action, seen as the bytes that it borrows
 abbrev pub in_action_bytes : InAction (Bor (List ℕ)) → InAction (List ℕ)
-in_action_bytes (in_action.Take number payload) = in_action.Take number payload.now
+in_action_bytes (in_action.Take number limit payload) = in_action.Take number limit payload.now
 in_action_bytes (in_action.Send m) = in_action.Send (message_bytes m)
 
 -- the event, seen as the bytes that it borrows
@@ -39,7 +39,7 @@ out_event_bytes (out_event.Turn is_open) = out_event.Turn is_open
 out_event_bytes (out_event.WindowIs first next) = out_event.WindowIs first next
 out_event_bytes (out_event.Picked number) = out_event.Picked number
 out_event_bytes out_event.Nothing = out_event.Nothing
-out_event_bytes (out_event.Fetched number payload) = out_event.Fetched number payload.now
+out_event_bytes (out_event.Fetched number limit payload) = out_event.Fetched number limit payload.now
 out_event_bytes out_event.Released = out_event.Released
 out_event_bytes out_event.Unchanged = out_event.Unchanged
 out_event_bytes (out_event.Refused refusal) = out_event.Refused refusal

@@ -20,11 +20,16 @@ kind_of bytes = slice_index bytes 3
 
 -- how many bytes a message of this kind has at least
 abbrev pub fixed_length : ℕ → ℕ
-fixed_length kind = if kind == 1 then 18 else if kind == 2 then 16 else 17
+fixed_length kind = if kind == 1 then 18 else if kind == 2 then 16 else if kind == 3 then 17 else 23
+
+-- how many bytes of payload a message of this kind says that it has
+abbrev pub payload_length : ℕ → List ℕ → ℕ
+payload_length kind bytes =
+    if kind == 1 then field_at 2 16 bytes else if kind == 4 then field_at 2 21 bytes else 0
 
 -- how many bytes the message of this kind has that begins like this
 abbrev pub whole_length : ℕ → List ℕ → ℕ
-whole_length kind bytes = if kind == 1 then 18 + field_at 2 16 bytes else fixed_length kind
+whole_length kind bytes = fixed_length kind + payload_length kind bytes
 
 -- what may be wrong with the eight bytes that every message begins with
 abbrev pub header_faults : List ℕ → List (Bool × Option Refusal)
@@ -32,15 +37,16 @@ header_faults bytes =
     (nat_lt (length bytes) 8, Some Short)
     ∷ (not (field_at 2 0 bytes == 0x524c), Some Magic)
     ∷ (not (slice_index bytes 2 == 1), Some Version)
-    ∷ (not ((kind_of bytes == 1) || (kind_of bytes == 2) || (kind_of bytes == 3)), Some Kind)
+    ∷ (not ((kind_of bytes == 1) || (kind_of bytes == 2) || (kind_of bytes == 3) || (kind_of bytes == 4)), Some Kind)
     ∷ ((field_at 2 4 bytes == 0) || (field_at 2 6 bytes == 0), Some Station)
     ∷ []
 
--- what may be wrong with how long a message says it is
+-- what may be wrong with how long a message says it is, and with the limit of a Data that has one
 abbrev pub length_faults : List ℕ → List (Bool × Option Refusal)
 length_faults bytes =
     (nat_lt (length bytes) (fixed_length (kind_of bytes)), Some Short)
-    ∷ ((kind_of bytes == 1) && nat_lt 1200 (field_at 2 16 bytes), Some Long)
+    ∷ ((kind_of bytes == 4) && (field_at 5 16 bytes == 0), Some Kind)
+    ∷ (nat_lt 8192 (payload_length (kind_of bytes) bytes), Some Long)
     ∷ []
 
 -- what may be wrong with how many bytes there are
@@ -61,7 +67,9 @@ station_at place bytes = record { 0 = field_at 2 place bytes }
 -- the message of a kind whose fields lie at their places
 abbrev pub message_at : ℕ → List ℕ → Message (List ℕ)
 message_at kind bytes =
-    if kind == 1 then Data (station_at 4 bytes) (station_at 6 bytes) (field_at 8 8 bytes) (drop 18 bytes)
+    if kind == 1 then Data (station_at 4 bytes) (station_at 6 bytes) (field_at 8 8 bytes) 0 (drop 18 bytes)
+    else if kind == 4
+    then Data (station_at 4 bytes) (station_at 6 bytes) (field_at 8 8 bytes) (field_at 5 16 bytes) (drop 23 bytes)
     else if kind == 2 then Custody (station_at 4 bytes) (station_at 6 bytes) (field_at 8 8 bytes)
     else Refused (station_at 4 bytes) (station_at 6 bytes) (field_at 8 8 bytes) (slice_index bytes 16)
 

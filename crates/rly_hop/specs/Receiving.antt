@@ -44,9 +44,9 @@ after_answer r (Some number) any = (record r { pending = None }, take_reply r nu
 
 -- each event, row by row: the first row that fits decides
 abbrev pub receiving_step : Receiver → InEvent (List ℕ) → ReceivingResult
-receiving_step r (Heard (message.Data from to number payload)) =
+receiving_step r (Heard (message.Data from to number limit payload)) =
     if (from.0 == r.peer.0) && (to.0 == r.own.0) && is_none r.pending
-    then (record r { pending = Some number }, Some (Take number payload)) else (r, None)
+    then (record r { pending = Some number }, Some (Take number limit payload)) else (r, None)
 receiving_step r (Heard (message.Custody from to last)) = (r, None)
 receiving_step r (Heard (message.Refused from to number refusal)) = (r, None)
 receiving_step r (Answered any) = after_answer r r.pending any

@@ -23,7 +23,7 @@ in_actions r (event ∷ events) = (receiving_step r event).1 ∷ in_actions (rec
 -- the number of the last Take among the actions, or else of one before them
 abbrev pub last_take : Option ℕ → List (Option (InAction (List ℕ))) → Option ℕ
 last_take before [] = before
-last_take before (Some (Take number payload) ∷ actions) = last_take (Some number) actions
+last_take before (Some (Take number limit payload) ∷ actions) = last_take (Some number) actions
 last_take before (Some (Send message) ∷ actions) = last_take before actions
 last_take before (None ∷ actions) = last_take before actions
 

@@ -54,13 +54,13 @@ sending_step s (WindowIs first next) = (
 )
 sending_step s (Picked number) =
     (if s.ready && (number == s.next) && nat_lt number (2 ^ 64 - 1) then record s { next = number + 1 } else s, None)
-sending_step s (Fetched number payload) =
+sending_step s (Fetched number limit payload) =
     if s.ready && (number == s.cursor) && nat_lt s.cursor s.next
-    then (record s { cursor = number + 1 }, Some (Send (message.Data s.own s.hop number payload))) else (s, None)
+    then (record s { cursor = number + 1 }, Some (Send (message.Data s.own s.hop number limit payload))) else (s, None)
 sending_step s Released = (after_release s s.acked, None)
 sending_step s Unchanged = (after_release s s.acked, None)
 sending_step s (Heard (message.Custody from to last)) = (after_custody s from to last, None)
-sending_step s (Heard (message.Data from to number payload)) = (s, None)
+sending_step s (Heard (message.Data from to number limit payload)) = (s, None)
 sending_step s (Heard (message.Refused from to number refusal)) = (s, None)
 sending_step s Timeout = (record s { cursor = s.first }, None)
 sending_step s (Refused refusal) = (if is_unsure refusal then record s { ready = false } else s, None)

@@ -32,7 +32,7 @@ abbrev pub IsGivenBy : OutEvent (List ℕ) → ℕ → Type 0
 IsGivenBy (WindowIs first next) n = (first ≤ n) × (n < next)
 IsGivenBy (Picked number) n = n ≡ number
 IsGivenBy (Turn is_open) n = ⊥
-IsGivenBy (Fetched number payload) n = ⊥
+IsGivenBy (Fetched number limit payload) n = ⊥
 IsGivenBy Nothing n = ⊥
 IsGivenBy Released n = ⊥
 IsGivenBy Unchanged n = ⊥

@@ -1,5 +1,5 @@
 -- The spelling of a message: the bytes of its one datagram (docs/PROTOCOL.md, "Messages").
-use Rattle.std.specs.Prelude.{ℕ, ◌^◌, ◌<◌, ◌≤◌, Bool, ◌||◌, ◌==◌, nat_lt}
+use Rattle.std.specs.Prelude.{ℕ, zero, suc, ◌+◌, ◌^◌, ◌<◌, ◌≤◌, Bool, ◌||◌, ◌==◌, nat_lt, nat_le, min}
 use Rattle.std.specs.Prelude.{Option, Some, None, List, [], ◌∷◌, ◌++◌, length}
 use Rattle.byteorder.specs.Endian.{big_bytes}
 use Rattle.rly_core.specs.Bounds.{IsIn}
@@ -14,10 +14,12 @@ use Rattle.rly_hop.specs.Rows.{first_row}
 abbrev pub header : ℕ → StationId → StationId → List ℕ
 header kind from to = 0x52 ∷ 0x4c ∷ 1 ∷ kind ∷ big_bytes 2 from.0 ++ big_bytes 2 to.0
 
--- the bytes of a message
+-- the bytes of a message; a Data with a limit is of a kind of its own
 unfoldable pub spelling : Message (List ℕ) → List ℕ
-spelling (Data from to number payload) =
+spelling (Data from to number zero payload) =
     header 1 from to ++ big_bytes 8 number ++ big_bytes 2 (length payload) ++ payload
+spelling (Data from to number (suc limit) payload) =
+    header 4 from to ++ big_bytes 8 number ++ big_bytes 5 (suc limit) ++ big_bytes 2 (length payload) ++ payload
 spelling (Custody from to last) = header 2 from to ++ big_bytes 8 last
 spelling (Refused from to number told) = header 3 from to ++ big_bytes 8 number ++ told ∷ []
 
@@ -27,7 +29,8 @@ IsStation station = IsIn 1 65535 station.0
 
 -- the stations have numbers, and each field fits its bytes
 abbrev pub IsMessage : Message (List ℕ) → Type 0
-IsMessage (Data from to number payload) = IsStation from × IsStation to × (number < 2 ^ 64) × (length payload ≤ 1200)
+IsMessage (Data from to number limit payload) =
+    IsStation from × IsStation to × (number < 2 ^ 64) × (length payload ≤ 8192) × (limit < 2 ^ 40)
 IsMessage (Custody from to last) = IsStation from × IsStation to × (last < 2 ^ 64)
 IsMessage (Refused from to number told) = IsStation from × IsStation to × (number < 2 ^ 64) × (told < 256)
 
@@ -37,10 +40,16 @@ lacks_station from to = (from.0 == 0) || (to.0 == 0)
 
 -- why a message has no spelling that can be read, if it has none
 abbrev pub unwritable : Message (List ℕ) → Option Refusal
-unwritable (Data from to number payload) =
+unwritable (Data from to number limit payload) =
     first_row (
     (lacks_station from to, Some refusal.Station)
-    ∷ (nat_lt 1200 (length payload), Some refusal.Long)
+    ∷ (nat_le (2 ^ 40) limit, Some refusal.Long)
+    ∷ (nat_lt 8192 (length payload), Some refusal.Long)
     ∷ []) None
 unwritable (Custody from to last) = first_row ((lacks_station from to, Some refusal.Station) ∷ []) None
 unwritable (Refused from to number told) = first_row ((lacks_station from to, Some refusal.Station) ∷ []) None
+
+-- the bytes of the longest message whose payload has at most so many: a Data with a limit. No message's has more than
+-- 8,192
+abbrev pub longest_message : ℕ → ℕ
+longest_message payload = 23 + min payload 8192

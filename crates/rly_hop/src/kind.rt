@@ -8,18 +8,20 @@ pub(crate) enum Kind {
     Data = 1,
     Custody = 2,
     Refused = 3,
+    LimitedData = 4,
 }
 
 impl Kind {
     /// The kind that the byte says, if it says one.
     pub(crate) fn from_byte(byte: u8) -> Option<Kind>
         ensures known { IfSome result (λ kind. byte ≡ message_kind_byte kind) }
-        ensures unknown { IfNone result (((byte == 1) || (byte == 2) || (byte == 3)) ≡ false) }
+        ensures unknown { IfNone result (((byte == 1) || (byte == 2) || (byte == 3) || (byte == 4)) ≡ false) }
     {
         match byte {
             1 => Some(Kind::Data),
             2 => Some(Kind::Custody),
             3 => Some(Kind::Refused),
+            4 => Some(Kind::LimitedData),
             _ => None,
         }
     }
@@ -39,6 +41,7 @@ impl Kind {
             Kind::Data => 18,
             Kind::Custody => 16,
             Kind::Refused => 17,
+            Kind::LimitedData => 23,
         }
     }
 }

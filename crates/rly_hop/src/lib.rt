@@ -22,7 +22,7 @@ pub use crate::laws::{
     law_nothing_is_named_while_an_answer_is_due, law_one_spelling, law_refused_follows_an_answer,
     law_release_was_acknowledged, law_take_follows_data,
 };
-pub use crate::message::{MAX_MESSAGE, Message, StationId};
+pub use crate::message::{MAX_MESSAGE, Message, StationId, longest_message};
 pub use crate::reading::read_message;
 pub use crate::receiving::{InAction, InEvent, Receiving, TakeAnswer};
 pub use crate::sending::{OutAction, OutEvent, Sending};

@@ -1,5 +1,10 @@
 //! What two neighbouring stations say to each other (`docs/PROTOCOL.md`, "Messages").
 
+ghost use Rattle.std.specs.Prelude.{◌≡◌};
+ghost use Rattle.rly_hop.specs.Spelling.{longest_message};
+
+use rly_core::limits::MAX_PAYLOAD;
+
 /// The number of a station, 1 to 65,535. A `StationId` of 0 names no station: no message that is from or to it is
 /// written or read.
 #[derive(Clone, Copy, Debug, PartialEq, Eq)]
@@ -9,11 +14,14 @@ pub struct StationId(pub u16);
 /// message is read, and any other form where one is kept.
 #[derive(Clone, Copy, Debug, PartialEq, Eq)]
 pub enum Message<P> {
-    /// Kind 1: hands a datagram to the next station, under the custody number that the sender gave it.
+    /// Kind 1, or kind 4 where it has a limit: hands a datagram to the next station, under the custody number that the
+    /// sender gave it.
     Data {
         from: StationId,
         to: StationId,
         number: u64,
+        /// How long it may wait in the queue, in microseconds of the hop's link clock; 0 for no limit.
+        limit: u64,
         payload: P,
     },
     /// Kind 2: all numbers up to `last` are kept by the station that says so.
@@ -31,8 +39,16 @@ pub enum Message<P> {
     },
 }
 
-/// The length of the longest message in bytes: a Data with a payload of 1,200.
-pub const MAX_MESSAGE: usize = 1_218;
+/// The length of the longest message in bytes: a Data with a limit and a payload of 8,192.
+pub const MAX_MESSAGE: usize = 8_215;
+
+/// The length in bytes of the longest message whose payload has at most so many: for whoever keeps room for the messages
+/// of a spool with payloads of at most that length. No message's payload has more than 8,192.
+pub fn longest_message(payload: u64) -> usize
+    ensures { result ≡ longest_message payload }
+{
+    place::LIMITED_PAYLOAD + payload.min(MAX_PAYLOAD) as usize
+}
 
 /// The first two bytes of every message: `RL`.
 pub(crate) const MAGIC: u16 = 0x524c;
@@ -60,4 +76,13 @@ pub(crate) mod place {
     pub const LENGTH: usize = 16;
 
     pub const PAYLOAD: usize = 18;
+
+    /// In a Data with a limit.
+    pub const LIMIT: usize = 16;
+
+    /// In a Data with a limit.
+    pub const LIMITED_LENGTH: usize = 21;
+
+    /// In a Data with a limit.
+    pub const LIMITED_PAYLOAD: usize = 23;
 }

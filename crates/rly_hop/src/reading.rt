@@ -1,11 +1,11 @@
-ghost use Rattle.std.specs.Prelude.{◌≡◌, ◌≤◌, length, nat_lt, ◌∷◌, [], IfOk, IsOkAnd, MatchResult, List, ℕ};
+ghost use Rattle.std.specs.Prelude.{◌≡◌, ◌≤◌, ◌<◌, ◌^◌, length, nat_lt, ◌∷◌, [], IfOk, IsOkAnd, MatchResult, OnOk, List, ℕ};
 ghost use Rattle.rly_hop.specs.declared.message.Message.{Message};
 ghost use Rattle.rly_hop.specs.Spelling.{IsMessage, spelling};
 ghost use Rattle.std.specs.Result.{result_err};
 ghost use Rattle.rly_hop.specs.Payloads.{message_bytes};
 ghost use Rattle.rly_hop.specs.HelpersKinds.{message_kind_byte};
 ghost use Rattle.rly_hop.specs.Rows.{first_row};
-ghost use Rattle.rly_hop.specs.Reading.{first_fault, kind_of, header_faults, length_faults, reading, station_at, whole_length};
+ghost use Rattle.rly_hop.specs.Reading.{field_at, first_fault, fixed_length, kind_of, header_faults, length_faults, message_at, payload_length, reading, station_at, whole_length};
 
 use crate::kind::Kind;
 use crate::message::{HEADER_LENGTH, MAGIC, Message, StationId, VERSION, place};
@@ -68,19 +68,41 @@ fn read_length(kind: Kind, bytes: &[u8]) -> Result<usize, Refusal>
     requires { kind_of bytes.now ≡ message_kind_byte kind }
     ensures fault { result_err result ≡ first_row (length_faults bytes.now) None }
     ensures whole { IfOk result (λ whole. whole ≡ whole_length (message_kind_byte kind) bytes.now) }
+    ensures fixed { OnOk result (fixed_length (message_kind_byte kind) ≤ length bytes.now) }
 {
     let fixed = kind.fixed_length();
     if bytes.len() < fixed {
         return Err(Refusal::Short);
     }
-    if kind != Kind::Data {
-        return Ok(fixed);
+    if kind == Kind::LimitedData && limit_in(bytes) == 0 {
+        return Err(Refusal::Kind);
     }
-    let payload = BigEndian::read_u16(&bytes[place::LENGTH..]);
-    if u64::from(payload) > MAX_PAYLOAD {
+    let payload = payload_length(kind, bytes);
+    if payload as u64 > MAX_PAYLOAD {
         return Err(Refusal::Long);
     }
-    Ok(fixed + usize::from(payload))
+    Ok(fixed + payload)
+}
+
+/// How many bytes of payload a message says that it has.
+fn payload_length(kind: Kind, bytes: &[u8]) -> usize
+    requires { fixed_length (message_kind_byte kind) ≤ length bytes.now }
+    ensures says { result ≡ payload_length (message_kind_byte kind) bytes.now }
+    ensures within { result < 2 ^ 16 }
+{
+    match kind {
+        Kind::Data => usize::from(BigEndian::read_u16(&bytes[place::LENGTH..])),
+        Kind::LimitedData => usize::from(BigEndian::read_u16(&bytes[place::LIMITED_LENGTH..])),
+        Kind::Custody | Kind::Refused => 0,
+    }
+}
+
+/// The limit in a Data with a limit.
+fn limit_in(bytes: &[u8]) -> u64
+    requires { 21 ≤ length bytes.now }
+    ensures { result ≡ field_at 5 16 bytes.now }
+{
+    BigEndian::read_uint(&bytes[place::LIMIT..], 5)
 }
 
 /// The one message that the bytes of a datagram spell, or the first of their faults (`docs/PROTOCOL.md`, "Messages"):
@@ -102,14 +124,32 @@ fn message_of(bytes: &[u8]) -> Result<Message<&[u8]>, Refusal>
     let header = read_header(bytes)?;
     let whole = read_length(header.kind, bytes)?;
     check_length(bytes.len(), whole)?;
+    Ok(fields_of(header, bytes))
+}
+
+/// The message of a header whose other fields lie at their places.
+fn fields_of(header: Header, bytes: &[u8]) -> Message<&[u8]>
+    requires fixed { fixed_length (message_kind_byte header.kind) ≤ length bytes.now }
+    requires from { header.from ≡ station_at 4 bytes.now }
+    requires to { header.to ≡ station_at 6 bytes.now }
+    ensures { message_bytes result ≡ message_at (message_kind_byte header.kind) bytes.now }
+{
     let Header { kind, from, to } = header;
     let number = BigEndian::read_u64(&bytes[place::NUMBER..]);
-    Ok(match kind {
+    match kind {
         Kind::Data => Message::Data {
             from,
             to,
             number,
+            limit: 0,
             payload: &bytes[place::PAYLOAD..],
+        },
+        Kind::LimitedData => Message::Data {
+            from,
+            to,
+            number,
+            limit: limit_in(bytes),
+            payload: &bytes[place::LIMITED_PAYLOAD..],
         },
         Kind::Custody => Message::Custody {
             from,
@@ -122,5 +162,5 @@ fn message_of(bytes: &[u8]) -> Result<Message<&[u8]>, Refusal>
             number,
             refusal: bytes[place::REFUSAL],
         },
-    })
+    }
 }

@@ -50,11 +50,16 @@ impl Receiving {
                     from,
                     to,
                     number,
+                    limit,
                     payload,
                 },
             ) if from == self.peer && to == self.own && self.pending.is_none() => {
                 self.pending = Some(number);
-                Some(InAction::Take { number, payload })
+                Some(InAction::Take {
+                    number,
+                    limit,
+                    payload,
+                })
             }
             InEvent::Heard(_) => None,
             InEvent::Answered(answer) => {

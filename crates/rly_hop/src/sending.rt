@@ -78,7 +78,11 @@ impl Sending {
     {
         match event {
             OutEvent::Turn { is_open } => return self.turn(is_open),
-            OutEvent::Fetched { number, payload } => return self.fetched(number, payload),
+            OutEvent::Fetched {
+                number,
+                limit,
+                payload,
+            } => return self.fetched(number, limit, payload),
             OutEvent::WindowIs { first, next } => self.set_window(first, next),
             OutEvent::Picked(number) => self.picked(number),
             OutEvent::Released | OutEvent::Unchanged => self.released(),
@@ -172,10 +176,15 @@ impl Sending {
         }
     }
 
-    /// A payload was fetched: the message that sends it, where it is the one that the cursor stands at.
-    fn fetched<'a>(&mut self, number: u64, payload: &'a [u8]) -> Option<OutAction<&'a [u8]>>
-        ensures state { self.new ≡ (sending_step self.old (OutEvent.Fetched number payload.now)).0 }
-        ensures action { option_map out_action_bytes result ≡ (sending_step self.old (OutEvent.Fetched number payload.now)).1 }
+    /// A payload was fetched: the message that sends it with its limit, where it is the one that the cursor stands at.
+    fn fetched<'a>(
+        &mut self,
+        number: u64,
+        limit: u64,
+        payload: &'a [u8],
+    ) -> Option<OutAction<&'a [u8]>>
+        ensures state { self.new ≡ (sending_step self.old (OutEvent.Fetched number limit payload.now)).0 }
+        ensures action { option_map out_action_bytes result ≡ (sending_step self.old (OutEvent.Fetched number limit payload.now)).1 }
     {
         if !self.ready || number != self.cursor || self.cursor >= self.next {
             return None;
@@ -185,6 +194,7 @@ impl Sending {
             from: self.own,
             to: self.hop,
             number,
+            limit,
             payload,
         }))
     }

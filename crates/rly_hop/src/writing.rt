@@ -1,4 +1,4 @@
-ghost use Rattle.std.specs.Prelude.{◌≡◌, ◌≤◌, ◌+◌, ◌++◌, ◌∷◌, [], drop, length, take, IfOk, OnErr, OnOk};
+ghost use Rattle.std.specs.Prelude.{◌≡◌, ◌≤◌, ◌<◌, ◌^◌, ◌+◌, ◌++◌, ◌∷◌, [], drop, length, take, IfOk, OnErr, OnOk};
 ghost use Rattle.std.specs.Result.{result_err};
 ghost use Rattle.byteorder.specs.Endian.{big_bytes};
 ghost use Rattle.rly_hop.specs.Payloads.{message_bytes};
@@ -10,10 +10,11 @@ use crate::kind::Kind;
 use crate::message::{MAGIC, MAX_MESSAGE, Message, StationId, VERSION, place};
 use byteorder::{BigEndian, ByteOrder};
 use rly_core::Refusal;
-use rly_core::limits::MAX_PAYLOAD;
+use rly_core::limits::{AGE_LIMIT, MAX_PAYLOAD};
 
 /// Writes the one spelling of a message to the front of `out`, and answers its length in bytes. A message that is from
-/// or to station 0 is refused (45), and so is a payload longer than the limit (41), in this order.
+/// or to station 0 is refused (45), and so is a limit that doesn't fit its bytes or a payload that is too long (41), in this
+/// order.
 #[tactic(auto, unfolding(crate::specs::Spelling::spelling))]
 pub fn write_message(message: Message<&[u8]>, out: &mut [u8]) -> Result<usize, Refusal>
     requires { MAX_MESSAGE ≤ length out.old }
@@ -28,16 +29,9 @@ pub fn write_message(message: Message<&[u8]>, out: &mut [u8]) -> Result<usize, R
             from,
             to,
             number,
+            limit,
             payload,
-        } => {
-            check_stations(from, to)?;
-            if payload.len() as u64 > MAX_PAYLOAD {
-                return Err(Refusal::Long);
-            }
-            write_front(out, Kind::Data, from, to, number);
-            write_payload(out, payload);
-            Ok(place::PAYLOAD + payload.len())
-        }
+        } => write_data(out, from, to, number, limit, payload),
         Message::Custody { from, to, last } => {
             check_stations(from, to)?;
             write_front(out, Kind::Custody, from, to, last);
@@ -55,6 +49,38 @@ pub fn write_message(message: Message<&[u8]>, out: &mut [u8]) -> Result<usize, R
             Ok(Kind::Refused.fixed_length())
         }
     }
+}
+
+/// Writes a Data, with a limit or without one.
+#[tactic(auto, unfolding(crate::specs::Spelling::spelling))]
+fn write_data(
+    out: &mut [u8],
+    from: StationId,
+    to: StationId,
+    number: u64,
+    limit: u64,
+    payload: &[u8],
+) -> Result<usize, Refusal>
+    requires { MAX_MESSAGE ≤ length out.old }
+    ensures fault { result_err result ≡ unwritable (Message.Data from to number limit payload.now) }
+    ensures message { OnOk result (IsMessage (Message.Data from to number limit payload.now)) }
+    ensures written { IfOk result (λ written. out.new ≡ spelling (Message.Data from to number limit payload.now) ++ drop written out.old) }
+    ensures length { IfOk result (λ written. written ≡ length (spelling (Message.Data from to number limit payload.now))) }
+    ensures err { OnErr result (out.new ≡ out.old) }
+{
+    check_stations(from, to)?;
+    if limit >= AGE_LIMIT || payload.len() as u64 > MAX_PAYLOAD {
+        return Err(Refusal::Long);
+    }
+    if limit == 0 {
+        write_front(out, Kind::Data, from, to, number);
+        write_payload(out, place::LENGTH, payload);
+        return Ok(place::PAYLOAD + payload.len());
+    }
+    write_front(out, Kind::LimitedData, from, to, number);
+    write_limit(out, limit);
+    write_payload(out, place::LIMITED_LENGTH, payload);
+    Ok(place::LIMITED_PAYLOAD + payload.len())
 }
 
 /// Refuses a message that is from or to no station.
@@ -81,12 +107,21 @@ fn write_front(out: &mut [u8], kind: Kind, from: StationId, to: StationId, numbe
     BigEndian::write_u64(&mut out[place::NUMBER..], number);
 }
 
-/// Writes the length of a payload, and the payload after it.
-fn write_payload(out: &mut [u8], payload: &[u8])
-    requires short { length payload.now ≤ MAX_PAYLOAD }
-    requires room { 18 + length payload.now ≤ length out.old }
-    ensures { out.new ≡ take 16 out.old ++ big_bytes 2 (length payload.now) ++ payload.now ++ drop (18 + length payload.now) out.old }
+/// Writes the limit of a Data.
+fn write_limit(out: &mut [u8], limit: u64)
+    requires limit { limit < 2 ^ 40 }
+    requires room { 21 ≤ length out.old }
+    ensures { out.new ≡ take 16 out.old ++ big_bytes 5 limit ++ drop 21 out.old }
 {
-    BigEndian::write_u16(&mut out[place::LENGTH..], payload.len() as u16);
-    out[place::PAYLOAD..place::PAYLOAD + payload.len()].copy_from_slice(payload);
+    BigEndian::write_uint(&mut out[place::LIMIT..], limit, 5);
+}
+
+/// Writes the length of a payload at a place, and the payload after it.
+fn write_payload(out: &mut [u8], at: usize, payload: &[u8])
+    requires short { length payload.now ≤ MAX_PAYLOAD }
+    requires room { at + 2 + length payload.now ≤ length out.old }
+    ensures { out.new ≡ take at out.old ++ big_bytes 2 (length payload.now) ++ payload.now ++ drop (at + 2 + length payload.now) out.old }
+{
+    BigEndian::write_u16(&mut out[at..], payload.len() as u16);
+    out[at + 2..at + 2 + payload.len()].copy_from_slice(payload);
 }

@@ -1,5 +1,5 @@
 -- A group was appended at the end of the journal.
-use Rattle.std.proofs.Common.{◌≡◌, ◌⊎◌, ◌≤◌, ◌+◌, ◌∙◌, ℕ, Bool, true, List, length, arith, sym, ap, subst}
+use Rattle.std.proofs.Common.{◌≡◌, ◌⊎◌, ◌≤◌, ◌<◌, ◌+◌, ◌^◌, ◌∙◌, ℕ, Bool, true, List, length, arith, sym, ap, subst}
 use Rattle.rly_core.specs.Bounds.{IsIn}
 use Rattle.rly_disk.specs.DiskModel.{Consistent, DiskState, LeavesOnly, overwritten}
 use Rattle.rly_disk.specs.Trace.{Makes}
@@ -10,12 +10,13 @@ use Rattle.rly_gate.proofs.Appending.{appending_image, appending_seen, appending
 use Rattle.rly_machine.specs.Fold.{AllAccepted, fold}
 use Rattle.rly_machine.specs.State.{State}
 use Rattle.rly_record.specs.Spelling.{HaveBody, body_of}
+use Rattle.rly_record.proofs.Bodies.{body_small}
 use Rattle.rly_checkpoint.specs.Stored.{stored_length}
 use Rattle.rly_checkpoint.specs.declared.stored.Stored.{Stored}
 use Rattle.rly_segment.specs.Heads.{segment_end}
 use Rattle.rly_grouping.specs.Groups.{GroupState, Holds, group_body}
 use Rattle.rly_grouping.specs.Lying.{Commands, placed_group}
-use Rattle.rly_grouping.proofs.Records.{body_length, holds_body, holds_have, holds_most}
+use Rattle.rly_grouping.proofs.Records.{holds_body, holds_have}
 use Rattle.rly_standing.specs.declared.tail.Tail.{Tail}
 use Rattle.rly_standing.specs.Log.{IsDurable, IsLogged}
 use Rattle.rly_standing.specs.Standing.{Stands}
@@ -32,8 +33,8 @@ module _ {D : Type 0} (state : D → DiskState) {a : D} (tail : Tail) (group : G
   have : HaveBody commands
   have = holds_have commands group holds (omega (arith, holds.count, count.0), omega (arith, holds.count, count.1))
 
-  few : length (body_of commands) ≤ 78274
-  few = omega (arith, ap length same, body_length group, holds_most commands group holds, holds.count, count.1)
+  few : length (body_of commands) < 2 ^ 32
+  few = body_small commands have
 
   fits : tail.gate + 6 + length (body_of commands) ≤ segment_end tail.geometry tail.segment
   fits = omega (arith, ap length same, room)

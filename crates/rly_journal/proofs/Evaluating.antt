@@ -88,11 +88,12 @@ few_taken (call ∷ calls) (outcome ∷ outcomes) =
     omega (arith, taken_once call outcome, few_taken calls outcomes, length-append (taken_by call outcome) (taken_of (zip calls outcomes)))
 
 -- no call was evaluated
-pub evaluated_none : (gate : ℕ) (x : IndexState) (group : GroupState) (log : Commands) → group ≡ empty_group → x.used ≡ gate → IsEvaluated gate x x group log log [] []
+pub evaluated_none : (gate : ℕ) (x : IndexState) (group : GroupState) (log : Commands) → group ≡ empty_group x.geometry.params.payload → x.used ≡ gate → IsEvaluated gate x x group log log [] []
 evaluated_none gate x group log empty used = record {
   count = refl;
   each = λ t alike. tt;
-  holds = subst (Holds []) (sym empty) holds_none;
+  holds = subst (Holds []) (sym empty) (holds_none x.geometry.params.payload);
+  longest = ap (λ (g : GroupState). g.most) empty;
   accepted = tt;
   state = refl;
   geometry = refl;
@@ -142,7 +143,8 @@ module _ (gate : ℕ) (old x y : IndexState) (group new : GroupState) (before no
         record {
           count = counts;
           each = each_push;
-          holds = subst (λ l. Holds l new) (sym is) (subst (Holds (commands ++ command ∷ [])) (sym taken.2.group) (holds_more commands command group so_far.holds taken.2.has));
+          holds = subst (λ l. Holds l new) (sym is) (subst (Holds (commands ++ command ∷ [])) (sym taken.2.group) (holds_more commands command group so_far.holds taken.2.has taken.2.short));
+          longest = ap (λ (g : GroupState). g.most) taken.2.group ∙ so_far.longest;
           accepted = subst (AllAccepted stored_length old.spool.state) row
               (accepted_push stored_length old.spool.state (placed_group gate commands) (placed_at (record_place gate group) command) so_far.accepted
               (subst (λ m. IsTrue (is_accepted (step stored_length m (placed_at (record_place gate group) command)).1)) so_far.state taken.2.accepted));
@@ -159,6 +161,7 @@ module _ (gate : ℕ) (old x y : IndexState) (group new : GroupState) (before no
           count = counts;
           each = each_push;
           holds = subst (λ l. Holds l new) (sym is) (subst (Holds commands) (sym left.1.group) so_far.holds);
+          longest = ap (λ (g : GroupState). g.most) left.1.group ∙ so_far.longest;
           accepted = subst (λ l. AllAccepted stored_length old.spool.state (placed_group gate l)) (sym is) so_far.accepted;
           state = left.1.state ∙ so_far.state ∙ ap (λ l. fold stored_length old.spool.state (placed_group gate l)) (sym is);
           geometry = left.1.at.geometry ∙ so_far.geometry;
@@ -184,7 +187,7 @@ pub record IsEvaluating (gate : ℕ) (old x : IndexState) (group : GroupState) (
   pub calls : all ≡ served ++ rest
   pub evaluated : IsEvaluated gate old x group before now served outcomes
 
-pub evaluating_none : (gate : ℕ) (x : IndexState) (group : GroupState) (log : Commands) (all : List Call) (outcomes : List Outcome) → group ≡ empty_group → x.used ≡ gate → outcomes ≡ []
+pub evaluating_none : (gate : ℕ) (x : IndexState) (group : GroupState) (log : Commands) (all : List Call) (outcomes : List Outcome) → group ≡ empty_group x.geometry.params.payload → x.used ≡ gate → outcomes ≡ []
     → IsEvaluating gate x x group log log all all outcomes
 evaluating_none gate x group log all outcomes empty used none = record {
   served = [];
@@ -220,6 +223,7 @@ module _ (gate : ℕ) (old x : IndexState) (group : GroupState) (before now : Co
   evaluating_grouping above = record {
     commands = taken_of (zip so_far.served outcomes);
     holds = so_far.evaluated.holds;
+    longest = so_far.evaluated.longest ∙ ap (λ (g : Geometry). g.params.payload) (sym so_far.evaluated.geometry);
     above = omega (arith, above, ap (λ (g : Geometry). segment_place g x.segment) so_far.evaluated.geometry, ap (segment_place old.geometry) so_far.evaluated.segment);
     below = elim so_far.evaluated.used [
       | inl none ↦ omega (arith, none.1)

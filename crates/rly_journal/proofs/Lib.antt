@@ -2,7 +2,6 @@ pub mod MayRenewing
 pub mod Redone
 pub mod Rows
 pub mod TaggedHeads
-pub mod Storable
 pub mod Renewing
 pub mod Tagging
 pub mod Appended

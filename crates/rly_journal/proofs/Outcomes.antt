@@ -1,11 +1,11 @@
 -- What came of one call, in a spool of places and in the one with bytes.
-use Rattle.std.proofs.Common.{◌≡◌, ◌⊎◌, ◌+◌, ◌-◌, ◌<◌, ◌≤◌, ◌^◌, ◌∷◌, ◌++◌, [], ◌∙◌, ℕ, Bool, true, false, cond, List, length, map, arith, ap, refl, sym, subst, inl, inr}
+use Rattle.std.proofs.Common.{◌≡◌, ◌⊎◌, ◌+◌, ◌-◌, ◌<◌, ◌≤◌, ◌^◌, ◌∷◌, ◌++◌, [], ◌∙◌, ℕ, suc, Bool, true, false, cond, List, length, map, arith, ap, refl, sym, subst, inl, inr}
 use Rattle.std.specs.Prelude.{Option, Ok, Err, if◌then◌else◌}
-use Rattle.std.proofs.Math.Nat.{mul-le-mul_right}
-use Rattle.std.proofs.lemmas.Bool.{cases_lt, false≢true}
+use Rattle.std.proofs.Math.Nat.{mul-le-mul_left, mul-le-mul_right}
+use Rattle.std.proofs.lemmas.Bool.{false≢true}
 use Rattle.std.proofs.lemmas.List.{map-append}
 use Rattle.rly_core.specs.declared.ids.HopId.{HopId}
-use Rattle.rly_core.specs.declared.params.Geometry.{Geometry}
+use Rattle.rly_core.specs.declared.params.Params.{Params}
 use Rattle.rly_core.specs.declared.refusal.Refusal.{Refusal}
 use Rattle.rly_machine.specs.declared.call.Answer.{Answer}
 use Rattle.rly_machine.specs.declared.call.Call.{Call}
@@ -27,14 +27,15 @@ use Rattle.rly_machine.specs.State.{State}
 use Rattle.rly_machine.specs.Step.{step}
 use Rattle.rly_machine.proofs.Alike.{sound_alike}
 use Rattle.rly_machine.proofs.RealReplies.{counted, real_query, real_step, unaccepted}
-use Rattle.rly_record.specs.Spelling.{HasRecord, IsRecordable, IsShort, record_length, record_of}
-use Rattle.rly_reclaim.specs.Room.{IsDue, group_room}
+use Rattle.rly_record.specs.Spelling.{HasRecord, IsRecordable, IsShort, longest_record, record_length, record_of}
+use Rattle.rly_record.proofs.Bodies.{record_length-short}
+use Rattle.rly_reclaim.specs.Room.{IsDue}
 use Rattle.rly_checkpoint.specs.Stored.{stored_length}
 use Rattle.rly_checkpoint.specs.declared.stored.Place.{Place}
 use Rattle.rly_checkpoint.specs.declared.stored.Stored.{Stored}
 use Rattle.rly_checkpoint.specs.declared.stored.Stored.TheVariants.{Inline}
 use Rattle.rly_segment.specs.Device.{device_length}
-use Rattle.rly_segment.specs.Heads.{segment_end, segment_place}
+use Rattle.rly_segment.specs.Heads.{segment_place}
 use Rattle.rly_segment.proofs.Segments.{segment_within}
 use Rattle.rly_keeping.specs.Keeping.{IsAlike, IsBrought}
 use Rattle.rly_keeping.proofs.Fetched.{refused_alike, show_alike, window_alike}
@@ -42,8 +43,7 @@ use Rattle.rly_keeping.proofs.Stepping.{same_reply}
 use Rattle.rly_index.specs.Index.{HoldsIndex, IndexState, IsAt, used_after}
 use Rattle.rly_grouping.specs.Groups.{GroupState, frame_room, group_body, record_place, with_record}
 use Rattle.rly_grouping.specs.Lying.{Commands, placed_at}
-use Rattle.rly_grouping.proofs.Brought.{brought}
-use Rattle.rly_grouping.proofs.Framed.{record_fits}
+use Rattle.rly_grouping.proofs.Brought.{brought, not_due}
 use Rattle.rly_grouping.proofs.Records.{body_length, holds_most, inline_alike, next_place, placed_alike}
 use Rattle.rly_fetching.specs.Fetching.{lying}
 use Rattle.rly_standing.proofs.Serving.{long_leaves}
@@ -56,7 +56,7 @@ use Rattle.rly_journal.proofs.Opening.{shown_alike}
 
 -- ---- a command that can't be recorded
 
-pub long_refused : (s : State Stored) (command : Command (List ℕ)) → IsSound stored_length s → (IsRecordable command → ⊥)
+pub long_refused : (s : State Stored) (command : Command (List ℕ)) → IsSound stored_length s → (IsRecordable s.params.payload command → ⊥)
     → is_accepted (step stored_length s (map_command Inline command)).1 ≡ false
 long_refused s command sound long =
     let t : State (List ℕ) = map_state (shown_in []) s in
@@ -65,7 +65,7 @@ long_refused s command sound long =
     ∙ long_leaves t command (sound_alike stored_length length s t alike sound) long
 
 -- the step of such a command
-pub long_told : (s r u : State Stored) (command : Command (List ℕ)) (placed : Command Stored) (told : Reply) → IsSound stored_length s → (IsRecordable command → ⊥)
+pub long_told : (s r u : State Stored) (command : Command (List ℕ)) (placed : Command Stored) (told : Reply) → IsSound stored_length s → (IsRecordable s.params.payload command → ⊥)
     → placed ≡ map_command Inline command → r ≡ s → u ≡ (step stored_length r placed).0 → told ≡ (step stored_length r placed).1
     → (is_accepted told ≡ false) × (u ≡ s) × ((t : State (List ℕ)) → IsAlike s t → IsToldOf command told t)
 long_told s r u command placed told sound long is same state says =
@@ -79,44 +79,50 @@ long_told s r u command placed told sound long is same state says =
 
 -- ---- a command that was staged
 
--- how much room there is after a gate
-not_due : (g : Geometry) (segment gate : ℕ) → segment_place g segment ≤ gate → (IsDue g (gate - segment_place g segment) → ⊥) → gate + group_room ≤ segment_end g segment
-not_due g segment gate above room =
-    elim (cases_lt g.length (gate - segment_place g segment + group_room)) [
-      | inl due ↦ absurd (room due)
-      | inr fits ↦ omega (arith, fits, above)
-    ]
+-- what the spool may record may be part of the group, which is of payloads as long as the spool's
+pub recordable_here : (gate : ℕ) (x : IndexState) (group : GroupState) (params : Params) (command : Command (List ℕ)) → IsGrouping gate x group
+    → HoldsIndex x.geometry x.segment x.used x.spool.state → params ≡ x.spool.state.params → IsRecordable params.payload command → IsRecordable group.most command
+recordable_here gate x group params command grouping holds is recordable =
+    subst (λ (n : ℕ). IsRecordable n command) (ap (λ (p : Params). p.payload) (is ∙ holds.params) ∙ sym grouping.longest) recordable
 
 module _ (gate : ℕ) (x : IndexState) (group : GroupState) (grouping : IsGrouping gate x group) (few : group.count < 64)
     (holds : HoldsIndex x.geometry x.segment x.used x.spool.state) (ready : IsDue x.geometry (gate - segment_place x.geometry x.segment) → ⊥) where
   -- the largest group finds room on the device
-  pub gate_small : gate + frame_room < 2 ^ 64
+  pub gate_small : gate + frame_room group.most < 2 ^ 64
   gate_small =
       let within = segment_within x.geometry x.segment (device_length x.geometry) holds.layout holds.there in
       let wide = mul-le-mul_right x.geometry.length holds.layout.segments.1 in
       let room = not_due x.geometry x.segment gate grouping.above ready in
-      omega (arith, within, wide, room, holds.layout.length)
+      omega (arith, within, wide, room, holds.layout.length, grouping.longest)
 
-  pub staged_brought : (command : Command (List ℕ)) → HasRecord command
+  pub staged_brought : (command : Command (List ℕ)) → HasRecord command → IsShort group.most command
       → IsBrought x.geometry x.segment x.used (record_place gate group + record_length length command) (placed_at (record_place gate group) command)
-  staged_brought command has =
-      brought x.geometry x.segment x.used gate grouping.commands command group holds.there grouping.above ready grouping.holds
-      (omega (arith, grouping.holds.count, few)) has holds.from grouping.below
+  staged_brought command has short =
+      brought x.geometry x.segment x.used gate grouping.commands command group grouping.longest holds.there grouping.above ready grouping.holds
+      (omega (arith, grouping.holds.count, few)) has (subst (λ (n : ℕ). IsShort n command) grouping.longest short) holds.from grouping.below
 
-  pub place_small : (command : Command (List ℕ)) → IsShort command → gate + (5 + length (group_body group)) + record_length length command < 2 ^ 64
+  pub place_small : (command : Command (List ℕ)) → IsShort group.most command → gate + (5 + length (group_body group)) + record_length length command < 2 ^ 64
   place_small command short =
-      omega (arith, gate_small, body_length group, holds_most grouping.commands group grouping.holds, grouping.holds.count, few, record_fits command short)
+      let less : suc (length grouping.commands) ≤ 64 = omega (arith, grouping.holds.count, few) in
+      omega (
+        arith,
+        gate_small,
+        body_length group,
+        holds_most grouping.commands group grouping.holds,
+        record_length-short group.most command short,
+        mul-le-mul_left (longest_record group.most) less,
+      )
 
   -- the same, told of the calls that made it
-  pub brought_at : (r : IndexState) (command : Command (List ℕ)) (next : ℕ) (placed : Command Stored) → HasRecord command → IsAt x.geometry x.segment x.used r
+  pub brought_at : (r : IndexState) (command : Command (List ℕ)) (next : ℕ) (placed : Command Stored) → HasRecord command → IsShort group.most command → IsAt x.geometry x.segment x.used r
       → next ≡ record_place gate group + record_length length command → placed ≡ placed_at (record_place gate group) command → IsBrought r.geometry r.segment r.used next placed
-  brought_at r command next placed has before ends is =
+  brought_at r command next placed has short before ends is =
       subst (IsBrought r.geometry r.segment r.used next) (sym is)
       (subst (λ n. IsBrought r.geometry r.segment r.used n (placed_at (record_place gate group) command)) (sym ends)
       (subst (λ g. IsBrought g r.segment r.used (record_place gate group + record_length length command) (placed_at (record_place gate group) command)) (sym before.geometry)
       (subst (λ t. IsBrought x.geometry t r.used (record_place gate group + record_length length command) (placed_at (record_place gate group) command)) (sym before.segment)
       (subst (λ u. IsBrought x.geometry x.segment u (record_place gate group + record_length length command) (placed_at (record_place gate group) command)) (sym before.used)
-      (staged_brought command has)))))
+      (staged_brought command has short)))))
 
 -- ---- a question
 
@@ -262,9 +268,9 @@ discarded old mid new command nothing staged left =
 
 -- what was staged and then kept
 pub kept_record : (old mid new : GroupState) (command : Command (List ℕ)) → mid ≡ record old { staged = record_of command }
-    → new ≡ record { records = mid.records ++ mid.staged; count = mid.count + 1; staged = [] } → new ≡ with_record old command
+    → new ≡ record mid { records = mid.records ++ mid.staged; count = mid.count + 1; staged = [] } → new ≡ with_record old command
 kept_record old mid new command staged kept =
-    kept ∙ ap (λ (g : GroupState). let h : GroupState = record { records = g.records ++ g.staged; count = g.count + 1; staged = [] } in h) staged
+    kept ∙ ap (λ (g : GroupState). record g { records = g.records ++ g.staged; count = g.count + 1; staged = [] }) staged
 
 -- the step of a command that was staged
 module _ (gate : ℕ) (x r y : IndexState) (old : GroupState) (command : Command (List ℕ)) (placed : Command Stored) (told : Reply) (next : ℕ)
@@ -281,15 +287,16 @@ module _ (gate : ℕ) (x r y : IndexState) (old : GroupState) (command : Command
   staged_told t alike =
       inl (by_step ∙ same_reply x.spool.state t (placed_at (record_place gate old) command) command alike (placed_alike (record_place gate old) command))
 
-  pub staged_taken : (mid new : GroupState) (log now : Commands) → is_accepted told ≡ true → HasRecord command → next ≡ record_place gate old + record_length length command
-      → mid ≡ record old { staged = record_of command } → new ≡ record { records = mid.records ++ mid.staged; count = mid.count + 1; staged = [] }
+  pub staged_taken : (mid new : GroupState) (log now : Commands) → is_accepted told ≡ true → HasRecord command → IsShort old.most command → next ≡ record_place gate old + record_length length command
+      → mid ≡ record old { staged = record_of command } → new ≡ record mid { records = mid.records ++ mid.staged; count = mid.count + 1; staged = [] }
       → now ≡ log ++ command ∷ [] → IsTaken gate command x y old new log now
-  staged_taken mid new log now accepts has ends staged kept said =
+  staged_taken mid new log now accepts has short ends staged kept said =
       let group : new ≡ with_record old command = kept_record old mid new command staged kept in
       record {
         accepted = ap is_accepted (sym by_step) ∙ accepts;
         state = state_step;
         has = has;
+        short = short;
         group = group;
         at = record {
           geometry = at.geometry ∙ before.geometry;

@@ -36,6 +36,7 @@ use Rattle.rly_places.proofs.Rooms.{live_length}
 use Rattle.rly_moving.specs.Moving.{LiesThere, MayMove, moved_state, unread}
 use Rattle.rly_drawing.specs.Drawing.{IsSameButForBytes}
 use Rattle.rly_drawing.proofs.Blank.{same_inline, same_sound, same_spelled}
+use Rattle.rly_drawing.proofs.Storable.{same_storable}
 use Rattle.rly_keeping.proofs.Each.{hops_mapped}
 use Rattle.rly_keeping.proofs.Lying.{LiesApart, all_there, drawn_apart}
 use Rattle.rly_index.specs.Index.{HoldsIndex, IndexState}
@@ -47,7 +48,6 @@ use Rattle.rly_standing.proofs.Frame.{length-spelled}
 use Rattle.rly_standing.proofs.Growing.{byte_there, opened_with, with_head}
 use Rattle.rly_standing.proofs.Inlining.{elsewhere_still}
 use Rattle.rly_journal.specs.HelpersJournal.{IsAtEnd, IsShaped}
-use Rattle.rly_journal.proofs.Storable.{same_storable}
 
 -- ---- what the head may hold
 
@@ -263,7 +263,7 @@ module _ (tail : Tail) (x : IndexState) (target victim : ℕ) (copy : State Stor
   -- on any disk what it holds has a form there
   pub forms_there : All (HaveForms (IsStorable Second)) copy.hops
   forms_there =
-      same_storable Second copy (drawn_state tail.geometry victim unread x.spool.state) drawn_for.like
+      same_storable Second (drawn_state tail.geometry victim unread x.spool.state) copy (sym drawn_for.like)
       (forms_of Second tail.geometry size target (drawn_state tail.geometry victim unread x.spool.state) shaped.geometry
       (copy_placed tail.geometry target victim x.spool.state unread drawn_for.may victim_there))
 

@@ -21,6 +21,7 @@ use Rattle.rly_machine.specs.Map.{map_state}
 use Rattle.rly_machine.specs.State.{State}
 use Rattle.rly_machine.proofs.Folding.{fold_append, params_fold, seq_fold}
 use Rattle.rly_record.specs.Spelling.{HaveBody, body_of}
+use Rattle.rly_record.proofs.Bodies.{body_small}
 use Rattle.rly_checkpoint.specs.Stored.{stored_length}
 use Rattle.rly_checkpoint.specs.declared.stored.Stored.{Stored}
 use Rattle.rly_segment.specs.Device.{IsLayout}
@@ -42,7 +43,6 @@ use Rattle.rly_standing.specs.Calls.{logging}
 use Rattle.rly_standing.specs.Log.{IsDurable, IsFull}
 use Rattle.rly_standing.specs.Standing.{Stands}
 use Rattle.rly_standing.proofs.Appending.{append_image}
-use Rattle.rly_standing.proofs.Gathering.{spelled_most}
 use Rattle.rly_journal.specs.HelpersJournal.{IsAtEnd, IsShaped, IsSoundJournal, IsTaggedIn}
 use Rattle.rly_journal.specs.HelpersOutcomes.{AreOutcomes, IsEvaluated, IsOutcomeOf, taken_by, taken_of}
 use Rattle.rly_journal.specs.Showing.{shown_in, shown_state}
@@ -124,6 +124,10 @@ module _ (size : ℕ) (tail : Tail) (x y : IndexState) (group : GroupState) (bef
   same_params : y.spool.state.params ≡ tail.geometry.params
   same_params = ap (λ (m : State Stored). m.params) done.state ∙ params_fold stored_length x.spool.state (placed_group tail.gate commands) ∙ shaped.params
 
+  -- the group is of payloads as long as the spool's
+  pub longest_there : group.most ≡ tail.geometry.params.payload
+  longest_there = done.longest ∙ ap (λ (g : Geometry). g.params.payload) ends.geometry
+
   pub few_commands : length calls ≤ 64 → length commands ≤ 64
   few_commands few = omega (arith, few_taken calls outcomes, few)
 
@@ -157,12 +161,13 @@ module _ (size : ℕ) (tail : Tail) (x y : IndexState) (group : GroupState) (bef
       ];
     }
 
-    pub group_none : group ≡ empty_group
+    pub group_none : group ≡ empty_group tail.geometry.params.payload
     group_none =
         let holds : Holds [] group = subst (λ l. Holds l group) nothing_taken done.holds in
-        ap (λ (l : List ℕ). let h : GroupState = record { records = l; count = group.count; staged = group.staged } in h) holds.records
-        ∙ ap (λ (n : ℕ). let h : GroupState = record { records = []; count = n; staged = group.staged } in h) holds.count
-        ∙ ap (λ (l : List ℕ). let h : GroupState = record { records = []; count = 0; staged = l } in h) holds.staged
+        ap (λ (l : List ℕ). record group { records = l }) holds.records
+        ∙ ap (λ (n : ℕ). record group { records = []; count = n }) holds.count
+        ∙ ap (λ (l : List ℕ). record group { records = []; count = 0; staged = l }) holds.staged
+        ∙ ap empty_group longest_there
 
     -- the front of its commands too
     pub front_kept : (disk : DiskState) → IsKept disk x.spool.state t → (front back : Commands) → taken_of (zip calls outcomes) ≡ front ++ back
@@ -202,7 +207,7 @@ module _ (size : ℕ) (tail : Tail) (x y : IndexState) (group : GroupState) (bef
     above = omega (arith, shaped.above)
 
     pub group_room : tail.gate + 6 + length (group_body group) ≤ segment_end tail.geometry tail.segment
-    group_room = group_fits tail.geometry tail.segment tail.gate commands group above ready done.holds (few_commands few)
+    group_room = group_fits tail.geometry tail.segment tail.gate commands group longest_there above ready done.holds (few_commands few)
 
     pub group_within : segment_end tail.geometry tail.segment ≤ size
     group_within = segment_within tail.geometry tail.segment size shaped.geometry shaped.segment
@@ -251,7 +256,7 @@ module _ (size : ℕ) (tail : Tail) (x y : IndexState) (group : GroupState) (bef
         let written : Makes state (appending tail.gate (body_of commands)) whole a b = subst (λ (l : List ℕ). Makes state (appending tail.gate l) whole a b) body made in
         let room : tail.gate + 6 + length (body_of commands) ≤ segment_end tail.geometry tail.segment = omega (arith, group_room, bytes) in
         makes_leaves state (λ image. Stands image t ⊎ Stands image (fold length t commands)) written durable.settled
-        (λ image left. append_image tail commands t have bytes_accepted (spelled_most commands done.holds.have (few_commands few)) room (state a).seen image durable.logged
+        (λ image left. append_image tail commands t have bytes_accepted (body_small commands have) room (state a).seen image durable.logged
         (appending_image tail.gate (body_of commands) (state a).seen image
         (subst (IsClosed (state a).seen) (sym durable.logged.ends.gate) durable.logged.stands.closed)
         (omega (arith, room, group_within, same, durable.settled.consistent.seen_size)) left))

@@ -1,5 +1,5 @@
 -- In which segments a spool of places has its payloads, and in which what was read of an image has them.
-use Rattle.std.proofs.Common.{◌≡◌, ◌≢◌, ◌≤◌, ◌<◌, ◌+◌, ◌++◌, ◌∷◌, [], ◌∙◌, ℕ, List, length, take, drop, arith, sym, ap, refl, subst}
+use Rattle.std.proofs.Common.{◌≡◌, ◌≢◌, ◌≤◌, ◌<◌, ◌+◌, ◌^◌, ◌++◌, ◌∷◌, [], ◌∙◌, ℕ, List, length, take, drop, arith, sym, ap, refl, subst}
 use Rattle.std.specs.Prelude.{All}
 use Rattle.std.specs.List.{flat_map}
 use Rattle.std.proofs.lemmas.List.Elements.{All-cons, All-head, All-nil, All-weaker}
@@ -107,7 +107,7 @@ tagged_more x s gate commands there above room same t other =
 
 -- the accepted commands of a round were written as a group at the end: what was tagged is tagged, where the spool went on by them
 pub tagged_appended : (old new : List ℕ) (tail : Tail) (commands : Commands) (s : State (List ℕ)) (places : State Stored) → IsLogged old tail s
-    → HaveBody commands → AllAccepted length s commands → length (body_of commands) ≤ 78274
+    → HaveBody commands → AllAccepted length s commands → length (body_of commands) < 2 ^ 32
     → tail.gate + 6 + length (body_of commands) ≤ segment_end tail.geometry tail.segment
     → new ≡ overwritten tail.gate (group_of (body_of commands)) old → IsTaggedIn old places
     → IsTaggedIn new (fold stored_length places (placed_group tail.gate commands))
@@ -124,7 +124,7 @@ tagged_appended old new tail commands s places logged have accepted few room wri
     let stands : StandsAt new tail.gate (group_of (body_of commands)) =
     ap (λ l. take (length (group_of (body_of commands))) (drop tail.gate l)) written ∙ part-overwritten tail.gate (group_of (body_of commands)) old (omega (arith, fit)) in
     let grown : IsStanding new (with_group logged.x commands) =
-    appended logged.x commands logged.stands have (subst (λ r. AllAccepted length r commands) logged.state accepted) (omega (arith, few)) within
+    appended logged.x commands logged.stands have (subst (λ r. AllAccepted length r commands) logged.state accepted) few within
     (subst (λ p. SameOutside p (length (group_of (body_of commands))) old new) gate outside)
     (subst (λ p. StandsAt new p (group_of (body_of commands))) gate stands) in
     subst (λ (z : Standing). IsTagged z (fold stored_length places (placed_group tail.gate commands))) (standing_once (with_group logged.x commands) y grown reads)

@@ -20,7 +20,7 @@ use Rattle.rly_machine.specs.History.{Entry, IsAnswered, accepted_by, is_failure
 use Rattle.rly_machine.specs.Query.{item_of}
 use Rattle.rly_machine.specs.State.{State}
 use Rattle.rly_machine.specs.Step.{step}
-use Rattle.rly_record.specs.Spelling.{HasRecord}
+use Rattle.rly_record.specs.Spelling.{HasRecord, IsShort}
 use Rattle.rly_checkpoint.specs.Stored.{stored_length}
 use Rattle.rly_checkpoint.specs.declared.stored.Place.{Place}
 use Rattle.rly_checkpoint.specs.declared.stored.Stored.{Stored}
@@ -37,10 +37,12 @@ use Rattle.rly_journal.specs.Rounds.{AreReadsOf, MayWantMemory, MayWantRoom}
 
 -- ---- one command
 
--- a group is made that will stand at a gate in the current segment, which isn't used where the next record will stand
+-- a group is made, of payloads as long as the spool has them, that will stand at a gate in the current segment, which
+-- isn't used where the next record will stand
 pub record IsGrouping (gate : ℕ) (x : IndexState) (group : GroupState) : Type 0 where
   pub commands : Commands
   pub holds : Holds commands group
+  pub longest : group.most ≡ x.geometry.params.payload
   pub above : segment_place x.geometry x.segment ≤ gate
   pub below : x.used ≤ record_place gate group
 
@@ -56,6 +58,7 @@ pub record IsTaken (gate : ℕ) (command : Command (List ℕ)) (x y : IndexState
   pub accepted : IsTrue (is_accepted (step stored_length x.spool.state (placed_at (record_place gate old) command)).1)
   pub state : y.spool.state ≡ (step stored_length x.spool.state (placed_at (record_place gate old) command)).0
   pub has : HasRecord command
+  pub short : IsShort old.most command
   pub group : new ≡ with_record old command
   pub at : IsAt x.geometry x.segment (record_place gate new) y
   pub log : after ≡ before ++ command ∷ []
@@ -135,6 +138,7 @@ pub record IsEvaluated (gate : ℕ) (old new : IndexState) (group : GroupState) 
   pub each : (t : State (List ℕ)) → IsAlike old.spool.state t
       → AreOutcomes old.geometry gate old.spool.state t [] (zip calls outcomes)
   pub holds : Holds (taken_of (zip calls outcomes)) group
+  pub longest : group.most ≡ old.geometry.params.payload
   pub accepted : AllAccepted stored_length old.spool.state (placed_group gate (taken_of (zip calls outcomes)))
   pub state : new.spool.state ≡ fold stored_length old.spool.state (placed_group gate (taken_of (zip calls outcomes)))
   pub geometry : new.geometry ≡ old.geometry

@@ -38,7 +38,7 @@ pub(crate) fn evaluate(
     requires count { length calls.old.items ≤ 64 }
     requires room { length calls.old.items ≤ vec_capacity outcomes.old }
     requires none { outcomes.old.items ≡ [] }
-    requires empty { group.old ≡ empty_group }
+    requires empty { group.old ≡ empty_group index.old.geometry.params.payload }
     requires above { segment_place index.old.geometry index.old.segment ≤ gate }
     requires used { index.old.used ≡ gate }
     requires ready { holds_command calls.old.items ≡ true → IsDue index.old.geometry (gate - segment_place index.old.geometry index.old.segment) → ⊥ }
@@ -162,10 +162,10 @@ fn answer_command(
         ⊎ ((is_accepted result ≡ false) × IsLeft index.old index.new group.old group.new
         (map (λ e. e.0.value) accepted.old.items) (map (λ e. e.0.value) accepted.new.items)) }
 {
-    if !is_recordable(&command) {
+    index.law_index();
+    if !is_recordable(&command, index.machine().params().payload) {
         return answer_long(alloc, index, command);
     }
-    index.law_index();
     let said = Snapshot::of(&command);
     let next = gate + group.len() + record_len(&command) as u64;
     let placed = group.stage(gate, command);
@@ -185,7 +185,7 @@ fn answer_command(
 
 /// Answers a command that can't be recorded: it is refused.
 fn answer_long(alloc: Global, index: &mut Index, command: Command<Payload>) -> Reply
-    requires long { IsRecordable command → ⊥ }
+    requires long { IsRecordable index.old.spool.state.params.payload command → ⊥ }
     ensures told { (t : State (List ℕ)) → IsAlike index.old.spool.state t → IsToldOf command result t }
     ensures refused { is_accepted result ≡ false }
     ensures state { index.new.spool.state ≡ index.old.spool.state }

@@ -27,7 +27,7 @@ use crate::answering::{Accepted, evaluate, refuse_calls};
 use crate::recovery::{Recovered, recover};
 use crate::tail::{RenewFault, append, is_full, renew};
 use http_server::Log;
-use rly_core::limits::MAX_ROUND;
+use rly_core::limits::{MAX_PAYLOAD, MAX_ROUND};
 use rly_core::{HopId, Params, PeerId, Refusal};
 use rly_disk::Disk;
 use rly_fetching::{Outcome, answer_all, place_of, read_payload, refuse_all};
@@ -76,7 +76,7 @@ impl<D: Disk> Model for Journal<D> {
 
     ghost invariant = { λ j. IsSoundJournal (D.state j.disk) j.tail j.index
         (shown_state (D.state j.first_disk.value).seen j.first_index.value.spool.state (map (λ e. e.0.value) j.accepted.items)) j.position j.broken
-        × (j.group ≡ empty_group) × (j.outcomes.items ≡ []) × (64 ≤ vec_capacity j.outcomes) };
+        × (j.group ≡ empty_group j.tail.geometry.params.payload) × (j.outcomes.items ≡ []) × (64 ≤ vec_capacity j.outcomes) };
 }
 
 /// What opening a device made.
@@ -391,7 +391,7 @@ impl<D: Disk> Journal<D> {
 fn begin<D: Disk>(alloc: Global, disk: &mut D) -> Result<Begun, OpenFault>
     ensures shaped { IfOk result (λ begun. IsShaped (D.state disk.new).size begun.found.tail begun.found.index) }
     ensures ends { IfOk result (λ begun. IsAtEnd begun.found.tail begun.found.index) }
-    ensures group { IfOk result (λ begun. begun.group ≡ empty_group) }
+    ensures group { IfOk result (λ begun. begun.group ≡ empty_group begun.found.tail.geometry.params.payload) }
     ensures outcomes { IfOk result (λ begun. begun.outcomes.items ≡ []) }
     ensures room { IfOk result (λ begun. 64 ≤ vec_capacity begun.outcomes) }
     ensures logged { (D.state disk.old).honest → IfOk result (λ begun. IsLoggedFor (D.state disk.old).seen begun.found.tail begun.found.index) }
@@ -403,7 +403,7 @@ fn begin<D: Disk>(alloc: Global, disk: &mut D) -> Result<Begun, OpenFault>
         return Err(OpenFault::Device);
     };
     match recover(alloc, disk) {
-        Ok(found) => match make_room(alloc) {
+        Ok(found) => match make_room(alloc, found.tail.geometry.params.payload) {
             Ok((group, outcomes)) => Ok(Begun {
                 found,
                 group,
@@ -415,13 +415,14 @@ fn begin<D: Disk>(alloc: Global, disk: &mut D) -> Result<Begun, OpenFault>
     }
 }
 
-/// The memory that every round needs for its group and for what comes of its calls.
-fn make_room(alloc: Global) -> Result<(Group, Vec<Outcome>), AllocError>
-    ensures group { IfOk result (λ room. room.0 ≡ empty_group) }
+/// The memory that every round needs for its group, where payloads have at most so many bytes, and for what comes of its calls.
+fn make_room(alloc: Global, payload: u64) -> Result<(Group, Vec<Outcome>), AllocError>
+    requires { payload ≤ MAX_PAYLOAD }
+    ensures group { IfOk result (λ room. room.0 ≡ empty_group payload) }
     ensures outcomes { IfOk result (λ room. room.1.items ≡ []) }
     ensures room { IfOk result (λ room. 64 ≤ vec_capacity room.1) }
 {
-    let group = Group::new(alloc)?;
+    let group = Group::new(alloc, payload)?;
     let outcomes = Vec::with_capacity(alloc, MAX_ROUND as usize)?;
     Ok((group, outcomes))
 }

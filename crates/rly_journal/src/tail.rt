@@ -18,6 +18,7 @@ ghost use Rattle.rly_journal.specs.Calls.{IsRenewal, Renewal};
 ghost use Rattle.rly_journal.specs.HelpersJournal.{IsAtEnd, IsShaped, IsTaggedIn};
 ghost use Rattle.rly_journal.specs.HelpersRounds.{IsRenewed};
 
+use rly_core::limits::MAX_PAYLOAD;
 use rly_disk::{Disk, DiskFault};
 use rly_drawing::{DrawingFault, draw};
 use rly_grouping::Group;
@@ -42,6 +43,7 @@ pub(crate) enum RenewFault {
 pub(crate) fn is_full(tail: &Tail) -> bool
     requires segment { tail.now.segment < 256 }
     requires length { tail.now.geometry.length < 2 ^ 31 }
+    requires payload { tail.now.geometry.params.payload ≤ MAX_PAYLOAD }
     requires gate { segment_place tail.now.geometry tail.now.segment ≤ tail.now.gate }
     requires within { tail.now.gate < segment_end tail.now.geometry tail.now.segment }
     ensures { IsTrue result ↔ IsFull tail.now }
@@ -125,7 +127,7 @@ pub(crate) fn append<D: Disk>(
         → AllAccepted length s commands → LeavesOnly (D.state disk.old) (D.state disk.new) (λ image. Stands image s ⊎ Stands image (fold length s commands)) }
     ensures gate { OnOk result (tail.new ≡ record tail.old { gate = tail.old.gate + (5 + length (group_body group.old)) }) }
     ensures err { OnErr result (tail.new ≡ tail.old) }
-    ensures emptied { group.new ≡ empty_group }
+    ensures emptied { group.new ≡ empty_group group.old.most }
     ensures trace { Makes D.state (appending tail.old.gate (group_body group.old)) (is_ok result) disk.old disk.new }
 {
     let length = group.len();

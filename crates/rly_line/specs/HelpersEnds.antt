@@ -1,6 +1,6 @@
 -- Nothing is claimed here: the two lines as their channels keep them, and the ends of a seat, which only private
 -- functions speak of.
-use Rattle.std.specs.Prelude.{ℕ, ◌≡◌, ◌≤◌, ◌⊎◌, List, [], ◌++◌, length, vec_capacity}
+use Rattle.std.specs.Prelude.{ℕ, ◌≡◌, ◌⊎◌, List, [], ◌++◌, length, vec_capacity}
 use Rattle.std.specs.Prelude.{Bool, true, false, Option, Some, None}
 use Rattle.std.specs.Global.{Vec}
 use Rattle.crossbeam_channel.specs.Claims.{Pass}
@@ -141,9 +141,9 @@ pub record IsSeated (seat : SeatId) (p : Putter) (h : Hearer) (calls : ℕ) (shu
   pub answered : shut ≡ false → length (entries_of seat.0 h.known) ≡ length p.put
   pub listens : shut ≡ false → h.deaf ≡ false
 
--- the lists of a batch have room for 64 each
+-- the lists of a batch have room for 64 each, and for no more
 abbrev pub HasRoom : Vec Ask → Vec Answer → Type 0
-HasRoom asks answers = (64 ≤ vec_capacity asks) × (64 ≤ vec_capacity answers)
+HasRoom asks answers = (vec_capacity asks ≡ 64) × (vec_capacity answers ≡ 64)
 
 -- and they are empty
 abbrev pub AreEmpty : Vec Ask → Vec Answer → Type 0

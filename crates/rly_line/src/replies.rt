@@ -100,7 +100,7 @@ impl Tale for Brand {
     ghost use Rattle.std.specs.Prelude.{[]};
     ghost use Rattle.rly_machine.specs.State.{new_state};
 
-    ghost start = { new_state (record { hops = 0; peers = 0; window = 0; items = 0; bytes = 0; maxpacket = 0; target = 0; interval = 0 }) };
+    ghost start = { new_state (record { hops = 0; peers = 0; window = 0; items = 0; bytes = 0; maxpacket = 0; target = 0; interval = 0; payload = 0 }) };
 
     ghost history = { [] };
 }

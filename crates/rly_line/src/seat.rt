@@ -157,7 +157,7 @@ impl Seat {
         ensures err { IfErr result (λ error. AreUnanswered self.old asks.old.items error asks.new.items self.new) }
         ensures none_given { IfErr result (λ _. answers.new.items ≡ []) }
         ensures shut { (self.old.shut ≡ true) ⊎ (2 ^ 52 < length self.old.put + length asks.old.items) → result ≡ Err Closed }
-        ensures capacity { (vec_capacity asks.old ≤ vec_capacity asks.new) × (vec_capacity answers.old ≤ vec_capacity answers.new) }
+        ensures capacity { (vec_capacity asks.new ≡ vec_capacity asks.old) × (vec_capacity answers.new ≡ vec_capacity answers.old) }
     {
         if !self.ends.may_put(asks.len()) {
             return Err(BatchError::Closed);
@@ -189,13 +189,14 @@ impl Seat {
 }
 
 /// Moves all that is in one list to the end of another, which has room for it.
-fn move_all<T>(from: &mut Vec<T>, to: &mut Vec<T>)
+fn move_all<T: Drop>(from: &mut Vec<T>, to: &mut Vec<T>)
     requires room { length from.old.items + length to.old.items ≤ vec_capacity to.old }
     ensures emptied { from.new.items ≡ [] }
     ensures moved { to.new.items ≡ to.old.items ++ from.old.items }
     ensures from_capacity { vec_capacity from.new ≡ vec_capacity from.old }
-    ensures to_capacity { vec_capacity to.old ≤ vec_capacity to.new }
+    ensures to_capacity { vec_capacity to.new ≡ vec_capacity to.old }
 {
-    let moved = to.append(from);
-    prove!(moved.is_ok());
+    for item in from.drain(..) {
+        to.push_reserved(item);
+    }
 }

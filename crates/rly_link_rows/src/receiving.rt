@@ -11,6 +11,9 @@ const OTHER: StationId = StationId(9);
 
 const PAYLOAD: &[u8] = &[0x00, 0x0c, 0x41];
 
+/// The greatest limit, 2^40 - 1.
+const GREATEST: u64 = 1_099_511_627_775;
+
 /// An event, and what a core names on it.
 type Row = (InEvent<&'static [u8]>, Option<InAction<&'static [u8]>>);
 
@@ -19,6 +22,18 @@ fn data(from: StationId, to: StationId, number: u64) -> InEvent<&'static [u8]> {
         from,
         to,
         number,
+        limit: 0,
+        payload: PAYLOAD,
+    })
+}
+
+/// Data of the peer station with a limit.
+fn limited(number: u64, limit: u64) -> InEvent<&'static [u8]> {
+    InEvent::Heard(Message::Data {
+        from: PEER,
+        to: OWN,
+        number,
+        limit,
         payload: PAYLOAD,
     })
 }
@@ -32,8 +47,13 @@ fn custody(last: u64) -> Option<InAction<&'static [u8]>> {
 }
 
 fn take(number: u64) -> Option<InAction<&'static [u8]>> {
+    take_with(number, 0)
+}
+
+fn take_with(number: u64, limit: u64) -> Option<InAction<&'static [u8]>> {
     Some(InAction::Take {
         number,
+        limit,
         payload: PAYLOAD,
     })
 }
@@ -61,6 +81,23 @@ fn names(rt: &impl Abort, core: &mut Receiving, rows: &[Row]) {
 fn data_of_the_peer_station_is_taken(rt: HostRuntime) {
     let mut core = Receiving::new(OWN, PEER);
     expect!(rt; core.step(data(PEER, OWN, 5)) == take(5));
+}
+
+/// A Data's limit goes into its Take unchanged, and into no other one.
+#[test]
+fn a_limit_is_handed_on(rt: HostRuntime) {
+    names(
+        &rt,
+        &mut Receiving::new(OWN, PEER),
+        &[
+            (limited(1, 1), take_with(1, 1)),
+            (InEvent::Answered(TakeAnswer::Taken), custody(1)),
+            (limited(2, GREATEST), take_with(2, GREATEST)),
+            (limited(3, 5_000), None),
+            (InEvent::Answered(TakeAnswer::Taken), custody(2)),
+            (data(PEER, OWN, 3), take(3)),
+        ],
+    );
 }
 
 #[test]

@@ -11,6 +11,9 @@ const OTHER: StationId = StationId(9);
 
 const PAYLOAD: &[u8] = &[0x00, 0x0c, 0x41];
 
+/// The greatest limit, 2^40 - 1.
+const GREATEST: u64 = 1_099_511_627_775;
+
 const OPEN: OutEvent<&[u8]> = OutEvent::Turn { is_open: true };
 
 const SHUT: OutEvent<&[u8]> = OutEvent::Turn { is_open: false };
@@ -23,17 +26,27 @@ fn custody(from: StationId, to: StationId, last: u64) -> OutEvent<&'static [u8]>
 }
 
 fn fetched(number: u64) -> OutEvent<&'static [u8]> {
+    fetched_with(number, 0)
+}
+
+fn fetched_with(number: u64, limit: u64) -> OutEvent<&'static [u8]> {
     OutEvent::Fetched {
         number,
+        limit,
         payload: PAYLOAD,
     }
 }
 
 fn data(number: u64) -> Option<OutAction<&'static [u8]>> {
+    data_with(number, 0)
+}
+
+fn data_with(number: u64, limit: u64) -> Option<OutAction<&'static [u8]>> {
     Some(OutAction::Send(Message::Data {
         from: OWN,
         to: HOP,
         number,
+        limit,
         payload: PAYLOAD,
     }))
 }
@@ -124,6 +137,23 @@ fn the_flight_is_sent_in_order_and_then_more_is_picked(rt: HostRuntime) {
             (OPEN, Some(OutAction::Pick)),
             (OutEvent::Picked(5), None),
             (OPEN, fetch(5)),
+        ],
+    );
+}
+
+/// What was fetched with a limit goes out with it, at the first time and again.
+#[test]
+fn a_limit_is_handed_on(rt: HostRuntime) {
+    names(
+        &rt,
+        &mut ready(3, 6),
+        &[
+            (fetched_with(3, 1), data_with(3, 1)),
+            (fetched_with(4, GREATEST), data_with(4, GREATEST)),
+            (fetched(5), data(5)),
+            (OutEvent::Timeout, None),
+            (OPEN, fetch(3)),
+            (fetched_with(3, 1), data_with(3, 1)),
         ],
     );
 }
@@ -335,6 +365,7 @@ fn other_events_change_nothing(rt: HostRuntime) {
         from: HOP,
         to: OWN,
         number: 4,
+        limit: 0,
         payload: PAYLOAD,
     };
     let refused = Message::Refused {

@@ -45,7 +45,7 @@ sizes_sound_hop {P} len params seq h sound =
       taken = sound.taken;
       moment = sound.moment;
       window = omega (arith, flight, sound.window);
-      items = subst (All (IsLive itself h.moment seq)) whole (All-map (IsLive itself h.moment seq) f (live_line h)
+      items = subst (All (IsLive itself params h.moment seq)) whole (All-map (IsLive itself params h.moment seq) f (live_line h)
           (λ k d lt. let l = sound.items k d lt in record { first = l.first; last = l.last; stamp = l.stamp; limit = l.limit; length = l.length }));
       order = subst (AllPairs ComesBefore) whole (pairs_there ComesBefore f (live_line h)
           (λ i j d less short. let o = sound.order i j d less short in record { id = o.id; stamp = o.stamp }));
@@ -62,7 +62,7 @@ sound_from_sizes_hop {P} len params seq h sound =
     let queue = length-map h.queue f in
     let flight = length-map h.flight f in
     let whole = sym (map-append f h.flight h.queue) in
-    let live = all_back (IsLive itself h.moment seq) f (live_line h) (subst (All (IsLive itself h.moment seq)) whole sound.items) in
+    let live = all_back (IsLive itself params h.moment seq) f (live_line h) (subst (All (IsLive itself params h.moment seq)) whole sound.items) in
     let rows = pairs_back ComesBefore f (live_line h) (subst (AllPairs ComesBefore) whole sound.order) in
     record {
       balance = omega (arith, queue, flight, sound.balance);

@@ -132,7 +132,7 @@ take_quiet len s peer number hop stamp limit bytes reply =
     (quiet_check (not (has_hop s hop)) _ _ reply tt
     (quiet_check (nat_le (2 ^ 52) stamp) _ _ reply tt
     (quiet_check (nat_le (2 ^ 40) limit) _ _ reply tt
-    (quiet_check (nat_lt 1200 bytes) _ _ reply tt
+    (quiet_check (nat_lt s.params.payload bytes) _ _ reply tt
     (quiet_check (nat_le number (last_at s peer)) _ _ reply tt
     (quiet_check (nat_lt (last_at s peer + 1) number) _ _ reply tt
     (quiet_check (is_full len s bytes) _ _ reply tt

@@ -75,7 +75,7 @@ mapped_take_refusal {P} {Q} len len' f same s peer number hop stamp limit payloa
     (cond (not (is_among hops hop.0)) (Some (Refused NoSuchHop))
     (cond (nat_le (2 ^ 52) stamp) (Some (Refused BadMoment))
     (cond (nat_le (2 ^ 40) limit) (Some (Refused BadMoment))
-    (cond (nat_lt 1200 bytes) (Some (Refused TooLong))
+    (cond (nat_lt s.params.payload bytes) (Some (Refused TooLong))
     (cond (nat_le number (last_at s peer)) (Some (Already (last_at s peer)))
     (cond (nat_lt (last_at s peer + 1) number) (Some (Refused (Gap (last_at s peer + 1))))
     (cond (nat_le s.params.items items || nat_lt s.params.bytes (live + bytes)) (Some (Refused Full))

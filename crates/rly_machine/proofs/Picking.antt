@@ -74,9 +74,9 @@ sound_expired len params seq count h within sound = record {
   taken = sound.taken;
   moment = sound.moment;
   window = sound.window;
-  items = All-append (IsLive len h.moment seq) h.flight (drop count h.queue)
-      (front_all (IsLive len h.moment seq) h.flight h.queue sound.items)
-      (All-drop (IsLive len h.moment seq) count h.queue (back_all (IsLive len h.moment seq) h.flight h.queue sound.items));
+  items = All-append (IsLive len params h.moment seq) h.flight (drop count h.queue)
+      (front_all (IsLive len params h.moment seq) h.flight h.queue sound.items)
+      (All-drop (IsLive len params h.moment seq) count h.queue (back_all (IsLive len params h.moment seq) h.flight h.queue sound.items));
   order = ordered_gap ComesBefore h.flight h.queue count sound.order;
   first_above_time = sound.first_above_time;
   drop_next = sound.drop_next;
@@ -124,8 +124,8 @@ sound_picked {P} len params seq now h outcome early window fair sound =
     let moment : ℕ = max now h.moment in
     let rest : List (Item P) = drop outcome.dropped h.queue in
     let line = picked_line h.flight h.queue outcome.dropped in
-    let known : All (IsLive len (max now h.moment) (seq + 1)) (h.flight ++ h.queue) =
-    All-weaker (IsLive len h.moment seq) (IsLive len (max now h.moment) (seq + 1)) (λ item live. live_later len h.moment (max now h.moment) seq (seq + 1) item (omega arith) (omega arith) live) (h.flight ++ h.queue) sound.items in
+    let known : All (IsLive len params (max now h.moment) (seq + 1)) (h.flight ++ h.queue) =
+    All-weaker (IsLive len params h.moment seq) (IsLive len params (max now h.moment) (seq + 1)) (λ item live. live_later len params h.moment (max now h.moment) seq (seq + 1) item (omega arith) (omega arith) live) (h.flight ++ h.queue) sound.items in
     let rest_length = length-drop outcome.dropped h.queue in
     let sent = length-take 1 (drop outcome.dropped h.queue) in
     let left = length-drop 1 (drop outcome.dropped h.queue) in
@@ -135,9 +135,9 @@ sound_picked {P} len params seq now h outcome early window fair sound =
       taken = omega (arith, sound.taken);
       moment = omega (arith, sound.moment);
       window = omega (arith, sent, flight);
-      items = rw line (All-append (IsLive len (max now h.moment) (seq + 1)) h.flight (drop outcome.dropped h.queue)
-          (front_all (IsLive len (max now h.moment) (seq + 1)) h.flight h.queue known)
-          (All-drop (IsLive len (max now h.moment) (seq + 1)) outcome.dropped h.queue (back_all (IsLive len (max now h.moment) (seq + 1)) h.flight h.queue known)));
+      items = rw line (All-append (IsLive len params (max now h.moment) (seq + 1)) h.flight (drop outcome.dropped h.queue)
+          (front_all (IsLive len params (max now h.moment) (seq + 1)) h.flight h.queue known)
+          (All-drop (IsLive len params (max now h.moment) (seq + 1)) outcome.dropped h.queue (back_all (IsLive len params (max now h.moment) (seq + 1)) h.flight h.queue known)));
       order = rw line (ordered_gap ComesBefore h.flight h.queue outcome.dropped sound.order);
       first_above_time = fair.first_above_time;
       drop_next = fair.drop_next;

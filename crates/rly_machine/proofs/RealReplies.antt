@@ -46,7 +46,7 @@ passes = record { refuses = tt }
 checks_take : {P : Type 0} (len : P → ℕ) (s : State P) (peer : PeerId) (number : ℕ) (hop : HopId) (stamp limit bytes : ℕ) → Checks (take_refusal len s peer number hop stamp limit bytes)
 checks_take len s peer number hop stamp limit bytes =
     row (not (has_peer s peer)) (Refused NoSuchPeer) _ refl (row (not (has_hop s hop)) (Refused NoSuchHop) _ refl (row (nat_le (2 ^ 52) stamp) (Refused BadMoment) _ refl
-    (row (nat_le (2 ^ 40) limit) (Refused BadMoment) _ refl (row (nat_lt 1200 bytes) (Refused TooLong) _ refl (row (nat_le number (last_at s peer)) (Already (last_at s peer)) _ refl
+    (row (nat_le (2 ^ 40) limit) (Refused BadMoment) _ refl (row (nat_lt s.params.payload bytes) (Refused TooLong) _ refl (row (nat_le number (last_at s peer)) (Already (last_at s peer)) _ refl
     (row (nat_lt (last_at s peer + 1) number) (Refused (Gap (last_at s peer + 1))) _ refl (row (is_full len s bytes) (Refused Full) _ refl
     (row (nat_le max_seq s.seq) (Refused Spent) _ refl passes))))))))
 

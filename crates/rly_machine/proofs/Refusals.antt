@@ -30,7 +30,7 @@ pub record MayTake {P : Type 0} (len : P → ℕ) (s : State P) (peer : PeerId) 
   pub hop_to : hop.0 ≤ length s.hops
   pub moment : stamp < 2 ^ 52
   pub limit : age < 2 ^ 40
-  pub short : bytes ≤ 1200
+  pub short : bytes ≤ s.params.payload
   pub next : number ≡ last_at s peer + 1
   pub items : live_items s < s.params.items
   pub room : live_bytes len s + bytes ≤ s.params.bytes
@@ -43,7 +43,7 @@ may_take len s peer number hop stamp limit bytes h =
     let b = passed (not (has_hop s hop)) _ _ a.1 in
     let c = passed (nat_le (2 ^ 52) stamp) _ _ b.1 in
     let l = passed (nat_le (2 ^ 40) limit) _ _ c.1 in
-    let d = passed (nat_lt 1200 bytes) _ _ l.1 in
+    let d = passed (nat_lt s.params.payload bytes) _ _ l.1 in
     let e = passed (nat_le number (last_at s peer)) _ _ d.1 in
     let f = passed (nat_lt (last_at s peer + 1) number) _ _ e.1 in
     let g = passed (nat_le s.params.items (live_items s) || nat_lt s.params.bytes (live_bytes len s + bytes)) _ _ f.1 in

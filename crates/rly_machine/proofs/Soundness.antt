@@ -17,8 +17,8 @@ use Rattle.rly_machine.specs.Sound.{IsSound, IsSoundHop, IsLive, ComesBefore}
 use Rattle.rly_machine.proofs.Refusals.{MayTake, MayRelease}
 
 -- what holds of an item, or a hop, holds of it once more commands were accepted and the moment has moved on
-pub live_later : {P : Type 0} (len : P → ℕ) (moment later seq more : ℕ) (item : Item P) → moment ≤ later → seq ≤ more → IsLive len moment seq item → IsLive len later more item
-live_later len moment later seq more item m n live = record { first = live.first; last = omega (arith, live.last); stamp = omega (arith, live.stamp); limit = live.limit; length = live.length }
+pub live_later : {P : Type 0} (len : P → ℕ) (params : Params) (moment later seq more : ℕ) (item : Item P) → moment ≤ later → seq ≤ more → IsLive len params moment seq item → IsLive len params later more item
+live_later len params moment later seq more item m n live = record { first = live.first; last = omega (arith, live.last); stamp = omega (arith, live.stamp); limit = live.limit; length = live.length }
 
 pub sound_later : {P : Type 0} (len : P → ℕ) (params : Params) (seq more : ℕ) (h : HopState P) → seq ≤ more → IsSoundHop len params seq h → IsSoundHop len params more h
 sound_later {P} len params seq more h n sound = record {
@@ -26,7 +26,7 @@ sound_later {P} len params seq more h n sound = record {
   taken = omega (arith, sound.taken);
   moment = sound.moment;
   window = sound.window;
-  items = All-weaker (IsLive len h.moment seq) (IsLive len h.moment more) (λ item live. live_later len h.moment h.moment seq more item (omega arith) n live) _ sound.items;
+  items = All-weaker (IsLive len params h.moment seq) (IsLive len params h.moment more) (λ item live. live_later len params h.moment h.moment seq more item (omega arith) n live) _ sound.items;
   order = sound.order;
   first_above_time = sound.first_above_time;
   drop_next = sound.drop_next;
@@ -52,7 +52,7 @@ ordered_drop R n xs order i j d i<j j<n =
 
 -- a hop that took an item
 pub sound_taken : {P : Type 0} (len : P → ℕ) (params : Params) (seq stamp limit : ℕ) (payload : P) (h : HopState P)
-    → stamp < 2 ^ 52 → limit < 2 ^ 40 → len payload ≤ 1200 → IsSoundHop len params seq h → IsSoundHop len params (seq + 1) (with_taken h (seq + 1) stamp limit payload)
+    → stamp < 2 ^ 52 → limit < 2 ^ 40 → len payload ≤ params.payload → IsSoundHop len params seq h → IsSoundHop len params (seq + 1) (with_taken h (seq + 1) stamp limit payload)
 sound_taken {P} len params seq stamp limit payload h early limited short sound =
     let moment : ℕ = max stamp h.moment in
     let item : Item P = record { id = seq + 1; stamp = moment; limit = limit; payload = payload } in
@@ -62,11 +62,11 @@ sound_taken {P} len params seq stamp limit payload h early limited short sound =
       taken = omega (arith, sound.taken);
       moment = omega (arith, sound.moment);
       window = sound.window;
-      items = rw (← append_assoc h.flight h.queue (item ∷ [])) (All-push (IsLive len moment (seq + 1)) (h.flight ++ h.queue) item
-          (All-weaker (IsLive len h.moment seq) (IsLive len moment (seq + 1)) (λ old live. live_later len h.moment moment seq (seq + 1) old (omega arith) (omega arith) live) _ known)
+      items = rw (← append_assoc h.flight h.queue (item ∷ [])) (All-push (IsLive len params moment (seq + 1)) (h.flight ++ h.queue) item
+          (All-weaker (IsLive len params h.moment seq) (IsLive len params moment (seq + 1)) (λ old live. live_later len params h.moment moment seq (seq + 1) old (omega arith) (omega arith) live) _ known)
           (record { first = omega arith; last = omega arith; stamp = omega arith; limit = limited; length = short }));
       order = rw (← append_assoc h.flight h.queue (item ∷ [])) (ordered_push ComesBefore (h.flight ++ h.queue) item sound.order
-          (All-weaker (IsLive len h.moment seq) (λ old. ComesBefore old item) (λ old live. record { id = omega (arith, live.last); stamp = omega (arith, live.stamp) }) _ known));
+          (All-weaker (IsLive len params h.moment seq) (λ old. ComesBefore old item) (λ old live. record { id = omega (arith, live.last); stamp = omega (arith, live.stamp) }) _ known));
       first_above_time = omega (arith, sound.first_above_time);
       drop_next = omega (arith, sound.drop_next);
       lastcount = sound.lastcount;
@@ -84,7 +84,7 @@ sound_released {P} len params seq count h within sound =
       taken = later.taken;
       moment = later.moment;
       window = omega (arith, length-drop count h.flight, sound.window);
-      items = rw (← line) (All-drop (IsLive len h.moment (seq + 1)) count (h.flight ++ h.queue) later.items);
+      items = rw (← line) (All-drop (IsLive len params h.moment (seq + 1)) count (h.flight ++ h.queue) later.items);
       order = rw (← line) (ordered_drop ComesBefore count (h.flight ++ h.queue) later.order);
       first_above_time = later.first_above_time;
       drop_next = later.drop_next;

@@ -29,8 +29,8 @@ items_came {P} len params seq h sound = λ k d below.
     rw (← get_or-append-add h.flight h.queue k d) came
 
 -- no stamp is above the hop's moment
-pub stamps_le : {P : Type 0} (len : P → ℕ) (moment later seq : ℕ) (items : List (Item P)) → moment ≤ later → All (IsLive len moment seq) items
+pub stamps_le : {P : Type 0} (len : P → ℕ) (params : Params) (moment later seq : ℕ) (items : List (Item P)) → moment ≤ later → All (IsLive len params moment seq) items
     → All (λ w. w.stamp ≤ later) (waiting_of len items)
-stamps_le {P} len moment later seq items m live =
+stamps_le {P} len params moment later seq items m live =
     let seen : Item P → Waiting = λ item. record { stamp = item.stamp; bytes = len item.payload } in
-    All-map (λ (w : Waiting). w.stamp ≤ later) seen items (λ k d below. let at = All-get_or (IsLive len moment seq) items k d below live in omega (arith, at.stamp))
+    All-map (λ (w : Waiting). w.stamp ≤ later) seen items (λ k d below. let at = All-get_or (IsLive len params moment seq) items k d below live in omega (arith, at.stamp))

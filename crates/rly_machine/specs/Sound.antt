@@ -11,13 +11,13 @@ pub record ComesBefore {P : Type 0} (first later : Item P) : Type 0 where
   pub id : first.id < later.id
   pub stamp : first.stamp ≤ later.stamp
 
--- an item of a hop whose last moment is given, in a spool that accepted so many commands
-pub record IsLive {P : Type 0} (len : P → ℕ) (moment seq : ℕ) (item : Item P) : Type 0 where
+-- an item of a hop whose last moment is given, in a spool with these parameters that accepted so many commands
+pub record IsLive {P : Type 0} (len : P → ℕ) (params : Params) (moment seq : ℕ) (item : Item P) : Type 0 where
   pub first : 1 ≤ item.id
   pub last : item.id ≤ seq
   pub stamp : item.stamp ≤ moment
   pub limit : item.limit < 2 ^ 40
-  pub length : len item.payload ≤ 1200
+  pub length : len item.payload ≤ params.payload
 
 -- one hop of a spool that accepted so many commands
 pub record IsSoundHop {P : Type 0} (len : P → ℕ) (params : Params) (seq : ℕ) (h : HopState P) : Type 0 where
@@ -26,7 +26,7 @@ pub record IsSoundHop {P : Type 0} (len : P → ℕ) (params : Params) (seq : �
   pub taken : h.taken ≤ seq
   pub moment : h.moment < 2 ^ 52
   pub window : length h.flight ≤ params.window
-  pub items : All (IsLive len h.moment seq) (live_line h)
+  pub items : All (IsLive len params h.moment seq) (live_line h)
   pub order : AllPairs ComesBefore (live_line h)
   pub first_above_time : h.codel.first_above_time ≤ h.moment + params.interval
   pub drop_next : h.codel.drop_next ≤ h.moment + params.interval

@@ -21,7 +21,7 @@ take_refusal len s peer number hop stamp limit bytes =
     else if not (has_hop s hop) then Some (Refused NoSuchHop)
     else if nat_le (2 ^ 52) stamp then Some (Refused BadMoment)
     else if nat_le (2 ^ 40) limit then Some (Refused BadMoment)
-    else if nat_lt 1200 bytes then Some (Refused TooLong)
+    else if nat_lt s.params.payload bytes then Some (Refused TooLong)
     else if nat_le number (last_at s peer) then Some (Already (last_at s peer))
     else if nat_lt (last_at s peer + 1) number then Some (Refused (Gap (last_at s peer + 1)))
     else if is_full len s bytes then Some (Refused Full)

@@ -370,7 +370,7 @@ impl<C: Content> Machine<C> {
             return Some(Reply::Refused(Refusal::BadMoment));
         }
         let length = length as u64;
-        if length > limits::MAX_PAYLOAD {
+        if length > self.rules.params().payload {
             return Some(Reply::Refused(Refusal::TooLong));
         }
         let last = self.lasts[from];

@@ -1,4 +1,4 @@
-ghost use Rattle.std.specs.Prelude.{◌≡◌, ◌+◌, ◌^◌, ◌<◌, [], IfOk, OnErr, vec_capacity};
+ghost use Rattle.std.specs.Prelude.{◌≡◌, ◌+◌, ◌<◌, [], IfOk, OnErr, vec_capacity};
 
 use std::alloc::{AllocError, Global};
 use std::marker::Model;
@@ -46,7 +46,6 @@ impl Room {
 
     /// How many ids it has room for.
     pub fn count(&self) -> usize
-        requires { self.now.expired + self.now.dropped < 2 ^ 64 }
         ensures { result ≡ self.now.expired + self.now.dropped }
     {
         self.expired.capacity() + self.dropped.capacity()

@@ -19,6 +19,7 @@ const PARAMS: Params = Params {
     maxpacket: 1_500,
     target: 5_000,
     interval: 100_000,
+    payload: 1_200,
 };
 
 /// The checkpoint after `take 1 1 1 0 41`.
@@ -361,6 +362,68 @@ fn other_orders_are_malformed(rt: HostRuntime) -> Result<(), Fail> {
     expect!(rt; !is_malformed(alloc, HeadForm::Second, &several));
     for change in [(107, 1), (85, 3)] {
         expect_malformed_with(&rt, alloc, (HeadForm::Second, &several), change)?;
+    }
+    Ok(())
+}
+
+/// A spool for so long payloads, of room for two of the longest that there are.
+fn params_of(payload: u64) -> Params {
+    Params {
+        bytes: 16_384,
+        payload,
+        ..PARAMS
+    }
+}
+
+/// The worked checkpoint, whose datagram has so many bytes.
+fn taken_of(alloc: Global, form: HeadForm, length: u16) -> Result<Vec<u8>, AllocError> {
+    let mut bytes = match form {
+        HeadForm::First => Vec::from_slice(alloc, &OLD_TAKEN[..103])?,
+        HeadForm::Second => Vec::from_slice(alloc, &TAKEN[..98])?,
+    };
+    bytes.extend_from_slice(&length.to_be_bytes())?;
+    bytes.push(0)?;
+    for _ in 0..length {
+        bytes.push(0x41)?;
+    }
+    Ok(bytes)
+}
+
+/// Whether that checkpoint is read for a spool of so long payloads.
+fn is_read(
+    rt: &impl Abort,
+    alloc: Global,
+    form: HeadForm,
+    payload: u64,
+    length: u16,
+) -> Result<bool, AllocError> {
+    let bytes = taken_of(alloc, form, length)?;
+    let params = params_of(payload);
+    assert!(rt; params.check().is_ok());
+    match read_checkpoint(alloc, form, params, &bytes) {
+        Ok(machine) => Ok(machine.byte_count() == u64::from(length)),
+        Err(DecodeFault::Malformed) => Ok(false),
+        Err(DecodeFault::OutOfMemory) => Err(AllocError),
+    }
+}
+
+/// A payload is at most as long as the spool's longest.
+#[test]
+fn a_longer_payload_is_malformed(rt: HostRuntime) -> Result<(), Fail> {
+    for (payload, length, want) in [
+        (1, 1, true),
+        (1, 2, false),
+        (7, 7, true),
+        (7, 8, false),
+        (1_200, 1_200, true),
+        (1_200, 1_201, false),
+        (8_192, 8_192, true),
+        (8_192, 8_193, false),
+    ] {
+        for form in [HeadForm::First, HeadForm::Second] {
+            let read = is_read(&rt, rt.alloc(), form, payload, length)?;
+            assert!(rt; read == want, "{length} of {payload}");
+        }
     }
     Ok(())
 }

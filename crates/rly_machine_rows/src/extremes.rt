@@ -16,6 +16,7 @@ const LARGEST: Params = Params {
     maxpacket: 65_535,
     target: 3_600_000_000,
     interval: 3_600_000_000,
+    payload: 8_192,
 };
 
 /// The bytes of each payload but the first, which is the longest.
@@ -43,7 +44,7 @@ fn take_last(
 fn filled(rt: &impl Abort, alloc: Global) -> Result<Machine<Payload>, AllocError> {
     let mut machine: Machine<Payload> = Machine::new(alloc, LARGEST)?;
     for before in 0..limits::MAX_ITEMS {
-        let size = if before == 0 { 1_200 } else { SHORT };
+        let size = if before == 0 { 8_192 } else { SHORT };
         let reply = take_last(alloc, &mut machine, before + 1, size)?;
         expect!(rt; matches!(&reply, Reply::Taken(id) if *id == before + 1));
     }
@@ -73,12 +74,12 @@ fn written(
     Ok(out)
 }
 
-/// Its 743,072 bytes: 8, 8 for each peer, 64 for each hop, 21 for each datagram, and the payloads.
+/// Its 750,064 bytes: 8, 8 for each peer, 64 for each hop, 21 for each datagram, and the payloads.
 #[test]
 fn the_largest_checkpoint_is_written_and_read(rt: HostRuntime) -> Result<(), Fail> {
     let alloc = rt.alloc();
     let first = written(&rt, alloc, &filled(&rt, alloc)?)?;
-    expect!(rt; first.len() == 743_072);
+    expect!(rt; first.len() == 750_064);
     let machine = read_checkpoint(alloc, HeadForm::Second, LARGEST, &first)?;
     expect!(rt; machine.seq() == 16_384 && machine.item_count() == 16_384);
     let second = written(&rt, alloc, &machine)?;
@@ -124,7 +125,7 @@ fn a_window_holds_64_datagrams(rt: HostRuntime) -> Result<(), Fail> {
     }
     let reply = pick_last(alloc, &mut machine)?;
     expect!(rt; matches!(&reply, Reply::Refused(Refusal::WindowFull)));
-    expect_fetched(&rt, alloc, &machine, 1, 1_200)?;
+    expect_fetched(&rt, alloc, &machine, 1, 8_192)?;
     expect_fetched(&rt, alloc, &machine, 64, SHORT)?;
     Ok(())
 }
@@ -133,7 +134,7 @@ fn a_window_holds_64_datagrams(rt: HostRuntime) -> Result<(), Fail> {
 #[test]
 fn little_is_reserved_for_a_payload(rt: HostRuntime) -> Result<(), Fail> {
     let alloc = rt.alloc();
-    for size in [0, 16, 1_200] {
+    for size in [0, 16, 1_200, 8_192] {
         let bytes = vec![in alloc; 7u8; size]?;
         let copy = Payload::copy_of(alloc, &bytes)?.into_bytes();
         expect!(rt; copy.len() == size && copy.capacity() / 2 <= size);

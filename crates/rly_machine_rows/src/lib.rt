@@ -36,6 +36,8 @@ mod machine;
 #[cfg(test)]
 mod params;
 #[cfg(test)]
+mod payloads;
+#[cfg(test)]
 mod records;
 #[cfg(test)]
 mod stored;

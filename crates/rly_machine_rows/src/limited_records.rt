@@ -3,6 +3,7 @@ ghost use Rattle.std.specs.Prelude.{◌≤◌, length, IfOk};
 ghost use Rattle.rly_record.specs.Spelling.{IsRecordable};
 
 use crate::records::{has_longest_payload, is_malformed, is_no_record};
+use rly_core::limits::MAX_PAYLOAD;
 use rly_core::{HopId, PeerId};
 use rly_machine::{Command, Payload};
 use rly_record::{DecodeFault, read_body, read_command, record_len, write_command};
@@ -23,7 +24,7 @@ const GREATEST: [u8; 23] = [
 
 /// A Take of the numbers of the first record.
 fn limited(alloc: Global) -> Result<Command<Payload>, AllocError>
-    ensures { IfOk result IsRecordable }
+    ensures { IfOk result (IsRecordable MAX_PAYLOAD) }
 {
     Ok(Command::Take {
         peer: PeerId(1),
@@ -37,7 +38,7 @@ fn limited(alloc: Global) -> Result<Command<Payload>, AllocError>
 
 /// A Take of the greatest numbers.
 fn greatest(alloc: Global) -> Command<Payload>
-    ensures { IsRecordable result }
+    ensures { IsRecordable MAX_PAYLOAD result }
 {
     Command::Take {
         peer: PeerId(64),
@@ -56,7 +57,7 @@ fn expect_record(
     command: &Command<Payload>,
     want: &[u8],
 ) -> Result<(), AllocError>
-    requires { IsRecordable command.now }
+    requires { IsRecordable MAX_PAYLOAD command.now }
 {
     assert!(rt; record_len(command) == want.len());
     let mut out = Vec::new(alloc);
@@ -190,7 +191,7 @@ fn long_limited(alloc: Global, size: u16) -> Result<Vec<u8>, AllocError> {
 }
 
 #[test]
-fn a_payload_with_a_limit_has_at_most_1200_bytes(rt: HostRuntime) -> Result<(), Fail> {
+fn a_payload_with_a_limit_has_at_most_8192_bytes(rt: HostRuntime) -> Result<(), Fail> {
     let alloc = rt.alloc();
     let want = Numbers {
         peer: 1,
@@ -199,8 +200,29 @@ fn a_payload_with_a_limit_has_at_most_1200_bytes(rt: HostRuntime) -> Result<(), 
         stamp: 0,
         limit: 5_000,
     };
-    expect_read(&rt, alloc, &long_limited(alloc, 1_200)?, want, 1_200)?;
-    expect!(rt; is_no_record(alloc, &long_limited(alloc, 1_201)?));
+    for size in [1_200, 1_201, 8_192u16] {
+        expect_read(
+            &rt,
+            alloc,
+            &long_limited(alloc, size)?,
+            want,
+            usize::from(size),
+        )?;
+    }
+    for size in [8_193, 65_535] {
+        assert!(rt; is_no_record(alloc, &long_limited(alloc, size)?), "{size}");
+    }
+    Ok(())
+}
+
+/// Cut before its length, within it, behind it, and before the last byte of its payload.
+#[test]
+fn each_cut_of_a_long_record_is_refused(rt: HostRuntime) -> Result<(), Fail> {
+    let bytes = long_limited(rt.alloc(), 8_192)?;
+    assert!(rt; bytes.len() == 8_215);
+    for length in [21, 22, 23, 24, 1_223, 8_214] {
+        assert!(rt; is_no_record(rt.alloc(), &bytes[..length]), "{length}");
+    }
     Ok(())
 }
 
@@ -208,7 +230,7 @@ fn a_payload_with_a_limit_has_at_most_1200_bytes(rt: HostRuntime) -> Result<(), 
 fn body_of(alloc: Global, count: u8) -> Result<Vec<u8>, AllocError> {
     let mut bytes = vec![in alloc; 0, count]?;
     for _ in 0..count {
-        bytes.extend_from_slice(&long_limited(alloc, 1_200)?)?;
+        bytes.extend_from_slice(&long_limited(alloc, 8_192)?)?;
     }
     Ok(bytes)
 }
@@ -218,7 +240,7 @@ fn body_of(alloc: Global, count: u8) -> Result<Vec<u8>, AllocError> {
 fn the_longest_body_of_limits_is_read(rt: HostRuntime) -> Result<(), Fail> {
     let alloc = rt.alloc();
     let bytes = body_of(alloc, 64)?;
-    expect!(rt; bytes.len() == 78_274);
+    expect!(rt; bytes.len() == 525_762);
     let commands = read_body(alloc, &bytes)?;
     expect!(rt; commands.len() == 64 && commands.iter().all(has_longest_payload));
     expect!(rt; is_malformed(alloc, &body_of(alloc, 65)?));

@@ -17,6 +17,7 @@ const LEAST: Params = Params {
     maxpacket: 0,
     target: 1,
     interval: 1,
+    payload: 1,
 };
 
 /// Each as great as it may be.
@@ -29,10 +30,11 @@ const GREATEST: Params = Params {
     maxpacket: 65_535,
     target: 3_600_000_000,
     interval: 3_600_000_000,
+    payload: 8_192,
 };
 
 /// One parameter out of its limits.
-const BEYOND: [Params; 11] = [
+const BEYOND: [Params; 14] = [
     Params {
         hops: 65_537,
         ..LEAST
@@ -66,6 +68,18 @@ const BEYOND: [Params; 11] = [
     Params { target: 2, ..LEAST },
     Params {
         interval: 3_600_000_001,
+        ..GREATEST
+    },
+    Params {
+        payload: 0,
+        ..LEAST
+    },
+    Params {
+        payload: 8_193,
+        ..GREATEST
+    },
+    Params {
+        payload: 66_736,
         ..GREATEST
     },
 ];

@@ -2,6 +2,7 @@
 ghost use Rattle.std.specs.Prelude.{◌≤◌, length, IfOk};
 ghost use Rattle.rly_record.specs.Spelling.{IsRecordable};
 
+use rly_core::limits::MAX_PAYLOAD;
 use rly_core::{HopId, PeerId};
 use rly_machine::{Command, Payload};
 use rly_record::{DecodeFault, read_body, read_command, record_len, write_body, write_command};
@@ -33,8 +34,8 @@ const TWO: [u8; 24] = [
 ];
 
 fn take(alloc: Global, payload: &[u8]) -> Result<Command<Payload>, AllocError>
-    requires { length payload.now ≤ 1200 }
-    ensures { IfOk result IsRecordable }
+    requires { length payload.now ≤ 8192 }
+    ensures { IfOk result (IsRecordable MAX_PAYLOAD) }
 {
     Ok(Command::Take {
         peer: PeerId(1),
@@ -47,7 +48,7 @@ fn take(alloc: Global, payload: &[u8]) -> Result<Command<Payload>, AllocError>
 }
 
 fn pick() -> Command<Payload>
-    ensures { IsRecordable result }
+    ensures { IsRecordable MAX_PAYLOAD result }
 {
     Command::Pick {
         hop: HopId(1),
@@ -56,7 +57,7 @@ fn pick() -> Command<Payload>
 }
 
 fn release() -> Command<Payload>
-    ensures { IsRecordable result }
+    ensures { IsRecordable MAX_PAYLOAD result }
 {
     Command::Release {
         hop: HopId(1),
@@ -65,7 +66,7 @@ fn release() -> Command<Payload>
 }
 
 fn write_one(command: Command<Payload>, out: &mut Vec<u8>) -> Result<(), AllocError>
-    requires { IsRecordable command }
+    requires { IsRecordable MAX_PAYLOAD command }
 {
     write_body(&[command], out)
 }
@@ -75,8 +76,8 @@ fn write_two(
     second: Command<Payload>,
     out: &mut Vec<u8>,
 ) -> Result<(), AllocError>
-    requires first { IsRecordable first }
-    requires second { IsRecordable second }
+    requires first { IsRecordable MAX_PAYLOAD first }
+    requires second { IsRecordable MAX_PAYLOAD second }
 {
     write_body(&[first, second], out)
 }
@@ -98,7 +99,7 @@ fn expect_record(
     command: &Command<Payload>,
     want: &[u8],
 ) -> Result<(), AllocError>
-    requires { IsRecordable command.now }
+    requires { IsRecordable MAX_PAYLOAD command.now }
 {
     assert!(rt; record_len(command) == want.len());
     let mut out = Vec::new(alloc);
@@ -291,9 +292,9 @@ fn a_body_has_1_to_64_records(rt: HostRuntime) -> Result<(), Fail> {
     Ok(())
 }
 
-/// Whether a command is a Take of 1,200 bytes.
+/// Whether a command is a Take of 8,192 bytes.
 pub(crate) fn has_longest_payload(command: &Command<Payload>) -> bool {
-    matches!(command, Command::Take { payload, .. } if payload.as_slice().len() == 1_200)
+    matches!(command, Command::Take { payload, .. } if payload.as_slice().len() == 8_192)
 }
 
 /// The longest body: 64 Takes of the longest payload.
@@ -302,9 +303,9 @@ fn the_longest_body_is_read(rt: HostRuntime) -> Result<(), Fail> {
     let alloc = rt.alloc();
     let mut bytes = vec![in alloc; 0, 64]?;
     for _ in 0..64 {
-        bytes.extend_from_slice(&long_take(alloc, 1_200)?)?;
+        bytes.extend_from_slice(&long_take(alloc, 8_192)?)?;
     }
-    expect!(rt; bytes.len() == 78_274);
+    expect!(rt; bytes.len() == 525_762);
     let commands = read_body(alloc, &bytes)?;
     expect!(rt; commands.len() == 64 && commands.capacity() == 64);
     expect!(rt; commands.iter().all(has_longest_payload));
@@ -341,10 +342,15 @@ fn long_take(alloc: Global, size: u16) -> Result<Vec<u8>, AllocError> {
     Ok(bytes)
 }
 
-/// Reads the longest Take, whose bytes these are.
-fn expect_long_take(rt: &impl Abort, alloc: Global, bytes: &[u8]) -> Result<(), DecodeFault> {
+/// Reads a Take of such numbers, whose bytes these are. So many of them are its payload.
+fn expect_long_take(
+    rt: &impl Abort,
+    alloc: Global,
+    bytes: &[u8],
+    size: usize,
+) -> Result<(), DecodeFault> {
     let (command, length) = read_command(alloc, bytes)?;
-    assert!(rt; bytes.len() == 1_223 && length == 1_223);
+    expect!(rt; length == bytes.len());
     let Command::Take {
         peer,
         number,
@@ -358,15 +364,32 @@ fn expect_long_take(rt: &impl Abort, alloc: Global, bytes: &[u8]) -> Result<(), 
     };
     expect!(rt; *peer == PeerId(0xfffe) && *number == u64::MAX);
     expect!(rt; *hop == HopId(0xfffd) && *stamp == u64::MAX - 1 && *limit == 0);
+    expect!(rt; payload.as_slice().len() == size);
     expect!(rt; payload.as_slice().iter().eq(bytes.iter().skip(23)));
     Ok(())
 }
 
+/// A record is read whatever the longest payload of a spool is.
 #[test]
-fn a_payload_has_at_most_1200_bytes(rt: HostRuntime) -> Result<(), Fail> {
+fn a_payload_has_at_most_8192_bytes(rt: HostRuntime) -> Result<(), Fail> {
     let alloc = rt.alloc();
-    expect_long_take(&rt, alloc, &long_take(alloc, 1_200)?)?;
-    expect!(rt; is_no_record(alloc, &long_take(alloc, 1_201)?));
+    for size in [1_200, 1_201, 8_192u16] {
+        expect_long_take(&rt, alloc, &long_take(alloc, size)?, usize::from(size))?;
+    }
+    for size in [8_193, 65_535] {
+        assert!(rt; is_no_record(alloc, &long_take(alloc, size)?), "{size}");
+    }
+    Ok(())
+}
+
+/// Cut before its length, within it, behind it, and before the last byte of its payload.
+#[test]
+fn each_cut_of_a_long_record_is_refused(rt: HostRuntime) -> Result<(), Fail> {
+    let bytes = long_take(rt.alloc(), 8_192)?;
+    assert!(rt; bytes.len() == 8_215);
+    for length in [21, 22, 23, 24, 1_223, 8_214] {
+        assert!(rt; is_no_record(rt.alloc(), &bytes[..length]), "{length}");
+    }
     Ok(())
 }
 
@@ -392,9 +415,9 @@ fn lengths_of_records_over_another_content(rt: HostRuntime) {
         hop: HopId(1),
         stamp: 0,
         limit: 0,
-        payload: Length { length: 1_200 },
+        payload: Length { length: 8_192 },
     };
-    expect!(rt; record_len(&command) == 1_223);
+    expect!(rt; record_len(&command) == 8_215);
     let command: Command<Length> = Command::Pick {
         hop: HopId(1),
         now: 0,

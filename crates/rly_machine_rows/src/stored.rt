@@ -23,6 +23,7 @@ const PARAMS: Params = Params {
     maxpacket: 1_500,
     target: 5_000,
     interval: 100_000,
+    payload: 1_200,
 };
 
 /// One datagram was released, one is in flight whose two bytes lie at 300, and two wait.
@@ -174,5 +175,37 @@ fn only_spellings_of_places_are_read(rt: HostRuntime) -> Result<(), Fail> {
     bytes[THIRD_FORM] = 2;
     expect!(rt; is_malformed(alloc, &bytes));
     expect!(rt; is_malformed(alloc, &SPELLED[..THIRD_FORM]));
+    Ok(())
+}
+
+/// Whether the worked state is read for a spool of so long payloads.
+fn is_read(
+    rt: &impl Abort,
+    alloc: Global,
+    form: HeadForm,
+    payload: u64,
+) -> Result<bool, AllocError> {
+    let params = Params { payload, ..PARAMS };
+    assert!(rt; params.check().is_ok());
+    let bytes: &[u8] = match form {
+        HeadForm::First => &OLD_SPELLED,
+        HeadForm::Second => &SPELLED,
+    };
+    let read: Result<Machine<Stored>, DecodeFault> = read_state(alloc, form, params, bytes);
+    match read {
+        Ok(machine) => Ok(machine.item_count() == 3),
+        Err(DecodeFault::Malformed) => Ok(false),
+        Err(DecodeFault::OutOfMemory) => Err(AllocError),
+    }
+}
+
+/// The payload that stands by place has two bytes: more than the spool's longest where that has one.
+#[test]
+fn a_longer_payload_by_place_is_malformed(rt: HostRuntime) -> Result<(), Fail> {
+    let alloc = rt.alloc();
+    for form in [HeadForm::First, HeadForm::Second] {
+        expect!(rt; is_read(&rt, alloc, form, 2)?);
+        expect!(rt; !is_read(&rt, alloc, form, 1)?);
+    }
     Ok(())
 }

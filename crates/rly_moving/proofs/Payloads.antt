@@ -145,11 +145,11 @@ carried items i item lt is =
 
 -- the payload of a live item is short
 pub live_short : (s : State Stored) (hop : HopId) (i : ℕ) (item : Item Stored) → IsSound stored_length s → hop.0 - 1 < length s.hops
-    → i < length (live_line (hop_at s hop)) → item ≡ get_or (live_line (hop_at s hop)) i item → stored_length item.payload ≤ 1200
+    → i < length (live_line (hop_at s hop)) → item ≡ get_or (live_line (hop_at s hop)) i item → stored_length item.payload ≤ 8192
 live_short s hop i item sound below lt is =
     let h : HopState Stored = hop_at s hop in
-    let live : IsLive stored_length h.moment s.seq (get_or (live_line h) i item) = (sound.hops (hop.0 - 1) new_hop below).items i item lt in
-    omega (arith, ap (λ (x : Item Stored). stored_length x.payload) is, live.length)
+    let live : IsLive stored_length s.params h.moment s.seq (get_or (live_line h) i item) = (sound.hops (hop.0 - 1) new_hop below).items i item lt in
+    omega (arith, ap (λ (x : Item Stored). stored_length x.payload) is, live.length, sound.params.payload.1)
 
 -- the place of a hop that is there
 pub hop_below : {P : Type 0} (s : State P) (hop : HopId) → has_hop s hop ≡ true → hop.0 - 1 < length s.hops

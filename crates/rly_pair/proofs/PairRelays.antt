@@ -57,7 +57,7 @@ named_none w moment false s =
 
 -- what a sending core hears names nothing
 pub heard_names : (s : Sender) (m : Message (List ℕ)) → (sending_step s (event.Heard m)).1 ≡ None
-heard_names s (Data from to number payload) = refl
+heard_names s (Data from to number limit payload) = refl
 heard_names s (Custody from to last) = refl
 heard_names s (Refused from to number refusal) = refl
 
@@ -102,11 +102,11 @@ message_sent other None = other
 sent_payload : (s : Sender) (an : Ask) (r : Reply) (m : Message (List ℕ)) (payload : List ℕ) → (sending_step s (sender_event an r)).1 ≡ Some (action.Send m)
     → ((p : List ℕ) (limit : ℕ) → r ≡ reply.Bytes p limit → payload ≡ p) → message_map (λ (_ : List ℕ). payload) m ≡ m
 sent_payload s (ask.Query (query.Fetch hop number)) (reply.Bytes p limit) m payload is same =
-    let handed : Message (List ℕ) = Data s.own s.hop number p in
+    let handed : Message (List ℕ) = Data s.own s.hop number limit p in
     cond_both (s.ready && (number == s.cursor) && nat_lt s.cursor s.next) (record s { cursor = number + 1 }, Some (action.Send handed)) (s, None)
     (λ (result : SendingResult). result.1 ≡ Some (action.Send m) → message_map (λ (_ : List ℕ). payload) m ≡ m)
     (λ _. λ sends. subst (λ (x : Message (List ℕ)). message_map (λ (_ : List ℕ). payload) x ≡ x) (ap (message_sent handed) sends)
-    (ap (λ (bytes : List ℕ). Data s.own s.hop number bytes) (same p limit refl)))
+    (ap (λ (bytes : List ℕ). Data s.own s.hop number limit bytes) (same p limit refl)))
     (λ _. λ sends. absurd (none-some (action.Send m) sends)) is
 sent_payload s (ask.Query (query.Window hop)) (reply.Bytes p limit) m payload is same = absurd (none-some (action.Send m) is)
 sent_payload s (ask.Query (query.Show hop)) (reply.Bytes p limit) m payload is same = absurd (none-some (action.Send m) is)
@@ -143,7 +143,7 @@ sent_by_upper w e r rest s m payload is told steps sends same =
 -- what a receiving core names on an answer: a message without a payload, or nothing
 abbrev IsPlain : Option (InAction (List ℕ)) → Type 0
 IsPlain (Some (in_action.Send m)) = message_map (λ (_ : List ℕ). []) m ≡ m
-IsPlain (Some (in_action.Take number payload)) = ⊥
+IsPlain (Some (in_action.Take number limit payload)) = ⊥
 IsPlain None = Unit {0}
 
 plain_reply : (r : Receiver) (number : ℕ) (a : TakeAnswer) → IsPlain (take_reply r number a)
@@ -159,7 +159,7 @@ plain_after r (Some number) a = plain_reply r number a
 
 plain_asks : (peer : PeerId) (hop : HopId) (stamp : ℕ) (named : Option (InAction (List ℕ))) → IsPlain named → receiver_asks peer hop stamp named ≡ []
 plain_asks peer hop stamp (Some (in_action.Send m)) plain = refl
-plain_asks peer hop stamp (Some (in_action.Take number payload)) plain = absurd plain
+plain_asks peer hop stamp (Some (in_action.Take number limit payload)) plain = absurd plain
 plain_asks peer hop stamp None plain = refl
 
 -- what it sends on an answer is among the packets, unless the send failed
@@ -202,23 +202,23 @@ none_waits r m taken None is takes = is
 none_waits r m taken (Some number) is takes =
     absurd (none-some taken (ap (λ (x : ReceivingResult). x.1) (sym (waiting r number m is)) ∙ takes))
 
-heard_data : (r : Receiver) (m : Message (List ℕ)) (number : ℕ) (payload : List ℕ)
-    → (receiving_step r (in_event.Heard m)).1 ≡ Some (in_action.Take number payload) → m ≡ Data r.peer r.own number payload
-heard_data r m number payload takes = ap (message_in m) (received-take r (in_event.Heard m) number payload takes).0
+heard_data : (r : Receiver) (m : Message (List ℕ)) (number limit : ℕ) (payload : List ℕ)
+    → (receiving_step r (in_event.Heard m)).1 ≡ Some (in_action.Take number limit payload) → m ≡ Data r.peer r.own number limit payload
+heard_data r m number limit payload takes = ap (message_in m) (received-take r (in_event.Heard m) number limit payload takes).0
 
 -- it asks the call of its Take
-pub heard_by_lower : (w : PairWorld) (packet core : ℕ) (hop : HopId) (stamp : ℕ) (r next : Receiver) (m : Message (List ℕ)) (number : ℕ) (named payload : List ℕ)
+pub heard_by_lower : (w : PairWorld) (packet core : ℕ) (hop : HopId) (stamp : ℕ) (r next : Receiver) (m : Message (List ℕ)) (number limit : ℕ) (named payload : List ℕ)
     → slice_get w.packets packet ≡ Some m → slice_get w.receivers core ≡ Some r → next ≡ (receiving_step r (in_event.Heard m)).0
-    → Some (in_action.Take number named) ≡ (receiving_step r (in_event.Heard m)).1
-    → ((from to : StationId) (n : ℕ) (p : List ℕ) → m ≡ Data from to n p → payload ≡ p)
+    → Some (in_action.Take number limit named) ≡ (receiving_step r (in_event.Heard m)).1
+    → ((from to : StationId) (n l : ℕ) (p : List ℕ) → m ≡ Data from to n l p → payload ≡ p)
     → record w {
-      lower = with_asked w.lower core (ask.Command (command.Take w.setup.peer number hop stamp 0 payload) ∷ []);
+      lower = with_asked w.lower core (ask.Command (command.Take w.setup.peer number hop stamp limit payload) ∷ []);
       receivers = slice_set w.receivers core next;
     } ≡ pair_step w (LowerHears packet core hop stamp)
-heard_by_lower w packet core hop stamp r next m number named payload found there steps names same =
+heard_by_lower w packet core hop stamp r next m number limit named payload found there steps names same =
     let result : ReceivingResult = receiving_step r (in_event.Heard m) in
-    let asked : List ℕ → End = λ p. with_asked w.lower core (ask.Command (command.Take w.setup.peer number hop stamp 0 p) ∷ []) in
-    ap (λ (p : List ℕ). record w { lower = asked p; receivers = slice_set w.receivers core next }) (same r.peer r.own number named (heard_data r m number named (sym names)))
+    let asked : List ℕ → End = λ p. with_asked w.lower core (ask.Command (command.Take w.setup.peer number hop stamp limit p) ∷ []) in
+    ap (λ (p : List ℕ). record w { lower = asked p; receivers = slice_set w.receivers core next }) (same r.peer r.own number limit named (heard_data r m number limit named (sym names)))
     ∙ ap (λ (x : Receiver). record w { lower = asked named; receivers = slice_set w.receivers core x }) steps
     ∙ ap (λ (l : List (Message (List ℕ))). record w { lower = asked named; receivers = slice_set w.receivers core result.0; packets = l }) (sym (append-nil w.packets))
     ∙ ap (λ (a : Option (InAction (List ℕ))). with_receiver w core hop stamp true (result.0, a)) names
@@ -227,27 +227,27 @@ heard_by_lower w packet core hop stamp r next m number named payload found there
 
 -- hearing a message, it names its Take or nothing
 abbrev IsTakeOrNone : Option (InAction (List ℕ)) → Type 0
-IsTakeOrNone (Some (in_action.Take number payload)) = Unit {0}
+IsTakeOrNone (Some (in_action.Take number limit payload)) = Unit {0}
 IsTakeOrNone (Some (in_action.Send m)) = ⊥
 IsTakeOrNone None = Unit {0}
 
 take_or_none : (r : Receiver) (m : Message (List ℕ)) → IsTakeOrNone (receiving_step r (in_event.Heard m)).1
-take_or_none r (Data from to number payload) =
-    cond_both ((from.0 == r.peer.0) && (to.0 == r.own.0) && is_none r.pending) (record r { pending = Some number }, Some (in_action.Take number payload)) (r, None)
+take_or_none r (Data from to number limit payload) =
+    cond_both ((from.0 == r.peer.0) && (to.0 == r.own.0) && is_none r.pending) (record r { pending = Some number }, Some (in_action.Take number limit payload)) (r, None)
     (λ (result : ReceivingResult). IsTakeOrNone result.1) (λ _. tt) (λ _. tt)
 take_or_none r (Custody from to last) = tt
 take_or_none r (Refused from to number refusal) = tt
 
-none_left : (named : Option (InAction (List ℕ))) → IsTakeOrNone named → ((number : ℕ) (payload : List ℕ) → named ≡ Some (in_action.Take number payload) → ⊥)
+none_left : (named : Option (InAction (List ℕ))) → IsTakeOrNone named → ((number limit : ℕ) (payload : List ℕ) → named ≡ Some (in_action.Take number limit payload) → ⊥)
     → named ≡ None
-none_left (Some (in_action.Take number payload)) either other = absurd (other number payload refl)
+none_left (Some (in_action.Take number limit payload)) either other = absurd (other number limit payload refl)
 none_left (Some (in_action.Send m)) either other = absurd either
 none_left None either other = refl
 
 -- where it names no Take, it changes itself alone
 pub passed_by_lower : (w : PairWorld) (packet core : ℕ) (hop : HopId) (stamp : ℕ) (r next : Receiver) (m : Message (List ℕ))
     → slice_get w.packets packet ≡ Some m → slice_get w.receivers core ≡ Some r → next ≡ (receiving_step r (in_event.Heard m)).0
-    → ((number : ℕ) (payload : List ℕ) → (receiving_step r (in_event.Heard m)).1 ≡ Some (in_action.Take number payload) → ⊥)
+    → ((number limit : ℕ) (payload : List ℕ) → (receiving_step r (in_event.Heard m)).1 ≡ Some (in_action.Take number limit payload) → ⊥)
     → record w { receivers = slice_set w.receivers core next } ≡ pair_step w (LowerHears packet core hop stamp)
 passed_by_lower w packet core hop stamp r next m found there steps other =
     let result : ReceivingResult = receiving_step r (in_event.Heard m) in
@@ -260,8 +260,8 @@ passed_by_lower w packet core hop stamp r next m found there steps other =
 
 -- a core that forgets its Take is as it was before it heard the Data
 forgets : (r : Receiver) (m : Message (List ℕ)) → record (receiving_step r (in_event.Heard m)).0 { pending = None } ≡ record r { pending = None }
-forgets r (Data from to number payload) =
-    cond_both ((from.0 == r.peer.0) && (to.0 == r.own.0) && is_none r.pending) (record r { pending = Some number }, Some (in_action.Take number payload)) (r, None)
+forgets r (Data from to number limit payload) =
+    cond_both ((from.0 == r.peer.0) && (to.0 == r.own.0) && is_none r.pending) (record r { pending = Some number }, Some (in_action.Take number limit payload)) (r, None)
     (λ (result : ReceivingResult). record result.0 { pending = None } ≡ record r { pending = None }) (λ _. refl) (λ _. refl)
 forgets r (Custody from to last) = refl
 forgets r (Refused from to number refusal) = refl

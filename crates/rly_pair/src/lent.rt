@@ -20,11 +20,13 @@ pub(crate) fn lent<'a>(message: &'a Message<Payload>) -> Message<&'a [u8]>
             from,
             to,
             number,
+            limit,
             payload,
         } => Message::Data {
             from: *from,
             to: *to,
             number: *number,
+            limit: *limit,
             payload: payload.as_slice(),
         },
         Message::Custody { from, to, last } => Message::Custody {
@@ -55,11 +57,13 @@ pub(crate) fn owned(message: Message<&[u8]>, payload: Payload) -> Message<Payloa
             from,
             to,
             number,
+            limit,
             payload: _lent,
         } => Message::Data {
             from,
             to,
             number,
+            limit,
             payload,
         },
         Message::Custody { from, to, last } => Message::Custody { from, to, last },
@@ -79,7 +83,7 @@ pub(crate) fn owned(message: Message<&[u8]>, payload: Payload) -> Message<Payloa
 
 /// A copy of the payload of a message. It is empty where that has none.
 pub(crate) fn payload_of(alloc: Global, message: &Message<Payload>) -> Result<Payload, AllocError>
-    ensures { (from to : StationId) (number : ℕ) (payload : List ℕ) → message.now ≡ Message.Data from to number payload
+    ensures { (from to : StationId) (number limit : ℕ) (payload : List ℕ) → message.now ≡ Message.Data from to number limit payload
         → IfOk result (λ copy. copy ≡ payload) }
 {
     match message {
@@ -99,9 +103,10 @@ pub(crate) fn sender_event<'a>(ask: &Ask, reply: &'a Reply) -> OutEvent<&'a [u8]
         },
         (Reply::Picked { number, .. }, _) => OutEvent::Picked(*number),
         (Reply::Nothing { .. }, _) => OutEvent::Nothing,
-        (Reply::Bytes { payload, .. }, Ask::Query(Query::Fetch { number, .. })) => {
+        (Reply::Bytes { payload, limit }, Ask::Query(Query::Fetch { number, .. })) => {
             OutEvent::Fetched {
                 number: *number,
+                limit: *limit,
                 payload: payload.as_slice(),
             }
         }

@@ -158,7 +158,7 @@ impl Pair {
         let Some(receiver) = self.receivers.get_mut(core) else {
             return Ok(());
         };
-        let Some(number) = hear(receiver, message) else {
+        let Some((number, limit)) = hear(receiver, message) else {
             return Ok(());
         };
         let take = Command::Take {
@@ -166,7 +166,7 @@ impl Pair {
             number,
             hop,
             stamp,
-            limit: 0,
+            limit,
             payload,
         };
         match self.lower.ask(core, Ask::Command(take)) {
@@ -312,14 +312,15 @@ fn is_for_receiver(ask: &Ask) -> bool
     }
 }
 
-/// A receiving core hears a message: the number of the Take that it names, if it names one.
-fn hear(receiver: &mut Receiving, message: &Message<Payload>) -> Option<u64>
+/// A receiving core hears a message: the number and the limit of the Take that it names, if it names one.
+fn hear(receiver: &mut Receiving, message: &Message<Payload>) -> Option<(u64, u64)>
     ensures state { receiver.new ≡ (receiving_step receiver.old (InEvent.Heard message.now)).0 }
     ensures named { MatchOption result ((receiving_step receiver.old (InEvent.Heard message.now)).1 ≡ None)
-        (λ number. (payload : List ℕ) × ((receiving_step receiver.old (InEvent.Heard message.now)).1 ≡ Some (InAction.Take number payload))) }
+        (λ named. (payload : List ℕ)
+        × ((receiving_step receiver.old (InEvent.Heard message.now)).1 ≡ Some (InAction.Take named.0 named.1 payload))) }
 {
     match receiver.step(InEvent::Heard(lent(message))) {
-        Some(InAction::Take { number, .. }) => Some(number),
+        Some(InAction::Take { number, limit, .. }) => Some((number, limit)),
         Some(InAction::Send(_)) => None,
         None => None,
     }

@@ -19,6 +19,7 @@ const DATA: Message<&[u8]> = Message::Data {
     from: UPPER,
     to: LOWER,
     number: 1,
+    limit: 5_000,
     payload: b"A",
 };
 
@@ -35,16 +36,22 @@ fn opened(alloc: Global, at: u64) -> Result<Journal<FaultDisk<MemDisk>>, Fail> {
 /// The call of the Take that a core names on hearing the datagram.
 fn heard_by(alloc: Global, core: &mut Receiving, seat: u16) -> Result<Call, Fail> {
     let taken = match core.step(InEvent::Heard(DATA)) {
-        Some(InAction::Take { number, payload }) => Some((number, payload)),
+        Some(
+            InAction::Take {
+                number,
+                limit,
+                payload,
+            },
+        ) => Some((number, limit, payload)),
         Some(InAction::Send(_)) | None => None,
     };
-    let (number, payload) = taken.ok_or("a Take")?;
+    let (number, limit, payload) = taken.ok_or("a Take")?;
     let take = Command::Take {
         peer: PeerId(1),
         number,
         hop: HopId(1),
         stamp: 0,
-        limit: 0,
+        limit,
         payload: Payload::copy_of(alloc, payload)?,
     };
     Ok(Call {

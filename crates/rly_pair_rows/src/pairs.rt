@@ -2,7 +2,7 @@
 //!
 //! A test is a row of stages, and a stage is a table: what is done, and the packets that are sent on it.
 use crate::expect::{SMALL, expect};
-use rly_core::{HopId, PeerId};
+use rly_core::{Geometry, HopId, PeerId};
 use rly_disk::{After, Torn};
 use rly_hop::Message;
 use rly_machine::{Ask, Command, Payload};
@@ -14,7 +14,7 @@ use std::test::Fail;
 /// What is done to two relays. A packet is named by its place in the order of sending.
 #[derive(Clone, Copy)]
 enum Act {
-    /// The upper takes the datagram of this number from its own peer.
+    /// The upper takes the datagram of this number from its own peer, with a limit of so many milliseconds.
     ComesIn(u64),
     /// The sending core has its turn with the contact open, and the call that it names waits.
     Turn,
@@ -37,10 +37,10 @@ enum Act {
     LowerCrashes(Torn, u64),
 }
 
-/// What a packet says, by its number.
+/// What a packet says: its number, and the limit of a datagram.
 #[derive(Clone, Copy, Debug, PartialEq, Eq)]
 enum Said {
-    Data(u64),
+    Data(u64, u64),
     Custody(u64),
     Refused(u64),
 }
@@ -66,7 +66,11 @@ const THREE_SENT: Stage = Stage {
         Act::OneCall,
         Act::OneCall,
     ],
-    sent: &[Said::Data(1), Said::Data(2), Said::Data(3)],
+    sent: &[
+        Said::Data(1, 1_000),
+        Said::Data(2, 2_000),
+        Said::Data(3, 3_000),
+    ],
 };
 
 /// How many they are.
@@ -124,7 +128,7 @@ const UPPER_CRASHES: Stage = Stage {
         Act::OneCall,
         Act::OneCall,
     ],
-    sent: &[Said::Data(3)],
+    sent: &[Said::Data(3, 3_000)],
 };
 
 /// Two more datagrams wait while the three are taken.
@@ -156,7 +160,7 @@ const PICKED_BESIDE_A_RELEASE: Stage = Stage {
         Act::OneCall,
         Act::OneCall,
     ],
-    sent: &[Said::Data(4), Said::Data(5)],
+    sent: &[Said::Data(4, 4_000), Said::Data(5, 5_000)],
 };
 
 /// The lower's device fails as it is opened, which begins with a sync: no call is made and no custody sent.
@@ -173,7 +177,7 @@ const OPENS: Stage = Stage {
 
 fn said_by(message: &Message<Payload>) -> Said {
     match message {
-        Message::Data { number, .. } => Said::Data(*number),
+        Message::Data { number, limit, .. } => Said::Data(*number, *limit),
         Message::Custody { last, .. } => Said::Custody(*last),
         Message::Refused { number, .. } => Said::Refused(*number),
     }
@@ -187,9 +191,14 @@ fn expect_packets(rt: &impl Abort, pair: &Pair, wanted: &[Said]) {
     }
 }
 
+/// A pair of devices, the upper's and the lower's.
+pub(crate) fn new_pair_of(alloc: Global, upper: &Geometry, lower: &Geometry) -> Result<Pair, Fail> {
+    Ok(Pair::new(alloc, upper, lower).ok().ok_or("a pair")?)
+}
+
 /// A pair of small devices.
 pub(crate) fn new_pair(alloc: Global) -> Result<Pair, Fail> {
-    Ok(Pair::new(alloc, &SMALL, &SMALL).ok().ok_or("a pair")?)
+    new_pair_of(alloc, &SMALL, &SMALL)
 }
 
 /// The pair makes a step. No clause says what it leaves, so that what makes many is proved as soon as what makes few.
@@ -198,6 +207,7 @@ pub(crate) fn step(alloc: Global, pair: &mut Pair, step: Step) -> Result<(), Fai
     Ok(())
 }
 
+/// The upper takes a datagram of one byte, its number, with a limit of its own. All is done at moment 0, so none is past its limit.
 fn comes_in(alloc: Global, pair: &mut Pair, number: u64) -> Result<(), Fail> {
     let payload = Payload::new(vec![in alloc; number.to_le_bytes()[0]; 1]?);
     let take = Command::Take {
@@ -205,7 +215,7 @@ fn comes_in(alloc: Global, pair: &mut Pair, number: u64) -> Result<(), Fail> {
         number,
         hop: HopId(1),
         stamp: 0,
-        limit: 0,
+        limit: number.saturating_mul(1_000),
         payload,
     };
     let serves = Step::UpperServes {
@@ -221,7 +231,7 @@ const TURN: Step = Step::Turns {
     moment: 0,
 };
 
-fn one_call(alloc: Global, pair: &mut Pair) -> Result<(), Fail> {
+pub(crate) fn one_call(alloc: Global, pair: &mut Pair) -> Result<(), Fail> {
     step(alloc, pair, TURN)?;
     step(alloc, pair, Step::UpperMakes)?;
     step(alloc, pair, Step::UpperAnswers { is_sent: true })

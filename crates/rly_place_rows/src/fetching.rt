@@ -165,11 +165,11 @@ const LONGEST: u64 = 549_755_813_696;
 const SEGMENT: u64 = 2_147_483_647;
 
 /// Where the payload lies that a Fetch of a round asks for: at the end of every fourth segment, up to the last one. Every second one
-/// has 1,200 bytes.
+/// has 8,192 bytes.
 fn far_place(index: u16) -> Place
     requires { index < 64 }
 {
-    let length = if index % 2 == 0 { 1_200 } else { 19 * index };
+    let length = if index % 2 == 0 { 8_192 } else { 19 * index };
     Place {
         start: 64 + SEGMENT * (4 * u64::from(index) + 4) - u64::from(length),
         length,
@@ -197,7 +197,7 @@ fn gives_low(reply: &Reply, place: Place) -> bool {
     bytes.len() == usize::from(place.length)
 }
 
-/// 64 Fetches of a round, of payloads of up to 1,200 bytes all over the longest device, under great numbers and positions.
+/// 64 Fetches of a round, of payloads of up to 8,192 bytes all over the longest device, under great numbers and positions.
 #[test]
 fn payloads_of_a_round_are_read_far_away(rt: HostRuntime) -> Result<(), Fail> {
     let alloc = rt.alloc();

@@ -1,10 +1,14 @@
 //! A group tells where its payloads will lie.
+ghost use Rattle.std.specs.Prelude.{◌≡◌, ◌+◌, ◌<◌, ◌≤◌, [], IfOk};
+
 use rly_checkpoint::{Place, Stored};
+use rly_core::limits::MAX_PAYLOAD;
 use rly_core::{HopId, PeerId};
 use rly_disk::{Disk, MemDisk};
 use rly_grouping::{Group, is_recordable};
 use rly_machine::{Command, Payload};
 use std::alloc::{AllocError, Global};
+use std::process::Abort;
 use std::test::Fail;
 
 /// A Take of some bytes, with that limit.
@@ -48,21 +52,21 @@ fn lies_at(command: &Command<Stored>, start: u64, length: u16) -> bool {
 fn a_group_tells_its_places(rt: HostRuntime) -> Result<(), Fail> {
     let alloc = rt.alloc();
     let mut disk = MemDisk::new(alloc, vec![in alloc; 0u8; 200]?);
-    let mut group = Group::new(alloc)?;
+    let mut group = Group::new(alloc, 1_200)?;
     let three = take_of(alloc, 0, &[7, 8, 9])?;
-    assert!(rt; is_recordable(&three));
+    assert!(rt; is_recordable(&three, 1_200));
     let three = group.stage(100, three);
     group.keep();
     let given_up = take_of(alloc, 0, &[1, 2])?;
-    assert!(rt; is_recordable(&given_up));
+    assert!(rt; is_recordable(&given_up, 1_200));
     let given_up = group.stage(100, given_up);
     group.discard();
     let none = take_of(alloc, 0, &[])?;
-    assert!(rt; is_recordable(&none));
+    assert!(rt; is_recordable(&none, 1_200));
     let none = group.stage(100, none);
     group.keep();
     let one = take_of(alloc, 0, &[5])?;
-    assert!(rt; is_recordable(&one));
+    assert!(rt; is_recordable(&one, 1_200));
     let one = group.stage(100, one);
     group.keep();
     expect!(rt; lies_at(&three, 130, 3));
@@ -90,9 +94,9 @@ fn a_group_tells_its_places(rt: HostRuntime) -> Result<(), Fail> {
 fn a_take_with_a_limit_is_staged(rt: HostRuntime) -> Result<(), Fail> {
     let alloc = rt.alloc();
     let mut disk = MemDisk::new(alloc, vec![in alloc; 0u8; 200]?);
-    let mut group = Group::new(alloc)?;
+    let mut group = Group::new(alloc, 1_200)?;
     let limited = take_of(alloc, 5_000, &[7, 8])?;
-    assert!(rt; is_recordable(&limited));
+    assert!(rt; is_recordable(&limited, 1_200));
     let limited = group.stage(100, limited);
     group.keep();
     expect!(rt; lies_at(&limited, 130, 2));
@@ -107,13 +111,112 @@ fn a_take_with_a_limit_is_staged(rt: HostRuntime) -> Result<(), Fail> {
     Ok(())
 }
 
+/// Where the gate of the groups of 64 stands.
+const GATE: u64 = 100;
+
+/// Adds a command that can be recorded to a group for payloads of so many bytes.
+fn add(rt: &impl Abort, group: &mut Group, command: Command<Payload>, payload: u64)
+    requires limit { payload ≤ 8192 }
+    requires most { group.old.most ≡ payload }
+    requires room { group.old.count < 64 }
+    requires nothing { group.old.staged ≡ [] }
+    ensures most { group.new.most ≡ payload }
+    ensures count { group.new.count ≡ group.old.count + 1 }
+    ensures nothing { group.new.staged ≡ [] }
+{
+    assert!(rt; is_recordable(&command, payload));
+    let _ = group.stage(GATE, command);
+    group.keep();
+}
+
+/// A group of 64 Takes of so many bytes, the most that it is for.
+fn full_group(rt: &impl Abort, alloc: Global, payload: u64) -> Result<Group, AllocError>
+    ensures count { IfOk result (λ group. group.count ≡ 64) }
+    ensures nothing { IfOk result (λ group. group.staged ≡ []) }
+{
+    assert!(rt; payload <= MAX_PAYLOAD);
+    let bytes = vec![in alloc; 7u8; payload as usize]?;
+    let mut group = Group::new(alloc, payload)?;
+    for _take in 0..64u64 {
+        add(rt, &mut group, take_of(alloc, 0, &bytes)?, payload);
+    }
+    Ok(group)
+}
+
+/// A device of bytes `ee`, longer than the longest group.
+fn filled_disk(alloc: Global) -> Result<MemDisk, AllocError> {
+    Ok(MemDisk::new(alloc, vec![in alloc; 0xeeu8; 526_000]?))
+}
+
+/// The group of 64 of the longest has so many bytes with a gate: it fills its frame. It is written with this length, and the closed gate
+/// stands behind its last payload.
+fn expect_full(
+    rt: &impl Abort,
+    alloc: Global,
+    payload: u64,
+    size: u64,
+    front: [u8; 7],
+) -> Result<(), AllocError> {
+    let mut disk = filled_disk(alloc)?;
+    let mut group = full_group(rt, alloc, payload)?;
+    assert!(rt; group.len() == size, "{payload}");
+    assert!(rt; disk.size() == 526_000 && size <= 525_767);
+    assert!(rt; group.write(&mut disk, GATE).is_ok());
+    let mut begun = [0; 7];
+    assert!(rt; disk.read_at(GATE, &mut begun).is_ok());
+    expect!(rt; begun == front);
+    let mut ended = [0; 3];
+    assert!(rt; disk.read_at(GATE + size - 1, &mut ended).is_ok());
+    expect!(rt; ended == [7, 0, 0xee]);
+    expect!(rt; group.is_empty());
+    Ok(())
+}
+
+/// Bodies of 1,538, 78,274 and 525,762 bytes: 2, and 64 times 23 and the payload's.
+#[test]
+fn sixty_four_of_the_longest(rt: HostRuntime) -> Result<(), Fail> {
+    let alloc = rt.alloc();
+    for (payload, size, front) in [
+        (1, 1_543, [0xa5, 0, 0, 0x06, 0x02, 0, 64]),
+        (1_200, 78_279, [0xa5, 0, 0x01, 0x31, 0xc2, 0, 64]),
+        (8_192, 525_767, [0xa5, 0, 0x08, 0x05, 0xc2, 0, 64]),
+    ] {
+        expect_full(&rt, alloc, payload, size, front)?;
+    }
+    Ok(())
+}
+
+/// What is longer than payloads of a group may be can't be recorded.
+#[test]
+fn what_is_too_long_has_no_record(rt: HostRuntime) -> Result<(), Fail> {
+    let alloc = rt.alloc();
+    for (payload, length, want) in [
+        (1, 1, true),
+        (1, 2, false),
+        (1_200, 1_200, true),
+        (1_200, 1_201, false),
+        (8_192, 8_192, true),
+        (8_192, 8_193, false),
+    ] {
+        let bytes = vec![in alloc; 7u8; length]?;
+        for limit in [0, 5_000] {
+            let take = take_of(alloc, limit, &bytes)?;
+            assert!(rt;
+                is_recordable(&take, payload) == want,
+                "{length} of {payload}"
+            );
+        }
+    }
+    Ok(())
+}
+
 /// What has a limit and numbers that no spool has can't be recorded; without a limit it can.
 #[test]
 fn what_has_no_record_is_told(rt: HostRuntime) -> Result<(), Fail> {
     let alloc = rt.alloc();
-    expect!(rt; !is_recordable(&far_take(alloc, 1)?));
-    expect!(rt; is_recordable(&far_take(alloc, 0)?));
-    expect!(rt; !is_recordable(&take_of(alloc, 1_099_511_627_776, &[7])?));
-    expect!(rt; is_recordable(&take_of(alloc, 1_099_511_627_775, &[7])?));
+    expect!(rt; !is_recordable(&far_take(alloc, 1)?, 1_200));
+    expect!(rt; is_recordable(&far_take(alloc, 0)?, 1_200));
+    expect!(rt; !is_recordable(&take_of(alloc, 1_099_511_627_776, &[7])?, 1_200));
+    expect!(rt; is_recordable(&take_of(alloc, 1_099_511_627_775, &[7])?, 1_200));
     Ok(())
 }

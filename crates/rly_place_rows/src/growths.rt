@@ -76,11 +76,12 @@ fn payloads_of_a_round(rt: HostRuntime) -> Result<(), Fail> {
     Ok(())
 }
 
+/// Its memory is that of the largest group: 525,767 bytes.
 #[test]
 fn a_new_group(rt: HostRuntime) -> Result<(), Fail> {
     let alloc = rt.alloc();
     before(alloc)?;
-    let made = Group::new(alloc);
+    let made = Group::new(alloc, 8_192);
     let refused = was_refused(alloc);
     match made {
         Ok(group) => expect!(rt; !refused && group.is_empty()),

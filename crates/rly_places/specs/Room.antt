@@ -37,4 +37,4 @@ pub record HasRoomFor (g : Geometry) (s : State Stored) (victim : ℕ) : Type 0 
   pub few : live_in g victim s ≤ g.params.bytes / (g.segments - 1)
   -- a head with so many bytes inline has room in a segment, and the largest group after it
   pub head : (t : State Stored) → IsSound stored_length t → t.params ≡ g.params → inline_bytes t ≤ live_in g victim s
-      → 13 + length (state_spelled stored_length stored_form t) + group_room ≤ g.length
+      → 13 + length (state_spelled stored_length stored_form t) + group_room g.params.payload ≤ g.length

@@ -40,6 +40,6 @@ pub record HasRoom (g : Geometry) (live : List ℕ) (free victim : ℕ) : Type 0
   pub few : slice_index live victim ≤ g.params.bytes / (g.segments - 1)
   -- the new head, with the victim's payloads inline, has room, and the largest group after it
   pub room : (by_place inline : ℕ) → by_place + inline ≤ g.params.items
-      → head_length g by_place inline (slice_index live victim) + group_room ≤ g.length
+      → head_length g by_place inline (slice_index live victim) + group_room g.params.payload ≤ g.length
   -- the victim may be opened next
   pub next : MayOpen (moved live free victim) free victim

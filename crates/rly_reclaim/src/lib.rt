@@ -2,8 +2,7 @@
 //! which one that is, and whose payloads move into it.
 //!
 //! `specs/Room.antt` and `specs/Reclaiming.antt` say it (docs/DEFINITIONS.md, "Room"). It takes no
-//! memory and no handle. Callers: `rly_segment`, `rly_standing` and `rly_daemon`, which have two
-//! segments today and so ask for no victim.
+//! memory and no handle. Callers: `rly_segment`, `rly_index`, `rly_journal` and `rly_daemon`.
 #![tactic(auto)]
 
 mod laws;
@@ -12,4 +11,4 @@ mod room;
 
 pub use crate::laws::law_room;
 pub use crate::reclaiming::{free_segment, victim};
-pub use crate::room::{GROUP_ROOM, fits, is_due, least_length};
+pub use crate::room::{fits, group_room, is_due, least_length};

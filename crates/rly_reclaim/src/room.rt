@@ -1,12 +1,12 @@
 ghost use Rattle.std.specs.Prelude.{◌≡◌, ◌↔◌, ◌+◌, ◌<◌, ◌^◌, IsTrue};
 ghost use Rattle.rly_core.specs.Bounds.{IsIn};
 ghost use Rattle.rly_core.specs.Limits.{IsWithinLimits};
-ghost use Rattle.rly_reclaim.specs.Room.{Fits, IsDue, least_length};
+ghost use Rattle.rly_reclaim.specs.Room.{Fits, IsDue, group_room, least_length};
 
 use rly_core::Geometry;
 
-/// The bytes of the largest group, 64 Takes of 1,200 bytes with its gate, and one gate more.
-pub const GROUP_ROOM: u64 = 78_280;
+/// The bytes of a Take's record before its payload.
+const TAKE_BYTES: u64 = 23;
 
 /// The bytes of a head besides what its peers, hops and items take: its gate, generation and
 /// length, and the count of accepted commands.
@@ -21,6 +21,14 @@ const HOP_BYTES: u64 = 71;
 /// The bytes of an item in a head whose payload stands in another segment, of form 1 too.
 const ITEM_BYTES: u64 = 27;
 
+/// The bytes of the largest group where payloads have at most so many: 64 Takes of the longest with its gate, and one gate more.
+pub fn group_room(payload: u64) -> u64
+    requires { group_room payload < 2 ^ 64 }
+    ensures { result ≡ group_room payload }
+{
+    64 * (TAKE_BYTES + payload) + 8
+}
+
 /// The least length of the segments of a device, in bytes.
 pub fn least_length(geometry: &Geometry) -> u64
     requires params { IsWithinLimits geometry.now.params }
@@ -33,7 +41,7 @@ pub fn least_length(geometry: &Geometry) -> u64
         + HOP_BYTES * params.hops
         + ITEM_BYTES * params.items
         + params.bytes / (geometry.segments - 1)
-        + GROUP_ROOM
+        + group_room(params.payload)
 }
 
 /// Whether the segments are long enough for every head, with the largest group after it.
@@ -47,8 +55,8 @@ pub fn fits(geometry: &Geometry) -> bool
 
 /// Whether the largest group has no room after so many bytes of a segment.
 pub fn is_due(geometry: &Geometry, offset: u64) -> bool
-    requires { offset + GROUP_ROOM < 2 ^ 64 }
+    requires { offset + group_room geometry.now.params.payload < 2 ^ 64 }
     ensures { IsTrue result ↔ IsDue geometry.now offset }
 {
-    geometry.length < offset + GROUP_ROOM
+    geometry.length < offset + group_room(geometry.params.payload)
 }

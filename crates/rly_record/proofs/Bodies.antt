@@ -1,6 +1,6 @@
 -- A body that is read is the body that was written, and what was written is read again; and the loops over a body's
 -- records.
-use Rattle.std.proofs.Common.{◌≡◌, ℕ, zero, suc, ◌+◌, ◌-◌, ◌*◌, ◌<◌, ◌≤◌, Bool, true, false, cond, ◌||◌, eqb, ltb, List, [], ◌∷◌, ◌++◌, length, get_or, drop, Option, Some, None, Result, Ok, Err, refl, sym, ap, subst, ◌∙◌, append_assoc, arith, drop-cons, inl, inr}
+use Rattle.std.proofs.Common.{◌≡◌, ℕ, zero, suc, ◌+◌, ◌-◌, ◌*◌, ◌^◌, ◌<◌, ◌≤◌, Bool, true, false, cond, ◌||◌, eqb, ltb, List, [], ◌∷◌, ◌++◌, length, get_or, drop, Option, Some, None, Result, Ok, Err, refl, sym, ap, subst, ◌∙◌, append_assoc, arith, drop-cons, inl, inr}
 use Rattle.std.specs.Prelude.{All, IfOk, IsSome, MatchResult, sum_by}
 use Rattle.std.specs.Global.{Vec}
 use Rattle.std.specs.List.{AllByRecursion, flat_map}
@@ -9,12 +9,13 @@ use Rattle.std.proofs.lemmas.List.{append-nil, drop_all, get_or_default, length-
 use Rattle.std.proofs.lemmas.List.Elements.{recursion_from_All}
 use Rattle.std.proofs.lemmas.List.Concat.{flat_map-cons}
 use Rattle.std.proofs.lemmas.List.Sums.{sum_by-cons}
+use Rattle.std.proofs.Math.Nat.{mul-le-mul_left}
 use Rattle.byteorder.specs.Endian.{big_bytes}
 use Rattle.rly_machine.specs.declared.command.Command.{Command}
 use Rattle.rly_machine.specs.declared.command.Command.TheVariants.{Take, Pick, Release}
 use Rattle.rly_record.specs.declared.decode_fault.DecodeFault.{DecodeFault}
 use Rattle.rly_record.specs.declared.decode_fault.DecodeFault.TheVariants.{OutOfMemory, Malformed}
-use Rattle.rly_record.specs.Spelling.{IsRecordable, IsShort, record_of, record_length, body_of, body_length, HasRecord, HaveBody}
+use Rattle.rly_record.specs.Spelling.{IsRecordable, IsShort, record_of, record_length, body_of, body_length, longest_body, longest_record, HasRecord, HaveBody}
 use Rattle.rly_record.specs.HelpersReading.{◌>>=◌, Fails, Gives, behind, in_front, many_at, field_at, command_at, body_at, whole_body}
 use Rattle.rly_record.proofs.Fields.{IsBytes, bind_some, bind_is, some_is, Takes, Takes-then, wide_2, number_takes, number_again}
 use Rattle.rly_record.proofs.Readers.{Reads, many_reads}
@@ -178,24 +179,40 @@ pub lengths_end : (commands : List (Command (List ℕ))) (i : ℕ) → length co
 lengths_end commands i all = ap (sum_by (record_length length)) (drop_all i commands all)
 
 -- the record of a command with a short payload
-pub record_length-short : (command : Command (List ℕ)) → IsShort command → record_length length command ≤ 1223
-record_length-short (Take peer number hop stamp limit payload) short = omega (arith, short)
-record_length-short (Pick hop now) short = omega arith
-record_length-short (Release hop number) short = omega arith
+pub record_length-short : (most : ℕ) (command : Command (List ℕ)) → IsShort most command → record_length length command ≤ longest_record most
+record_length-short most (Take peer number hop stamp limit payload) short = omega (arith, short)
+record_length-short most (Pick hop now) short = omega arith
+record_length-short most (Release hop number) short = omega arith
 
 -- a command that can be recorded has a short payload
-pub recordable_short : (command : Command (List ℕ)) → IsRecordable command → IsShort command
-recordable_short (Take peer number hop stamp limit payload) recordable = recordable.0
-recordable_short (Pick hop now) recordable = tt
-recordable_short (Release hop number) recordable = tt
+pub recordable_short : (most : ℕ) (command : Command (List ℕ)) → IsRecordable most command → IsShort most command
+recordable_short most (Take peer number hop stamp limit payload) recordable = recordable.0
+recordable_short most (Pick hop now) recordable = tt
+recordable_short most (Release hop number) recordable = tt
+
+-- one that can be recorded where payloads are shorter can be recorded at all
+pub recordable_longest : (most : ℕ) (command : Command (List ℕ)) → most ≤ 8192 → IsRecordable most command → IsRecordable 8192 command
+recordable_longest most (Take peer number hop stamp limit payload) within recordable = (omega (arith, within, recordable.0), recordable.1)
+recordable_longest most (Pick hop now) within recordable = tt
+recordable_longest most (Release hop number) within recordable = tt
+
+-- one that has a record has a payload that a record can have
+pub has_short : (command : Command (List ℕ)) → HasRecord command → IsShort 8192 command
+has_short (Take peer number hop stamp limit payload) has = has.4
+has_short (Pick hop now) has = tt
+has_short (Release hop number) has = tt
+
+pub have_short : (commands : List (Command (List ℕ))) → AllByRecursion HasRecord commands → AllByRecursion (IsShort 8192) commands
+have_short [] has = tt
+have_short (command ∷ commands) has = (has_short command has.0, have_short commands has.1)
 
 -- what holds of all holds of the one at a place
-pub recordable_at : (commands : List (Command (List ℕ))) (i : ℕ) (command : Command (List ℕ)) → All IsRecordable commands → i < length commands → command ≡ get_or commands i command
-    → IsRecordable command
-recordable_at commands i command recordable lt is = subst IsRecordable (sym is) (recordable i command lt)
+pub recordable_at : (commands : List (Command (List ℕ))) (i : ℕ) (command : Command (List ℕ)) → All (IsRecordable 8192) commands → i < length commands → command ≡ get_or commands i command
+    → IsRecordable 8192 command
+recordable_at commands i command recordable lt is = subst (IsRecordable 8192) (sym is) (recordable i command lt)
 
-pub short_at : (commands : List (Command (List ℕ))) (i : ℕ) (command : Command (List ℕ)) → All IsRecordable commands → i < length commands → command ≡ get_or commands i command → IsShort command
-short_at commands i command recordable lt is = recordable_short command (recordable_at commands i command recordable lt is)
+pub short_at : (commands : List (Command (List ℕ))) (i : ℕ) (command : Command (List ℕ)) → All (IsRecordable 8192) commands → i < length commands → command ≡ get_or commands i command → IsShort 8192 command
+short_at commands i command recordable lt is = recordable_short 8192 command (recordable_at commands i command recordable lt is)
 
 -- one more command that has a record
 pub has_next : (commands : List (Command (List ℕ))) (i : ℕ) (command : Command (List ℕ)) → i < length commands → command ≡ get_or commands i command → HasRecord command
@@ -216,7 +233,7 @@ have_all commands i all before = recursion_from_All HasRecord commands (λ k d l
 
 -- ---- lengths
 
-sum-lengths : (commands : List (Command (List ℕ))) → length (flat_map record_of commands) ≡ sum_by (record_length length) commands
+pub sum-lengths : (commands : List (Command (List ℕ))) → length (flat_map record_of commands) ≡ sum_by (record_length length) commands
 sum-lengths [] = refl
 sum-lengths (command ∷ commands) =
     let first = length-record_of command in
@@ -231,26 +248,33 @@ length-body_of commands =
     let cut : length (body_of commands) ≡ 2 + length (flat_map record_of commands) = length-append (big_bytes 2 (length commands)) (flat_map record_of commands) in
     cut ∙ ap (λ (n : ℕ). 2 + n) (sum-lengths commands)
 
-pub record_length-has : (command : Command (List ℕ)) → HasRecord command → record_length length command ≤ 1223
-record_length-has (Take peer number hop stamp limit payload) has = omega (arith, has.4)
-record_length-has (Pick hop now) has = omega arith
-record_length-has (Release hop number) has = omega arith
-
-sum-lengths-within : (commands : List (Command (List ℕ))) → AllByRecursion HasRecord commands → sum_by (record_length length) commands ≤ 1223 * length commands
-sum-lengths-within [] has = omega arith
-sum-lengths-within (command ∷ commands) has =
+pub sum-lengths-within : (most : ℕ) (commands : List (Command (List ℕ))) → AllByRecursion (IsShort most) commands
+    → sum_by (record_length length) commands ≤ longest_record most * length commands
+sum-lengths-within most [] short = omega arith
+sum-lengths-within most (command ∷ commands) short =
     let whole : sum_by (record_length length) (command ∷ commands) ≡ record_length length command + sum_by (record_length length) commands = sum_by-cons (record_length length) command commands in
-    omega (arith, whole, record_length-has command has.0, sum-lengths-within commands has.1)
+    omega (arith, whole, record_length-short most command short.0, sum-lengths-within most commands short.1)
 
-pub body_length-within : (commands : List (Command (List ℕ))) → HaveBody commands → body_length length commands ≤ 78274
-body_length-within commands has = omega (arith, sum-lengths-within commands has.1, has.0.1)
+pub body_length-within : (most : ℕ) (commands : List (Command (List ℕ))) → AllByRecursion (IsShort most) commands → length commands ≤ 64
+    → body_length length commands ≤ longest_body most
+body_length-within most commands short few = omega (arith, sum-lengths-within most commands short, mul-le-mul_left (longest_record most) few)
 
-sum-lengths-all : (commands : List (Command (List ℕ))) → AllByRecursion (λ command. record_length length command ≡ 1223) commands → sum_by (record_length length) commands ≡ 1223 * length commands
-sum-lengths-all [] each = refl
-sum-lengths-all (command ∷ commands) each =
+-- so its length fits four bytes
+pub body_small : (commands : List (Command (List ℕ))) → HaveBody commands → length (body_of commands) < 2 ^ 32
+body_small commands has = omega (arith, length-body_of commands, body_length-within 8192 commands (have_short commands has.1) has.0.1)
+
+sum-lengths-all : (most : ℕ) (commands : List (Command (List ℕ))) → AllByRecursion (λ command. record_length length command ≡ longest_record most) commands
+    → sum_by (record_length length) commands ≡ longest_record most * length commands
+sum-lengths-all most [] each = omega arith
+sum-lengths-all most (command ∷ commands) each =
     let whole : sum_by (record_length length) (command ∷ commands) ≡ record_length length command + sum_by (record_length length) commands = sum_by-cons (record_length length) command commands in
-    omega (arith, whole, each.0, sum-lengths-all commands each.1)
+    omega (arith, whole, each.0, sum-lengths-all most commands each.1)
 
-pub body_length-all : (commands : List (Command (List ℕ))) → length commands ≡ 64 → All (λ command. record_length length command ≡ 1223) commands → body_length length commands ≡ 78274
-body_length-all commands count each =
-    omega (arith, sum-lengths-all commands (recursion_from_All (λ command. record_length length command ≡ 1223) commands each), count)
+pub body_length-all : (most : ℕ) (commands : List (Command (List ℕ))) → length commands ≡ 64 → All (λ command. record_length length command ≡ longest_record most) commands
+    → body_length length commands ≡ longest_body most
+body_length-all most commands count each =
+    omega (
+      arith,
+      sum-lengths-all most commands (recursion_from_All (λ command. record_length length command ≡ longest_record most) commands each),
+      ap (λ (n : ℕ). longest_record most * n) count,
+    )

@@ -130,29 +130,29 @@ number_again width n rest lt =
 
 -- ---- payloads
 
-pub payload_takes : (bytes payload rest : List ℕ) → IsBytes bytes → payload_at bytes ≡ Some (payload, rest) → Takes bytes (big_bytes 2 (length payload) ++ payload) rest × (length payload ≤ 1200)
+pub payload_takes : (bytes payload rest : List ℕ) → IsBytes bytes → payload_at bytes ≡ Some (payload, rest) → Takes bytes (big_bytes 2 (length payload) ++ payload) rest × (length payload ≤ 8192)
 unfolding payload_at
 payload_takes bytes payload rest fits e =
-    let b = bind_some (field_at 2 bytes) (λ (size : ℕ × List ℕ). cond (ltb 1200 size.0 || ltb (length size.1) size.0) None (Some (take size.0 size.1, drop size.0 size.1))) (payload, rest) e in
+    let b = bind_some (field_at 2 bytes) (λ (size : ℕ × List ℕ). cond (ltb 8192 size.0 || ltb (length size.1) size.0) None (Some (take size.0 size.1, drop size.0 size.1))) (payload, rest) e in
     let n = b.0 in
     let t = number_takes 2 wide_2 bytes n.0 n.1 fits b.1 in
-    let g = guard_some (ltb 1200 n.0 || ltb (length n.1) n.0) (take n.0 n.1, drop n.0 n.1) (payload, rest) b.2 in
-    let tests = or_parts (ltb 1200 n.0) (ltb (length n.1) n.0) g.0 in
-    let short : n.0 ≤ 1200 = ltb-false _ _ tests.0 in
+    let g = guard_some (ltb 8192 n.0 || ltb (length n.1) n.0) (take n.0 n.1, drop n.0 n.1) (payload, rest) b.2 in
+    let tests = or_parts (ltb 8192 n.0) (ltb (length n.1) n.0) g.0 in
+    let short : n.0 ≤ 8192 = ltb-false _ _ tests.0 in
     let long : n.0 ≤ length n.1 = ltb-false _ _ tests.1 in
     let len : length (take n.0 n.1) ≡ n.0 = omega (arith, length-take n.0 n.1) in
     let second : Takes n.1 (take n.0 n.1) (drop n.0 n.1) = record { parts = sym (take-append-drop n.0 n.1); rest_fits = IsBytes-drop n.0 n.1 t.0.rest_fits } in
     let both = Takes-then bytes (big_bytes 2 n.0) n.1 (take n.0 n.1) (drop n.0 n.1) t.0 second in
     let whole : Takes bytes (big_bytes 2 (length (take n.0 n.1)) ++ take n.0 n.1) (drop n.0 n.1) = subst (λ (k : ℕ). Takes bytes (big_bytes 2 k ++ take n.0 n.1) (drop n.0 n.1)) (sym len) both in
-    subst (λ (p : List ℕ × List ℕ). Takes bytes (big_bytes 2 (length p.0) ++ p.0) p.1 × (length p.0 ≤ 1200)) g.1 (whole, omega arith)
+    subst (λ (p : List ℕ × List ℕ). Takes bytes (big_bytes 2 (length p.0) ++ p.0) p.1 × (length p.0 ≤ 8192)) g.1 (whole, omega arith)
 
-pub payload_again : (payload rest : List ℕ) → length payload ≤ 1200 → payload_at (big_bytes 2 (length payload) ++ (payload ++ rest)) ≡ Some (payload, rest)
+pub payload_again : (payload rest : List ℕ) → length payload ≤ 8192 → payload_at (big_bytes 2 (length payload) ++ (payload ++ rest)) ≡ Some (payload, rest)
 unfolding payload_at
 payload_again payload rest short =
     let size : ℕ = length payload in
     let tail : List ℕ = payload ++ rest in
-    let tests : (ltb 1200 size || ltb (length tail) size) ≡ false = or_from _ _ (le-ltb _ _ short) (le-ltb _ _ (omega (arith, length-append payload rest))) in
+    let tests : (ltb 8192 size || ltb (length tail) size) ≡ false = or_from _ _ (le-ltb _ _ short) (le-ltb _ _ (omega (arith, length-append payload rest))) in
     let below : size < 256 ^ 2 = omega arith in
     let cut : (let p : List ℕ × List ℕ = (take size tail, drop size tail) in p) ≡ (payload, rest) = rw (take_at payload rest size refl, drop_at payload rest size refl) refl in
-    bind_is (field_at 2 (big_bytes 2 size ++ tail)) (size, tail) (λ (n : ℕ × List ℕ). cond (ltb 1200 n.0 || ltb (length n.1) n.0) None (Some (take n.0 n.1, drop n.0 n.1))) (Some (payload, rest))
+    bind_is (field_at 2 (big_bytes 2 size ++ tail)) (size, tail) (λ (n : ℕ × List ℕ). cond (ltb 8192 n.0 || ltb (length n.1) n.0) None (Some (take n.0 n.1, drop n.0 n.1))) (Some (payload, rest))
     (number_again 2 size tail below) (rw tests (ap (λ (p : List ℕ × List ℕ). Some p) cut))

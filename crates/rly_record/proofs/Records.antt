@@ -33,7 +33,7 @@ fields_again : {A : Type 0} {read : Reader A} {s : A → List ℕ} {F : A → Ty
 fields_again {A} {read} {s} made reads a rest fits =
     bind_is (read (s a ++ rest)) (a, rest) (λ (y : A × List ℕ). Some (made y.0, y.1)) (Some (made a, rest)) (reads.again a rest fits) refl
 
-payload_reads : Reads payload_at (λ payload. big_bytes 2 (length payload) ++ payload) (λ payload. length payload ≤ 1200)
+payload_reads : Reads payload_at (λ payload. big_bytes 2 (length payload) ++ payload) (λ payload. length payload ≤ 8192)
 payload_reads = record {
   takes = payload_takes;
   again = λ payload rest short. ap payload_at (append_assoc (big_bytes 2 (length payload)) payload rest) ∙ payload_again payload rest short;
@@ -88,7 +88,7 @@ limited_text x =
 abbrev LimitedFit : LimitedFields → Type 0
 LimitedFit x =
     (x.0 < 256 ^ 1) × ((x.1.0 < 256 ^ 6) × ((x.1.1.0 < 256 ^ 1) × ((x.1.1.1.0 < 256 ^ 7) × (((0 < x.1.1.1.1.0) × (x.1.1.1.1.0 < 256 ^ 5))
-    × (length x.1.1.1.1.1 ≤ 1200)))))
+    × (length x.1.1.1.1.1 ≤ 8192)))))
 
 limited_reads : Reads limited_fields_at limited_text LimitedFit
 limited_reads = pair_reads u8_reads (pair_reads u48_reads (pair_reads u8_reads (pair_reads u56_reads (pair_reads limit_reads payload_reads))))

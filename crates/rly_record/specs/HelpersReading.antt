@@ -71,11 +71,11 @@ many_at one (suc n) bytes = do
   others ← many_at one n first.1
   Some (first.0 ∷ others.0, others.1)
 
--- a payload after its length, which is at most 1,200
+-- a payload after its length, which is at most 8,192
 unfoldable pub payload_at : Reader (List ℕ)
 payload_at bytes = do
   size ← field_at 2 bytes
-  if nat_lt 1200 size.0 || nat_lt (length size.1) size.0 then None else Some (take size.0 size.1, drop size.0 size.1)
+  if nat_lt 8192 size.0 || nat_lt (length size.1) size.0 then None else Some (take size.0 size.1, drop size.0 size.1)
 
 -- the fields of a Take without a limit
 unfoldable pub take_at : Reader (Command (List ℕ))

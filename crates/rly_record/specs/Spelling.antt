@@ -1,6 +1,6 @@
 -- The bytes of records and bodies (docs/FORMATS.md, "Bodies and records"). Each command has one record, and each list
 -- of commands one body, since both are functions of what they spell.
-use Rattle.std.specs.Prelude.{ℕ, zero, suc, ◌+◌, ◌^◌, ◌<◌, ◌≤◌, ⊤, List, ◌∷◌, ◌++◌, length, sum_by}
+use Rattle.std.specs.Prelude.{ℕ, zero, suc, ◌+◌, ◌*◌, ◌^◌, ◌<◌, ◌≤◌, ⊤, List, ◌∷◌, ◌++◌, length, sum_by}
 use Rattle.std.specs.List.{AllByRecursion, flat_map}
 use Rattle.byteorder.specs.Endian.{big_bytes}
 use Rattle.rly_core.specs.Bounds.{IsIn}
@@ -34,11 +34,18 @@ record_length len (Take peer number hop stamp limit payload) = 23 + len payload
 record_length len (Pick hop now) = 11
 record_length len (Release hop number) = 11
 
--- the payload, if the command has one, is at most 1,200 bytes long
-abbrev pub IsShort : Command (List ℕ) → Type 0
-IsShort (Take peer number hop stamp limit payload) = length payload ≤ 1200
-IsShort (Pick hop now) = ⊤
-IsShort (Release hop number) = ⊤
+-- the payload, if the command has one, has at most so many bytes
+abbrev pub IsShort : ℕ → Command (List ℕ) → Type 0
+IsShort most (Take peer number hop stamp limit payload) = length payload ≤ most
+IsShort most (Pick hop now) = ⊤
+IsShort most (Release hop number) = ⊤
+
+-- the most bytes of a record, and of a body, whose payloads have at most so many each
+abbrev pub longest_record : ℕ → ℕ
+longest_record most = 23 + most
+
+abbrev pub longest_body : ℕ → ℕ
+longest_body most = 2 + 64 * longest_record most
 
 -- the command has a payload of at least one byte
 abbrev pub CarriesBytes : Command (List ℕ) → Type 0
@@ -54,10 +61,10 @@ pub record FitsLimited (sender : PeerId) (custody : ℕ) (target : HopId) (momen
   pub stamp : moment < 2 ^ 56
   pub limit : age < 2 ^ 40
 
--- the command has a record: its payload is short, and each of its numbers fits its field
+-- the command has a record: its payload has at most 8,192 bytes, and each of its numbers fits its field
 abbrev pub HasRecord : Command (List ℕ) → Type 0
 HasRecord (Take peer number hop stamp limit payload) =
-    (peer.0 < 2 ^ 16) × (number < 2 ^ 64) × (hop.0 < 2 ^ 16) × (stamp < 2 ^ 64) × (length payload ≤ 1200)
+    (peer.0 < 2 ^ 16) × (number < 2 ^ 64) × (hop.0 < 2 ^ 16) × (stamp < 2 ^ 64) × (length payload ≤ 8192)
     × (0 < limit → FitsLimited peer number hop stamp limit)
 HasRecord (Pick hop now) = (hop.0 < 2 ^ 16) × (now < 2 ^ 64)
 HasRecord (Release hop number) = (hop.0 < 2 ^ 16) × (number < 2 ^ 64)
@@ -70,13 +77,13 @@ pub record IsLimited (sender : PeerId) (custody : ℕ) (target : HopId) (moment 
   pub stamp : moment < 2 ^ 52
   pub limit : age < 2 ^ 40
 
--- the command can be recorded, as each accepted one can: its payload is at most 1,200 bytes long, and where it has a
--- limit its numbers are those of a spool
-abbrev pub IsRecordable : Command (List ℕ) → Type 0
-IsRecordable (Take peer number hop stamp limit payload) =
-    (length payload ≤ 1200) × (0 < limit → IsLimited peer number hop stamp limit)
-IsRecordable (Pick hop now) = ⊤
-IsRecordable (Release hop number) = ⊤
+-- the command can be recorded, as each can that a spool with so long payloads accepts: its payload has at most so many
+-- bytes, and where it has a limit its numbers are those of a spool
+abbrev pub IsRecordable : ℕ → Command (List ℕ) → Type 0
+IsRecordable most (Take peer number hop stamp limit payload) =
+    (length payload ≤ most) × (0 < limit → IsLimited peer number hop stamp limit)
+IsRecordable most (Pick hop now) = ⊤
+IsRecordable most (Release hop number) = ⊤
 
 -- the body of a group: how many records there are, in two bytes, and the records in order
 abbrev pub body_of : List (Command (List ℕ)) → List ℕ

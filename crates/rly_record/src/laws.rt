@@ -2,10 +2,11 @@
 //! write cite the same definitions.
 
 ghost use Rattle.std.specs.Prelude.{◌≡◌, ◌≤◌, ◌++◌, ℕ, All, List, length};
+ghost use Rattle.std.specs.List.{AllByRecursion};
 ghost use Rattle.rly_machine.specs.declared.command.Command.{Command};
-ghost use Rattle.rly_record.specs.Spelling.{HasRecord, HaveBody, body_length, body_of, record_length, record_of};
+ghost use Rattle.rly_record.specs.Spelling.{HasRecord, HaveBody, IsShort, body_length, body_of, longest_body, longest_record, record_length, record_of};
 
-use rly_core::limits::MAX_ROUND;
+use rly_core::limits::{MAX_PAYLOAD, MAX_ROUND};
 
 /// No record begins another: whatever follows two records, from equal bytes the same command is read and the same bytes
 /// follow it.
@@ -20,13 +21,17 @@ pub fn law_no_body_begins_another()
         body_of a ++ x ≡ body_of b ++ y → (a ≡ b) × (x ≡ y) }
 {}
 
-/// Records and bodies are as long as `record_length` and `body_length` say. No record has more than 1,223 bytes, and no body more
-/// than 78,274, and both are reached: by Takes of the longest payload.
+/// Records and bodies are as long as `record_length` and `body_length` say. Where no payload has more than so many bytes, no record
+/// has more than `longest_record` of it and no body of 1 to 64 commands more than `longest_body`, and both are reached. What has a
+/// record has at most 8,192 bytes of payload.
 pub fn law_lengths()
     ensures record { (command : Command (List ℕ)) → length (record_of command) ≡ record_length length command }
     ensures body { (commands : List (Command (List ℕ))) → length (body_of commands) ≡ body_length length commands }
-    ensures longest_record { (command : Command (List ℕ)) → HasRecord command → record_length length command ≤ 1223 }
-    ensures longest_body { (commands : List (Command (List ℕ))) → HaveBody commands → body_length length commands ≤ 78274 }
-    ensures reached { (commands : List (Command (List ℕ))) → length commands ≡ MAX_ROUND
-        → All (λ command. record_length length command ≡ 1223) commands → body_length length commands ≡ 78274 }
+    ensures longest_record { (most : ℕ) (command : Command (List ℕ)) → IsShort most command → record_length length command ≤ longest_record most }
+    ensures longest_body { (most : ℕ) (commands : List (Command (List ℕ))) → length commands ≤ MAX_ROUND → AllByRecursion (IsShort most) commands
+        → body_length length commands ≤ longest_body most }
+    ensures reached { (most : ℕ) (commands : List (Command (List ℕ))) → length commands ≡ MAX_ROUND
+        → All (λ command. record_length length command ≡ longest_record most) commands → body_length length commands ≡ longest_body most }
+    ensures short { (command : Command (List ℕ)) → HasRecord command → IsShort MAX_PAYLOAD command }
+    ensures worked { (longest_body 1200 ≡ 78274) × (longest_body 8192 ≡ 525762) }
 {}

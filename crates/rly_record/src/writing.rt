@@ -8,6 +8,7 @@ ghost use Rattle.rly_record.specs.Spelling.{FitsLimited, HasRecord, HaveBody, Is
 
 use crate::kind::Kind;
 use byteorder::{BigEndian, ByteOrder};
+use rly_core::limits::MAX_PAYLOAD;
 use rly_core::{HopId, PeerId};
 use rly_machine::{Command, Content, Payload};
 use std::alloc::AllocError;
@@ -35,7 +36,7 @@ pub fn record_len<C: Content>(command: &Command<C>) -> usize
 /// Adds the record of a command at the end of `out`. It takes memory only where `out` lacks the room for it, and an `Err`
 /// leaves the bytes of `out` as they were.
 pub fn write_command(command: &Command<Payload>, out: &mut Vec<u8>) -> Result<(), AllocError>
-    requires { IsRecordable command.now }
+    requires { IsRecordable MAX_PAYLOAD command.now }
     ensures command { OnOk result (HasRecord command.now) }
     ensures written { OnOk result (out.new.items ≡ out.old.items ++ record_of command.now) }
     ensures err { OnErr result (out.new.items ≡ out.old.items) }
@@ -51,7 +52,7 @@ pub fn write_command(command: &Command<Payload>, out: &mut Vec<u8>) -> Result<()
 /// `Err` leaves the bytes of `out` as they were.
 pub fn write_body(commands: &[Command<Payload>], out: &mut Vec<u8>) -> Result<(), AllocError>
     requires count { IsIn 1 64 (length commands.now) }
-    requires recordable { All IsRecordable commands.now }
+    requires recordable { All (IsRecordable MAX_PAYLOAD) commands.now }
     ensures commands { OnOk result (HaveBody commands.now) }
     ensures written { OnOk result (out.new.items ≡ out.old.items ++ body_of commands.now) }
     ensures err { OnErr result (out.new.items ≡ out.old.items) }
@@ -66,7 +67,7 @@ pub fn write_body(commands: &[Command<Payload>], out: &mut Vec<u8>) -> Result<()
 /// How many bytes the body of the commands takes.
 fn body_len(commands: &[Command<Payload>]) -> usize
     requires count { length commands.now ≤ 64 }
-    requires recordable { All IsRecordable commands.now }
+    requires recordable { All (IsRecordable MAX_PAYLOAD) commands.now }
     ensures { result ≡ body_length length commands.now }
 {
     let mut total = COUNT_LENGTH;
@@ -79,7 +80,7 @@ fn body_len(commands: &[Command<Payload>]) -> usize
 /// Adds a body for which there is room.
 fn append_body(commands: &[Command<Payload>], out: &mut Vec<u8>)
     requires count { IsIn 1 64 (length commands.now) }
-    requires recordable { All IsRecordable commands.now }
+    requires recordable { All (IsRecordable MAX_PAYLOAD) commands.now }
     requires room { vec_len out.old + body_length length commands.now ≤ vec_capacity out.old }
     ensures commands { HaveBody commands.now }
     ensures items { out.new.items ≡ out.old.items ++ body_of commands.now }
@@ -96,7 +97,7 @@ fn append_body(commands: &[Command<Payload>], out: &mut Vec<u8>)
 /// Adds a record for which there is room.
 #[tactic(auto, unfolding(crate::specs::Spelling::record_of))]
 fn append_record(command: &Command<Payload>, out: &mut Vec<u8>)
-    requires recordable { IsRecordable command.now }
+    requires recordable { IsRecordable MAX_PAYLOAD command.now }
     requires room { vec_len out.old + record_length length command.now ≤ vec_capacity out.old }
     ensures command { HasRecord command.now }
     ensures items { out.new.items ≡ out.old.items ++ record_of command.now }

@@ -1,11 +1,11 @@
 -- What a round of the journal leaves, in the world of a relay.
-use Rattle.std.proofs.Common.{ℕ, ◌≡◌, ◌⊎◌, ◌++◌, ◌∙◌, Bool, true, false, not, List, [], Option, None, Some, ap, refl, sym, subst, inl, inr, append_assoc}
+use Rattle.std.proofs.Common.{ℕ, ◌≡◌, ◌⊎◌, ◌++◌, ◌∙◌, Bool, true, false, not, List, [], Option, None, Some, length, ap, refl, sym, subst, inl, inr, append_assoc}
 use Rattle.std.specs.List.{zip}
 use Rattle.std.specs.Prelude.{Err, IfSome, IsOk, IsSome, Ok, OnOk, Result}
 use Rattle.std.proofs.lemmas.Bool.{true≢false}
-use Rattle.std.proofs.lemmas.List.{append-nil}
+use Rattle.std.proofs.lemmas.List.{append-nil, length-map}
 use Rattle.rly_core.specs.declared.refusal.Refusal.{Refusal}
-use Rattle.rly_core.specs.declared.refusal.Refusal.TheVariants.{DeviceRead, OutOfMemory, Unsure}
+use Rattle.rly_core.specs.declared.refusal.Refusal.TheVariants.{Broken, DeviceRead, OutOfMemory, Unsure}
 use Rattle.rly_disk.specs.FaultDisk.{fault_state}
 use Rattle.rly_disk.specs.MemDisk.{mem_state}
 use Rattle.rly_disk.specs.Trace.{DeviceEvent, are_reads, is_spent}
@@ -19,7 +19,7 @@ use Rattle.rly_fetching.specs.Trials.{AreTried}
 use Rattle.rly_standing.specs.Calls.{logging}
 use Rattle.rly_journal.specs.Journal.{IsDueFor, IsRound, JournalState, MakesRound, MakesShut}
 use Rattle.rly_standing.specs.Log.{IsDurable, IsFull}
-use Rattle.rly_journal.specs.Rounds.{refusals}
+use Rattle.rly_journal.specs.Rounds.{refusal_of, refusals}
 use Rattle.rly_standing.specs.Standing.{Commands}
 use Rattle.rly_journal.specs.Calls.{IsRenewal, MayRenew, Renewal, drawing_for, heading, renewed, renewing, rounding}
 use Rattle.rly_world.specs.RelayWorld.{Batch, Round, Seal, World, Writing, calls_of}
@@ -270,6 +270,23 @@ serves old new calls answers given tail at renews trace gives round w batches re
           (subst (λ c. answers ≡ refusals shut.1 old.position c) (sym are) shut.2) shut.0 (at whole)
           (subst (λ c. MakesShut (fault_state mem_state) old new c shut.1) (sym are) shut.3)
     ]
+
+-- a round gives each call an answer
+pub answers_counted : (old new : JournalState TheDisk) (calls : List Call) (given : List Answer)
+    → IsRound (fault_state mem_state) old new calls given → length given ≡ length calls
+answers_counted old new calls given round = elim round [
+  | inl was ↦ ap length was.1 ∙ length-map calls (refusal_of Broken old.position)
+  | inr now ↦ elim now [
+    | inl shut ↦ elim shut.1.1 [
+      | inl lost ↦ ap length lost ∙ length-map calls (refusal_of OutOfMemory old.position)
+      | inr unread ↦ ap length unread ∙ length-map calls (refusal_of DeviceRead old.position)
+    ]
+    | inr next ↦ elim next [
+      | inl goes ↦ goes.1.served.count
+      | inr breaks ↦ ap length breaks.1.unsure ∙ length-map calls (refusal_of Unsure old.position)
+    ]
+  ]
+]
 
 -- what is said of an answer that is one
 pub on_ok : {T E : Type 0} (r : Result T E) {P : Type 0} → IsOk r → OnOk r P → P

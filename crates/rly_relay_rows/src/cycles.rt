@@ -19,6 +19,7 @@ pub(crate) const DEVICE: Geometry = Geometry {
         maxpacket: 1_500,
         target: 5_000,
         interval: 100_000,
+        payload: 1_200,
     },
     segments: 2,
     length: 156_908,

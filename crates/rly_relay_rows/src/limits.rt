@@ -20,6 +20,7 @@ const SMALL: Geometry = Geometry {
         maxpacket: 1_500,
         target: 5_000,
         interval: 100_000,
+        payload: 1_200,
     },
     segments: 2,
     length: 82_908,
@@ -214,40 +215,50 @@ fn open_again(rt: &impl Abort, relay: &mut Relay, torn: Torn) {
     open(rt, relay);
 }
 
-/// A relay with 16 datagrams that have their limits, of which 8 are in flight: its segment is full. It crashed between the groups.
-fn filled(rt: &impl Abort, alloc: Global) -> Result<Relay, AllocError> {
+/// A relay on a new device, which is open. Whoever has one makes one call that borrows it.
+fn new_relay(rt: &impl Abort, alloc: Global) -> Relay {
     let Ok(mut relay) = Relay::new(alloc, &SMALL, 1) else {
         panic!(rt; "no relay");
     };
     open(rt, &mut relay);
-    takes(rt, alloc, &mut relay, 1)?;
-    open_again(rt, &mut relay, Torn::AsSynced);
-    takes(rt, alloc, &mut relay, HALF.saturating_add(1))?;
-    picks_in_time(rt, alloc, &mut relay)?;
-    Ok(relay)
+    relay
+}
+
+/// The relay gets 16 datagrams that have their limits, of which 8 are in flight: its segment is full. It crashes between the groups.
+fn fill(rt: &impl Abort, alloc: Global, relay: &mut Relay) -> Result<(), AllocError> {
+    takes(rt, alloc, relay, 1)?;
+    open_again(rt, relay, Torn::AsSynced);
+    takes(rt, alloc, relay, HALF.saturating_add(1))?;
+    picks_in_time(rt, alloc, relay)
 }
 
 /// The limits are in records, and from the release on, for which a segment is opened, in its head. None expires in flight.
 #[test]
 fn limits_through_a_segment_that_is_opened(rt: HostRuntime) -> Result<(), Fail> {
     let alloc = rt.alloc();
-    let mut relay = filled(&rt, alloc)?;
-    fetches(&rt, alloc, &mut relay, 1)?;
+    let mut relay = new_relay(&rt, alloc);
+    a_segment_is_opened(&rt, alloc, &mut relay)
+}
+
+/// A full relay releases four, and later picks when most are past their limits.
+fn a_segment_is_opened(rt: &impl Abort, alloc: Global, relay: &mut Relay) -> Result<(), Fail> {
+    fill(rt, alloc, relay)?;
+    fetches(rt, alloc, relay, 1)?;
     let released = Ask::Command(Command::Release {
         hop: HOP,
         number: 4,
     });
-    let told = ask_once(&rt, alloc, &mut relay, released)?;
+    let told = ask_once(rt, alloc, relay, released)?;
     assert!(rt; matches!(told, Some(Reply::Released(4))));
-    open_again(&rt, &mut relay, Torn::AsSynced);
-    fetches(&rt, alloc, &mut relay, 5)?;
-    assert!(rt; shown(&rt, alloc, &mut relay)? == (16, 8, 4, 0, 0, 4));
-    let told = ask_once(&rt, alloc, &mut relay, pick(LATE))?;
+    open_again(rt, relay, Torn::AsSynced);
+    fetches(rt, alloc, relay, 5)?;
+    assert!(rt; shown(rt, alloc, relay)? == (16, 8, 4, 0, 0, 4));
+    let told = ask_once(rt, alloc, relay, pick(LATE))?;
     assert!(rt; told.is_some_and(is_late));
-    assert!(rt; shown(&rt, alloc, &mut relay)? == (16, 0, 5, 0, 7, 4));
-    open_again(&rt, &mut relay, Torn::AsSynced);
-    fetches(&rt, alloc, &mut relay, 5)?;
-    assert!(rt; shown(&rt, alloc, &mut relay)? == (16, 0, 5, 0, 7, 4));
+    assert!(rt; shown(rt, alloc, relay)? == (16, 0, 5, 0, 7, 4));
+    open_again(rt, relay, Torn::AsSynced);
+    fetches(rt, alloc, relay, 5)?;
+    assert!(rt; shown(rt, alloc, relay)? == (16, 0, 5, 0, 7, 4));
     Ok(())
 }
 
@@ -255,22 +266,24 @@ fn limits_through_a_segment_that_is_opened(rt: HostRuntime) -> Result<(), Fail> 
 #[test]
 fn all_expire_at_a_pick(rt: HostRuntime) -> Result<(), Fail> {
     let alloc = rt.alloc();
-    let Ok(mut relay) = Relay::new(alloc, &SMALL, 1) else {
-        panic!(rt; "no relay");
-    };
-    open(&rt, &mut relay);
+    let mut relay = new_relay(&rt, alloc);
+    all_expire(&rt, alloc, &mut relay)
+}
+
+/// Three with the same limit wait when it has passed.
+fn all_expire(rt: &impl Abort, alloc: Global, relay: &mut Relay) -> Result<(), Fail> {
     for number in 1..=3 {
-        let told = ask_once(&rt, alloc, &mut relay, take(alloc, number, LIMIT)?)?;
+        let told = ask_once(rt, alloc, relay, take(alloc, number, LIMIT)?)?;
         assert!(rt; matches!(told, Some(Reply::Taken(id)) if *id == number));
     }
-    open_again(&rt, &mut relay, Torn::AsSynced);
-    match ask_once(&rt, alloc, &mut relay, pick(LATE))? {
+    open_again(rt, relay, Torn::AsSynced);
+    match ask_once(rt, alloc, relay, pick(LATE))? {
         Some(Reply::Nothing { expired }) => assert!(rt; expired.as_slice() == [1, 2, 3].as_slice()),
         _ => panic!(rt; "something is left"),
     }
-    open_again(&rt, &mut relay, Torn::AsSynced);
-    assert!(rt; shown(&rt, alloc, &mut relay)? == (3, 0, 0, 0, 3, 0));
-    let told = ask_once(&rt, alloc, &mut relay, pick(LATE))?;
+    open_again(rt, relay, Torn::AsSynced);
+    assert!(rt; shown(rt, alloc, relay)? == (3, 0, 0, 0, 3, 0));
+    let told = ask_once(rt, alloc, relay, pick(LATE))?;
     assert!(rt; matches!(told, Some(Reply::Refused(Refusal::Empty))));
     Ok(())
 }
@@ -295,27 +308,66 @@ fn expect_either(
     Ok(made)
 }
 
-/// Each call of the device fails in turn while a full relay opens, opens a segment for a late pick, and appends it. Returns how
-/// many of them were writes and syncs, each of which makes the pick unsure.
+/// How a late pick went, whose device fails at some call.
+#[derive(Clone, Copy, PartialEq, Eq)]
+enum Went {
+    /// No call that it makes failed.
+    Picked,
+    /// A write or a sync failed.
+    Unsure,
+    /// The relay didn't open, or a read failed.
+    Not,
+}
+
+/// A full relay opens, opens a segment for a late pick, and appends it, on a device whose call of this number fails.
+fn late_pick(
+    rt: &impl Abort,
+    alloc: Global,
+    relay: &mut Relay,
+    at: u64,
+) -> Result<Went, AllocError> {
+    fill(rt, alloc, relay)?;
+    let after = After::GoesOn;
+    step(rt, relay, Step::Opening { at, torn: 0, after });
+    let told = ask_once(rt, alloc, relay, pick(LATE))?;
+    if told.is_some_and(is_late) {
+        return Ok(Went::Picked);
+    }
+    if matches!(told, Some(Reply::Refused(Refusal::Unsure))) {
+        return Ok(Went::Unsure);
+    }
+    assert!(rt; matches!(told, None | Some(Reply::Refused(Refusal::DeviceRead))));
+    Ok(Went::Not)
+}
+
+/// After it and a crash, what was picked is there.
+fn late_pick_and_crash(
+    rt: &impl Abort,
+    alloc: Global,
+    relay: &mut Relay,
+    torn: Torn,
+    at: u64,
+) -> Result<Went, AllocError> {
+    let went = late_pick(rt, alloc, relay, at)?;
+    let made = expect_either(rt, alloc, relay, torn)?;
+    assert!(rt; made || went != Went::Picked);
+    Ok(went)
+}
+
+/// The same of a new relay.
+fn fails_at(rt: &impl Abort, alloc: Global, torn: Torn, at: u64) -> Result<Went, AllocError> {
+    let mut relay = new_relay(rt, alloc);
+    late_pick_and_crash(rt, alloc, &mut relay, torn, at)
+}
+
+/// Each call of the device fails in turn. Returns how many of them were writes and syncs, each of which makes the pick unsure.
 fn fails_at_each(rt: &impl Abort, alloc: Global, torn: Torn) -> Result<u64, AllocError> {
     let mut unsure = 0u64;
     for at in 1..MOST_CALLS {
-        let mut relay = filled(rt, alloc)?;
-        let after = After::GoesOn;
-        step(rt, &mut relay, Step::Opening { at, torn: 0, after });
-        let told = ask_once(rt, alloc, &mut relay, pick(LATE))?;
-        let picked = told.is_some_and(is_late);
-        let failed = matches!(told, Some(Reply::Refused(Refusal::Unsure)));
-        assert!(rt;
-            picked || failed || matches!(told, None | Some(Reply::Refused(Refusal::DeviceRead)))
-        );
-        let made = expect_either(rt, alloc, &mut relay, torn)?;
-        assert!(rt; made || !picked);
-        if picked {
-            return Ok(unsure);
-        }
-        if failed {
-            unsure = unsure.saturating_add(1);
+        match fails_at(rt, alloc, torn, at)? {
+            Went::Picked => return Ok(unsure),
+            Went::Unsure => unsure = unsure.saturating_add(1),
+            Went::Not => {}
         }
     }
     panic!(rt; "some call fails in every round");

@@ -18,20 +18,20 @@ message_in packet = result_ok (reading packet)
 
 -- whether a message hands a datagram from a peer to this station
 abbrev pub is_datagram : StationId → StationId → Option (Message (List ℕ)) → Bool
-is_datagram own peer (Some (Data from to number payload)) = (from.0 == peer.0) && (to.0 == own.0)
+is_datagram own peer (Some (Data from to number limit payload)) = (from.0 == peer.0) && (to.0 == own.0)
 is_datagram own peer (Some (Custody from to last)) = false
 is_datagram own peer (Some (Refused from to number refusal)) = false
 is_datagram own peer None = false
 
 -- whether a message is a custody, and whether it is a refusal
 abbrev pub is_custody : Option (Message (List ℕ)) → Bool
-is_custody (Some (Data from to number payload)) = false
+is_custody (Some (Data from to number limit payload)) = false
 is_custody (Some (Custody from to last)) = true
 is_custody (Some (Refused from to number refusal)) = false
 is_custody None = false
 
 abbrev pub is_refusal : Option (Message (List ℕ)) → Bool
-is_refusal (Some (Data from to number payload)) = false
+is_refusal (Some (Data from to number limit payload)) = false
 is_refusal (Some (Custody from to last)) = false
 is_refusal (Some (Refused from to number refusal)) = true
 is_refusal None = false

@@ -85,7 +85,7 @@ pub fn run_reported<
     ensures served { IfOk result (λ r. (line : LineId) × (names : List (Option ReplyId)) × (length names ≡ length posts.items + 1)
         × IsServed D.state (new_flusher journal (new_end line names)) r.relayed.finished.last.value) }
     ensures left { IfOk result (λ r. r.relayed.finished.last.value.journal ≡ r.relayed.finished.journal) }
-    ensures worked { IfOk result (λ r. AllZip (HaveEnded L.heard L.sent T.told T.endless plan.now journal.state.params.window)
+    ensures worked { IfOk result (λ r. AllZip (HaveEnded L.heard L.sent T.told T.endless plan.now journal.state.params)
         (seated r.relayed.finished.last.value.line.of (names_of r.relayed.finished.last.value.line.lines) posts.items) r.relayed.ended.items) }
     ensures answered { IfOk result (λ r. AreAnsweredBy r.relayed.finished.last.value.line r.relayed.ended.items) }
     ensures told { IfOk result (λ r. r.relayed.is_cut ≡ is_to_end r.relayed.finished.broken r.relayed.ended.items) }

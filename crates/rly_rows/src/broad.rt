@@ -20,6 +20,7 @@ const BROAD: Geometry = Geometry {
         maxpacket: 1_500,
         target: 5_000,
         interval: 100_000,
+        payload: 1_200,
     },
     segments: 2,
     length: 150_621,

@@ -1,9 +1,9 @@
-//! A device of two segments as it was written while a journal kept every payload inline, with heads of the first form: it opens as it is,
-//! and is carried on with heads of the second. And what the same rounds write today.
+//! A device of two segments as it was written while a journal kept every payload inline, with a header of version 1 and heads of the first
+//! form: it opens as it is, and is carried on with heads of the second. And what the same rounds write today.
 use crate::comparison::{expect_replies, expect_state, machine_after};
 use crate::device::{DEVICE_E, FIRST_TAKE, SECOND_GATE, SIZE, bytes_of, device_e, opened};
 use crate::script::{Script, Step, ask_all, ask_each, take};
-use crate::stored_devices::{FIRST_HEAD, HEAD, HEADER};
+use crate::stored_devices::{FIRST_HEAD, FIRST_HEADER, HEAD, HEADER, stand_at};
 use rly_disk::MemDisk;
 use rly_journal::Journal;
 use rly_machine::{Machine, Payload};
@@ -108,9 +108,9 @@ enum Part {
     Entry(u8, u8),
 }
 
-/// The device as it was written with heads of the first form, from its beginning to its end.
+/// The device as it was written with a header of version 1 and heads of the first form, from its beginning to its end.
 const STORED: [Part; 18] = [
-    Part::Bytes(&HEADER),
+    Part::Bytes(&FIRST_HEADER),
     Part::ZeroTo(64),
     Part::Bytes(&FIRST_HEAD),
     Part::ZeroTo(164),
@@ -264,7 +264,7 @@ fn is_of_second_form(bytes: &[u8], gate: usize) -> bool {
 }
 
 /// Rounds of a release, a take, a pick and a fetch go on from there. Both segments are opened again and again, with heads of the second
-/// form.
+/// form. The header stays as it is, of version 1.
 #[test]
 fn it_is_carried_on(rt: HostRuntime) -> Result<(), Fail> {
     let alloc = rt.alloc();
@@ -272,6 +272,7 @@ fn it_is_carried_on(rt: HostRuntime) -> Result<(), Fail> {
     let mut disk = carried(&rt, alloc, &mut machine)?;
     let bytes = bytes_of(&rt, alloc, &mut disk)?;
     expect!(rt; is_of_second_form(&bytes, 64) && is_of_second_form(&bytes, SECOND_GATE));
+    expect!(rt; stand_at(&bytes, 0, &FIRST_HEADER));
     let mut journal = opened(&rt, alloc, disk);
     expect_state(&rt, alloc, &mut journal, &mut machine)?;
     Ok(())
@@ -279,7 +280,7 @@ fn it_is_carried_on(rt: HostRuntime) -> Result<(), Fail> {
 
 /// A device whose head, of the first form, has one datagram that waits, with its one byte inline.
 const OLD_INLINE: [Part; 11] = [
-    Part::Bytes(&HEADER),
+    Part::Bytes(&FIRST_HEADER),
     Part::ZeroTo(64),
     Part::Bytes(&[0xa5, 0, 0, 0, 0, 0, 0, 0, 1, 0, 0, 0, 0x6b]),
     Part::Bytes(&[0, 0, 0, 0, 0, 0, 0, 1, 0, 0, 0, 0, 0, 0, 0, 1]),

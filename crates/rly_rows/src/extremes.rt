@@ -13,7 +13,7 @@ use std::alloc::{AllocError, Global};
 use std::process::Abort;
 use std::test::Fail;
 
-/// Room for 128 datagrams of the longest, on two segments of the least length.
+/// Room for 128 datagrams of 1,200 bytes, on two segments of the least length.
 const WIDE: Geometry = Geometry {
     params: Params {
         hops: 1,
@@ -24,6 +24,7 @@ const WIDE: Geometry = Geometry {
         maxpacket: 65_535,
         target: 5_000,
         interval: 100_000,
+        payload: 1_200,
     },
     segments: 2,
     length: 235_436,
@@ -216,6 +217,116 @@ fn sixty_four_of_the_longest_in_a_round(rt: HostRuntime) -> Result<(), Fail> {
     Ok(())
 }
 
+/// Room for 64 datagrams of the longest that there are, on two segments of the least length.
+const LONG: Geometry = Geometry {
+    params: Params {
+        hops: 1,
+        peers: 1,
+        window: 64,
+        items: 64,
+        bytes: 524_288,
+        maxpacket: 65_535,
+        target: 5_000,
+        interval: 100_000,
+        payload: 8_192,
+    },
+    segments: 2,
+    length: 1_051_884,
+};
+
+/// How many bytes that device has.
+const LONG_SIZE: usize = 2_103_832;
+
+/// One of a byte more is too long. Then 64 are taken in a round, one more has no room, and 64 are picked. Those in flight are fetched.
+const LONG_FILLED: [Round; 5] = [
+    Round::Asks(&[Step::Take {
+        number: 1,
+        stamp: 0,
+        limit: 0,
+        byte: 1,
+        length: 8_193,
+    }]),
+    Round::Takes(1, 8_192),
+    Round::Asks(&[Step::Take {
+        number: 65,
+        stamp: 0,
+        limit: 0,
+        byte: 65,
+        length: 1,
+    }]),
+    Round::Picks,
+    Round::Fetches(1),
+];
+
+/// A segment is due in the next round: the offset 526,571 and 525,768 exceed 1,051,884.
+const LONG_MOVED: [Round; 1] = [Round::Asks(&[Step::Release { number: 1 }])];
+
+/// Those in flight are fetched again, and one more is taken and sent.
+const LONG_FETCHED: [Round; 2] = [
+    Round::Fetches(1),
+    Round::Asks(&[
+        Step::Show,
+        Step::Window,
+        Step::Take {
+            number: 65,
+            stamp: 0,
+            limit: 0,
+            byte: 65,
+            length: 8_192,
+        },
+        Step::Release { number: 64 },
+        Step::Pick { now: 0 },
+        Step::Fetch { number: 65 },
+        Step::Show,
+    ]),
+];
+
+/// The first group, of 525,762 bytes after its length: 64 Takes of 8,192 bytes. Its first record stands up to the payload's first byte.
+/// Behind it is that of 64 Picks, of 706 bytes.
+const LONG_GROUPS: [Found; 2] = [
+    Found {
+        place: 157,
+        bytes: &[
+            0xa5, 0, 0x08, 0x05, 0xc2, 0, 64, 1, 0, 1, 0, 0, 0, 0, 0, 0, 0, 1, 0, 1, 0, 0, 0, 0, 0,
+            0, 0, 0, 0x20, 0, 1,
+        ],
+    },
+    Found {
+        place: 525_923,
+        bytes: &[64, 0xa5, 0, 0, 0x02, 0xc2, 0, 64, 2, 0, 1],
+    },
+];
+
+/// The generation and the length of the head of the second segment: 2, and 525,712 bytes, which are 80 and 8,213 for each of 64.
+const LONG_HEAD: Found = Found {
+    place: 1_051_949,
+    bytes: &[0, 0, 0, 0, 0, 0, 0, 2, 0x80, 0x08, 0x05, 0x90],
+};
+
+/// The device once its second segment was opened.
+fn long(
+    rt: &impl Abort,
+    alloc: Global,
+    machine: &mut Machine<Payload>,
+) -> Result<MemDisk, AllocError> {
+    let disk = device_of(rt, alloc, &LONG, LONG_SIZE)?;
+    let disk = ask_opened(rt, alloc, disk, machine, &LONG_FILLED)?;
+    ask_opened(rt, alloc, disk, machine, &LONG_MOVED)
+}
+
+/// Its head has 64 datagrams. Those in flight are fetched from their group, and from the head, each time after an opening.
+#[test]
+fn sixty_four_of_8192_bytes_in_a_round(rt: HostRuntime) -> Result<(), Fail> {
+    let alloc = rt.alloc();
+    let mut machine = Machine::new(alloc, LONG.params)?;
+    let mut disk = long(&rt, alloc, &mut machine)?;
+    expect!(rt; machine.item_count() == 63 && machine.byte_count() == 516_096);
+    expect_found(&rt, alloc, &mut disk, LONG_SIZE, &LONG_GROUPS)?;
+    expect_found(&rt, alloc, &mut disk, LONG_SIZE, &[LONG_HEAD])?;
+    let _ = ask_opened(&rt, alloc, disk, &mut machine, &LONG_FETCHED)?;
+    Ok(())
+}
+
 /// Room for 16,384 datagrams and 16,777,216 bytes, on two segments of the least length.
 const FULL: Geometry = Geometry {
     params: Params {
@@ -227,6 +338,7 @@ const FULL: Geometry = Geometry {
         maxpacket: 65_535,
         target: 5_000,
         interval: 100_000,
+        payload: 1_200,
     },
     segments: 2,
     length: 17_297_964,

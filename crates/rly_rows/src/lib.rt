@@ -40,6 +40,8 @@ mod growths;
 #[cfg(test)]
 mod limits;
 #[cfg(test)]
+mod payloads;
+#[cfg(test)]
 mod refused_devices;
 #[cfg(test)]
 mod refused_memory;

@@ -13,19 +13,51 @@ use std::test::Fail;
 /// A device that a row begins with.
 #[derive(Clone, Copy, PartialEq, Eq)]
 enum Base {
-    /// Device E as it was formatted.
+    /// Device E as it was formatted: its header is of version 2.
     Formatted,
     /// Device E once the first datagram was taken.
     Taken,
-    /// Device E as it was formatted with a head of the first form.
+    /// Device E as it was formatted with a header of version 1 and a head of the first form.
     Stored,
     /// The same once the first datagram was taken.
     StoredTaken,
 }
 
-/// Changes of device E, and of device E after its first take, with heads of both forms: how many bytes stay, which bytes are set, and why
+/// What may stand after a header of version 2.
+const AFTER_VERSION_2: [(usize, u8); 11] = [
+    (53, 0xff),
+    (54, 0xff),
+    (55, 0xff),
+    (56, 0xff),
+    (57, 0xff),
+    (58, 0xff),
+    (59, 0xff),
+    (60, 0xff),
+    (61, 0xff),
+    (62, 0xff),
+    (63, 0xff),
+];
+
+/// And after one of version 1, in which the places of the longest payload hold anything too.
+const AFTER_VERSION_1: [(usize, u8); 13] = [
+    (51, 0xff),
+    (52, 0xff),
+    (53, 0xff),
+    (54, 0xff),
+    (55, 0xff),
+    (56, 0xff),
+    (57, 0xff),
+    (58, 0xff),
+    (59, 0xff),
+    (60, 0xff),
+    (61, 0xff),
+    (62, 0xff),
+    (63, 0xff),
+];
+
+/// Changes of device E, and of device E after its first take, with headers of both versions and heads of both forms: how many bytes stay, which bytes are set, and why
 /// it isn't opened. `None` opens to the empty state.
-const ROWS: [(Base, usize, &[(usize, u8)], Option<OpenFault>); 28] = [
+const ROWS: [(Base, usize, &[(usize, u8)], Option<OpenFault>); 40] = [
     (Base::Formatted, SIZE, &[], None),
     (Base::Formatted, 63, &[], Some(OpenFault::NotADevice)),
     (
@@ -34,12 +66,28 @@ const ROWS: [(Base, usize, &[(usize, u8)], Option<OpenFault>); 28] = [
         &[(0, 0x00)],
         Some(OpenFault::NotADevice),
     ),
+    // as of version 1 its longest payload has 1,200 bytes too
+    (Base::Formatted, SIZE, &[(10, 0x01)], None),
     (
         Base::Formatted,
         SIZE,
-        &[(10, 0x02)],
+        &[(10, 0x03)],
         Some(OpenFault::NotADevice),
     ),
+    // the longest payload has 0 bytes, and 8,193
+    (
+        Base::Formatted,
+        SIZE,
+        &[(51, 0x00), (52, 0x00)],
+        Some(OpenFault::BadGeometry),
+    ),
+    (
+        Base::Formatted,
+        SIZE,
+        &[(51, 0x20), (52, 0x01)],
+        Some(OpenFault::BadGeometry),
+    ),
+    (Base::Formatted, SIZE, &AFTER_VERSION_2, None),
     (
         Base::Formatted,
         SIZE,
@@ -139,8 +187,54 @@ const ROWS: [(Base, usize, &[(usize, u8)], Option<OpenFault>); 28] = [
         &[(164, 0x05)],
         Some(OpenFault::Damaged(157)),
     ),
-    // heads of the first form
+    // the header comes first, whatever was taken
+    (
+        Base::Taken,
+        SIZE,
+        &[(51, 0x00), (52, 0x00)],
+        Some(OpenFault::BadGeometry),
+    ),
+    // a header of version 1, and heads of the first form
     (Base::Stored, SIZE, &[], None),
+    (Base::Stored, SIZE, &AFTER_VERSION_1, None),
+    // other versions
+    (
+        Base::Stored,
+        SIZE,
+        &[(10, 0x00)],
+        Some(OpenFault::NotADevice),
+    ),
+    (
+        Base::Stored,
+        SIZE,
+        &[(10, 0x03)],
+        Some(OpenFault::NotADevice),
+    ),
+    (
+        Base::Stored,
+        SIZE,
+        &[(9, 0x01)],
+        Some(OpenFault::NotADevice),
+    ),
+    // as of version 2 its longest payload has 0 bytes, or 1,200, or 1,201, for which the segments are 64 bytes too short
+    (
+        Base::Stored,
+        SIZE,
+        &[(10, 0x02)],
+        Some(OpenFault::BadGeometry),
+    ),
+    (
+        Base::Stored,
+        SIZE,
+        &[(10, 0x02), (51, 0x04), (52, 0xb0)],
+        None,
+    ),
+    (
+        Base::Stored,
+        SIZE,
+        &[(10, 0x02), (51, 0x04), (52, 0xb1)],
+        Some(OpenFault::BadGeometry),
+    ),
     (
         Base::Stored,
         SIZE,

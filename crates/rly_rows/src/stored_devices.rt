@@ -1,11 +1,19 @@
-//! Devices byte by byte, as docs/FORMATS.md writes them out: with heads of the first form, as they were written before there were limits,
-//! and of the second.
+//! Devices byte by byte, as docs/FORMATS.md writes them out: with a header of version 1 and heads of the first form, as they were written
+//! before there were limits and longer payloads, and with a header of version 2 and heads of the second form.
 use crate::device::{SECOND_GATE, SIZE, formatted, taken};
 use std::alloc::{AllocError, Global};
 use std::test::Fail;
 
-/// Places 0 to 50, the header: the gate, the mark, the counts, the segments' length, and the limits.
-pub(crate) const HEADER: [u8; 51] = [
+/// Places 0 to 52, the header: the gate, the text, version 2, the counts, the segments' length, the limits, and the longest payload.
+pub(crate) const HEADER: [u8; 53] = [
+    0xa5, 0x52, 0x4c, 0x59, 0x44, 0x45, 0x56, 0x30, 0x31, 0x00, 0x02, 0x00, 0x01, 0x00, 0x01, 0x00,
+    0x08, 0x00, 0x02, 0x00, 0x01, 0x43, 0xdc, 0x00, 0x00, 0x00, 0x10, 0x00, 0x00, 0x10, 0x00, 0x00,
+    0x00, 0x05, 0xdc, 0x00, 0x00, 0x00, 0x00, 0x00, 0x00, 0x13, 0x88, 0x00, 0x00, 0x00, 0x00, 0x00,
+    0x01, 0x86, 0xa0, 0x04, 0xb0,
+];
+
+/// The same of version 1, which has no field for the longest payload: places 0 to 50.
+pub(crate) const FIRST_HEADER: [u8; 51] = [
     0xa5, 0x52, 0x4c, 0x59, 0x44, 0x45, 0x56, 0x30, 0x31, 0x00, 0x01, 0x00, 0x01, 0x00, 0x01, 0x00,
     0x08, 0x00, 0x02, 0x00, 0x01, 0x43, 0xdc, 0x00, 0x00, 0x00, 0x10, 0x00, 0x00, 0x10, 0x00, 0x00,
     0x00, 0x05, 0xdc, 0x00, 0x00, 0x00, 0x00, 0x00, 0x00, 0x13, 0x88, 0x00, 0x00, 0x00, 0x00, 0x00,
@@ -25,9 +33,9 @@ pub(crate) const FIRST_GROUP: [u8; 32] = [
     0x41, 0,
 ];
 
-/// Device E as it was formatted with a head of the first form.
+/// Device E as it was formatted with a header of version 1 and a head of the first form.
 pub(crate) fn stored(alloc: Global) -> Result<Vec<u8>, AllocError> {
-    let mut bytes = Vec::from_slice(alloc, &HEADER)?;
+    let mut bytes = Vec::from_slice(alloc, &FIRST_HEADER)?;
     bytes.resize(64, 0)?;
     bytes.extend_from_slice(&FIRST_HEAD)?;
     bytes.resize(SIZE, 0)?;
@@ -36,7 +44,7 @@ pub(crate) fn stored(alloc: Global) -> Result<Vec<u8>, AllocError> {
 
 /// The same once the first datagram was taken.
 pub(crate) fn stored_taken(alloc: Global) -> Result<Vec<u8>, AllocError> {
-    let mut bytes = Vec::from_slice(alloc, &HEADER)?;
+    let mut bytes = Vec::from_slice(alloc, &FIRST_HEADER)?;
     bytes.resize(64, 0)?;
     bytes.extend_from_slice(&FIRST_HEAD)?;
     bytes.resize(164, 0)?;
@@ -60,7 +68,7 @@ fn a_device_that_was_formatted(rt: HostRuntime) -> Result<(), Fail> {
     let bytes = formatted(&rt, rt.alloc())?;
     assert!(rt; bytes.len() == SIZE);
     expect!(rt; stand_at(&bytes, 0, &HEADER));
-    expect!(rt; are_zero(&bytes, 51, 13));
+    expect!(rt; are_zero(&bytes, 53, 11));
     expect!(rt; stand_at(&bytes, 64, &HEAD));
     expect!(rt; are_zero(&bytes, 77, 80));
     expect!(rt; are_zero(&bytes, 157, SIZE - 157));

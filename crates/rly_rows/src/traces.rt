@@ -67,7 +67,7 @@ const FORMATTED: [Made; 14] = [
     Made::Sync,
     Made::Write(65, 93),
     Made::Sync,
-    Made::Write(1, 50),
+    Made::Write(1, 52),
     Made::Sync,
     Made::Write(64, 1),
     Made::Sync,
@@ -89,7 +89,7 @@ fn a_format(rt: HostRuntime) -> Result<(), Fail> {
 const OPENED_AND_TAKEN: [Made; 11] = [
     // The header, both generations, the head and its body, and the closed gate after it.
     Made::Sync,
-    Made::Read(0, 51),
+    Made::Read(0, 53),
     Made::Read(64, 9),
     Made::Read(SECOND_GATE as u64, 9),
     Made::Read(65, 12),
@@ -105,7 +105,7 @@ const OPENED_AND_TAKEN: [Made; 11] = [
 /// An opening after that.
 const OPENED: [Made; 10] = [
     Made::Sync,
-    Made::Read(0, 51),
+    Made::Read(0, 53),
     Made::Read(64, 9),
     Made::Read(SECOND_GATE as u64, 9),
     Made::Read(65, 12),

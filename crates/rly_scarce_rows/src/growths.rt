@@ -3,4 +3,4 @@
 mod pairs;
 mod records;
 mod seats;
-mod workers;
+pub(crate) mod workers;

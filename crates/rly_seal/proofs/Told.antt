@@ -57,7 +57,7 @@ written_packet key packet rest =
 -- a link with a key that was given this, and gave this to the link below, tells one packet more
 pub sent_more_in : {L : Type 0} (sent : L → Option (List (List ℕ))) (view : SealedView L) (keys : Keys) (given more : List (List ℕ))
     (old new : Option (List (List ℕ))) (packet bytes : List ℕ)
-    → keys ≡ view.keys → given ≡ view.given → old ≡ sent view.link → more ≡ given ++ packet ∷ [] → length packet ≤ 1300
+    → keys ≡ view.keys → given ≡ view.given → old ≡ sent view.link → more ≡ given ++ packet ∷ [] → length packet ≤ 8300
     → bytes ≡ sealed keys.first packet → TellsMore old new (bytes ∷ [])
     → TellsMore (all_sent_with view.keys view.given (sent view.link)) (all_sent_with keys more new) (packet ∷ [])
 sent_more_in sent view keys given more old new packet bytes of_keys of_given of_old of_more fits of_bytes told =

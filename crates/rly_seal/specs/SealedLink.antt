@@ -30,7 +30,7 @@ all_heard_with keys told = option_map (map (heard_with keys)) told
 
 -- a packet that is no longer than a link's may be
 abbrev pub is_short : List ℕ → Bool
-is_short packet = nat_le (length packet) 1300
+is_short packet = nat_le (length packet) 8300
 
 -- what the link below is given for packets: each sealed under the key, but for those that are too long
 abbrev pub all_sealed : List ℕ → List (List ℕ) → List (List ℕ)

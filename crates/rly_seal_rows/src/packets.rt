@@ -78,7 +78,7 @@ fn a_packet_without_a_tag_is_not_heard(rt: HostRuntime) -> Result<(), Fail> {
     let key = key_of(LINE)?;
     expect!(rt; key.unseal(&CUSTODY).is_none());
     expect!(rt; key.unseal(&[]).is_none());
-    expect!(rt; key.unseal(&[0; 1_300]).is_none());
+    expect!(rt; key.unseal(&[0; 8_300]).is_none());
     Ok(())
 }
 

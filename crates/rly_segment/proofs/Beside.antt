@@ -11,7 +11,7 @@ use Rattle.rly_segment.specs.Heads.{segment_place}
 
 -- a range that lies in the header's fields or in the segments
 abbrev pub IsPart : Geometry → ℕ → ℕ → Type 0
-IsPart g place n = (place + n ≤ 51) ⊎ ((64 ≤ place) × (place + n ≤ device_length g))
+IsPart g place n = (place + n ≤ 53) ⊎ ((64 ≤ place) × (place + n ≤ device_length g))
 
 same_beside : (g : Geometry) (bytes : List ℕ) → IsSameBeside g bytes bytes
 same_beside g bytes = record { same_length = refl; header = λ i least most. refl; behind = λ i least. refl }

@@ -1,6 +1,7 @@
 -- What a crash leaves of a format.
 use Rattle.std.proofs.Common.{◌≡◌, ◌↔◌, ◌≤◌, ◌<◌, ◌+◌, ◌++◌, ◌∙◌, ℕ, Bool, true, false, IsTrue, List, [], ◌∷◌, length, get_or, arith, ap, refl, sym, subst, inl, inr, ⊎_elim}
 use Rattle.std.proofs.lemmas.Bool.{cases_eq, false≢true}
+use Rattle.rly_core.specs.Bounds.{IsIn}
 use Rattle.rly_core.specs.declared.params.Geometry.{Geometry}
 use Rattle.rly_disk.specs.DiskModel.{DiskState, LeavesOnly, SameOutside, Settled, overwritten}
 use Rattle.rly_disk.specs.Trace.{AllWrites, Makes, Read, images_within, seen_at_end}
@@ -23,7 +24,7 @@ use Rattle.rly_segment.proofs.Beside.{IsPart, beside_leaves, gate_part, head_par
 use Rattle.rly_segment.proofs.Filling.{filling_all, filling_size, filling_synced, unopened}
 use Rattle.rly_segment.proofs.Gates.{stays_closed}
 use Rattle.rly_segment.proofs.HeadWriting.{new_head_room}
-use Rattle.rly_segment.proofs.HeaderFields.{geometry_read, mark_read}
+use Rattle.rly_segment.proofs.HeaderFields.{geometry_read, mark_read, version_read}
 use Rattle.rly_segment.proofs.Replacing.{closing_closed, closing_same, closing_then}
 use Rattle.rly_segment.proofs.Segments.{segment_within}
 
@@ -42,6 +43,7 @@ module _ (g : Geometry) (head : List ℕ) (is_head : head ≡ head_of 1 (new_sta
           long = omega (arith, geometry.room, same.same_length);
           gate = opened;
           mark = mark_read g image header;
+          version = subst (IsIn 1 2) (sym (version_read g image header)) (omega arith, omega arith);
         };
         geometry = geometry_read g image geometry.params (omega (arith, geometry.segments.1)) (omega (arith, geometry.length)) header;
         fits = subst (IsLayout g) (sym same.same_length) geometry;

@@ -37,7 +37,7 @@ closed_next g segment size old new geometry there long count written so_far t be
 
 -- all but the header's gate
 pub filled : (g : Geometry) (size : ℕ) (head fields first second third last : List ℕ) → IsLayout g size → 1 + length head ≤ g.length → length first ≡ size
-    → fields ≡ header_of g → length (header_of g) ≡ 50 → NoneIsOpen first g
+    → fields ≡ header_of g → length (header_of g) ≡ 52 → NoneIsOpen first g
     → second ≡ overwritten 65 head first → third ≡ overwritten 1 fields second → last ≡ overwritten 64 (open_gate ∷ []) third → IsUnopened g head last
 filled g size head fields first second third last geometry room count is_header header_length none is_second is_third is_last = record {
   header = part 64 1 third_last 1 (length (header_of g)) (inl (omega (arith, header_length)))
@@ -49,7 +49,7 @@ filled g size head fields first second third last geometry room count is_header 
   others = λ t above below.
       let far : 65 + length head ≤ segment_place g t = omega (arith, segment_behind g 0 t above, room) in
       stays_closed (segment_place g t) 64 1 third last (inr (omega (arith, far))) third_last
-      (stays_closed (segment_place g t) 1 50 second third (inr (omega (arith, far))) second_third
+      (stays_closed (segment_place g t) 1 52 second third (inr (omega (arith, far))) second_third
       (stays_closed (segment_place g t) 65 (length head) first second (inr (omega (arith, far))) first_second (none t below)));
 }
   where
@@ -65,10 +65,10 @@ filled g size head fields first second third last geometry room count is_header 
     second_count : length second ≡ size
     second_count = first_second.same_length ∙ count
 
-    fields_length : length fields ≡ 50
+    fields_length : length fields ≡ 52
     fields_length = ap length is_header ∙ header_length
 
-    second_third : SameOutside 1 50 second third
+    second_third : SameOutside 1 52 second third
     second_third = subst (λ n. SameOutside 1 n second third) fields_length (subst (SameOutside 1 (length fields) second) (sym is_third) (overwritten_outside 1 fields second (omega (arith, long, second_count, fields_length))))
 
     third_count : length third ≡ size
@@ -81,7 +81,7 @@ filled g size head fields first second third last geometry room count is_header 
     opened = ap (λ l. get_or l 64 0) is_last ∙ overwritten_in 64 (open_gate ∷ []) third (omega (arith, long, third_count, room)) 64 (omega arith) (omega arith)
 
     head_third : StandsAt third 65 head
-    head_third = part 1 50 second_third 65 (length head) (inr (omega arith))
+    head_third = part 1 52 second_third 65 (length head) (inr (omega arith))
         ∙ ap (λ l. take (length head) (drop 65 l)) is_second ∙ part-overwritten 65 head first (omega (arith, long, room, count))
 
 -- ---- the calls that fill it
@@ -135,7 +135,7 @@ module _ (g : Geometry) (size : ℕ) (geometry : IsLayout g size) where
 
 -- where it writes
 pub filling_all : (IsRange : ℕ → ℕ → Type 0) (g : Geometry) (head : List ℕ) → ((t : ℕ) → t < g.segments → IsRange (segment_place g t) 1)
-    → IsRange 65 (length head) → IsRange 1 50 → IsRange 64 1 → AllWrites IsRange (filling g head)
+    → IsRange 65 (length head) → IsRange 1 52 → IsRange 64 1 → AllWrites IsRange (filling g head)
 filling_all IsRange g head gates first fields gate =
     let header = subst (IsRange 1) (sym (length-header g)) fields in
     all_joined IsRange (closing_gates g g.segments) (settling 65 head ++ (settling 1 (header_of g) ++ settling 64 (open_gate ∷ [])))

@@ -12,6 +12,7 @@ use Rattle.rly_checkpoint.specs.declared.head_form.HeadForm.{HeadForm}
 use Rattle.rly_checkpoint.specs.declared.head_form.HeadForm.TheVariants.{First, Second}
 use Rattle.rly_gate.proofs.Holding.{number_once}
 use Rattle.rly_gate.specs.Group.{StandsAt}
+use Rattle.rly_reclaim.specs.Room.{group_room}
 use Rattle.rly_segment.specs.Answers.{HoldsNoHeadOf}
 use Rattle.rly_segment.specs.Heads.{HoldsHeadOf, IsHeadOf, head_spelled, segment_place}
 use Rattle.rly_segment.proofs.Standing.{stands_back, stands_both, stands_front}
@@ -84,7 +85,7 @@ module _ {P : Type 0} (len : P → ℕ) (form : HeadForm → P → List ℕ) (Ha
       (both.0, marks.0, marks.1)
 
   -- no head is longer than its segment
-  pub too_long : g.length < 13 + count + 78280 → HoldsNoHeadOf len form HasForm image g segment
+  pub too_long : g.length < 13 + count + group_room g.params.payload → HoldsNoHeadOf len form HasForm image g segment
   too_long past v other s has holds = omega (arith, holds.head.room, (start_is v other s holds).2)
 
   -- so many bytes after them were read too
@@ -122,7 +123,7 @@ module _ {P : Type 0} (len : P → ℕ) (form : HeadForm → P → List ℕ) (Ha
 
     -- the head of a state whose checkpoint the body is
     pub holds_head : (found : State P) → length body ≡ count → body ≡ state_spelled len (spelled_by form which) found → found.params ≡ g.params → IsSound len found → IsOfForm which found
-        → IsIn 1 (found.seq + 1) generation → 13 + count + 78280 ≤ g.length → HoldsHeadOf len (spelled_by form which) image g segment generation found
+        → IsIn 1 (found.seq + 1) generation → 13 + count + group_room g.params.payload ≤ g.length → HoldsHeadOf len (spelled_by form which) image g segment generation found
     holds_head found long checkpoint params sound plain within room = record {
       bytes = head_stands len (spelled_by form which) image (segment_place g segment) generation count body found
           (subst (λ at. StandsAt image (at + 1) (start_of generation (mark_of which + count))) where_it_is start) body_read long checkpoint;

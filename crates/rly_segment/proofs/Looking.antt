@@ -10,7 +10,7 @@ use Rattle.rly_disk.proofs.Traces.{makes_joined, makes_nothing}
 use Rattle.rly_segment.specs.Calls.{generation_reads, head_reads, header_reads}
 use Rattle.rly_segment.specs.Heads.{segment_place}
 
-are_header_reads : (long : Bool) → are_reads (if long then Read 0 51 ∷ [] else []) ≡ true
+are_header_reads : (long : Bool) → are_reads (if long then Read 0 53 ∷ [] else []) ≡ true
 are_header_reads true = refl
 are_header_reads false = refl
 
@@ -22,8 +22,8 @@ module _ {D : Type 0} (state : D → DiskState) {a b : D} {whole : Bool} where
   generations_only g n made = reads_of state (generation_reads g n) (each_reads (λ t. Read (segment_place g t) 9 ∷ []) (λ t. refl) n) made
 
   -- a header of a device that is long enough
-  pub header_read : (size : ℕ) → 64 ≤ size → Makes state (Read 0 51 ∷ []) whole a b → Makes state (header_reads size) whole a b
-  header_read size long made = subst (λ t. Makes state (if t then Read 0 51 ∷ [] else []) whole a b) (sym (le-leb 64 size long)) made
+  pub header_read : (size : ℕ) → 64 ≤ size → Makes state (Read 0 53 ∷ []) whole a b → Makes state (header_reads size) whole a b
+  header_read size long made = subst (λ t. Makes state (if t then Read 0 53 ∷ [] else []) whole a b) (sym (le-leb 64 size long)) made
 
   -- a head with its body
   pub head_made : {e : D} (p place n : ℕ) → p ≡ place → Makes state (Read (p + 1) 12 ∷ []) true e a → Makes state (Read (p + 13) n ∷ []) whole a b
@@ -42,4 +42,4 @@ module _ {D : Type 0} (state : D → DiskState) {a b : D} {whole : Bool} where
 pub header_unread : {D : Type 0} (state : D → DiskState) (a : D) (size : ℕ) → size < 64 → Makes state (header_reads size) true a a
 header_unread state a size short =
     let no : nat_le 64 size ≡ false = grind (arith, nat_tests) in
-    subst (λ t. Makes state (if t then Read 0 51 ∷ [] else []) true a a) (sym no) (makes_nothing state a)
+    subst (λ t. Makes state (if t then Read 0 53 ∷ [] else []) true a a) (sym no) (makes_nothing state a)

@@ -75,7 +75,7 @@ formats (Err format.Device) = false
 
 -- a header is read where the device is as long as one
 abbrev pub header_reads : ℕ → List DeviceEvent
-header_reads size = if nat_le 64 size then Read 0 51 ∷ [] else []
+header_reads size = if nat_le 64 size then Read 0 53 ∷ [] else []
 
 abbrev pub reads_header : {A : Type 0} → Result A HeaderFault → Bool
 reads_header (Ok geometry) = true

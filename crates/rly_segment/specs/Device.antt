@@ -1,5 +1,5 @@
 -- The header of a device: what it is, and its geometry (docs/FORMATS.md, "The device").
-use Rattle.std.specs.Prelude.{ℕ, ◌+◌, ◌*◌, ◌<◌, ◌≤◌, ◌^◌, List, [], ◌∷◌, ◌++◌, length, take, drop}
+use Rattle.std.specs.Prelude.{ℕ, ◌+◌, ◌*◌, ◌<◌, ◌≤◌, ◌^◌, ◌==◌, if◌then◌else◌, List, [], ◌∷◌, ◌++◌, length, take, drop}
 use Rattle.byteorder.specs.Endian.{big_bytes, big_number}
 use Rattle.rly_core.specs.Bounds.{IsIn}
 use Rattle.rly_core.specs.Limits.{IsWithinLimits}
@@ -7,20 +7,29 @@ use Rattle.rly_core.specs.declared.params.Geometry.{Geometry}
 use Rattle.rly_gate.specs.Group.{IsOpen, StandsAt}
 use Rattle.rly_reclaim.specs.Room.{Fits}
 
--- RLYDEV01 and the version, 1
-abbrev pub device_mark : List ℕ
-device_mark = 0x52 ∷ 0x4c ∷ 0x59 ∷ 0x44 ∷ 0x45 ∷ 0x56 ∷ 0x30 ∷ 0x31 ∷ 0 ∷ 1 ∷ []
-
--- what stands after the header's gate
-unfoldable pub header_of : Geometry → List ℕ
-header_of g =
-    device_mark ++ big_bytes 2 g.params.hops ++ big_bytes 2 g.params.peers ++ big_bytes 2 g.params.window
-    ++ big_bytes 2 g.segments ++ big_bytes 4 g.length ++ big_bytes 4 g.params.items ++ big_bytes 4 g.params.bytes
-    ++ big_bytes 4 g.params.maxpacket ++ big_bytes 8 g.params.target ++ big_bytes 8 g.params.interval
+-- RLYDEV01
+abbrev pub device_text : List ℕ
+device_text = 0x52 ∷ 0x4c ∷ 0x59 ∷ 0x44 ∷ 0x45 ∷ 0x56 ∷ 0x30 ∷ 0x31 ∷ []
 
 -- the number that stands in so many bytes at a place
 abbrev pub number_in : List ℕ → ℕ → ℕ → ℕ
 number_in image place width = big_number width (take width (drop place image))
+
+-- the version of a header, after the text
+abbrev pub version_in : List ℕ → ℕ
+version_in image = number_in image 9 2
+
+-- the longest payload by a header: version 2 has a field for it; version 1, of programs before it, means 1,200
+abbrev pub longest_in : List ℕ → ℕ
+longest_in image = if version_in image == 2 then number_in image 51 2 else 1200
+
+-- what stands after the header's gate where it is written: version 2
+unfoldable pub header_of : Geometry → List ℕ
+header_of g =
+    device_text ++ big_bytes 2 2 ++ big_bytes 2 g.params.hops ++ big_bytes 2 g.params.peers
+    ++ big_bytes 2 g.params.window ++ big_bytes 2 g.segments ++ big_bytes 4 g.length ++ big_bytes 4 g.params.items
+    ++ big_bytes 4 g.params.bytes ++ big_bytes 4 g.params.maxpacket ++ big_bytes 8 g.params.target
+    ++ big_bytes 8 g.params.interval ++ big_bytes 2 g.params.payload
 
 -- the geometry that the fields of a header name
 unfoldable pub geometry_in : List ℕ → Geometry
@@ -34,16 +43,18 @@ geometry_in image = record {
     maxpacket = number_in image 31 4;
     target = number_in image 35 8;
     interval = number_in image 43 8;
+    payload = longest_in image;
   };
   segments = number_in image 17 2;
   length = number_in image 19 4;
 }
 
--- the bytes of a device that has a header: the gate is open, and the mark stands after it
+-- the bytes of a device that has a header: the gate is open, the text stands after it, and then version 1 or 2
 pub record IsDevice (image : List ℕ) : Type 0 where
   pub long : 64 ≤ length image
   pub gate : IsOpen image 0
-  pub mark : StandsAt image 1 device_mark
+  pub mark : StandsAt image 1 device_text
+  pub version : IsIn 1 2 (version_in image)
 
 -- how many bytes of a device are used
 abbrev pub device_length : Geometry → ℕ

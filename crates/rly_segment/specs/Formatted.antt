@@ -18,7 +18,7 @@ pub record IsFormatted (g : Geometry) (image : List ℕ) : Type 0 where
 -- last segment
 pub record IsSameBeside (g : Geometry) (old image : List ℕ) : Type 0 where
   pub same_length : length image ≡ length old
-  pub header : (i : ℕ) → 51 ≤ i → i < 64 → slice_index image i ≡ slice_index old i
+  pub header : (i : ℕ) → 53 ≤ i → i < 64 → slice_index image i ≡ slice_index old i
   pub behind : (i : ℕ) → device_length g ≤ i → slice_index image i ≡ slice_index old i
 
 -- what a crash within `format` may leave: the old device, none, or the new one

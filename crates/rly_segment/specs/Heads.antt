@@ -75,7 +75,7 @@ pub record IsHeadOf {P : Type 0} (len : P → ℕ) (form : Spelled P) (g : Geome
   pub params : s.params ≡ g.params
   pub least : 1 ≤ generation
   pub most : generation ≤ s.seq + 1
-  pub room : gate_after len form g segment s + group_room ≤ segment_end g segment
+  pub room : gate_after len form g segment s + group_room g.params.payload ≤ segment_end g segment
 
 -- the head of a segment holds a state
 pub record HoldsHeadOf {P : Type 0} (len : P → ℕ) (form : Spelled P) (image : List ℕ) (g : Geometry)

@@ -6,7 +6,7 @@ use Rattle.rly_core.specs.declared.params.Geometry.{Geometry}
 use Rattle.rly_core.specs.declared.params.Params.{Params}
 use Rattle.rly_disk.specs.DiskModel.{SameOutside}
 use Rattle.rly_gate.specs.Group.{IsClosed, IsOpen, StandsAt, open_gate}
-use Rattle.rly_segment.specs.Device.{device_mark, header_of}
+use Rattle.rly_segment.specs.Device.{device_text, header_of}
 use Rattle.rly_segment.specs.Heads.{segment_place}
 
 -- within the closing of a gate: all other bytes as they were, and where the gate is open, it was
@@ -26,14 +26,14 @@ pub record IsUnopened (g : Geometry) (behind image : List ℕ) : Type 0 where
   pub head : StandsAt image (segment_place g 0) (open_gate ∷ behind)
   pub others : (t : ℕ) → 0 < t → t < g.segments → IsClosed image (segment_place g t)
 
--- the first fields of a header: the mark, the counts and the segments' length
+-- the first fields of a header: the text, the version, the counts and the segments' length
 abbrev pub shape_of : Geometry → List ℕ
 shape_of g =
-    device_mark ++ big_bytes 2 g.params.hops ++ big_bytes 2 g.params.peers ++ big_bytes 2 g.params.window
-    ++ big_bytes 2 g.segments ++ big_bytes 4 g.length
+    device_text ++ big_bytes 2 2 ++ big_bytes 2 g.params.hops ++ big_bytes 2 g.params.peers
+    ++ big_bytes 2 g.params.window ++ big_bytes 2 g.segments ++ big_bytes 4 g.length
 
 -- the fields after them
 abbrev pub limits_of : Params → List ℕ
 limits_of p =
     big_bytes 4 p.items ++ big_bytes 4 p.bytes ++ big_bytes 4 p.maxpacket ++ big_bytes 8 p.target
-    ++ big_bytes 8 p.interval
+    ++ big_bytes 8 p.interval ++ big_bytes 2 p.payload

@@ -11,7 +11,7 @@ ghost use Rattle.rly_segment.specs.Heads.{head_of};
 ghost use Rattle.rly_segment.specs.HelpersWriting.{limits_of, shape_of};
 
 use crate::head_bytes::head_bytes;
-use crate::header::{DEVICE_MARK, is_layout};
+use crate::header::{DEVICE_TEXT, VERSION, is_layout};
 use crate::layout::{FIRST_SEGMENT, segment_place};
 use crate::opening::close_gate;
 use byteorder::{BigEndian, ByteOrder};
@@ -24,11 +24,11 @@ use std::alloc::{AllocError, Global};
 /// The bytes of the header after its gate.
 const FIELDS_LENGTH: usize = SHAPE_LENGTH + LIMITS_LENGTH;
 
-/// The bytes of the mark, the counts and the segments' length.
+/// The bytes of the text, the version, the counts and the segments' length.
 const SHAPE_LENGTH: usize = 22;
 
 /// The bytes of the fields after them.
-const LIMITS_LENGTH: usize = 28;
+const LIMITS_LENGTH: usize = 30;
 
 /// Why a device was not formatted.
 #[derive(Clone, Copy, Debug, PartialEq, Eq)]
@@ -124,7 +124,7 @@ fn header_fields(geometry: &Geometry) -> [u8; FIELDS_LENGTH]
     fields
 }
 
-/// The mark, and how many of each there are.
+/// The text, the version, and how many of each there are.
 fn shape_fields(geometry: &Geometry) -> [u8; SHAPE_LENGTH]
     requires params { IsWithinLimits geometry.now.params }
     requires segments { geometry.now.segments < 2 ^ 16 }
@@ -132,7 +132,8 @@ fn shape_fields(geometry: &Geometry) -> [u8; SHAPE_LENGTH]
     ensures { result ≡ shape_of geometry.now }
 {
     let mut fields = [0; SHAPE_LENGTH];
-    fields[..10].copy_from_slice(&DEVICE_MARK);
+    fields[..8].copy_from_slice(&DEVICE_TEXT);
+    BigEndian::write_u16(&mut fields[8..], VERSION);
     BigEndian::write_u16(&mut fields[10..], geometry.params.hops as u16);
     BigEndian::write_u16(&mut fields[12..], geometry.params.peers as u16);
     BigEndian::write_u16(&mut fields[14..], geometry.params.window as u16);
@@ -152,5 +153,6 @@ fn limit_fields(params: &Params) -> [u8; LIMITS_LENGTH]
     BigEndian::write_u32(&mut fields[8..], params.maxpacket as u32);
     BigEndian::write_u64(&mut fields[12..], params.target);
     BigEndian::write_u64(&mut fields[20..], params.interval);
+    BigEndian::write_u16(&mut fields[28..], params.payload as u16);
     fields
 }

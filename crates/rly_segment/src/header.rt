@@ -1,9 +1,10 @@
 ghost use Rattle.std.specs.Prelude.{◌≡◌, ◌↔◌, IfOk, IsTrue, length};
 ghost use Rattle.rly_disk.specs.Trace.{Makes};
+ghost use Rattle.rly_core.specs.Bounds.{IsIn};
 ghost use Rattle.rly_gate.specs.Group.{IsOpen, StandsAt};
 ghost use Rattle.rly_segment.specs.Answers.{IsReadHeader};
 ghost use Rattle.rly_segment.specs.Calls.{header_reads, reads_header};
-ghost use Rattle.rly_segment.specs.Device.{IsLayout, device_mark, geometry_in};
+ghost use Rattle.rly_segment.specs.Device.{IsLayout, device_text, geometry_in, longest_in, version_in};
 
 use crate::layout::{FIRST_SEGMENT, number_in};
 use rly_core::limits::{MAX_SEGMENTS, MIN_SEGMENTS, SEGMENT_LENGTH_LIMIT};
@@ -12,16 +13,22 @@ use rly_disk::Disk;
 use rly_gate::{OPEN_GATE, fill};
 use rly_reclaim::fits;
 
-/// The bytes of the header's gate, mark and fields. What stands after them is not read.
-const HEADER_BYTES: usize = 51;
+/// The bytes of the header's gate, text and fields. What stands after them is not read.
+const HEADER_BYTES: usize = 53;
 
-/// `RLYDEV01` and the version, 1.
-pub(crate) const DEVICE_MARK: [u8; 10] = [0x52, 0x4c, 0x59, 0x44, 0x45, 0x56, 0x30, 0x31, 0, 1];
+/// `RLYDEV01`.
+pub(crate) const DEVICE_TEXT: [u8; 8] = [0x52, 0x4c, 0x59, 0x44, 0x45, 0x56, 0x30, 0x31];
+
+/// The version of headers that are written.
+pub(crate) const VERSION: u16 = 2;
+
+/// The longest payload of a spool whose header is of version 1, which has no field for it.
+const FIRST_PAYLOAD: u64 = 1_200;
 
 /// Why a device's header was not read.
 #[derive(Clone, Copy, Debug, PartialEq, Eq)]
 pub enum HeaderFault {
-    /// It is shorter than a header, its gate is closed, or another mark stands after the gate.
+    /// It is shorter than a header, its gate is closed, or another text or version stands after the gate.
     NotADevice,
     /// No device of its size has the geometry that it names.
     BadGeometry,
@@ -54,11 +61,25 @@ pub fn read_header<D: Disk>(disk: &mut D) -> Result<Geometry, HeaderFault>
     }
 }
 
-/// Whether the gate is open and the mark stands after it.
+/// Whether the gate is open, and the text and a version that is read stand after it.
 fn is_device(header: &[u8; HEADER_BYTES]) -> bool
-    ensures { IsTrue result ↔ (IsOpen header.now 0 × StandsAt header.now 1 device_mark) }
+    ensures { IsTrue result ↔ (IsOpen header.now 0 × StandsAt header.now 1 device_text × IsIn 1 2 (version_in header.now)) }
 {
-    header[0] == OPEN_GATE && &header[1..11] == DEVICE_MARK.as_slice()
+    let version = number_in(header, 9, 2);
+    header[0] == OPEN_GATE
+        && &header[1..9] == DEVICE_TEXT.as_slice()
+        && 1 <= version
+        && version <= 2
+}
+
+/// The longest payload by the header's version.
+fn longest_in(header: &[u8; HEADER_BYTES]) -> u64
+    ensures { result ≡ longest_in header.now }
+{
+    match number_in(header, 9, 2) {
+        2 => number_in(header, 51, 2),
+        _ => FIRST_PAYLOAD,
+    }
 }
 
 /// The geometry that the fields name.
@@ -75,6 +96,7 @@ fn geometry_in(header: &[u8; HEADER_BYTES]) -> Geometry
             maxpacket: number_in(header, 31, 4),
             target: number_in(header, 35, 8),
             interval: number_in(header, 43, 8),
+            payload: longest_in(header),
         },
         segments: number_in(header, 17, 2),
         length: number_in(header, 19, 4),

@@ -17,7 +17,7 @@ use rly_core::Geometry;
 use rly_disk::{Disk, DiskFault};
 use rly_gate::{ReadFault, fill, read_bytes};
 use rly_machine::{Content, Machine, Payload};
-use rly_reclaim::GROUP_ROOM;
+use rly_reclaim::group_room;
 use std::alloc::Global;
 
 /// The bytes of a head's generation and of its body's length, which stand after its gate.
@@ -106,7 +106,7 @@ pub fn read_head_of<D: Disk, C: Form>(
         return Err(HeadFault::Device);
     };
     let end = BODY_OFFSET + u64::from(start.length);
-    if geometry.length < end + GROUP_ROOM {
+    if geometry.length < end + group_room(geometry.params.payload) {
         return Err(HeadFault::Damaged);
     }
     let body = match read_bytes(alloc, disk, place + BODY_OFFSET, start.length as usize) {

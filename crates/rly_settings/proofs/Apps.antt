@@ -34,6 +34,12 @@ pub four_ruled : (c0 c1 c2 c3 c4 : Command) (r1 r2 r3 r4 : Rule)
 four_ruled c0 c1 c2 c3 c4 r1 r2 r3 r4 h1 h2 h3 h4 =
     then_ruled c3 c4 _ r4 h4 (then_ruled c2 c3 _ r3 h3 (then_ruled c1 c2 _ r2 h2 h1))
 
+-- the same of five in a row
+pub five_ruled : (c0 c1 c2 c3 c4 c5 : Command) (r1 r2 r3 r4 r5 : Rule)
+    → app_of c1 ≡ with_rule (app_of c0) r1 → app_of c2 ≡ with_rule (app_of c1) r2 → app_of c3 ≡ with_rule (app_of c2) r3 → app_of c4 ≡ with_rule (app_of c3) r4
+    → app_of c5 ≡ with_rule (app_of c4) r5 → app_of c5 ≡ with_rule (with_rule (with_rule (with_rule (with_rule (app_of c0) r1) r2) r3) r4) r5
+five_ruled c0 c1 c2 c3 c4 c5 r1 r2 r3 r4 r5 h1 h2 h3 h4 h5 = then_ruled c4 c5 _ r5 h5 (four_ruled c0 c1 c2 c3 c4 r1 r2 r3 r4 h1 h2 h3 h4)
+
 pub sim_plain : sim_app.top.is_plain ≡ true
 unfolding sim_app
 sim_plain = refl

@@ -45,13 +45,14 @@ batch_rule = record (option_rule (codes "batch") (codes "1")) { parser = Some (p
 abbrev pub at_rule : Rule
 at_rule = record (number_rule (codes "at")) { parser = Some (parser.Unsigned 0 4503599627370495) }
 
--- a command with the options for the payload bytes of a spool and for CoDel
+-- a command with the options for the payload bytes of a spool, for CoDel and for the longest payload
 abbrev pub with_more_rules : App → App
-with_more_rules app = with_rule (with_rule (with_rule (with_rule app
+with_more_rules app = with_rule (with_rule (with_rule (with_rule (with_rule app
     (option_rule (codes "bytes") (codes "1048576")))
     (option_rule (codes "maxpacket") (codes "1500")))
     (option_rule (codes "target") (codes "5000")))
-    (option_rule (codes "interval") (codes "100000"))
+    (option_rule (codes "interval") (codes "100000")))
+    (option_rule (codes "payload") (codes "1200"))
 
 -- a command with the options for all parameters of a spool
 abbrev pub with_param_rules : App → App
@@ -135,6 +136,7 @@ pub record HasParams (rows : List Row) (params : Params) : Type 0 where
   pub maxpacket : HasNumber rows (codes "maxpacket") 1500 params.maxpacket
   pub target : HasNumber rows (codes "target") 5000 params.target
   pub interval : HasNumber rows (codes "interval") 100000 params.interval
+  pub payload : HasNumber rows (codes "payload") 1200 params.payload
 
 -- the settings are those of the command that was named, with what its matches have
 abbrev pub IsSettings : Option (Text × List Row) → Settings → Type 0

@@ -78,7 +78,7 @@ pub(crate) fn with_params<'a>(
     with_more_params(alloc, with_items)
 }
 
-/// A command with the options for CoDel and for the payload bytes of a spool.
+/// A command with the options for the payload bytes of a spool, for CoDel and for the longest payload.
 fn with_more_params<'a>(alloc: Global, command: Command<'a>) -> Result<Command<'a>, AllocError>
     ensures { IfOk result (λ new. app_of new ≡ with_more_rules (app_of command.entry)) }
 {
@@ -110,7 +110,14 @@ fn with_more_params<'a>(alloc: Global, command: Command<'a>) -> Result<Command<'
         "100000",
         "CoDel's interval in microseconds, 1 to 3600000000",
     )?;
-    Ok(with_interval)
+    let with_payload = with_option(
+        alloc,
+        with_interval,
+        "payload",
+        "1200",
+        "The longest payload of a datagram in bytes, 1 to 8192",
+    )?;
+    Ok(with_payload)
 }
 
 /// An option without a value, which is there or not.

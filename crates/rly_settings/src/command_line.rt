@@ -140,5 +140,6 @@ fn params_of(options: &ArgMatches<'_>) -> Params
         maxpacket: number_of(options, "maxpacket", default.maxpacket),
         target: number_of(options, "target", default.target),
         interval: number_of(options, "interval", default.interval),
+        payload: number_of(options, "payload", default.payload),
     }
 }

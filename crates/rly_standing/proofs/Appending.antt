@@ -1,5 +1,5 @@
 -- The end of the journal as a group is appended.
-use Rattle.std.proofs.Common.{◌≡◌, ◌⊎◌, ◌≤◌, ◌<◌, ◌+◌, ◌∙◌, ℕ, Bool, List, length, take, drop, get_or, arith, sym, ap, subst, inl, inr}
+use Rattle.std.proofs.Common.{◌≡◌, ◌⊎◌, ◌≤◌, ◌<◌, ◌+◌, ◌^◌, ◌∙◌, ℕ, Bool, List, length, take, drop, get_or, arith, sym, ap, subst, inl, inr}
 use Rattle.std.proofs.lemmas.Bool.{cases_eq}
 use Rattle.rly_core.specs.declared.params.Geometry.{Geometry}
 use Rattle.rly_disk.specs.DiskModel.{SameOutside, overwritten}
@@ -47,7 +47,7 @@ logged_within old tail s logged =
 
 -- the group of some commands, after what stands for a state
 module _ (tail : Tail) (commands : Commands) (s : State (List ℕ)) (body : HaveBody commands) (accepted : AllAccepted length s commands)
-    (few : length (body_of commands) ≤ 78274) (room : tail.gate + 6 + length (body_of commands) ≤ segment_end tail.geometry tail.segment) where
+    (few : length (body_of commands) < 2 ^ 32) (room : tail.gate + 6 + length (body_of commands) ≤ segment_end tail.geometry tail.segment) where
   same_end : (x : Standing) → EndsAt tail x → segment_end tail.geometry tail.segment ≡ standing_end x
   same_end x ends = ap (λ g. segment_end g tail.segment) ends.geometry ∙ ap (segment_end x.geometry) ends.segment
 
@@ -60,7 +60,7 @@ module _ (tail : Tail) (commands : Commands) (s : State (List ℕ)) (body : Have
       let x : Standing = logged.x in
       let gate : tail.gate ≡ gate_of x = logged.ends.gate in
       let within : gate_of x + 1 + length (frame_of (body_of commands)) ≤ standing_end x = omega (arith, gate, room, same_end x logged.ends, length-frame (body_of commands)) in
-      elim (grown x commands logged.stands body (subst (λ r. AllAccepted length r commands) logged.state accepted) (omega (arith, few)) within image
+      elim (grown x commands logged.stands body (subst (λ r. AllAccepted length r commands) logged.state accepted) few within image
       (subst (λ p. IsAppended p (body_of commands) old image) gate left)) [
         | inl before ↦ inl (x, before, logged.state)
         | inr after ↦ inr (with_group x commands, after, grown_state x logged.state)
@@ -87,7 +87,7 @@ module _ (tail : Tail) (commands : Commands) (s : State (List ℕ)) (body : Have
       let place : segment_place tail.geometry tail.segment ≡ segment_place x.geometry x.segment = ap (λ h. segment_place h tail.segment) logged.ends.geometry ∙ ap (segment_place x.geometry) logged.ends.segment in
       record {
         x = with_group x commands;
-        stands = appended x commands logged.stands body (subst (λ r. AllAccepted length r commands) logged.state accepted) (omega (arith, few)) within
+        stands = appended x commands logged.stands body (subst (λ r. AllAccepted length r commands) logged.state accepted) few within
             (subst (λ p. SameOutside p (length (group_of (body_of commands))) old new) gate outside)
             (subst (λ p. StandsAt new p (group_of (body_of commands))) gate stands);
         ends = record {

@@ -239,15 +239,15 @@ told_when fault.Device told = absurd (told refl)
 -- ---- the head of a scan
 
 -- a header of a device that has one
-header_whole : {D : Type 0} (state : D → DiskState) {a b : D} (size : ℕ) → 64 ≤ size → Makes state (header_reads size) true a b → Makes state (Read 0 51 ∷ []) true a b
-header_whole state {a} {b} size long made = subst (λ t. Makes state (if t then Read 0 51 ∷ [] else []) true a b) (le-leb 64 size long) made
+header_whole : {D : Type 0} (state : D → DiskState) {a b : D} (size : ℕ) → 64 ≤ size → Makes state (header_reads size) true a b → Makes state (Read 0 53 ∷ []) true a b
+header_whole state {a} {b} size long made = subst (λ t. Makes state (if t then Read 0 53 ∷ [] else []) true a b) (le-leb 64 size long) made
 
 module _ {D : Type 0} (state : D → DiskState) {a b : D} {told : Bool} where
   -- the header was read, or a shorter device wasn't
   pub header_broken : (size : ℕ) → Makes state (header_reads size) told a b → (g : Geometry) × (segment n : ℕ) × MakesFront state (head_scan g segment n) told a b
   header_broken size made = (geometry_in [], 0, 0, by_length (nat_le 64 size) made)
     where
-      by_length : (long : Bool) → Makes state (if long then Read 0 51 ∷ [] else []) told a b → MakesFront state (head_scan (geometry_in []) 0 0) told a b
+      by_length : (long : Bool) → Makes state (if long then Read 0 53 ∷ [] else []) told a b → MakesFront state (head_scan (geometry_in []) 0 0) told a b
       by_length true made = front_first state (generation_reads (geometry_in []) (geometry_in []).segments ++ head_reads (segment_place (geometry_in []) 0) (Some 0)) made
       by_length false made = front_first state (head_scan (geometry_in []) 0 0) made
 
@@ -277,7 +277,7 @@ pub head_whole : {D : Type 0} (state : D → DiskState) {a b e f : D} (g : Geome
 head_whole state {a} {b} g segment size n gate body geometry is behind header generations made = (
   n,
   behind,
-  makes_joined state (Read 0 51 ∷ []) (generation_reads g g.segments ++ head_reads (segment_place g segment) (Some n)) true (header_whole state size (omega (arith, geometry.room)) header)
+  makes_joined state (Read 0 53 ∷ []) (generation_reads g g.segments ++ head_reads (segment_place g segment) (Some n)) true (header_whole state size (omega (arith, geometry.room)) header)
       (makes_joined state (generation_reads g g.segments) (head_reads (segment_place g segment) (Some n)) true generations
       (subst (λ o. Makes state (head_reads (segment_place g segment) o) true a b) is made)),
 )

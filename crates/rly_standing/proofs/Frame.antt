@@ -1,6 +1,7 @@
 -- The frame law: bytes that the standing does not read may be anything.
 use Rattle.std.proofs.Common.{◌≡◌, ◌≢◌, ◌≤◌, ◌<◌, ◌+◌, ◌++◌, ◌∷◌, [], ◌∙◌, ℕ, List, length, arith, sym, refl, subst, length-append}
 use Rattle.byteorder.specs.Endian.{big_bytes}
+use Rattle.rly_core.specs.Bounds.{IsIn}
 use Rattle.rly_machine.specs.State.{State}
 use Rattle.rly_gate.specs.Group.{IsClosed, open_gate}
 use Rattle.rly_record.specs.Spelling.{body_of}
@@ -8,7 +9,7 @@ use Rattle.rly_checkpoint.specs.Checkpoint.{Spelled, checkpoint_of, inline_form,
 use Rattle.rly_checkpoint.specs.Widths.{mark_of}
 use Rattle.rly_checkpoint.specs.Stored.{stored_length, stored_spelled}
 use Rattle.rly_checkpoint.specs.Stored.{state_in as state_over}
-use Rattle.rly_segment.specs.Device.{IsDevice, IsLayout, device_mark, geometry_in}
+use Rattle.rly_segment.specs.Device.{IsDevice, IsLayout, device_text, geometry_in}
 use Rattle.rly_segment.specs.Heads.{IsNewest, IsPassedOver, generation_in, head_of, head_spelled, segment_place}
 use Rattle.rly_segment.specs.PlacedHeads.{HoldsPlaced}
 use Rattle.rly_standing.specs.Standing.{Commands, HoldGroups, IsScanned, IsStanding, Standing, next_gate, standing_end, first_of, gate_behind, gate_of}
@@ -47,7 +48,8 @@ pub device_still : {old new : List ℕ} → SameBytes 0 64 old new → IsDevice 
 device_still same device = record {
   long = omega (arith, device.long, same.same_length);
   gate = same.each 0 (omega arith) (omega arith) ∙ device.gate;
-  mark = stands_still 0 64 1 device_mark (omega arith) (omega arith) same device.mark;
+  mark = stands_still 0 64 1 device_text (omega arith) (omega arith) same device.mark;
+  version = subst (IsIn 1 2) (sym (number_still 0 64 9 2 (omega arith) (omega arith) same)) device.version;
 }
 
 pub geometry_still : {old new : List ℕ} → SameBytes 0 64 old new → geometry_in new ≡ geometry_in old
@@ -56,7 +58,7 @@ geometry_still {old} {new} same =
     let at2 : (place : ℕ) → place + 2 ≤ 64 → _ = λ place le. number_still {old = old} {new = new} 0 64 place 2 (omega arith) le same in
     let at4 : (place : ℕ) → place + 4 ≤ 64 → _ = λ place le. number_still {old = old} {new = new} 0 64 place 4 (omega arith) le same in
     let at8 : (place : ℕ) → place + 8 ≤ 64 → _ = λ place le. number_still {old = old} {new = new} 0 64 place 8 (omega arith) le same in
-    rw (at2 11 (omega arith), at2 13 (omega arith), at2 15 (omega arith), at2 17 (omega arith), at4 19 (omega arith), at4 23 (omega arith), at4 27 (omega arith), at4 31 (omega arith), at8 35 (omega arith), at8 43 (omega arith)) refl
+    rw (at2 9 (omega arith), at2 11 (omega arith), at2 13 (omega arith), at2 15 (omega arith), at2 17 (omega arith), at4 19 (omega arith), at4 23 (omega arith), at4 27 (omega arith), at4 31 (omega arith), at8 35 (omega arith), at8 43 (omega arith), at2 51 (omega arith)) refl
 
 pub newest_still : {old new : List ℕ} (x : Standing) → ((t : ℕ) → t < x.geometry.segments → t ≢ x.segment → IsPassedOver x.geometry t old new)
     → SameBytes (segment_place x.geometry x.segment) (gate_of x) old new → IsNewest old x.geometry x.segment → IsNewest new x.geometry x.segment

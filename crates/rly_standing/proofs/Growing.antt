@@ -14,6 +14,7 @@ use Rattle.rly_gate.specs.Reading.{HoldsGroup}
 use Rattle.rly_disk.proofs.Ranges.{wider}
 use Rattle.rly_record.specs.Spelling.{HaveBody, body_of}
 use Rattle.rly_machine.specs.Map.{map_state}
+use Rattle.rly_reclaim.specs.Room.{group_room}
 use Rattle.rly_checkpoint.specs.Checkpoint.{Spelled, state_spelled}
 use Rattle.rly_checkpoint.specs.Widths.{mark_of}
 use Rattle.rly_checkpoint.specs.Stored.{stored_form, stored_length, stored_spelled}
@@ -68,7 +69,7 @@ abbrev pub with_group : Standing → Commands → Standing
 with_group x commands = record x { groups = x.groups ++ commands ∷ [] }
 
 -- the segments are long
-pub long_segments : {image : List ℕ} {x : Standing} → IsScanned image x → 78280 ≤ x.geometry.length
+pub long_segments : {image : List ℕ} {x : Standing} → IsScanned image x → group_room x.geometry.params.payload ≤ x.geometry.length
 long_segments scanned = omega (arith, scanned.fits.fits)
 
 -- the head of another segment lies outside the segment

@@ -46,9 +46,9 @@ never_true : (b : Bool) → (b ≡ true → ⊥) → b ≡ false
 never_true true never = absurd (never refl)
 never_true false _ = refl
 
--- each accepted command can be recorded: its payload is short, and its numbers are those of a spool
+-- each accepted command can be recorded: its payload is as short as those of the spool, and its numbers are those of a spool
 pub accepted_recordable : (s : State (List ℕ)) (command : Command (List ℕ)) → IsSound length s → is_accepted (step length s command).1 ≡ true
-    → IsRecordable command
+    → IsRecordable s.params.payload command
 accepted_recordable s (Take peer number hop stamp limit payload) sound accepts =
     let may = may_take length s peer number hop stamp limit (length payload)
     (accepted_none (take_refusal length s peer number hop stamp limit (length payload)) s _ (counted length s (Take peer number hop stamp limit payload)) accepts) in
@@ -67,6 +67,6 @@ accepted_recordable s (Pick hop now) sound accepts = tt
 accepted_recordable s (Release hop number) sound accepts = tt
 
 -- so what can't be recorded isn't taken
-pub long_leaves : (s : State (List ℕ)) (command : Command (List ℕ)) → IsSound length s → (IsRecordable command → ⊥)
+pub long_leaves : (s : State (List ℕ)) (command : Command (List ℕ)) → IsSound length s → (IsRecordable s.params.payload command → ⊥)
     → is_accepted (step length s command).1 ≡ false
 long_leaves s command sound long = never_true _ (λ accepts. long (accepted_recordable s command sound accepts))

@@ -28,7 +28,7 @@ pub record Scan : Type 0 where
 -- the header is read, the generation of each segment, and the newest head
 abbrev pub head_scan : Geometry → ℕ → ℕ → List DeviceEvent
 head_scan g segment n =
-    Read 0 51 ∷ (generation_reads g g.segments ++ head_reads (segment_place g segment) (Some n))
+    Read 0 53 ∷ (generation_reads g g.segments ++ head_reads (segment_place g segment) (Some n))
 
 -- a group is read: its gate, the length after it, and the body
 abbrev pub group_scan : ℕ → ℕ → List DeviceEvent

@@ -1,5 +1,5 @@
 -- Where a list is cut at its first element that passes.
-use Rattle.std.proofs.Common.{◌≡◌, ℕ, ◌+◌, List, [], ◌∷◌, take, drop, Bool, true, false, Option, Some, None, MatchOption, refl, sym, ◌∙◌, arith, add-one, ◌==◌}
+use Rattle.std.proofs.Common.{◌≡◌, ℕ, zero, suc, ◌+◌, ◌<◌, List, [], ◌∷◌, length, slice_index, take, drop, Bool, true, false, Option, Some, None, MatchOption, refl, sym, ◌∙◌, arith, add-one, ◌==◌}
 use Rattle.rly_text.specs.Grammar.{words_of}
 use Rattle.rly_text.specs.HelpersReading.{HasTwo}
 use Rattle.std.specs.Option.{is_some}
@@ -25,6 +25,19 @@ cuts_at p k x xs false fails h = rw fails (later p k x xs fails (position_from p
 pub cuts_from : (p : ℕ → Bool) (k : ℕ) (xs : List ℕ) → CutsAt p k xs (position_from p k xs)
 cuts_from p k [] = refl
 cuts_from p k (x ∷ xs) = cuts_at p k x xs (p x) refl (cuts_from p (k + 1) xs)
+
+fails_first : (p : ℕ → Bool) (k x : ℕ) (xs : List ℕ) (b : Bool) → p x ≡ b → position_from p k (x ∷ xs) ≡ None → (b ≡ false) × (position_from p (k + 1) xs ≡ None)
+fails_first p k x xs true passes e = let some : Some k ≡ None = rw passes at e in let no : ⊥ = cc in absurd no
+fails_first p k x xs false fails e = (refl, rw fails at e)
+
+fails_from : (p : ℕ → Bool) (k i : ℕ) (xs : List ℕ) → position_from p k xs ≡ None → i < length xs → p (slice_index xs i) ≡ false
+fails_from p k i [] e within = absurd (omega (arith, within))
+fails_from p k zero (x ∷ xs) e within = (fails_first p k x xs (p x) refl e).0
+fails_from p k (suc i) (x ∷ xs) e within = fails_from p (k + 1) i xs (fails_first p k x xs (p x) refl e).1 (omega (arith, within))
+
+-- where none passes
+pub fails_at : (p : ℕ → Bool) (xs : List ℕ) (i : ℕ) → position p xs ≡ None → i < length xs → p (slice_index xs i) ≡ false
+fails_at p xs i e within = fails_from p 0 i xs (sym (position_from-zero p xs) ∙ e) within
 
 pub cut_none : (p : ℕ → Bool) (xs : List ℕ) → position p xs ≡ None → slice_split p xs ≡ xs ∷ []
 cut_none p xs e = rw (sym (position_from-zero p xs) ∙ e) at (cuts_from p 0 xs)

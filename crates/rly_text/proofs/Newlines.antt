@@ -58,7 +58,7 @@ no_newline-append [] b h k = k
 no_newline-append (x ∷ a) b h k = let parts = or_false (x == 10) (has_newline a) h in rw (parts.0) (no_newline-append a b parts.1 k)
 
 -- what is kept of a line as its pieces come
-pub kept_more : (line piece : List ℕ) (room : ℕ) → length line + room ≡ 4097 → line ++ take (min room (length piece)) piece ≡ kept_of (line ++ piece)
+pub kept_more : (line piece : List ℕ) (room : ℕ) → length line + room ≡ 20481 → line ++ take (min room (length piece)) piece ≡ kept_of (line ++ piece)
 kept_more line piece room whole =
     let front : take (length line + room) (line ++ piece) ≡ line ++ take room piece = take-append-add line piece room in
     rw (take_min room piece) (sym (rw whole at front))

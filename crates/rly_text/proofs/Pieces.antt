@@ -41,7 +41,7 @@ part_more (Some xs) old filled new (Some ys) (Some zs) h empty f k p = (
   h.0 ++ filled.ahead,
   rw p.1 (joined xs h.0 old.ahead ys filled.ahead zs h.1 empty k),
   no_newline-append h.0 filled.ahead h.2 p.0,
-  let kept : kept_of (filled.line ++ filled.ahead) ≡ kept_of (h.0 ++ filled.ahead) = rw (f.0, h.3) (kept_again 4097 h.0 filled.ahead) in p.2 ∙ kept,
+  let kept : kept_of (filled.line ++ filled.ahead) ≡ kept_of (h.0 ++ filled.ahead) = rw (f.0, h.3) (kept_again 20481 h.0 filled.ahead) in p.2 ∙ kept,
 )
 
 pub line_begun : (before after : Reading) (left : Option (List ℕ)) → TakesPiece true (record before { line = [] }) after
@@ -59,7 +59,7 @@ line_more (Some xs) old filled new (Some ys) None h empty f k p = absurd k
 line_more (Some xs) old filled new (Some ys) (Some zs) h empty f k p =
     let split : (h.0 ++ filled.ahead) ++ zs ≡ (h.0 ++ p.0) ++ 10 ∷ (new.ahead ++ zs) = rw p.2 (simp append_assoc) in
     let bytes : xs ≡ (h.0 ++ p.0) ++ 10 ∷ (new.ahead ++ zs) = joined xs h.0 old.ahead ys filled.ahead zs h.1 empty k ∙ split in
-    let kept : kept_of (filled.line ++ p.0) ≡ kept_of (h.0 ++ p.0) = rw (f.0, h.3) (kept_again 4097 h.0 p.0) in (
+    let kept : kept_of (filled.line ++ p.0) ≡ kept_of (h.0 ++ p.0) = rw (f.0, h.3) (kept_again 20481 h.0 p.0) in (
       h.0 ++ p.0,
       ap lines_of bytes ∙ lines_ended (h.0 ++ p.0) (new.ahead ++ zs) (no_newline-append h.0 p.0 h.2 p.1),
       p.3 ∙ kept,

@@ -16,10 +16,10 @@ use Rattle.rly_stream.specs.Beginnings.{AppendsBeginning}
 -- a line that is kept in part asks what the whole line asks
 by_length : (line : List ℕ) (long : Bool) → nat_lt longest_line (length line) ≡ long → ask_in_line (kept_of line) ≡ ask_in_line line
 by_length line true long =
-    let kept : nat_lt longest_line (length (kept_of line)) ≡ true = lt-ltb _ _ (omega (arith, length-take 4097 line, ltb-true _ _ long)) in
+    let kept : nat_lt longest_line (length (kept_of line)) ≡ true = lt-ltb _ _ (omega (arith, length-take 20481 line, ltb-true _ _ long)) in
     rw (long, kept) refl
 by_length line false short =
-    let whole : kept_of line ≡ line = take_all 4097 line (omega (arith, ltb-false _ _ short)) in
+    let whole : kept_of line ≡ line = take_all 20481 line (omega (arith, ltb-false _ _ short)) in
     ap ask_in_line whole
 
 pub kept_asks : (line : List ℕ) → ask_in_line (kept_of line) ≡ ask_in_line line

@@ -9,4 +9,4 @@ lines_of (x ∷ xs) = if x == 10 then [] ∷ lines_of xs else onto_first x (line
 
 -- the longest line that can be a command, in bytes
 abbrev pub longest_line : ℕ
-longest_line = 4096
+longest_line = 20480

@@ -48,15 +48,10 @@ status_text hop s = codes "hop " ++ decimal hop.0 ++ counts_text s ++ discards_t
 unfoldable pub ids_text : List ℕ → List ℕ
 ids_text ids = flat_map (λ id. 32 ∷ decimal id) ids
 
--- the ids that expired, where there are any
-unfoldable pub expired_ids_text : List ℕ → List ℕ
-expired_ids_text [] = []
-expired_ids_text (id ∷ ids) = codes " expired" ++ ids_text (id ∷ ids)
-
--- the ids that were dropped, where there are any
-unfoldable pub dropped_text : List ℕ → List ℕ
-dropped_text [] = []
-dropped_text (id ∷ ids) = codes " dropped" ++ ids_text (id ∷ ids)
+-- ids after a word, where there are any
+unfoldable pub listed_text : List ℕ → List ℕ → List ℕ
+listed_text word [] = []
+listed_text word (id ∷ ids) = 32 ∷ word ++ ids_text (id ∷ ids)
 
 -- the bytes of a payload in lower case, or a dash where there are none
 unfoldable pub payload_text : List ℕ → List ℕ
@@ -72,9 +67,10 @@ abbrev pub reply_text : Subject → Reply → List ℕ
 reply_text subject (Taken id) = codes "taken " ++ decimal subject.peer.0 ++ 32 ∷ decimal id
 reply_text subject (Already last) = codes "already " ++ decimal subject.peer.0 ++ 32 ∷ decimal last
 reply_text subject (Picked number id expired dropped) =
-    codes "picked " ++ decimal subject.hop.0 ++ 32 ∷ decimal number ++ 32 ∷ decimal id ++ expired_ids_text expired
-    ++ dropped_text dropped
-reply_text subject (Nothing expired) = codes "nothing " ++ decimal subject.hop.0 ++ expired_ids_text expired
+    codes "picked " ++ decimal subject.hop.0 ++ 32 ∷ decimal number ++ 32 ∷ decimal id
+    ++ listed_text (codes "expired") expired ++ listed_text (codes "dropped") dropped
+reply_text subject (Nothing expired) =
+    codes "nothing " ++ decimal subject.hop.0 ++ listed_text (codes "expired") expired
 reply_text subject (Released count) = codes "released " ++ decimal subject.hop.0 ++ 32 ∷ decimal count
 reply_text subject Unchanged = codes "unchanged " ++ decimal subject.hop.0
 reply_text subject (Bytes payload limit) =

@@ -1,4 +1,4 @@
-ghost use Rattle.std.specs.Prelude.{◌≡◌, ◌∷◌, [], IfOk, MatchOption, OnErr, true, false};
+ghost use Rattle.std.specs.Prelude.{◌≡◌, ◌∷◌, [], IfOk, List, MatchOption, OnErr, Some, true, false, ℕ};
 ghost use Rattle.std.specs.Char.{is_ascii_digit};
 ghost use Rattle.std.specs.List.{list_all};
 ghost use Rattle.rly_text.specs.HelpersReading.{HasTwo};
@@ -47,7 +47,6 @@ fn parse_words(alloc: Global, verb: &[u8], args: &[u8]) -> Result<Option<Ask>, A
 }
 
 /// `PEER NUMBER HOP STAMP PAYLOAD`, and a LIMIT after it or none.
-#[tactic(auto, using(crate::proofs::Payloads::limited_words))]
 fn parse_take(alloc: Global, args: &[u8]) -> Result<Option<Ask>, AllocError>
     ensures asks { IfOk result (λ ask. ask ≡ take_in (words_of args.now)) }
     ensures memory { OnErr result (CarriesBytes (take_in (words_of args.now))) }
@@ -64,13 +63,29 @@ fn parse_take(alloc: Global, args: &[u8]) -> Result<Option<Ask>, AllocError>
     let Some((stamp, rest)) = cut(args) else {
         return Ok(None);
     };
-    match cut(rest) {
+    match cut_limit(rest) {
         Some((payload, limit)) => {
             let limit = parse_number(limit);
             take_ask(alloc, peer, number, hop, stamp, payload, limit)
         }
         None => take_ask(alloc, peer, number, hop, stamp, rest, Some(0)),
     }
+}
+
+/// The space before a limit and the digits of the longest number, in bytes.
+const LIMIT_BYTES: usize = 21;
+
+/// The payload of a Take and the limit after it, if one stands there. A payload may be long, so the space between them is looked for
+/// only where it can be.
+fn cut_limit(text: &[u8]) -> Option<(&[u8], &[u8])>
+    ensures { (peer number hop stamp : List ℕ) → MatchOption result
+        (take_in (peer ∷ number ∷ hop ∷ stamp ∷ words_of text.now) ≡ take_of peer number hop stamp text.now (Some 0))
+        (λ parts. take_in (peer ∷ number ∷ hop ∷ stamp ∷ words_of text.now) ≡ take_of peer number hop stamp parts.0.now (number_in parts.1.now)) }
+{
+    let start = text.len().saturating_sub(LIMIT_BYTES);
+    let found = position_of(&text[start..], b' ')?;
+    let at = start + found;
+    Some((&text[..at], &text[at + 1..]))
 }
 
 /// The Take of five words and its limit. The payload is read last, so that what is no Take takes no memory.

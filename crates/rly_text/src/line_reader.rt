@@ -58,7 +58,7 @@ impl LineReader {
     }
 
     /// What is kept of the last line, without its newline: all of it, or of a longer one its first
-    /// 4,097 bytes.
+    /// 20,481 bytes.
     pub fn line(&self) -> &[u8]
         ensures { result.now ≡ self.now.line }
     {
@@ -142,11 +142,11 @@ impl LineReader {
 
 /// Adds to what is kept of a line as much of a piece as has room.
 fn keep(line: &mut Vec<u8>, piece: &[u8])
-    requires short { vec_len line.old ≤ 4097 }
-    requires room { 4097 ≤ vec_capacity line.old }
+    requires short { vec_len line.old ≤ 20481 }
+    requires room { 20481 ≤ vec_capacity line.old }
     ensures line { line.new.items ≡ kept_of (line.old.items ++ piece.now) }
-    ensures short { vec_len line.new ≤ 4097 }
-    ensures room { 4097 ≤ vec_capacity line.new }
+    ensures short { vec_len line.new ≤ 20481 }
+    ensures room { 20481 ≤ vec_capacity line.new }
 {
     let count = (KEPT - line.len()).min(piece.len());
     // The room was made with the line, so this never fails.

@@ -1,4 +1,4 @@
-ghost use Rattle.std.specs.Prelude.{◌≡◌, ◌≤◌, Some, length};
+ghost use Rattle.std.specs.Prelude.{◌≡◌, ◌≤◌, Some, codes, length};
 ghost use Rattle.hex.specs.Hex.{encode_lower};
 
 use rly_audit::{Expired, HopCounts};
@@ -80,12 +80,10 @@ impl fmt::Display for ReplyLine<'_> {
                 expired,
                 dropped,
             } => {
-                let (expired, dropped) = (ExpiredIds { ids: expired }, Dropped { ids: dropped });
+                let (expired, dropped) = (expired_ids(expired), dropped_ids(dropped));
                 write!(f, "picked {hop} {number} {id}{expired}{dropped}")
             }
-            Reply::Nothing { expired } => {
-                write!(f, "nothing {hop}{}", ExpiredIds { ids: expired })
-            }
+            Reply::Nothing { expired } => write!(f, "nothing {hop}{}", expired_ids(expired)),
             Reply::Released(count) => write!(f, "released {hop} {count}"),
             Reply::Unchanged => write!(f, "unchanged {hop}"),
             Reply::Bytes { payload, limit } => {
@@ -102,45 +100,47 @@ impl fmt::Display for ReplyLine<'_> {
     }
 }
 
-/// The ids that expired, where there are any.
+/// Ids after a word, where there are any.
 #[derive(Drop)]
-struct ExpiredIds<'a> {
+struct ListedIds<'a> {
+    word: &'static str,
     ids: &'a Ids,
 }
 
-impl fmt::Display for ExpiredIds<'_> {
-    ghost use Rattle.rly_text.specs.Replies.{expired_ids_text};
+impl fmt::Display for ListedIds<'_> {
+    ghost use Rattle.rly_text.specs.Replies.{listed_text};
 
-    ghost output = { λ expired. Some (expired_ids_text expired.ids.now) };
+    ghost output = { λ listed. Some (listed_text listed.word.now listed.ids.now) };
 
-    #[tactic(auto, unfolding(crate::specs::Replies::expired_ids_text))]
+    #[tactic(auto, unfolding(crate::specs::Replies::listed_text))]
     fn fmt<W: fmt::Write>(&self, f: &mut fmt::Formatter<W>) -> fmt::Result {
         let ids = self.ids.as_slice();
         if ids.is_empty() {
             return Ok(());
         }
-        write!(f, " expired{}", SpacedIds { ids })
+        write!(f, " {}{}", self.word, SpacedIds { ids })
     }
 }
 
-/// The ids that were dropped, where there are any.
-#[derive(Drop)]
-struct Dropped<'a> {
-    ids: &'a Ids,
+/// The ids that expired.
+fn expired_ids(ids: &Ids) -> ListedIds<'_>
+    ensures word { result.word.now ≡ codes "expired" }
+    ensures ids { result.ids.now ≡ ids.now }
+{
+    ListedIds {
+        word: "expired",
+        ids,
+    }
 }
 
-impl fmt::Display for Dropped<'_> {
-    ghost use Rattle.rly_text.specs.Replies.{dropped_text};
-
-    ghost output = { λ dropped. Some (dropped_text dropped.ids.now) };
-
-    #[tactic(auto, unfolding(crate::specs::Replies::dropped_text))]
-    fn fmt<W: fmt::Write>(&self, f: &mut fmt::Formatter<W>) -> fmt::Result {
-        let ids = self.ids.as_slice();
-        if ids.is_empty() {
-            return Ok(());
-        }
-        write!(f, " dropped{}", SpacedIds { ids })
+/// The ids that were dropped.
+fn dropped_ids(ids: &Ids) -> ListedIds<'_>
+    ensures word { result.word.now ≡ codes "dropped" }
+    ensures ids { result.ids.now ≡ ids.now }
+{
+    ListedIds {
+        word: "dropped",
+        ids,
     }
 }
 

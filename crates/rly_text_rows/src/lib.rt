@@ -25,6 +25,8 @@ mod growths;
 #[cfg(test)]
 mod limits;
 #[cfg(test)]
+mod payloads;
+#[cfg(test)]
 mod playing;
 #[cfg(test)]
 mod rows;

@@ -107,7 +107,7 @@ fn replies_stopped(
 
 /// Checks what `play` writes for an input on a new device, at several batches, and stopped and
 /// started again between any two lines.
-fn expect(
+pub(super) fn expect(
     rt: &(impl Abort + AllocGlobal),
     params: Params,
     input: &[u8],

@@ -157,7 +157,7 @@ fn a_failed_write_ends_with_a_beginning(rt: HostRuntime) -> Result<(), Fail> {
 /// Lines of as many digits as a command may have bytes, of one more, and of many more, and a command after them.
 fn long_lines(alloc: Global) -> Result<String, AllocError> {
     let mut text = String::new(alloc);
-    for length in [4_096, 4_097, 150_000] {
+    for length in [20_480, 20_481, 150_000] {
         add_digits(&mut text, length)?;
     }
     text.push_str("done 1 0")?;

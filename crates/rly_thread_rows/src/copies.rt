@@ -3,7 +3,7 @@
 ghost use Rattle.std.specs.Prelude.{◌≤◌, IfSome, None, length};
 
 use crate::senders::queue_of;
-use crate::workers::{expect_counts_of, plan};
+use crate::workers::{expect_counts_of, plan, with_window};
 use rly_core::HopId;
 use rly_hop::{MAX_MESSAGE, Message, StationId, read_message, write_message};
 use rly_threads::{Ends, Link, LinkFault, MemDesk, MemTurn, sender_run};
@@ -187,7 +187,14 @@ fn hand_over<R: Abort + Wait>(
         desk: MemDesk::new(alloc, machine),
         turn: MemTurn::new(1_000, way.step, 1_500),
     };
-    sender_run(rt, alloc, &plan(rt, alloc), HopId(1), way.window, &mut ends);
+    sender_run(
+        rt,
+        alloc,
+        &plan(rt, alloc),
+        HopId(1),
+        &with_window(way.window),
+        &mut ends,
+    );
     expect_counts_of(rt, &ends.desk, HopId(1), (0, 0, way.datagrams));
     ends
 }

@@ -6,6 +6,7 @@
 
 use crate::workers::{
     MemEnds, expect_counts, expect_counts_of, expect_sent, link_with, plan, spool_with, take_for,
+    with_window,
 };
 use crate::{receivers, senders};
 use rly_core::{HopId, PeerId};
@@ -214,7 +215,14 @@ fn send_to_the_other<R: Abort + Wait>(rt: &R, alloc: Global, link: MemLink) -> M
         desk: MemDesk::new(alloc, machine),
         turn: MemTurn::new(1_000, 100_000, 64),
     };
-    sender_run(rt, alloc, &plan(rt, alloc), HopId(2), 1, &mut ends);
+    sender_run(
+        rt,
+        alloc,
+        &plan(rt, alloc),
+        HopId(2),
+        &with_window(1),
+        &mut ends,
+    );
     ends
 }
 

@@ -31,6 +31,8 @@ mod failures;
 #[cfg(test)]
 mod flushers;
 #[cfg(test)]
+mod limits;
+#[cfg(test)]
 mod lines;
 #[cfg(test)]
 mod memory;

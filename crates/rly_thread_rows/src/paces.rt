@@ -9,7 +9,8 @@ use std::alloc::Global;
 use std::process::Abort;
 use std::sync::Wait;
 
-/// Station 7, whose hop 1 takes 1,246 bytes a second: one of the longest messages with its headers. Hop 2 has no rate.
+/// Station 7, whose hop 1 takes 1,246 bytes a second: a message of the longest payload without a limit, with its headers. Hop 2 has no
+/// rate.
 const PLAN: &str = r#"
 station = 7
 [[peer]]
@@ -53,13 +54,14 @@ fn send<R: Abort + Wait>(rt: &R, alloc: Global, hop: HopId, turns: u64) -> MemEn
         turn: MemTurn::new(0, 250_000, turns),
     };
     let plan = Plan::from_toml(alloc, PLAN).ok().expect(rt, "a plan");
-    sender_run(rt, alloc, &plan, hop, 64, &mut ends);
+    sender_run(rt, alloc, &plan, hop, &params, &mut ends);
     ends
 }
 
 /// After so many turns, how many calls were made and how many packets were sent. The rate gives a quarter of a message in each turn, and
-/// two may go out at first. Turns 3 and 5 send one each, and half a message is left. So turn 6 asks nothing, turn 7 picks, and turn 8
-/// sends, which leaves a quarter. From then on every fourth turn sends one.
+/// two of the longest, which have a limit and so five bytes more, may go out at first. Turns 3 and 5 send one each, and half a message
+/// and ten bytes are left. So turn 6 asks nothing, turn 7 picks, since there is room for one of the longest, and turn 8 sends, which
+/// leaves a quarter and ten bytes. From then on every fourth turn sends one.
 const RATED: [(u64, u64, usize); 10] = [
     (1, 1, 0),
     (2, 2, 0),

@@ -62,7 +62,7 @@ fn custody_is_sent(rt: HostRuntime) {
     expect!(rt; ends.desk.machine().item_count() == 1);
 }
 
-/// The longest datagram from station 3 to station 7: number 1, 1,200 bytes to destination 12.
+/// The longest datagram of a spool of the default parameters, from station 3 to station 7: number 1, 1,200 bytes to destination 12.
 fn longest() -> [u8; 1_218] {
     let head = b"\x52\x4c\x01\x01\x00\x03\x00\x07\x00\x00\x00\x00\x00\x00\x00\x01\x04\xb0\x00\x0c";
     let mut packet = [0x41; 1_218];
@@ -71,7 +71,7 @@ fn longest() -> [u8; 1_218] {
     packet
 }
 
-/// The longest datagram has room in the buffer of a worker.
+/// A datagram of the spool's longest payload is taken.
 #[test]
 fn the_longest_datagram_is_taken(rt: HostRuntime) {
     let ends = hear_one(&rt, rt.alloc(), &longest());

@@ -5,7 +5,7 @@
 ghost use Rattle.std.specs.Prelude.{None};
 
 use crate::senders::queue_of;
-use crate::workers::{link_with, plan};
+use crate::workers::{link_with, plan, with_window};
 use rly_core::{HopId, Refusal};
 use rly_hop::{Message, read_message};
 use rly_line::{BatchError, CallError};
@@ -69,7 +69,14 @@ fn send<R: Abort + Wait>(
         desk,
         turn: MemTurn::new(1_000, 1, turns),
     };
-    sender_run(rt, alloc, &plan(rt, alloc), HopId(1), 7, &mut ends);
+    sender_run(
+        rt,
+        alloc,
+        &plan(rt, alloc),
+        HopId(1),
+        &with_window(7),
+        &mut ends,
+    );
     ends
 }
 

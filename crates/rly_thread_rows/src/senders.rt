@@ -1,6 +1,8 @@
 //! A sending worker.
 
-use crate::workers::{MemEnds, expect_counts, expect_sent, link_with, plan, spool_with, take};
+use crate::workers::{
+    MemEnds, expect_counts, expect_sent, link_with, plan, spool_with, take, with_window,
+};
 use rly_core::{HopId, Params};
 use rly_machine::{Machine, Payload};
 use rly_threads::{Ends, MemDesk, MemLink, MemTurn, sender_run};
@@ -30,7 +32,14 @@ fn send_from<R: Abort + Wait>(
         desk: MemDesk::new(alloc, machine),
         turn,
     };
-    sender_run(rt, alloc, &plan(rt, alloc), HopId(1), window, &mut ends);
+    sender_run(
+        rt,
+        alloc,
+        &plan(rt, alloc),
+        HopId(1),
+        &with_window(window),
+        &mut ends,
+    );
     ends
 }
 

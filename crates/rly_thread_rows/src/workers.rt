@@ -47,6 +47,14 @@ pub(super) fn plan<R: Abort>(rt: &R, alloc: Global) -> Plan {
     Plan::from_toml(alloc, PLAN).ok().expect(rt, "a plan")
 }
 
+/// A spool's parameters with this window.
+pub(super) fn with_window(window: u64) -> Params {
+    Params {
+        window,
+        ..Params::DEFAULT
+    }
+}
+
 /// A spool of so many datagrams, which has taken one for hop 1 from a peer.
 pub(super) fn spool_with<R: Abort>(rt: &R, alloc: Global, items: u64, peer: u16) -> Machine<Payload>
     requires { (1 ≤ items) × (items ≤ 16384) }

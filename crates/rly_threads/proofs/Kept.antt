@@ -4,6 +4,7 @@ use Rattle.std.specs.List.{AllByRecursion, AllZip, list_all, zip}
 use Rattle.std.specs.Option.{is_some}
 use Rattle.std.specs.Prelude.{Err, IfOk, IfSome, None, Ok, Option, Result, Some}
 use Rattle.std.specs.declared.thread.PromisedHandle.{PromisedHandle}
+use Rattle.rly_core.specs.declared.params.Params.{Params}
 use Rattle.rly_line.specs.EndViews.{ClosedView}
 use Rattle.rly_line.specs.Replies.{ReplyId}
 use Rattle.rly_line.specs.Responding.{AreTold, IsAnsweredBy, IsLeftBy, IsSeatOf, Responding}
@@ -28,25 +29,25 @@ second_all R Q each [] (y ∷ ys) all = absurd all
 second_all R Q each (x ∷ xs) [] all = absurd all
 second_all R Q each (x ∷ xs) (y ∷ ys) all = (each x y all.0, second_all R Q each xs ys all.1)
 
-kept_one : {L T : Type 0} (heard : L → Option (List Hearing)) (sent : L → Option (List (List ℕ))) (handed : T → Option (List Handed)) (endless : T → Bool) (plan : ContactPlan) (window lock : ℕ) (said : Bool) (lines : ClosedView)
+kept_one : {L T : Type 0} (heard : L → Option (List Hearing)) (sent : L → Option (List (List ℕ))) (handed : T → Option (List Handed)) (endless : T → Bool) (plan : ContactPlan) (params : Params) (lock : ℕ) (said : Bool) (lines : ClosedView)
     (given : Post L T × Caller) (thread : Option (PromisedHandle (Left L T) (Duty L T))) (ended : Option (Ended L T))
-    → IsFor plan window lock given thread → GivesBack (IsJoined heard sent handed endless said lines) thread ended
-    → HaveEnded heard sent handed endless plan window given ended
-kept_one {L} {T} heard sent handed endless plan window lock said lines given None ended is_for gave =
-    subst (HaveEnded heard sent handed endless plan window given) (sym gave) tt
-kept_one heard sent handed endless plan window lock said lines given (Some thread) None is_for gave = tt
-kept_one {L} {T} heard sent handed endless plan window lock said lines given (Some thread) (Some worker) is_for gave =
-    subst (λ (y : ContactPlan × ℕ × Post L T × Caller). HasEnded heard sent handed endless y.0 y.1 (y.2, y.3) worker.post worker.seat.value worker.was_cut)
+    → IsFor plan params lock given thread → GivesBack (IsJoined heard sent handed endless said lines) thread ended
+    → HaveEnded heard sent handed endless plan params given ended
+kept_one {L} {T} heard sent handed endless plan params lock said lines given None ended is_for gave =
+    subst (HaveEnded heard sent handed endless plan params given) (sym gave) tt
+kept_one heard sent handed endless plan params lock said lines given (Some thread) None is_for gave = tt
+kept_one {L} {T} heard sent handed endless plan params lock said lines given (Some thread) (Some worker) is_for gave =
+    subst (λ (y : ContactPlan × Params × Post L T × Caller). HasEnded heard sent handed endless y.0 y.1 (y.2, y.3) worker.post worker.seat.value worker.was_cut)
     (λ i. (is_for.0 i, is_for.1 i, is_for.2 i, is_for.4 i)) gave.0
 
 -- each worker that had a thread did what its post promised
-pub kept_through : {L T : Type 0} (heard : L → Option (List Hearing)) (sent : L → Option (List (List ℕ))) (handed : T → Option (List Handed)) (endless : T → Bool) (plan : ContactPlan) (window lock : ℕ) (said : Bool) (lines : ClosedView)
+pub kept_through : {L T : Type 0} (heard : L → Option (List Hearing)) (sent : L → Option (List (List ℕ))) (handed : T → Option (List Handed)) (endless : T → Bool) (plan : ContactPlan) (params : Params) (lock : ℕ) (said : Bool) (lines : ClosedView)
     (given : List (Post L T × Caller)) (threads : List (Option (PromisedHandle (Left L T) (Duty L T)))) (results : List (Option (Ended L T)))
-    → AllZip (IsFor plan window lock) given threads → AllZip (GivesBack (IsJoined heard sent handed endless said lines)) threads results
-    → AllZip (HaveEnded heard sent handed endless plan window) given results
-kept_through {L} {T} heard sent handed endless plan window lock said lines given threads results are_for gave =
-    through (IsFor plan window lock) (GivesBack (IsJoined heard sent handed endless said lines)) (HaveEnded heard sent handed endless plan window)
-    (kept_one heard sent handed endless plan window lock said lines) given threads results are_for gave
+    → AllZip (IsFor plan params lock) given threads → AllZip (GivesBack (IsJoined heard sent handed endless said lines)) threads results
+    → AllZip (HaveEnded heard sent handed endless plan params) given results
+kept_through {L} {T} heard sent handed endless plan params lock said lines given threads results are_for gave =
+    through (IsFor plan params lock) (GivesBack (IsJoined heard sent handed endless said lines)) (HaveEnded heard sent handed endless plan params)
+    (kept_one heard sent handed endless plan params lock said lines) given threads results are_for gave
 
 cut_one : {L T : Type 0} (heard : L → Option (List Hearing)) (sent : L → Option (List (List ℕ))) (handed : T → Option (List Handed)) (endless : T → Bool) (said : Bool) (lines : ClosedView)
     (thread : Option (PromisedHandle (Left L T) (Duty L T))) (ended : Option (Ended L T)) → GivesBack (IsJoined heard sent handed endless said lines) thread ended
@@ -71,15 +72,15 @@ all_there {H} {R} Gives (None ∷ threads) (r ∷ results) gave = subst (λ (e :
 all_there Gives (Some t ∷ threads) (None ∷ results) gave = absurd gave.0
 all_there Gives (Some t ∷ threads) (Some r ∷ results) gave = all_there Gives threads results gave.1
 
-told_one : {L T : Type 0} (plan : ContactPlan) (window lock said : ℕ) → said ≡ lock → (given : Post L T × Caller) (thread : Option (PromisedHandle (Left L T) (Duty L T))) → IsFor plan window lock given thread
+told_one : {L T : Type 0} (plan : ContactPlan) (params : Params) (lock said : ℕ) → said ≡ lock → (given : Post L T × Caller) (thread : Option (PromisedHandle (Left L T) (Duty L T))) → IsFor plan params lock given thread
     → IfSome thread (λ t. t.promise.word.value.id ≡ said)
-told_one plan window lock said same given None is_for = tt
-told_one plan window lock said same given (Some thread) is_for = is_for.3 ∙ sym same
+told_one plan params lock said same given None is_for = tt
+told_one plan params lock said same given (Some thread) is_for = is_for.3 ∙ sym same
 
 -- each was told that word
-pub all_told : {L T : Type 0} (plan : ContactPlan) (window lock said : ℕ) → said ≡ lock → (given : List (Post L T × Caller)) (threads : List (Option (PromisedHandle (Left L T) (Duty L T))))
-    → AllZip (IsFor plan window lock) given threads → AllByRecursion (λ thread. IfSome thread (λ t. t.promise.word.value.id ≡ said)) threads
-all_told plan window lock said same given threads are_for = second_all _ _ (told_one plan window lock said same) given threads are_for
+pub all_told : {L T : Type 0} (plan : ContactPlan) (params : Params) (lock said : ℕ) → said ≡ lock → (given : List (Post L T × Caller)) (threads : List (Option (PromisedHandle (Left L T) (Duty L T))))
+    → AllZip (IsFor plan params lock) given threads → AllByRecursion (λ thread. IfSome thread (λ t. t.promise.word.value.id ≡ said)) threads
+all_told plan params lock said same given threads are_for = second_all _ _ (told_one plan params lock said same) given threads are_for
 
 -- what holds of an outcome holds of it in other words
 pub if_ok : {A E : Type 0} {P Q : A → Type 0} (r : Result A E) → IfOk r P → ((a : A) → P a → Q a) → IfOk r Q
@@ -91,19 +92,19 @@ pub if_both : {A E : Type 0} {P Q S : A → Type 0} (r : Result A E) → IfOk r 
 if_both (Ok a) is too then = then a is too
 if_both (Err e) is too then = tt
 
-told_seat : {L T : Type 0} (plan : ContactPlan) (window lock : ℕ) (of : LineId) (names : List (Option ReplyId)) (given : Post L T × Caller) (thread : Option (PromisedHandle (Left L T) (Duty L T)))
-    → IsFor plan window lock given thread → IsSeatOf of names given.1 → IfSome thread (λ t. IsSeatOf of names t.promise.seat.value)
-told_seat plan window lock of names given None is_for its = tt
-told_seat plan window lock of names given (Some thread) is_for its = subst (IsSeatOf of names) (sym is_for.4) its
+told_seat : {L T : Type 0} (plan : ContactPlan) (params : Params) (lock : ℕ) (of : LineId) (names : List (Option ReplyId)) (given : Post L T × Caller) (thread : Option (PromisedHandle (Left L T) (Duty L T)))
+    → IsFor plan params lock given thread → IsSeatOf of names given.1 → IfSome thread (λ t. IsSeatOf of names t.promise.seat.value)
+told_seat plan params lock of names given None is_for its = tt
+told_seat plan params lock of names given (Some thread) is_for its = subst (IsSeatOf of names) (sym is_for.4) its
 
 -- the threads were started for seats of these lines
-pub are_seats : {L T : Type 0} (plan : ContactPlan) (window lock : ℕ) (of : LineId) (names : List (Option ReplyId)) (posts : List (Post L T)) (seats : List Caller)
-    (threads : List (Option (PromisedHandle (Left L T) (Duty L T)))) → AllZip (IsFor plan window lock) (zip posts seats) threads → AllByRecursion (IsSeatOf of names) seats → AreSeatsOf of names threads
-are_seats plan window lock of names posts seats [] are_for its = tt
-are_seats plan window lock of names [] seats (t ∷ threads) are_for its = absurd are_for
-are_seats plan window lock of names (p ∷ posts) [] (t ∷ threads) are_for its = absurd are_for
-are_seats plan window lock of names (p ∷ posts) (s ∷ seats) (t ∷ threads) are_for its =
-    (told_seat plan window lock of names (p, s) t are_for.0 its.0, are_seats plan window lock of names posts seats threads are_for.1 its.1)
+pub are_seats : {L T : Type 0} (plan : ContactPlan) (params : Params) (lock : ℕ) (of : LineId) (names : List (Option ReplyId)) (posts : List (Post L T)) (seats : List Caller)
+    (threads : List (Option (PromisedHandle (Left L T) (Duty L T)))) → AllZip (IsFor plan params lock) (zip posts seats) threads → AllByRecursion (IsSeatOf of names) seats → AreSeatsOf of names threads
+are_seats plan params lock of names posts seats [] are_for its = tt
+are_seats plan params lock of names [] seats (t ∷ threads) are_for its = absurd are_for
+are_seats plan params lock of names (p ∷ posts) [] (t ∷ threads) are_for its = absurd are_for
+are_seats plan params lock of names (p ∷ posts) (s ∷ seats) (t ∷ threads) are_for its =
+    (told_seat plan params lock of names (p, s) t are_for.0 its.0, are_seats plan params lock of names posts seats threads are_for.1 its.1)
 
 answered_one : {L T : Type 0} (heard : L → Option (List Hearing)) (sent : L → Option (List (List ℕ))) (handed : T → Option (List Handed)) (endless : T → Bool) (said : Bool) (lines : ClosedView)
     (r : Responding) → IsLeftBy r lines → AreTold r.start r.history r.lines

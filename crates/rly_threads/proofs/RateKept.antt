@@ -3,11 +3,13 @@ use Rattle.std.proofs.Common.{◌≡◌, ◌∙◌, ◌≤◌, ◌+◌, ◌-◌,
 use Rattle.std.specs.Prelude.{◌⊎◌, fold, if◌then◌else◌, nat_lt, Option, Some, None, option_map, take}
 use Rattle.std.proofs.Math.Nat.{mul-le-mul_left}
 use Rattle.std.proofs.lemmas.List.{append-nil}
+use Rattle.rly_core.specs.declared.params.Params.{Params}
 use Rattle.rly_hop.specs.declared.sending.event.OutAction.{OutAction}
 use Rattle.rly_hop.specs.declared.sending.event.OutEvent.{OutEvent}
 use Rattle.rly_hop.specs.declared.sending.event.OutEvent.TheVariants.{Turn}
 use Rattle.rly_hop.specs.Sender.{Sender}
 use Rattle.rly_hop.specs.Sending.{sending_step}
+use Rattle.rly_hop.specs.Spelling.{longest_message}
 use Rattle.rly_pace.specs.Pacing.{is_opening, is_timeout, on_contact, on_time}
 use Rattle.rly_pace.specs.declared.rate.Bucket.{Bucket}
 use Rattle.rly_pace.specs.Rates.{burst, cost, first_bucket, may_take, on_take}
@@ -260,20 +262,20 @@ turns_rated w most p b first (next ∷ later) has =
     rated_both low high b done.core.rate (done_in (outlet_turn w most) done.core (next ∷ later)).core.rate done.sent
     (done_in (outlet_turn w most) done.core (next ∷ later)).sent x y
 
--- a bucket of this rate, for messages of at most 1,218 bytes
-record OfRate (r : ℕ) (of : Option Bucket) : Type 0 where
+-- a bucket of this rate, for messages of at most so many bytes
+record OfRate (r most_bytes : ℕ) (of : Option Bucket) : Type 0 where
   bucket : Bucket
   is : of ≡ Some bucket
   rate : bucket.rate ≡ r
-  longest : bucket.longest ≡ 1218
+  longest : bucket.longest ≡ most_bytes
 
 -- the rate stays the hop's
-stays_rated : (w : Outlet) (most r : ℕ) (p : Pacing) (turns : List Given) → OfRate r p.rate → OfRate r (done_in (outlet_turn w most) p turns).core.rate
-stays_rated w most r p [] of = of
-stays_rated w most r p (given ∷ turns) of =
+stays_rated : (w : Outlet) (most r most_bytes : ℕ) (p : Pacing) (turns : List Given) → OfRate r most_bytes p.rate → OfRate r most_bytes (done_in (outlet_turn w most) p turns).core.rate
+stays_rated w most r most_bytes p [] of = of
+stays_rated w most r most_bytes p (given ∷ turns) of =
     let at = given.made.after.since in
     let x = turn_rated at at w most p of.bucket given of.is (omega arith) (omega arith) in
-    stays_rated w most r (outlet_turn w most p given).core turns
+    stays_rated w most r most_bytes (outlet_turn w most p given).core turns
     (record { bucket = x.bucket; is = x.is; rate = x.spends.rate ∙ of.rate; longest = x.spends.longest ∙ of.longest })
 
 -- the bound, once the time between is counted from the mark
@@ -290,25 +292,26 @@ spends_bound lo hi b c total x = elim x.begun [
   | inr some ↦ bounded total c.credit b.rate b.mark c.mark lo hi (burst b) x.risen x.within (some.1 c.mark (omega arith))
 ]
 
-first_of_rate : (core : Sender) (window resend r : ℕ) (rate : Option ℕ) → rate ≡ Some r → OfRate r (first_pacing core window resend rate).rate
-first_of_rate core window resend r rate is = record {
-  bucket = first_bucket r 1218 0;
-  is = ap (option_map (λ x. first_bucket x 1218 0)) is;
+first_of_rate : (core : Sender) (params : Params) (resend r : ℕ) (rate : Option ℕ) → rate ≡ Some r → OfRate r (longest_message params.payload) (first_pacing core params resend rate).rate
+first_of_rate core params resend r rate is = record {
+  bucket = first_bucket r (longest_message params.payload) 0;
+  is = ap (option_map (λ x. first_bucket x (longest_message params.payload) 0)) is;
   rate = refl;
   longest = refl;
 }
 
 -- over any stretch of turns
-pub rate_kept : (w : Outlet) (most window resend r : ℕ) (rate : Option ℕ) (core : Sender) (before : List Given) (first : Given) (later : List Given) → rate ≡ Some r
-    → total_cost (done_in (outlet_turn w most) (done_in (outlet_turn w most) (first_pacing core window resend rate) before).core (first ∷ later)).sent
-    ≤ burst (first_bucket r 1218 0) + r * (latest first later - earliest first later)
-rate_kept w most window resend r rate core before first later is =
-    let p = (done_in (outlet_turn w most) (first_pacing core window resend rate) before).core in
-    let of = stays_rated w most r (first_pacing core window resend rate) before (first_of_rate core window resend r rate is) in
+pub rate_kept : (w : Outlet) (most : ℕ) (params : Params) (resend r : ℕ) (rate : Option ℕ) (core : Sender) (before : List Given) (first : Given) (later : List Given) → rate ≡ Some r
+    → total_cost (done_in (outlet_turn w most) (done_in (outlet_turn w most) (first_pacing core params resend rate) before).core (first ∷ later)).sent
+    ≤ burst (first_bucket r (longest_message params.payload) 0) + r * (latest first later - earliest first later)
+rate_kept w most params resend r rate core before first later is =
+    let full = first_bucket r (longest_message params.payload) 0 in
+    let p = (done_in (outlet_turn w most) (first_pacing core params resend rate) before).core in
+    let of = stays_rated w most r (longest_message params.payload) (first_pacing core params resend rate) before (first_of_rate core params resend r rate is) in
     let x = turns_rated w most p of.bucket first later of.is in
     let sent = (done_in (outlet_turn w most) p (first ∷ later)).sent in
     let bound : total_cost sent ≤ burst of.bucket + of.bucket.rate * (latest first later - earliest first later) =
     spends_bound (earliest first later) (latest first later) of.bucket x.bucket (total_cost sent) x.spends in
-    let all : burst of.bucket ≡ burst (first_bucket r 1218 0) = same_burst (first_bucket r 1218 0) of.bucket of.rate of.longest in
-    subst (λ n. total_cost sent ≤ burst (first_bucket r 1218 0) + n * (latest first later - earliest first later)) of.rate
+    let all : burst of.bucket ≡ burst full = same_burst full of.bucket of.rate of.longest in
+    subst (λ n. total_cost sent ≤ burst full + n * (latest first later - earliest first later)) of.rate
     (subst (λ n. total_cost sent ≤ n + of.bucket.rate * (latest first later - earliest first later)) all bound)

@@ -154,9 +154,9 @@ one_unless : (w : Wanted) (lacks : Bool) → length (if lacks then [] else w ∷
 one_unless w true = omega arith
 one_unless w false = omega arith
 
-take_one : (w : Intake) (most now : ℕ) (refused : Bool) (core : Receiver) (taken : Option (ℕ × List ℕ)) → length (take_of w most now refused core taken) ≤ 1
+take_one : (w : Intake) (most now : ℕ) (refused : Bool) (core : Receiver) (taken : Option (ℕ × ℕ × List ℕ)) → length (take_of w most now refused core taken) ≤ 1
 take_one w most now refused core None = omega arith
-take_one w most now refused core (Some taken) = one_unless _ (lacks_memory most taken.1 refused)
+take_one w most now refused core (Some taken) = one_unless _ (lacks_memory most taken.2 refused)
 
 pub one_at_most : (w : Intake) (most : ℕ) (r : Receiver) (now : ℕ) (refused : Bool) (m : Option (Message (List ℕ))) → length (wanted_by w most r now refused m) ≤ 1
 one_at_most w most r now refused m = take_one w most now refused _ _

@@ -7,6 +7,7 @@ use Rattle.std.proofs.lemmas.List.{append-nil, append_assoc, length-append, map-
 use Rattle.std.proofs.lemmas.List.Elements.{filter_map-append}
 use Rattle.std.proofs.lemmas.Option.{none-some}
 use Rattle.std.proofs.lemmas.List.FromFn.{length-map-range_with_len, map-range_with_len_more}
+use Rattle.rly_core.specs.declared.params.Params.{Params}
 use Rattle.rly_hop.specs.declared.sending.event.OutAction.{OutAction}
 use Rattle.rly_hop.specs.declared.sending.event.OutAction.TheVariants as action
 use Rattle.rly_hop.specs.declared.sending.event.OutEvent.{OutEvent}
@@ -386,17 +387,17 @@ turned w most room old told mid new p heard ready acting left core given in_cont
     did_hear old mid new left _ (worker.Sender w.hop) (waits_first p.moved p.core) packets given.heard hearing_is moment_is both rest
 
 -- what a sender of a hop did that is there, or that isn't
-abbrev sent_by : ContactPlan → ℕ → HopId → EndsView → EndsView → Option Neighbour → Type 0
-sent_by plan window hop old new found =
+abbrev sent_by : ContactPlan → Params → HopId → EndsView → EndsView → Option Neighbour → Type 0
+sent_by plan params hop old new found =
     IfNone found (new ≡ old) × IfSome found (λ neighbour. (most : ℕ) × ((most ≡ 64) ⊎ (most ≡ 1)) × (turns : List Given)
     × Ran old new (worker.Sender hop)
     (done_in (outlet_turn (outlet plan hop) most)
-    (first_pacing (sender (record { 0 = plan.station }) (record { 0 = neighbour.station }) window) window (resend plan hop) (rate plan hop)) turns))
+    (first_pacing (sender (record { 0 = plan.station }) (record { 0 = neighbour.station }) params.window) params (resend plan hop) (rate plan hop)) turns))
 
-pub has_sent : (plan : ContactPlan) (hop : HopId) (window : ℕ) (old new : EndsView) (neighbour : Neighbour) (most : ℕ) (turns : List Given)
+pub has_sent : (plan : ContactPlan) (hop : HopId) (params : Params) (old new : EndsView) (neighbour : Neighbour) (most : ℕ) (turns : List Given)
     → Some neighbour ≡ next_hop_at plan hop → (most ≡ 64) ⊎ (most ≡ 1)
     → Ran old new (worker.Sender hop)
     (done_in (outlet_turn (outlet plan hop) most)
-    (first_pacing (sender (record { 0 = plan.station }) (record { 0 = neighbour.station }) window) window (resend plan hop) (rate plan hop)) turns)
-    → HasSent plan window hop old new
-has_sent plan hop window old new neighbour most turns found which ran = subst (sent_by plan window hop old new) found (tt, (most, which, turns, ran))
+    (first_pacing (sender (record { 0 = plan.station }) (record { 0 = neighbour.station }) params.window) params (resend plan hop) (rate plan hop)) turns)
+    → HasSent plan params hop old new
+has_sent plan hop params old new neighbour most turns found which ran = subst (sent_by plan params hop old new) found (tt, (most, which, turns, ran))

@@ -15,7 +15,7 @@ use Rattle.rly_threads.specs.Turns.{Done, Given, message_in}
 
 hearing_stray : (s : Sender) (m : Option (Message (List ℕ))) → acknowledges s m ≡ false → outlet_on_hearing s m ≡ s
 hearing_stray s None is = refl
-hearing_stray s (Some (message.Data from to number payload)) is = refl
+hearing_stray s (Some (message.Data from to number limit payload)) is = refl
 hearing_stray s (Some (message.Custody from to last)) is =
     ap (λ b. if b then record s { acked = Some (option_map_or (λ a. max a last) s.acked last) } else s) is
 hearing_stray s (Some (message.Refused from to number refusal)) is = refl

@@ -5,6 +5,7 @@ use Rattle.std.specs.List.{AllByRecursion, AllZip, list_all}
 use Rattle.std.specs.declared.thread.PromisedHandle.{PromisedHandle}
 use Rattle.std.specs.Option.{is_some}
 use Rattle.std.specs.declared.sync.OnceToken.{OnceToken}
+use Rattle.rly_core.specs.declared.params.Params.{Params}
 use Rattle.rly_disk.specs.DiskModel.{DiskState}
 use Rattle.rly_flush.specs.Flushing.{IsServed, new_flusher}
 use Rattle.rly_journal.specs.Journal.{JournalState}
@@ -76,10 +77,10 @@ pub record IsCutting {T : Type 0} (told : T → Option (List Handed)) (without_e
   pub hears : IsHeard lock c.heard
 
 -- what the thread of a post and its seat was started for, if there is one
-abbrev pub IsFor : {L T : Type 0} → ContactPlan → ℕ → ℕ → Post L T × Caller
+abbrev pub IsFor : {L T : Type 0} → ContactPlan → Params → ℕ → Post L T × Caller
     → Option (PromisedHandle (Left L T) (Duty L T)) → Type 0
-IsFor plan window lock given thread =
-    IfSome thread (λ t. (t.promise.plan.value ≡ plan) × (t.promise.window ≡ window) × (t.promise.post.value ≡ given.0)
+IsFor plan params lock given thread =
+    IfSome thread (λ t. (t.promise.plan.value ≡ plan) × (t.promise.params ≡ params) × (t.promise.post.value ≡ given.0)
     × (t.promise.word.value.id ≡ lock) × (t.promise.seat.value ≡ given.1))
 
 -- what came of a worker that had a thread, where it had one
@@ -94,7 +95,7 @@ abbrev pub IsJoined : {L T : Type 0} → (L → Option (List Hearing)) → (L �
     → (T → Option (List Handed)) → (T → Bool) → Bool → ClosedView
     → PromisedHandle (Left L T) (Duty L T) → Ended L T → Type 0
 IsJoined heard sent handed endless said lines thread ended =
-    HasEnded heard sent handed endless thread.promise.plan.value thread.promise.window
+    HasEnded heard sent handed endless thread.promise.plan.value thread.promise.params
     (thread.promise.post.value, thread.promise.seat.value) ended.post ended.seat.value ended.was_cut
     × (ended.was_cut ≡ true → said ≡ true) × IsToldBy lines ended.seat.value
     × IsSeatOf lines.of (names_of lines.lines) ended.seat.value
@@ -114,7 +115,7 @@ pub record IsRelayed {D L T : Type 0} (state : D → DiskState) (heard : L → O
   pub served : IsServed state (new_flusher journal line_end) relayed.finished.last.value
   pub left : relayed.finished.last.value.journal ≡ relayed.finished.journal
   pub closed : IsLeftBy relayed.finished.last.value.line relayed.finished.lines
-  pub worked : AllZip (HaveEnded heard sent handed endless plan journal.state.params.window) given relayed.ended.items
+  pub worked : AllZip (HaveEnded heard sent handed endless plan journal.state.params) given relayed.ended.items
   pub answered : AreAnsweredBy relayed.finished.last.value.line relayed.ended.items
   pub told : relayed.is_cut ≡ is_to_end relayed.finished.broken relayed.ended.items
   pub cut : AllByRecursion

@@ -44,9 +44,10 @@ hop_of_payload plan payload =
     if nat_lt (length payload) 2 then record { 0 = 0 }
     else unwrap_or (hop_for plan (big_number 2 payload)) (record { 0 = 0 })
 
--- the command that takes a datagram, stamped by the link clock of its hop, with no limit
-abbrev pub take_ask : Intake → ℕ → ℕ → HopId → List ℕ → Ask
-take_ask w now number hop payload = Command (command.Take w.peer number hop (link w.plan hop now) 0 payload)
+-- the command that takes a datagram, stamped by the link clock of its hop, with the limit that it came with
+abbrev pub take_ask : Intake → (now number : ℕ) → HopId → (limit : ℕ) → List ℕ → Ask
+take_ask w now number hop limit payload =
+    Command (command.Take w.peer number hop (link w.plan hop now) limit payload)
 
 -- what the core is told of the reply to its Take
 abbrev pub answer_in : Reply → TakeAnswer
@@ -79,9 +80,9 @@ abbrev pub intake_on_hearing : Receiver → Option (Message (List ℕ)) → Rece
 intake_on_hearing r None = (r, None)
 intake_on_hearing r (Some m) = receiving_step r (Heard m)
 
--- the number and the payload of the datagram that an action takes
-abbrev pub datagram_in : Option (InAction (List ℕ)) → Option (ℕ × List ℕ)
-datagram_in (Some (Take number payload)) = Some (number, payload)
+-- the number, the limit and the payload of the datagram that an action takes
+abbrev pub datagram_in : Option (InAction (List ℕ)) → Option (ℕ × ℕ × List ℕ)
+datagram_in (Some (Take number limit payload)) = Some (number, limit, payload)
 datagram_in (Some (Send m)) = None
 datagram_in None = None
 
@@ -129,13 +130,13 @@ pub record Wanted : Type 0 where
 abbrev pub lacks_memory : ℕ → List ℕ → Bool → Bool
 lacks_memory most payload refused = refused && ((most == 1) || nat_lt 0 (length payload))
 
-abbrev pub take_of : Intake → ℕ → ℕ → Bool → Receiver → Option (ℕ × List ℕ) → List Wanted
+abbrev pub take_of : Intake → ℕ → ℕ → Bool → Receiver → Option (ℕ × ℕ × List ℕ) → List Wanted
 take_of w most now refused core None = []
 take_of w most now refused core (Some taken) =
-    if lacks_memory most taken.1 refused then []
+    if lacks_memory most taken.2 refused then []
     else
-    let hop = hop_of_payload w.plan taken.1 in
-    record { core = core; hop = hop; ask = take_ask w now taken.0 hop taken.1 } ∷ []
+    let hop = hop_of_payload w.plan taken.2 in
+    record { core = core; hop = hop; ask = take_ask w now taken.0 hop taken.1 taken.2 } ∷ []
 
 -- the Take that a message leads to, or nothing, at a moment, if it leads to one: a core that is as this one hears it
 abbrev pub wanted_by : Intake → ℕ → Receiver → ℕ → Bool → Option (Message (List ℕ)) → List Wanted
@@ -165,18 +166,19 @@ named x = (receiving_step x.0.0 (intake_event x.1.answer.reply)).1
 -- the number that an action sends custody of, if it does
 abbrev pub custody_in : Option (InAction (List ℕ)) → Option ℕ
 custody_in (Some (Send (message.Custody from to last))) = Some last
-custody_in (Some (Send (message.Data from to number payload))) = None
+custody_in (Some (Send (message.Data from to number limit payload))) = None
 custody_in (Some (Send (message.Refused from to number refusal))) = None
-custody_in (Some (Take number payload)) = None
+custody_in (Some (Take number limit payload)) = None
 custody_in None = None
 
 -- what is sent by an action at once: any message but a custody
 abbrev pub refusal_packets : Option (InAction (List ℕ)) → List (List ℕ)
 refusal_packets (Some (Send (message.Custody from to last))) = []
-refusal_packets (Some (Send (message.Data from to number payload))) = packets_of (message.Data from to number payload)
+refusal_packets (Some (Send (message.Data from to number limit payload))) =
+    packets_of (message.Data from to number limit payload)
 refusal_packets (Some (Send (message.Refused from to number refusal))) =
     packets_of (message.Refused from to number refusal)
-refusal_packets (Some (Take number payload)) = []
+refusal_packets (Some (Take number limit payload)) = []
 refusal_packets None = []
 
 -- the custody of this number, if there is one

@@ -82,19 +82,19 @@ named_ask w now (action.Fetch number) = Some (Query (query.Fetch w.hop number))
 named_ask w now action.Pick = Some (Command (command.Pick w.hop (link w.plan w.hop now)))
 named_ask w now (action.Send m) = None
 
--- what the core is told of a reply: bytes are those of the number that it asked for
-abbrev pub fetch_event : OutAction (List ℕ) → List ℕ → OutEvent (List ℕ)
-fetch_event (action.Fetch number) payload = event.Fetched number payload
-fetch_event action.AskWindow payload = event.Other
-fetch_event (action.Release number) payload = event.Other
-fetch_event action.Pick payload = event.Other
-fetch_event (action.Send m) payload = event.Other
+-- what the core is told of a reply: bytes and their limit are those of the number that it asked for
+abbrev pub fetch_event : OutAction (List ℕ) → List ℕ → ℕ → OutEvent (List ℕ)
+fetch_event (action.Fetch number) payload limit = event.Fetched number limit payload
+fetch_event action.AskWindow payload limit = event.Other
+fetch_event (action.Release number) payload limit = event.Other
+fetch_event action.Pick payload limit = event.Other
+fetch_event (action.Send m) payload limit = event.Other
 
 abbrev pub event_in : OutAction (List ℕ) → Reply → OutEvent (List ℕ)
 event_in named (reply.WindowIs first next) = event.WindowIs first next
 event_in named (reply.Picked number id expired dropped) = event.Picked number
 event_in named (reply.Nothing expired) = event.Nothing
-event_in named (reply.Bytes payload limit) = fetch_event named payload
+event_in named (reply.Bytes payload limit) = fetch_event named payload limit
 event_in named (reply.Released count) = event.Released
 event_in named reply.Unchanged = event.Unchanged
 event_in named (reply.Refused refusal) = event.Refused refusal
@@ -117,7 +117,7 @@ abbrev pub is_progress : OutEvent (List ℕ) → Bool
 is_progress (event.WindowIs first next) = true
 is_progress (event.Picked number) = true
 is_progress event.Released = true
-is_progress (event.Fetched number payload) = false
+is_progress (event.Fetched number limit payload) = false
 is_progress event.Nothing = false
 is_progress event.Unchanged = false
 is_progress (event.Refused refusal) = false
@@ -143,7 +143,7 @@ picks_after picks (event.Picked number) = min 64 (picks + 1)
 picks_after picks event.Nothing = 1
 picks_after picks (event.Refused refusal) = 1
 picks_after picks (event.WindowIs first next) = picks
-picks_after picks (event.Fetched number payload) = picks
+picks_after picks (event.Fetched number limit payload) = picks
 picks_after picks event.Released = picks
 picks_after picks event.Unchanged = picks
 picks_after picks event.Other = picks

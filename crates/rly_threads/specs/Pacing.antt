@@ -2,6 +2,7 @@
 -- given a Timeout, and how many messages may go out (docs/PROTOCOL.md, "The pace of a hop").
 use Rattle.std.specs.Prelude.{ℕ, min, List, [], ◌∷◌, ◌++◌, length, Bool, true, false, nat_le}
 use Rattle.std.specs.Prelude.{if◌then◌else◌, Option, Some, None, option_map}
+use Rattle.rly_core.specs.declared.params.Params.{Params}
 use Rattle.rly_hop.specs.declared.message.Message.TheVariants as message
 use Rattle.rly_hop.specs.declared.sending.event.OutAction.{OutAction}
 use Rattle.rly_hop.specs.declared.sending.event.OutAction.TheVariants as action
@@ -9,21 +10,23 @@ use Rattle.rly_hop.specs.declared.sending.event.OutEvent.{OutEvent}
 use Rattle.rly_hop.specs.declared.sending.event.OutEvent.TheVariants as event
 use Rattle.rly_hop.specs.Sender.{Sender}
 use Rattle.rly_hop.specs.Sending.{sending_step, turn}
+use Rattle.rly_hop.specs.Spelling.{longest_message}
 use Rattle.rly_pace.specs.declared.rate.Bucket.{Bucket}
 use Rattle.rly_pace.specs.Pacing.{Pacer, first_pacer, is_opening, is_timeout, on_contact, on_covered}
 use Rattle.rly_pace.specs.Pacing.{on_sent, on_time, on_window, open_room}
 use Rattle.rly_pace.specs.Rates.{first_bucket, may_take, on_take, room_at}
 use Rattle.rly_threads.specs.declared.pacing.Pacing.{Pacing}
 
--- At first: one Pick may be asked, no contact is open, and the burst may go out. `resend` in milliseconds, the rate in
--- bytes a second; the longest message has 1,218 bytes.
-abbrev pub first_pacing : Sender → ℕ → ℕ → Option ℕ → Pacing
-first_pacing core window resend rate = record {
+-- At first, in a spool with these parameters: one Pick may be asked, no contact is open, and the burst may go out.
+-- `resend` in milliseconds, the rate in bytes a second; the longest message is that with the longest payload of the
+-- spool and a limit.
+abbrev pub first_pacing : Sender → Params → ℕ → Option ℕ → Pacing
+first_pacing core params resend rate = record {
   core = core;
   moved = false;
   picks = 1;
-  pace = first_pacer resend window;
-  rate = option_map (λ r. first_bucket r 1218 0) rate;
+  pace = first_pacer resend params.window;
+  rate = option_map (λ r. first_bucket r (longest_message params.payload) 0) rate;
 }
 
 -- where this says so, the core is given a Timeout
@@ -89,7 +92,7 @@ rate_after rate (packet ∷ others) at = rate_after (rate_after_one rate packet 
 abbrev pub pace_on_answer : Pacer → OutEvent (List ℕ) → Pacer
 pace_on_answer pace (event.WindowIs first next) = if nat_le first next then on_window pace first next else pace
 pace_on_answer pace (event.Picked number) = pace
-pace_on_answer pace (event.Fetched number payload) = pace
+pace_on_answer pace (event.Fetched number limit payload) = pace
 pace_on_answer pace event.Nothing = pace
 pace_on_answer pace event.Released = pace
 pace_on_answer pace event.Unchanged = pace
@@ -101,7 +104,7 @@ pace_on_answer pace (event.Turn in_contact) = pace
 
 -- the core names the sending of a number, whatever becomes of the packet
 abbrev pub pace_on_named : Pacer → Option (OutAction (List ℕ)) → ℕ → Pacer
-pace_on_named pace (Some (action.Send (message.Data from to number payload))) at = on_sent pace number at
+pace_on_named pace (Some (action.Send (message.Data from to number limit payload))) at = on_sent pace number at
 pace_on_named pace (Some (action.Send (message.Custody from to last))) at = pace
 pace_on_named pace (Some (action.Send (message.Refused from to number refusal))) at = pace
 pace_on_named pace (Some action.AskWindow) at = pace

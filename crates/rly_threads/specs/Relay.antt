@@ -5,6 +5,7 @@ use Rattle.std.specs.List.{AllByRecursion, list_all, zip}
 use Rattle.std.specs.Option.{is_some}
 use Rattle.rly_core.specs.declared.ids.HopId.{HopId}
 use Rattle.rly_core.specs.declared.ids.PeerId.{PeerId}
+use Rattle.rly_core.specs.declared.params.Params.{Params}
 use Rattle.rly_hop.specs.Receiving.{receiver}
 use Rattle.rly_hop.specs.Sending.{sender}
 use Rattle.rly_line.specs.EndViews.{EndView, new_tellers}
@@ -43,20 +44,21 @@ HasReceived plan peer old new =
     (done_in (intake_turn (intake plan peer) most)
     (receiver (record { 0 = plan.station }) (record { 0 = neighbour.station })) turns))
 
--- The same of a sender to a hop of the plan, which may have so many datagrams in flight, at the hop's `resend` and
--- rate. It makes up to 64 calls together, or one at a time where memory for their lists was refused at its start.
-abbrev pub HasSent : ContactPlan → ℕ → HopId → EndsView → EndsView → Type 0
-HasSent plan window hop old new =
+-- The same of a sender to a hop of the plan, in a spool with these parameters: with its window and its longest payload,
+-- at the hop's `resend` and rate. It makes up to 64 calls together, or one at a time where memory for their lists was
+-- refused at its start.
+abbrev pub HasSent : ContactPlan → Params → HopId → EndsView → EndsView → Type 0
+HasSent plan params hop old new =
     IfNone (next_hop_at plan hop) (new ≡ old)
     × IfSome (next_hop_at plan hop) (λ neighbour. (most : ℕ) × ((most ≡ 64) ⊎ (most ≡ 1)) × (turns : List Given)
     × Ran old new (worker.Sender hop)
     (done_in (outlet_turn (outlet plan hop) most)
-    (first_pacing (sender (record { 0 = plan.station }) (record { 0 = neighbour.station }) window) window
+    (first_pacing (sender (record { 0 = plan.station }) (record { 0 = neighbour.station }) params.window) params
     (resend plan hop) (rate plan hop)) turns))
 
-abbrev pub HasWorked : ContactPlan → ℕ → Worker → EndsView → EndsView → Type 0
-HasWorked plan window (worker.Receiver peer) old new = HasReceived plan peer old new
-HasWorked plan window (worker.Sender hop) old new = HasSent plan window hop old new
+abbrev pub HasWorked : ContactPlan → Params → Worker → EndsView → EndsView → Type 0
+HasWorked plan params (worker.Receiver peer) old new = HasReceived plan peer old new
+HasWorked plan params (worker.Sender hop) old new = HasSent plan params hop old new
 
 -- what the link at a post tells, what was asked of its seat, and what its worker was handed
 abbrev pub told_at : Option (List Hearing) → Option (List (List ℕ)) → List Asked → List Handed → EndsView
@@ -67,7 +69,7 @@ told_at heard sent asked handed = record { heard = heard; sent = sent; asked = S
 -- nothing else. What it was handed is what its turns handed out, but for its end where it was cut: its turns would have
 -- had it go on. Turns without end hand out no end.
 pub record HasEnded {L T : Type 0} (heard : L → Option (List Hearing)) (sent : L → Option (List (List ℕ)))
-    (handed : T → Option (List Handed)) (endless : T → Bool) (plan : ContactPlan) (window : ℕ)
+    (handed : T → Option (List Handed)) (endless : T → Bool) (plan : ContactPlan) (params : Params)
     (given : Post L T × Caller) (post : Post L T) (seat : Caller) (cut : Bool) : Type 0 where
   pub worker : post.worker ≡ given.0.worker
   pub looks : List Look
@@ -75,7 +77,7 @@ pub record HasEnded {L T : Type 0} (heard : L → Option (List Hearing)) (sent :
   pub on : endless given.0.turn ≡ true → all_on looks ≡ true
   pub asked : List Asked
   pub put : HasPut given.1 asked seat
-  pub worked : HasWorked plan window given.0.worker
+  pub worked : HasWorked plan params given.0.worker
       (told_at (heard given.0.link) (sent given.0.link) [] [])
       (told_at (heard post.link) (sent post.link) asked (map handed_at looks))
   pub was_cut : cut ≡ was_cut looks
@@ -83,9 +85,9 @@ pub record HasEnded {L T : Type 0} (heard : L → Option (List Hearing)) (sent :
 
 -- the same where it had a thread
 abbrev pub HaveEnded : {L T : Type 0} → (L → Option (List Hearing)) → (L → Option (List (List ℕ)))
-    → (T → Option (List Handed)) → (T → Bool) → ContactPlan → ℕ → Post L T × Caller → Option (Ended L T) → Type 0
-HaveEnded heard sent handed endless plan window given ended =
-    IfSome ended (λ e. HasEnded heard sent handed endless plan window given e.post e.seat.value e.was_cut)
+    → (T → Option (List Handed)) → (T → Bool) → ContactPlan → Params → Post L T × Caller → Option (Ended L T) → Type 0
+HaveEnded heard sent handed endless plan params given ended =
+    IfSome ended (λ e. HasEnded heard sent handed endless plan params given e.post e.seat.value e.was_cut)
 
 -- posts, each with the seat of its number at a line, of which nothing was asked
 abbrev pub seated : {L T : Type 0} → LineId → List (Option ReplyId) → List (Post L T) → List (Post L T × Caller)

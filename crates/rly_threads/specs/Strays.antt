@@ -8,7 +8,7 @@ use Rattle.rly_threads.specs.Turns.{message_in}
 -- whether a message is a custody, from the hop's station to the own one, of a number in flight
 abbrev pub acknowledges : Sender → Option (Message (List ℕ)) → Bool
 acknowledges s None = false
-acknowledges s (Some (message.Data from to number payload)) = false
+acknowledges s (Some (message.Data from to number limit payload)) = false
 acknowledges s (Some (message.Custody from to last)) =
     (from.0 == s.hop.0) && (to.0 == s.own.0) && s.ready && nat_le s.first last && nat_lt last s.next
 acknowledges s (Some (message.Refused from to number refusal)) = false

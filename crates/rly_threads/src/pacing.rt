@@ -11,8 +11,8 @@ use crate::desk::Desk;
 use crate::ends::Ends;
 use crate::link::Link;
 use crate::turn::Turn;
-use rly_core::limits;
-use rly_hop::{MAX_MESSAGE, Message, OutAction, OutEvent, Sending};
+use rly_core::{Params, limits};
+use rly_hop::{MAX_MESSAGE, Message, OutAction, OutEvent, Sending, longest_message};
 use rly_pace::{Pace, Rate};
 
 /// So many calls a sending worker makes together at most.
@@ -32,16 +32,17 @@ pub(crate) struct Pacing {
 }
 
 impl Pacing {
-    /// Before the first turn, for a hop with this `resend`, in milliseconds, and this rate, in bytes a second, if it has one.
-    pub(crate) fn new(core: Sending, window: u64, resend: u32, rate: Option<u32>) -> Pacing
-        ensures { result ≡ first_pacing core window resend rate }
+    /// Before the first turn, in a spool with these parameters, for a hop with this `resend`, in milliseconds, and this rate,
+    /// in bytes a second, if it has one.
+    pub(crate) fn new(core: Sending, params: &Params, resend: u32, rate: Option<u32>) -> Pacing
+        ensures { result ≡ first_pacing core params.now resend rate }
     {
         Pacing {
             core,
             moved: false,
             picks: 1,
-            pace: Pace::new(resend, window),
-            rate: full(rate),
+            pace: Pace::new(resend, params.window),
+            rate: full(rate, longest_message(params.payload) as u32),
         }
     }
 
@@ -121,12 +122,12 @@ impl Pacing {
     }
 }
 
-/// What the rate lets out at first: the burst.
-fn full(rate: Option<u32>) -> Option<Rate>
-    ensures { result ≡ option_map (λ r. first_bucket r 1218 0) rate }
+/// What the rate lets out at first, where the longest message has so many bytes: the burst.
+fn full(rate: Option<u32>, longest: u32) -> Option<Rate>
+    ensures { result ≡ option_map (λ r. first_bucket r longest 0) rate }
 {
     match rate {
-        Some(rate) => Some(Rate::new(rate, MAX_MESSAGE as u32, 0)),
+        Some(rate) => Some(Rate::new(rate, longest, 0)),
         None => None,
     }
 }

@@ -190,7 +190,7 @@ impl<'a> Intake<'a> {
             return;
         };
         let mut core = Receiving::new(self.own, self.station);
-        let Some((number, payload)) = datagram_in(core.step(InEvent::Heard(message))) else {
+        let Some((number, limit, payload)) = datagram_in(core.step(InEvent::Heard(message))) else {
             return;
         };
         let Ok(()) = takes.make_room() else {
@@ -200,7 +200,7 @@ impl<'a> Intake<'a> {
             return;
         };
         let hop = hop_of_payload(self.plan, payload.as_slice());
-        let ask = self.take_ask(now, number, hop, payload);
+        let ask = self.take_ask(now, number, hop, limit, payload);
         takes.asks.push_reserved(ask);
         takes.waiting.push_reserved((core, hop));
     }
@@ -273,28 +273,33 @@ impl<'a> Intake<'a> {
         }
     }
 
-    /// The command that takes a datagram for a hop which arrived under a number. Workers give no limit
-    /// (`docs/PROTOCOL.md`).
-    fn take_ask(&self, now: u64, number: u64, hop: HopId, payload: Payload) -> Ask
-        ensures { result ≡ take_ask (intake self.now.plan.now self.now.peer) now number hop payload }
+    /// The command that takes a datagram for a hop which arrived under a number, with the limit that it came with.
+    fn take_ask(&self, now: u64, number: u64, hop: HopId, limit: u64, payload: Payload) -> Ask
+        ensures { result ≡ take_ask (intake self.now.plan.now self.now.peer) now number hop limit payload }
     {
         Ask::Command(Command::Take {
             peer: self.peer,
             number,
             hop,
             stamp: self.plan.link(hop, now),
-            limit: 0,
+            limit,
             payload,
         })
     }
 }
 
-/// The datagram that an action takes, if it takes one, and its number.
-fn datagram_in<'a>(action: Option<InAction<&'a [u8]>>) -> Option<(u64, &'a [u8])>
-    ensures { option_map (λ taken. (taken.0, taken.1.now)) result ≡ datagram_in (option_map in_action_bytes action.entry) }
+/// The datagram that an action takes, if it takes one: its number, its limit and its payload.
+fn datagram_in<'a>(action: Option<InAction<&'a [u8]>>) -> Option<(u64, u64, &'a [u8])>
+    ensures { option_map (λ taken. (taken.0, taken.1, taken.2.now)) result ≡ datagram_in (option_map in_action_bytes action.entry) }
 {
     match action {
-        Some(InAction::Take { number, payload }) => Some((number, payload)),
+        Some(
+            InAction::Take {
+                number,
+                limit,
+                payload,
+            },
+        ) => Some((number, limit, payload)),
         Some(InAction::Send(_)) => None,
         None => None,
     }

@@ -19,6 +19,7 @@ use crate::receiver::receiver_run;
 use crate::seat_desk::SeatDesk;
 use crate::sender::sender_run;
 use crate::turn::{Turn, Worker};
+use rly_core::Params;
 use rly_disk::Disk;
 use rly_flush::{Finished, Flusher};
 use rly_journal::Journal;
@@ -91,8 +92,8 @@ pub fn run_relay<
     ensures served { IfOk result (λ relayed. (line : LineId) × (names : List (Option ReplyId)) × (length names ≡ length posts.items)
         × IsServed D.state (new_flusher journal (new_end line names)) relayed.finished.last.value) }
     ensures left { IfOk result (λ relayed. relayed.finished.last.value.journal ≡ relayed.finished.journal) }
-    // Each worker that had a thread did at its post and its seat of that line what the plan says of it, with the journal's window.
-    ensures worked { IfOk result (λ relayed. AllZip (HaveEnded L.heard L.sent T.told T.endless plan.now journal.state.params.window)
+    // Each worker that had a thread did at its post and its seat of that line what the plan says of it, with the journal's parameters.
+    ensures worked { IfOk result (λ relayed. AllZip (HaveEnded L.heard L.sent T.told T.endless plan.now journal.state.params)
         (seated relayed.finished.last.value.line.of (names_of relayed.finished.last.value.line.lines) posts.items) relayed.ended.items) }
     ensures seats { IfOk result (λ relayed. length relayed.finished.last.value.line.lines ≡ length posts.items) }
     // What its seat put begins with all asks that the flusher's history has of it, and what it knows is a prefix of that history.
@@ -143,7 +144,7 @@ pub fn run_relay_at<
     ensures left { IfOk result (λ relayed. relayed.finished.last.value.journal ≡ relayed.finished.journal) }
     // Its closed end is that of its flusher, for those who have other seats.
     ensures closed { IfOk result (λ relayed. IsLeftBy relayed.finished.last.value.line relayed.finished.lines) }
-    ensures worked { IfOk result (λ relayed. AllZip (HaveEnded L.heard L.sent T.told T.endless plan.now journal.state.params.window)
+    ensures worked { IfOk result (λ relayed. AllZip (HaveEnded L.heard L.sent T.told T.endless plan.now journal.state.params)
         (zip posts.items seats.items) relayed.ended.items) }
     ensures answered { IfOk result (λ relayed. AreAnsweredBy relayed.finished.last.value.line relayed.ended.items) }
     ensures told { IfOk result (λ relayed. relayed.is_cut ≡ is_to_end relayed.finished.broken relayed.ended.items) }
@@ -198,7 +199,7 @@ fn relay_in<
     ensures done { IfOk result (λ relayed. IsRelayed D.state L.heard L.sent T.told T.endless plan.now journal line_end (zip posts.items seats.items) relayed) }
     ensures refused { IfErr result (λ back. back ≡ journal) }
 {
-    let window = journal.params().window;
+    let params = journal.params();
     let Ok(threads) = Vec::with_capacity(alloc, posts.len()) else {
         call_off(rt, line_end, word);
         return Err(journal);
@@ -214,7 +215,7 @@ fn relay_in<
             return Err(journal);
         }
     };
-    let threads = start_all(scope, rt, alloc, plan, window, posts, seats, word, threads);
+    let threads = start_all(scope, rt, alloc, plan, params, posts, seats, word, threads);
     Ok(serve_to_end(rt, flusher, threads, word, ended))
 }
 
@@ -230,7 +231,7 @@ fn start_all<'s, 'a: 's, E, R: Wait + Sync, L: Link + Drop + Send + 's, T: Turn 
     rt: &'s R,
     alloc: Global,
     plan: &'s Plan,
-    window: u64,
+    params: Params,
     posts: Vec<Post<L, T>>,
     seats: Vec<Seat>,
     word: &'a OnceLock<bool>,
@@ -238,11 +239,11 @@ fn start_all<'s, 'a: 's, E, R: Wait + Sync, L: Link + Drop + Send + 's, T: Turn 
 ) -> Vec<Thread<'a, L, T>>
     requires seats { length seats.items ≡ length posts.items }
     requires empty { (empty.items ≡ []) × (vec_capacity empty ≡ length posts.items) }
-    ensures { AllZip (IsFor plan.now window word.now.id) (zip posts.items seats.items) result.items }
+    ensures { AllZip (IsFor plan.now params word.now.id) (zip posts.items seats.items) result.items }
 {
     let mut threads = empty;
     for (seat, post) in seats.into_iter().zip(posts) {
-        let thread = start(scope, rt, alloc, plan, window, post, seat, word);
+        let thread = start(scope, rt, alloc, plan, params, post, seat, word);
         threads.push_reserved(thread);
     }
     threads
@@ -332,7 +333,7 @@ fn have_started<'a, L: Link + Drop, T: Turn + Drop>(threads: &[Thread<'a, L, T>]
 #[derive(Drop)]
 struct Duty<L: Link + Drop, T: Turn + Drop> {
     plan: Snapshot<Plan>,
-    window: u64,
+    params: Params,
     post: Snapshot<Post<L, T>>,
     seat: Snapshot<Seat>,
     word: Snapshot<OnceLock<bool>>,
@@ -343,27 +344,27 @@ impl<'a, L: Link + Drop, T: Turn + Drop> Promise<Left<'a, L, T>> for Duty<L, T> 
     ghost use Rattle.rly_threads.specs.HelpersCut.{IsHeard};
     ghost use Rattle.rly_threads.specs.Relay.{HasEnded};
 
-    ghost kept_by = { λ duty left. HasEnded L.heard L.sent T.told T.endless duty.plan.value duty.window (duty.post.value, duty.seat.value)
+    ghost kept_by = { λ duty left. HasEnded L.heard L.sent T.told T.endless duty.plan.value duty.params (duty.post.value, duty.seat.value)
         left.post left.seat (is_some left.heard) × IsHeard duty.word.value.id left.heard };
 }
 
 /// The duty of a worker at a post and a seat.
 fn duty_of<L: Link + Drop, T: Turn + Drop>(
     plan: &Plan,
-    window: u64,
+    params: Params,
     post: &Post<L, T>,
     seat: &Seat,
     word: &OnceLock<bool>,
 ) -> Duty<L, T>
     ensures plan { result.plan.value ≡ plan.now }
-    ensures window { result.window ≡ window }
+    ensures params { result.params ≡ params }
     ensures post { result.post.value ≡ post.now }
     ensures seat { result.seat.value ≡ seat.now }
     ensures word { result.word.value ≡ word.now }
 {
     Duty {
         plan: Snapshot::of(plan),
-        window,
+        params,
         post: Snapshot::of(post),
         seat: Snapshot::of(seat),
         word: Snapshot::of(word),
@@ -389,16 +390,16 @@ fn start<'s, 'a: 's, E, R: Wait + Sync, L: Link + Drop + Send + 's, T: Turn + Dr
     rt: &'s R,
     alloc: Global,
     plan: &'s Plan,
-    window: u64,
+    params: Params,
     post: Post<L, T>,
     seat: Seat,
     word: &'a OnceLock<bool>,
 ) -> Thread<'a, L, T>
-    ensures { IsFor plan.now window word.now.id (post, seat) result }
+    ensures { IsFor plan.now params word.now.id (post, seat) result }
 {
     let started = scope.spawn_with(
-        duty_of(plan, window, &post, &seat, word),
-        move || work(rt, alloc, plan, window, post, seat, word),
+        duty_of(plan, params, &post, &seat, word),
+        move || work(rt, alloc, plan, params, post, seat, word),
     );
     match started {
         Ok(thread) => Some(thread),
@@ -475,28 +476,28 @@ fn has_run_out<L: Link, T: Turn>(ended: &Option<Ended<L, T>>) -> bool
     }
 }
 
-/// A worker at its post, from its start to its end. `window` is how many datagrams a sender may have in flight.
+/// A worker at its post, from its start to its end, in a spool with these parameters.
 fn work<'a, R: Wait, L: Link + Drop, T: Turn + Drop>(
     rt: &R,
     alloc: Global,
     plan: &Plan,
-    window: u64,
+    params: Params,
     post: Post<L, T>,
     seat: Seat,
     word: &'a OnceLock<bool>,
 ) -> Left<'a, L, T>
-    ensures ended { HasEnded L.heard L.sent T.told T.endless plan.now window (post, seat)
+    ensures ended { HasEnded L.heard L.sent T.told T.endless plan.now params (post, seat)
         result.post result.seat (is_some result.heard) }
     ensures heard { IsHeard word.now.id result.heard }
 {
-    work_as::<Brand, R, L, T>(rt, alloc, plan, window, post, seat, word)
+    work_as::<Brand, R, L, T>(rt, alloc, plan, params, post, seat, word)
 }
 
 fn work_as<'a, W: Whose, R: Wait, L: Link + Drop, T: Turn + Drop>(
     rt: &R,
     alloc: Global,
     plan: &Plan,
-    window: u64,
+    params: Params,
     post: Post<L, T>,
     seat: Seat,
     word: &'a OnceLock<bool>,
@@ -505,7 +506,7 @@ fn work_as<'a, W: Whose, R: Wait, L: Link + Drop, T: Turn + Drop>(
     requires endless { T.endless post.turn ≡ W.endless }
     requires seat { W.seat ≡ Some seat }
     requires lock { word.now.id ≡ W.lock }
-    ensures ended { HasEnded L.heard L.sent T.told T.endless plan.now window (post, seat)
+    ensures ended { HasEnded L.heard L.sent T.told T.endless plan.now params (post, seat)
         result.post result.seat (is_some result.heard) }
     ensures heard { IsHeard word.now.id result.heard }
 {
@@ -517,7 +518,7 @@ fn work_as<'a, W: Whose, R: Wait, L: Link + Drop, T: Turn + Drop>(
     };
     match worker {
         Worker::Receiver(peer) => receiver_run(rt, alloc, plan, peer, &mut ends),
-        Worker::Sender(hop) => sender_run(rt, alloc, plan, hop, window, &mut ends),
+        Worker::Sender(hop) => sender_run(rt, alloc, plan, hop, &params, &mut ends),
     }
     let Ends { link, desk, turn } = ends;
     let (turn, heard) = turn.into_parts();

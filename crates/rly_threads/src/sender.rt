@@ -3,7 +3,9 @@ ghost use Rattle.std.specs.List.{filter_map};
 ghost use Rattle.std.specs.Option.{option_map};
 ghost use Rattle.rly_hop.specs.Payloads.{message_bytes, out_action_bytes, out_event_bytes};
 ghost use Rattle.rly_core.specs.declared.ids.HopId.{HopId as AHop};
+ghost use Rattle.rly_core.specs.declared.params.Params.{Params as AParams};
 ghost use Rattle.rly_hop.specs.Sender.{Sender};
+ghost use Rattle.rly_hop.specs.Spelling.{longest_message};
 ghost use Rattle.rly_pace.specs.Rates.{burst, first_bucket};
 ghost use Rattle.rly_plan.specs.ContactPlan.{ContactPlan, rate, resend};
 ghost use Rattle.rly_threads.specs.declared.pacing.Pacing.{Pacing as Keeping};
@@ -21,7 +23,7 @@ use crate::ends::{Ends, MAX_PACKET, message_in};
 use crate::link::Link;
 use crate::pacing::{MAX_CALLS, Pacing};
 use crate::turn::{Point, Turn, Worker};
-use rly_core::{HopId, Refusal, limits};
+use rly_core::{HopId, Params, Refusal, limits};
 use rly_hop::{Message, OutAction, OutEvent, Sending, StationId};
 use rly_line::{BatchError, CallError};
 use rly_machine::{Answer, Ask, Command, Query, Reply};
@@ -33,20 +35,20 @@ use std::sync::Wait;
 /// So many packets it hears in one turn at most.
 const MAX_PACKETS: usize = limits::MAX_ROUND as usize;
 
-/// Hands over what waits for a hop of the plan, turn by turn, until its turns are ended. `window` is how many datagrams
-/// may be in flight. For a hop that isn't in the plan it ends at once. Where memory for the lists of 64 calls is refused at
-/// its start, it makes one call a turn.
+/// Hands over what waits for a hop of the plan, turn by turn, until its turns are ended. Of the spool's parameters it goes by
+/// the window, which is how many datagrams may be in flight, and by the longest payload, for the hop's rate. For a hop that
+/// isn't in the plan it ends at once. Where memory for the lists of 64 calls is refused at its start, it makes one call a turn.
 pub fn sender_run<R: Wait, L: Link, K: Desk, T: Turn>(
     rt: &R,
     alloc: Global,
     plan: &Plan,
     hop: HopId,
-    window: u64,
+    params: &Params,
     ends: &mut Ends<L, K, T>,
 )
     // By which receives it heard, what it asked and what it sent is what its core and its rules of waiting name for what it
     // was given, in order, and nothing else.
-    ensures turns { HasSent plan.now window hop ends.old ends.new }
+    ensures turns { HasSent plan.now params.now hop ends.old ends.new }
 {
     let Some(neighbour) = plan.hop(hop) else {
         return;
@@ -54,9 +56,9 @@ pub fn sender_run<R: Wait, L: Link, K: Desk, T: Turn>(
     let core = Sending::new(
         StationId(plan.station()),
         StationId(neighbour.station),
-        window,
+        params.window,
     );
-    let pacing = Pacing::new(core, window, plan.resend(hop), plan.rate(hop));
+    let pacing = Pacing::new(core, params, plan.resend(hop), plan.rate(hop));
     let mut outlet = Outlet { plan, hop, pacing };
     let mut calls = Calls::reserve(alloc);
     for _turn in rt.forever() {
@@ -72,12 +74,12 @@ pub fn sender_run<R: Wait, L: Link, K: Desk, T: Turn>(
 /// the rate times the time between, from the earliest moment at which calls of these turns were answered to the latest. So it is
 /// whatever came before, whatever it was given, and whether or not the clock falls. A key's tag isn't counted.
 pub fn law_turns_keep_the_rate()
-    ensures { (plan : ContactPlan) (hop : AHop) (most window bytes : ℕ) (core : Sender) (before : List Given) (first : Given) (later : List Given) →
+    ensures { (plan : ContactPlan) (hop : AHop) (params : AParams) (most bytes : ℕ) (core : Sender) (before : List Given) (first : Given) (later : List Given) →
         rate plan hop ≡ Some bytes →
         total_cost (sent_in (outlet plan hop) most
-        (left_by (outlet plan hop) most (first_pacing core window (resend plan hop) (rate plan hop)) before)
+        (left_by (outlet plan hop) most (first_pacing core params (resend plan hop) (rate plan hop)) before)
         (first ∷ later))
-        ≤ burst (first_bucket bytes 1218 0) + bytes * (latest first later - earliest first later) }
+        ≤ burst (first_bucket bytes (longest_message params.payload) 0) + bytes * (latest first later - earliest first later) }
 {}
 
 /// Nothing that comes to a hop's port but a custody of what is in flight makes a packet go out: a turn that hears another packet asks
@@ -387,7 +389,7 @@ fn error_event<'a>(error: BatchError) -> OutEvent<&'a [u8]>
     }
 }
 
-/// What the core is told of a reply: bytes are those of the number that it asked for.
+/// What the core is told of a reply: bytes and their limit are those of the number that it asked for.
 fn event_in<'a>(action: OutAction<&[u8]>, reply: &'a Reply) -> OutEvent<&'a [u8]>
     ensures { out_event_bytes result ≡ event_in (out_action_bytes action.entry) reply.now }
 {
@@ -398,8 +400,9 @@ fn event_in<'a>(action: OutAction<&[u8]>, reply: &'a Reply) -> OutEvent<&'a [u8]
         },
         (Reply::Picked { number, .. }, _) => OutEvent::Picked(*number),
         (Reply::Nothing { .. }, _) => OutEvent::Nothing,
-        (Reply::Bytes { payload, .. }, OutAction::Fetch(number)) => OutEvent::Fetched {
+        (Reply::Bytes { payload, limit }, OutAction::Fetch(number)) => OutEvent::Fetched {
             number,
+            limit: *limit,
             payload: payload.as_slice(),
         },
         (Reply::Released(_), _) => OutEvent::Released,

@@ -39,7 +39,7 @@ use Rattle.rly_world.proofs.PairLists.{get_in_front}
 
 -- a message says nothing that either could lose
 abbrev pub IsSafe : List (Numbered (List ℕ)) → ℕ → Message (List ℕ) → Type 0
-IsSafe given kept (message.Data from to number payload) = IsUnder given number payload
+IsSafe given kept (message.Data from to number limit payload) = IsUnder given number limit payload
 IsSafe given kept (message.Custody from to last) = last ≤ kept
 IsSafe given kept (message.Refused from to number refusal) = Unit {0}
 
@@ -55,7 +55,7 @@ IsSafeAsk hop kept (Query (query.Show to)) = Unit {0}
 -- what the sending core is told: custody of what was taken, and bytes that were picked
 abbrev pub IsSafeEvent : List (Numbered (List ℕ)) → ℕ → OutEvent (List ℕ) → Type 0
 IsSafeEvent given kept (Heard m) = IsSafe given kept m
-IsSafeEvent given kept (Fetched number payload) = IsUnder given number payload
+IsSafeEvent given kept (Fetched number limit payload) = IsUnder given number limit payload
 IsSafeEvent given kept (Turn is_open) = Unit {0}
 IsSafeEvent given kept (WindowIs first next) = Unit {0}
 IsSafeEvent given kept (Picked number) = Unit {0}
@@ -142,9 +142,9 @@ sends_safely given kept hop moment s (Picked number) acked safe =
     either (s.ready && (number == s.next) && nat_lt number (2 ^ 64 - 1)) (record s { next = number + 1 }) s
     (λ x. SendsSafely given kept hop moment (x, None))
     (silent given kept hop moment (record s { next = number + 1 }) acked) (silent given kept hop moment s acked)
-sends_safely given kept hop moment s (Fetched number payload) acked safe =
+sends_safely given kept hop moment s (Fetched number limit payload) acked safe =
     either (s.ready && (number == s.cursor) && nat_lt s.cursor s.next)
-    (record s { cursor = number + 1 }, Some (out_action.Send (message.Data s.own s.hop number payload))) (s, None)
+    (record s { cursor = number + 1 }, Some (out_action.Send (message.Data s.own s.hop number limit payload))) (s, None)
     (SendsSafely given kept hop moment)
     (record { acked = acked; asks = tt; sends = (safe, tt) }) (silent given kept hop moment s acked)
 sends_safely given kept hop moment s Released acked safe = silent given kept hop moment (after_release s s.acked)
@@ -159,7 +159,7 @@ sends_safely given kept hop moment s (Heard (message.Custody from to last)) acke
     (greater_kept kept s.acked last acked safe))
     (silent given kept hop moment s acked)
 sends_safely given kept hop moment s
-    (Heard (message.Data from to number payload)) acked safe = silent given kept hop moment s acked
+    (Heard (message.Data from to number limit payload)) acked safe = silent given kept hop moment s acked
 sends_safely given kept hop moment s
     (Heard (message.Refused from to number refusal)) acked safe = silent given kept hop moment s acked
 sends_safely given kept hop moment s Timeout acked safe = silent given kept hop moment
@@ -172,26 +172,27 @@ sends_safely given kept hop moment s Other acked safe = silent given kept hop mo
 
 -- ---- what is safe stays so
 
-under_later : {P : Type 0} (xs ys : List (Numbered P)) (number : ℕ) (payload : P) → IsPrefix xs ys
-    → IsUnder xs number payload → IsUnder ys number payload
-under_later xs ys number payload p under =
+under_later : {P : Type 0} (xs ys : List (Numbered P)) (number limit : ℕ) (payload : P) → IsPrefix xs ys
+    → IsUnder xs number limit payload → IsUnder ys number limit payload
+under_later xs ys number limit payload p under =
     record {
       counted = under.counted;
       found = get_in_front xs p.0 (number - 1)
-          (record { number = number; payload = payload }) p.1 under.found;
+          (record { number = number; limit = limit; payload = payload }) p.1 under.found;
     }
 
 pub safe_later : (given more : List (Numbered (List ℕ))) (kept rest : ℕ) → IsPrefix given more → kept ≤ rest
     → (m : Message (List ℕ)) → IsSafe given kept m → IsSafe more rest m
 safe_later given more kept rest p below
-    (message.Data from to number payload) safe = under_later given more number payload p safe
+    (message.Data from to number limit payload) safe = under_later given more number limit payload p safe
 safe_later given more kept rest p below (message.Custody from to last) safe = omega (arith, safe, below)
 safe_later given more kept rest p below (message.Refused from to number refusal) safe = tt
 
 pub event_later : (given more : List (Numbered (List ℕ))) (kept rest : ℕ) → IsPrefix given more → kept ≤ rest
     → (event : OutEvent (List ℕ)) → IsSafeEvent given kept event → IsSafeEvent more rest event
 event_later given more kept rest p below (Heard m) safe = safe_later given more kept rest p below m safe
-event_later given more kept rest p below (Fetched number payload) safe = under_later given more number payload p safe
+event_later given more kept rest p below
+    (Fetched number limit payload) safe = under_later given more number limit payload p safe
 event_later given more kept rest p below (Turn is_open) safe = tt
 event_later given more kept rest p below (WindowIs first next) safe = tt
 event_later given more kept rest p below (Picked number) safe = tt
@@ -220,7 +221,7 @@ acked_later kept rest below (Some a) safe = omega (arith, safe, below)
 -- a call of a receiving core is a Take of what was picked
 abbrev pub IsSafeTake : PeerId → List (Numbered (List ℕ)) → Ask → Type 0
 IsSafeTake peer given (Command (command.Take from number to stamp limit payload)) = (from ≡ peer)
-    × IsUnder given number payload
+    × IsUnder given number limit payload
 IsSafeTake peer given (Command (command.Pick to now)) = ⊥
 IsSafeTake peer given (Command (command.Release to number)) = ⊥
 IsSafeTake peer given (Query any) = ⊥
@@ -228,7 +229,7 @@ IsSafeTake peer given (Query any) = ⊥
 pub take_later : (peer : PeerId) (given more : List (Numbered (List ℕ))) → IsPrefix given more → (ask : Ask)
     → IsSafeTake peer given ask → IsSafeTake peer more ask
 take_later peer given more p (Command (command.Take from number to stamp limit payload)) safe =
-    (safe.0, under_later given more number payload p safe.1)
+    (safe.0, under_later given more number limit payload p safe.1)
 take_later peer given more p (Command (command.Pick to now)) safe = safe
 take_later peer given more p (Command (command.Release to number)) safe = safe
 take_later peer given more p (Query any) safe = safe
@@ -287,9 +288,9 @@ either_known false x y P p q = q
 pub hears_safely : (given : List (Numbered (List ℕ))) (kept : ℕ) (peer : PeerId) (hop : HopId) (stamp : ℕ)
     (r : Receiver) (m : Message (List ℕ))
     → IsSafe given kept m → HearsSafely given kept peer hop stamp r (receiving_step r (in_event.Heard m))
-hears_safely given kept peer hop stamp r (message.Data from to number payload) safe =
+hears_safely given kept peer hop stamp r (message.Data from to number limit payload) safe =
     either_known ((from.0 == r.peer.0) && (to.0 == r.own.0) && is_none r.pending)
-    (record r { pending = Some number }, Some (in_action.Take number payload)) (r, None)
+    (record r { pending = Some number }, Some (in_action.Take number limit payload)) (r, None)
     (HearsSafely given kept peer hop stamp r)
     (λ test. record {
       asks = ((refl, safe), tt);

@@ -5,7 +5,7 @@ use Rattle.std.proofs.Common.{Result, Err}
 use Rattle.std.specs.Prelude.{nat_le, slice_get}
 use Rattle.std.specs.Option.{ok_or, option_map}
 use Rattle.std.proofs.lemmas.Bool.{leb-false, lt-leb}
-use Rattle.std.proofs.lemmas.List.{get_or-drop, length-drop, length-map, length-set}
+use Rattle.std.proofs.lemmas.List.{get_or-drop, length-drop, length-set}
 use Rattle.std.proofs.lemmas.Option.{get_or_from_slice_get, slice_get-get_or, slice_get-map, slice_get_within}
 use Rattle.rly_core.specs.declared.ids.HopId.{HopId}
 use Rattle.rly_core.specs.declared.refusal.Refusal.{Refusal}
@@ -22,13 +22,13 @@ use Rattle.rly_machine.specs.Release.{release_refusal}
 use Rattle.rly_machine.specs.State.{State, HopState, has_hop, hop_at, is_among, new_hop, next_number}
 use Rattle.rly_machine.specs.Step.{step}
 use Rattle.rly_machine.specs.Take.{take_refusal}
-use Rattle.rly_world.proofs.PairRuns.{Flows, either_way, under}
-use Rattle.rly_world.specs.PairPayloads.{Numbered, payloads_of}
+use Rattle.rly_world.proofs.PairRuns.{Flows, either_way, length-borne, length-borne_by}
+use Rattle.rly_world.specs.PairPayloads.{Numbered, borne, borne_by}
 
--- a payload is in a list under a number: at its place, counted from 1
-pub record IsUnder {P : Type 0} (xs : List (Numbered P)) (number : ℕ) (payload : P) : Type 0 where
+-- a payload and its limit are in a list under a number: at its place, counted from 1
+pub record IsUnder {P : Type 0} (xs : List (Numbered P)) (number limit : ℕ) (payload : P) : Type 0 where
   pub counted : 0 < number
-  pub found : slice_get xs (number - 1) ≡ Some (record { number = number; payload = payload })
+  pub found : slice_get xs (number - 1) ≡ Some (record { number = number; limit = limit; payload = payload })
 
 -- no command adds a hop or takes one away
 hops_step : {P : Type 0} (len : P → ℕ) (s : State P) (command : Command P)
@@ -54,44 +54,42 @@ pub hop_stays : {P : Type 0} (len : P → ℕ) (s : State P) (commands : List (C
 hop_stays len s commands hop there = ap (λ n. is_among n hop.0) (hops_fold len s commands) ∙ there
 
 -- as many were picked as were released and are in flight
-pub picked_count : {P : Type 0} (h : HopState P) (xs : List (Numbered P)) → Flows new_hop h xs
+picked_count : {P : Type 0} (h : HopState P) (xs : List (Numbered P)) → Flows new_hop h xs
     → length xs ≡ h.released + length h.flight
 picked_count {P} h xs flows =
-    let size = length-map h.flight (λ (item : Item P). item.payload) in
-    let same : length (payloads_of h.flight) ≡ length (map (λ (x : Numbered P). x.payload) xs) - (h.released - 0) =
-    ap length flows.flight ∙ length-drop (h.released - 0) (map (λ (x : Numbered P). x.payload) xs) in
-    omega (arith, size, same, length-map xs (λ (x : Numbered P). x.payload), flows.within)
+    let same : length (borne_by h.flight) ≡ length (map borne xs) - (h.released - 0) =
+    ap length flows.flight ∙ length-drop (h.released - 0) (map borne xs) in
+    omega (arith, length-borne_by h.flight, same, length-borne xs, flows.within)
 
--- the payload in flight at a place is that of the pick after so many released
-flight_at : {P : Type 0} (h : HopState P) (xs : List (Numbered P)) (i : ℕ) (d : P) → Flows new_hop h xs
-    → get_or (payloads_of h.flight) i d ≡ get_or (map (λ (x : Numbered P). x.payload) xs) (h.released + i) d
+-- what is in flight at a place is that of the pick after so many released
+flight_at : {P : Type 0} (h : HopState P) (xs : List (Numbered P)) (i : ℕ) (d : ℕ × P) → Flows new_hop h xs
+    → get_or (borne_by h.flight) i d ≡ get_or (map borne xs) (h.released + i) d
 flight_at {P} h xs i d flows =
-    let pays : List P = map (λ (x : Numbered P). x.payload) xs in
-    ap (λ (l : List P). get_or l i d) flows.flight
-    ∙ get_or-drop (h.released - 0) pays i d
-    ∙ ap (λ n. get_or pays n d) (let e : h.released - 0 + i ≡ h.released + i = omega arith in e)
+    let all : List (ℕ × P) = map borne xs in
+    ap (λ (l : List (ℕ × P)). get_or l i d) flows.flight
+    ∙ get_or-drop (h.released - 0) all i d
+    ∙ ap (λ n. get_or all n d) (let e : h.released - 0 + i ≡ h.released + i = omega arith in e)
 
 -- what a Fetch gives was picked
-under_of : {P : Type 0} (xs : List (Numbered P)) (k : ℕ) (payload : P)
+under_of : {P : Type 0} (xs : List (Numbered P)) (k limit : ℕ) (payload : P)
     → ((k : ℕ) (x : Numbered P) → slice_get xs k ≡ Some x → x.number ≡ k + 1)
-    → k < length xs → get_or (map (λ (x : Numbered P). x.payload) xs) k payload ≡ payload → IsUnder xs (k + 1) payload
-under_of {P} xs k payload numbered below at =
-    let d : Numbered P = record { number = k + 1; payload = payload } in
+    → k < length xs → get_or (map borne xs) k (limit, payload) ≡ (limit, payload) → IsUnder xs (k + 1) limit payload
+under_of {P} xs k limit payload numbered below at =
+    let d : Numbered P = record { number = k + 1; limit = limit; payload = payload } in
     let one : Numbered P = get_or xs k d in
     let there : slice_get xs k ≡ Some (get_or xs k d) = slice_get-get_or xs k d below in
     let number_is : (get_or xs k d).number ≡ k + 1 = numbered k (get_or xs k d) there in
-    let in_map : slice_get (map (λ (x : Numbered P). x.payload) xs) k ≡ Some (get_or xs k d).payload =
-    slice_get-map (λ (x : Numbered P). x.payload) xs k
-    ∙ ap (λ (o : Option (Numbered P)). option_map (λ (x : Numbered P). x.payload) o) there in
-    let payload_is : (get_or xs k d).payload ≡ payload = sym
-    (get_or_from_slice_get (map (λ (x : Numbered P). x.payload) xs) k (get_or xs k d).payload payload in_map)
-    ∙ at in
+    let in_map : slice_get (map borne xs) k ≡ Some (borne (get_or xs k d)) =
+    slice_get-map (borne {P = P}) xs k ∙ ap (λ (o : Option (Numbered P)). option_map (borne {P = P}) o) there in
+    let same : borne (get_or xs k d) ≡ (limit, payload) =
+    sym (get_or_from_slice_get (map borne xs) k (borne (get_or xs k d)) (limit, payload) in_map) ∙ at in
     record {
       counted = omega arith;
       found = ap (slice_get xs) (let e : k + 1 - 1 ≡ k = omega arith in e) ∙ there
           ∙ ap (λ (n : ℕ). let o : Option (Numbered P) = Some
-          (record { number = n; payload = (get_or xs k d).payload }) in o) number_is
-          ∙ ap (λ (p : P). let o : Option (Numbered P) = Some (record { number = k + 1; payload = p }) in o) payload_is;
+          (record { number = n; limit = (get_or xs k d).limit; payload = (get_or xs k d).payload }) in o) number_is
+          ∙ ap (λ (q : ℕ × P). let o : Option (Numbered P) = Some
+          (record { number = k + 1; limit = q.0; payload = q.1 }) in o) same;
     }
 
 -- the first reply that isn't a refusal
@@ -101,110 +99,92 @@ not_refused : (b : Bool) (refusal : Refusal) (rest : Result (Item (List ℕ)) Re
 not_refused true refusal rest payload limit is = absurd (let e : Refused refusal ≡ Bytes payload limit = is in cc)
 not_refused false refusal rest payload limit is = (refl, is)
 
+-- what an item bears, with the type that `borne_by` gives it
+abbrev borne_item : Item (List ℕ) → ℕ × List ℕ
+borne_item item = (item.limit, item.payload)
+
 item_given : (o : Option (Item (List ℕ))) (payload : List ℕ) (limit : ℕ)
     → fetch_reply (ok_or o NotInFlight) ≡ Bytes payload limit
-    → option_map (λ (item : Item (List ℕ)). item.payload) o ≡ Some payload
+    → option_map borne_item o ≡ Some (limit, payload)
 item_given None payload limit is = absurd (let e : Refused NotInFlight ≡ Bytes payload limit = is in cc)
 item_given (Some item) payload limit is =
     let e : Bytes item.payload item.limit ≡ Bytes payload limit = is in
     let same : item.payload ≡ payload = (cc) in
-    ap (λ (p : List ℕ). let o : Option (List ℕ) = Some p in o) same
+    let limit_is : item.limit ≡ limit = (cc) in
+    ap (λ (n : ℕ). let o : Option (ℕ × List ℕ) = Some (n, item.payload) in o) limit_is
+    ∙ ap (λ (p : List ℕ). let o : Option (ℕ × List ℕ) = Some (limit, p) in o) same
 
 pub fetched_is_picked : (s : State (List ℕ)) (hop : HopId) (number : ℕ) (payload : List ℕ) (limit : ℕ)
     (xs : List (Numbered (List ℕ)))
     → Flows new_hop (hop_at s hop) xs → query_reply s (Fetch hop number) ≡ Bytes payload limit
-    → IsUnder xs number payload
+    → IsUnder xs number limit payload
 fetched_is_picked s hop number payload limit xs flows is =
-    let h : HopState (List ℕ) = hop_at s hop in
     let a = not_refused (not (has_hop s hop)) NoSuchHop _ payload limit is in
     let b = not_refused (nat_le (next_number (hop_at s hop)) number) NeverSent _ payload limit a.1 in
     let c = not_refused (nat_le number (hop_at s hop).released) NotInFlight _ payload limit b.1 in
     let sent : number < (hop_at s hop).released + length (hop_at s hop).flight + 1 = leb-false _ _ b.0 in
     let kept : (hop_at s hop).released < number = leb-false _ _ c.0 in
-    let i : ℕ = number - (hop_at s hop).released - 1 in
+    let both : ℕ × List ℕ = (limit, payload) in
+    let all : List (ℕ × List ℕ) = map borne xs in
     let given = item_given (slice_get (hop_at s hop).flight (number - (hop_at s hop).released - 1)) payload limit c.1 in
-    let in_flight : slice_get (payloads_of (hop_at s hop).flight)
-    (number - (hop_at s hop).released - 1) ≡ Some payload =
-    slice_get-map (λ (item : Item (List ℕ)). item.payload) (hop_at s hop).flight (number - (hop_at s hop).released - 1)
-    ∙ given in
-    let at : get_or (map (λ (x : Numbered (List ℕ)). x.payload) xs) (number - 1) payload ≡ payload =
-    ap (λ n. get_or (map (λ (x : Numbered (List ℕ)). x.payload) xs) n payload)
+    let in_flight : slice_get (borne_by (hop_at s hop).flight)
+    (number - (hop_at s hop).released - 1) ≡ Some (limit, payload) =
+    slice_get-map borne_item (hop_at s hop).flight (number - (hop_at s hop).released - 1) ∙ given in
+    let at : get_or (map borne xs) (number - 1) (limit, payload) ≡ (limit, payload) =
+    ap (λ n. get_or all n both)
     (let e : number - 1 ≡ (hop_at s hop).released + (number - (hop_at s hop).released - 1) = omega
     (arith, kept) in e)
-    ∙ sym (flight_at (hop_at s hop) xs (number - (hop_at s hop).released - 1) payload flows)
-    ∙ get_or_from_slice_get (payloads_of (hop_at s hop).flight)
-    (number - (hop_at s hop).released - 1) payload payload in_flight in
-    subst (λ n. IsUnder xs n payload) (let e : number - 1 + 1 ≡ number = omega (arith, kept) in e)
-    (under_of xs (number - 1) payload (λ k x found. (let e = flows.numbered k x found in omega (arith, e)))
+    ∙ sym (flight_at (hop_at s hop) xs (number - (hop_at s hop).released - 1) (limit, payload) flows)
+    ∙ get_or_from_slice_get (borne_by (hop_at s hop).flight)
+    (number - (hop_at s hop).released - 1) (limit, payload) (limit, payload) in_flight in
+    subst (λ n. IsUnder xs n limit payload) (let e : number - 1 + 1 ≡ number = omega (arith, kept) in e)
+    (under_of xs (number - 1) limit payload (λ k x found. (let e = flows.numbered k x found in omega (arith, e)))
     (omega (arith, sent, kept, picked_count (hop_at s hop) xs flows)) at)
 
 -- no item
 no_item : Item (List ℕ)
 no_item = record { id = 0; stamp = 0; limit = 0; payload = [] }
 
--- the limit of what is in flight under a number
-pub limit_under : HopState (List ℕ) → ℕ → ℕ
-limit_under h number = (under h number no_item).limit
-
--- it stays, until that is released
-pub limit_stays : (before after : HopState (List ℕ)) (more : List (Numbered (List ℕ))) (number : ℕ)
-    → Flows before after more → number < next_number before → after.released < number
-    → limit_under after number ≡ limit_under before number
-unfolding limit_under
-limit_stays before after more number flows sent kept =
-    ap (λ (item : Item (List ℕ)). item.limit) (flows.stays number no_item sent kept)
-
--- what was picked has a number that was given
-pub picked_sent : (h : HopState (List ℕ)) (k : ℕ) (one : Numbered (List ℕ)) (xs : List (Numbered (List ℕ)))
-    → Flows new_hop h xs → slice_get xs k ≡ Some one → one.number < next_number h
-picked_sent h k one xs flows found =
-    let place = flows.numbered k one found in
-    let below = slice_get_within xs k one found in
-    omega (arith, place, below, picked_count h xs flows)
-
 -- what was picked and isn't released is what a Fetch gives, with its limit
 pub picked_is_fetched : (s : State (List ℕ)) (hop : HopId) (k : ℕ) (one : Numbered (List ℕ))
     (xs : List (Numbered (List ℕ)))
     → has_hop s hop ≡ true → Flows new_hop (hop_at s hop) xs → slice_get xs k ≡ Some one
     → (hop_at s hop).released < one.number
-    → query_reply s (Fetch hop one.number) ≡ Bytes one.payload (limit_under (hop_at s hop) one.number)
-unfolding limit_under under
+    → query_reply s (Fetch hop one.number) ≡ Bytes one.payload one.limit
 picked_is_fetched s hop k one xs there flows found kept =
     let place = flows.numbered k one found in
     let below = slice_get_within xs k one found in
     let count = picked_count (hop_at s hop) xs flows in
     let flight : List (Item (List ℕ)) = (hop_at s hop).flight in
     let i : ℕ = one.number - (hop_at s hop).released - 1 in
-    let size = length-map (hop_at s hop).flight (λ (item : Item (List ℕ)). item.payload) in
-    let pays : List (List ℕ) = map (λ (x : Numbered (List ℕ)). x.payload) xs in
-    let in_map : slice_get (map (λ (x : Numbered (List ℕ)). x.payload) xs) k ≡ Some one.payload =
-    slice_get-map (λ (x : Numbered (List ℕ)). x.payload) xs k
-    ∙ ap (λ (o : Option (Numbered (List ℕ))). option_map (λ (x : Numbered (List ℕ)). x.payload) o) found in
-    let at : get_or (payloads_of (hop_at s hop).flight)
-    (one.number - (hop_at s hop).released - 1) one.payload ≡ one.payload =
-    flight_at (hop_at s hop) xs (one.number - (hop_at s hop).released - 1) one.payload flows
-    ∙ ap (λ n. get_or pays n one.payload)
+    let all : List (ℕ × List ℕ) = map borne xs in
+    let in_map : slice_get (map borne xs) k ≡ Some (borne one) =
+    slice_get-map (borne {P = List ℕ}) xs k
+    ∙ ap (λ (o : Option (Numbered (List ℕ))). option_map (borne {P = List ℕ}) o) found in
+    let at : get_or (borne_by (hop_at s hop).flight)
+    (one.number - (hop_at s hop).released - 1) (borne one) ≡ borne one =
+    flight_at (hop_at s hop) xs (one.number - (hop_at s hop).released - 1) (borne one) flows
+    ∙ ap (λ n. get_or all n (borne one))
     (let e : (hop_at s hop).released + (one.number - (hop_at s hop).released - 1) ≡ k = omega
     (arith, kept, place) in e)
-    ∙ get_or_from_slice_get pays k one.payload one.payload in_map in
+    ∙ get_or_from_slice_get (map borne xs) k (borne one) (borne one) in_map in
     let within : one.number - (hop_at s hop).released - 1 < length (hop_at s hop).flight = omega
     (arith, kept, place, below, count) in
     let there_is : slice_get (hop_at s hop).flight (one.number - (hop_at s hop).released - 1) ≡ Some
     (get_or (hop_at s hop).flight (one.number - (hop_at s hop).released - 1) no_item) =
     slice_get-get_or (hop_at s hop).flight (one.number - (hop_at s hop).released - 1) no_item within in
-    let in_flight : slice_get (payloads_of (hop_at s hop).flight)
+    let in_flight : slice_get (borne_by (hop_at s hop).flight)
     (one.number - (hop_at s hop).released - 1) ≡ Some
-    (get_or (hop_at s hop).flight (one.number - (hop_at s hop).released - 1) no_item).payload =
-    slice_get-map (λ (item : Item (List ℕ)). item.payload) (hop_at s hop).flight
-    (one.number - (hop_at s hop).released - 1)
-    ∙ ap (option_map (λ (item : Item (List ℕ)). item.payload)) there_is in
-    let payload_is : (get_or (hop_at s hop).flight (one.number - (hop_at s hop).released - 1) no_item).payload
-    ≡ one.payload =
-    sym (get_or_from_slice_get (payloads_of (hop_at s hop).flight) (one.number - (hop_at s hop).released - 1)
-    (get_or (hop_at s hop).flight (one.number - (hop_at s hop).released - 1) no_item).payload one.payload in_flight)
-    ∙ at in
+    (borne_item (get_or (hop_at s hop).flight (one.number - (hop_at s hop).released - 1) no_item)) =
+    slice_get-map borne_item (hop_at s hop).flight (one.number - (hop_at s hop).released - 1)
+    ∙ ap (option_map borne_item) there_is in
+    let same : borne_item (get_or (hop_at s hop).flight (one.number - (hop_at s hop).released - 1) no_item)
+    ≡ borne one =
+    sym (get_or_from_slice_get (borne_by (hop_at s hop).flight) (one.number - (hop_at s hop).released - 1)
+    (borne_item (get_or (hop_at s hop).flight (one.number - (hop_at s hop).released - 1) no_item)) (borne one)
+    in_flight) ∙ at in
     let given = ap (λ (o : Option (Item (List ℕ))). fetch_reply (ok_or o NotInFlight)) there_is
-    ∙ ap (λ (p : List ℕ). Bytes p (get_or flight i no_item).limit) payload_is in
+    ∙ ap (λ (q : ℕ × List ℕ). Bytes q.1 q.0) same in
     let inner : Result (Item (List ℕ)) Refusal = ok_or
     (slice_get (hop_at s hop).flight (one.number - (hop_at s hop).released - 1)) NotInFlight in
     ap (λ b. fetch_reply

@@ -104,7 +104,7 @@ lower_later peer given more e receivers p low = record {
 
 -- a Take of the peer takes what was picked under its number
 abbrev pub TakesGiven : PeerId → List (Numbered (List ℕ)) → Command (List ℕ) → Type 0
-TakesGiven peer given (Take from number hop stamp limit payload) = from.0 ≡ peer.0 → IsUnder given number payload
+TakesGiven peer given (Take from number hop stamp limit payload) = from.0 ≡ peer.0 → IsUnder given number limit payload
 TakesGiven peer given (Pick hop now) = Unit {0}
 TakesGiven peer given (Release hop number) = Unit {0}
 
@@ -134,7 +134,7 @@ record IsGiven (given more : List (Numbered (List ℕ))) : Type 0 where
 is_given : (peer : PeerId) (given : List (Numbered (List ℕ))) (c : Command (List ℕ)) (r : Reply)
     → TakesGiven peer given c → IsGiven given (taken_by peer c r)
 is_given peer given (Take from number hop stamp limit payload) (reply.Taken id) takes =
-    let x : Numbered (List ℕ) = record { number = number; payload = payload } in
+    let x : Numbered (List ℕ) = record { number = number; limit = limit; payload = payload } in
     elim (cases_eq from.0 peer.0) [
       | inl same ↦ record {
         one = inr
@@ -256,7 +256,7 @@ checks s peer number hop stamp limit bytes =
     (row (last_at s peer) number (not (has_hop s hop)) (reply.Refused refusal.NoSuchHop) _ tt
     (row (last_at s peer) number (nat_le (2 ^ 52) stamp) (reply.Refused refusal.BadMoment) _ tt
     (row (last_at s peer) number (nat_le (2 ^ 40) limit) (reply.Refused refusal.BadMoment) _ tt
-    (row (last_at s peer) number (nat_lt 1200 bytes) (reply.Refused refusal.TooLong) _ tt
+    (row (last_at s peer) number (nat_lt s.params.payload bytes) (reply.Refused refusal.TooLong) _ tt
     (row (last_at s peer) number (nat_le number (last_at s peer)) (reply.Already (last_at s peer)) _ (omega arith)
     (row (last_at s peer) number (nat_lt (last_at s peer + 1) number)
     (reply.Refused (refusal.Gap (last_at s peer + 1))) _ (omega arith)

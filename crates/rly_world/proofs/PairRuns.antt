@@ -4,7 +4,7 @@ use Rattle.std.proofs.Common.{[], ◌∷◌, ◌++◌, length, get_or, set, take
 use Rattle.std.proofs.Common.{subst, Option, Some, None, append_assoc, replicate}
 use Rattle.std.specs.Prelude.{nat_eq, slice_get}
 use Rattle.std.proofs.lemmas.Bool.{cases_eq, cases_lt, eq-eqb, ne_eqb}
-use Rattle.std.proofs.lemmas.List.{append-nil, drop-append-le, drop-drop, drop-map, get_or-append_right, get_or-drop}
+use Rattle.std.proofs.lemmas.List.{append-nil, drop-append-le, drop-drop, drop-map, get_or-append_right}
 use Rattle.std.proofs.lemmas.List.{get_or_append_left, get_or-set_other, get_or-set_same, length-append, length-drop}
 use Rattle.std.proofs.lemmas.List.{get_or-replicate, length-map, length-replicate, length-take, map-append}
 use Rattle.std.proofs.lemmas.List.Sums.{prefix_len-le-length}
@@ -30,7 +30,7 @@ use Rattle.rly_machine.specs.State.{next_number}
 use Rattle.rly_machine.specs.Step.{step}
 use Rattle.rly_machine.proofs.RealReplies.{counted}
 use Rattle.rly_machine.proofs.Refusals.{among, may_pick, may_release, may_take}
-use Rattle.rly_world.specs.PairPayloads.{Numbered, payloads_of, picked, picked_by, taken}
+use Rattle.rly_world.specs.PairPayloads.{Numbered, borne, borne_by, picked, picked_by, taken}
 use Rattle.rly_world.specs.PairPayloads.{taken_by}
 
 -- a command that a check refuses leaves the state, and its reply accepts nothing; another comes to what it leaves
@@ -87,10 +87,10 @@ takes_none {P} n m same = record {
       (omega (arith, slice_get_within [] k x found));
 }
 
-takes_one : {P : Type 0} (n number : ℕ) (payload : P) → number ≡ n + 1
-    → Takes n number ((record { number = number; payload = payload }) ∷ [])
-takes_one {P} n number payload next =
-    let one : Numbered P = record { number = number; payload = payload } in
+takes_one : {P : Type 0} (n number limit : ℕ) (payload : P) → number ≡ n + 1
+    → Takes n number ((record { number = number; limit = limit; payload = payload }) ∷ [])
+takes_one {P} n number limit payload next =
+    let one : Numbered P = record { number = number; limit = limit; payload = payload } in
     record {
       last = next;
       numbered = λ k x found.
@@ -133,22 +133,25 @@ none_picked hop h (Take from number to stamp limit payload) reply refuses = refl
 none_picked hop h (Release to number) reply refuses = refl
 
 -- the peer that a Take names has the new last number, and every other peer has the old one
-takes_at : {P : Type 0} (lasts : List ℕ) (from peer number : ℕ) (payload : P)
+takes_at : {P : Type 0} (lasts : List ℕ) (from peer number limit : ℕ) (payload : P)
     → 0 < from → from ≤ length lasts → 0 < peer → number ≡ get_or lasts (from - 1) 0 + 1
     → Takes (get_or lasts (peer - 1) 0) (get_or (set lasts (from - 1) number) (peer - 1) 0)
-    (cond (nat_eq from peer) ((record { number = number; payload = payload }) ∷ []) [])
-takes_at {P} lasts from peer number payload from_one within peer_one next =
+    (cond (nat_eq from peer) ((record { number = number; limit = limit; payload = payload }) ∷ []) [])
+takes_at {P} lasts from peer number limit payload from_one within peer_one next =
     elim (cases_eq from peer) [
       | inl same ↦ subst (λ b. Takes (get_or lasts (peer - 1) 0) (get_or (set lasts (from - 1) number) (peer - 1) 0)
-          (cond b ((record { number = number; payload = payload }) ∷ []) [])) (sym (eq-eqb from peer same))
+          (cond b ((record { number = number; limit = limit; payload = payload }) ∷ []) []))
+          (sym (eq-eqb from peer same))
           (subst (λ p. Takes (get_or lasts (p - 1) 0) (get_or (set lasts (from - 1) number) (p - 1) 0)
-          ((record { number = number; payload = payload }) ∷ [])) same
-          (subst (λ n. Takes (get_or lasts (from - 1) 0) n ((record { number = number; payload = payload }) ∷ []))
+          ((record { number = number; limit = limit; payload = payload }) ∷ [])) same
+          (subst (λ n. Takes (get_or lasts (from - 1) 0) n
+          ((record { number = number; limit = limit; payload = payload }) ∷ []))
           (sym (get_or-set_same lasts (from - 1) number 0 (omega arith)))
-          (takes_one (get_or lasts (from - 1) 0) number payload next)))
+          (takes_one (get_or lasts (from - 1) 0) number limit payload next)))
       | inr differ ↦ subst
           (λ b. Takes (get_or lasts (peer - 1) 0) (get_or (set lasts (from - 1) number) (peer - 1) 0)
-          (cond b ((record { number = number; payload = payload }) ∷ []) [])) (sym (ne_eqb from peer differ))
+          (cond b ((record { number = number; limit = limit; payload = payload }) ∷ []) []))
+          (sym (ne_eqb from peer differ))
           (takes_none (get_or lasts (peer - 1) 0) (get_or (set lasts (from - 1) number) (peer - 1) 0)
           (get_or-set_other lasts (from - 1) (peer - 1) number 0
           (λ e. differ (let f : from ≡ peer = omega (arith, e) in f))))
@@ -165,7 +168,7 @@ takes_step {P} len s (Take from number hop stamp limit payload) peer there =
     (sym (none_taken peer (Take from number hop stamp limit payload) reply refuses))
     (takes_none (last_at s peer) (last_at s peer) refl))
     (λ none. (let may = may_take len s from number hop stamp limit (len payload) none in
-    takes_at s.lasts from.0 peer.0 number payload may.peer_from may.peer_to there may.next))
+    takes_at s.lasts from.0 peer.0 number limit payload may.peer_from may.peer_to there may.next))
 takes_step {P} len s (Pick to now) peer there =
     either_way len s (Pick to now) (pick_refusal s to now) _ refl
     (λ after reply. Takes {P = P} (last_at s peer) (last_at after peer) (taken_by peer (Pick to now) reply))
@@ -228,58 +231,46 @@ takes_from_new {P} len params commands peer there =
 
 -- ---- what goes into flight
 
--- the item in flight under a number
-unfoldable pub under : {P : Type 0} → HopState P → ℕ → Item P → Item P
-under h number d = get_or h.flight (number - h.released - 1) d
-
 -- some commands took a hop from one state to another, and put this into its flight
 pub record Flows {P : Type 0} (before after : HopState P) (more : List (Numbered P)) : Type 0 where
   pub fewer : before.released ≤ after.released
   pub within : after.released - before.released ≤ length before.flight + length more
-  pub flight : payloads_of after.flight ≡ drop (after.released - before.released)
-      (payloads_of before.flight ++ map (λ (x : Numbered P). x.payload) more)
+  pub flight : borne_by after.flight ≡ drop (after.released - before.released)
+      (borne_by before.flight ++ map borne more)
   pub numbered : (k : ℕ) (x : Numbered P) → slice_get more k ≡ Some x
       → x.number ≡ before.released + length before.flight + k + 1
-  -- what was in flight under a number is so until it is released
-  pub stays : (number : ℕ) (d : Item P) → number < next_number before → after.released < number
-      → under after number d ≡ under before number d
 
-length-payloads : {P : Type 0} (items : List (Item P)) → length (payloads_of items) ≡ length items
-length-payloads {P} items = length-map items (λ (item : Item P). item.payload)
+pub length-borne_by : {P : Type 0} (items : List (Item P)) → length (borne_by items) ≡ length items
+length-borne_by {P} items = length-map items (λ (item : Item P). (item.limit, item.payload))
 
-length-numbered : {P : Type 0} (xs : List (Numbered P)) → length (map (λ (x : Numbered P). x.payload) xs) ≡ length xs
-length-numbered {P} xs = length-map xs (λ (x : Numbered P). x.payload)
+pub length-borne : {P : Type 0} (xs : List (Numbered P)) → length (map borne xs) ≡ length xs
+length-borne {P} xs = length-map xs (borne {P = P})
 
 -- the flight is the same
 still_flows : {P : Type 0} (h after : HopState P) → after.flight ≡ h.flight → after.released ≡ h.released
     → Flows h after []
-unfolding under
 still_flows {P} h after same released = record {
   fewer = omega (arith, released);
   within = omega (arith, released);
-  flight = ap (λ (l : List (Item P)). payloads_of l) same
+  flight = ap (λ (l : List (Item P)). borne_by l) same
       ∙ sym ((let e : after.released - h.released ≡ 0 = omega (arith, released) in ap
-      (λ k. drop k (payloads_of h.flight ++ [])) e) ∙ append-nil (payloads_of h.flight));
+      (λ k. drop k (borne_by h.flight ++ [])) e) ∙ append-nil (borne_by h.flight));
   numbered = λ k x found. absurd (omega (arith, slice_get_within [] k x found));
-  stays = λ number d sent kept. ap (λ (l : List (Item P)). get_or l (number - after.released - 1) d) same
-      ∙ ap (λ n. get_or h.flight (number - n - 1) d) released;
 }
 
 flows_again : {P : Type 0} (a b c : HopState P) (one two : List (Numbered P)) → Flows a b one → Flows b c two
     → Flows a c (one ++ two)
 flows_again {P} a b c one two first second =
-    let pay : List (Numbered P) → List P = λ xs. map (λ (x : Numbered P). x.payload) xs in
-    let old : List P = payloads_of a.flight in
-    let size_old = length-payloads a.flight in
-    let size_one = length-numbered one in
-    let size_line = length-append (payloads_of a.flight) (map (λ (x : Numbered P). x.payload) one) in
-    let in_line : b.released - a.released ≤ length
-    (payloads_of a.flight ++ map (λ (x : Numbered P). x.payload) one) = omega
+    let pay : List (Numbered P) → List (ℕ × P) = λ xs. map borne xs in
+    let old : List (ℕ × P) = borne_by a.flight in
+    let size_old = length-borne_by a.flight in
+    let size_one = length-borne one in
+    let size_line = length-append (borne_by a.flight) (map borne one) in
+    let in_line : b.released - a.released ≤ length (borne_by a.flight ++ map borne one) = omega
     (arith, first.within, size_old, size_one, size_line) in
-    let flown : length b.flight ≡ length (payloads_of a.flight ++ map (λ (x : Numbered P). x.payload) one) -
-    (b.released - a.released) =
-    sym (length-payloads b.flight) ∙ ap length first.flight
-    ∙ length-drop (b.released - a.released) (payloads_of a.flight ++ map (λ (x : Numbered P). x.payload) one) in
+    let flown : length b.flight ≡ length (borne_by a.flight ++ map borne one) - (b.released - a.released) =
+    sym (length-borne_by b.flight) ∙ ap length first.flight
+    ∙ length-drop (b.released - a.released) (borne_by a.flight ++ map borne one) in
     let size_both = length-append one two in
     record {
       fewer = omega (arith, first.fewer, second.fewer);
@@ -305,78 +296,65 @@ flows_again {P} a b c one two first second =
           (arith, first.fewer, second.fewer) in e)
           ∙ ap (drop (c.released - a.released))
           (append_assoc old (pay one) (pay two)
-          ∙ ap (λ l. old ++ l) (sym (map-append (λ (x : Numbered P). x.payload) one two)));
+          ∙ ap (λ l. old ++ l) (sym (map-append (borne {P = P}) one two)));
       numbered = λ k x found. elim (in_either one two k x found) [
         | inl front ↦ first.numbered k x front
         | inr back ↦ (let at = second.numbered (k - length one) x back.1 in omega
             (arith, at, flown, first.fewer, first.within, size_line, size_old, size_one, back.0))
       ];
-      stays = λ number d sent kept.
-          second.stays number d
-          (omega (arith, sent, flown, first.fewer, first.within, size_line, size_old, size_one)) kept
-          ∙ first.stays number d sent (omega (arith, kept, second.fewer));
     }
 
 -- the first in flight are released
 flows_released : {P : Type 0} (h : HopState P) (count : ℕ) → count ≤ length h.flight
     → Flows h (with_released h count) []
-unfolding under
 flows_released {P} h count within =
     let gone : h.released + count - h.released ≡ count = omega arith in
     record {
       fewer = omega arith;
       within = omega arith;
-      flight = sym (drop-map (λ (item : Item P). item.payload) count h.flight)
-          ∙ ap (drop count) (sym (append-nil (payloads_of h.flight)))
-          ∙ ap (λ k. drop k (payloads_of h.flight ++ [])) (sym gone);
+      flight = sym (drop-map (λ (item : Item P). (item.limit, item.payload)) count h.flight)
+          ∙ ap (drop count) (sym (append-nil (borne_by h.flight)))
+          ∙ ap (λ k. drop k (borne_by h.flight ++ [])) (sym gone);
       numbered = λ k x found. absurd (omega (arith, slice_get_within [] k x found));
-      stays = λ number d sent kept.
-          get_or-drop count h.flight (number - (h.released + count) - 1) d
-          ∙ ap (λ n. get_or h.flight n d)
-          (let e : count + (number - (h.released + count) - 1) ≡ number - h.released - 1 = omega (arith, kept) in e);
     }
 
 -- what a pick put into flight at its own hop: what is left after those expired and dropped, if anything is
 picked_of : {P : Type 0} → ℕ → List (Item P) → List (Numbered P)
 picked_of number [] = []
-picked_of number (item ∷ behind) = (record { number = number; payload = item.payload }) ∷ []
+picked_of number (item ∷ behind) = (record { number = number; limit = item.limit; payload = item.payload }) ∷ []
 
 flows_picked : {P : Type 0} (h : HopState P) (now : ℕ) (outcome : Outcome) (rest : List (Item P))
     → drop outcome.dropped h.queue ≡ rest → Flows h (with_picked h now outcome) (picked_of (next_number h) rest)
-unfolding picked_of under
+unfolding picked_of
 flows_picked {P} h now outcome [] is =
     still_flows h (with_picked h now outcome)
     (ap (λ (q : List (Item P)). h.flight ++ take 1 q) is ∙ append-nil h.flight) refl
 flows_picked {P} h now outcome (item ∷ behind) is =
     let none : h.released - h.released ≡ 0 = omega arith in
-    let one : Numbered P = record { number = next_number h; payload = item.payload } in
+    let one : Numbered P = record { number = next_number h; limit = item.limit; payload = item.payload } in
     record {
       fewer = omega arith;
       within = omega (arith, none);
-      flight = map-append (λ (item : Item P). item.payload) h.flight (take 1 (drop outcome.dropped h.queue))
-          ∙ ap (λ (q : List (Item P)). payloads_of h.flight ++ payloads_of (take 1 q)) is
-          ∙ sym (ap (λ k. drop k (payloads_of h.flight ++ item.payload ∷ [])) none);
+      flight = map-append (λ (item : Item P). (item.limit, item.payload)) h.flight
+          (take 1 (drop outcome.dropped h.queue))
+          ∙ ap (λ (q : List (Item P)). borne_by h.flight ++ borne_by (take 1 q)) is
+          ∙ sym (ap (λ k. drop k (borne_by h.flight ++ (item.limit, item.payload) ∷ [])) none);
       numbered = λ k x found.
           (let first : k ≡ 0 = (let h = slice_get_within (one ∷ []) k x found in omega (arith, h)) in
           let here : Some one ≡ Some x = ap (λ i. slice_get (one ∷ []) i) (sym first) ∙ found in
           let same : one ≡ x = (cc) in
           let number_is : x.number ≡ next_number h = ap (λ (y : Numbered P). y.number) (sym same) in
           omega (arith, number_is, first));
-      stays = λ number d sent kept.
-          get_or_append_left h.flight (take 1 (drop outcome.dropped h.queue)) d (number - h.released - 1)
-          (omega (arith, sent, kept));
     }
 
 -- the expired are gone from the queue alone
 flows_expired : {P : Type 0} (h after : HopState P) (count : ℕ) (more : List (Numbered P))
     → Flows (with_expired h count) after more → Flows h after more
-unfolding under
 flows_expired h after count more flows = record {
   fewer = flows.fewer;
   within = flows.within;
   flight = flows.flight;
   numbered = flows.numbered;
-  stays = flows.stays;
 }
 
 -- nothing, either way
@@ -405,8 +383,11 @@ picked_by_pick {P} hop to now h g expired dropped (item ∷ behind) same within 
     let late : List ℕ = map (λ (item : Item P). item.id) (take expired h.queue) in
     let ids : List ℕ = map (λ (item : Item P). item.id) (take dropped (drop expired h.queue)) in
     let shown : List (Item P)
-    → List (Numbered P) = λ q. map (λ (item : Item P). record { number = next_number h; payload = item.payload })
-    (take 1 q) in
+    → List (Numbered P) = λ q. map (λ (item : Item P). record {
+      number = next_number h;
+      limit = item.limit;
+      payload = item.payload;
+    }) (take 1 q) in
     let left : length (drop dropped (drop expired h.queue)) ≡ length (item ∷ behind) = ap length is in
     let gone : length (map (λ (item : Item P). item.id) (take dropped (drop expired h.queue))) ≡ dropped =
     ids_count dropped (drop expired h.queue)

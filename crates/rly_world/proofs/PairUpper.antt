@@ -203,7 +203,8 @@ upper_called hop kept e s an outcome releases up =
 
 -- what the machine replies to a call of the sending core is safe to tell
 told_of : (xs : List (Numbered (List ℕ))) (an : Ask) (r : Reply)
-    → ((payload : List ℕ) (limit : ℕ) → r ≡ reply.Bytes payload limit → IsSafeEvent xs 0 (fetched_event an payload))
+    → ((payload : List ℕ) (limit : ℕ) → r ≡ reply.Bytes payload limit
+    → IsSafeEvent xs 0 (fetched_event an payload limit))
     → IsSafeEvent xs 0 (sender_event an r)
 told_of xs an (reply.Bytes payload limit) bytes = bytes payload limit refl
 told_of xs an (reply.WindowIs first next) bytes = tt

@@ -57,7 +57,7 @@ one_sent hop moment None = omega arith
 
 one_taken : (peer : PeerId) (hop : HopId) (stamp : ℕ) (action : Option (InAction (List ℕ)))
     → length (receiver_asks peer hop stamp action) ≤ 1
-one_taken peer hop stamp (Some (in_action.Take number payload)) = omega arith
+one_taken peer hop stamp (Some (in_action.Take number limit payload)) = omega arith
 one_taken peer hop stamp (Some (in_action.Send m)) = omega arith
 one_taken peer hop stamp None = omega arith
 

@@ -1,7 +1,8 @@
 -- An accepted command has a record, and accepted commands of one round may be one group.
-use Rattle.std.proofs.Common.{ℕ, ◌≡◌, ◌≤◌, ◌<◌, ◌+◌, ◌-◌, true, List, [], ◌∷◌, Option, Some, None, length, refl, arith}
+use Rattle.std.proofs.Common.{ℕ, ◌≡◌, ◌≤◌, ◌<◌, ◌+◌, ◌-◌, true, List, [], ◌∷◌, Option, Some, None, length, ap, refl, subst, arith}
 use Rattle.std.specs.List.{AllByRecursion}
 use Rattle.std.proofs.lemmas.List.Elements.{All-get_or}
+use Rattle.rly_core.specs.declared.params.Params.{Params}
 use Rattle.rly_machine.specs.declared.command.Command.{Command}
 use Rattle.rly_machine.specs.declared.command.Command.TheVariants.{Take, Pick, Release}
 use Rattle.rly_machine.specs.declared.reply.Reply.{Reply}
@@ -13,10 +14,11 @@ use Rattle.rly_machine.specs.Sound.{IsSound, IsSoundHop}
 use Rattle.rly_machine.specs.State.{State, last_at, new_hop}
 use Rattle.rly_machine.specs.Step.{step}
 use Rattle.rly_machine.specs.Take.{take_refusal}
+use Rattle.rly_machine.proofs.Folding.{params_step}
 use Rattle.rly_machine.proofs.RealReplies.{counted}
 use Rattle.rly_machine.proofs.Refusals.{may_pick, may_release, may_take}
 use Rattle.rly_machine.proofs.Runs.{sound_step}
-use Rattle.rly_record.specs.Spelling.{HasRecord}
+use Rattle.rly_record.specs.Spelling.{HasRecord, IsShort}
 use Rattle.rly_standing.specs.Standing.{Commands}
 
 -- a step that counts was refused by no check
@@ -37,7 +39,7 @@ accepted_record s (Take peer number hop stamp limit payload) sound accepts =
       omega (arith, may.next, last, sound.seq),
       omega (arith, may.hop_to, sound.hop_count, sound.params.hops),
       omega (arith, may.moment),
-      may.short,
+      omega (arith, may.short, sound.params.payload),
       λ limited. record {
         peer = omega (arith, may.peer_to, sound.peer_count, sound.params.peers);
         number = omega (arith, may.next, may.seq, last);
@@ -66,4 +68,24 @@ accepted_records s (command ∷ commands) sound all = (
   accepted_record s command sound all.0,
   accepted_records (step length s command).0 commands
       (sound_step length s command sound) all.1,
+)
+
+-- and its payload is no longer than those of its spool
+accepted_short : (s : State (List ℕ)) (command : Command (List ℕ)) → is_accepted (step length s command).1 ≡ true
+    → IsShort s.params.payload command
+accepted_short s (Take peer number hop stamp limit payload) accepts =
+    (may_take length s peer number hop stamp limit (length payload)
+    (unrefused (take_refusal length s peer number hop stamp limit (length payload)) s _
+    (counted length s (Take peer number hop stamp limit payload) accepts))).short
+accepted_short s (Pick hop now) accepts = tt
+accepted_short s (Release hop number) accepts = tt
+
+pub accepted_shorts : (s : State (List ℕ)) (commands : Commands) → AllAccepted length s commands
+    → AllByRecursion (IsShort s.params.payload) commands
+accepted_shorts s [] all = tt
+accepted_shorts s (command ∷ commands) all = (
+  accepted_short s command all.0,
+  subst (λ most. AllByRecursion (IsShort most) commands)
+      (ap (λ (p : Params). p.payload) (params_step length s command))
+      (accepted_shorts (step length s command).0 commands all.1),
 )

@@ -35,32 +35,32 @@ sender_sends (Some (out_action.Fetch number)) = []
 sender_sends (Some out_action.Pick) = []
 sender_sends None = []
 
--- the call that a receiving core names for a peer, of a datagram for this hop with this stamp and without a limit; and
--- the message that it sends
+-- the call that a receiving core names for a peer, of a datagram for this hop with this stamp and the limit that it
+-- came with; and the message that it sends
 abbrev pub receiver_asks : PeerId → HopId → ℕ → Option (InAction (List ℕ)) → List Ask
-receiver_asks peer hop stamp (Some (in_action.Take number payload)) =
-    Command (command.Take peer number hop stamp 0 payload) ∷ []
+receiver_asks peer hop stamp (Some (in_action.Take number limit payload)) =
+    Command (command.Take peer number hop stamp limit payload) ∷ []
 receiver_asks peer hop stamp (Some (in_action.Send m)) = []
 receiver_asks peer hop stamp None = []
 
 abbrev pub receiver_sends : Option (InAction (List ℕ)) → List (Message (List ℕ))
 receiver_sends (Some (in_action.Send m)) = m ∷ []
-receiver_sends (Some (in_action.Take number payload)) = []
+receiver_sends (Some (in_action.Take number limit payload)) = []
 receiver_sends None = []
 
--- what a sending core is told of bytes: they are those under the number that it asked for
-abbrev pub fetched_event : Ask → List ℕ → OutEvent (List ℕ)
-fetched_event (Query (query.Fetch hop number)) payload = event.Fetched number payload
-fetched_event (Query (query.Window hop)) payload = event.Other
-fetched_event (Query (query.Show hop)) payload = event.Other
-fetched_event (Command any) payload = event.Other
+-- what a sending core is told of bytes with their limit: they are those under the number that it asked for
+abbrev pub fetched_event : Ask → List ℕ → ℕ → OutEvent (List ℕ)
+fetched_event (Query (query.Fetch hop number)) payload limit = event.Fetched number limit payload
+fetched_event (Query (query.Window hop)) payload limit = event.Other
+fetched_event (Query (query.Show hop)) payload limit = event.Other
+fetched_event (Command any) payload limit = event.Other
 
 -- what a sending core is told of the reply to its call
 abbrev pub sender_event : Ask → Reply → OutEvent (List ℕ)
 sender_event ask (reply.WindowIs first next) = event.WindowIs first next
 sender_event ask (reply.Picked number id expired dropped) = event.Picked number
 sender_event ask (reply.Nothing expired) = event.Nothing
-sender_event ask (reply.Bytes payload limit) = fetched_event ask payload
+sender_event ask (reply.Bytes payload limit) = fetched_event ask payload limit
 sender_event ask (reply.Released count) = event.Released
 sender_event ask reply.Unchanged = event.Unchanged
 sender_event ask (reply.Refused refusal) = event.Refused refusal

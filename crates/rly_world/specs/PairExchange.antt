@@ -1,6 +1,6 @@
 -- A worked exchange of two relays: three datagrams, of which the second comes first, a copy, a crash of the lower
 -- before it answers, and a crash of the upper.
-use Rattle.std.specs.Prelude.{ℕ, true, List, [], ◌∷◌, ◌++◌}
+use Rattle.std.specs.Prelude.{ℕ, ◌*◌, true, List, [], ◌∷◌, ◌++◌}
 use Rattle.rly_core.specs.declared.params.Params.{Params}
 use Rattle.rly_hop.specs.declared.message.Message.{Message}
 use Rattle.rly_hop.specs.declared.message.Message.TheVariants.{Custody, Data}
@@ -23,6 +23,7 @@ small_params = record {
   maxpacket = 1500;
   target = 5000;
   interval = 100000;
+  payload = 1200;
 }
 
 abbrev pub exchange_setup : PairSetup
@@ -37,9 +38,9 @@ exchange_setup = record {
   receivers = 1;
 }
 
--- the upper takes a datagram of one byte, without a limit, from its own peer
+-- the upper takes a datagram of one byte, with a limit of its own, from its own peer
 abbrev pub comes_in : ℕ → PairEvent
-comes_in n = UpperServes (Command (Take (record { 0 = 1 }) n (record { 0 = 1 }) 0 0 (n ∷ []))) Done true
+comes_in n = UpperServes (Command (Take (record { 0 = 1 }) n (record { 0 = 1 }) 0 (1000 * n) (n ∷ []))) Done true
 
 -- the sending core names a call, which is made and answered
 abbrev pub one_call : List PairEvent
@@ -74,11 +75,11 @@ exchanged kept = pair_after (pair_start exchange_setup) (exchange_begins ++ exch
 
 -- a datagram of the exchange
 abbrev pub datagram : ℕ → Numbered (List ℕ)
-datagram n = record { number = n; payload = n ∷ [] }
+datagram n = record { number = n; limit = 1000 * n; payload = n ∷ [] }
 
 -- the packets of the exchange
 abbrev pub data_packet : ℕ → Message (List ℕ)
-data_packet n = Data (record { 0 = 1 }) (record { 0 = 2 }) n (n ∷ [])
+data_packet n = Data (record { 0 = 1 }) (record { 0 = 2 }) n (1000 * n) (n ∷ [])
 
 abbrev pub custody_packet : ℕ → Message (List ℕ)
 custody_packet last = Custody (record { 0 = 2 }) (record { 0 = 1 }) last

@@ -11,19 +11,23 @@ use Rattle.rly_machine.specs.declared.reply.Reply.TheVariants.{Taken, Picked}
 use Rattle.rly_machine.specs.State.{State, HopState, hop_at}
 use Rattle.rly_machine.specs.Step.{step}
 
--- a payload under its custody number
+-- a payload and its limit under its custody number
 pub record Numbered (P : Type 0) : Type 0 where
   pub number : ℕ
+  pub limit : ℕ
   pub payload : P
 
--- the payloads of items
-abbrev pub payloads_of : {P : Type 0} → List (Item P) → List P
-payloads_of items = map (λ item. item.payload) items
+-- what items bear: each payload with its limit
+abbrev pub borne_by : {P : Type 0} → List (Item P) → List (ℕ × P)
+borne_by items = map (λ item. (item.limit, item.payload)) items
+
+abbrev pub borne : {P : Type 0} → Numbered P → ℕ × P
+borne one = (one.limit, one.payload)
 
 -- what a command took from a peer, by its reply
 abbrev pub taken_by : {P : Type 0} → PeerId → Command P → Reply → List (Numbered P)
 taken_by peer (Take from number to stamp limit payload) (Taken id) =
-    if from.0 == peer.0 then (record { number = number; payload = payload }) ∷ [] else []
+    if from.0 == peer.0 then (record { number = number; limit = limit; payload = payload }) ∷ [] else []
 taken_by peer _ _ = []
 
 -- what the accepted Takes among some commands took from a peer, in order
@@ -37,7 +41,7 @@ taken len peer s (command ∷ commands) =
 abbrev pub picked_by : {P : Type 0} → HopId → HopState P → Command P → Reply → List (Numbered P)
 picked_by hop h (Pick to now) (Picked number id expired dropped) =
     if to.0 == hop.0
-    then map (λ item. record { number = number; payload = item.payload })
+    then map (λ item. record { number = number; limit = item.limit; payload = item.payload })
     (take 1 (drop (length dropped) (drop (length expired) h.queue)))
     else []
 picked_by hop h _ _ = []

@@ -9,7 +9,7 @@ ghost use Rattle.rly_machine.specs.Query.{query_reply};
 ghost use Rattle.rly_machine.specs.State.{has_hop, has_peer, hop_at, last_at, new_state};
 ghost use Rattle.rly_machine.specs.declared.command.Command.{Command};
 ghost use Rattle.rly_world.specs.PairExchange.{datagram, exchange_packets, exchanged};
-ghost use Rattle.rly_world.specs.PairPayloads.{AreNumbered, IsPrefix, Numbered, payloads_of, picked, taken};
+ghost use Rattle.rly_world.specs.PairPayloads.{AreNumbered, IsPrefix, Numbered, borne, borne_by, picked, taken};
 ghost use Rattle.rly_world.specs.PairWaiting.{waiting_after, waiting_count};
 ghost use Rattle.rly_world.specs.PairWorld.{IsPair, PairEvent, PairSetup, lastingly_picked, lastingly_taken, now_taken, pair_after, pair_start, released_count};
 
@@ -27,29 +27,28 @@ pub fn law_taken<C: Content>()
 {}
 
 /// Whatever commands come to a new spool, the accepted Picks of a hop are numbered 1, 2, 3, .., and its flight, with its
-/// payloads, is what they picked less what was released. Further commands only add to what was picked.
+/// payloads and limits, is what they picked less what was released. Further commands only add to what was picked.
 pub fn law_flight<C: Content>()
     ensures numbered { (params : Params) (commands : List (Command C)) (hop : HopId) → IsTrue (has_hop (new_state {P = C} params) hop)
         → AreNumbered (picked C.length_of hop (new_state params) commands) }
     ensures flight { (params : Params) (commands : List (Command C)) (hop : HopId) → IsTrue (has_hop (new_state {P = C} params) hop)
-        → payloads_of (hop_at (fold C.length_of (new_state params) commands) hop).flight
+        → borne_by (hop_at (fold C.length_of (new_state params) commands) hop).flight
         ≡ drop (hop_at (fold C.length_of (new_state params) commands) hop).released
-        (map (λ one. one.payload) (picked C.length_of hop (new_state params) commands)) }
+        (map borne (picked C.length_of hop (new_state params) commands)) }
     ensures released { (params : Params) (commands : List (Command C)) (hop : HopId) → IsTrue (has_hop (new_state {P = C} params) hop)
         → (hop_at (fold C.length_of (new_state params) commands) hop).released ≤ length (picked C.length_of hop (new_state params) commands) }
     ensures prefix { (params : Params) (commands more : List (Command C)) (hop : HopId)
         → IsPrefix (picked C.length_of hop (new_state params) commands) (picked C.length_of hop (new_state params) (commands ++ more)) }
 {}
 
-/// What an accepted Pick put into flight is what a Fetch of its number gives, with one limit, at once and after any further
+/// What an accepted Pick put into flight, with its limit, is what a Fetch of its number gives, at once and after any further
 /// commands, until it is released.
 pub fn law_fetch()
-    ensures { (params : Params) (commands : List (Command (List ℕ))) (hop : HopId) (k : ℕ) (one : Numbered (List ℕ))
+    ensures { (params : Params) (commands more : List (Command (List ℕ))) (hop : HopId) (k : ℕ) (one : Numbered (List ℕ))
         → IsTrue (has_hop (new_state {P = List ℕ} params) hop)
         → slice_get (picked length hop (new_state params) commands) k ≡ Some one
-        → (limit : ℕ) × ((more : List (Command (List ℕ)))
         → (hop_at (fold length (new_state params) (commands ++ more)) hop).released < one.number
-        → query_reply (fold length (new_state params) (commands ++ more)) (Query.Fetch hop one.number) ≡ Reply.Bytes one.payload limit) }
+        → query_reply (fold length (new_state params) (commands ++ more)) (Query.Fetch hop one.number) ≡ Reply.Bytes one.payload one.limit }
 {}
 
 /// Two relays, both new at first, over any list of events. What the lower has taken from the upper, in order and with its

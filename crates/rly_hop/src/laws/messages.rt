@@ -1,7 +1,7 @@
 ghost use Rattle.std.specs.Prelude.{◌≡◌, ◌<◌, ◌≤◌, ◌↔◌, ℕ, List, None, length, slice_index};
 ghost use Rattle.rly_hop.specs.declared.message.Message.{Message};
 ghost use Rattle.rly_hop.specs.declared.message.StationId.{StationId};
-ghost use Rattle.rly_hop.specs.Spelling.{IsMessage, spelling};
+ghost use Rattle.rly_hop.specs.Spelling.{IsMessage, longest_message, spelling};
 ghost use Rattle.rly_hop.specs.Reading.{first_fault};
 
 use crate::message::MAX_MESSAGE;
@@ -18,10 +18,14 @@ pub fn law_no_fault_is_a_spelling(bytes: &[u8])
     ensures faultless { (m : Message (List ℕ)) → IsMessage m → bytes.now ≡ spelling m → first_fault bytes.now ≡ None }
 {}
 
-/// No message is longer than `MAX_MESSAGE`, and one that hands over the longest payload is as long.
+/// No message is longer than `MAX_MESSAGE`, and one with a limit that hands over the longest payload is as long. One that
+/// hands over a payload of at most so many bytes isn't longer than `longest_message` says.
 pub fn law_longest_message()
-    ensures bytes { MAX_MESSAGE ≡ 1218 }
+    ensures bytes { MAX_MESSAGE ≡ 8215 }
     ensures within { (m : Message (List ℕ)) → IsMessage m → length (spelling m) ≤ MAX_MESSAGE }
-    ensures reached { (from to : StationId) (number : ℕ) (payload : List ℕ) → length payload ≡ MAX_PAYLOAD
-        → length (spelling (Message.Data from to number payload)) ≡ MAX_MESSAGE }
+    ensures shorter { (from to : StationId) (number limit most : ℕ) (payload : List ℕ) → IsMessage (Message.Data from to number limit payload)
+        → length payload ≤ most → length (spelling (Message.Data from to number limit payload)) ≤ longest_message most }
+    ensures worked { (longest_message 1200 ≡ 1223) × (longest_message 8192 ≡ MAX_MESSAGE) }
+    ensures reached { (from to : StationId) (number limit : ℕ) (payload : List ℕ) → 0 < limit → length payload ≡ MAX_PAYLOAD
+        → length (spelling (Message.Data from to number limit payload)) ≡ MAX_MESSAGE }
 {}

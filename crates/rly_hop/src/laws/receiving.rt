@@ -28,19 +28,19 @@ pub fn law_refused_follows_an_answer()
         × ((refusal : Refusal) × (event ≡ InEvent.Answered (TakeAnswer.Refused refusal)) × (told ≡ number_of refusal)) }
 {}
 
-/// After any events a receiving core names the Take of a number and a payload only on hearing just that Data from its
-/// peer station to its own.
+/// After any events a receiving core names the Take of a number, a limit and a payload only on hearing just that Data from
+/// its peer station to its own.
 pub fn law_take_follows_data()
-    ensures { (own peer : StationId) (before : List (InEvent (List ℕ))) (event : InEvent (List ℕ)) (n : ℕ) (payload : List ℕ) →
-        in_action_after own peer before event ≡ Some (InAction.Take n payload) →
-        event ≡ InEvent.Heard (Message.Data peer own n payload) }
+    ensures { (own peer : StationId) (before : List (InEvent (List ℕ))) (event : InEvent (List ℕ)) (n limit : ℕ) (payload : List ℕ) →
+        in_action_after own peer before event ≡ Some (InAction.Take n limit payload) →
+        event ≡ InEvent.Heard (Message.Data peer own n limit payload) }
 {}
 
 /// A receiving core names at most one action an event, and after a Take none until an answer comes.
 pub fn law_nothing_is_named_while_an_answer_is_due()
     ensures one { (own peer : StationId) (events : List (InEvent (List ℕ))) → length (in_actions (receiver own peer) events) ≡ length events }
-    ensures none { (own peer : StationId) (before heard : List (InEvent (List ℕ))) (event : InEvent (List ℕ)) (n : ℕ) (payload : List ℕ) →
-        in_action_after own peer before event ≡ Some (InAction.Take n payload) →
+    ensures none { (own peer : StationId) (before heard : List (InEvent (List ℕ))) (event : InEvent (List ℕ)) (n limit : ℕ) (payload : List ℕ) →
+        in_action_after own peer before event ≡ Some (InAction.Take n limit payload) →
         AllByRecursion IsHeard heard →
         AllByRecursion (λ named. named ≡ None) (in_actions (receiving_step (receiver_after (receiver own peer) before) event).0 heard) }
 {}

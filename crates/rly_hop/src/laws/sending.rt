@@ -28,13 +28,15 @@ pub fn law_fetch_was_given()
 {}
 
 /// After any events a sending core sends a Data only from its own station to its hop's station, on the answer that fetched
-/// its payload under its number, and only if an answered window or an answered pick gave it that number.
+/// its payload and its limit under its number, and only if an answered window or an answered pick gave it that number.
 pub fn law_data_is_what_was_fetched()
-    ensures fetched { (own hop from to : StationId) (window : ℕ) (before : List (OutEvent (List ℕ))) (event : OutEvent (List ℕ)) (n : ℕ) (payload : List ℕ) →
-        out_action_after own hop window before event ≡ Some (OutAction.Send (Message.Data from to n payload)) →
-        (from ≡ own) × (to ≡ hop) × (event ≡ OutEvent.Fetched n payload) }
-    ensures given { (own hop from to : StationId) (window : ℕ) (before : List (OutEvent (List ℕ))) (event : OutEvent (List ℕ)) (n : ℕ) (payload : List ℕ) →
-        out_action_after own hop window before event ≡ Some (OutAction.Send (Message.Data from to n payload)) →
+    ensures fetched { (own hop from to : StationId) (window : ℕ) (before : List (OutEvent (List ℕ))) (event : OutEvent (List ℕ))
+        (n limit : ℕ) (payload : List ℕ) →
+        out_action_after own hop window before event ≡ Some (OutAction.Send (Message.Data from to n limit payload)) →
+        (from ≡ own) × (to ≡ hop) × (event ≡ OutEvent.Fetched n limit payload) }
+    ensures given { (own hop from to : StationId) (window : ℕ) (before : List (OutEvent (List ℕ))) (event : OutEvent (List ℕ))
+        (n limit : ℕ) (payload : List ℕ) →
+        out_action_after own hop window before event ≡ Some (OutAction.Send (Message.Data from to n limit payload)) →
         IsGiven before n }
 {}
 

@@ -28,8 +28,8 @@ pub enum InEvent<P> {
 /// What a receiving core may name.
 #[derive(Clone, Copy, Debug, PartialEq, Eq)]
 pub enum InAction<P> {
-    /// Take the datagram that arrived under this number, and give the core the answer.
-    Take { number: u64, payload: P },
+    /// Take the datagram that arrived under this number with this limit, and give the core the answer.
+    Take { number: u64, limit: u64, payload: P },
     /// Send the message. Where that fails the core is told nothing: the neighbour sends again.
     Send(Message<P>),
 }

@@ -13,8 +13,8 @@ pub enum OutEvent<P> {
     Picked(u64),
     /// There was nothing to pick.
     Nothing,
-    /// The payload of the datagram that is in flight under this number.
-    Fetched { number: u64, payload: P },
+    /// The payload of the datagram that is in flight under this number, and its limit.
+    Fetched { number: u64, limit: u64, payload: P },
     /// Something in flight was released.
     Released,
     /// Nothing in flight was left to release.

@@ -3,6 +3,7 @@
 ghost use Rattle.std.specs.Prelude.{◌≤◌, IfOk};
 ghost use Rattle.rly_record.specs.Spelling.{IsRecordable};
 
+use rly_core::limits::MAX_PAYLOAD;
 use rly_core::{HopId, PeerId};
 use rly_machine::{Command, Payload};
 use rly_record::{DecodeFault, read_body, read_command, write_body, write_command};
@@ -23,7 +24,7 @@ const BODY: [u8; 37] = [
 ];
 
 fn take(alloc: Global) -> Result<Command<Payload>, AllocError>
-    ensures { IfOk result IsRecordable }
+    ensures { IfOk result (IsRecordable MAX_PAYLOAD) }
 {
     Ok(Command::Take {
         peer: PeerId(1),
@@ -36,7 +37,7 @@ fn take(alloc: Global) -> Result<Command<Payload>, AllocError>
 }
 
 fn release() -> Command<Payload>
-    ensures { IsRecordable result }
+    ensures { IsRecordable MAX_PAYLOAD result }
 {
     Command::Release {
         hop: HopId(1),
@@ -55,7 +56,7 @@ fn expect_written(rt: &impl Abort, is_written: bool, refused: bool, out: &[u8], 
 
 /// Writes a record of a command.
 fn write_one(rt: &impl Abort, alloc: Global, command: Command<Payload>) -> Result<(), AllocError>
-    requires { IsRecordable command }
+    requires { IsRecordable MAX_PAYLOAD command }
 {
     let mut out = Vec::new(alloc);
     before(alloc)?;
@@ -71,8 +72,8 @@ fn write_two(
     first: Command<Payload>,
     second: Command<Payload>,
 ) -> Result<(), AllocError>
-    requires first { IsRecordable first }
-    requires second { IsRecordable second }
+    requires first { IsRecordable MAX_PAYLOAD first }
+    requires second { IsRecordable MAX_PAYLOAD second }
 {
     let mut out = Vec::new(alloc);
     let commands = [first, second];

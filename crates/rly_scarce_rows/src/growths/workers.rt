@@ -10,7 +10,7 @@ use std::process::Abort;
 use std::test::Fail;
 
 /// Station 7, after station 3 and before station 9.
-const PLAN: &str = r#"
+pub(crate) const PLAN: &str = r#"
 station = 7
 [[peer]]
 id = 1
@@ -117,13 +117,15 @@ fn take(
     Ok(())
 }
 
+/// A window of 64.
+const WIDE: Params = Params {
+    window: 64,
+    ..Params::DEFAULT
+};
+
 /// A spool of three datagrams.
 fn three_waiting(rt: &impl Abort, alloc: Global) -> Result<Machine<Payload>, AllocError> {
-    let params = Params {
-        window: 64,
-        ..Params::DEFAULT
-    };
-    let mut machine = Machine::new(alloc, params)?;
+    let mut machine = Machine::new(alloc, WIDE)?;
     for number in 1..=3 {
         take(rt, alloc, &mut machine, number)?;
     }
@@ -174,7 +176,7 @@ fn a_sender(rt: HostRuntime) -> Result<(), Fail> {
         turn: MemTurn::new(1_000, 50_000, 41),
     };
     before(alloc)?;
-    sender_run(&rt, alloc, &plan, HopId(1), 64, &mut ends);
+    sender_run(&rt, alloc, &plan, HopId(1), &WIDE, &mut ends);
     let _ = was_refused(alloc);
     for number in 1..=3 {
         expect!(rt; has_sent(&ends.link, 1, number));

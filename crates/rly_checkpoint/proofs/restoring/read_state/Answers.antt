@@ -1,10 +1,10 @@
-use Rattle.std.proofs.Common.{refl, arith, ◌∙◌}
+use Rattle.std.proofs.Common.{refl, arith}
 use Rattle.std.proofs.lemmas.Bool.{iff_false}
 use Rattle.std.proofs.lemmas.Result.{err_from_is_err_and}
 use Rattle.rly_machine.specs.Kept.{state_of}
 use Rattle.rly_record.proofs.Records.{is_refused}
 use Rattle.rly_checkpoint.specs.HelpersReading.{whole_state}
-use Rattle.rly_checkpoint.proofs.Restored.{forms_found, hops_read, peers_read, plain_found, same_state, sound_again, sound_found, spelled_found}
+use Rattle.rly_checkpoint.proofs.Restored.{forms_found, hops_read, only_found, peers_read, plain_found, sound_again, sound_found, spelled_found}
 use Rattle.rly_checkpoint.proofs.restoring.read_state.Goals as goal
 
 pub returns-in_err-parts-clause-only : goal.returns-in_err-parts-clause-only
@@ -45,4 +45,4 @@ returns-clause-plain g c =
 pub returns-clause-only : goal.returns-clause-only
 returns-clause-only g c s sound has plain given same =
     let parts = c.in_ok-parts.parts in
-    c.in_ok-restore.ensures.state ∙ same_state (c.law_forms.ensures c.args.form) c.args.params c.args.bytes.now (state_of c.args.params parts.hops parts.lasts parts.seq) s c.in_ok-parts.ensures.gives sound has plain given same
+    only_found (c.law_forms.ensures c.args.form) c.args.params c.args.bytes.now (state_of c.args.params parts.hops parts.lasts parts.seq) _ s c.in_ok-parts.ensures.gives c.in_ok-restore.ensures.state sound has plain given same

@@ -7,6 +7,6 @@ use Rattle.rly_checkpoint.proofs.sound.is_row.Given as goal
 -- the whole is a row exactly where the rest is one after the last item
 abbrev pub invariant-loop-index : goal.invariant-loop-index
 invariant-loop-index g l = record {
-  there : IsRow g.C.Content.length_of l.hop.moment l.seq 0 0 (live_line (hop_state l.hop)) → IsRow g.C.Content.length_of l.hop.moment l.seq l.id l.stamp (drop l.index (live_line (hop_state l.hop)));
-  back : IsRow g.C.Content.length_of l.hop.moment l.seq l.id l.stamp (drop l.index (live_line (hop_state l.hop))) → IsRow g.C.Content.length_of l.hop.moment l.seq 0 0 (live_line (hop_state l.hop));
+  there : IsRow g.C.Content.length_of l.params l.hop.moment l.seq 0 0 (live_line (hop_state l.hop)) → IsRow g.C.Content.length_of l.params l.hop.moment l.seq l.id l.stamp (drop l.index (live_line (hop_state l.hop)));
+  back : IsRow g.C.Content.length_of l.params l.hop.moment l.seq l.id l.stamp (drop l.index (live_line (hop_state l.hop))) → IsRow g.C.Content.length_of l.params l.hop.moment l.seq 0 0 (live_line (hop_state l.hop));
 }

@@ -14,5 +14,5 @@ invariant-loop-hop g l = record {
   bytes : l.totals.bytes ≡ sum_by (λ h. bytes_of g.C.Content.length_of (live_line h)) (take l.hop-index (map hop_state l.hops));
   few_taken : l.totals.taken ≤ 2 ^ 48 * l.hop-index;
   few_items : l.totals.items ≤ 16384 * l.hop-index;
-  few_bytes : l.totals.bytes ≤ 19660800 * l.hop-index;
+  few_bytes : l.totals.bytes ≤ 134217728 * l.hop-index;
 }

@@ -7,6 +7,7 @@ use Rattle.rly_daemon.proofs.Sending.{neighbour_send}
 use Rattle.rly_daemon.proofs.Tallied.{tallied_send}
 use Rattle.rly_daemon.proofs.PaceBegun.{told_from}
 use Rattle.rly_daemon.proofs.Workers.{posts_count, workers_count}
+use Rattle.rly_hop.specs.Spelling.{longest_message}
 use Rattle.rly_line.proofs.Closing.{as_many_names}
 use Rattle.rly_line.proofs.Making.{names_again}
 use Rattle.rly_reporter.specs.TalliedLink.{link_below}
@@ -16,7 +17,7 @@ use Rattle.rly_daemon.proofs.reporting.serve_reporting.Goals as goal
 pub run_reported-requires-clause-count : goal.run_reported-requires-clause-count
 run_reported-requires-clause-count g c κs within =
     let planned = c.in-Ok-told_posts.ensures ∙ c.in-Ok.ensures.posts in
-    let count = posts_count _ _ c.args.plan.now c.args.keys c.args.turns c.requires.keys planned in
+    let count = posts_count _ _ c.args.plan.now c.args.keys (longest_message c.args.journal.state.params.payload) c.args.turns c.requires.keys planned in
     let peers = c.requires.sound.peer_count in
     let hops = c.requires.sound.hop_count in
     (omega (arith, count, peers.0, hops.0), omega (arith, count, peers.1, hops.1))
@@ -27,11 +28,11 @@ returns-in-Ok-outcome_of-clause-ends g c =
     let line = relay.reported.relayed.finished.last.value.line in
     let complete : relay.reported.relayed.complete ≡ true = search rules in
     let planned = c.in-Ok-told_posts.ensures ∙ c.in-Ok.ensures.posts in
-    let count = posts_count _ _ c.args.plan.now c.args.keys c.args.turns c.requires.keys planned in
+    let count = posts_count _ _ c.args.plan.now c.args.keys (longest_message c.args.journal.state.params.payload) c.args.turns c.requires.keys planned in
     let some : 1 ≤ length c.in-Ok-told_posts.posts.items = omega (arith, count, c.requires.sound.peer_count.0) in
     let served = relay.ensures.served in
     let many : length line.lines ≡ length c.in-Ok-told_posts.posts.items + 1 = sym (as_many_names line.lines) ∙ ap length (served.3.rounds.names ∙ names_again 0 served.1) ∙ served.2 in
-    turns_end link_below c.args.plan.now c.args.keys c.args.journal.state.params.window c.args.turns line.of _ _ _ planned some (omega (arith, many, as_many_names line.lines)) relay.ensures.worked (sym relay.ensures.complete ∙ complete)
+    turns_end link_below c.args.plan.now c.args.keys c.args.journal.state.params (longest_message c.args.journal.state.params.payload) c.args.turns line.of _ _ _ planned some (omega (arith, many, as_many_names line.lines)) relay.ensures.worked (sym relay.ensures.complete ∙ complete)
 
 pub returns-in-Ok-outcome_of-clause-worked : goal.returns-in-Ok-outcome_of-clause-worked
 returns-in-Ok-outcome_of-clause-worked g c =
@@ -54,7 +55,7 @@ returns-in-Ok-outcome_of-clause-served g c =
     let relay = c.in-Ok-run_reported in
     let served = relay.ensures.served in
     let planned = c.in-Ok-told_posts.ensures ∙ c.in-Ok.ensures.posts in
-    let count = posts_count _ _ c.args.plan.now c.args.keys c.args.turns c.requires.keys planned ∙ sym (workers_count c.args.plan.now) in
+    let count = posts_count _ _ c.args.plan.now c.args.keys (longest_message c.args.journal.state.params.payload) c.args.turns c.requires.keys planned ∙ sym (workers_count c.args.plan.now) in
     (served.0, served.1, served.2 ∙ ap (λ n. n + 1) count, served.3)
 
 -- its pace had told nothing

@@ -6,5 +6,5 @@ use Rattle.rly_daemon.proofs.serving.posts_of.Given as goal
 -- the workers so far, before those that are left
 abbrev pub invariant-loop-link : goal.invariant-loop-link
 invariant-loop-link g l =
-    map duty_at l.posts.items ++ map (duty_of l.fn.plan l.fn.turns) (into_iter_items l.link-iterator)
-    ≡ duties l.fn.plan l.fn.keys l.fn.turns
+    map duty_at l.posts.items ++ map (duty_of l.fn.plan l.fn.longest l.fn.turns) (into_iter_items l.link-iterator)
+    ≡ duties l.fn.plan l.fn.keys l.fn.longest l.fn.turns

@@ -8,5 +8,6 @@ pub returns : goal.returns
 returns c =
     let size : ℕ = length c.args.payload.now in
     let out : List ℕ = c.args.out.now in
-    ap (put_mid 18 (18 + size - 18) (put_mid 16 (length out - 16) out c.write_u16.new.buf)) c.copy_from_slice.ensures.after
-    ∙ put_mid-twice out (big_bytes 2 size) c.args.payload.now c.write_u16.new.buf size (18 + size - 18) c.requires.room (omega arith) refl c.write_u16.ensures
+    let at : ℕ = c.args.at in
+    ap (put_mid (at + 2) (at + 2 + size - (at + 2)) (put_mid at (length out - at) out c.write_u16.new.buf)) c.copy_from_slice.ensures.after
+    ∙ put_mid-twice out (big_bytes 2 size) c.args.payload.now c.write_u16.new.buf at size (at + 2 + size - (at + 2)) c.requires.room (omega arith) refl c.write_u16.ensures

@@ -4,7 +4,7 @@ use Rattle.rly_record.proofs.Bodies.{recordable_short}
 use Rattle.rly_checkpoint.specs.Stored.{stored_length}
 use Rattle.rly_grouping.specs.Groups.{record_place}
 use Rattle.rly_grouping.proofs.Records.{place_after}
-use Rattle.rly_journal.proofs.Outcomes.{brought_at, map_push, place_small, staged_left, staged_taken, staged_told}
+use Rattle.rly_journal.proofs.Outcomes.{brought_at, gate_small, map_push, place_small, recordable_here, staged_left, staged_taken, staged_told}
 use Rattle.rly_journal.proofs.Wanting.{placed_wants}
 use Rattle.rly_journal.proofs.answering.answer_command.Goals.{then-is_accepted, else-is_accepted}
 use Rattle.rly_journal.proofs.answering.answer_command.Goals as goal
@@ -12,16 +12,30 @@ use Rattle.rly_journal.proofs.answering.answer_command.Goals as goal
 pub overflow_add-next : goal.overflow_add-next
 overflow_add-next c =
     let yes : c.is_recordable.result ≡ true = search rules in
+    let recordable = recordable_here c.args.gate c.args.index.now c.args.group.now c.params.result c.args.command c.requires.grouping c.law_index.ensures.holds
+    (c.params.ensures ∙ ap (λ m. m.state.params) c.machine.ensures) (c.is_recordable.ensures.yes yes) in
     let small = place_small c.args.gate c.args.index.now c.args.group.now c.requires.grouping c.requires.room c.law_index.ensures.holds c.requires.ready c.args.command
-    (recordable_short c.args.command (c.is_recordable.ensures.yes yes)) in
+    (recordable_short c.args.group.now.most c.args.command recordable) in
     omega (arith, small, c.len.ensures)
 
 pub overflow_add-next-2 : goal.overflow_add-next-2
 overflow_add-next-2 c =
     let yes : c.is_recordable.result ≡ true = search rules in
+    let recordable = recordable_here c.args.gate c.args.index.now c.args.group.now c.params.result c.args.command c.requires.grouping c.law_index.ensures.holds
+    (c.params.ensures ∙ ap (λ m. m.state.params) c.machine.ensures) (c.is_recordable.ensures.yes yes) in
     let small = place_small c.args.gate c.args.index.now c.args.group.now c.requires.grouping c.requires.room c.law_index.ensures.holds c.requires.ready c.args.command
-    (recordable_short c.args.command (c.is_recordable.ensures.yes yes)) in
+    (recordable_short c.args.group.now.most c.args.command recordable) in
     omega (arith, small, c.len.ensures, c.record_len.ensures)
+
+pub stage-placed-requires-clause-recordable : goal.stage-placed-requires-clause-recordable
+stage-placed-requires-clause-recordable c =
+    let yes : c.is_recordable.result ≡ true = search rules in
+    recordable_here c.args.gate c.args.index.now c.args.group.now c.params.result c.args.command c.requires.grouping c.law_index.ensures.holds
+    (c.params.ensures ∙ ap (λ m. m.state.params) c.machine.ensures) (c.is_recordable.ensures.yes yes)
+
+pub stage-placed-requires-clause-gate : goal.stage-placed-requires-clause-gate
+stage-placed-requires-clause-gate c =
+    gate_small c.args.gate c.args.index.now c.args.group.now c.requires.grouping c.requires.room c.law_index.ensures.holds c.requires.ready
 
 pub returns-in_default-clause-told : goal.returns-in_default-clause-told
 returns-in_default-clause-told c = λ t alike.
@@ -33,8 +47,11 @@ returns-in_default-clause-told c = λ t alike.
 
 pub apply-reply-requires-clause-brought : goal.apply-reply-requires-clause-brought
 apply-reply-requires-clause-brought c = λ _.
+    let yes : c.is_recordable.result ≡ true = search rules in
+    let recordable = recordable_here c.args.gate c.args.index.now c.args.group.now c.params.result c.args.command c.requires.grouping c.law_index.ensures.holds
+    (c.params.ensures ∙ ap (λ m. m.state.params) c.machine.ensures) (c.is_recordable.ensures.yes yes) in
     brought_at c.args.gate c.args.index.now c.args.group.now c.requires.grouping c.requires.room c.law_index.ensures.holds c.requires.ready c.reserve_for.new.self c.args.command
-    (c.args.gate + c.len.result + c.record_len.result) c.stage-placed.result c.stage-placed.ensures.has c.in-Ok.ensures.at
+    (c.args.gate + c.len.result + c.record_len.result) c.stage-placed.result c.stage-placed.ensures.has (recordable_short c.args.group.now.most c.args.command recordable) c.in-Ok.ensures.at
     (omega (arith, place_after c.args.gate c.args.group.now, c.len.ensures, c.record_len.ensures)) c.stage-placed.ensures.placed
 
 pub returns-clause-told : goal.returns-clause-told
@@ -45,6 +62,9 @@ returns-clause-told c =
 
 pub returns-clause-taken : goal.returns-clause-taken
 returns-clause-taken c =
+    let yes : c.is_recordable.result ≡ true = search rules in
+    let recordable = recordable_here c.args.gate c.args.index.now c.args.group.now c.params.result c.args.command c.requires.grouping c.law_index.ensures.holds
+    (c.params.ensures ∙ ap (λ m. m.state.params) c.machine.ensures) (c.is_recordable.ensures.yes yes) in
     elim c.if-is_accepted.branch [
       | then-is_accepted w ↦
           let accepts = sym c.is_accepted.ensures ∙ w.if-is_accepted.true in
@@ -54,7 +74,7 @@ returns-clause-taken c =
                 (c.args.gate + c.len.result + c.record_len.result) c.stage-placed.ensures.placed c.in-Ok.ensures.state c.in-Ok.ensures.at
                 c.apply-reply.ensures.state c.apply-reply.ensures.reply c.apply-reply.ensures.at
                 c.stage-placed.new.self c.if-is_accepted.group (map (λ e. e.0.value) c.args.accepted.now.items) (map (λ e. e.0.value) c.if-is_accepted.accepted.items)
-                accepts c.stage-placed.ensures.has (omega (arith, place_after c.args.gate c.args.group.now, c.len.ensures, c.record_len.ensures))
+                accepts c.stage-placed.ensures.has (recordable_short c.args.group.now.most c.args.command recordable) (omega (arith, place_after c.args.gate c.args.group.now, c.len.ensures, c.record_len.ensures))
                 c.stage-placed.ensures.staged (w.group-is ∙ w.keep.ensures)
                 (map_push (λ e. e.0.value) c.args.accepted.now.items c.if-is_accepted.accepted.items (c.of-said.result, tt) c.args.command
                 (ap (λ a. a.items) w.accepted-is ∙ w.and.ensures) c.of-said.ensures),

@@ -3,8 +3,11 @@ use Rattle.std.proofs.lemmas.Bool.{false≢true}
 use Rattle.rly_machine.specs.Accepted.{is_accepted}
 use Rattle.rly_machine.specs.Sound.{IsSound}
 use Rattle.rly_machine.specs.Map.{map_command}
+use Rattle.rly_machine.specs.State.{State}
 use Rattle.rly_machine.specs.Step.{NeedsRoom, step}
+use Rattle.rly_record.specs.Spelling.{IsRecordable}
 use Rattle.rly_checkpoint.specs.Stored.{stored_length}
+use Rattle.rly_checkpoint.specs.declared.stored.Stored.{Stored}
 use Rattle.rly_checkpoint.specs.declared.stored.Stored.TheVariants.{Inline}
 use Rattle.rly_journal.proofs.Outcomes.{long_refused, long_told}
 use Rattle.rly_journal.proofs.Wanting.{needs_accepts}
@@ -15,7 +18,8 @@ apply-requires-clause-brought c = λ accepts.
     let refused : is_accepted (step stored_length c.reserve_for.new.self.spool.state c.inlined-placed.result).1 ≡ false =
     subst (λ p. is_accepted (step stored_length c.reserve_for.new.self.spool.state p).1 ≡ false) (sym c.inlined-placed.ensures)
     (long_refused c.reserve_for.new.self.spool.state c.args.command
-    (subst (IsSound stored_length) (sym c.in-Ok.ensures.state) c.law_index.ensures.sound) c.requires.long) in
+    (subst (IsSound stored_length) (sym c.in-Ok.ensures.state) c.law_index.ensures.sound)
+    (subst (λ (s : State Stored). IsRecordable s.params.payload c.args.command → ⊥) (sym c.in-Ok.ensures.state) c.requires.long)) in
     absurd (false≢true (sym refused ∙ accepts))
 
 pub returns-in-Ok-clause-told : goal.returns-in-Ok-clause-told

@@ -8,4 +8,4 @@ use Rattle.rly_pair.proofs.relays.hear.Goals as goal
 
 pub returns-in-Some-Take-clause-named : goal.returns-in-Some-Take-clause-named
 returns-in-Some-Take-clause-named c =
-    (c.in-Some-Take.field-0-1.now, sym (ap (λ (x : InAction (Bor (List ℕ))). Some (in_action_bytes x)) (sym c.in-Some-Take.field-0-is) ∙ c.in-Some-Take.ensures.action ∙ ap (λ (m : Message (List ℕ)). (receiving_step c.args.receiver.now (in_event.Heard m)).1) c.lent.ensures))
+    (c.in-Some-Take.field-0-2.now, sym (ap (λ (x : InAction (Bor (List ℕ))). Some (in_action_bytes x)) (sym c.in-Some-Take.field-0-is) ∙ c.in-Some-Take.ensures.action ∙ ap (λ (m : Message (List ℕ)). (receiving_step c.args.receiver.now (in_event.Heard m)).1) c.lent.ensures))

@@ -1,4 +1,5 @@
-use Rattle.rly_record.proofs.Bodies.{body_length-all, body_length-within, length-body_of, record_length-has}
+use Rattle.std.proofs.Common.{refl}
+use Rattle.rly_record.proofs.Bodies.{body_length-all, body_length-within, has_short, length-body_of, record_length-short}
 use Rattle.rly_record.proofs.Records.{length-record_of}
 use Rattle.rly_record.proofs.laws.law_lengths.Goals as goal
 
@@ -9,10 +10,16 @@ pub returns-clause-body : goal.returns-clause-body
 returns-clause-body c commands = length-body_of commands
 
 pub returns-clause-longest_record : goal.returns-clause-longest_record
-returns-clause-longest_record c command has = record_length-has command has
+returns-clause-longest_record c most command short = record_length-short most command short
 
 pub returns-clause-longest_body : goal.returns-clause-longest_body
-returns-clause-longest_body c commands has = body_length-within commands has
+returns-clause-longest_body c most commands few short = body_length-within most commands short few
 
 pub returns-clause-reached : goal.returns-clause-reached
-returns-clause-reached c commands count each = body_length-all commands count each
+returns-clause-reached c most commands count each = body_length-all most commands count each
+
+pub returns-clause-short : goal.returns-clause-short
+returns-clause-short c command has = has_short command has
+
+pub returns-clause-worked : goal.returns-clause-worked
+returns-clause-worked c = (refl, refl)

@@ -3,7 +3,7 @@ use Rattle.rly_disk.specs.FaultDisk.{fault_state}
 use Rattle.rly_disk.specs.MemDisk.{mem_state}
 use Rattle.rly_journal.specs.Rounds.{refusals}
 use Rattle.rly_journal.specs.Journal.{MakesRound}
-use Rattle.rly_relay.proofs.RelayServed.{on_ok, serves}
+use Rattle.rly_relay.proofs.RelayServed.{answers_counted, on_ok, serves}
 use Rattle.rly_relay.proofs.round.serve.Goals as goal
 
 pub returns-clause-served : goal.returns-clause-served
@@ -24,3 +24,11 @@ returns-clause-served c =
     ))
     (on_ok c.round-made.result ok (made.trace whole)))
     (answered.1 ∙ ap (λ l. l ++ answered.0) c.requires.empty) answered.2
+
+pub returns-clause-count : goal.returns-clause-count
+returns-clause-count c =
+    let made = c.round-made.ensures in
+    let ok = made.reserved (omega (arith, ap length c.requires.empty, c.requires.count.1, c.requires.room)) in
+    let answered = on_ok c.round-made.result ok made.answers in
+    ap length (answered.1 ∙ ap (λ l. l ++ answered.0) c.requires.empty)
+    ∙ answers_counted c.args.journal.now c.round-made.new.self c.args.calls.now.items answered.0 answered.2

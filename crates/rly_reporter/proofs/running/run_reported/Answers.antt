@@ -80,9 +80,9 @@ returns-clause-worked g c =
     let split = ap length c.take_last-seat.ensures.items ∙ length-append c.take_last-seat.new.self.items _ in
     let each : length c.take_last-seat.new.self.items ≡ length c.args.posts.items = omega (arith, posts, all, split, c.in-Ok.ensures.count) in
     let same = seated_front c.args.posts.items c.in-Ok.line_end.of (names_of c.in-Ok.line_end.lines) _ _ _ each c.in-Ok.ensures.seats c.take_last-seat.ensures.items in
-    subst (λ (y : LineId × List (Option ReplyId)). AllZip (HaveEnded g.L.Link.heard g.L.Link.sent g.T.Turn.told g.T.Turn.endless c.args.plan.now c.args.journal.state.params.window) (seated y.0 y.1 c.args.posts.items) c.in_ok-relayed.relayed.ended.items)
+    subst (λ (y : LineId × List (Option ReplyId)). AllZip (HaveEnded g.L.Link.heard g.L.Link.sent g.T.Turn.told g.T.Turn.endless c.args.plan.now c.args.journal.state.params) (seated y.0 y.1 c.args.posts.items) c.in_ok-relayed.relayed.ended.items)
     (λ i. (sym done.served.rounds.of i, sym done.served.rounds.names i))
-    (subst (λ given. AllZip (HaveEnded g.L.Link.heard g.L.Link.sent g.T.Turn.told g.T.Turn.endless c.args.plan.now c.args.journal.state.params.window) given c.in_ok-relayed.relayed.ended.items) same done.worked)
+    (subst (λ given. AllZip (HaveEnded g.L.Link.heard g.L.Link.sent g.T.Turn.told g.T.Turn.endless c.args.plan.now c.args.journal.state.params) given c.in_ok-relayed.relayed.ended.items) same done.worked)
 
 -- and the reporter the last
 pub returns-clause-watched : goal.returns-clause-watched

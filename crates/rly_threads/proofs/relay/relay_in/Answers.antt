@@ -36,7 +36,7 @@ returns-clause-done g c =
       left = end.left;
       closed = end.closed;
       worked =
-          rw (sym c.params-window.ensures)
+          rw (sym c.params-params.ensures)
           (kept_through g.L.Link.heard g.L.Link.sent g.T.Turn.told g.T.Turn.endless _ _ _ _ _ _ _ _ c.start_all-threads.ensures end.joined);
       answered = end.answered;
       told = end.told;

@@ -39,9 +39,9 @@ pub returns-clause-worked : goal.returns-clause-worked
 returns-clause-worked g c =
     if_both c.run_relay_at.result c.run_relay_at.ensures.served c.run_relay_at.ensures.worked
     (λ relayed served worked.
-    subst (λ (y : LineId × List (Option ReplyId)). AllZip (HaveEnded g.L.Link.heard g.L.Link.sent g.T.Turn.told g.T.Turn.endless c.args.plan.now c.args.journal.state.params.window) (seated y.0 y.1 c.args.posts.items) relayed.ended.items)
+    subst (λ (y : LineId × List (Option ReplyId)). AllZip (HaveEnded g.L.Link.heard g.L.Link.sent g.T.Turn.told g.T.Turn.endless c.args.plan.now c.args.journal.state.params) (seated y.0 y.1 c.args.posts.items) relayed.ended.items)
     (λ i. (sym served.rounds.of i, sym served.rounds.names i))
-    (subst (λ given. AllZip (HaveEnded g.L.Link.heard g.L.Link.sent g.T.Turn.told g.T.Turn.endless c.args.plan.now c.args.journal.state.params.window) (zip c.args.posts.items given) relayed.ended.items)
+    (subst (λ given. AllZip (HaveEnded g.L.Link.heard g.L.Link.sent g.T.Turn.told g.T.Turn.endless c.args.plan.now c.args.journal.state.params) (zip c.args.posts.items given) relayed.ended.items)
     c.in-Ok.ensures.seats worked))
 
 pub returns-clause-seats : goal.returns-clause-seats

@@ -54,18 +54,18 @@ returns-then-not-go g c =
     let most = c.reserve-calls.result.most in
     let plan = c.args.plan.now in
     let hop = c.args.hop in
-    let window = c.args.window in
+    let params = c.args.params.now in
     let act = outlet_turn (outlet plan hop) most in
     let neighbour = c.in-Some.neighbour.now in
     let found : Some neighbour ≡ next_hop_at plan hop = ap option_copied (sym c.in-Some.is) ∙ c.hop.ensures in
-    let core : c.new-core.result ≡ sender (record { 0 = plan.station }) (record { 0 = neighbour.station }) window =
-    c.new-core.ensures ∙ (λ i. sender (record { 0 = c.station.ensures i }) (record { 0 = neighbour.station }) window) in
-    let first = first_pacing (sender (record { 0 = plan.station }) (record { 0 = neighbour.station }) window) window (resend plan hop) (rate plan hop) in
-    let first_is : c.new-pacing.result ≡ first = c.new-pacing.ensures ∙ (λ i. first_pacing (core i) window (c.resend.ensures i) (c.rate.ensures i)) in
+    let core : c.new-core.result ≡ sender (record { 0 = plan.station }) (record { 0 = neighbour.station }) params.window =
+    c.new-core.ensures ∙ (λ i. sender (record { 0 = c.station.ensures i }) (record { 0 = neighbour.station }) params.window) in
+    let first = first_pacing (sender (record { 0 = plan.station }) (record { 0 = neighbour.station }) params.window) params (resend plan hop) (rate plan hop) in
+    let first_is : c.new-pacing.result ≡ first = c.new-pacing.ensures ∙ (λ i. first_pacing (core i) params (c.resend.ensures i) (c.rate.ensures i)) in
     let ran : Ran c.args.ends.now c.between-go.new.self (Sender hop) (done_in act c.new-pacing.result before.turns) =
     did_end c.args.ends.now c.loop-turn.ends c.between-go.new.self c.loop-turn.outlet.pacing (done_in act c.new-pacing.result before.turns) (Sender hop) c.between-go.result
     before.did c.between-go.ensures.told c.between-go.ensures.same c.if-not-go.true in
     record {
-      turns = has_sent plan hop window c.args.ends.now c.between-go.new.self neighbour most before.turns found c.reserve-calls.ensures.most
+      turns = has_sent plan hop params c.args.ends.now c.between-go.new.self neighbour most before.turns found c.reserve-calls.ensures.most
           (subst (λ p. Ran c.args.ends.now c.between-go.new.self (Sender hop) (done_in act p before.turns)) first_is ran);
     }

@@ -1,7 +1,7 @@
 use Rattle.std.proofs.Common.{ℕ, ◌≡◌, ◌-◌, ap, arith, drop, map, ◌∙◌}
 use Rattle.rly_machine.specs.Fold.{fold}
 use Rattle.rly_machine.specs.State.{hop_at, new_state}
-use Rattle.rly_world.specs.PairPayloads.{picked}
+use Rattle.rly_world.specs.PairPayloads.{borne, picked}
 use Rattle.rly_world.proofs.PairRuns.{flows_from_new, picked_append}
 use Rattle.rly_world.proofs.pair_law.law_flight.Goals as goal
 
@@ -14,7 +14,7 @@ returns-clause-flight g c params commands hop there =
     let len = g.C.Content.length_of in
     let released : ℕ = (hop_at (fold len (new_state params) commands) hop).released in
     (flows_from_new len params commands hop there).flight
-    ∙ ap (λ n. drop n (map (λ one. one.payload) (picked len hop (new_state params) commands)))
+    ∙ ap (λ n. drop n (map borne (picked len hop (new_state params) commands)))
     (let e : released - 0 ≡ released = omega arith in e)
 
 pub returns-clause-released : goal.returns-clause-released

@@ -7,5 +7,5 @@ pub returns-clause-one : goal.returns-clause-one
 returns-clause-one c own peer events = length-in_actions (receiver own peer) events
 
 pub returns-clause-none : goal.returns-clause-none
-returns-clause-none c own peer before heard event n payload e h =
-    silent (receiving_step (receiver_after (receiver own peer) before) event).0 n heard (received-take (receiver_after (receiver own peer) before) event n payload e).1 h
+returns-clause-none c own peer before heard event n limit payload e h =
+    silent (receiving_step (receiver_after (receiver own peer) before) event).0 n heard (received-take (receiver_after (receiver own peer) before) event n limit payload e).1 h

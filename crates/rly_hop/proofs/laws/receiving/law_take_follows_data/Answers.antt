@@ -8,8 +8,8 @@ use Rattle.rly_hop.proofs.ReceivingLaws.{after-stations, received-take}
 use Rattle.rly_hop.proofs.laws.receiving.law_take_follows_data.Goals as goal
 
 pub returns : goal.returns
-returns c own peer before event n payload e =
+returns c own peer before event n limit payload e =
     let stations = after-stations (receiver own peer) before in
-    let take = received-take (receiver_after (receiver own peer) before) event n payload e in
-    subst (λ (x : StationId). event ≡ Heard (message.Data peer x n payload)) stations.0
-    (subst (λ (x : StationId). event ≡ Heard (message.Data x (receiver_after (receiver own peer) before).own n payload)) stations.1 take.0)
+    let take = received-take (receiver_after (receiver own peer) before) event n limit payload e in
+    subst (λ (x : StationId). event ≡ Heard (message.Data peer x n limit payload)) stations.0
+    (subst (λ (x : StationId). event ≡ Heard (message.Data x (receiver_after (receiver own peer) before).own n limit payload)) stations.1 take.0)

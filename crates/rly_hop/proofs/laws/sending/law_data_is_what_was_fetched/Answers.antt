@@ -5,13 +5,13 @@ use Rattle.rly_hop.proofs.SendingLaws.{given-only, sender-in_order, sender_after
 use Rattle.rly_hop.proofs.laws.sending.law_data_is_what_was_fetched.Goals as goal
 
 pub returns-clause-fetched : goal.returns-clause-fetched
-returns-clause-fetched c own hop from to window before event n payload e =
+returns-clause-fetched c own hop from to window before event n limit payload e =
     let order = sender_after-in_order (sender own hop window) before (sender-in_order own hop window) in
     let stations = sender_after-stations (sender own hop window) before in
-    let found = sent-data (sender_after (sender own hop window) before) event from to n payload order e in
+    let found = sent-data (sender_after (sender own hop window) before) event from to n limit payload order e in
     (found.0 ∙ stations.0, found.1 ∙ stations.1, found.2)
 
 pub returns-clause-given : goal.returns-clause-given
-returns-clause-given c own hop from to window before event n payload e =
+returns-clause-given c own hop from to window before event n limit payload e =
     let order = sender_after-in_order (sender own hop window) before (sender-in_order own hop window) in
-    given-only own hop window before n (sent-data (sender_after (sender own hop window) before) event from to n payload order e).3
+    given-only own hop window before n (sent-data (sender_after (sender own hop window) before) event from to n limit payload order e).3

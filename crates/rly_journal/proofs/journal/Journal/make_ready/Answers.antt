@@ -4,6 +4,8 @@ use Rattle.rly_core.specs.declared.refusal.Refusal.TheVariants.{DeviceRead, OutO
 use Rattle.rly_disk.specs.DiskModel.{Later, LeavesOnly}
 use Rattle.rly_disk.proofs.Making.{makes_later}
 use Rattle.rly_journal.specs.Journal.{IsDueFor}
+use Rattle.rly_grouping.specs.Groups.{empty_group}
+use Rattle.rly_standing.specs.declared.tail.Tail.{Tail}
 use Rattle.rly_standing.specs.Log.{IsFull}
 use Rattle.rly_standing.specs.Standing.{Stands}
 use Rattle.rly_standing.proofs.Following.{front_all}
@@ -23,6 +25,10 @@ is_full-requires-clause-segment g c =
 pub is_full-requires-clause-length : goal.is_full-requires-clause-length
 is_full-requires-clause-length g c =
     c.self.invariant.0.shaped.geometry.length
+
+pub is_full-requires-clause-payload : goal.is_full-requires-clause-payload
+is_full-requires-clause-payload g c =
+    omega (arith, c.self.invariant.0.shaped.geometry.params.payload)
 
 pub is_full-requires-clause-gate : goal.is_full-requires-clause-gate
 is_full-requires-clause-gate g c =
@@ -79,7 +85,7 @@ invariant_of-self g c =
       subst (IsSoundJournal (g.D.Disk.state c.renew.new.disk) c.renew.new.tail c.renew.new.index _ c.self.inside.position) (sym whole)
           (opened_sound g.D.Disk.state c.self.inside.tail c.renew.new.tail c.self.inside.index c.renew.new.index _ c.self.inside.position sound c.in-Ok.ensures.shaped c.in-Ok.ensures.ends (c.in-Ok.ensures.kept _) (c.in-Ok.ensures.durable _) (c.in-Ok.ensures.tagged _)
           (makes_later g.D.Disk.state made)),
-      c.self.invariant.1,
+      c.self.invariant.1 ∙ ap (λ (u : Tail). empty_group u.geometry.params.payload) (sym t.2.0),
       c.self.invariant.2,
       c.self.invariant.3,
     )
@@ -93,7 +99,7 @@ invariant_of-self-in-Err-OutOfMemory g c =
       subst (IsSoundJournal (g.D.Disk.state c.renew.new.disk) c.renew.new.tail c.renew.new.index _ c.self.inside.position) (sym whole)
           (unopened_sound g.D.Disk.state c.self.inside.tail c.renew.new.tail c.self.inside.index c.renew.new.index _ c.self.inside.position sound (unopened_only g.D.Disk.state g.met.D.Disk.consistent c.self.inside.tail t.0 made)
           c.in-Err-OutOfMemory.ensures.err.0 c.in-Err-OutOfMemory.ensures.err.1),
-      c.self.invariant.1,
+      c.self.invariant.1 ∙ ap (λ (u : Tail). empty_group u.geometry.params.payload) (sym c.in-Err-OutOfMemory.ensures.err.0),
       c.self.invariant.2,
       c.self.invariant.3,
     )
@@ -107,7 +113,7 @@ invariant_of-self-in-Err-Read g c =
       subst (IsSoundJournal (g.D.Disk.state c.renew.new.disk) c.renew.new.tail c.renew.new.index _ c.self.inside.position) (sym whole)
           (unopened_sound g.D.Disk.state c.self.inside.tail c.renew.new.tail c.self.inside.index c.renew.new.index _ c.self.inside.position sound (unopened_only g.D.Disk.state g.met.D.Disk.consistent c.self.inside.tail t.0 (front_all g.D.Disk.state made))
           c.in-Err-Read.ensures.err.0 c.in-Err-Read.ensures.err.1),
-      c.self.invariant.1,
+      c.self.invariant.1 ∙ ap (λ (u : Tail). empty_group u.geometry.params.payload) (sym c.in-Err-Read.ensures.err.0),
       c.self.invariant.2,
       c.self.invariant.3,
     )
@@ -117,7 +123,7 @@ invariant_of-self-in-Err-Device g c =
     let whole : c.self.inside.broken ≡ false = ap (λ j. j.broken) c.self.view_is ∙ c.requires in
     let sound = whole_sound (g.D.Disk.state c.self.inside.disk) c.self.inside.tail c.self.inside.index _ c.self.inside.position c.self.inside.broken whole c.self.invariant.0 in (
       failed_sound g.D.Disk.state c.self.inside.tail c.renew.new.tail c.self.inside.index c.renew.new.index _ c.self.inside.position sound c.in-Err-Device.ensures.shaped c.in-Err-Device.ensures.err.1,
-      c.self.invariant.1,
+      c.self.invariant.1 ∙ ap (λ (u : Tail). empty_group u.geometry.params.payload) (sym c.in-Err-Device.ensures.err.0),
       c.self.invariant.2,
       c.self.invariant.3,
     )

@@ -1,17 +1,19 @@
 use Rattle.std.proofs.Common.{◌≡◌, ◌+◌, ◌∙◌, arith, ap, false, length, map, refl, subst, sym, true}
 use Rattle.std.specs.Prelude.{All}
 use Rattle.std.specs.List.{zip}
+use Rattle.rly_core.specs.declared.params.Geometry.{Geometry}
 use Rattle.rly_disk.proofs.Making.{makes_later}
 use Rattle.rly_machine.specs.Fold.{fold}
-use Rattle.rly_grouping.specs.Groups.{group_body}
+use Rattle.rly_grouping.specs.Groups.{empty_group, group_body}
 use Rattle.rly_fetching.specs.Fetching.{IsThereFor}
+use Rattle.rly_standing.specs.declared.tail.Tail.{Tail}
 use Rattle.rly_standing.specs.Log.{IsDurable, IsFull}
 use Rattle.rly_journal.specs.HelpersJournal.{IsSoundJournal}
 use Rattle.rly_journal.specs.HelpersOutcomes.{taken_of}
 use Rattle.rly_journal.specs.Showing.{shown_state}
 use Rattle.rly_journal.proofs.Asking.{above_there, ready_there}
 use Rattle.rly_journal.proofs.Ending.{broken_served, broken_sound, none_served, none_sound, served_as, served_broken, some_ready, some_served, some_sound, sound_as, whole_sound}
-use Rattle.rly_journal.proofs.Serving.{group_none, group_room, group_there, wanted_there}
+use Rattle.rly_journal.proofs.Serving.{group_none, group_room, group_there, longest_there, wanted_there}
 use Rattle.rly_journal.proofs.journal.Journal.serve.Goals as goal
 
 pub evaluate-requires-clause-room : goal.evaluate-requires-clause-room
@@ -24,7 +26,8 @@ evaluate-requires-clause-none g c =
 
 pub evaluate-requires-clause-empty : goal.evaluate-requires-clause-empty
 evaluate-requires-clause-empty g c =
-    c.self.invariant.1
+    let whole : c.self.inside.broken ≡ false = ap (λ j. j.broken) c.self.view_is ∙ c.requires.broken in
+    c.self.invariant.1 ∙ ap (λ (h : Geometry). empty_group h.params.payload) (sym (c.self.invariant.0.ends whole).geometry)
 
 pub evaluate-requires-clause-above : goal.evaluate-requires-clause-above
 evaluate-requires-clause-above g c =
@@ -126,7 +129,8 @@ invariant_of-self-in-Ok g c =
           (λ s before held accepted. subst (λ u. IsDurable (g.D.Disk.state c.append.new.disk) u (fold length s (taken_of (zip c.args.calls.now.items c.evaluate.new.outcomes.items)))) c.in-Ok.ensures.gate
           (c.in-Ok.ensures.durable (taken_of (zip c.args.calls.now.items c.evaluate.new.outcomes.items)) s before held accepted))
           (λ s before held accepted was. c.in-Ok.ensures.tagged (taken_of (zip c.args.calls.now.items c.evaluate.new.outcomes.items)) s c.self.inside.index.spool.state before held accepted was) c.answer_all-in-Ok.ensures.only c.seq-self-inside.result (c.seq-self-inside.ensures ∙ ap (λ m. m.state.seq) c.machine.ensures)),
-      c.append.ensures.emptied,
+      c.append.ensures.emptied ∙ ap empty_group (longest_there (g.D.Disk.state c.self.inside.disk).size c.self.inside.tail c.self.inside.index c.evaluate.new.index c.evaluate.new.group (map (λ e. e.0.value) c.self.inside.accepted.items) (map (λ e. e.0.value) c.evaluate.new.accepted.items) c.args.calls.now.items c.evaluate.new.outcomes.items (shown_state (g.D.Disk.state c.self.inside.first_disk.value).seen c.self.inside.first_index.value.spool.state (map (λ e. e.0.value) c.self.inside.accepted.items)) sound.shaped (sound.ends refl) sound.alike c.evaluate.ensures.evaluated)
+          ∙ ap (λ (u : Tail). empty_group u.geometry.params.payload) (sym c.in-Ok.ensures.gate),
       c.answer_all-in-Ok.ensures.emptied,
       omega (arith, c.self.invariant.3, c.evaluate.ensures.outcomes_capacity, c.answer_all-in-Ok.ensures.outcomes_capacity),
     )
@@ -155,7 +159,8 @@ invariant_of-self-in-Err g c =
       subst (λ u. IsSoundJournal (g.D.Disk.state c.append.new.disk) u c.evaluate.new.index (shown_state (g.D.Disk.state c.self.inside.first_disk.value).seen c.self.inside.first_index.value.spool.state (map (λ e. e.0.value) c.evaluate.new.accepted.items)) c.self.inside.position true) (sym c.in-Err.ensures.err)
           (broken_sound g.D.Disk.state g.met.D.Disk.consistent c.self.inside.tail c.self.inside.index c.evaluate.new.index c.evaluate.new.group
           (g.D.Disk.state c.self.inside.first_disk.value).seen c.self.inside.first_index.value.spool.state (map (λ e. e.0.value) c.self.inside.accepted.items) (map (λ e. e.0.value) c.evaluate.new.accepted.items) c.self.inside.position c.args.calls.now.items c.evaluate.new.outcomes.items c.self.inside.disk sound c.evaluate.ensures.evaluated (sym c.is_empty.ensures ∙ c.if-is_empty.false) c.requires.count c.law_index.ensures.holds (λ asks full. c.requires.ready (asks, subst (λ j. IsFull j.tail) c.self.view_is full)) c.in-Err.ensures.trace),
-      c.append.ensures.emptied,
+      c.append.ensures.emptied ∙ ap empty_group (longest_there (g.D.Disk.state c.self.inside.disk).size c.self.inside.tail c.self.inside.index c.evaluate.new.index c.evaluate.new.group (map (λ e. e.0.value) c.self.inside.accepted.items) (map (λ e. e.0.value) c.evaluate.new.accepted.items) c.args.calls.now.items c.evaluate.new.outcomes.items (shown_state (g.D.Disk.state c.self.inside.first_disk.value).seen c.self.inside.first_index.value.spool.state (map (λ e. e.0.value) c.self.inside.accepted.items)) sound.shaped (sound.ends refl) sound.alike c.evaluate.ensures.evaluated)
+          ∙ ap (λ (u : Tail). empty_group u.geometry.params.payload) (sym c.in-Err.ensures.err),
       c.refuse_all.ensures.emptied,
       omega (arith, c.self.invariant.3, c.evaluate.ensures.outcomes_capacity, c.refuse_all.ensures.outcomes_capacity),
     )

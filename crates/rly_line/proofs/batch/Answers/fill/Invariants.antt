@@ -1,4 +1,4 @@
-use Rattle.std.proofs.Common.{◌≡◌, ◌≤◌, ◌++◌, take, vec_capacity}
+use Rattle.std.proofs.Common.{◌≡◌, ◌++◌, take, vec_capacity}
 use Rattle.std.specs.Vec.Iter.{drain_items}
 use Rattle.rly_line.proofs.batch.Answers.fill.Given as goal
 
@@ -9,5 +9,5 @@ invariant-loop-answer l =
     × (goal.iterator-loop-answer).is_finite l.answer-iterator
     × (record {
       filled : l.answers.items ++ drain_items l.answer-iterator ≡ take l.wanted l.fn.given.items;
-      room : 64 ≤ vec_capacity l.answers;
+      room : vec_capacity l.answers ≡ 64;
     })

@@ -17,6 +17,6 @@ new-lane-requires-clause-bytes g c =
 pub dequeue_with-verdict-requires-clause-stamps : goal.dequeue_with-verdict-requires-clause-stamps
 dequeue_with-verdict-requires-clause-stamps g c =
     let len : g.row.C.Denot → ℕ = g.C.Content.length_of in
-    let live = back_all (IsLive len c.args.self.now.moment max_seq) c.args.self.now.flight.items c.args.self.now.queue.items c.requires.sound.items in
-    let left = All-drop (IsLive len c.args.self.now.moment max_seq) c.args.from c.args.self.now.queue.items live in
-    rw c.new-lane.ensures (stamps_le len c.args.self.now.moment c.max-now.result max_seq (drop c.args.from c.args.self.now.queue.items) (omega (arith, c.max-now.ensures)) left)
+    let live = back_all (IsLive len c.args.rules.now c.args.self.now.moment max_seq) c.args.self.now.flight.items c.args.self.now.queue.items c.requires.sound.items in
+    let left = All-drop (IsLive len c.args.rules.now c.args.self.now.moment max_seq) c.args.from c.args.self.now.queue.items live in
+    rw c.new-lane.ensures (stamps_le len c.args.rules.now c.args.self.now.moment c.max-now.result max_seq (drop c.args.from c.args.self.now.queue.items) (omega (arith, c.max-now.ensures)) left)

@@ -23,7 +23,7 @@ returns-in_default-hear-clause-ok c =
     ≡ pair_step w (LowerHears c.args.packet c.args.core c.args.hop c.args.stamp))
     c.self.view_is
     (passed_by_lower before c.args.packet c.args.core c.args.hop c.args.stamp r c.hear.new.receiver m found there c.hear.ensures.state
-    (λ number payload takes. none-some (in_action.Take number payload) (sym c.in_default-hear.ensures.named ∙ takes)))
+    (λ number limit payload takes. none-some (in_action.Take number limit payload) (sym c.in_default-hear.ensures.named ∙ takes)))
 
 pub returns-in-Ok-clause-ok : goal.returns-in-Ok-clause-ok
 returns-in-Ok-clause-ok c =
@@ -39,8 +39,8 @@ returns-in-Ok-clause-ok c =
     ≡ pair_step w (LowerHears c.args.packet c.args.core c.args.hop c.args.stamp))
     c.self.view_is
     (ap (λ (e : End). shown i.upper_params i.lower_params i.upper i.sender e (slice_set i.receivers.items c.args.core c.hear.new.receiver) i.packets.items) c.in-Ok.ensures.asked
-    ∙ heard_by_lower before c.args.packet c.args.core c.args.hop c.args.stamp r c.hear.new.receiver m c.in-Some-hear.number c.in-Some-hear.ensures.named.0 c.in_ok-payload.payload found there
-    c.hear.ensures.state (sym c.in-Some-hear.ensures.named.1) (λ from to n p is. c.in_ok-payload.ensures from to n p is))
+    ∙ heard_by_lower before c.args.packet c.args.core c.args.hop c.args.stamp r c.hear.new.receiver m c.in-Some-hear.number c.in-Some-hear.limit c.in-Some-hear.ensures.named.0 c.in_ok-payload.payload found there
+    c.hear.ensures.state (sym c.in-Some-hear.ensures.named.1) (λ from to n l p is. c.in_ok-payload.ensures from to n l p is))
 
 pub returns-clause-err : goal.returns-clause-err
 returns-clause-err c =
@@ -53,6 +53,6 @@ returns-clause-err c =
     let there = item_found (λ (x : MutBor Receiver). x.now) i.receivers.items c.args.core c.get_mut.result c.in-Some-get_mut.receiver c.in-Some-get_mut.is c.get_mut.ensures.item in
     ap (λ (e : End). shown i.upper_params i.lower_params i.upper i.sender e (slice_set i.receivers.items c.args.core c.step-nothing.new.self) i.packets.items) c.in-Err.ensures.err
     ∙ ap (λ (l : List Receiver). shown i.upper_params i.lower_params i.upper i.sender i.lower l i.packets.items)
-    (forgotten_by_lower i.receivers.items c.args.core r c.hear.new.receiver c.step-nothing.new.self m (in_action.Take c.in-Some-hear.number c.in-Some-hear.ensures.named.0) there
+    (forgotten_by_lower i.receivers.items c.args.core r c.hear.new.receiver c.step-nothing.new.self m (in_action.Take c.in-Some-hear.number c.in-Some-hear.limit c.in-Some-hear.ensures.named.0) there
     c.hear.ensures.state (sym c.in-Some-hear.ensures.named.1) c.step-nothing.ensures.state)
     ∙ c.self.view_is
