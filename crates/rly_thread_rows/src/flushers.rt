@@ -16,11 +16,15 @@ use std::thread::{JoinHandle, Threads};
 /// So many takes each seat makes.
 const TAKES: u64 = 100;
 
-/// Takes of one peer, one after the other, up to the first that is not taken. How many were taken.
+/// Takes of one peer, one after the other, up to the first that is not taken or not answered: a flusher whose journal broke ends, and
+/// answers no further call. How many were taken.
 fn takes_at<R: Abort + Wait>(rt: &R, alloc: Global, mut seat: Seat, peer: u16) -> u64 {
     let mut taken = 0;
     for number in 1..=TAKES {
-        match take_at(rt, alloc, &mut seat, peer, number) {
+        let Ok(answer) = seat.call(rt, take(rt, alloc, peer, number)) else {
+            break;
+        };
+        match answer.reply {
             Reply::Taken(_) => taken = number,
             _ => break,
         }
