@@ -46,6 +46,27 @@ fn lies_at(command: &Command<Stored>, start: u64, length: u16) -> bool {
     }
 }
 
+/// Where the gate of a group stands.
+const GATE: u64 = 100;
+
+/// Stages a command that can be recorded in a group for payloads of so many bytes.
+fn staged(
+    rt: &impl Abort,
+    group: &mut Group,
+    command: Command<Payload>,
+    payload: u64,
+) -> Command<Stored>
+    requires limit { payload ≤ 8192 }
+    requires most { group.old.most ≡ payload }
+    requires room { group.old.count < 64 }
+    requires nothing { group.old.staged ≡ [] }
+    ensures most { group.new.most ≡ payload }
+    ensures count { group.new.count ≡ group.old.count }
+{
+    assert!(rt; is_recordable(&command, payload));
+    group.stage(GATE, command)
+}
+
 /// The gate is at 100. After it stand the length in 4 bytes, the count in 2, and from 107 on the records, in each of which 23 bytes come
 /// before the payload. A record that is given up leaves its place to the next one.
 #[test]
@@ -53,28 +74,20 @@ fn a_group_tells_its_places(rt: HostRuntime) -> Result<(), Fail> {
     let alloc = rt.alloc();
     let mut disk = MemDisk::new(alloc, vec![in alloc; 0u8; 200]?);
     let mut group = Group::new(alloc, 1_200)?;
-    let three = take_of(alloc, 0, &[7, 8, 9])?;
-    assert!(rt; is_recordable(&three, 1_200));
-    let three = group.stage(100, three);
+    let three = staged(&rt, &mut group, take_of(alloc, 0, &[7, 8, 9])?, 1_200);
     group.keep();
-    let given_up = take_of(alloc, 0, &[1, 2])?;
-    assert!(rt; is_recordable(&given_up, 1_200));
-    let given_up = group.stage(100, given_up);
+    let given_up = staged(&rt, &mut group, take_of(alloc, 0, &[1, 2])?, 1_200);
     group.discard();
-    let none = take_of(alloc, 0, &[])?;
-    assert!(rt; is_recordable(&none, 1_200));
-    let none = group.stage(100, none);
+    let none = staged(&rt, &mut group, take_of(alloc, 0, &[])?, 1_200);
     group.keep();
-    let one = take_of(alloc, 0, &[5])?;
-    assert!(rt; is_recordable(&one, 1_200));
-    let one = group.stage(100, one);
+    let one = staged(&rt, &mut group, take_of(alloc, 0, &[5])?, 1_200);
     group.keep();
     expect!(rt; lies_at(&three, 130, 3));
     expect!(rt; lies_at(&given_up, 156, 2));
     expect!(rt; matches!(&none, Command::Take { payload: Stored::Inline(_), .. }));
     expect!(rt; lies_at(&one, 179, 1));
     assert!(rt; group.len() == 80 && disk.size() == 200);
-    assert!(rt; group.write(&mut disk, 100).is_ok());
+    assert!(rt; group.write(&mut disk, GATE).is_ok());
     let mut front = [0; 7];
     assert!(rt; disk.read_at(100, &mut front).is_ok());
     expect!(rt; front == [0xa5, 0, 0, 0, 75, 0, 3]);
@@ -95,14 +108,12 @@ fn a_take_with_a_limit_is_staged(rt: HostRuntime) -> Result<(), Fail> {
     let alloc = rt.alloc();
     let mut disk = MemDisk::new(alloc, vec![in alloc; 0u8; 200]?);
     let mut group = Group::new(alloc, 1_200)?;
-    let limited = take_of(alloc, 5_000, &[7, 8])?;
-    assert!(rt; is_recordable(&limited, 1_200));
-    let limited = group.stage(100, limited);
+    let limited = staged(&rt, &mut group, take_of(alloc, 5_000, &[7, 8])?, 1_200);
     group.keep();
     expect!(rt; lies_at(&limited, 130, 2));
     expect!(rt; matches!(&limited, Command::Take { limit: 5_000, .. }));
     assert!(rt; group.len() == 32 && disk.size() == 200);
-    assert!(rt; group.write(&mut disk, 100).is_ok());
+    assert!(rt; group.write(&mut disk, GATE).is_ok());
     let mut whole = [0; 33];
     assert!(rt; disk.read_at(100, &mut whole).is_ok());
     expect!(rt; whole == [
@@ -110,9 +121,6 @@ fn a_take_with_a_limit_is_staged(rt: HostRuntime) -> Result<(), Fail> {
     ]);
     Ok(())
 }
-
-/// Where the gate of the groups of 64 stands.
-const GATE: u64 = 100;
 
 /// Adds a command that can be recorded to a group for payloads of so many bytes.
 fn add(rt: &impl Abort, group: &mut Group, command: Command<Payload>, payload: u64)
