@@ -9,7 +9,6 @@ use rly_machine::{Answer, Ask, Call, Command, Payload, Query, Reply, SeatId};
 use rly_segment::format;
 use std::alloc::{AllocError, Global};
 use std::process::Abort;
-use std::test::Fail;
 
 /// 64 hops and 64 peers, 256 items and 153,000 bytes, on 256 segments. After a head without datagrams one has room for 64 of the
 /// longest Takes and for 64 Picks; then the next is due, since 84,067 and 78,280 exceed 162,000.
@@ -69,13 +68,13 @@ fn head(alloc: Global) -> Result<Vec<u8>, AllocError> {
 }
 
 /// A new device, with that head in its last segment.
-fn broad_device(rt: &impl Abort, alloc: Global) -> Result<MemDisk, AllocError> {
-    let mut disk = MemDisk::new(alloc, vec![in alloc; 0u8; SIZE]?);
+fn broad_device(rt: &impl Abort, alloc: Global) -> MemDisk {
+    let mut disk = MemDisk::new(alloc, vec![in alloc; 0u8; SIZE].expect(rt, "memory"));
     expect!(rt; format(alloc, &mut disk, &BROAD) == Ok(()));
-    let head = head(alloc)?;
+    let head = head(alloc).expect(rt, "memory");
     assert!(rt; head.len() == 5_078 && disk.size() as usize == SIZE);
     assert!(rt; disk.write_at(LAST, &head).is_ok() && disk.sync().is_ok());
-    Ok(disk)
+    disk
 }
 
 /// What is asked of each hop.
@@ -148,36 +147,32 @@ fn is_wanted(kind: Kind, id: u16, answer: &Answer) -> bool {
 }
 
 /// Asks the same of each hop, in one round.
-fn ask_each(
-    rt: &impl Abort,
-    alloc: Global,
-    journal: &mut Journal<MemDisk>,
-    kind: Kind,
-) -> Result<(), AllocError> {
+fn ask_each(rt: &impl Abort, alloc: Global, journal: &mut Journal<MemDisk>, kind: Kind) {
     let mut calls = Vec::new(alloc);
     for id in 1..=64u16 {
-        calls.push(Call {
-            seat: SeatId(255),
-            number: COMMANDS + u64::from(id),
-            ask: ask_of(alloc, kind, id)?,
-        })?;
+        calls
+            .push(Call {
+                seat: SeatId(255),
+                number: COMMANDS + u64::from(id),
+                ask: ask_of(alloc, kind, id).expect(rt, "memory"),
+            })
+            .expect(rt, "memory");
     }
-    let answers = answers_to(rt, alloc, journal, calls)?;
+    let answers = answers_to(rt, alloc, journal, calls).expect(rt, "memory");
     for (id, answer) in (1..=64u16).zip(&answers) {
         expect!(rt; is_wanted(kind, id, answer));
     }
-    Ok(())
 }
 
 /// Each hop takes one more, picks and fetches it, and no memory is refused. Each is there where the device is opened again. With the
 /// releases the next segment is opened, with a head of the second form: a body of 6,280 bytes, which are 8, 8 for each of 64 peers, 64 for
 /// each of 64 hops, and 26 for each of 64 datagrams by place.
 #[test]
-fn each_of_64_hops_takes_one(rt: HostRuntime) -> Result<(), Fail> {
+fn each_of_64_hops_takes_one(rt: HostRuntime) {
     let alloc = rt.alloc();
-    let mut journal = opened(&rt, alloc, broad_device(&rt, alloc)?);
+    let mut journal = opened(&rt, alloc, broad_device(&rt, alloc));
     for kind in [Kind::Take, Kind::Pick, Kind::Fetch] {
-        ask_each(&rt, alloc, &mut journal, kind)?;
+        ask_each(&rt, alloc, &mut journal, kind);
     }
     let mut journal = opened(&rt, alloc, journal.into_disk());
     expect!(rt; journal.position() == COMMANDS + 128);
@@ -185,10 +180,9 @@ fn each_of_64_hops_takes_one(rt: HostRuntime) -> Result<(), Fail> {
         let found = journal.fetch(alloc, HopId(id), RELEASED + 1);
         expect!(rt; matches!(&found, Ok(bytes) if are_of(id, bytes)));
     }
-    ask_each(&rt, alloc, &mut journal, Kind::Release)?;
+    ask_each(&rt, alloc, &mut journal, Kind::Release);
     let mut disk = journal.into_disk();
     let mut start = [0; 13];
     assert!(rt; disk.size() as usize == SIZE && disk.read_at(64, &mut start).is_ok());
     expect!(rt; start == [0xa5, 0, 0, 1, 0, 0, 0, 0, 1, 0x80, 0, 0x18, 0x88]);
-    Ok(())
 }

@@ -14,7 +14,6 @@ use rly_machine::{HopStatus, Ids, Reply};
 use sha2::{Digest, Sha256};
 use std::alloc::{AllocError, Global};
 use std::process::Abort;
-use std::test::Fail;
 
 /// What hexadecimal digits spell.
 fn spelled(rt: &impl Abort, alloc: Global, text: &[u8]) -> Vec<u8> {
@@ -37,8 +36,8 @@ fn put_run(rt: &impl Abort, bytes: &mut [u8], place: usize, byte: u8, count: usi
 }
 
 /// The bytes of the device.
-fn stored(rt: &impl Abort, alloc: Global) -> Result<Vec<u8>, AllocError> {
-    let mut bytes = vec![in alloc; 0u8; SIZE]?;
+fn stored(rt: &impl Abort, alloc: Global) -> Vec<u8> {
+    let mut bytes = vec![in alloc; 0u8; SIZE].expect(rt, "memory");
     for (place, text) in &TEXTS {
         let part = spelled(rt, alloc, text);
         put(rt, &mut bytes, *place, &part);
@@ -46,13 +45,13 @@ fn stored(rt: &impl Abort, alloc: Global) -> Result<Vec<u8>, AllocError> {
     for (place, byte, count) in &RUNS {
         put_run(rt, &mut bytes, *place, *byte, *count);
     }
-    Ok(bytes)
+    bytes
 }
 
 /// Its journal.
-fn stored_journal(rt: &impl Abort, alloc: Global) -> Result<Journal<MemDisk>, AllocError> {
-    let bytes = stored(rt, alloc)?;
-    Ok(opened(rt, alloc, MemDisk::new(alloc, bytes)))
+fn stored_journal(rt: &impl Abort, alloc: Global) -> Journal<MemDisk> {
+    let bytes = stored(rt, alloc);
+    opened(rt, alloc, MemDisk::new(alloc, bytes))
 }
 
 /// The gate, the generation and the length field of a segment's head.
@@ -67,27 +66,25 @@ fn head_at(rt: &impl Abort, bytes: &[u8], segment: usize) -> [u8; 13] {
 /// These are the bytes that the older program wrote. Bodies of 39,959 bytes and of 1,815: 87 each, 27 for each datagram by place, and 19
 /// and 1,200 for each that is inline.
 #[test]
-fn the_device_is_as_it_was_written(rt: HostRuntime) -> Result<(), Fail> {
+fn the_device_is_as_it_was_written(rt: HostRuntime) {
     let alloc = rt.alloc();
-    let bytes = stored(&rt, alloc)?;
+    let bytes = stored(&rt, alloc);
     expect!(rt; head_at(&rt, &bytes, 0) == [0xa5, 0, 0, 0, 0, 0, 0, 0, 4, 0, 0, 0x9c, 0x17]);
     expect!(rt; head_at(&rt, &bytes, 1) == [0xa5, 0, 0, 0, 0, 0, 0, 0, 2, 0, 0, 0x07, 0x17]);
     expect!(rt; head_at(&rt, &bytes, 2) == [0xa5, 0, 0, 0, 0, 0, 0, 0, 3, 0, 0, 0x9c, 0x17]);
     let digest = Sha256::digest(&bytes);
     expect!(rt; digest.as_slice() == spelled(&rt, alloc, DIGEST).as_slice());
-    Ok(())
 }
 
 /// Its payloads by place are read where a head of the first form has them, and those inline at its entries.
 #[test]
-fn all_that_is_in_flight_is_fetched(rt: HostRuntime) -> Result<(), Fail> {
+fn all_that_is_in_flight_is_fetched(rt: HostRuntime) {
     let alloc = rt.alloc();
-    let mut journal = stored_journal(&rt, alloc)?;
+    let mut journal = stored_journal(&rt, alloc);
     expect!(rt; journal.params() == THREE.params && journal.position() == 193);
     expect_in_flight(&rt, alloc, &mut journal, 33, 96);
     expect!(rt; journal.fetch(alloc, HOP, 32) == Err(Refusal::NotInFlight));
     expect!(rt; journal.fetch(alloc, HOP, 97) == Err(Refusal::NeverSent));
-    Ok(())
 }
 
 /// What was asked when it was written.
@@ -132,7 +129,7 @@ fn reply_to(
     journal: &mut Journal<MemDisk>,
     step: Step,
 ) -> Result<Reply, AllocError> {
-    let mut answers = ask_all(rt, alloc, journal, &[step])?;
+    let mut answers = ask_all(rt, alloc, journal, &[step]);
     match answers.pop() {
         Some(answer) => Ok(answer.reply),
         None => panic!(rt; "no answer"),
@@ -141,37 +138,40 @@ fn reply_to(
 
 /// The device once the older 32 were released, and one more datagram was taken, with a limit. Before that nothing fits.
 fn limited(rt: &impl Abort, alloc: Global) -> Result<MemDisk, AllocError> {
-    let mut journal = stored_journal(rt, alloc)?;
-    let full = reply_to(rt, alloc, &mut journal, LIMITED)?;
+    let mut journal = stored_journal(rt, alloc);
+    let full = reply_to(rt, alloc, &mut journal, LIMITED).expect(rt, "memory");
     expect!(rt; is_same(&full, &Reply::Refused(Refusal::Full)));
-    let released = reply_to(rt, alloc, &mut journal, Step::Release { number: 64 })?;
+    let released = reply_to(rt, alloc, &mut journal, Step::Release { number: 64 }).expect(
+        rt, "memory",
+    );
     expect!(rt; is_same(&released, &Reply::Released(32)));
-    let taken = reply_to(rt, alloc, &mut journal, LIMITED)?;
+    let taken = reply_to(rt, alloc, &mut journal, LIMITED).expect(rt, "memory");
     expect!(rt; is_same(&taken, &Reply::Taken(195)));
     Ok(journal.into_disk())
 }
 
 /// A record of a limit stands behind a head of the first form.
 #[test]
-fn a_limit_is_recorded_at_once(rt: HostRuntime) -> Result<(), Fail> {
+fn a_limit_is_recorded_at_once(rt: HostRuntime) {
     let alloc = rt.alloc();
-    let mut disk = limited(&rt, alloc)?;
-    let bytes = bytes_of(&rt, alloc, &mut disk)?;
+    let mut disk = limited(&rt, alloc).expect(&rt, "memory");
+    let bytes = bytes_of(&rt, alloc, &mut disk);
     expect!(rt; head_at(&rt, &bytes, 0) == [0xa5, 0, 0, 0, 0, 0, 0, 0, 4, 0, 0, 0x9c, 0x17]);
     // the head ends at 40,036, and the Release's group has 18 bytes
     assert!(rt; bytes.len() == SIZE);
     expect!(rt; &bytes[40_054..40_086] == LIMITED_GROUP.as_slice());
-    Ok(())
 }
 
 /// At its limit it is sent, and is fetched with its limit.
 #[test]
-fn a_limit_is_kept_and_not_yet_over(rt: HostRuntime) -> Result<(), Fail> {
+fn a_limit_is_kept_and_not_yet_over(rt: HostRuntime) {
     let alloc = rt.alloc();
-    let disk = limited(&rt, alloc)?;
+    let disk = limited(&rt, alloc).expect(&rt, "memory");
     let mut journal = opened(&rt, alloc, disk);
     expect_in_flight(&rt, alloc, &mut journal, 65, 96);
-    let picked = reply_to(&rt, alloc, &mut journal, Step::Pick { now: 5_000 })?;
+    let picked = reply_to(&rt, alloc, &mut journal, Step::Pick { now: 5_000 }).expect(
+        &rt, "memory",
+    );
     let want = Reply::Picked {
         number: 97,
         id: 195,
@@ -179,24 +179,27 @@ fn a_limit_is_kept_and_not_yet_over(rt: HostRuntime) -> Result<(), Fail> {
         dropped: Ids::new(Vec::new(alloc)),
     };
     expect!(rt; is_same(&picked, &want));
-    let fetched = reply_to(&rt, alloc, &mut journal, Step::Fetch { number: 97 })?;
+    let fetched = reply_to(&rt, alloc, &mut journal, Step::Fetch { number: 97 }).expect(
+        &rt, "memory",
+    );
     match &fetched {
         Reply::Bytes { payload, limit } => {
             expect!(rt; payload.as_slice() == [97].as_slice() && *limit == 5_000);
         }
         _ => panic!(rt; "not fetched"),
     }
-    Ok(())
 }
 
 /// A microsecond later it has expired.
 #[test]
-fn a_limit_is_kept_and_over(rt: HostRuntime) -> Result<(), Fail> {
+fn a_limit_is_kept_and_over(rt: HostRuntime) {
     let alloc = rt.alloc();
-    let disk = limited(&rt, alloc)?;
+    let disk = limited(&rt, alloc).expect(&rt, "memory");
     let mut journal = opened(&rt, alloc, disk);
-    let nothing = reply_to(&rt, alloc, &mut journal, Step::Pick { now: 5_001 })?;
-    let expired = Ids::new(vec![in alloc; 195u64]?);
+    let nothing = reply_to(&rt, alloc, &mut journal, Step::Pick { now: 5_001 }).expect(
+        &rt, "memory",
+    );
+    let expired = Ids::new(vec![in alloc; 195u64].expect(&rt, "memory"));
     expect!(rt; is_same(&nothing, &Reply::Nothing { expired }));
     let disk = journal.into_disk();
     let journal = opened(&rt, alloc, disk);
@@ -204,7 +207,6 @@ fn a_limit_is_kept_and_over(rt: HostRuntime) -> Result<(), Fail> {
         Reply::Shown(status) => expect_expired(&rt, status),
         _ => panic!(rt; "not shown"),
     }
-    Ok(())
 }
 
 /// The books of the hop say so.
@@ -243,38 +245,43 @@ const OPENED: [(usize, usize, [u8; 13]); 4] = [
 
 /// The rounds' answers are the plain machine's, whatever the form of the head. Each head that is written is of the second form.
 #[test]
-fn the_next_segments_are_of_the_second_form(rt: HostRuntime) -> Result<(), Fail> {
+fn the_next_segments_are_of_the_second_form(rt: HostRuntime) {
     let alloc = rt.alloc();
-    let (before, rounds) = (asked(alloc)?, rounds(alloc)?);
+    let (before, rounds) = (
+        asked(alloc).expect(&rt, "memory"),
+        rounds(alloc).expect(&rt, "memory"),
+    );
     let script = Script {
         geometry: THREE,
         before: &before,
         rounds: &rounds,
     };
-    let mut machine = new_machine(&rt, alloc, script)?;
-    let mut disk = MemDisk::new(alloc, stored(&rt, alloc)?);
+    let mut machine = new_machine(&rt, alloc, script);
+    let mut disk = MemDisk::new(alloc, stored(&rt, alloc));
     let mut asked = 0;
     for (count, segment, head) in OPENED {
         let mut journal = opened(&rt, alloc, disk);
         for index in asked..count {
             let steps = script.round(index);
-            let answers = ask_all(&rt, alloc, &mut journal, steps)?;
-            expect_replies(&rt, alloc, &mut machine, steps, &answers)?;
+            let answers = ask_all(&rt, alloc, &mut journal, steps);
+            expect_replies(&rt, alloc, &mut machine, steps, &answers).expect(&rt, "memory");
         }
         asked = count;
         disk = journal.into_disk();
-        let bytes = bytes_of(&rt, alloc, &mut disk)?;
+        let bytes = bytes_of(&rt, alloc, &mut disk);
         expect!(rt; head_at(&rt, &bytes, segment) == head, count as u64);
     }
-    Ok(())
 }
 
 /// The rounds make 328 calls. Opening makes 8; each of the ten rounds with commands 4; fetches of all in flight 64, three times; and each
 /// of the four segments that are opened 6, since its gate is open, and two of them 32 reads.
 #[test]
-fn thirteen_rounds(rt: HostRuntime) -> Result<(), Fail> {
+fn thirteen_rounds(rt: HostRuntime) {
     let alloc = rt.alloc();
-    let (before, rounds) = (asked(alloc)?, rounds(alloc)?);
+    let (before, rounds) = (
+        asked(alloc).expect(&rt, "memory"),
+        rounds(alloc).expect(&rt, "memory"),
+    );
     let script = Script {
         geometry: THREE,
         before: &before,
@@ -285,47 +292,45 @@ fn thirteen_rounds(rt: HostRuntime) -> Result<(), Fail> {
         syncs: 33,
         generations: &[7, 8, 6],
     };
-    let image = stored(&rt, alloc)?;
-    expect_costs(&rt, alloc, script, &image, costs)?;
-    Ok(())
+    let image = stored(&rt, alloc);
+    expect_costs(&rt, alloc, script, &image, costs);
 }
 
 /// The thirteen rounds, stopped at each of these calls, and with each failing.
-fn expect_part(rt: &impl Abort, alloc: Global, part: (u64, u64)) -> Result<(), AllocError> {
-    let (before, rounds) = (asked(alloc)?, rounds(alloc)?);
+fn expect_part(rt: &impl Abort, alloc: Global, part: (u64, u64)) {
+    let (before, rounds) = (
+        asked(alloc).expect(rt, "memory"),
+        rounds(alloc).expect(rt, "memory"),
+    );
     let script = Script {
         geometry: THREE,
         before: &before,
         rounds: &rounds,
     };
-    let image = stored(rt, alloc)?;
+    let image = stored(rt, alloc);
     walk_part(rt, alloc, script, &image, part)
 }
 
 /// From the opening of the device to the takes of the second cycle, with one segment opened.
 #[test]
-fn thirteen_rounds_up_to_call_98(rt: HostRuntime) -> Result<(), Fail> {
-    expect_part(&rt, rt.alloc(), (1, 98))?;
-    Ok(())
+fn thirteen_rounds_up_to_call_98(rt: HostRuntime) {
+    expect_part(&rt, rt.alloc(), (1, 98));
 }
 
 /// The picks of the second cycle, for which a segment is opened and 32 payloads are read, and its fetches.
 #[test]
-fn thirteen_rounds_up_to_call_204(rt: HostRuntime) -> Result<(), Fail> {
-    expect_part(&rt, rt.alloc(), (99, 204))?;
-    Ok(())
+fn thirteen_rounds_up_to_call_204(rt: HostRuntime) {
+    expect_part(&rt, rt.alloc(), (99, 204));
 }
 
 /// Its release, for which the same is done, and the takes and picks of the third cycle, with one more segment opened.
 #[test]
-fn thirteen_rounds_up_to_call_260(rt: HostRuntime) -> Result<(), Fail> {
-    expect_part(&rt, rt.alloc(), (205, 260))?;
-    Ok(())
+fn thirteen_rounds_up_to_call_260(rt: HostRuntime) {
+    expect_part(&rt, rt.alloc(), (205, 260));
 }
 
 /// The fetches of the third cycle, and its release.
 #[test]
-fn thirteen_rounds_up_to_call_328(rt: HostRuntime) -> Result<(), Fail> {
-    expect_part(&rt, rt.alloc(), (261, 328))?;
-    Ok(())
+fn thirteen_rounds_up_to_call_328(rt: HostRuntime) {
+    expect_part(&rt, rt.alloc(), (261, 328));
 }

@@ -99,40 +99,37 @@ pub(crate) fn expect_state<D: Disk>(
     alloc: Global,
     journal: &mut Journal<D>,
     machine: &mut Machine<Payload>,
-) -> Result<(), AllocError> {
-    expect_numbers(rt, alloc, journal, machine)?;
+) {
+    expect_numbers(rt, alloc, journal, machine);
     for turn in 0..8 {
         if machine.item_count() == 0 {
-            return Ok(());
+            return;
         }
-        let steps = late_steps(rt, alloc, machine, turn)?;
-        let answers = ask_all(rt, alloc, journal, &steps)?;
-        expect_replies(rt, alloc, machine, &steps, &answers)?;
-        expect_numbers(rt, alloc, journal, machine)?;
+        let steps = late_steps(rt, alloc, machine, turn);
+        let answers = ask_all(rt, alloc, journal, &steps);
+        expect_replies(rt, alloc, machine, &steps, &answers).expect(rt, "memory");
+        expect_numbers(rt, alloc, journal, machine);
     }
     panic!(rt; "something is always left")
 }
 
 /// Releases all that a machine has in flight, and picks 31 times at late moments.
-fn late_steps(
-    rt: &impl Abort,
-    alloc: Global,
-    machine: &Machine<Payload>,
-    turn: u64,
-) -> Result<Vec<Step>, AllocError> {
+fn late_steps(rt: &impl Abort, alloc: Global, machine: &Machine<Payload>, turn: u64) -> Vec<Step> {
     let Reply::WindowIs { next, .. } = machine.ask_window(HOP) else {
         panic!(rt; "no window");
     };
     let mut steps = Vec::new(alloc);
-    steps.push(Step::Release {
-        number: next.saturating_sub(1),
-    })?;
+    steps
+        .push(Step::Release {
+            number: next.saturating_sub(1),
+        })
+        .expect(rt, "memory");
     for pick in 0..31 {
         let now = 1_000_000 + 60_000 * (31 * turn.min(8) + pick);
-        steps.push(Step::Pick { now })?;
-        steps.push(Step::Show)?;
+        steps.push(Step::Pick { now }).expect(rt, "memory");
+        steps.push(Step::Show).expect(rt, "memory");
     }
-    Ok(steps)
+    steps
 }
 
 /// Expects of a journal a machine's numbers and payloads in flight.
@@ -141,7 +138,7 @@ pub(crate) fn expect_numbers<D: Disk>(
     alloc: Global,
     journal: &mut Journal<D>,
     machine: &mut Machine<Payload>,
-) -> Result<(), AllocError> {
+) {
     expect!(rt; journal.position() == machine.seq());
     expect!(rt; journal.last(PEER).ok().as_ref() == machine.lasts().first());
     expect!(rt; is_same(&journal.ask_show(HOP), &machine.ask_show(HOP)));
@@ -154,12 +151,11 @@ pub(crate) fn expect_numbers<D: Disk>(
         Step::Fetch { number: first },
         Step::Fetch { number: next },
     ];
-    let answers = ask_all(rt, alloc, journal, &steps)?;
-    expect_replies(rt, alloc, machine, &steps, &answers)?;
+    let answers = ask_all(rt, alloc, journal, &steps);
+    expect_replies(rt, alloc, machine, &steps, &answers).expect(rt, "memory");
     for number in 0..=next {
         expect!(rt; is_fetched(alloc, journal, machine, number), number);
     }
-    Ok(())
 }
 
 /// Whether a journal gives the payload in flight that a machine has under a number, or refuses it for the same reason.
@@ -191,13 +187,12 @@ pub(crate) fn expect_broken<D: Disk>(
     journal: &mut Journal<D>,
     steps: &[Step],
     position: u64,
-) -> Result<(), AllocError> {
-    let answers = ask_all(rt, alloc, journal, steps)?;
+) {
+    let answers = ask_all(rt, alloc, journal, steps);
     expect_refused(rt, &answers, Refusal::Broken, position);
     expect!(rt; journal.is_broken());
     expect!(rt; journal.position() == position);
     expect!(rt; journal.last(PEER) == Err(Refusal::Broken));
     expect!(rt; journal.fetch(alloc, HOP, 1).err() == Some(Refusal::Broken));
     expect!(rt; is_same(&journal.ask_show(HOP), &Reply::Refused(Refusal::Broken)));
-    Ok(())
 }

@@ -7,7 +7,6 @@ use rly_journal::Journal;
 use rly_machine::{Answer, Ask, Call, Command, Machine, Payload, Query, Reply, SeatId};
 use std::alloc::{AllocError, Global};
 use std::process::Abort;
-use std::test::Fail;
 
 /// The one hop.
 pub(crate) const HOP: HopId = HopId(1);
@@ -188,30 +187,31 @@ pub(crate) fn expect_in_flight(
 }
 
 /// Fifty cycles on a new device, and the last fetches again once it was opened again.
-fn expect_cycles(rt: &impl Abort, alloc: Global, geometry: &Geometry) -> Result<(), AllocError> {
+fn expect_cycles(rt: &impl Abort, alloc: Global, geometry: &Geometry) {
     // both geometries are of one spool
-    let mut machine = Machine::new(alloc, THREE.params)?;
-    let mut journal = opened(rt, alloc, new_device(rt, alloc, geometry)?);
+    let mut machine = Machine::new(alloc, THREE.params).expect(rt, "memory");
+    let mut journal = opened(
+        rt,
+        alloc,
+        new_device(rt, alloc, geometry).expect(rt, "memory"),
+    );
     for cycle in 1..=50 {
-        expect_cycle(rt, alloc, &mut journal, &mut machine, cycle)?;
+        expect_cycle(rt, alloc, &mut journal, &mut machine, cycle).expect(rt, "memory");
     }
     let mut again = opened(rt, alloc, journal.into_disk());
     expect!(rt; again.position() == machine.seq());
     expect_in_flight(rt, alloc, &mut again, 1_569, 1_600);
     expect!(rt; again.fetch(alloc, HOP, 1_568) == Err(Refusal::NotInFlight));
-    Ok(())
 }
 
 #[test]
-fn fifty_cycles_on_three_segments(rt: HostRuntime) -> Result<(), Fail> {
-    expect_cycles(&rt, rt.alloc(), &THREE)?;
-    Ok(())
+fn fifty_cycles_on_three_segments(rt: HostRuntime) {
+    expect_cycles(&rt, rt.alloc(), &THREE);
 }
 
 #[test]
-fn fifty_cycles_on_two_segments(rt: HostRuntime) -> Result<(), Fail> {
-    expect_cycles(&rt, rt.alloc(), &TWO)?;
-    Ok(())
+fn fifty_cycles_on_two_segments(rt: HostRuntime) {
+    expect_cycles(&rt, rt.alloc(), &TWO);
 }
 
 /// The gate, the generation and the length of the head's state, of a segment.
@@ -251,31 +251,29 @@ pub(crate) fn before_the_picks(
 /// The second segment is opened before the picks of the second cycle: its head has 1,757 bytes, 13 of them before the state, and
 /// no payload in it.
 #[test]
-fn the_second_segment_is_opened(rt: HostRuntime) -> Result<(), Fail> {
+fn the_second_segment_is_opened(rt: HostRuntime) {
     let alloc = rt.alloc();
-    let (journal, mut machine) = before_the_picks(&rt, alloc, 2)?;
+    let (journal, mut machine) = before_the_picks(&rt, alloc, 2).expect(&rt, "memory");
     let mut disk = journal.into_disk();
     expect!(rt; head_of(&rt, &mut disk, 1)[0] != 0xa5);
     let mut journal = opened(&rt, alloc, disk);
-    expect_round(&rt, alloc, &mut journal, &mut machine, 2, Part::Picks)?;
+    expect_round(&rt, alloc, &mut journal, &mut machine, 2, Part::Picks).expect(&rt, "memory");
     let mut disk = journal.into_disk();
     expect!(rt; head_of(&rt, &mut disk, 1) == [0xa5, 0, 0, 0, 0, 0, 0, 0, 2, 0x80, 0, 0x06, 0xd0]);
     expect!(rt; head_of(&rt, &mut disk, 2)[0] != 0xa5);
-    Ok(())
 }
 
 /// The third is opened before those of the third cycle: the 32 payloads that live in the first are moved into its head, of 39,997
 /// bytes.
 #[test]
-fn the_third_segment_is_opened(rt: HostRuntime) -> Result<(), Fail> {
+fn the_third_segment_is_opened(rt: HostRuntime) {
     let alloc = rt.alloc();
-    let (journal, mut machine) = before_the_picks(&rt, alloc, 3)?;
+    let (journal, mut machine) = before_the_picks(&rt, alloc, 3).expect(&rt, "memory");
     let mut disk = journal.into_disk();
     expect!(rt; head_of(&rt, &mut disk, 2)[0] != 0xa5);
     let mut journal = opened(&rt, alloc, disk);
-    expect_round(&rt, alloc, &mut journal, &mut machine, 3, Part::Picks)?;
-    expect_round(&rt, alloc, &mut journal, &mut machine, 3, Part::Fetches)?;
+    expect_round(&rt, alloc, &mut journal, &mut machine, 3, Part::Picks).expect(&rt, "memory");
+    expect_round(&rt, alloc, &mut journal, &mut machine, 3, Part::Fetches).expect(&rt, "memory");
     let mut disk = journal.into_disk();
     expect!(rt; head_of(&rt, &mut disk, 2) == [0xa5, 0, 0, 0, 0, 0, 0, 0, 3, 0x80, 0, 0x9c, 0x30]);
-    Ok(())
 }

@@ -106,12 +106,8 @@ pub(crate) fn opened<D: Disk>(rt: &impl Abort, alloc: Global, disk: D) -> Journa
 }
 
 /// All bytes that a disk reads.
-pub(crate) fn bytes_of<D: Disk>(
-    rt: &impl Abort,
-    alloc: Global,
-    disk: &mut D,
-) -> Result<Vec<u8>, AllocError> {
-    let mut bytes = vec![in alloc; 0u8; disk.size() as usize]?;
+pub(crate) fn bytes_of<D: Disk>(rt: &impl Abort, alloc: Global, disk: &mut D) -> Vec<u8> {
+    let mut bytes = vec![in alloc; 0u8; disk.size() as usize].expect(rt, "memory");
     expect!(rt; disk.read_at(0, &mut bytes).is_ok());
-    Ok(bytes)
+    bytes
 }

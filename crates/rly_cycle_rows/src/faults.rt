@@ -8,7 +8,7 @@ use rly_disk::{Disk, FaultDisk, MemDisk};
 use rly_journal::Journal;
 use rly_machine::{Answer, Machine, Payload, Reply};
 use rly_standing::OpenFault;
-use std::alloc::{AllocError, Global};
+use std::alloc::Global;
 use std::process::Abort;
 
 /// How a run ended.
@@ -43,18 +43,18 @@ pub(crate) fn run(
     disk: FaultDisk<MemDisk>,
     script: Script,
     (from, machine): (usize, Machine<Payload>),
-) -> Result<Ended, AllocError> {
+) -> Ended {
     let (failures, failed_reads) = (disk.failures(), disk.failed_reads());
     match Journal::open(alloc, disk) {
         Ok(journal) => ask_rounds(rt, alloc, journal, script, (from, machine), failed_reads),
         Err((fault, disk)) => {
             expect!(rt; fault == OpenFault::Device && disk.failures() > failures);
-            Ok(Ended {
+            Ended {
                 disk,
                 machine,
                 answered: from,
                 unsure: false,
-            })
+            }
         }
     }
 }
@@ -68,15 +68,15 @@ fn ask_rounds(
     script: Script,
     (from, machine): (usize, Machine<Payload>),
     failed_reads: u64,
-) -> Result<Ended, AllocError> {
+) -> Ended {
     let (mut journal, mut machine) = (journal, machine);
     let (mut answered, mut told) = (from, failed_reads);
     for index in from..script.rounds.len() {
         let steps = script.round(index);
-        let mut came = ask_round(rt, alloc, &mut journal, &mut machine, steps)?;
+        let mut came = ask_round(rt, alloc, &mut journal, &mut machine, steps);
         if let Came::Unread(count) = came {
             told = told.saturating_add(count);
-            came = ask_round(rt, alloc, &mut journal, &mut machine, steps)?;
+            came = ask_round(rt, alloc, &mut journal, &mut machine, steps);
         }
         if let Came::Unread(count) = came {
             told = told.saturating_add(count);
@@ -89,12 +89,12 @@ fn ask_rounds(
     let unsure = journal.is_broken();
     let disk = journal.into_disk();
     expect!(rt; disk.failed_reads() == told);
-    Ok(Ended {
+    Ended {
         disk,
         machine,
         answered,
         unsure,
-    })
+    }
 }
 
 /// Asks a round, and says what came of it.
@@ -104,17 +104,17 @@ fn ask_round(
     journal: &mut Journal<FaultDisk<MemDisk>>,
     machine: &mut Machine<Payload>,
     steps: &[Step],
-) -> Result<Came, AllocError> {
+) -> Came {
     let position = machine.seq();
-    let answers = ask_all(rt, alloc, journal, steps)?;
+    let answers = ask_all(rt, alloc, journal, steps);
     if journal.is_broken() {
         expect_refused(rt, &answers, Refusal::Unsure, position);
-        expect_broken(rt, alloc, journal, steps, position)?;
-        return Ok(Came::Unsure);
+        expect_broken(rt, alloc, journal, steps, position);
+        return Came::Unsure;
     }
     if !answers.iter().any(is_unread) {
-        expect_replies(rt, alloc, machine, steps, &answers)?;
-        return Ok(Came::Answered);
+        expect_replies(rt, alloc, machine, steps, &answers).expect(rt, "memory");
+        return Came::Answered;
     }
     expect!(rt; journal.position() == position);
     if steps.iter().any(|step| matches!(step, Step::Fetch { .. })) {
@@ -122,7 +122,7 @@ fn ask_round(
     }
     // a read of the victim failed
     expect_refused(rt, &answers, Refusal::DeviceRead, position);
-    Ok(Came::Unread(1))
+    Came::Unread(1)
 }
 
 /// Whether a call is told that a read failed.
@@ -137,19 +137,19 @@ fn expect_lost(
     machine: &mut Machine<Payload>,
     steps: &[Step],
     answers: &[Answer],
-) -> Result<Came, AllocError> {
+) -> Came {
     let mut lost: u64 = 0;
     for (step, answer) in steps.iter().zip(answers) {
         if is_unread(answer) {
-            let reply = reply_of(alloc, machine, *step)?;
+            let reply = reply_of(alloc, machine, *step).expect(rt, "memory");
             expect!(rt; matches!(reply, Reply::Bytes { .. }) && answer.position == machine.seq());
             lost = lost.saturating_add(1);
         } else {
-            let is_answered = is_answered(alloc, machine, *step, answer)?;
+            let is_answered = is_answered(alloc, machine, *step, answer).expect(rt, "memory");
             expect!(rt; is_answered, machine.seq());
         }
     }
-    Ok(Came::Unread(lost))
+    Came::Unread(lost)
 }
 
 /// The rounds that a journal was opened to: those that were answered, or, where the next one is unsure, that too. Answers how many
@@ -161,18 +161,18 @@ pub(crate) fn standing<D: Disk>(
     script: Script,
     (answered, machine): (usize, Machine<Payload>),
     unsure: bool,
-) -> Result<(usize, Machine<Payload>), AllocError> {
+) -> (usize, Machine<Payload>) {
     let position = journal.position();
     if position == machine.seq() {
-        return Ok((answered, machine));
+        return (answered, machine);
     }
     // else an answer was lost
     expect!(rt; unsure);
     let mut machine = machine;
     for step in script.round(answered) {
-        let _ = reply_of(alloc, &mut machine, *step)?;
+        let _ = reply_of(alloc, &mut machine, *step).expect(rt, "memory");
     }
     // else a part of a round stands
     expect!(rt; position == machine.seq());
-    Ok((answered.saturating_add(1), machine))
+    (answered.saturating_add(1), machine)
 }

@@ -4,7 +4,6 @@ use crate::device::{bytes_of, new_device, opened};
 use rly_core::{Geometry, HopId, Params, PeerId};
 use rly_machine::{Ask, Call, Command, Machine, Payload, SeatId};
 use std::alloc::{AllocError, Global};
-use std::test::Fail;
 
 /// Two hops and two peers, 330 items and 10,240 bytes, on segments of the least length.
 const MANY: Geometry = Geometry {
@@ -64,16 +63,33 @@ fn passing(alloc: Global, round: u64) -> Result<Vec<Call>, AllocError> {
 /// The first 256 rounds leave a byte in each segment, and are written to one after the other. Before the last of them and each later
 /// one the segment that is opened is the only one without a live byte, and a byte is moved into its head.
 #[test]
-fn two_hundred_and_fifty_six_segments(rt: HostRuntime) -> Result<(), Fail> {
+fn two_hundred_and_fifty_six_segments(rt: HostRuntime) {
     let alloc = rt.alloc();
-    let mut machine = Machine::new(alloc, MANY.params)?;
-    let mut journal = opened(&rt, alloc, new_device(&rt, alloc, &MANY)?);
+    let mut machine = Machine::new(alloc, MANY.params).expect(&rt, "memory");
+    let mut journal = opened(
+        &rt,
+        alloc,
+        new_device(&rt, alloc, &MANY).expect(&rt, "memory"),
+    );
     for round in 1..=ROUNDS {
-        let answers = answers_to(&rt, alloc, &mut journal, passing(alloc, round)?)?;
-        expect_replies(&rt, alloc, &mut machine, passing(alloc, round)?, &answers)?;
+        let answers = answers_to(
+            &rt,
+            alloc,
+            &mut journal,
+            passing(alloc, round).expect(&rt, "memory"),
+        )
+        .expect(&rt, "memory");
+        expect_replies(
+            &rt,
+            alloc,
+            &mut machine,
+            passing(alloc, round).expect(&rt, "memory"),
+            &answers,
+        )
+        .expect(&rt, "memory");
     }
     let mut disk = journal.into_disk();
-    let bytes = bytes_of(&rt, alloc, &mut disk)?;
+    let bytes = bytes_of(&rt, alloc, &mut disk);
     assert!(rt; bytes.len() == 22_376_768);
     // generation 256 in the last segment, and 320 in number 63
     expect!(rt; &bytes[LAST..LAST + 9] == [0xa5, 0, 0, 0, 0, 0, 0, 1, 0].as_slice());
@@ -82,10 +98,11 @@ fn two_hundred_and_fifty_six_segments(rt: HostRuntime) -> Result<(), Fail> {
     for cycle in 1..=10 {
         for part in [Part::Picks, Part::Fetches, Part::Release] {
             if has_part(cycle, part) {
-                expect_round(&rt, alloc, &mut journal, &mut machine, cycle, part)?;
+                expect_round(&rt, alloc, &mut journal, &mut machine, cycle, part).expect(
+                    &rt, "memory",
+                );
             }
         }
     }
     expect!(rt; journal.position() == 6_089);
-    Ok(())
 }

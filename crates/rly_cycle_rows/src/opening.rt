@@ -23,9 +23,9 @@ pub(crate) const TAKEN_AND_PICKED: [u8; 51] = [
 
 /// A new device of three segments holds nothing, and it is opened again where it was opened.
 #[test]
-fn a_new_device_of_three_segments_is_opened(rt: HostRuntime) -> Result<(), Fail> {
+fn a_new_device_of_three_segments_is_opened(rt: HostRuntime) {
     let alloc = rt.alloc();
-    let disk = device_with(&rt, alloc, &[])?;
+    let disk = device_with(&rt, alloc, &[]).expect(&rt, "memory");
     let journal = match Journal::open(alloc, disk) {
         Ok(journal) => journal,
         Err(_) => panic!(rt; "not opened"),
@@ -34,14 +34,13 @@ fn a_new_device_of_three_segments_is_opened(rt: HostRuntime) -> Result<(), Fail>
     expect!(rt; journal.params() == THREE.params);
     expect!(rt; journal.last(PeerId(1)) == Ok(0));
     expect!(rt; journal.last(PeerId(2)) == Err(Refusal::NoSuchPeer));
-    Ok(())
 }
 
 /// Both groups are made again: the datagram is in flight.
 #[test]
-fn groups_are_made_again(rt: HostRuntime) -> Result<(), Fail> {
+fn groups_are_made_again(rt: HostRuntime) {
     let alloc = rt.alloc();
-    let disk = device_with(&rt, alloc, &TAKEN_AND_PICKED)?;
+    let disk = device_with(&rt, alloc, &TAKEN_AND_PICKED).expect(&rt, "memory");
     let journal = match Journal::open(alloc, disk) {
         Ok(journal) => journal,
         Err(_) => panic!(rt; "not opened"),
@@ -54,14 +53,13 @@ fn groups_are_made_again(rt: HostRuntime) -> Result<(), Fail> {
         }
         _ => panic!(rt; "not shown"),
     }
-    Ok(())
 }
 
 /// What is in flight is read where the group has it.
 #[test]
-fn a_payload_is_fetched_from_its_group(rt: HostRuntime) -> Result<(), Fail> {
+fn a_payload_is_fetched_from_its_group(rt: HostRuntime) {
     let alloc = rt.alloc();
-    let disk = device_with(&rt, alloc, &TAKEN_AND_PICKED)?;
+    let disk = device_with(&rt, alloc, &TAKEN_AND_PICKED).expect(&rt, "memory");
     let mut journal = match Journal::open(alloc, disk) {
         Ok(journal) => journal,
         Err(_) => panic!(rt; "not opened"),
@@ -74,35 +72,33 @@ fn a_payload_is_fetched_from_its_group(rt: HostRuntime) -> Result<(), Fail> {
         Ok(_) => panic!(rt; "fetched"),
         Err(refusal) => expect!(rt; refusal == Refusal::NeverSent),
     }
-    Ok(())
 }
 
 /// A group whose body spells no record is damage, at its gate.
 #[test]
-fn a_group_without_commands_is_damage(rt: HostRuntime) -> Result<(), Fail> {
+fn a_group_without_commands_is_damage(rt: HostRuntime) {
     let alloc = rt.alloc();
-    let disk = device_with(&rt, alloc, &[0xa5, 0, 0, 0, 2, 0, 0])?;
+    let disk = device_with(&rt, alloc, &[0xa5, 0, 0, 0, 2, 0, 0]).expect(&rt, "memory");
     match Journal::open(alloc, disk) {
         Ok(_) => panic!(rt; "opened"),
         Err((fault, _)) => expect!(rt; fault == OpenFault::Damaged(FIRST_GATE as u64)),
     }
-    Ok(())
 }
 
 /// A Pick that the state refuses isn't made again: its group is damage.
 #[test]
-fn a_refused_command_is_damage(rt: HostRuntime) -> Result<(), Fail> {
+fn a_refused_command_is_damage(rt: HostRuntime) {
     let alloc = rt.alloc();
     let disk = device_with(
         &rt,
         alloc,
         &[0xa5, 0, 0, 0, 13, 0, 1, 2, 0, 1, 0, 0, 0, 0, 0, 0, 0, 6],
-    )?;
+    )
+    .expect(&rt, "memory");
     match Journal::open(alloc, disk) {
         Ok(_) => panic!(rt; "opened"),
         Err((fault, _)) => expect!(rt; fault == OpenFault::Damaged(FIRST_GATE as u64)),
     }
-    Ok(())
 }
 
 /// Segments of one byte less than the least are refused, and nothing is written: 118,508 is the least of three, 156,908 of two.
@@ -110,10 +106,10 @@ fn a_refused_command_is_damage(rt: HostRuntime) -> Result<(), Fail> {
 fn segments_that_are_too_short(rt: HostRuntime) -> Result<(), Fail> {
     let alloc = rt.alloc();
     for (geometry, length) in [(THREE, 118_507), (TWO, 156_907)] {
-        let mut disk = MemDisk::new(alloc, vec![in alloc; 0u8; 355_588]?);
+        let mut disk = MemDisk::new(alloc, vec![in alloc; 0u8; 355_588].expect(&rt, "memory"));
         let told = format(alloc, &mut disk, &Geometry { length, ..geometry });
         expect!(rt; told == Err(FormatFault::BadGeometry));
-        let bytes = bytes_of(&rt, alloc, &mut disk)?;
+        let bytes = bytes_of(&rt, alloc, &mut disk);
         expect!(rt; bytes.iter().all(|byte| *byte == 0));
         expect!(rt; format(alloc, &mut disk, &geometry) == Ok(()));
     }
@@ -137,20 +133,23 @@ const READS: [(u64, u64); 10] = [
 
 /// A sync, and then those reads: none of the 32 payloads that the head has by place.
 #[test]
-fn payloads_by_place_are_not_read(rt: HostRuntime) -> Result<(), Fail> {
+fn payloads_by_place_are_not_read(rt: HostRuntime) {
     let alloc = rt.alloc();
-    let (journal, mut machine) = before_the_picks(&rt, alloc, 3)?;
+    let (journal, mut machine) = before_the_picks(&rt, alloc, 3).expect(&rt, "memory");
     let mut journal = journal;
-    expect_round(&rt, alloc, &mut journal, &mut machine, 3, Part::Picks)?;
-    let disk = Watched::new(journal.into_disk(), Vec::with_capacity(alloc, 20)?);
+    expect_round(&rt, alloc, &mut journal, &mut machine, 3, Part::Picks).expect(&rt, "memory");
+    let disk = Watched::new(
+        journal.into_disk(),
+        Vec::with_capacity(alloc, 20).expect(&rt, "memory"),
+    );
     let disk = opened(&rt, alloc, disk).into_disk();
-    let mut want = vec![in alloc; DiskCall::Sync]?;
+    let mut want = vec![in alloc; DiskCall::Sync].expect(&rt, "memory");
     for (place, count) in READS {
-        want.push(DiskCall::Read { place, count })?;
+        want.push(DiskCall::Read { place, count })
+            .expect(&rt, "memory");
     }
     expect!(rt; disk.told().len() == 11);
     for (told, call) in disk.told().iter().zip(want) {
         expect!(rt; *told == ToldCall { call, failed: false });
     }
-    Ok(())
 }

@@ -6,7 +6,6 @@ use rly_journal::Journal;
 use rly_machine::{Answer, Ask, Call, Command, Payload, Query, Reply, SeatId};
 use std::alloc::{AllocError, Global};
 use std::process::Abort;
-use std::test::Fail;
 
 const HOP: HopId = HopId(1);
 
@@ -40,9 +39,11 @@ fn reply_to(
     ask: Ask,
 ) -> Result<Reply, AllocError> {
     let mut calls = Vec::new(alloc);
-    calls.push(call(7, ask))?;
+    calls.push(call(7, ask)).expect(rt, "memory");
     let mut answers = Vec::new(alloc);
-    journal.round(alloc, &mut calls, &mut answers)?;
+    journal
+        .round(alloc, &mut calls, &mut answers)
+        .expect(rt, "memory");
     match answers.pop() {
         Some(answer) => Ok(answer.reply),
         None => panic!(rt; "no answer"),
@@ -62,17 +63,28 @@ fn gives(reply: &Reply, value: u8, length: usize) -> bool {
 
 /// A datagram is taken and picked, the device is opened again, and the datagram is fetched and released.
 #[test]
-fn a_datagram_is_there_again(rt: HostRuntime) -> Result<(), Fail> {
+fn a_datagram_is_there_again(rt: HostRuntime) {
     let alloc = rt.alloc();
-    let mut journal = opened(&rt, alloc, device_with(&rt, alloc, &[])?);
-    let taken = reply_to(&rt, alloc, &mut journal, take(alloc, 1, 100)?)?;
+    let mut journal = opened(
+        &rt,
+        alloc,
+        device_with(&rt, alloc, &[]).expect(&rt, "memory"),
+    );
+    let taken = reply_to(
+        &rt,
+        alloc,
+        &mut journal,
+        take(alloc, 1, 100).expect(&rt, "memory"),
+    )
+    .expect(&rt, "memory");
     expect!(rt; taken.is_accepted());
     let picked = reply_to(
         &rt,
         alloc,
         &mut journal,
         Ask::Command(Command::Pick { hop: HOP, now: 5 }),
-    )?;
+    )
+    .expect(&rt, "memory");
     expect!(rt; picked.is_accepted());
     let mut again = opened(&rt, alloc, journal.into_disk());
     expect!(rt; again.position() == 2);
@@ -80,7 +92,7 @@ fn a_datagram_is_there_again(rt: HostRuntime) -> Result<(), Fail> {
         hop: HOP,
         number: 1,
     });
-    expect!(rt; gives(&reply_to(&rt, alloc, &mut again, asked)?, 1, 100));
+    expect!(rt; gives(&reply_to(&rt, alloc, &mut again, asked).expect(&rt, "memory"), 1, 100));
     match again.fetch(alloc, HOP, 1) {
         Ok(bytes) => expect!(rt; bytes.len() == 100 && bytes[0] == 1),
         Err(_) => panic!(rt; "not fetched"),
@@ -94,46 +106,49 @@ fn a_datagram_is_there_again(rt: HostRuntime) -> Result<(), Fail> {
             hop: HOP,
             number: 1,
         }),
-    )?;
+    )
+    .expect(&rt, "memory");
     expect!(rt; released.is_accepted());
     let asked = Ask::Query(Query::Fetch {
         hop: HOP,
         number: 1,
     });
-    expect!(rt; matches!(reply_to(&rt, alloc, &mut again, asked)?, Reply::Refused(Refusal::NotInFlight)));
-    Ok(())
+    expect!(rt; matches!(reply_to(&rt, alloc, &mut again, asked).expect(&rt, "memory"), Reply::Refused(Refusal::NotInFlight)));
 }
 
 /// Rounds of a Take, a Pick and a Release of an older one, until each segment was opened several times: what is in flight is fetched
 /// as it was taken, also once the device was opened again.
 #[test]
-fn payloads_stay_while_segments_are_opened(rt: HostRuntime) -> Result<(), Fail> {
+fn payloads_stay_while_segments_are_opened(rt: HostRuntime) {
     let alloc = rt.alloc();
-    let mut journal = opened(&rt, alloc, device_with(&rt, alloc, &[])?);
+    let mut journal = opened(
+        &rt,
+        alloc,
+        device_with(&rt, alloc, &[]).expect(&rt, "memory"),
+    );
     for number in 1..=300u64 {
-        expect!(rt; reply_to(&rt, alloc, &mut journal, take(alloc, number, 1_000)?)?.is_accepted());
+        expect!(rt; reply_to(&rt, alloc, &mut journal, take(alloc, number, 1_000).expect(&rt, "memory")).expect(&rt, "memory").is_accepted());
         let pick = Ask::Command(Command::Pick {
             hop: HOP,
             now: number,
         });
-        expect!(rt; reply_to(&rt, alloc, &mut journal, pick)?.is_accepted());
+        expect!(rt; reply_to(&rt, alloc, &mut journal, pick).expect(&rt, "memory").is_accepted());
         if number > 20 {
             let release = Ask::Command(Command::Release {
                 hop: HOP,
                 number: number - 20,
             });
-            expect!(rt; reply_to(&rt, alloc, &mut journal, release)?.is_accepted());
+            expect!(rt; reply_to(&rt, alloc, &mut journal, release).expect(&rt, "memory").is_accepted());
         }
     }
     for number in 281..=300u64 {
         let asked = Ask::Query(Query::Fetch { hop: HOP, number });
-        expect!(rt; gives(&reply_to(&rt, alloc, &mut journal, asked)?, (number & 0xff) as u8, 1_000));
+        expect!(rt; gives(&reply_to(&rt, alloc, &mut journal, asked).expect(&rt, "memory"), (number & 0xff) as u8, 1_000));
     }
     let mut again = opened(&rt, alloc, journal.into_disk());
     expect!(rt; again.position() == 880);
     for number in 281..=300u64 {
         let asked = Ask::Query(Query::Fetch { hop: HOP, number });
-        expect!(rt; gives(&reply_to(&rt, alloc, &mut again, asked)?, (number & 0xff) as u8, 1_000));
+        expect!(rt; gives(&reply_to(&rt, alloc, &mut again, asked).expect(&rt, "memory"), (number & 0xff) as u8, 1_000));
     }
-    Ok(())
 }

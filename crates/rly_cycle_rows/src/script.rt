@@ -131,15 +131,17 @@ pub(crate) fn ask_all<D: Disk>(
     alloc: Global,
     journal: &mut Journal<D>,
     steps: &[Step],
-) -> Result<Vec<Answer>, AllocError> {
-    let mut calls = calls_of(alloc, steps)?;
+) -> Vec<Answer> {
+    let mut calls = calls_of(alloc, steps).expect(rt, "memory");
     let mut answers = Vec::new(alloc);
     assert!(rt; 1 <= calls.len() && calls.len() <= 64);
-    journal.round(alloc, &mut calls, &mut answers)?;
+    journal
+        .round(alloc, &mut calls, &mut answers)
+        .expect(rt, "memory");
     assert!(rt; answers.len() == steps.len());
     expect!(rt; calls.is_empty());
     for (index, answer) in answers.iter().enumerate() {
         expect!(rt; answer.seat == SEAT && answer.number == index as u64);
     }
-    Ok(answers)
+    answers
 }

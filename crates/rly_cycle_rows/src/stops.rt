@@ -43,14 +43,14 @@ pub(crate) fn walk(
     geometry: Geometry,
     rounds: &[Vec<Step>],
     costs: Costs,
-) -> Result<(), AllocError> {
+) {
     let script = Script {
         geometry,
         before: &[],
         rounds,
     };
-    let mut disk = new_device(rt, alloc, &geometry)?;
-    let image = bytes_of(rt, alloc, &mut disk)?;
+    let mut disk = new_device(rt, alloc, &geometry).expect(rt, "memory");
+    let image = bytes_of(rt, alloc, &mut disk);
     walk_image(rt, alloc, script, &image, costs)
 }
 
@@ -61,11 +61,10 @@ pub(crate) fn walk_image(
     script: Script,
     image: &[u8],
     costs: Costs,
-) -> Result<(), AllocError> {
-    expect_costs(rt, alloc, script, image, costs)?;
-    expect!(rt; stop_at_each_call(rt, alloc, script, image)? == costs.calls);
-    expect!(rt; go_on_at_each_call(rt, alloc, script, image)? == costs.calls);
-    Ok(())
+) {
+    expect_costs(rt, alloc, script, image, costs);
+    expect!(rt; stop_at_each_call(rt, alloc, script, image) == costs.calls);
+    expect!(rt; go_on_at_each_call(rt, alloc, script, image) == costs.calls);
 }
 
 /// Stops a script at each of these device calls, which it makes, and has each fail, on a device that stands for what was asked before.
@@ -75,31 +74,26 @@ pub(crate) fn walk_part(
     script: Script,
     image: &[u8],
     (first, last): (u64, u64),
-) -> Result<(), AllocError> {
+) {
     assert!(rt; last < MOST_CALLS);
     let mut left = [false; 2];
     for at in first..=last {
-        let stopped = stop_at(rt, alloc, script, image, at, &mut left)?;
-        let failed = go_on_at(rt, alloc, script, image, at)?;
+        let stopped = stop_at(rt, alloc, script, image, at, &mut left);
+        let failed = go_on_at(rt, alloc, script, image, at);
         expect!(rt; stopped != Failed::Nothing && failed == stopped, at);
     }
     // a round that was stopped stands now and then
     expect!(rt; left == [true; 2]);
-    Ok(())
 }
 
 /// The plain machine before a script.
-pub(crate) fn new_machine(
-    rt: &impl Abort,
-    alloc: Global,
-    script: Script,
-) -> Result<Machine<Payload>, AllocError> {
+pub(crate) fn new_machine(rt: &impl Abort, alloc: Global, script: Script) -> Machine<Payload> {
     assert!(rt; script.geometry.params.check().is_ok());
-    let mut machine = Machine::new(alloc, script.geometry.params)?;
+    let mut machine = Machine::new(alloc, script.geometry.params).expect(rt, "memory");
     for step in script.before {
-        let _ = reply_of(alloc, &mut machine, *step)?;
+        let _ = reply_of(alloc, &mut machine, *step).expect(rt, "memory");
     }
-    Ok(machine)
+    machine
 }
 
 /// A device with these bytes that fails at a call.
@@ -121,13 +115,13 @@ pub(crate) fn expect_costs(
     script: Script,
     image: &[u8],
     costs: Costs,
-) -> Result<(), AllocError> {
-    let disk = failing(alloc, image, 0, 0, After::Stops)?;
-    let machine = new_machine(rt, alloc, script)?;
-    let mut ended = run(rt, alloc, disk, script, (0, machine))?;
+) {
+    let disk = failing(alloc, image, 0, 0, After::Stops).expect(rt, "memory");
+    let machine = new_machine(rt, alloc, script);
+    let mut ended = run(rt, alloc, disk, script, (0, machine));
     expect!(rt; ended.answered == script.rounds.len() && ended.disk.failures() == 0);
     expect!(rt; ended.disk.calls() == costs.calls && ended.disk.syncs() == costs.syncs);
-    let bytes = bytes_of(rt, alloc, &mut ended.disk)?;
+    let bytes = bytes_of(rt, alloc, &mut ended.disk);
     let mut gate = 64;
     for generation in costs.generations {
         let is_open = bytes.get(gate) == Some(&0xa5);
@@ -136,7 +130,6 @@ pub(crate) fn expect_costs(
         expect!(rt; !is_open || bytes.get(gate.saturating_add(8)) == Some(generation));
         gate = gate.saturating_add(script.geometry.length as usize);
     }
-    Ok(())
 }
 
 /// The call of a device that failed.
@@ -162,19 +155,14 @@ fn failed_call(disk: &FaultDisk<MemDisk>) -> Failed {
 }
 
 /// Stops a script at each device call in turn, with each torn write, and crashes in each way. Answers how many there are.
-fn stop_at_each_call(
-    rt: &impl Abort,
-    alloc: Global,
-    script: Script,
-    image: &[u8],
-) -> Result<u64, AllocError> {
+fn stop_at_each_call(rt: &impl Abort, alloc: Global, script: Script, image: &[u8]) -> u64 {
     let mut left = [false; 2];
     for at in 1..MOST_CALLS {
-        let failed = stop_at(rt, alloc, script, image, at, &mut left)?;
+        let failed = stop_at(rt, alloc, script, image, at, &mut left);
         if failed == Failed::Nothing {
             // a round that was stopped stands now and then
             expect!(rt; left == [true; 2]);
-            return Ok(at - 1);
+            return at - 1;
         }
     }
     panic!(rt; "no run without a failure")
@@ -189,14 +177,14 @@ fn stop_at(
     image: &[u8],
     at: u64,
     left: &mut [bool; 2],
-) -> Result<Failed, AllocError> {
+) -> Failed {
     let mut failed = Failed::Settling;
     for torn in TORN_WRITES {
         if failed == Failed::Settling {
-            failed = stop_in_each_way(rt, alloc, script, image, at, torn, left)?;
+            failed = stop_in_each_way(rt, alloc, script, image, at, torn, left);
         }
     }
-    Ok(failed)
+    failed
 }
 
 /// Stops the script at a call with one torn write, and crashes in each way. Tells `left` whether a round stood that was not
@@ -209,12 +197,12 @@ fn stop_in_each_way(
     at: u64,
     torn: u64,
     left: &mut [bool; 2],
-) -> Result<Failed, AllocError> {
+) -> Failed {
     let mut failed = Failed::Nothing;
     for kind in KINDS {
-        failed = stop_in_way(rt, alloc, script, image, (at, torn, kind), left)?;
+        failed = stop_in_way(rt, alloc, script, image, (at, torn, kind), left);
     }
-    Ok(failed)
+    failed
 }
 
 /// The same in one way.
@@ -225,17 +213,17 @@ pub(crate) fn stop_in_way(
     image: &[u8],
     (at, torn, kind): (u64, u64, Torn),
     left: &mut [bool; 2],
-) -> Result<Failed, AllocError> {
-    let disk = failing(alloc, image, at, torn, After::Stops)?;
-    let machine = new_machine(rt, alloc, script)?;
-    let ended = run(rt, alloc, disk, script, (0, machine))?;
+) -> Failed {
+    let disk = failing(alloc, image, at, torn, After::Stops).expect(rt, "memory");
+    let machine = new_machine(rt, alloc, script);
+    let ended = run(rt, alloc, disk, script, (0, machine));
     let failed = failed_call(&ended.disk);
     expect!(rt; (failed != Failed::Nothing) == (ended.disk.calls() >= at));
     expect!(rt; failed != Failed::Nothing || ended.answered == script.rounds.len());
     let answered = ended.answered;
-    let stand = expect_crashed(rt, alloc, script, ended, kind)?;
+    let stand = expect_crashed(rt, alloc, script, ended, kind);
     left[usize::from(stand > answered)] = true;
-    Ok(failed)
+    failed
 }
 
 /// Crashes the device of a run that ended, opens what is left, and expects the state of the rounds that stand. Answers how many
@@ -246,64 +234,53 @@ fn expect_crashed(
     script: Script,
     ended: Ended,
     kind: Torn,
-) -> Result<usize, AllocError> {
+) -> usize {
     let Ended {
         disk,
         machine,
         answered,
         unsure,
     } = ended;
-    let disk = expect_balance(rt, alloc, disk.into_inner().crash(kind))?;
+    let disk = expect_balance(rt, alloc, disk.into_inner().crash(kind));
     let mut journal = opened(rt, alloc, disk);
     let before = (answered, machine);
-    let (stand, mut machine) = standing(rt, alloc, &journal, script, before, unsure)?;
-    expect_state(rt, alloc, &mut journal, &mut machine)?;
-    Ok(stand)
+    let (stand, mut machine) = standing(rt, alloc, &journal, script, before, unsure);
+    expect_state(rt, alloc, &mut journal, &mut machine);
+    stand
 }
 
 /// Expects that an audit reports of a device that its books balance. Answers the disk.
-fn expect_balance(rt: &impl Abort, alloc: Global, disk: MemDisk) -> Result<MemDisk, AllocError> {
+fn expect_balance(rt: &impl Abort, alloc: Global, disk: MemDisk) -> MemDisk {
     let mut report = Vec::new(alloc);
     match audit(alloc, disk, &mut report) {
         Ok(disk) => {
             expect!(rt; report.ends_with(b"\nbalance ok\n"));
-            Ok(disk)
+            disk
         }
         Err(_) => panic!(rt; "no report"),
     }
 }
 
 /// Fails the device at each call of a script in turn, with each torn write, and goes on. Answers how many there are.
-fn go_on_at_each_call(
-    rt: &impl Abort,
-    alloc: Global,
-    script: Script,
-    image: &[u8],
-) -> Result<u64, AllocError> {
+fn go_on_at_each_call(rt: &impl Abort, alloc: Global, script: Script, image: &[u8]) -> u64 {
     for at in 1..MOST_CALLS {
-        if go_on_at(rt, alloc, script, image, at)? == Failed::Nothing {
-            return Ok(at - 1);
+        if go_on_at(rt, alloc, script, image, at) == Failed::Nothing {
+            return at - 1;
         }
     }
     panic!(rt; "no run without a failure")
 }
 
 /// Fails the device at a call of a script, with each torn write if it is one, and goes on. Answers what failed.
-fn go_on_at(
-    rt: &impl Abort,
-    alloc: Global,
-    script: Script,
-    image: &[u8],
-    at: u64,
-) -> Result<Failed, AllocError> {
+fn go_on_at(rt: &impl Abort, alloc: Global, script: Script, image: &[u8], at: u64) -> Failed {
     let mut failed = Failed::Settling;
     for torn in TORN_WRITES {
         if failed == Failed::Settling {
-            let disk = failing(alloc, image, at, torn, After::GoesOn)?;
-            failed = go_on(rt, alloc, script, disk, at)?;
+            let disk = failing(alloc, image, at, torn, After::GoesOn).expect(rt, "memory");
+            failed = go_on(rt, alloc, script, disk, at);
         }
     }
-    Ok(failed)
+    failed
 }
 
 /// Fails the device at one call, opens it again, and goes on from the state that was found to the end of the script. Answers what
@@ -314,13 +291,13 @@ fn go_on(
     script: Script,
     disk: FaultDisk<MemDisk>,
     at: u64,
-) -> Result<Failed, AllocError> {
-    let machine = new_machine(rt, alloc, script)?;
-    let ended = run(rt, alloc, disk, script, (0, machine))?;
+) -> Failed {
+    let machine = new_machine(rt, alloc, script);
+    let ended = run(rt, alloc, disk, script, (0, machine));
     let failed = failed_call(&ended.disk);
     expect!(rt; ended.disk.failures() == u64::from(ended.disk.calls() >= at));
     if failed == Failed::Nothing {
-        return Ok(failed);
+        return failed;
     }
     // after a read the script goes on by itself, but for one of the opening
     expect!(rt; ended.answered == script.rounds.len() || ended.disk.calls() == at);
@@ -332,11 +309,11 @@ fn go_on(
     } = ended;
     let mut journal = opened(rt, alloc, disk);
     let before = (answered, machine);
-    let (from, mut machine) = standing(rt, alloc, &journal, script, before, unsure)?;
-    expect_numbers(rt, alloc, &mut journal, &mut machine)?;
-    let ended = run(rt, alloc, journal.into_disk(), script, (from, machine))?;
+    let (from, mut machine) = standing(rt, alloc, &journal, script, before, unsure);
+    expect_numbers(rt, alloc, &mut journal, &mut machine);
+    let ended = run(rt, alloc, journal.into_disk(), script, (from, machine));
     expect!(rt; ended.answered == script.rounds.len() && ended.disk.failures() == 1);
-    let stand = expect_crashed(rt, alloc, script, ended, Torn::AsSynced)?;
+    let stand = expect_crashed(rt, alloc, script, ended, Torn::AsSynced);
     expect!(rt; stand == script.rounds.len());
-    Ok(failed)
+    failed
 }

@@ -4,7 +4,6 @@ use crate::script::{Script, Step, in_rounds, take, take_within};
 use crate::stops::{Costs, walk, walk_image};
 use std::alloc::{AllocError, Global};
 use std::process::Abort;
-use std::test::Fail;
 
 /// Commands one by one: three datagrams are taken, CoDel begins to drop, and segments are opened. On two segments these are two,
 /// the first where three datagrams are live, the second where one is in flight and its gate is open from before.
@@ -29,22 +28,21 @@ fn commands() -> [Step; 15] {
 }
 
 #[test]
-fn rounds_of_one_call(rt: HostRuntime) -> Result<(), Fail> {
+fn rounds_of_one_call(rt: HostRuntime) {
     let alloc = rt.alloc();
-    let rounds = in_rounds(alloc, &commands(), 1)?;
+    let rounds = in_rounds(alloc, &commands(), 1).expect(&rt, "memory");
     let costs = Costs {
         calls: 76,
         syncs: 33,
         generations: &[3, 2],
     };
-    walk(&rt, alloc, SMALL, &rounds, costs)?;
+    walk(&rt, alloc, SMALL, &rounds, costs);
     let costs = Costs {
         calls: 77,
         syncs: 36,
         generations: &[4, 2, 3, 0],
     };
-    walk(&rt, alloc, FOUR, &rounds, costs)?;
-    Ok(())
+    walk(&rt, alloc, FOUR, &rounds, costs);
 }
 
 /// Commands one by one, some with limits. The Pick at 120,000 finds one that has expired and drops the next; those at 130,000 and at
@@ -70,27 +68,37 @@ fn limited() -> [Step; 15] {
 }
 
 #[test]
-fn limits_on_two_segments(rt: HostRuntime) -> Result<(), Fail> {
+fn limits_on_two_segments(rt: HostRuntime) {
     let alloc = rt.alloc();
     let costs = Costs {
         calls: 83,
         syncs: 37,
         generations: &[3, 2],
     };
-    walk(&rt, alloc, SMALL, &in_rounds(alloc, &limited(), 1)?, costs)?;
-    Ok(())
+    walk(
+        &rt,
+        alloc,
+        SMALL,
+        &in_rounds(alloc, &limited(), 1).expect(&rt, "memory"),
+        costs,
+    );
 }
 
 #[test]
-fn limits_on_four_segments(rt: HostRuntime) -> Result<(), Fail> {
+fn limits_on_four_segments(rt: HostRuntime) {
     let alloc = rt.alloc();
     let costs = Costs {
         calls: 85,
         syncs: 40,
         generations: &[4, 2, 3, 0],
     };
-    walk(&rt, alloc, FOUR, &in_rounds(alloc, &limited(), 1)?, costs)?;
-    Ok(())
+    walk(
+        &rt,
+        alloc,
+        FOUR,
+        &in_rounds(alloc, &limited(), 1).expect(&rt, "memory"),
+        costs,
+    );
 }
 
 /// Step number `index` of full rounds. Three datagrams of each ten steps are taken, picked and released.
@@ -123,41 +131,39 @@ fn many_mixed(
 }
 
 #[test]
-fn rounds_of_seven_calls(rt: HostRuntime) -> Result<(), Fail> {
+fn rounds_of_seven_calls(rt: HostRuntime) {
     let alloc = rt.alloc();
-    let rounds = many_mixed(alloc, 35, 900, 7)?;
+    let rounds = many_mixed(alloc, 35, 900, 7).expect(&rt, "memory");
     let costs = Costs {
         calls: 43,
         syncs: 17,
         generations: &[3, 2],
     };
-    walk(&rt, alloc, SMALL, &rounds, costs)?;
+    walk(&rt, alloc, SMALL, &rounds, costs);
     let costs = Costs {
         calls: 51,
         syncs: 23,
         generations: &[4, 5, 3, 0],
     };
-    walk(&rt, alloc, FOUR, &rounds, costs)?;
-    Ok(())
+    walk(&rt, alloc, FOUR, &rounds, costs);
 }
 
 #[test]
-fn rounds_of_sixty_four_calls(rt: HostRuntime) -> Result<(), Fail> {
+fn rounds_of_sixty_four_calls(rt: HostRuntime) {
     let alloc = rt.alloc();
-    let rounds = many_mixed(alloc, 180, 300, 64)?;
+    let rounds = many_mixed(alloc, 180, 300, 64).expect(&rt, "memory");
     let costs = Costs {
         calls: 34,
         syncs: 13,
         generations: &[3, 2],
     };
-    walk(&rt, alloc, SMALL, &rounds, costs)?;
+    walk(&rt, alloc, SMALL, &rounds, costs);
     let costs = Costs {
         calls: 32,
         syncs: 13,
         generations: &[3, 2, 0, 0],
     };
-    walk(&rt, alloc, FOUR, &rounds, costs)?;
-    Ok(())
+    walk(&rt, alloc, FOUR, &rounds, costs);
 }
 
 /// Rounds that each take two datagrams of 250 bytes, pick two that were taken seven before, and release two that were taken 14 before: 14
@@ -184,15 +190,14 @@ fn held(alloc: Global) -> Result<Vec<Vec<Step>>, AllocError> {
 
 /// Six segments are opened, four of them with payloads that are moved: two, and three times four.
 #[test]
-fn payloads_in_three_segments(rt: HostRuntime) -> Result<(), Fail> {
+fn payloads_in_three_segments(rt: HostRuntime) {
     let alloc = rt.alloc();
     let costs = Costs {
         calls: 116,
         syncs: 49,
         generations: &[7, 6, 3, 4],
     };
-    walk(&rt, alloc, FOUR, &held(alloc)?, costs)?;
-    Ok(())
+    walk(&rt, alloc, FOUR, &held(alloc).expect(&rt, "memory"), costs);
 }
 
 /// The rounds of a worked cycle, which takes 32 datagrams of so many bytes from a number on, with a limit or without, picks them, and
@@ -243,40 +248,32 @@ pub(crate) const THREE_CYCLES: Costs = Costs {
 };
 
 #[test]
-fn three_cycles(rt: HostRuntime) -> Result<(), Fail> {
+fn three_cycles(rt: HostRuntime) {
     let alloc = rt.alloc();
-    let rounds = three_cycles_of(alloc, 1_200)?;
+    let rounds = three_cycles_of(alloc, 1_200).expect(&rt, "memory");
     expect!(rt; rounds.len() == 11);
-    walk(&rt, alloc, THREE, &rounds, THREE_CYCLES)?;
-    Ok(())
+    walk(&rt, alloc, THREE, &rounds, THREE_CYCLES);
 }
 
 /// The bytes of a new device, with a header of version 1 as programs wrote it that knew no longer payloads, and `ff` after its fields.
-fn first_version(rt: &impl Abort, alloc: Global) -> Result<Vec<u8>, AllocError> {
-    let mut disk = new_device(rt, alloc, &THREE)?;
-    let mut image = bytes_of(rt, alloc, &mut disk)?;
+fn first_version(rt: &impl Abort, alloc: Global) -> Vec<u8> {
+    let mut disk = new_device(rt, alloc, &THREE).expect(rt, "memory");
+    let mut image = bytes_of(rt, alloc, &mut disk);
     assert!(rt; image.len() == 355_588);
     image[10] = 1;
     image[51..64].fill(0xff);
-    Ok(image)
+    image
 }
 
 /// The same rounds on a device of version 1, whose longest payload has 1,200 bytes.
 #[test]
-fn three_cycles_on_a_device_of_version_1(rt: HostRuntime) -> Result<(), Fail> {
+fn three_cycles_on_a_device_of_version_1(rt: HostRuntime) {
     let alloc = rt.alloc();
-    let rounds = three_cycles_of(alloc, 1_200)?;
+    let rounds = three_cycles_of(alloc, 1_200).expect(&rt, "memory");
     let script = Script {
         geometry: THREE,
         before: &[],
         rounds: &rounds,
     };
-    walk_image(
-        &rt,
-        alloc,
-        script,
-        &first_version(&rt, alloc)?,
-        THREE_CYCLES,
-    )?;
-    Ok(())
+    walk_image(&rt, alloc, script, &first_version(&rt, alloc), THREE_CYCLES);
 }

@@ -26,6 +26,7 @@ mod planning;
 mod program;
 mod reporting;
 mod serving;
+mod signals;
 mod teller;
 mod udp_link;
 mod wall_clock;

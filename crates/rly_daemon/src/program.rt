@@ -3,6 +3,7 @@ ghost use Rattle.std.specs.Io.KnownBytes.{Appends, Keeps};
 ghost use Rattle.rly_core.specs.Limits.{IsWithinLimits};
 ghost use Rattle.rly_core.specs.declared.refusal.Refusal.{Refusal as ARefusal};
 ghost use Rattle.rly_machine.specs.State.{new_state};
+ghost use Rattle.rly_plan.specs.Sound.{IsSoundPlan};
 ghost use Rattle.rly_standing.specs.Faults.{opening_refusal};
 ghost use Rattle.rly_standing.specs.declared.open_fault.OpenFault.{OpenFault};
 ghost use Rattle.rly_segment.specs.Device.{IsLayout, device_length};
@@ -10,7 +11,7 @@ ghost use Rattle.rly_settings.specs.CommandLine.{AsksHelp, IsSettings, asked_of,
 ghost use Rattle.rly_settings.specs.declared.given.Settings.{Settings as ASettings};
 ghost use Rattle.rly_daemon.specs.FileDisk.{file_state};
 ghost use Rattle.rly_daemon.specs.Formatting.{FindsNoneLive, HasMade, wanted_geometry};
-ghost use Rattle.rly_daemon.specs.Program.{HasPlayed, HasReport, HasServed, HasServedReporting, HasServedWith, IsDone, IsOutOfLimits, size_line};
+ghost use Rattle.rly_daemon.specs.Program.{HasFormatted, HasPlayed, HasReport, HasServed, HasServedReporting, HasServedWith, IsDone, IsOutOfLimits, size_line};
 ghost use Rattle.rly_daemon.specs.Serving.{ended_line};
 ghost use Rattle.rly_daemon.specs.declared.file_fault.Cause.{Cause as ACause};
 ghost use Rattle.rly_text.specs.Text.{text_for};
@@ -114,12 +115,7 @@ fn obey<H: Host, R: Read, W: Write + Send, E: Write>(
             segments,
             length,
             force,
-        } => {
-            let geometry = wanted(params, segments, length)?;
-            let size = format_file(rt, file, &geometry, force)?;
-            print_size(size, writer)?;
-            Ok(())
-        }
+        } => run_format(rt, file, params, segments, length, force, writer),
         Settings::Play { file, batch } => run_play(rt, file, batch, reader, writer),
         Settings::Audit { file } => run_audit(rt, file, writer),
         Settings::Serve {
@@ -153,6 +149,26 @@ fn run_sim<R: Read, W: Write>(
         return Err(CommandFault::Refused(refusal, Cause::Options));
     }
     sim(alloc, params, reader, writer)?;
+    Ok(())
+}
+
+/// Makes a new device, and prints how many bytes it takes.
+fn run_format<H: AllocGlobal + Files<File = File>, W: Write>(
+    rt: &H,
+    file: &str,
+    params: Params,
+    segments: u64,
+    length: Option<u64>,
+    force: bool,
+    writer: &mut W,
+) -> Result<(), CommandFault>
+    ensures formatted { OnOk result (HasFormatted (wanted_geometry params segments length) force (W.contents writer.old) (W.contents writer.new)) }
+    ensures refused { ¬ IsLayout (wanted_geometry params segments length) (device_length (wanted_geometry params segments length))
+        → (result ≡ Err (CommandFault.Refused Refusal.BadGeometry Cause.Options)) × (writer.new ≡ writer.old) }
+{
+    let geometry = wanted(params, segments, length)?;
+    let size = format_file(rt, file, &geometry, force)?;
+    print_size(size, writer)?;
     Ok(())
 }
 
@@ -263,6 +279,7 @@ fn run_audit<H: AllocGlobal + Files<File = File>, W: Write>(
 }
 
 /// Runs the relay of a plan, with a report at once and whenever so many seconds have passed, or without reports where they are 0.
+/// The plan and its keys are read before the file is touched.
 fn run_serving<H: Host, W: Write + Send, E: Write>(
     rt: &H,
     file: &str,
@@ -274,60 +291,51 @@ fn run_serving<H: Host, W: Write + Send, E: Write>(
 ) -> Result<(), CommandFault>
     ensures served { OnOk result (HasServedWith turns seconds (W.contents writer.old) (W.contents writer.new) (E.contents errors.new)) }
 {
+    let plan = read_plan(rt, path)?;
     if seconds == 0 {
-        run_serve(rt, file, path, turns, errors)
+        serve_plan(rt, file, path, &plan, turns, errors)
     } else {
-        run_reports(rt, file, path, turns, seconds, writer, errors)
+        report_plan(rt, file, path, &plan, turns, seconds, writer, errors)
     }
 }
 
-/// Runs the relay of a plan on the device in a file. The plan and its keys are read before the file is touched.
-fn run_serve<H: Host, E: Write>(
+/// Runs the relay of a plan on the device in a file.
+fn serve_plan<H: Host, E: Write>(
     rt: &H,
     file: &str,
     path: &str,
+    plan: &Plan,
     turns: u64,
     errors: &mut E,
 ) -> Result<(), CommandFault>
+    requires { IsSoundPlan plan.now }
     ensures served { OnOk result (HasServed turns (E.contents errors.new)) }
 {
-    let plan = read_plan(rt, path)?;
-    let keys = read_keys(rt, &plan, path)?;
-    let disk = FileDisk::open(rt, file)?;
-    let size = disk.size();
-    let journal = open_journal(rt.alloc(), disk)?;
-    match serve(rt, journal, &plan, keys, turns, size, errors) {
-        Ok(_relayed) => {
-            tell_end(turns, errors)?;
-            Ok(())
-        }
-        Err((ServeFault::Refused(Refusal::Broken, _), disk)) => Err(refused(
-            Refusal::Broken,
-            &disk,
-        )),
-        Err((fault, _disk)) => Err(CommandFault::Serve(fault)),
+    let keys = read_keys(rt, plan, path)?;
+    let (journal, size) = open_file(rt, file)?;
+    match serve(rt, journal, plan, keys, turns, size, errors) {
+        Ok(_relayed) => tell_end(turns, errors),
+        Err(failed) => Err(fault_of(failed)),
     }
 }
 
 /// The same, with a report at once and whenever so many seconds have passed.
-fn run_reports<H: Host, W: Write + Send, E: Write>(
+fn report_plan<H: Host, W: Write + Send, E: Write>(
     rt: &H,
     file: &str,
     path: &str,
+    plan: &Plan,
     turns: u64,
     seconds: u64,
     writer: &mut W,
     errors: &mut E,
 ) -> Result<(), CommandFault>
+    requires { IsSoundPlan plan.now }
     ensures served { OnOk result (HasServedReporting turns (W.contents writer.old) (W.contents writer.new) (E.contents errors.new)) }
 {
-    let plan = read_plan(rt, path)?;
-    let keys = read_keys(rt, &plan, path)?;
-    let tally = tally_of(rt.alloc(), &plan)?;
-    let disk = FileDisk::open(rt, file)?;
-    let size = disk.size();
-    let disk = watched(disk, &tally)?;
-    let journal = open_journal(rt.alloc(), disk)?;
+    let keys = read_keys(rt, plan, path)?;
+    let tally = tally_of(rt.alloc(), plan)?;
+    let (journal, size) = open_counted(rt, file, &tally)?;
     let word = OnceLock::new();
     let reports = Reports {
         seconds,
@@ -335,7 +343,7 @@ fn run_reports<H: Host, W: Write + Send, E: Write>(
         word: &word,
     };
     let reported = match serve_reporting(
-        rt, journal, &plan, keys, turns, size, reports, writer, errors,
+        rt, journal, plan, keys, turns, size, reports, writer, errors,
     ) {
         Ok(reported) => reported,
         Err(failed) => return Err(fault_of(failed)),
@@ -351,9 +359,7 @@ fn run_reports<H: Host, W: Write + Send, E: Write>(
         seat: _seat,
         end,
     } = watched;
-    tell_end(turns, errors)?;
-    reports_ended(end)?;
-    Ok(())
+    reports_ended(turns, end, errors)
 }
 
 /// What a relay's fault is told as. Where its journal broke, that is what the system said of its device.
@@ -365,12 +371,14 @@ fn fault_of(failed: (ServeFault, FileDisk)) -> CommandFault {
     }
 }
 
-/// Whether reports ended as they should: their writer didn't fail.
-fn reports_ended(end: ReporterEnd) -> Result<(), TextFault>
-    ensures { OnOk result ((end ≡ ReporterEnd.Paced) ⊎ (end ≡ ReporterEnd.Closed)) }
+/// Says what ended a relay that reports. It ended as it should where the reports' writer didn't fail.
+fn reports_ended<E: Write>(turns: u64, end: ReporterEnd, errors: &mut E) -> Result<(), CommandFault>
+    ensures told { OnOk result (Appends (E.contents errors.old) (E.contents errors.new) (ended_line turns)) }
+    ensures end { OnOk result ((end ≡ ReporterEnd.Paced) ⊎ (end ≡ ReporterEnd.Closed)) }
 {
+    tell_end(turns, errors)?;
     match end {
-        ReporterEnd::Output => Err(TextFault::Output),
+        ReporterEnd::Output => Err(CommandFault::Text(TextFault::Output)),
         ReporterEnd::Paced | ReporterEnd::Closed => Ok(()),
     }
 }
@@ -395,11 +403,39 @@ fn watched(disk: FileDisk, tally: &Arc<Tally, Global>) -> Result<FileDisk, Serve
 }
 
 /// Says what ended a relay.
-fn tell_end<E: Write>(turns: u64, errors: &mut E) -> Result<(), ServeFault>
+fn tell_end<E: Write>(turns: u64, errors: &mut E) -> Result<(), CommandFault>
     ensures { OnOk result (Appends (E.contents errors.old) (E.contents errors.new) (ended_line turns)) }
 {
     let told = writeln!(errors, "rly: ended after {turns} turns");
-    told.map_err(|_| ServeFault::Untold)
+    told.map_err(|_| CommandFault::Serve(ServeFault::Untold))
+}
+
+/// Opens the journal on the device in a file, and says how many bytes the file has.
+fn open_file<H: AllocGlobal + Files<File = File>>(
+    rt: &H,
+    file: &str,
+) -> Result<(Journal<FileDisk>, u64), CommandFault>
+    ensures whole { IfOk result (λ opened. opened.0.broken ≡ false) }
+{
+    let disk = FileDisk::open(rt, file)?;
+    let size = disk.size();
+    let journal = open_journal(rt.alloc(), disk)?;
+    Ok((journal, size))
+}
+
+/// The same, and the gates of the device are counted.
+fn open_counted<H: AllocGlobal + Files<File = File>>(
+    rt: &H,
+    file: &str,
+    tally: &Arc<Tally, Global>,
+) -> Result<(Journal<FileDisk>, u64), CommandFault>
+    ensures whole { IfOk result (λ opened. opened.0.broken ≡ false) }
+{
+    let disk = FileDisk::open(rt, file)?;
+    let size = disk.size();
+    let disk = watched(disk, tally)?;
+    let journal = open_journal(rt.alloc(), disk)?;
+    Ok((journal, size))
 }
 
 /// Opens the journal on a device.

@@ -1,6 +1,7 @@
 //! The running relay: what it needs of its device, its workers, and how it ends.
 
-ghost use Rattle.std.specs.Prelude.{◌≡◌, ◌≤◌, ◌⊎◌, ◌++◌, Err, IfErr, IfOk, IsOk, OnOk, false, is_some, length, map, List, Option, option_copied, true};
+ghost use Rattle.std.specs.Option.{option_map};
+ghost use Rattle.std.specs.Prelude.{◌≡◌, ◌≤◌, ◌⊎◌, ◌++◌, Err, IfErr, IfOk, IsOk, OnOk, Some, false, is_some, length, map, List, Option, option_copied, true};
 ghost use Rattle.rly_core.specs.declared.refusal.Refusal.{Refusal as ARefusal};
 ghost use Rattle.rly_core.specs.declared.refusal.Refusal.TheVariants as refusal;
 ghost use Rattle.rly_daemon.specs.declared.command_fault.ServeFault.TheVariants as fault;
@@ -22,14 +23,13 @@ use crate::address_fault::{AddressFault, End, EndFault};
 use crate::bells::Bells;
 use crate::clock_watch::ClockWatch;
 use crate::command_fault::ServeFault;
-use crate::error_lines::ErrorLines;
 use crate::failed_sends::FailedSends;
 use crate::file_fault::{Cause, SystemWord};
 use crate::formatting::live_items;
 use crate::keeping::Keeping;
 use crate::neighbour_link::NeighbourLink;
 use crate::plan_keys::{KeyedWorker, PlanKeys};
-use crate::teller::Teller;
+use crate::signals::Signals;
 use crate::udp_link::UdpLink;
 use crate::wall_clock::WallClock;
 use crate::worker_name::WorkerName;
@@ -227,15 +227,24 @@ fn posts_of<'a, H: AllocGlobal + Net + Clock>(
     requires { IsSoundPlan plan.now }
     ensures { IfOk result (λ posts. map duty_at posts.items ≡ duties plan.now keys.entry longest turns) }
 {
-    let Ok(bells) = Arc::new(rt.alloc(), Bells::open(rt, rt.alloc(), plan)?) else {
-        return Err(AllocError.into());
-    };
-    let Ok(lines) = Arc::new(rt.alloc(), ErrorLines::new(rt.alloc())) else {
-        return Err(AllocError.into());
-    };
+    let signals = Signals::open(rt, rt.alloc(), plan)?;
+    shared_posts(rt, plan, keys, longest, turns, &signals)
+}
+
+/// The same, where the workers share these signals.
+fn shared_posts<'a, H: AllocGlobal + Net + Clock>(
+    rt: &'a H,
+    plan: &Plan,
+    keys: PlanKeys<'_>,
+    longest: usize,
+    turns: u64,
+    signals: &Signals,
+) -> Result<Vec<UdpPost<'a, H>>, ServeFault>
+    ensures { IfOk result (λ posts. map duty_at posts.items ≡ duties plan.now keys.entry longest turns) }
+{
     let mut posts = Vec::new(rt.alloc());
     for link in keys.links {
-        let post = post_of(rt, plan, link, longest, turns, &bells, &lines)?;
+        let post = post_of(rt, plan, link, longest, turns, signals)?;
         if posts.push(post).is_err() {
             return Err(AllocError.into());
         }
@@ -252,8 +261,7 @@ fn post_of<'a, H: AllocGlobal + Net + Clock>(
     link: KeyedWorker<'_>,
     longest: usize,
     turns: u64,
-    bells: &Arc<Bells, Global>,
-    lines: &Arc<ErrorLines, Global>,
+    signals: &Signals,
 ) -> Result<UdpPost<'a, H>, ServeFault>
     ensures { IfOk result (λ post. duty_at post ≡ duty_of plan.now longest turns link.entry) }
 {
@@ -261,21 +269,46 @@ fn post_of<'a, H: AllocGlobal + Net + Clock>(
     let Some(addresses) = addresses_of(plan, worker) else {
         return Err(ServeFault::Worker);
     };
-    let socket = match UdpLink::open(rt, rt, addresses) {
-        Ok(socket) => socket,
-        Err(fault) => return Err(fault_of_link(rt.alloc(), worker, addresses, fault)),
-    };
-    let socket = match worker {
-        Worker::Receiver(_) => socket,
-        Worker::Sender(hop) => socket.with_bell(bells.clone()?, hop),
-    };
-    let failed_sends = FailedSends::new(worker, Teller::new(lines.clone()?));
-    let socket = socket.with_failed_sends(failed_sends);
-    let key = key.map(|key| key.into_key());
+    let turn = turn_of(rt, worker, turns, signals)?;
+    let teller = signals.teller()?;
+    let socket = socket_of(rt, rt.alloc(), worker, addresses, signals)?;
     let keeping = Keeping::new(rt.alloc(), plan, worker, longest)?;
-    let link = NeighbourLink::new(socket, key, worker, Teller::new(lines.clone()?), keeping);
-    let turn = turn_of(rt, worker, turns, bells, lines)?;
+    let key = key.map(|key| key.into_key());
+    let link = NeighbourLink::new(socket, key, worker, teller, keeping);
     Ok(Post { worker, link, turn })
+}
+
+/// The socket of a worker's link, which tells of sends that fail. That of a sender has the bell of its hop.
+fn socket_of<'a, H: Net + Clock>(
+    rt: &'a H,
+    alloc: Global,
+    worker: Worker,
+    addresses: &Addresses,
+    signals: &Signals,
+) -> Result<UdpLink<&'a H>, ServeFault>
+    ensures addresses { IfOk result (λ link. link.addresses.value ≡ addresses.now) }
+    ensures sends { IfOk result (λ link. option_map (λ f. f.worker) link.failed_sends ≡ Some worker) }
+{
+    let bell = bell_of(worker, signals)?;
+    let teller = signals.teller()?;
+    match UdpLink::open(rt, rt, addresses) {
+        Ok(socket) => {
+            let failed_sends = FailedSends::new(worker, teller);
+            Ok(socket.with_bell(bell).with_failed_sends(failed_sends))
+        }
+        Err(fault) => Err(fault_of_link(alloc, worker, addresses, fault)),
+    }
+}
+
+/// The bell of a sender's hop. A receiver's link has none.
+fn bell_of(
+    worker: Worker,
+    signals: &Signals,
+) -> Result<Option<(Arc<Bells, Global>, HopId)>, AllocError> {
+    match worker {
+        Worker::Receiver(_) => Ok(None),
+        Worker::Sender(hop) => Ok(Some((signals.bells()?, hop))),
+    }
 }
 
 /// The turns of a worker, which tell the bells. Those of the first peer's receiver also tell where the clock was set.
@@ -283,18 +316,21 @@ fn turn_of<'a, H: Clock>(
     rt: &'a H,
     worker: Worker,
     turns: u64,
-    bells: &Arc<Bells, Global>,
-    lines: &Arc<ErrorLines, Global>,
+    signals: &Signals,
 ) -> Result<WallClock<&'a H>, AllocError>
     ensures left { IfOk result (λ turn. turn.left ≡ turns_left turns) }
     ensures watch { IfOk result (λ turn. is_some turn.watch ≡ is_first worker) }
 {
-    let turn = WallClock::new(rt, turns).with_bells(bells.clone()?);
+    let bells = signals.bells()?;
     if !is_first(worker) {
-        return Ok(turn);
+        return Ok(WallClock::new(rt, turns).with_bells(bells));
     }
-    let watch = ClockWatch::new(Teller::new(lines.clone()?));
-    Ok(turn.with_watch(watch))
+    let watch = ClockWatch::new(signals.teller()?);
+    Ok(
+        WallClock::new(rt, turns)
+            .with_bells(bells)
+            .with_watch(watch),
+    )
 }
 
 /// Whether it is the receiver of the first peer.

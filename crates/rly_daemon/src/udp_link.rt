@@ -74,11 +74,11 @@ impl<C: Clock + Drop> UdpLink<C> {
         })
     }
 
-    /// The same as the link of a hop, whose bell ends its waits.
-    pub(crate) fn with_bell(mut self, bells: Arc<Bells, Global>, hop: HopId) -> UdpLink<C>
+    /// The same, and its waits end with the bell of a hop, if there is one.
+    pub(crate) fn with_bell(mut self, bell: Option<(Arc<Bells, Global>, HopId)>) -> UdpLink<C>
         ensures { result ≡ record self { bell = result.bell } }
     {
-        self.bell = Some((bells, hop));
+        self.bell = bell;
         self
     }
 

@@ -3,7 +3,6 @@ use rly_disk::{After, Disk, FaultDisk, MemDisk, Torn};
 use rly_gate::{GroupFault, append_group, read_group};
 use std::alloc::{AllocError, Global};
 use std::process::Abort;
-use std::test::Fail;
 
 /// The body of one Take of peer 1, number 1, hop 1, stamp 0, payload `41`: a count and its record.
 const BODY: [u8; 26] = [
@@ -55,15 +54,14 @@ fn expect_group(rt: &impl Abort, disk: &mut FaultDisk<MemDisk>) {
 }
 
 #[test]
-fn a_group_is_appended_in_four_calls(rt: HostRuntime) -> Result<(), Fail> {
+fn a_group_is_appended_in_four_calls(rt: HostRuntime) {
     let alloc = rt.alloc();
-    let mut disk = FaultDisk::new(empty_disk(alloc)?, 0, 0, After::Stops);
+    let mut disk = FaultDisk::new(empty_disk(alloc).expect(&rt, "memory"), 0, 0, After::Stops);
     expect!(rt; is_appended(&rt, &mut disk));
     expect!(rt; (disk.calls(), disk.syncs(), disk.failures()) == (4, 2, 0));
     expect_group(&rt, &mut disk);
     expect!(rt; matches!(has_body(&rt, alloc, &mut disk, 0), Ok(Some(true))));
     expect!(rt; matches!(has_body(&rt, alloc, &mut disk, 31), Ok(None)));
-    Ok(())
 }
 
 /// Reads the group of a disk of 32 bytes, where it has to end before a place, and says whether one stands there.
@@ -78,20 +76,19 @@ fn has_group(
 }
 
 #[test]
-fn a_group_that_does_not_end_before_the_end_is_damaged(rt: HostRuntime) -> Result<(), Fail> {
+fn a_group_that_does_not_end_before_the_end_is_damaged(rt: HostRuntime) {
     let alloc = rt.alloc();
-    let mut disk = MemDisk::new(alloc, GROUP.to_vec(alloc)?);
+    let mut disk = MemDisk::new(alloc, GROUP.to_vec(alloc).expect(&rt, "memory"));
     expect!(rt; matches!(has_group(&rt, alloc, &mut disk, 32), Ok(true)));
     for end in &[1, 5, 6, 31] {
         let read = has_group(&rt, alloc, &mut disk, *end);
         expect!(rt; matches!(read, Err(GroupFault::Damaged)));
     }
-    Ok(())
 }
 
 /// An append that stops at each of its calls, and a crash of each kind, leave the group or none.
 #[test]
-fn a_crash_leaves_the_group_or_none(rt: HostRuntime) -> Result<(), Fail> {
+fn a_crash_leaves_the_group_or_none(rt: HostRuntime) {
     let alloc = rt.alloc();
     for at in [1, 2, 3, 4] {
         for torn in [0, 1, 30] {
@@ -102,30 +99,27 @@ fn a_crash_leaves_the_group_or_none(rt: HostRuntime) -> Result<(), Fail> {
                 Torn::Fill(0),
                 Torn::Split(1),
             ] {
-                stops(&rt, alloc, at, torn, kind)?;
+                stops(&rt, alloc, at, torn, kind);
             }
         }
     }
-    Ok(())
 }
 
 /// An append that stops at a call, and a crash.
-fn crashed(
-    rt: &impl Abort,
-    alloc: Global,
-    at: u64,
-    torn: u64,
-    kind: Torn,
-) -> Result<MemDisk, AllocError> {
-    let mut disk = FaultDisk::new(empty_disk(alloc)?, at, torn, After::Stops);
+fn crashed(rt: &impl Abort, alloc: Global, at: u64, torn: u64, kind: Torn) -> MemDisk {
+    let mut disk = FaultDisk::new(
+        empty_disk(alloc).expect(rt, "memory"),
+        at,
+        torn,
+        After::Stops,
+    );
     expect!(rt; !is_appended(rt, &mut disk));
-    Ok(disk.into_inner().crash(kind))
+    disk.into_inner().crash(kind)
 }
 
 /// Stops an append at a call, and expects the group or none.
-fn stops(rt: &impl Abort, alloc: Global, at: u64, torn: u64, kind: Torn) -> Result<(), AllocError> {
-    let mut disk = crashed(rt, alloc, at, torn, kind)?;
+fn stops(rt: &impl Abort, alloc: Global, at: u64, torn: u64, kind: Torn) {
+    let mut disk = crashed(rt, alloc, at, torn, kind);
     let found = has_body(rt, alloc, &mut disk, 0);
     expect!(rt; matches!(found, Ok(None | Some(true))));
-    Ok(())
 }

@@ -60,13 +60,16 @@ const SECOND_GATE: u64 = 82_972;
 const SECOND_GENERATION: u64 = 82_980;
 
 /// A device with that header and head, formatted and unused.
-fn device(rt: &impl Abort, alloc: Global) -> Result<MemDisk, AllocError> {
-    device_with(rt, alloc, &HEAD)
+fn device(rt: &impl Abort, alloc: Global) -> MemDisk {
+    device_with(rt, alloc, &HEAD).expect(rt, "memory")
 }
 
 /// A device with that header and one of the two heads.
 fn device_with(rt: &impl Abort, alloc: Global, head: &[u8; 13]) -> Result<MemDisk, AllocError> {
-    let mut disk = MemDisk::new(alloc, vec![in alloc; 0u8; SIZE as usize]?);
+    let mut disk = MemDisk::new(
+        alloc,
+        vec![in alloc; 0u8; SIZE as usize].expect(rt, "memory"),
+    );
     put(rt, &mut disk, 0, &HEADER);
     put(rt, &mut disk, 64, head);
     Ok(disk)
@@ -104,14 +107,13 @@ fn head_of(
 }
 
 #[test]
-fn the_header_of_a_device(rt: HostRuntime) -> Result<(), Fail> {
-    let mut disk = device(&rt, rt.alloc())?;
+fn the_header_of_a_device(rt: HostRuntime) {
+    let mut disk = device(&rt, rt.alloc());
     expect!(rt; read_header(&mut disk) == Ok(GEOMETRY));
     put(&rt, &mut disk, 12, &[0]);
     expect!(rt; read_header(&mut disk) == Err(HeaderFault::BadGeometry));
     put(&rt, &mut disk, 0, &[0]);
     expect!(rt; read_header(&mut disk) == Err(HeaderFault::NotADevice));
-    Ok(())
 }
 
 /// What is read of a device of so many bytes that begins with these, all others `00`.
@@ -128,24 +130,22 @@ fn header_of(
 
 /// A header of version 1 says nothing of the longest payload: it is 1,200 whatever stands after the fields.
 #[test]
-fn the_header_of_version_1(rt: HostRuntime) -> Result<(), Fail> {
+fn the_header_of_version_1(rt: HostRuntime) {
     let alloc = rt.alloc();
     for after in [0, 1, 0xff] {
-        let mut bytes = Vec::from_slice(alloc, &FIRST_HEADER)?;
-        bytes.resize(64, after)?;
-        expect!(rt; header_of(alloc, &bytes, SIZE as usize)? == Ok(GEOMETRY));
+        let mut bytes = Vec::from_slice(alloc, &FIRST_HEADER).expect(&rt, "memory");
+        bytes.resize(64, after).expect(&rt, "memory");
+        expect!(rt; header_of(alloc, &bytes, SIZE as usize).expect(&rt, "memory") == Ok(GEOMETRY));
     }
-    Ok(())
 }
 
 /// What stands after the fields of a header of version 2 says nothing either.
 #[test]
-fn what_stands_after_a_header_is_not_read(rt: HostRuntime) -> Result<(), Fail> {
+fn what_stands_after_a_header_is_not_read(rt: HostRuntime) {
     let alloc = rt.alloc();
-    let mut bytes = Vec::from_slice(alloc, &HEADER)?;
-    bytes.resize(64, 0xff)?;
-    expect!(rt; header_of(alloc, &bytes, SIZE as usize)? == Ok(GEOMETRY));
-    Ok(())
+    let mut bytes = Vec::from_slice(alloc, &HEADER).expect(&rt, "memory");
+    bytes.resize(64, 0xff).expect(&rt, "memory");
+    expect!(rt; header_of(alloc, &bytes, SIZE as usize).expect(&rt, "memory") == Ok(GEOMETRY));
 }
 
 /// Only versions 1 and 2 are read.
@@ -155,7 +155,7 @@ fn other_versions_are_no_device(rt: HostRuntime) -> Result<(), Fail> {
         let mut header = HEADER;
         header[9] = version[0];
         header[10] = version[1];
-        let read = header_of(rt.alloc(), &header, SIZE as usize)?;
+        let read = header_of(rt.alloc(), &header, SIZE as usize).expect(&rt, "memory");
         assert!(rt; read == Err(HeaderFault::NotADevice), "{version:?}");
     }
     Ok(())
@@ -188,17 +188,16 @@ const LONG_HEADER: [u8; 53] = [
 const LONG_SIZE: usize = 1_069_048;
 
 #[test]
-fn a_header_for_payloads_of_8192_bytes(rt: HostRuntime) -> Result<(), Fail> {
+fn a_header_for_payloads_of_8192_bytes(rt: HostRuntime) {
     let alloc = rt.alloc();
-    expect!(rt; header_of(alloc, &LONG_HEADER, LONG_SIZE)? == Ok(LONG));
-    let short = header_of(alloc, &LONG_HEADER, LONG_SIZE - 1)?;
+    expect!(rt; header_of(alloc, &LONG_HEADER, LONG_SIZE).expect(&rt, "memory") == Ok(LONG));
+    let short = header_of(alloc, &LONG_HEADER, LONG_SIZE - 1).expect(&rt, "memory");
     expect!(rt; short == Err(HeaderFault::BadGeometry));
-    Ok(())
 }
 
 /// A spool's longest payload has 1 to 8,192 bytes.
 #[test]
-fn a_header_for_other_payloads(rt: HostRuntime) -> Result<(), Fail> {
+fn a_header_for_other_payloads(rt: HostRuntime) {
     for (high, low, payload) in [
         (0, 1, 1),
         (4, 0xb0, 1_200),
@@ -212,43 +211,42 @@ fn a_header_for_other_payloads(rt: HostRuntime) -> Result<(), Fail> {
             payload,
             ..LONG.params
         };
-        let read = header_of(rt.alloc(), &header, LONG_SIZE)?;
+        let read = header_of(rt.alloc(), &header, LONG_SIZE).expect(&rt, "memory");
         assert!(rt; read == Ok(Geometry { params, ..LONG }), "{payload}");
     }
     for (high, low) in [(0, 0), (0x20, 1), (0xff, 0xff)] {
         let mut header = LONG_HEADER;
         header[51] = high;
         header[52] = low;
-        let read = header_of(rt.alloc(), &header, LONG_SIZE)?;
+        let read = header_of(rt.alloc(), &header, LONG_SIZE).expect(&rt, "memory");
         assert!(rt; read == Err(HeaderFault::BadGeometry), "{high} {low}");
     }
-    Ok(())
 }
 
 /// Segments of the least length for payloads of 1,200 bytes are 64 bytes too short for one byte more.
 #[test]
-fn a_header_for_longer_payloads_than_its_segments_have_room_for(
-    rt: HostRuntime,
-) -> Result<(), Fail> {
+fn a_header_for_longer_payloads_than_its_segments_have_room_for(rt: HostRuntime) {
     let mut header = HEADER;
     header[52] = 0xb1;
-    let read = header_of(rt.alloc(), &header, SIZE as usize)?;
+    let read = header_of(rt.alloc(), &header, SIZE as usize).expect(&rt, "memory");
     expect!(rt; read == Err(HeaderFault::BadGeometry));
     // 82,972, on a device that is long enough for that
     header[21] = 0x44;
     header[22] = 0x1c;
-    let read = header_of(rt.alloc(), &header, 166_008)?;
+    let read = header_of(rt.alloc(), &header, 166_008).expect(&rt, "memory");
     expect!(rt; matches!(read, Ok(geometry) if geometry.params.payload == 1_201 && geometry.length == 82_972));
-    Ok(())
 }
 
 #[test]
 fn a_device_that_is_too_short(rt: HostRuntime) -> Result<(), Fail> {
     let alloc = rt.alloc();
-    let mut header = MemDisk::new(alloc, HEADER.to_vec(alloc)?);
+    let mut header = MemDisk::new(alloc, HEADER.to_vec(alloc).expect(&rt, "memory"));
     expect!(rt; read_header(&mut header) == Err(HeaderFault::NotADevice));
     expect!(rt; header.calls() == 0);
-    let mut disk = MemDisk::new(alloc, vec![in alloc; 0u8; SIZE as usize - 1]?);
+    let mut disk = MemDisk::new(
+        alloc,
+        vec![in alloc; 0u8; SIZE as usize - 1].expect(&rt, "memory"),
+    );
     assert!(rt; disk.size() == SIZE - 1);
     expect!(rt; disk.write_at(0, &HEADER) == Ok(()));
     expect!(rt; read_header(&mut disk) == Err(HeaderFault::BadGeometry));
@@ -256,11 +254,10 @@ fn a_device_that_is_too_short(rt: HostRuntime) -> Result<(), Fail> {
 }
 
 #[test]
-fn a_failed_read_is_a_device_fault(rt: HostRuntime) -> Result<(), Fail> {
-    let mut disk = FaultDisk::new(device(&rt, rt.alloc())?, 1, 0, After::GoesOn);
+fn a_failed_read_is_a_device_fault(rt: HostRuntime) {
+    let mut disk = FaultDisk::new(device(&rt, rt.alloc()), 1, 0, After::GoesOn);
     expect!(rt; read_header(&mut disk) == Err(HeaderFault::Device));
     expect!(rt; read_header(&mut disk) == Ok(GEOMETRY));
-    Ok(())
 }
 
 /// The head of the empty state is the newest and is read in its form, with a gate after it.
@@ -271,7 +268,7 @@ fn expect_empty(
     form: HeadForm,
     gate: u64,
 ) -> Result<(), AllocError> {
-    let mut disk = device_with(rt, alloc, head)?;
+    let mut disk = device_with(rt, alloc, head).expect(rt, "memory");
     match newest_of(rt, &mut disk) {
         Ok(found) => {
             expect!(rt; found.segment == 0);
@@ -291,36 +288,32 @@ fn expect_empty(
 }
 
 #[test]
-fn the_head_of_the_empty_state(rt: HostRuntime) -> Result<(), Fail> {
-    expect_empty(&rt, rt.alloc(), &HEAD, HeadForm::Second, 157)?;
-    Ok(())
+fn the_head_of_the_empty_state(rt: HostRuntime) {
+    expect_empty(&rt, rt.alloc(), &HEAD, HeadForm::Second, 157).expect(&rt, "memory");
 }
 
 #[test]
-fn the_head_of_the_empty_state_in_the_first_form(rt: HostRuntime) -> Result<(), Fail> {
-    expect_empty(&rt, rt.alloc(), &OLD_HEAD, HeadForm::First, 164)?;
-    Ok(())
+fn the_head_of_the_empty_state_in_the_first_form(rt: HostRuntime) {
+    expect_empty(&rt, rt.alloc(), &OLD_HEAD, HeadForm::First, 164).expect(&rt, "memory");
 }
 
 /// The top bit of the length of its body says the form of a head: with another top bit neither head is one.
 #[test]
-fn the_top_bit_of_the_length_says_the_form(rt: HostRuntime) -> Result<(), Fail> {
+fn the_top_bit_of_the_length_says_the_form(rt: HostRuntime) {
     let alloc = rt.alloc();
     for (head, bits) in [(&OLD_HEAD, 0x80), (&HEAD, 0)] {
-        let mut disk = device_with(&rt, alloc, head)?;
+        let mut disk = device_with(&rt, alloc, head).expect(&rt, "memory");
         put(&rt, &mut disk, LENGTH, &[bits]);
         match head_of(&rt, alloc, &mut disk, 0) {
             Err(HeadFault::Damaged) => {}
-            Err(HeadFault::OutOfMemory) => return Err(AllocError.into()),
             _ => panic!(rt; "a head of another form"),
         }
     }
-    Ok(())
 }
 
 #[test]
-fn no_head_is_the_newest(rt: HostRuntime) -> Result<(), Fail> {
-    let mut disk = device(&rt, rt.alloc())?;
+fn no_head_is_the_newest(rt: HostRuntime) {
+    let mut disk = device(&rt, rt.alloc());
     put(&rt, &mut disk, SECOND_GATE, &[0xa5]);
     put(&rt, &mut disk, SECOND_GENERATION, &[1]);
     expect!(rt; matches!(
@@ -330,13 +323,12 @@ fn no_head_is_the_newest(rt: HostRuntime) -> Result<(), Fail> {
     put(&rt, &mut disk, SECOND_GATE, &[0]);
     put(&rt, &mut disk, 64, &[0]);
     expect!(rt; matches!(newest_of(&rt, &mut disk), Err(NewestFault::Damaged(64))));
-    Ok(())
 }
 
 #[test]
-fn a_newer_head_without_a_body_is_damaged(rt: HostRuntime) -> Result<(), Fail> {
+fn a_newer_head_without_a_body_is_damaged(rt: HostRuntime) {
     let alloc = rt.alloc();
-    let mut disk = device(&rt, alloc)?;
+    let mut disk = device(&rt, alloc);
     put(&rt, &mut disk, SECOND_GATE, &[0xa5]);
     put(&rt, &mut disk, SECOND_GENERATION, &[2]);
     match newest_of(&rt, &mut disk) {
@@ -344,20 +336,17 @@ fn a_newer_head_without_a_body_is_damaged(rt: HostRuntime) -> Result<(), Fail> {
         Err(_) => panic!(rt; "no newest head"),
     }
     expect!(rt; matches!(&head_of(&rt, alloc, &mut disk, 1), Err(HeadFault::Damaged)));
-    Ok(())
 }
 
 #[test]
-fn a_generation_that_no_state_has_is_damaged(rt: HostRuntime) -> Result<(), Fail> {
+fn a_generation_that_no_state_has_is_damaged(rt: HostRuntime) {
     let alloc = rt.alloc();
     for (head, generation) in [(&HEAD, 0), (&HEAD, 2), (&OLD_HEAD, 0), (&OLD_HEAD, 2)] {
-        let mut disk = device_with(&rt, alloc, head)?;
+        let mut disk = device_with(&rt, alloc, head).expect(&rt, "memory");
         put(&rt, &mut disk, 72, &[generation]);
         match head_of(&rt, alloc, &mut disk, 0) {
             Err(HeadFault::Damaged) => {}
-            Err(HeadFault::OutOfMemory) => return Err(AllocError.into()),
             _ => panic!(rt; "generation {generation}"),
         }
     }
-    Ok(())
 }

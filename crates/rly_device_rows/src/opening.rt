@@ -100,12 +100,11 @@ fn is_formatted(bytes: &[u8]) -> bool {
 }
 
 /// Formats a device that is filled with one byte.
-fn expect_formatted(rt: &impl Abort, alloc: Global, byte: u8) -> Result<(), AllocError> {
-    let mut disk = disk_of(alloc, byte, SIZE)?;
+fn expect_formatted(rt: &impl Abort, alloc: Global, byte: u8) {
+    let mut disk = disk_of(alloc, byte, SIZE).expect(rt, "memory");
     expect!(rt; format(alloc, &mut disk, &DEVICE_E) == Ok(()));
-    let bytes = bytes_of(alloc, &mut disk)?;
+    let bytes = bytes_of(alloc, &mut disk).expect(rt, "memory");
     expect_beside(rt, &bytes, byte);
-    Ok(())
 }
 
 /// These are the bytes of a new device, and beside what was written all have the byte of before.
@@ -117,11 +116,10 @@ fn expect_beside(rt: &impl Abort, bytes: &[u8], byte: u8) {
 }
 
 #[test]
-fn a_device_is_formatted(rt: HostRuntime) -> Result<(), Fail> {
+fn a_device_is_formatted(rt: HostRuntime) {
     for byte in [0xa5, 0] {
-        expect_formatted(&rt, rt.alloc(), byte)?;
+        expect_formatted(&rt, rt.alloc(), byte);
     }
-    Ok(())
 }
 
 /// The device as programs wrote it which knew neither limits nor longer payloads: a header of version 1, a head of the first form, and
@@ -142,10 +140,10 @@ fn first_device(alloc: Global) -> Result<Vec<u8>, AllocError> {
 #[test]
 fn a_device_of_version_1_is_formatted(rt: HostRuntime) -> Result<(), Fail> {
     let alloc = rt.alloc();
-    let mut disk = MemDisk::new(alloc, first_device(alloc)?);
+    let mut disk = MemDisk::new(alloc, first_device(alloc).expect(&rt, "memory"));
     expect!(rt; format(alloc, &mut disk, &DEVICE_E) == Ok(()));
-    let bytes = bytes_of(alloc, &mut disk)?;
-    let first = first_device(alloc)?;
+    let bytes = bytes_of(alloc, &mut disk).expect(&rt, "memory");
+    let first = first_device(alloc).expect(&rt, "memory");
     expect!(rt; is_formatted(&bytes));
     expect!(rt; bytes.iter().skip(53).take(11).all(|byte| *byte == 0xff));
     expect!(rt; bytes.iter().skip(158).eq(first.iter().skip(158)));
@@ -153,21 +151,20 @@ fn a_device_of_version_1_is_formatted(rt: HostRuntime) -> Result<(), Fail> {
 }
 
 /// Refuses to format, and makes no call of the disk.
-fn expect_bad_geometry(
-    rt: &impl Abort,
-    alloc: Global,
-    geometry: &Geometry,
-    size: usize,
-) -> Result<(), AllocError> {
-    let mut disk = FaultDisk::new(disk_of(alloc, 0xa5, size)?, 0, 0, After::Stops);
+fn expect_bad_geometry(rt: &impl Abort, alloc: Global, geometry: &Geometry, size: usize) {
+    let mut disk = FaultDisk::new(
+        disk_of(alloc, 0xa5, size).expect(rt, "memory"),
+        0,
+        0,
+        After::Stops,
+    );
     expect!(rt; format(alloc, &mut disk, geometry) == Err(FormatFault::BadGeometry));
     expect!(rt; disk.calls() == 0);
-    expect!(rt; bytes_of(alloc, &mut disk)?.iter().all(|byte| *byte == 0xa5));
-    Ok(())
+    expect!(rt; bytes_of(alloc, &mut disk).expect(rt, "memory").iter().all(|byte| *byte == 0xa5));
 }
 
 #[test]
-fn a_bad_geometry_is_refused(rt: HostRuntime) -> Result<(), Fail> {
+fn a_bad_geometry_is_refused(rt: HostRuntime) {
     let short = Geometry {
         length: 82_907,
         ..DEVICE_E
@@ -186,73 +183,56 @@ fn a_bad_geometry_is_refused(rt: HostRuntime) -> Result<(), Fail> {
         (three, SIZE),
         (DEVICE_E, SIZE - 1),
     ] {
-        expect_bad_geometry(&rt, rt.alloc(), &geometry, size)?;
+        expect_bad_geometry(&rt, rt.alloc(), &geometry, size);
     }
-    Ok(())
 }
 
 /// What is left of a format of a device with these bytes that stops at a call, after a crash.
-fn stopped_format(
-    rt: &impl Abort,
-    alloc: Global,
-    old: &[u8],
-    at: u64,
-    kind: Torn,
-) -> Result<MemDisk, AllocError> {
-    let disk = MemDisk::new(alloc, Vec::from_slice(alloc, old)?);
+fn stopped_format(rt: &impl Abort, alloc: Global, old: &[u8], at: u64, kind: Torn) -> MemDisk {
+    let disk = MemDisk::new(alloc, Vec::from_slice(alloc, old).expect(rt, "memory"));
     let mut disk = FaultDisk::new(disk, at, 1, After::Stops);
     assert!(rt;
         format(alloc, &mut disk, &DEVICE_E) == Err(FormatFault::Device),
         "call {at}"
     );
-    Ok(disk.into_inner().crash(kind))
+    disk.into_inner().crash(kind)
 }
 
 /// The old bytes, no device, or the new one.
-fn expect_old_or_new(
-    rt: &impl Abort,
-    alloc: Global,
-    disk: MemDisk,
-    old: &[u8],
-    at: u64,
-) -> Result<(), AllocError> {
+fn expect_old_or_new(rt: &impl Abort, alloc: Global, disk: MemDisk, old: &[u8], at: u64) {
     let mut disk = disk;
-    let bytes = bytes_of(alloc, &mut disk)?;
+    let bytes = bytes_of(alloc, &mut disk).expect(rt, "memory");
     assert!(rt; bytes.len() == SIZE);
     assert!(rt;
         bytes.as_slice() == old || bytes.first() != Some(&0xa5) || is_formatted(&bytes),
         "call {at}"
     );
-    Ok(())
 }
 
 /// A format that stops at each of its 15 calls, and a crash of each kind, leave the old bytes, no
 /// device or the new one.
-fn expect_crashes(rt: &impl Abort, alloc: Global, old: &[u8]) -> Result<(), AllocError> {
+fn expect_crashes(rt: &impl Abort, alloc: Global, old: &[u8]) {
     for at in 1..=15 {
         for kind in KINDS {
-            let disk = stopped_format(rt, alloc, old, at, kind)?;
-            expect_old_or_new(rt, alloc, disk, old, at)?;
+            let disk = stopped_format(rt, alloc, old, at, kind);
+            expect_old_or_new(rt, alloc, disk, old, at);
         }
     }
-    Ok(())
 }
 
 /// Over bytes that are no device, at a gate that reads open.
 #[test]
-fn a_crash_within_a_format(rt: HostRuntime) -> Result<(), Fail> {
+fn a_crash_within_a_format(rt: HostRuntime) {
     let alloc = rt.alloc();
-    let old = vec![in alloc; 0xa5u8; SIZE]?;
-    expect_crashes(&rt, alloc, &old)?;
-    Ok(())
+    let old = vec![in alloc; 0xa5u8; SIZE].expect(&rt, "memory");
+    expect_crashes(&rt, alloc, &old);
 }
 
 /// Over a device of version 1, which is left whole or is one of version 2.
 #[test]
-fn a_crash_within_a_format_of_a_device_of_version_1(rt: HostRuntime) -> Result<(), Fail> {
+fn a_crash_within_a_format_of_a_device_of_version_1(rt: HostRuntime) {
     let alloc = rt.alloc();
-    expect_crashes(&rt, alloc, &first_device(alloc)?)?;
-    Ok(())
+    expect_crashes(&rt, alloc, &first_device(alloc).expect(&rt, "memory"));
 }
 
 /// Whether a device of so many bytes may have a geometry.
@@ -290,36 +270,38 @@ fn expect_head(rt: &impl Abort, bytes: &[u8], byte: u8) {
 }
 
 /// Opens the second segment of a device that is filled with one byte.
-fn expect_opened(rt: &impl Abort, alloc: Global, byte: u8, calls: u64) -> Result<(), AllocError> {
-    let mut disk = FaultDisk::new(disk_of(alloc, byte, SIZE)?, 0, 0, After::Stops);
+fn expect_opened(rt: &impl Abort, alloc: Global, byte: u8, calls: u64) {
+    let mut disk = FaultDisk::new(
+        disk_of(alloc, byte, SIZE).expect(rt, "memory"),
+        0,
+        0,
+        After::Stops,
+    );
     expect!(rt; open(rt, alloc, &mut disk, byte == 0) == Ok(83_065));
     expect!(rt; (disk.calls(), disk.syncs()) == (calls, 3));
-    let bytes = bytes_of(alloc, &mut disk)?;
+    let bytes = bytes_of(alloc, &mut disk).expect(rt, "memory");
     expect_head(rt, &bytes, byte);
-    Ok(())
 }
 
 #[test]
-fn a_segment_is_opened(rt: HostRuntime) -> Result<(), Fail> {
+fn a_segment_is_opened(rt: HostRuntime) {
     for (byte, calls) in [(0xa5, 6), (0, 5)] {
-        expect_opened(&rt, rt.alloc(), byte, calls)?;
+        expect_opened(&rt, rt.alloc(), byte, calls);
     }
-    Ok(())
 }
 
 /// A segment that has a head of the first form is opened with one of the second.
 #[test]
-fn a_segment_with_a_head_of_the_first_form_is_opened(rt: HostRuntime) -> Result<(), Fail> {
+fn a_segment_with_a_head_of_the_first_form_is_opened(rt: HostRuntime) {
     let alloc = rt.alloc();
-    let mut old = vec![in alloc; 7u8; SIZE]?;
+    let mut old = vec![in alloc; 7u8; SIZE].expect(&rt, "memory");
     assert!(rt; old.len() == SIZE);
     old[SECOND..SECOND + 13].copy_from_slice(&OLD_HEAD);
     let mut disk = MemDisk::new(alloc, old);
     expect!(rt; open(&rt, alloc, &mut disk, false) == Ok(83_065));
-    let bytes = bytes_of(alloc, &mut disk)?;
+    let bytes = bytes_of(alloc, &mut disk).expect(&rt, "memory");
     expect_head(&rt, &bytes, 7);
-    expect_new(&rt, alloc, &mut disk)?;
-    Ok(())
+    expect_new(&rt, alloc, &mut disk).expect(&rt, "memory");
 }
 
 /// The head of the second segment is that of the empty state, in the second form.
@@ -337,19 +319,18 @@ fn expect_new(rt: &impl Abort, alloc: Global, disk: &mut MemDisk) -> Result<(), 
 }
 
 /// What is left of an opening that stops at a call, after a crash.
-fn stopped_opening(
-    rt: &impl Abort,
-    alloc: Global,
-    byte: u8,
-    at: u64,
-    kind: Torn,
-) -> Result<MemDisk, AllocError> {
-    let mut disk = FaultDisk::new(disk_of(alloc, byte, SIZE)?, at, 1, After::Stops);
+fn stopped_opening(rt: &impl Abort, alloc: Global, byte: u8, at: u64, kind: Torn) -> MemDisk {
+    let mut disk = FaultDisk::new(
+        disk_of(alloc, byte, SIZE).expect(rt, "memory"),
+        at,
+        1,
+        After::Stops,
+    );
     assert!(rt;
         open(rt, alloc, &mut disk, byte == 0) == Err(OpeningFault::Device),
         "call {at}"
     );
-    Ok(disk.into_inner().crash(kind))
+    disk.into_inner().crash(kind)
 }
 
 /// The gate closed, the whole head, or the open gate that was there with the generation that it had.
@@ -364,15 +345,14 @@ fn expect_closed_or_whole(rt: &impl Abort, bytes: &[u8], byte: u8, at: u64) {
 /// An opening that stops at each of its calls, and a crash of each kind, leave the gate closed, the
 /// whole head, or the open gate that was there with the generation that it had.
 #[test]
-fn a_crash_within_an_opening(rt: HostRuntime) -> Result<(), Fail> {
+fn a_crash_within_an_opening(rt: HostRuntime) {
     for (byte, calls) in [(0xa5, 6), (0, 5)] {
         for at in 1..=calls {
             for kind in KINDS {
-                let mut disk = stopped_opening(&rt, rt.alloc(), byte, at, kind)?;
-                let bytes = bytes_of(rt.alloc(), &mut disk)?;
+                let mut disk = stopped_opening(&rt, rt.alloc(), byte, at, kind);
+                let bytes = bytes_of(rt.alloc(), &mut disk).expect(&rt, "memory");
                 expect_closed_or_whole(&rt, &bytes, byte, at);
             }
         }
     }
-    Ok(())
 }

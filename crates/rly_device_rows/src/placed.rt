@@ -181,7 +181,7 @@ fn device_with(
     body: &[u8],
 ) -> Result<MemDisk, AllocError> {
     assert!(rt; body.len() < 256);
-    let mut bytes = vec![in alloc; 0u8; SIZE]?;
+    let mut bytes = vec![in alloc; 0u8; SIZE].expect(rt, "memory");
     assert!(rt; bytes.len() == SIZE);
     bytes[SECOND..SECOND + 10].copy_from_slice(&[0xa5, 0, 0, 0, 0, 0, 0, 0, 6, mark]);
     bytes[SECOND + 12] = body.len() as u8;
@@ -231,43 +231,40 @@ fn expect_written(rt: &impl Abort, bytes: &[u8], body: &[u8; 149]) {
 }
 
 #[test]
-fn a_head_with_a_place_and_limits_is_written_and_read(rt: HostRuntime) -> Result<(), Fail> {
+fn a_head_with_a_place_and_limits_is_written_and_read(rt: HostRuntime) {
     let alloc = rt.alloc();
-    let mut disk = MemDisk::new(alloc, vec![in alloc; 0u8; SIZE]?);
+    let mut disk = MemDisk::new(alloc, vec![in alloc; 0u8; SIZE].expect(&rt, "memory"));
     expect!(rt; open(&rt, alloc, &mut disk, HeadForm::Second, 6, &BODY) == Ok(157_134));
-    let bytes = bytes_of(alloc, &mut disk)?;
+    let bytes = bytes_of(alloc, &mut disk).expect(&rt, "memory");
     expect_written(&rt, &bytes, &BODY);
-    expect_head(&rt, alloc, &mut disk, HeadForm::Second, 157_134, 10_000)?;
-    Ok(())
+    expect_head(&rt, alloc, &mut disk, HeadForm::Second, 157_134, 10_000).expect(&rt, "memory");
 }
 
 /// A state that a head of the first form held is written in the second, with no limit and none expired.
 #[test]
-fn a_state_of_the_first_form_is_carried_over(rt: HostRuntime) -> Result<(), Fail> {
+fn a_state_of_the_first_form_is_carried_over(rt: HostRuntime) {
     let alloc = rt.alloc();
-    let mut disk = MemDisk::new(alloc, vec![in alloc; 0u8; SIZE]?);
+    let mut disk = MemDisk::new(alloc, vec![in alloc; 0u8; SIZE].expect(&rt, "memory"));
     expect!(rt; open(&rt, alloc, &mut disk, HeadForm::First, 6, &OLD_BODY) == Ok(157_134));
-    let bytes = bytes_of(alloc, &mut disk)?;
+    let bytes = bytes_of(alloc, &mut disk).expect(&rt, "memory");
     expect_written(&rt, &bytes, &CARRIED);
-    expect_head(&rt, alloc, &mut disk, HeadForm::Second, 157_134, 0)?;
-    Ok(())
+    expect_head(&rt, alloc, &mut disk, HeadForm::Second, 157_134, 0).expect(&rt, "memory");
 }
 
 #[test]
-fn heads_that_were_written_by_hand_are_read(rt: HostRuntime) -> Result<(), Fail> {
+fn heads_that_were_written_by_hand_are_read(rt: HostRuntime) {
     let alloc = rt.alloc();
-    let mut old = device_with(&rt, alloc, 0, &OLD_BODY)?;
-    expect_head(&rt, alloc, &mut old, HeadForm::First, 157_138, 0)?;
-    let mut carried = device_with(&rt, alloc, MARK, &CARRIED)?;
-    expect_head(&rt, alloc, &mut carried, HeadForm::Second, 157_134, 0)?;
-    let mut limited = device_with(&rt, alloc, MARK, &BODY)?;
-    expect_head(&rt, alloc, &mut limited, HeadForm::Second, 157_134, 10_000)?;
-    Ok(())
+    let mut old = device_with(&rt, alloc, 0, &OLD_BODY).expect(&rt, "memory");
+    expect_head(&rt, alloc, &mut old, HeadForm::First, 157_138, 0).expect(&rt, "memory");
+    let mut carried = device_with(&rt, alloc, MARK, &CARRIED).expect(&rt, "memory");
+    expect_head(&rt, alloc, &mut carried, HeadForm::Second, 157_134, 0).expect(&rt, "memory");
+    let mut limited = device_with(&rt, alloc, MARK, &BODY).expect(&rt, "memory");
+    expect_head(&rt, alloc, &mut limited, HeadForm::Second, 157_134, 10_000).expect(&rt, "memory");
 }
 
 /// Whether the second of three segments has no head, where it has this body by hand.
 fn is_no_head(rt: &impl Abort, alloc: Global, mark: u8, body: &[u8]) -> Result<bool, AllocError> {
-    let mut disk = device_with(rt, alloc, mark, body)?;
+    let mut disk = device_with(rt, alloc, mark, body).expect(rt, "memory");
     match head_of(rt, alloc, &mut disk) {
         Ok(_) => Ok(false),
         Err(HeadFault::Damaged) => Ok(true),
@@ -278,18 +275,17 @@ fn is_no_head(rt: &impl Abort, alloc: Global, mark: u8, body: &[u8]) -> Result<b
 
 /// A body of one form is none of the other, and what expired counts in the balance.
 #[test]
-fn a_body_has_one_form_and_balances(rt: HostRuntime) -> Result<(), Fail> {
+fn a_body_has_one_form_and_balances(rt: HostRuntime) {
     let alloc = rt.alloc();
-    expect!(rt; is_no_head(&rt, alloc, MARK, &OLD_BODY)?);
-    expect!(rt; is_no_head(&rt, alloc, 0, &CARRIED)?);
+    expect!(rt; is_no_head(&rt, alloc, MARK, &OLD_BODY).expect(&rt, "memory"));
+    expect!(rt; is_no_head(&rt, alloc, 0, &CARRIED).expect(&rt, "memory"));
     let mut body = BODY;
     body[73] = 0;
-    expect!(rt; is_no_head(&rt, alloc, MARK, &body)?);
+    expect!(rt; is_no_head(&rt, alloc, MARK, &body).expect(&rt, "memory"));
     body[73] = 2;
-    expect!(rt; is_no_head(&rt, alloc, MARK, &body)?);
+    expect!(rt; is_no_head(&rt, alloc, MARK, &body).expect(&rt, "memory"));
     body[73] = 1;
-    expect!(rt; !is_no_head(&rt, alloc, MARK, &body)?);
-    Ok(())
+    expect!(rt; !is_no_head(&rt, alloc, MARK, &body).expect(&rt, "memory"));
 }
 
 /// Whether the head of the second of three segments is damaged in a spool of so long payloads, where the one by place has so many bytes.
@@ -302,7 +298,7 @@ fn is_too_long(
     let mut body = BODY;
     body[98] = length[0];
     body[99] = length[1];
-    let mut disk = device_with(rt, alloc, MARK, &body)?;
+    let mut disk = device_with(rt, alloc, MARK, &body).expect(rt, "memory");
     let params = Params {
         payload,
         ..WIDE.params
@@ -328,7 +324,7 @@ fn a_longer_payload_is_damaged(rt: HostRuntime) -> Result<(), Fail> {
         (1_200, [4, 0xb1], true),
         (1_201, [4, 0xb1], false),
     ] {
-        let damaged = is_too_long(&rt, rt.alloc(), payload, length)?;
+        let damaged = is_too_long(&rt, rt.alloc(), payload, length).expect(&rt, "memory");
         assert!(rt; damaged == want, "{payload} {length:?}");
     }
     Ok(())
@@ -336,7 +332,7 @@ fn a_longer_payload_is_damaged(rt: HostRuntime) -> Result<(), Fail> {
 
 /// Whether the head of the second of two segments is damaged, where it has this body by hand.
 fn is_damaged(rt: &impl Abort, alloc: Global, mark: u8, body: &[u8]) -> Result<bool, AllocError> {
-    let mut disk = device_with(rt, alloc, mark, body)?;
+    let mut disk = device_with(rt, alloc, mark, body).expect(rt, "memory");
     match placed_head_of(rt, alloc, &mut disk) {
         Ok(_) => Ok(false),
         Err(HeadFault::Damaged) => Ok(true),
@@ -347,33 +343,39 @@ fn is_damaged(rt: &impl Abort, alloc: Global, mark: u8, body: &[u8]) -> Result<b
 
 /// Of two segments none is left where a payload lies in the other one. A payload may lie in no head's own segment.
 #[test]
-fn with_two_segments_no_payload_stands_by_place(rt: HostRuntime) -> Result<(), Fail> {
+fn with_two_segments_no_payload_stands_by_place(rt: HostRuntime) {
     let alloc = rt.alloc();
-    expect!(rt; is_damaged(&rt, alloc, MARK, &BODY)?);
+    expect!(rt; is_damaged(&rt, alloc, MARK, &BODY).expect(&rt, "memory"));
     let mut own = BODY;
     own[102..106].copy_from_slice(&[0, 2, 0x80, 0]);
-    expect!(rt; is_damaged(&rt, alloc, MARK, &own)?);
-    let mut inline = Vec::with_capacity(alloc, 146)?;
-    inline.extend_from_slice(&BODY[..100])?;
-    inline.extend_from_slice(&[0, 0x41, 0x42])?;
-    inline.extend_from_slice(&BODY[106..])?;
-    expect!(rt; !is_damaged(&rt, alloc, MARK, &inline)?);
-    Ok(())
+    expect!(rt; is_damaged(&rt, alloc, MARK, &own).expect(&rt, "memory"));
+    let mut inline = Vec::with_capacity(alloc, 146).expect(&rt, "memory");
+    inline.extend_from_slice(&BODY[..100]).expect(&rt, "memory");
+    inline
+        .extend_from_slice(&[0, 0x41, 0x42])
+        .expect(&rt, "memory");
+    inline.extend_from_slice(&BODY[106..]).expect(&rt, "memory");
+    expect!(rt; !is_damaged(&rt, alloc, MARK, &inline).expect(&rt, "memory"));
 }
 
 #[test]
-fn nor_does_one_in_a_head_of_the_first_form(rt: HostRuntime) -> Result<(), Fail> {
+fn nor_does_one_in_a_head_of_the_first_form(rt: HostRuntime) {
     let alloc = rt.alloc();
-    expect!(rt; is_damaged(&rt, alloc, 0, &OLD_BODY)?);
+    expect!(rt; is_damaged(&rt, alloc, 0, &OLD_BODY).expect(&rt, "memory"));
     let mut own = OLD_BODY;
     own[110..114].copy_from_slice(&[0, 2, 0x80, 0]);
-    expect!(rt; is_damaged(&rt, alloc, 0, &own)?);
-    let mut inline = Vec::with_capacity(alloc, 147)?;
-    inline.extend_from_slice(&OLD_BODY[..105])?;
-    inline.extend_from_slice(&[0, 0x41, 0x42])?;
-    inline.extend_from_slice(&OLD_BODY[114..])?;
-    expect!(rt; !is_damaged(&rt, alloc, 0, &inline)?);
-    Ok(())
+    expect!(rt; is_damaged(&rt, alloc, 0, &own).expect(&rt, "memory"));
+    let mut inline = Vec::with_capacity(alloc, 147).expect(&rt, "memory");
+    inline
+        .extend_from_slice(&OLD_BODY[..105])
+        .expect(&rt, "memory");
+    inline
+        .extend_from_slice(&[0, 0x41, 0x42])
+        .expect(&rt, "memory");
+    inline
+        .extend_from_slice(&OLD_BODY[114..])
+        .expect(&rt, "memory");
+    expect!(rt; !is_damaged(&rt, alloc, 0, &inline).expect(&rt, "memory"));
 }
 
 /// Three segments of 1,000 bytes, or two.
@@ -406,21 +408,32 @@ fn might_lie(alloc: Global, segments: u64, own: u64, start: u64) -> Result<bool,
 
 /// The segments begin at 64, 1,064 and 2,064, and the device's used bytes end at 3,064.
 #[test]
-fn a_payload_lies_wholly_in_another_segment(rt: HostRuntime) -> Result<(), Fail> {
+fn a_payload_lies_wholly_in_another_segment(rt: HostRuntime) {
     let alloc = rt.alloc();
     for start in [64, 500, 1_062, 2_064, 3_062] {
-        assert!(rt; may_lie(alloc, 3, 1, start)?, "{start}");
-        assert!(rt; might_lie(alloc, 3, 1, start)?, "{start}");
+        assert!(rt;
+            may_lie(alloc, 3, 1, start).expect(&rt, "no fault"),
+            "{start}"
+        );
+        assert!(rt;
+            might_lie(alloc, 3, 1, start).expect(&rt, "no fault"),
+            "{start}"
+        );
     }
     for start in [0, 63, 1_063, 1_064, 1_500, 2_062, 2_063, 3_063, 3_064] {
-        assert!(rt; !may_lie(alloc, 3, 1, start)?, "{start}");
-        assert!(rt; !might_lie(alloc, 3, 1, start)?, "{start}");
+        assert!(rt;
+            !may_lie(alloc, 3, 1, start).expect(&rt, "no fault"),
+            "{start}"
+        );
+        assert!(rt;
+            !might_lie(alloc, 3, 1, start).expect(&rt, "no fault"),
+            "{start}"
+        );
     }
-    expect!(rt; !may_lie(alloc, 3, 1, 0xff_ffff_ffff)?);
-    expect!(rt; !might_lie(alloc, 3, 1, u64::MAX)?);
-    expect!(rt; may_lie(alloc, 3, 0, 1_064)?);
-    expect!(rt; !may_lie(alloc, 2, 1, 64)?);
-    Ok(())
+    expect!(rt; !may_lie(alloc, 3, 1, 0xff_ffff_ffff).expect(&rt, "no fault"));
+    expect!(rt; !might_lie(alloc, 3, 1, u64::MAX).expect(&rt, "no fault"));
+    expect!(rt; may_lie(alloc, 3, 0, 1_064).expect(&rt, "no fault"));
+    expect!(rt; !may_lie(alloc, 2, 1, 64).expect(&rt, "no fault"));
 }
 
 /// The numbers of the hop in the worked cycles: 64 datagrams were taken, of which 32 are in flight and 32 wait.
@@ -518,20 +531,19 @@ fn expect_lengths(
 /// With all of its payloads by place such a head has 1,757 bytes, and with those in flight inline 39,997. In the first form it had
 /// 1,828 and 39,972.
 #[test]
-fn the_heads_of_the_worked_cycles(rt: HostRuntime) -> Result<(), Fail> {
-    expect_lengths(&rt, rt.alloc(), HeadForm::Second, 1_757, 39_997)?;
-    expect_lengths(&rt, rt.alloc(), HeadForm::First, 1_828, 39_972)?;
-    Ok(())
+fn the_heads_of_the_worked_cycles(rt: HostRuntime) {
+    expect_lengths(&rt, rt.alloc(), HeadForm::Second, 1_757, 39_997).expect(&rt, "no fault");
+    expect_lengths(&rt, rt.alloc(), HeadForm::First, 1_828, 39_972).expect(&rt, "no fault");
 }
 
 /// They are opened as long as that, whatever form their state was read in.
 #[test]
-fn the_heads_of_the_worked_cycles_are_opened(rt: HostRuntime) -> Result<(), Fail> {
+fn the_heads_of_the_worked_cycles_are_opened(rt: HostRuntime) {
     let alloc = rt.alloc();
-    let mut disk = MemDisk::new(alloc, vec![in alloc; 0u8; SIZE]?);
+    let mut disk = MemDisk::new(alloc, vec![in alloc; 0u8; SIZE].expect(&rt, "memory"));
     for form in [HeadForm::First, HeadForm::Second] {
-        let placed = cycle_body(alloc, form, false)?;
-        let drawn = cycle_body(alloc, form, true)?;
+        let placed = cycle_body(alloc, form, false).expect(&rt, "memory");
+        let drawn = cycle_body(alloc, form, true).expect(&rt, "memory");
         expect!(rt; open(&rt, alloc, &mut disk, form, 2, &placed) == Ok(158_729));
         expect!(rt; open(&rt, alloc, &mut disk, form, 3, &drawn) == Ok(196_969));
     }
@@ -541,8 +553,6 @@ fn the_heads_of_the_worked_cycles_are_opened(rt: HostRuntime) -> Result<(), Fail
             expect!(rt; is_placed(&THREE, 1, &head.machine));
             expect!(rt; !is_placed(&THREE, 0, &head.machine));
         }
-        Err(HeadFault::OutOfMemory) => return Err(AllocError.into()),
         Err(_) => panic!(rt; "no head"),
     }
-    Ok(())
 }

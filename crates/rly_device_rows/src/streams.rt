@@ -1,7 +1,7 @@
 //! Readers and writers that give and take little at a time, are interrupted, and fail.
 
 use rly_stream::{StreamFault, read_some, write_whole};
-use std::alloc::{AllocError, Global};
+use std::alloc::Global;
 use std::io;
 use std::io::{Error, ErrorKind, Read, Write};
 use std::process::Abort;
@@ -76,17 +76,16 @@ impl Write for Shut {
 }
 
 #[test]
-fn what_there_is_is_read(rt: HostRuntime) -> Result<(), Fail> {
+fn what_there_is_is_read(rt: HostRuntime) {
     let mut reader = b"take".as_slice();
     let mut buffer = [0u8; 8];
     expect!(rt; read_some(&mut reader, &mut buffer) == Ok(4));
     expect!(rt; &buffer[..4] == b"take".as_slice());
     expect!(rt; read_some(&mut reader, &mut buffer) == Ok(0));
-    Ok(())
 }
 
 #[test]
-fn an_interrupted_read_is_made_again(rt: HostRuntime) -> Result<(), Fail> {
+fn an_interrupted_read_is_made_again(rt: HostRuntime) {
     let mut reader = Failing {
         bytes: b"ok",
         interrupted: false,
@@ -97,7 +96,6 @@ fn an_interrupted_read_is_made_again(rt: HostRuntime) -> Result<(), Fail> {
     expect!(rt; read_some(&mut reader, &mut buffer) == Ok(1));
     expect!(rt; buffer[0] == b'k');
     expect!(rt; read_some(&mut reader, &mut buffer) == Err(StreamFault::Input));
-    Ok(())
 }
 
 #[test]
@@ -161,26 +159,24 @@ fn a_call_is_made_again_as_often_as_it_is_interrupted(rt: HostRuntime) -> Result
 }
 
 /// A buffer of so many bytes is filled by one read.
-fn expect_filled(rt: &impl Abort, alloc: Global, length: usize) -> Result<(), AllocError> {
-    let mut buffer = vec![in alloc; 0u8; length]?;
+fn expect_filled(rt: &impl Abort, alloc: Global, length: usize) {
+    let mut buffer = vec![in alloc; 0u8; length].expect(rt, "memory");
     let mut reader = Interrupted { left: 0 };
     expect!(rt; read_some(&mut reader, &mut buffer) == Ok(length));
-    Ok(())
 }
 
 #[test]
-fn a_buffer_of_any_length_is_filled(rt: HostRuntime) -> Result<(), Fail> {
+fn a_buffer_of_any_length_is_filled(rt: HostRuntime) {
     for length in [0, 1, 70_000, 1_100_000] {
-        expect_filled(&rt, rt.alloc(), length)?;
+        expect_filled(&rt, rt.alloc(), length);
     }
-    Ok(())
 }
 
 /// So long a text, three bytes at a time.
 #[test]
 fn a_long_text_is_written_whole(rt: HostRuntime) -> Result<(), Fail> {
     let alloc = rt.alloc();
-    let text = vec![in alloc; b'a'; 1_100_000]?;
+    let text = vec![in alloc; b'a'; 1_100_000].expect(&rt, "memory");
     let mut writer = Full {
         written: Vec::new(alloc),
         room: 1_100_000,
@@ -193,7 +189,7 @@ fn a_long_text_is_written_whole(rt: HostRuntime) -> Result<(), Fail> {
 }
 
 #[test]
-fn a_writer_that_fails_has_a_beginning(rt: HostRuntime) -> Result<(), Fail> {
+fn a_writer_that_fails_has_a_beginning(rt: HostRuntime) {
     let text = b"hop 1 taken 6".as_slice();
     for room in 0..text.len() {
         let mut writer = Full {
@@ -206,14 +202,12 @@ fn a_writer_that_fails_has_a_beginning(rt: HostRuntime) -> Result<(), Fail> {
         expect!(rt; writer.written.as_slice() == &text[..room]);
     }
     expect!(rt; write_whole(&mut Shut, text) == Err(StreamFault::Output));
-    Ok(())
 }
 
 #[test]
-fn faults_have_their_lines(rt: HostRuntime) -> Result<(), Fail> {
-    let input = format!(in rt.alloc(); "{}", StreamFault::Input)?;
+fn faults_have_their_lines(rt: HostRuntime) {
+    let input = format!(in rt.alloc(); "{}", StreamFault::Input).expect(&rt, "memory");
     expect!(rt; input.as_str() == "rly: input failed");
-    let output = format!(in rt.alloc(); "{}", StreamFault::Output)?;
+    let output = format!(in rt.alloc(); "{}", StreamFault::Output).expect(&rt, "memory");
     expect!(rt; output.as_str() == "rly: output failed");
-    Ok(())
 }

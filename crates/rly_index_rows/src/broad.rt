@@ -8,7 +8,6 @@ use rly_machine::{Command, Reply};
 use rly_segment::{HeadFault, read_placed_head};
 use std::alloc::{AllocError, Global};
 use std::process::Abort;
-use std::test::Fail;
 
 /// 64 hops and 64 peers, 256 items and 153,000 bytes, on four segments.
 const BROAD: Geometry = Geometry {
@@ -64,7 +63,7 @@ fn broad_disk(alloc: Global) -> Result<MemDisk, AllocError> {
 
 /// The index of that head.
 fn broad_index(rt: &impl Abort, alloc: Global) -> Result<Index, AllocError> {
-    let mut disk = broad_disk(alloc)?;
+    let mut disk = broad_disk(alloc).expect(rt, "memory");
     assert!(rt; may_have(&BROAD, disk.size()));
     match read_placed_head(alloc, &mut disk, &BROAD, 0) {
         Ok(head) => Ok(Index::begin(BROAD, 0, head)),
@@ -89,44 +88,41 @@ fn long_take(hop: u16, start: u64) -> Command<Stored> {
 }
 
 /// Each hop takes one more.
-fn take_all(rt: &impl Abort, alloc: Global, index: &mut Index) -> Result<(), AllocError> {
+fn take_all(rt: &impl Abort, alloc: Global, index: &mut Index) {
     for hop in 1..=64u16 {
         let take = long_take(hop, index.used().saturating_add(23));
-        let reply = step(rt, alloc, index, 1_223, take)?;
+        let reply = step(rt, alloc, index, 1_223, take).expect(rt, "memory");
         expect!(rt; matches!(&reply, Reply::Taken(id) if *id == COMMANDS + u64::from(hop)));
     }
-    Ok(())
 }
 
 /// Each hop picks what it took, its first.
-fn pick_all(rt: &impl Abort, alloc: Global, index: &mut Index) -> Result<(), AllocError> {
+fn pick_all(rt: &impl Abort, alloc: Global, index: &mut Index) {
     for hop in 1..=64u16 {
         let pick = Command::Pick {
             hop: HopId(hop),
             now: MOMENT,
         };
-        let reply = step(rt, alloc, index, 11, pick)?;
+        let reply = step(rt, alloc, index, 11, pick).expect(rt, "memory");
         expect!(rt; matches!(&reply, Reply::Picked { number: 1, id, .. } if *id == COMMANDS + u64::from(hop)));
     }
-    Ok(())
 }
 
 /// Each hop takes one more, picks it and releases it, and no memory is refused.
 #[test]
-fn each_of_64_hops_takes_one(rt: HostRuntime) -> Result<(), Fail> {
+fn each_of_64_hops_takes_one(rt: HostRuntime) {
     let alloc = rt.alloc();
-    let mut index = broad_index(&rt, alloc)?;
-    take_all(&rt, alloc, &mut index)?;
+    let mut index = broad_index(&rt, alloc).expect(&rt, "memory");
+    take_all(&rt, alloc, &mut index);
     expect!(rt; index.machine().item_count() == 64 && index.machine().byte_count() == 76_800);
-    pick_all(&rt, alloc, &mut index)?;
+    pick_all(&rt, alloc, &mut index);
     for hop in 1..=64u16 {
         let release = Command::Release {
             hop: HopId(hop),
             number: 1,
         };
-        let reply = step(&rt, alloc, &mut index, 11, release)?;
+        let reply = step(&rt, alloc, &mut index, 11, release).expect(&rt, "memory");
         expect!(rt; matches!(&reply, Reply::Released(1)));
     }
     expect!(rt; index.machine().item_count() == 0);
-    Ok(())
 }

@@ -15,7 +15,6 @@ use rly_reclaim::fits;
 use rly_segment::{HeadFault, OpeningFault, Target, open_segment, read_placed_head, segment_end};
 use std::alloc::{AllocError, Global};
 use std::process::Abort;
-use std::test::Fail;
 
 /// One hop, one peer, a window of 64, 64 items and 76,800 bytes, on four segments of the least length. They begin at 64, 105,772,
 /// 211,480 and 317,188, and the device ends at 422,896. CoDel may drop whenever a byte waits behind a datagram.
@@ -246,9 +245,11 @@ fn is_expired(reply: &Reply, late: &[u64]) -> bool {
 
 /// Five bytes that the head has inline lie in its own segment from now on.
 #[test]
-fn a_head_that_was_read_is_counted(rt: HostRuntime) -> Result<(), Fail> {
+fn a_head_that_was_read_is_counted(rt: HostRuntime) {
     let alloc = rt.alloc();
-    let index = index_of(&rt, alloc, &mut disk_of(alloc)?)?;
+    let index = index_of(&rt, alloc, &mut disk_of(alloc).expect(&rt, "memory")).expect(
+        &rt, "memory",
+    );
     expect!(rt; live(&index) == [5, 3, 2, 0]);
     expect!(rt; index.segment() == 0 && index.used() == 261);
     expect!(rt; index.choose() == Choice { target: 3, victim: 2 });
@@ -258,60 +259,65 @@ fn a_head_that_was_read_is_counted(rt: HostRuntime) -> Result<(), Fail> {
     assert!(rt; hop.queue.len() == 3);
     expect!(rt; matches!(&hop.queue.item(1).payload, Stored::Placed(Place { start: 237, length: 4 })));
     expect!(rt; matches!(&hop.queue.item(2).payload, Stored::Placed(Place { start: 260, length: 1 })));
-    Ok(())
 }
 
 /// A Pick that drops takes off the bytes of what it drops, a Release those of what it names, and a Take adds its own to the current
 /// segment. A refused command changes nothing.
 #[test]
-fn commands_change_the_counters(rt: HostRuntime) -> Result<(), Fail> {
+fn commands_change_the_counters(rt: HostRuntime) {
     let alloc = rt.alloc();
-    let mut index = index_of(&rt, alloc, &mut disk_of(alloc)?)?;
-    let reply = step(&rt, alloc, &mut index, 20, pick(10_000))?;
+    let mut index = index_of(&rt, alloc, &mut disk_of(alloc).expect(&rt, "memory")).expect(
+        &rt, "memory",
+    );
+    let reply = step(&rt, alloc, &mut index, 20, pick(10_000)).expect(&rt, "memory");
     expect!(rt; is_picked(&reply, 2, 2, &[]) && live(&index) == [5, 3, 2, 0]);
-    let reply = step(&rt, alloc, &mut index, 20, pick(200_000))?;
+    let reply = step(&rt, alloc, &mut index, 20, pick(200_000)).expect(&rt, "memory");
     expect!(rt; is_picked(&reply, 3, 4, &[3]) && live(&index) == [1, 3, 2, 0]);
-    let reply = step(&rt, alloc, &mut index, 20, release(2))?;
+    let reply = step(&rt, alloc, &mut index, 20, release(2)).expect(&rt, "memory");
     expect!(rt; matches!(&reply, Reply::Released(2)) && live(&index) == [1, 0, 0, 0]);
     expect!(rt; index.used() == 321);
-    let reply = step(&rt, alloc, &mut index, 20, release(9))?;
+    let reply = step(&rt, alloc, &mut index, 20, release(9)).expect(&rt, "memory");
     expect!(rt; matches!(&reply, Reply::Refused(Refusal::NeverSent)) && index.used() == 321);
-    let reply = step(&rt, alloc, &mut index, 100, take(5, 350))?;
+    let reply = step(&rt, alloc, &mut index, 100, take(5, 350)).expect(&rt, "memory");
     expect!(rt; matches!(&reply, Reply::Taken(9)) && live(&index) == [7, 0, 0, 0]);
-    let reply = step(&rt, alloc, &mut index, 100, take(9, 430))?;
+    let reply = step(&rt, alloc, &mut index, 100, take(9, 430)).expect(&rt, "memory");
     expect!(rt; matches!(&reply, Reply::Refused(Refusal::Gap(6))) && live(&index) == [7, 0, 0, 0]);
     expect!(rt; index.used() == 421);
     expect!(rt; index.choose() == Choice { target: 1, victim: 2 });
-    Ok(())
 }
 
 /// A Pick takes off the bytes of what is past its limit, once it came after the limit and not before.
 #[test]
-fn what_expired_is_taken_off(rt: HostRuntime) -> Result<(), Fail> {
+fn what_expired_is_taken_off(rt: HostRuntime) {
     let alloc = rt.alloc();
-    let mut index = index_of(&rt, alloc, &mut disk_of(alloc)?)?;
-    let _ = step(&rt, alloc, &mut index, 20, pick(10_000))?;
-    let reply = step(&rt, alloc, &mut index, 20, pick(200_000))?;
+    let mut index = index_of(&rt, alloc, &mut disk_of(alloc).expect(&rt, "memory")).expect(
+        &rt, "memory",
+    );
+    let _ = step(&rt, alloc, &mut index, 20, pick(10_000)).expect(&rt, "memory");
+    let reply = step(&rt, alloc, &mut index, 20, pick(200_000)).expect(&rt, "memory");
     expect!(rt; is_picked(&reply, 3, 4, &[3]) && live(&index) == [1, 3, 2, 0]);
-    let reply = step(&rt, alloc, &mut index, 100, limited_take(5, 350, 5_000))?;
+    let reply = step(&rt, alloc, &mut index, 100, limited_take(5, 350, 5_000)).expect(
+        &rt, "memory",
+    );
     expect!(rt; matches!(&reply, Reply::Taken(8)) && live(&index) == [7, 3, 2, 0]);
-    let reply = step(&rt, alloc, &mut index, 100, limited_take(6, 450, 5_000))?;
+    let reply = step(&rt, alloc, &mut index, 100, limited_take(6, 450, 5_000)).expect(
+        &rt, "memory",
+    );
     expect!(rt; matches!(&reply, Reply::Taken(9)) && live(&index) == [13, 3, 2, 0]);
-    let reply = step(&rt, alloc, &mut index, 20, pick(205_000))?;
+    let reply = step(&rt, alloc, &mut index, 20, pick(205_000)).expect(&rt, "memory");
     expect!(rt; is_picked(&reply, 4, 8, &[]) && live(&index) == [13, 3, 2, 0]);
-    let reply = step(&rt, alloc, &mut index, 20, pick(205_001))?;
+    let reply = step(&rt, alloc, &mut index, 20, pick(205_001)).expect(&rt, "memory");
     expect!(rt; is_expired(&reply, &[9]) && live(&index) == [7, 3, 2, 0]);
-    Ok(())
 }
 
 /// The second of the datagrams, whose two bytes lie in the victim, lies in the new head after it, which is of form 2: 317,188 with
 /// 13 bytes, 80 of the spool, 26 of the first entry and 21 of its own before it.
 #[test]
-fn the_victims_bytes_move(rt: HostRuntime) -> Result<(), Fail> {
+fn the_victims_bytes_move(rt: HostRuntime) {
     let alloc = rt.alloc();
-    let mut disk = disk_of(alloc)?;
-    let mut index = index_of(&rt, alloc, &mut disk)?;
-    open_next(&rt, alloc, &mut disk, &mut index)?;
+    let mut disk = disk_of(alloc).expect(&rt, "memory");
+    let mut index = index_of(&rt, alloc, &mut disk).expect(&rt, "memory");
+    open_next(&rt, alloc, &mut disk, &mut index).expect(&rt, "memory");
     expect!(rt; live(&index) == [5, 3, 0, 2]);
     expect!(rt; index.segment() == 3 && index.used() == 317_382);
     expect!(rt; index.choose() == Choice { target: 2, victim: 3 });
@@ -320,5 +326,4 @@ fn the_victims_bytes_move(rt: HostRuntime) -> Result<(), Fail> {
     };
     assert!(rt; hop.queue.len() == 3);
     expect!(rt; matches!(&hop.queue.item(0).payload, Stored::Placed(Place { start: 317_328, length: 2 })));
-    Ok(())
 }

@@ -3,7 +3,6 @@ use crate::plans::WHOLE;
 use rly_plan::Plan;
 use std::alloc::{AllocError, Global};
 use std::process::Abort;
-use std::test::Fail;
 
 /// The number of the refusal, or 0 for a plan.
 fn answer(alloc: Global, text: &str) -> u8 {
@@ -28,16 +27,15 @@ fn answer_to_change(alloc: Global, old: &str, new: &str) -> Result<u8, AllocErro
 }
 
 /// Each change of the whole plan gets its answer.
-fn check_changes(rt: &impl Abort, alloc: Global, changes: &[(&str, &str, u8)]) -> Result<(), Fail> {
+fn check_changes(rt: &impl Abort, alloc: Global, changes: &[(&str, &str, u8)]) {
     for (index, (old, new, number)) in changes.iter().enumerate() {
-        let answer = answer_to_change(alloc, old, new)?;
+        let answer = answer_to_change(alloc, old, new).expect(rt, "memory");
         expect!(rt; answer == *number, index as u64);
     }
-    Ok(())
 }
 
 #[test]
-fn changes_of_the_whole_plan(rt: HostRuntime) -> Result<(), Fail> {
+fn changes_of_the_whole_plan(rt: HostRuntime) {
     check_changes(
         &rt,
         rt.alloc(),
@@ -51,11 +49,11 @@ fn changes_of_the_whole_plan(rt: HostRuntime) -> Result<(), Fail> {
             ("hop = 1\n", "hop = 65\n", 53),
             ("remote = \"127.0.0.1:4002\"", "color = 1", 54),
         ],
-    )
+    );
 }
 
 #[test]
-fn what_is_no_plan_is_50(rt: HostRuntime) -> Result<(), Fail> {
+fn what_is_no_plan_is_50(rt: HostRuntime) {
     check_changes(
         &rt,
         rt.alloc(),
@@ -85,7 +83,7 @@ fn what_is_no_plan_is_50(rt: HostRuntime) -> Result<(), Fail> {
             ("hop = 1\n", "", 50),
             ("hop = 1\n", "hop = true\n", 50),
         ],
-    )?;
+    );
     for (index, (text, number)) in [
         ("", 50),
         ("station = 7\npeer = []\n", 50),
@@ -101,11 +99,10 @@ fn what_is_no_plan_is_50(rt: HostRuntime) -> Result<(), Fail> {
     {
         expect!(rt; answer(rt.alloc(), text) == *number, index as u64);
     }
-    Ok(())
 }
 
 #[test]
-fn a_key_that_is_not_known_is_54(rt: HostRuntime) -> Result<(), Fail> {
+fn a_key_that_is_not_known_is_54(rt: HostRuntime) {
     check_changes(
         &rt,
         rt.alloc(),
@@ -126,11 +123,11 @@ fn a_key_that_is_not_known_is_54(rt: HostRuntime) -> Result<(), Fail> {
             ("destination = 12", "destination = [[{ x = 1 }]]", 54),
             ("[[route]]", "[[peers]]", 54),
         ],
-    )
+    );
 }
 
 #[test]
-fn a_number_out_of_its_range_is_53(rt: HostRuntime) -> Result<(), Fail> {
+fn a_number_out_of_its_range_is_53(rt: HostRuntime) {
     check_changes(
         &rt,
         rt.alloc(),
@@ -156,11 +153,11 @@ fn a_number_out_of_its_range_is_53(rt: HostRuntime) -> Result<(), Fail> {
             ("[300, 350]", "[300, 4503599627370495]", 0),
             ("[[100, 200], [300, 350]]", "[]", 0),
         ],
-    )
+    );
 }
 
 #[test]
-fn rate_is_a_whole_number_in_its_range(rt: HostRuntime) -> Result<(), Fail> {
+fn rate_is_a_whole_number_in_its_range(rt: HostRuntime) {
     check_changes(
         &rt,
         rt.alloc(),
@@ -179,11 +176,11 @@ fn rate_is_a_whole_number_in_its_range(rt: HostRuntime) -> Result<(), Fail> {
             ("station = 3", "station = 3\nrate = 160", 54),
             ("station = 7", "station = 7\nrate = 160", 54),
         ],
-    )
+    );
 }
 
 #[test]
-fn resend_is_a_whole_number_in_its_range(rt: HostRuntime) -> Result<(), Fail> {
+fn resend_is_a_whole_number_in_its_range(rt: HostRuntime) {
     check_changes(
         &rt,
         rt.alloc(),
@@ -216,7 +213,7 @@ fn resend_is_a_whole_number_in_its_range(rt: HostRuntime) -> Result<(), Fail> {
                 53,
             ),
         ],
-    )
+    );
 }
 
 /// The answer for the whole plan with one more neighbour of this station after it.
@@ -236,16 +233,15 @@ const PEER: &str = "[[peer]]\nid = 2\nlisten = ''\nremote = ''\n";
 const HOP: &str = "[[hop]]\nid = 2\nlisten = ''\nremote = ''\ncontacts = []\n";
 
 #[test]
-fn what_is_there_twice_is_52(rt: HostRuntime) -> Result<(), Fail> {
+fn what_is_there_twice_is_52(rt: HostRuntime) {
     for (tail, station, number) in &[(PEER, 3, 52), (PEER, 9, 0), (HOP, 9, 52), (HOP, 3, 0)] {
-        let found = answer_to_neighbour(rt.alloc(), tail, *station)?;
+        let found = answer_to_neighbour(rt.alloc(), tail, *station).expect(&rt, "memory");
         expect!(rt; found == *number, *station);
     }
     for (destination, number) in &[(12, 52), (7, 0)] {
-        let found = answer_to_route(rt.alloc(), *destination)?;
+        let found = answer_to_route(rt.alloc(), *destination).expect(&rt, "memory");
         expect!(rt; found == *number, *destination);
     }
-    Ok(())
 }
 
 /// So many contacts, peers or hops, each as it comes in its array.
@@ -290,12 +286,11 @@ const COUNTS: [(u64, u64, u64, u8); 6] = [
 ];
 
 #[test]
-fn counts_are_met_and_not_passed(rt: HostRuntime) -> Result<(), Fail> {
+fn counts_are_met_and_not_passed(rt: HostRuntime) {
     for (peers, hops, contacts, number) in &COUNTS {
-        let found = answer_to_counts(rt.alloc(), *peers, *hops, *contacts)?;
+        let found = answer_to_counts(rt.alloc(), *peers, *hops, *contacts).expect(&rt, "memory");
         expect!(rt; found == *number, *peers);
     }
-    Ok(())
 }
 
 /// The answer for a plan with a route to each destination from 1 to this one.
@@ -318,21 +313,19 @@ fn answer_to_text(alloc: Global, key: &str, length: u64) -> Result<u8, AllocErro
 }
 
 #[test]
-fn many_destinations_may_have_a_route(rt: HostRuntime) -> Result<(), Fail> {
-    let found = answer_to_routes(rt.alloc(), 20_000)?;
+fn many_destinations_may_have_a_route(rt: HostRuntime) {
+    let found = answer_to_routes(rt.alloc(), 20_000).expect(&rt, "memory");
     expect!(rt; found == 0);
-    Ok(())
 }
 
 #[test]
-fn addresses_and_paths_of_keys_have_any_length(rt: HostRuntime) -> Result<(), Fail> {
+fn addresses_and_paths_of_keys_have_any_length(rt: HostRuntime) {
     for key in &["listen = \"", "listen = ''\nkey = \""] {
         for length in &[0, 1, 64, 255, 10_000] {
-            let found = answer_to_text(rt.alloc(), *key, *length)?;
+            let found = answer_to_text(rt.alloc(), *key, *length).expect(&rt, "memory");
             expect!(rt; found == 0, *length);
         }
     }
-    Ok(())
 }
 
 /// The answer for the whole plan with a comment of so many bytes after it.
@@ -346,16 +339,15 @@ fn answer_to_comment(alloc: Global, length: u64) -> Result<u8, AllocError> {
 }
 
 #[test]
-fn a_plan_has_any_length(rt: HostRuntime) -> Result<(), Fail> {
+fn a_plan_has_any_length(rt: HostRuntime) {
     for length in &[0, 70_000, 1_100_000] {
-        let found = answer_to_comment(rt.alloc(), *length)?;
+        let found = answer_to_comment(rt.alloc(), *length).expect(&rt, "memory");
         expect!(rt; found == 0, *length);
     }
-    Ok(())
 }
 
 #[test]
-fn the_earlier_pass_wins(rt: HostRuntime) -> Result<(), Fail> {
+fn the_earlier_pass_wins(rt: HostRuntime) {
     check_changes(
         &rt,
         rt.alloc(),
@@ -378,5 +370,5 @@ fn the_earlier_pass_wins(rt: HostRuntime) -> Result<(), Fail> {
                 52,
             ),
         ],
-    )
+    );
 }

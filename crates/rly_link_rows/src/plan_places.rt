@@ -4,7 +4,6 @@ use crate::plans::WHOLE;
 use rly_plan::Plan;
 use std::alloc::{AllocError, Global};
 use std::process::Abort;
-use std::test::Fail;
 
 /// The refusal's number and where the fault is, as they display; empty for a plan.
 fn answer(alloc: Global, text: &str) -> Result<String, AllocError> {
@@ -26,21 +25,16 @@ fn changed(alloc: Global, old: &str, new: &str) -> Result<String, AllocError> {
 }
 
 /// Each change of the whole plan gets its answer.
-fn check_changes(
-    rt: &impl Abort,
-    alloc: Global,
-    changes: &[(&str, &str, &str)],
-) -> Result<(), Fail> {
+fn check_changes(rt: &impl Abort, alloc: Global, changes: &[(&str, &str, &str)]) {
     for (index, (old, new, wanted)) in changes.iter().enumerate() {
-        let text = changed(alloc, old, new)?;
-        let found = answer(alloc, text.as_str())?;
+        let text = changed(alloc, old, new).expect(rt, "memory");
+        let found = answer(alloc, text.as_str()).expect(rt, "memory");
         expect!(rt; found.as_str() == *wanted, index as u64);
     }
-    Ok(())
 }
 
 #[test]
-fn a_text_that_toml_refuses_has_a_line_and_a_column(rt: HostRuntime) -> Result<(), Fail> {
+fn a_text_that_toml_refuses_has_a_line_and_a_column(rt: HostRuntime) {
     check_changes(
         &rt,
         rt.alloc(),
@@ -58,11 +52,11 @@ fn a_text_that_toml_refuses_has_a_line_and_a_column(rt: HostRuntime) -> Result<(
                 "50 line 5, column 15",
             ),
         ],
-    )
+    );
 }
 
 #[test]
-fn a_key_that_is_not_known_has_its_table(rt: HostRuntime) -> Result<(), Fail> {
+fn a_key_that_is_not_known_has_its_table(rt: HostRuntime) {
     check_changes(
         &rt,
         rt.alloc(),
@@ -89,11 +83,11 @@ fn a_key_that_is_not_known_has_its_table(rt: HostRuntime) -> Result<(), Fail> {
             ),
             ("hop = 1\n", "hop = 1\nid = 1\n", "54 route[1].id"),
         ],
-    )
+    );
 }
 
 #[test]
-fn what_is_missing_or_of_another_type_has_its_key(rt: HostRuntime) -> Result<(), Fail> {
+fn what_is_missing_or_of_another_type_has_its_key(rt: HostRuntime) {
     check_changes(
         &rt,
         rt.alloc(),
@@ -122,7 +116,7 @@ fn what_is_missing_or_of_another_type_has_its_key(rt: HostRuntime) -> Result<(),
             ("destination = 12\n", "", "50 route[1].destination"),
             ("hop = 1\n", "", "50 route[1].hop"),
         ],
-    )?;
+    );
     for (index, (text, wanted)) in [
         ("", "50 station"),
         ("station = 7\npeer = []\n", "50 hop"),
@@ -133,14 +127,13 @@ fn what_is_missing_or_of_another_type_has_its_key(rt: HostRuntime) -> Result<(),
     .iter()
     .enumerate()
     {
-        let found = answer(rt.alloc(), text)?;
+        let found = answer(rt.alloc(), text).expect(&rt, "memory");
         expect!(rt; found.as_str() == *wanted, index as u64);
     }
-    Ok(())
 }
 
 #[test]
-fn a_number_out_of_its_range_has_its_key(rt: HostRuntime) -> Result<(), Fail> {
+fn a_number_out_of_its_range_has_its_key(rt: HostRuntime) {
     check_changes(
         &rt,
         rt.alloc(),
@@ -160,18 +153,17 @@ fn a_number_out_of_its_range_has_its_key(rt: HostRuntime) -> Result<(), Fail> {
             ),
             ("hop = 1\n", "hop = 65\n", "53 route[1].hop"),
         ],
-    )?;
+    );
     let none = "station = 7\npeer = []\nhop = []\n";
-    let found = answer(rt.alloc(), none)?;
+    let found = answer(rt.alloc(), none).expect(&rt, "memory");
     expect!(rt; found.as_str() == "53 peer");
-    Ok(())
 }
 
 /// A second hop, whose contacts follow.
 const HOP: &str = "[[hop]]\nid = 2\nstation = 10\nlisten = ''\nremote = ''\ncontacts = ";
 
 #[test]
-fn contacts_out_of_order_have_the_later_one(rt: HostRuntime) -> Result<(), Fail> {
+fn contacts_out_of_order_have_the_later_one(rt: HostRuntime) {
     for (index, (contacts, wanted)) in [
         ("[[1, 2], [3, 4], [4, 9], [9, 12]]", ""),
         ("[[1, 2], [3, 4], [2, 3], [1, 2]]", "51 hop[2].contacts[3]"),
@@ -181,15 +173,14 @@ fn contacts_out_of_order_have_the_later_one(rt: HostRuntime) -> Result<(), Fail>
     .iter()
     .enumerate()
     {
-        let text = format!(in rt.alloc(); "{WHOLE}{HOP}{contacts}\n")?;
-        let found = answer(rt.alloc(), text.as_str())?;
+        let text = format!(in rt.alloc(); "{WHOLE}{HOP}{contacts}\n").expect(&rt, "memory");
+        let found = answer(rt.alloc(), text.as_str()).expect(&rt, "memory");
         expect!(rt; found.as_str() == *wanted, index as u64);
     }
-    Ok(())
 }
 
 #[test]
-fn what_is_there_twice_has_the_first_of_them(rt: HostRuntime) -> Result<(), Fail> {
+fn what_is_there_twice_has_the_first_of_them(rt: HostRuntime) {
     for (index, (tail, wanted)) in [
         (
             "[[peer]]\nid = 2\nstation = 5\nlisten = ''\nremote = ''\n[[peer]]\nid = 3\nstation = 5\nlisten = ''\nremote = ''\n",
@@ -208,24 +199,22 @@ fn what_is_there_twice_has_the_first_of_them(rt: HostRuntime) -> Result<(), Fail
     .iter()
     .enumerate()
     {
-        let text = format!(in rt.alloc(); "{WHOLE}{tail}")?;
-        let found = answer(rt.alloc(), text.as_str())?;
+        let text = format!(in rt.alloc(); "{WHOLE}{tail}").expect(&rt, "memory");
+        let found = answer(rt.alloc(), text.as_str()).expect(&rt, "memory");
         expect!(rt; found.as_str() == *wanted, index as u64);
     }
-    Ok(())
 }
 
 /// What is told of a text whose fault stands behind 70,000 empty lines.
 #[test]
-fn a_fault_may_be_far_down(rt: HostRuntime) -> Result<(), Fail> {
-    let mut text = String::from_str(rt.alloc(), WHOLE)?;
+fn a_fault_may_be_far_down(rt: HostRuntime) {
+    let mut text = String::from_str(rt.alloc(), WHOLE).expect(&rt, "memory");
     for _ in 0..70_000 {
-        text.push('\n')?;
+        text.push('\n').expect(&rt, "memory");
     }
-    text.push_str(" = 7\n")?;
-    let found = answer(rt.alloc(), text.as_str())?;
+    text.push_str(" = 7\n").expect(&rt, "memory");
+    let found = answer(rt.alloc(), text.as_str()).expect(&rt, "memory");
     expect!(rt; found.as_str() == "50 line 70017, column 2");
-    Ok(())
 }
 
 /// What follows the addresses of the last of 64 hops, and where the first fault of that plan is.
@@ -239,14 +228,13 @@ const LAST_HOPS: [(&str, &str); 6] = [
 ];
 
 #[test]
-fn the_last_hop_has_its_place(rt: HostRuntime) -> Result<(), Fail> {
-    let hops = neighbours(rt.alloc(), 63, ", contacts = []")?;
+fn the_last_hop_has_its_place(rt: HostRuntime) {
+    let hops = neighbours(rt.alloc(), 63, ", contacts = []").expect(&rt, "memory");
     for (index, (more, wanted)) in LAST_HOPS.iter().enumerate() {
         let text = format!(in rt.alloc();
             "station = 7\npeer = [{{ id = 1, station = 3, listen = '', remote = '' }}]\nhop = [{hops}{{ id = 64, station = 64, listen = '', remote = ''{more} }}]\n"
-        )?;
-        let found = answer(rt.alloc(), text.as_str())?;
+        ).expect(&rt, "memory");
+        let found = answer(rt.alloc(), text.as_str()).expect(&rt, "memory");
         expect!(rt; found.as_str() == *wanted, index as u64);
     }
-    Ok(())
 }

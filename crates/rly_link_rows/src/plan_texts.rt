@@ -6,7 +6,6 @@ use rly_plan::Plan;
 use rly_plan_text::{Utc, text_of};
 use std::alloc::{AllocError, Global};
 use std::process::Abort;
-use std::test::Fail;
 
 /// Moments, and their dates as `date -u` and Python's `datetime` have them.
 const DATES: [(u64, &str); 10] = [
@@ -23,13 +22,12 @@ const DATES: [(u64, &str); 10] = [
 ];
 
 #[test]
-fn moments_have_dates(rt: HostRuntime) -> Result<(), Fail> {
+fn moments_have_dates(rt: HostRuntime) {
     for (moment, date) in &DATES {
         let moment = (*moment).min(4_503_599_627_370_495);
-        let text = format!(in rt.alloc(); "{}", Utc::of(moment))?;
+        let text = format!(in rt.alloc(); "{}", Utc::of(moment)).expect(&rt, "memory");
         expect!(rt; text.as_str() == *date, moment);
     }
-    Ok(())
 }
 
 /// What the whole plan says before and after the state of its hop.
@@ -82,15 +80,14 @@ const STATES: [(u64, &str, &str); 8] = [
 ];
 
 #[test]
-fn a_plan_is_told_at_a_moment(rt: HostRuntime) -> Result<(), Fail> {
-    let plan = Plan::from_toml(rt.alloc(), WHOLE)?;
+fn a_plan_is_told_at_a_moment(rt: HostRuntime) {
+    let plan = Plan::from_toml(rt.alloc(), WHOLE).expect(&rt, "no fault");
     for (moment, line, state) in &STATES {
         let moment = (*moment).min(4_503_599_627_370_495);
-        let wanted = format!(in rt.alloc(); "{line}{FRONT}{state}{BACK}")?;
-        let text = text_of(rt.alloc(), &plan, moment)?;
+        let wanted = format!(in rt.alloc(); "{line}{FRONT}{state}{BACK}").expect(&rt, "memory");
+        let text = text_of(rt.alloc(), &plan, moment).expect(&rt, "memory");
         expect!(rt; text.as_str() == wanted.as_str(), moment);
     }
-    Ok(())
 }
 
 /// Two peers and three hops: keys, no contact, contacts that touch, and the longest.
@@ -125,11 +122,10 @@ route 5 hop 1
 ";
 
 #[test]
-fn each_table_has_its_lines(rt: HostRuntime) -> Result<(), Fail> {
-    let plan = Plan::from_toml(rt.alloc(), SEVERAL)?;
-    let text = text_of(rt.alloc(), &plan, 15)?;
+fn each_table_has_its_lines(rt: HostRuntime) {
+    let plan = Plan::from_toml(rt.alloc(), SEVERAL).expect(&rt, "no fault");
+    let text = text_of(rt.alloc(), &plan, 15).expect(&rt, "memory");
     expect!(rt; text.as_str() == TOLD);
-    Ok(())
 }
 
 /// A plan of 64 peers, 64 hops with a contact each, and a route to each destination from 1 to 20,000.
@@ -146,10 +142,10 @@ fn greatest(alloc: Global) -> Result<String, AllocError> {
 
 /// Two lines at its head, one for each peer, three for each hop, and one for each route.
 #[test]
-fn the_greatest_plan_is_told(rt: HostRuntime) -> Result<(), Fail> {
-    let text = greatest(rt.alloc())?;
-    let plan = Plan::from_toml(rt.alloc(), text.as_str())?;
-    let told = text_of(rt.alloc(), &plan, 5)?;
+fn the_greatest_plan_is_told(rt: HostRuntime) {
+    let text = greatest(rt.alloc()).expect(&rt, "memory");
+    let plan = Plan::from_toml(rt.alloc(), text.as_str()).expect(&rt, "no fault");
+    let told = text_of(rt.alloc(), &plan, 5).expect(&rt, "memory");
     let lines = told
         .as_bytes()
         .iter()
@@ -157,7 +153,6 @@ fn the_greatest_plan_is_told(rt: HostRuntime) -> Result<(), Fail> {
         .count();
     expect!(rt; lines == 2 + 64 + 3 * 64 + 20_000);
     expect!(rt; told.as_bytes().ends_with(b"\nroute 20000 hop 64\n"));
-    Ok(())
 }
 
 /// A plan whose peer has this word for its addresses and for the file of its key.
@@ -177,20 +172,19 @@ hop 1 contact closed
 
 /// Addresses and the path of a key of 5,000 bytes are told whole.
 #[test]
-fn long_words_are_told_whole(rt: HostRuntime) -> Result<(), Fail> {
+fn long_words_are_told_whole(rt: HostRuntime) {
     let alloc = rt.alloc();
     let mut word = String::new(alloc);
     for _part in 0..1_000 {
-        word.push_str("abcde")?;
+        word.push_str("abcde").expect(&rt, "memory");
     }
-    let text = worded(alloc, word.as_str())?;
-    let plan = Plan::from_toml(alloc, text.as_str())?;
-    let told = text_of(alloc, &plan, 0)?;
+    let text = worded(alloc, word.as_str()).expect(&rt, "memory");
+    let plan = Plan::from_toml(alloc, text.as_str()).expect(&rt, "no fault");
+    let told = text_of(alloc, &plan, 0).expect(&rt, "memory");
     let wanted = format!(in alloc;
         "at 1970-01-01T00:00:00Z 0\nstation 7\npeer 1 station 3 listen {word} remote {word} key {word}\n{CLOSED}"
-    )?;
+    ).expect(&rt, "memory");
     expect!(rt; told.as_str() == wanted.as_str());
-    Ok(())
 }
 
 /// A hop of the plan of several, a moment, and when its link changes next.
@@ -210,13 +204,12 @@ const CHANGES: [(u16, u64, Option<u64>); 12] = [
 ];
 
 #[test]
-fn links_change_where_they_open_or_close(rt: HostRuntime) -> Result<(), Fail> {
-    let plan = Plan::from_toml(rt.alloc(), SEVERAL)?;
+fn links_change_where_they_open_or_close(rt: HostRuntime) {
+    let plan = Plan::from_toml(rt.alloc(), SEVERAL).expect(&rt, "no fault");
     for (index, (hop, moment, change)) in CHANGES.iter().enumerate() {
         expect!(rt; plan.next_change(HopId(*hop), *moment) == *change, index as u64);
     }
     for (hop, open) in &[(0, 0), (1, 0), (2, 22), (3, 4_503_599_627_370_495), (4, 0)] {
         expect!(rt; plan.open_time(HopId(*hop)) == *open, *hop as u64);
     }
-    Ok(())
 }

@@ -50,9 +50,11 @@ fn resends(rt: &impl Abort, plan: &Plan) {
 }
 
 #[test]
-fn each_hop_has_its_resend(rt: HostRuntime) -> Result<(), Fail> {
-    resends(&rt, &Plan::from_toml(rt.alloc(), RESENDS)?);
-    Ok(())
+fn each_hop_has_its_resend(rt: HostRuntime) {
+    resends(
+        &rt,
+        &Plan::from_toml(rt.alloc(), RESENDS).expect(&rt, "no fault"),
+    );
 }
 
 /// Three hops, of which the second has no `rate`.
@@ -82,9 +84,11 @@ fn rates(rt: &impl Abort, plan: &Plan) {
 }
 
 #[test]
-fn each_hop_has_its_rate(rt: HostRuntime) -> Result<(), Fail> {
-    rates(&rt, &Plan::from_toml(rt.alloc(), RATES)?);
-    Ok(())
+fn each_hop_has_its_rate(rt: HostRuntime) {
+    rates(
+        &rt,
+        &Plan::from_toml(rt.alloc(), RATES).expect(&rt, "no fault"),
+    );
 }
 
 /// A peer and a hop with keys, and a peer and a hop without.
@@ -112,9 +116,11 @@ fn keys(rt: &impl Abort, plan: &Plan) {
 }
 
 #[test]
-fn a_neighbour_has_its_key_file(rt: HostRuntime) -> Result<(), Fail> {
-    keys(&rt, &Plan::from_toml(rt.alloc(), KEYS)?);
-    Ok(())
+fn a_neighbour_has_its_key_file(rt: HostRuntime) {
+    keys(
+        &rt,
+        &Plan::from_toml(rt.alloc(), KEYS).expect(&rt, "no fault"),
+    );
 }
 
 /// The ids of no neighbour of the whole plan.
@@ -122,12 +128,12 @@ const ABSENT: [u16; 3] = [0, 2, 65_535];
 
 /// What the whole plan says of its stations and their links.
 fn neighbours(rt: &impl Abort, plan: &Plan) -> Result<(), Fail> {
-    let peer = plan.peer(PeerId(1)).ok_or("peer 1")?;
+    let peer = plan.peer(PeerId(1)).ok_or("peer 1").expect(rt, "memory");
     expect!(rt; peer.station == 3);
     expect!(rt; peer.addresses.listen() == "127.0.0.1:4001");
     expect!(rt; peer.addresses.remote() == "127.0.0.1:4002");
     expect!(rt; peer.key.is_none());
-    let hop = plan.hop(HopId(1)).ok_or("hop 1")?;
+    let hop = plan.hop(HopId(1)).ok_or("hop 1").expect(rt, "memory");
     expect!(rt; hop.station == 9);
     expect!(rt; hop.addresses.listen() == "127.0.0.1:4003");
     expect!(rt; hop.addresses.remote() == "127.0.0.1:4004");
@@ -146,7 +152,7 @@ fn counts(rt: &impl Abort, plan: &Plan) {
 
 #[test]
 fn the_whole_plan_reads(rt: HostRuntime) -> Result<(), Fail> {
-    let plan = Plan::from_toml(rt.alloc(), WHOLE)?;
+    let plan = Plan::from_toml(rt.alloc(), WHOLE).expect(&rt, "no fault");
     counts(&rt, &plan);
     neighbours(&rt, &plan)
 }
@@ -159,9 +165,11 @@ fn routes(rt: &impl Abort, plan: &Plan) {
 }
 
 #[test]
-fn a_destination_has_the_hop_of_its_route(rt: HostRuntime) -> Result<(), Fail> {
-    routes(&rt, &Plan::from_toml(rt.alloc(), WHOLE)?);
-    Ok(())
+fn a_destination_has_the_hop_of_its_route(rt: HostRuntime) {
+    routes(
+        &rt,
+        &Plan::from_toml(rt.alloc(), WHOLE).expect(&rt, "no fault"),
+    );
 }
 
 /// A moment, and the link clock then.
@@ -196,11 +204,10 @@ fn opened(rt: &impl Abort, plan: &Plan) {
 }
 
 #[test]
-fn the_link_clock_counts_open_time(rt: HostRuntime) -> Result<(), Fail> {
-    let plan = Plan::from_toml(rt.alloc(), WHOLE)?;
+fn the_link_clock_counts_open_time(rt: HostRuntime) {
+    let plan = Plan::from_toml(rt.alloc(), WHOLE).expect(&rt, "no fault");
     clock(&rt, &plan);
     opened(&rt, &plan);
-    Ok(())
 }
 
 /// The definition of the link clock, counted moment by moment.
@@ -228,7 +235,9 @@ fn clock_is_the_count(rt: &impl Abort, plan: &Plan) {
 }
 
 #[test]
-fn the_link_clock_is_the_count(rt: HostRuntime) -> Result<(), Fail> {
-    clock_is_the_count(&rt, &Plan::from_toml(rt.alloc(), MANY_CONTACTS)?);
-    Ok(())
+fn the_link_clock_is_the_count(rt: HostRuntime) {
+    clock_is_the_count(
+        &rt,
+        &Plan::from_toml(rt.alloc(), MANY_CONTACTS).expect(&rt, "no fault"),
+    );
 }

@@ -8,7 +8,6 @@ use rly_core::{HopId, Params};
 use rly_machine::{Command, Machine, Payload};
 use std::alloc::{AllocError, Global};
 use std::process::Abort;
-use std::test::Fail;
 
 const PARAMS: Params = Params {
     hops: 1,
@@ -96,16 +95,10 @@ fn is_malformed(alloc: Global, form: HeadForm, bytes: &[u8]) -> bool {
 }
 
 /// Writes a spool's checkpoint.
-fn expect_written(
-    rt: &impl Abort,
-    alloc: Global,
-    machine: &Machine<Payload>,
-    want: &[u8],
-) -> Result<(), AllocError> {
+fn expect_written(rt: &impl Abort, alloc: Global, machine: &Machine<Payload>, want: &[u8]) {
     assert!(rt; checkpoint_len(machine) == want.len() as u64);
-    let out = written(alloc, machine)?;
+    let out = written(alloc, machine).expect(rt, "memory");
     expect!(rt; out.as_slice() == want);
-    Ok(())
 }
 
 /// Reads a checkpoint of a form, of so many commands, and writes what it stands for.
@@ -118,38 +111,35 @@ fn expect_read(
 ) -> Result<(), DecodeFault> {
     let machine = read_checkpoint(alloc, form, PARAMS, bytes)?;
     expect!(rt; machine.seq() == seq);
-    expect_written(rt, alloc, &machine, want)?;
+    expect_written(rt, alloc, &machine, want);
     Ok(())
 }
 
 #[test]
-fn an_empty_spool_has_zeros(rt: HostRuntime) -> Result<(), Fail> {
-    let machine: Machine<Payload> = Machine::new(rt.alloc(), PARAMS)?;
-    expect_written(&rt, rt.alloc(), &machine, &[0; 80])?;
-    expect_read(&rt, rt.alloc(), (HeadForm::First, &[0; 87]), 0, &[0; 80])?;
-    Ok(())
+fn an_empty_spool_has_zeros(rt: HostRuntime) {
+    let machine: Machine<Payload> = Machine::new(rt.alloc(), PARAMS).expect(&rt, "no fault");
+    expect_written(&rt, rt.alloc(), &machine, &[0; 80]);
+    expect_read(&rt, rt.alloc(), (HeadForm::First, &[0; 87]), 0, &[0; 80]).expect(&rt, "no fault");
 }
 
 #[test]
-fn the_worked_checkpoint_is_written_and_read(rt: HostRuntime) -> Result<(), Fail> {
+fn the_worked_checkpoint_is_written_and_read(rt: HostRuntime) {
     let alloc = rt.alloc();
-    let mut machine: Machine<Payload> = Machine::new(alloc, PARAMS)?;
-    take_into(alloc, &mut machine, 1, &[0x41])?;
-    expect_written(&rt, alloc, &machine, &TAKEN)?;
-    expect_read(&rt, alloc, (HeadForm::Second, &TAKEN), 1, &TAKEN)?;
-    expect_read(&rt, alloc, (HeadForm::First, &OLD_TAKEN), 1, &TAKEN)?;
+    let mut machine: Machine<Payload> = Machine::new(alloc, PARAMS).expect(&rt, "no fault");
+    take_into(alloc, &mut machine, 1, &[0x41]).expect(&rt, "memory");
+    expect_written(&rt, alloc, &machine, &TAKEN);
+    expect_read(&rt, alloc, (HeadForm::Second, &TAKEN), 1, &TAKEN).expect(&rt, "no fault");
+    expect_read(&rt, alloc, (HeadForm::First, &OLD_TAKEN), 1, &TAKEN).expect(&rt, "no fault");
     law_length();
     law_one_state();
-    Ok(())
 }
 
 #[test]
-fn what_was_written_is_read(rt: HostRuntime) -> Result<(), Fail> {
+fn what_was_written_is_read(rt: HostRuntime) {
     let alloc = rt.alloc();
-    let first = written(alloc, &spool(alloc)?)?;
+    let first = written(alloc, &spool(alloc).expect(&rt, "memory")).expect(&rt, "memory");
     assert!(rt; first.len() == 146);
-    expect_read(&rt, alloc, (HeadForm::Second, &first), 4, &first)?;
-    Ok(())
+    expect_read(&rt, alloc, (HeadForm::Second, &first), 4, &first).expect(&rt, "no fault");
 }
 
 /// The last command, which took a datagram at the last moment: the count of commands and the id are 2^48 - 1, the hop's moment and the
@@ -186,18 +176,17 @@ fn old_last_taken() -> [u8; 107] {
 }
 
 #[test]
-fn the_last_numbers_are_read(rt: HostRuntime) -> Result<(), Fail> {
+fn the_last_numbers_are_read(rt: HostRuntime) {
     let (alloc, last) = (rt.alloc(), 281_474_976_710_655);
     let mut bytes = last_taken();
-    expect_read(&rt, alloc, (HeadForm::Second, &bytes), last, &bytes)?;
+    expect_read(&rt, alloc, (HeadForm::Second, &bytes), last, &bytes).expect(&rt, "no fault");
     let old = old_last_taken();
-    expect_read(&rt, alloc, (HeadForm::First, &old), last, &bytes)?;
+    expect_read(&rt, alloc, (HeadForm::First, &old), last, &bytes).expect(&rt, "no fault");
     // the greatest limit, 2^40 - 1
     for index in 93..98 {
         bytes[index] = 0xff;
     }
-    expect_read(&rt, alloc, (HeadForm::Second, &bytes), last, &bytes)?;
-    Ok(())
+    expect_read(&rt, alloc, (HeadForm::Second, &bytes), last, &bytes).expect(&rt, "no fault");
 }
 
 /// Sets six bytes to a count near the greatest, 2^48 - 1, whose lowest byte is given.
@@ -212,7 +201,7 @@ fn set_count(rt: &impl Abort, bytes: &mut [u8; 102], place: usize, low: u8) {
 /// All datagrams but one have expired, or were dropped, or released: so many were taken as there may be commands. CoDel's counts are as
 /// great as they may be where they were dropped, and its moments are an interval after the last one.
 #[test]
-fn the_greatest_counts_are_read(rt: HostRuntime) -> Result<(), Fail> {
+fn the_greatest_counts_are_read(rt: HostRuntime) {
     let (alloc, last) = (rt.alloc(), 281_474_976_710_655);
     for place in [56, 62, 68] {
         let mut bytes = last_taken();
@@ -220,7 +209,7 @@ fn the_greatest_counts_are_read(rt: HostRuntime) -> Result<(), Fail> {
         set_count(&rt, &mut bytes, 10, 0xff);
         set_count(&rt, &mut bytes, 50, 0xff);
         set_count(&rt, &mut bytes, place, 0xfe);
-        expect_read(&rt, alloc, (HeadForm::Second, &bytes), last, &bytes)?;
+        expect_read(&rt, alloc, (HeadForm::Second, &bytes), last, &bytes).expect(&rt, "no fault");
         // count and lastcount are at most what was dropped
         set_count(&rt, &mut bytes, 37, 0xfe);
         set_count(&rt, &mut bytes, 43, 0xfe);
@@ -233,10 +222,9 @@ fn the_greatest_counts_are_read(rt: HostRuntime) -> Result<(), Fail> {
         bytes[index + 5] = 0x86;
         bytes[index + 6] = 0x9f;
     }
-    expect_read(&rt, alloc, (HeadForm::Second, &bytes), last, &bytes)?;
+    expect_read(&rt, alloc, (HeadForm::Second, &bytes), last, &bytes).expect(&rt, "no fault");
     bytes[36] = 0xa0;
     expect!(rt; is_malformed(alloc, HeadForm::Second, &bytes));
-    Ok(())
 }
 
 /// Changes of single bytes of the worked checkpoint.
@@ -307,63 +295,58 @@ fn expect_malformed_with(
     alloc: Global,
     (form, bytes): (HeadForm, &[u8]),
     change: (usize, u8),
-) -> Result<(), AllocError> {
+) {
     let (index, value) = change;
-    let mut changed = Vec::from_slice(alloc, bytes)?;
+    let mut changed = Vec::from_slice(alloc, bytes).expect(rt, "memory");
     assert!(rt; index < changed.len());
     changed[index] = value;
     assert!(rt; is_malformed(alloc, form, &changed), "byte {index}");
-    Ok(())
 }
 
 #[test]
-fn foreign_bytes_are_malformed(rt: HostRuntime) -> Result<(), Fail> {
+fn foreign_bytes_are_malformed(rt: HostRuntime) {
     for change in &FOREIGN {
-        expect_malformed_with(&rt, rt.alloc(), (HeadForm::Second, &TAKEN), *change)?;
+        expect_malformed_with(&rt, rt.alloc(), (HeadForm::Second, &TAKEN), *change);
     }
     for change in &OLD_FOREIGN {
-        expect_malformed_with(&rt, rt.alloc(), (HeadForm::First, &OLD_TAKEN), *change)?;
+        expect_malformed_with(&rt, rt.alloc(), (HeadForm::First, &OLD_TAKEN), *change);
     }
-    Ok(())
 }
 
 #[test]
-fn other_lengths_are_malformed(rt: HostRuntime) -> Result<(), Fail> {
+fn other_lengths_are_malformed(rt: HostRuntime) {
     let alloc = rt.alloc();
-    let mut long = Vec::from_slice(alloc, &TAKEN)?;
-    long.push(0)?;
+    let mut long = Vec::from_slice(alloc, &TAKEN).expect(&rt, "memory");
+    long.push(0).expect(&rt, "memory");
     expect!(rt; is_malformed(alloc, HeadForm::Second, &long));
     expect!(rt; is_malformed(alloc, HeadForm::Second, &TAKEN[..101]));
-    let mut long = Vec::from_slice(alloc, &OLD_TAKEN)?;
-    long.push(0)?;
+    let mut long = Vec::from_slice(alloc, &OLD_TAKEN).expect(&rt, "memory");
+    long.push(0).expect(&rt, "memory");
     expect!(rt; is_malformed(alloc, HeadForm::First, &long));
     expect!(rt; is_malformed(alloc, HeadForm::First, &OLD_TAKEN[..106]));
     for form in [HeadForm::First, HeadForm::Second] {
         expect!(rt; is_malformed(alloc, form, &[]));
     }
-    Ok(())
 }
 
 /// What one form has is nothing in the other.
 #[test]
-fn the_forms_are_apart(rt: HostRuntime) -> Result<(), Fail> {
+fn the_forms_are_apart(rt: HostRuntime) {
     expect!(rt; is_malformed(rt.alloc(), HeadForm::First, &TAKEN));
     expect!(rt; is_malformed(rt.alloc(), HeadForm::Second, &OLD_TAKEN));
     expect!(rt; is_malformed(rt.alloc(), HeadForm::First, &[0; 80]));
     expect!(rt; is_malformed(rt.alloc(), HeadForm::Second, &[0; 87]));
-    Ok(())
 }
 
 /// Ids that are equal, and ids that fall.
 #[test]
-fn other_orders_are_malformed(rt: HostRuntime) -> Result<(), Fail> {
+fn other_orders_are_malformed(rt: HostRuntime) {
     let alloc = rt.alloc();
-    let several = written(alloc, &spool(alloc)?)?;
+    let several = written(alloc, &spool(alloc).expect(&rt, "memory")).expect(&rt, "memory");
     expect!(rt; !is_malformed(alloc, HeadForm::Second, &several));
     for change in [(107, 1), (85, 3)] {
-        expect_malformed_with(&rt, alloc, (HeadForm::Second, &several), change)?;
+        expect_malformed_with(&rt, alloc, (HeadForm::Second, &several), change);
     }
-    Ok(())
 }
 
 /// A spool for so long payloads, of room for two of the longest that there are.
@@ -397,7 +380,7 @@ fn is_read(
     payload: u64,
     length: u16,
 ) -> Result<bool, AllocError> {
-    let bytes = taken_of(alloc, form, length)?;
+    let bytes = taken_of(alloc, form, length).expect(rt, "memory");
     let params = params_of(payload);
     assert!(rt; params.check().is_ok());
     match read_checkpoint(alloc, form, params, &bytes) {
@@ -409,7 +392,7 @@ fn is_read(
 
 /// A payload is at most as long as the spool's longest.
 #[test]
-fn a_longer_payload_is_malformed(rt: HostRuntime) -> Result<(), Fail> {
+fn a_longer_payload_is_malformed(rt: HostRuntime) {
     for (payload, length, want) in [
         (1, 1, true),
         (1, 2, false),
@@ -421,9 +404,8 @@ fn a_longer_payload_is_malformed(rt: HostRuntime) -> Result<(), Fail> {
         (8_192, 8_193, false),
     ] {
         for form in [HeadForm::First, HeadForm::Second] {
-            let read = is_read(&rt, rt.alloc(), form, payload, length)?;
+            let read = is_read(&rt, rt.alloc(), form, payload, length).expect(&rt, "memory");
             assert!(rt; read == want, "{length} of {payload}");
         }
     }
-    Ok(())
 }

@@ -4,7 +4,6 @@ use rly_core::{HopId, Params, Refusal};
 use rly_machine::{Command, HopStatus, Machine, Payload, Query, Reply};
 use std::alloc::{AllocError, Global};
 use std::process::Abort;
-use std::test::Fail;
 
 /// What is asked of hop 1 by peer 1.
 #[derive(Clone, Copy)]
@@ -78,19 +77,19 @@ fn after(
     alloc: Global,
     params: Params,
     rows: &[(Step, Want)],
-) -> Result<Machine<Payload>, AllocError> {
+) -> Machine<Payload> {
     assert!(rt; params.check().is_ok());
-    let mut machine = Machine::new(alloc, params)?;
+    let mut machine = Machine::new(alloc, params).expect(rt, "no fault");
     for (step, want) in rows {
-        let command = command_of(alloc, *step)?;
-        let reply = run(alloc, &mut machine, command)?;
+        let command = command_of(alloc, *step).expect(rt, "no fault");
+        let reply = run(alloc, &mut machine, command).expect(rt, "memory");
         assert!(rt;
             is_wanted(&reply, *want),
             "after {} commands",
             machine.seq()
         );
     }
-    Ok(machine)
+    machine
 }
 
 /// All numbers of hop 1.
@@ -123,26 +122,25 @@ fn take_long(number: u64, stamp: u64, limit: u64) -> Step {
 
 /// Not yet, at exactly the limit.
 #[test]
-fn at_its_limit_a_datagram_is_sent(rt: HostRuntime) -> Result<(), Fail> {
+fn at_its_limit_a_datagram_is_sent(rt: HostRuntime) {
     let rows = [
         (take(1, 0, 5_000), Want::Taken(1)),
         (take(2, 0, 0), Want::Taken(2)),
         (Step::Pick(5_000), Want::Picked(1, 1, &[], &[])),
     ];
-    let machine = after(&rt, rt.alloc(), Params::DEFAULT, &rows)?;
+    let machine = after(&rt, rt.alloc(), Params::DEFAULT, &rows);
     let status = status_of(&rt, &machine);
     expect!(rt; status.queued == 1 && status.flight == 1 && status.expired == 0);
-    Ok(())
 }
 
 #[test]
-fn past_its_limit_it_expires(rt: HostRuntime) -> Result<(), Fail> {
+fn past_its_limit_it_expires(rt: HostRuntime) {
     let rows = [
         (take(1, 0, 5_000), Want::Taken(1)),
         (take(2, 0, 0), Want::Taken(2)),
         (Step::Pick(5_001), Want::Picked(1, 2, &[1], &[])),
     ];
-    let machine = after(&rt, rt.alloc(), Params::DEFAULT, &rows)?;
+    let machine = after(&rt, rt.alloc(), Params::DEFAULT, &rows);
     let HopStatus {
         taken,
         queued,
@@ -157,25 +155,23 @@ fn past_its_limit_it_expires(rt: HostRuntime) -> Result<(), Fail> {
     expect!(rt; dropped == 0 && expired == 1 && released == 0);
     expect!(rt; moment == 5_001);
     expect!(rt; machine.item_count() == 1 && machine.byte_count() == 1);
-    Ok(())
 }
 
 /// A Pick that finds nothing else is accepted. The next one finds an empty queue.
 #[test]
-fn nothing_is_left(rt: HostRuntime) -> Result<(), Fail> {
+fn nothing_is_left(rt: HostRuntime) {
     let rows = [
         (take(1, 0, 10), Want::Taken(1)),
         (Step::Pick(11), Want::Nothing(&[1])),
         (Step::Pick(12), Want::Refused(Refusal::Empty)),
     ];
-    let machine = after(&rt, rt.alloc(), Params::DEFAULT, &rows)?;
+    let machine = after(&rt, rt.alloc(), Params::DEFAULT, &rows);
     expect!(rt; machine.seq() == 2 && machine.item_count() == 0);
-    Ok(())
 }
 
 /// A limit is below 2^40.
 #[test]
-fn the_greatest_limit(rt: HostRuntime) -> Result<(), Fail> {
+fn the_greatest_limit(rt: HostRuntime) {
     let rows = [
         (
             take(1, 0, 1_099_511_627_776),
@@ -187,14 +183,13 @@ fn the_greatest_limit(rt: HostRuntime) -> Result<(), Fail> {
         (Step::Pick(1_099_511_627_775), Want::Picked(1, 1, &[], &[])),
         (Step::Pick(1_099_511_627_776), Want::Nothing(&[2])),
     ];
-    let _ = after(&rt, rt.alloc(), Params::DEFAULT, &rows)?;
-    Ok(())
+    let _ = after(&rt, rt.alloc(), Params::DEFAULT, &rows);
 }
 
 /// The longest front whose datagrams are all past their limits goes. What is behind one without a limit, or one that isn't past its own,
 /// stays.
 #[test]
-fn only_the_front_expires(rt: HostRuntime) -> Result<(), Fail> {
+fn only_the_front_expires(rt: HostRuntime) {
     let rows = [
         (take(1, 0, 5), Want::Taken(1)),
         (take(2, 0, 6), Want::Taken(2)),
@@ -206,8 +201,7 @@ fn only_the_front_expires(rt: HostRuntime) -> Result<(), Fail> {
         (Step::Pick(100), Want::Picked(2, 5, &[4], &[])),
         (Step::Pick(100), Want::Nothing(&[6])),
     ];
-    let _ = after(&rt, rt.alloc(), Params::DEFAULT, &rows)?;
-    Ok(())
+    let _ = after(&rt, rt.alloc(), Params::DEFAULT, &rows);
 }
 
 /// An armed CoDel drops of what is left, and what it doesn't drop is sent, past its limit or not.
@@ -226,32 +220,30 @@ fn both() -> [(Step, Want<'static>); 7] {
 }
 
 #[test]
-fn some_expire_and_some_are_dropped(rt: HostRuntime) -> Result<(), Fail> {
-    let machine = after(&rt, rt.alloc(), Params::DEFAULT, &both())?;
+fn some_expire_and_some_are_dropped(rt: HostRuntime) {
+    let machine = after(&rt, rt.alloc(), Params::DEFAULT, &both());
     let status = status_of(&rt, &machine);
     expect!(rt; status.queued == 1 && status.flight == 2);
     expect!(rt; status.dropped == 1 && status.expired == 1);
     expect!(rt; status.codel.dropping && status.codel.count == 1);
-    Ok(())
 }
 
 /// Where all that is left expires, CoDel sees an empty queue.
 #[test]
-fn all_expire_while_codel_drops(rt: HostRuntime) -> Result<(), Fail> {
+fn all_expire_while_codel_drops(rt: HostRuntime) {
     let alloc = rt.alloc();
-    let mut machine = after(&rt, alloc, Params::DEFAULT, &both())?;
-    let command = command_of(alloc, Step::Pick(120_000))?;
-    let reply = run(alloc, &mut machine, command)?;
+    let mut machine = after(&rt, alloc, Params::DEFAULT, &both());
+    let command = command_of(alloc, Step::Pick(120_000)).expect(&rt, "no fault");
+    let reply = run(alloc, &mut machine, command).expect(&rt, "memory");
     expect!(rt; is_wanted(&reply, Want::Nothing(&[5])));
     let status = status_of(&rt, &machine);
     expect!(rt; !status.codel.dropping && status.codel.first_above_time == 0);
     expect!(rt; status.dropped == 1 && status.expired == 2 && status.queued == 0);
-    Ok(())
 }
 
 /// A Pick that is refused takes nothing away.
 #[test]
-fn a_full_window_keeps_what_is_late(rt: HostRuntime) -> Result<(), Fail> {
+fn a_full_window_keeps_what_is_late(rt: HostRuntime) {
     let params = Params {
         window: 1,
         ..Params::DEFAULT
@@ -263,7 +255,7 @@ fn a_full_window_keeps_what_is_late(rt: HostRuntime) -> Result<(), Fail> {
         (Step::Pick(100), Want::Refused(Refusal::WindowFull)),
         (Step::Pick(1 << 52), Want::Refused(Refusal::BadMoment)),
     ];
-    let machine = after(&rt, rt.alloc(), params, &rows)?;
+    let machine = after(&rt, rt.alloc(), params, &rows);
     let status = status_of(&rt, &machine);
     expect!(rt; status.queued == 1 && status.expired == 0 && status.moment == 0);
     let more = [
@@ -273,13 +265,12 @@ fn a_full_window_keeps_what_is_late(rt: HostRuntime) -> Result<(), Fail> {
         (Step::Release(1), Want::Released(1)),
         (Step::Pick(100), Want::Nothing(&[2])),
     ];
-    let _ = after(&rt, rt.alloc(), params, &more)?;
-    Ok(())
+    let _ = after(&rt, rt.alloc(), params, &more);
 }
 
 /// In flight a limit counts no more, and is told with the payload.
 #[test]
-fn in_flight_nothing_expires(rt: HostRuntime) -> Result<(), Fail> {
+fn in_flight_nothing_expires(rt: HostRuntime) {
     let alloc = rt.alloc();
     let rows = [
         (take(1, 0, 5), Want::Taken(1)),
@@ -287,13 +278,13 @@ fn in_flight_nothing_expires(rt: HostRuntime) -> Result<(), Fail> {
         (take(2, 1_000, 0), Want::Taken(3)),
         (Step::Pick(1_000), Want::Picked(2, 3, &[], &[])),
     ];
-    let machine = after(&rt, alloc, Params::DEFAULT, &rows)?;
+    let machine = after(&rt, alloc, Params::DEFAULT, &rows);
     for (number, limit) in [(1, 5), (2, 0)] {
         let fetch = Query::Fetch {
             hop: HopId(1),
             number,
         };
-        match &machine.answer(alloc, fetch)? {
+        match &machine.answer(alloc, fetch).expect(&rt, "memory") {
             Reply::Bytes {
                 payload,
                 limit: told,
@@ -301,12 +292,11 @@ fn in_flight_nothing_expires(rt: HostRuntime) -> Result<(), Fail> {
             _ => panic!(rt; "not fetched"),
         }
     }
-    Ok(())
 }
 
 /// Both ends are effective moments: a stamp before the hop's last moment counts from that, and so does a Pick's.
 #[test]
-fn a_limit_counts_effective_moments(rt: HostRuntime) -> Result<(), Fail> {
+fn a_limit_counts_effective_moments(rt: HostRuntime) {
     let rows = [
         (take(1, 1_000, 0), Want::Taken(1)),
         // stamped 1,000
@@ -320,6 +310,5 @@ fn a_limit_counts_effective_moments(rt: HostRuntime) -> Result<(), Fail> {
         // at 1,006
         (Step::Pick(10), Want::Picked(3, 6, &[3], &[])),
     ];
-    let _ = after(&rt, rt.alloc(), Params::DEFAULT, &rows)?;
-    Ok(())
+    let _ = after(&rt, rt.alloc(), Params::DEFAULT, &rows);
 }

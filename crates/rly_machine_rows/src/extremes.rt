@@ -5,7 +5,6 @@ use rly_core::{HopId, Params, PeerId, Refusal, limits};
 use rly_machine::{Command, Machine, Payload, Query, Reply};
 use std::alloc::{AllocError, Global};
 use std::process::Abort;
-use std::test::Fail;
 
 const LARGEST: Params = Params {
     hops: 64,
@@ -41,24 +40,23 @@ fn take_last(
 }
 
 /// The largest spool, once the last hop has all datagrams that it may.
-fn filled(rt: &impl Abort, alloc: Global) -> Result<Machine<Payload>, AllocError> {
-    let mut machine: Machine<Payload> = Machine::new(alloc, LARGEST)?;
+fn filled(rt: &impl Abort, alloc: Global) -> Machine<Payload> {
+    let mut machine: Machine<Payload> = Machine::new(alloc, LARGEST).expect(rt, "no fault");
     for before in 0..limits::MAX_ITEMS {
         let size = if before == 0 { 8_192 } else { SHORT };
-        let reply = take_last(alloc, &mut machine, before + 1, size)?;
+        let reply = take_last(alloc, &mut machine, before + 1, size).expect(rt, "memory");
         expect!(rt; matches!(&reply, Reply::Taken(id) if *id == before + 1));
     }
-    Ok(machine)
+    machine
 }
 
 #[test]
-fn a_queue_holds_16384_datagrams(rt: HostRuntime) -> Result<(), Fail> {
+fn a_queue_holds_16384_datagrams(rt: HostRuntime) {
     let alloc = rt.alloc();
-    let mut machine = filled(&rt, alloc)?;
+    let mut machine = filled(&rt, alloc);
     expect!(rt; machine.item_count() == 16_384);
-    let reply = take_last(alloc, &mut machine, 16_385, 0)?;
+    let reply = take_last(alloc, &mut machine, 16_385, 0).expect(&rt, "memory");
     expect!(rt; matches!(&reply, Reply::Refused(Refusal::Full)));
-    Ok(())
 }
 
 /// A spool's checkpoint. No more is reserved for it than twice its length.
@@ -68,7 +66,7 @@ fn written(
     machine: &Machine<Payload>,
 ) -> Result<Vec<u8>, AllocError> {
     let mut out = Vec::new(alloc);
-    write_checkpoint(machine, &mut out)?;
+    write_checkpoint(machine, &mut out).expect(rt, "memory");
     expect!(rt; out.len() as u64 == checkpoint_len(machine));
     expect!(rt; out.capacity() / 2 <= out.len());
     Ok(out)
@@ -76,15 +74,14 @@ fn written(
 
 /// Its 750,064 bytes: 8, 8 for each peer, 64 for each hop, 21 for each datagram, and the payloads.
 #[test]
-fn the_largest_checkpoint_is_written_and_read(rt: HostRuntime) -> Result<(), Fail> {
+fn the_largest_checkpoint_is_written_and_read(rt: HostRuntime) {
     let alloc = rt.alloc();
-    let first = written(&rt, alloc, &filled(&rt, alloc)?)?;
+    let first = written(&rt, alloc, &filled(&rt, alloc)).expect(&rt, "memory");
     expect!(rt; first.len() == 750_064);
-    let machine = read_checkpoint(alloc, HeadForm::Second, LARGEST, &first)?;
+    let machine = read_checkpoint(alloc, HeadForm::Second, LARGEST, &first).expect(&rt, "no fault");
     expect!(rt; machine.seq() == 16_384 && machine.item_count() == 16_384);
-    let second = written(&rt, alloc, &machine)?;
+    let second = written(&rt, alloc, &machine).expect(&rt, "memory");
     expect!(rt; second.as_slice() == first.as_slice());
-    Ok(())
 }
 
 /// A Pick at the last hop, at a moment at which nothing is dropped.
@@ -103,41 +100,40 @@ fn expect_fetched(
     machine: &Machine<Payload>,
     number: u64,
     size: usize,
-) -> Result<(), AllocError> {
+) {
     let fetch = Query::Fetch {
         hop: HopId(64),
         number,
     };
-    match &machine.answer(alloc, fetch)? {
+    match &machine.answer(alloc, fetch).expect(rt, "memory") {
         Reply::Bytes { payload, .. } => expect!(rt; payload.as_slice().len() == size),
         _ => panic!(rt; "not fetched"),
     }
-    Ok(())
 }
 
 #[test]
-fn a_window_holds_64_datagrams(rt: HostRuntime) -> Result<(), Fail> {
+fn a_window_holds_64_datagrams(rt: HostRuntime) {
     let alloc = rt.alloc();
-    let mut machine = filled(&rt, alloc)?;
+    let mut machine = filled(&rt, alloc);
     for before in 0..64 {
-        let reply = pick_last(alloc, &mut machine)?;
+        let reply = pick_last(alloc, &mut machine).expect(&rt, "memory");
         expect!(rt; matches!(&reply, Reply::Picked { number, .. } if *number == before + 1));
     }
-    let reply = pick_last(alloc, &mut machine)?;
+    let reply = pick_last(alloc, &mut machine).expect(&rt, "memory");
     expect!(rt; matches!(&reply, Reply::Refused(Refusal::WindowFull)));
-    expect_fetched(&rt, alloc, &machine, 1, 8_192)?;
-    expect_fetched(&rt, alloc, &machine, 64, SHORT)?;
-    Ok(())
+    expect_fetched(&rt, alloc, &machine, 1, 8_192);
+    expect_fetched(&rt, alloc, &machine, 64, SHORT);
 }
 
 /// No more is reserved for a payload than twice its length, and nothing for one without bytes.
 #[test]
-fn little_is_reserved_for_a_payload(rt: HostRuntime) -> Result<(), Fail> {
+fn little_is_reserved_for_a_payload(rt: HostRuntime) {
     let alloc = rt.alloc();
     for size in [0, 16, 1_200, 8_192] {
-        let bytes = vec![in alloc; 7u8; size]?;
-        let copy = Payload::copy_of(alloc, &bytes)?.into_bytes();
+        let bytes = vec![in alloc; 7u8; size].expect(&rt, "memory");
+        let copy = Payload::copy_of(alloc, &bytes)
+            .expect(&rt, "memory")
+            .into_bytes();
         expect!(rt; copy.len() == size && copy.capacity() / 2 <= size);
     }
-    Ok(())
 }

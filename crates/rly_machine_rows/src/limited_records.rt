@@ -9,7 +9,6 @@ use rly_machine::{Command, Payload};
 use rly_record::{DecodeFault, read_body, read_command, record_len, write_command};
 use std::alloc::{AllocError, Global};
 use std::process::Abort;
-use std::test::Fail;
 
 /// The record of `take 1 2 1 0 42 5000`.
 const LIMITED: [u8; 24] = [
@@ -61,17 +60,18 @@ fn expect_record(
 {
     assert!(rt; record_len(command) == want.len());
     let mut out = Vec::new(alloc);
-    write_command(command, &mut out)?;
+    write_command(command, &mut out).expect(rt, "memory");
     expect!(rt; out.as_slice() == want);
     Ok(())
 }
 
 #[test]
-fn limits_are_written(rt: HostRuntime) -> Result<(), Fail> {
+fn limits_are_written(rt: HostRuntime) {
     let alloc = rt.alloc();
-    expect_record(&rt, alloc, &limited(alloc)?, &LIMITED)?;
-    expect_record(&rt, alloc, &greatest(alloc), &GREATEST)?;
-    Ok(())
+    expect_record(&rt, alloc, &limited(alloc).expect(&rt, "memory"), &LIMITED).expect(
+        &rt, "memory",
+    );
+    expect_record(&rt, alloc, &greatest(alloc), &GREATEST).expect(&rt, "memory");
 }
 
 /// The numbers of a Take with a limit: peer, number, hop, stamp and limit.
@@ -113,7 +113,7 @@ fn expect_read(
 }
 
 #[test]
-fn limits_are_read(rt: HostRuntime) -> Result<(), Fail> {
+fn limits_are_read(rt: HostRuntime) {
     let alloc = rt.alloc();
     let want = Numbers {
         peer: 1,
@@ -122,7 +122,7 @@ fn limits_are_read(rt: HostRuntime) -> Result<(), Fail> {
         stamp: 0,
         limit: 5_000,
     };
-    expect_read(&rt, alloc, &LIMITED, want, 1)?;
+    expect_read(&rt, alloc, &LIMITED, want, 1).expect(&rt, "no fault");
     let want = Numbers {
         peer: 64,
         number: 281_474_976_710_655,
@@ -130,13 +130,12 @@ fn limits_are_read(rt: HostRuntime) -> Result<(), Fail> {
         stamp: 4_503_599_627_370_495,
         limit: 1_099_511_627_775,
     };
-    expect_read(&rt, alloc, &GREATEST, want, 0)?;
-    Ok(())
+    expect_read(&rt, alloc, &GREATEST, want, 0).expect(&rt, "no fault");
 }
 
 /// What no spool accepts is a record all the same where it fits its fields: peer 0 and hop 255, and a stamp of 2^56 - 1.
 #[test]
-fn numbers_that_fit_their_fields_are_read(rt: HostRuntime) -> Result<(), Fail> {
+fn numbers_that_fit_their_fields_are_read(rt: HostRuntime) {
     let mut bytes = GREATEST;
     bytes[1] = 0;
     bytes[8] = 0xff;
@@ -148,13 +147,12 @@ fn numbers_that_fit_their_fields_are_read(rt: HostRuntime) -> Result<(), Fail> {
         stamp: 72_057_594_037_927_935,
         limit: 1_099_511_627_775,
     };
-    expect_read(&rt, rt.alloc(), &bytes, want, 0)?;
-    Ok(())
+    expect_read(&rt, rt.alloc(), &bytes, want, 0).expect(&rt, "no fault");
 }
 
 /// A limit of 0 has no record of this kind. The least has.
 #[test]
-fn a_limit_of_0_is_no_record(rt: HostRuntime) -> Result<(), Fail> {
+fn a_limit_of_0_is_no_record(rt: HostRuntime) {
     let alloc = rt.alloc();
     let mut bytes = LIMITED;
     bytes[19] = 0;
@@ -168,8 +166,7 @@ fn a_limit_of_0_is_no_record(rt: HostRuntime) -> Result<(), Fail> {
         stamp: 0,
         limit: 1,
     };
-    expect_read(&rt, alloc, &bytes, want, 1)?;
-    Ok(())
+    expect_read(&rt, alloc, &bytes, want, 1).expect(&rt, "no fault");
 }
 
 #[test]
@@ -191,7 +188,7 @@ fn long_limited(alloc: Global, size: u16) -> Result<Vec<u8>, AllocError> {
 }
 
 #[test]
-fn a_payload_with_a_limit_has_at_most_8192_bytes(rt: HostRuntime) -> Result<(), Fail> {
+fn a_payload_with_a_limit_has_at_most_8192_bytes(rt: HostRuntime) {
     let alloc = rt.alloc();
     let want = Numbers {
         peer: 1,
@@ -204,26 +201,28 @@ fn a_payload_with_a_limit_has_at_most_8192_bytes(rt: HostRuntime) -> Result<(), 
         expect_read(
             &rt,
             alloc,
-            &long_limited(alloc, size)?,
+            &long_limited(alloc, size).expect(&rt, "memory"),
             want,
             usize::from(size),
-        )?;
+        )
+        .expect(&rt, "memory");
     }
     for size in [8_193, 65_535] {
-        assert!(rt; is_no_record(alloc, &long_limited(alloc, size)?), "{size}");
+        assert!(rt;
+            is_no_record(alloc, &long_limited(alloc, size).expect(&rt, "memory")),
+            "{size}"
+        );
     }
-    Ok(())
 }
 
 /// Cut before its length, within it, behind it, and before the last byte of its payload.
 #[test]
-fn each_cut_of_a_long_record_is_refused(rt: HostRuntime) -> Result<(), Fail> {
-    let bytes = long_limited(rt.alloc(), 8_192)?;
+fn each_cut_of_a_long_record_is_refused(rt: HostRuntime) {
+    let bytes = long_limited(rt.alloc(), 8_192).expect(&rt, "memory");
     assert!(rt; bytes.len() == 8_215);
     for length in [21, 22, 23, 24, 1_223, 8_214] {
         assert!(rt; is_no_record(rt.alloc(), &bytes[..length]), "{length}");
     }
-    Ok(())
 }
 
 /// The bytes of a body of so many of these records.
@@ -237,12 +236,11 @@ fn body_of(alloc: Global, count: u8) -> Result<Vec<u8>, AllocError> {
 
 /// The longest body with limits is as long as the longest without.
 #[test]
-fn the_longest_body_of_limits_is_read(rt: HostRuntime) -> Result<(), Fail> {
+fn the_longest_body_of_limits_is_read(rt: HostRuntime) {
     let alloc = rt.alloc();
-    let bytes = body_of(alloc, 64)?;
+    let bytes = body_of(alloc, 64).expect(&rt, "memory");
     expect!(rt; bytes.len() == 525_762);
-    let commands = read_body(alloc, &bytes)?;
+    let commands = read_body(alloc, &bytes).expect(&rt, "no fault");
     expect!(rt; commands.len() == 64 && commands.iter().all(has_longest_payload));
-    expect!(rt; is_malformed(alloc, &body_of(alloc, 65)?));
-    Ok(())
+    expect!(rt; is_malformed(alloc, &body_of(alloc, 65).expect(&rt, "memory")));
 }

@@ -9,7 +9,6 @@ use rly_machine::{CodelState, Command, Hop, HopStatus, Item, Machine, Payload, Q
 use std::alloc::{AllocError, Global};
 use std::collections::VecDeque;
 use std::process::Abort;
-use std::test::Fail;
 
 /// The reply to a take of peer 1.
 fn reply_to_take(
@@ -25,15 +24,10 @@ fn reply_to_take(
 }
 
 /// Two datagrams are taken, at two hops, and one of them once more.
-fn expect_takes(
-    rt: &impl Abort,
-    alloc: Global,
-    machine: &mut Machine<Payload>,
-) -> Result<(), AllocError> {
-    expect!(rt; matches!(&reply_to_take(alloc, machine, 1, 1, 900, b"A")?, Reply::Taken(1)));
-    expect!(rt; matches!(&reply_to_take(alloc, machine, 2, 2, 0, b"")?, Reply::Taken(2)));
-    expect!(rt; matches!(&reply_to_take(alloc, machine, 2, 2, 0, b"")?, Reply::Already(2)));
-    Ok(())
+fn expect_takes(rt: &impl Abort, alloc: Global, machine: &mut Machine<Payload>) {
+    expect!(rt; matches!(&reply_to_take(alloc, machine, 1, 1, 900, b"A").expect(rt, "memory"), Reply::Taken(1)));
+    expect!(rt; matches!(&reply_to_take(alloc, machine, 2, 2, 0, b"").expect(rt, "memory"), Reply::Taken(2)));
+    expect!(rt; matches!(&reply_to_take(alloc, machine, 2, 2, 0, b"").expect(rt, "memory"), Reply::Already(2)));
 }
 
 /// The first one is picked at hop 1.
@@ -46,7 +40,7 @@ fn expect_pick(
         hop: HopId(1),
         now: 50,
     };
-    match &run(alloc, machine, pick)? {
+    match &run(alloc, machine, pick).expect(rt, "memory") {
         Reply::Picked {
             number,
             id,
@@ -85,7 +79,7 @@ fn expect_release(
         hop: HopId(1),
         number: 1,
     };
-    expect!(rt; matches!(&run(alloc, machine, release)?, Reply::Released(1)));
+    expect!(rt; matches!(&run(alloc, machine, release).expect(rt, "memory"), Reply::Released(1)));
     Ok(())
 }
 
@@ -122,24 +116,24 @@ fn expect_status(rt: &impl Abort, status: &HopStatus) {
 
 /// Two datagrams are taken at two hops, picked, fetched and released, by each call of the machine.
 #[test]
-fn a_datagram_passes_through(rt: HostRuntime) -> Result<(), Fail> {
+fn a_datagram_passes_through(rt: HostRuntime) {
     let alloc = rt.alloc();
-    let mut machine: Machine<Payload> = Machine::new(alloc, Params::DEFAULT)?;
-    expect_takes(&rt, alloc, &mut machine)?;
-    expect_pick(&rt, alloc, &mut machine)?;
+    let mut machine: Machine<Payload> = Machine::new(alloc, Params::DEFAULT).expect(
+        &rt, "no fault",
+    );
+    expect_takes(&rt, alloc, &mut machine);
+    expect_pick(&rt, alloc, &mut machine).expect(&rt, "no fault");
     expect_flight(&rt, &machine);
-    expect_release(&rt, alloc, &mut machine)?;
+    expect_release(&rt, alloc, &mut machine).expect(&rt, "no fault");
     expect_no_flight(&rt, &machine);
-    Ok(())
 }
 
 #[test]
-fn a_payload_gives_its_bytes_back(rt: HostRuntime) -> Result<(), Fail> {
-    let payload = Payload::new(b"abc".to_vec(rt.alloc())?);
+fn a_payload_gives_its_bytes_back(rt: HostRuntime) {
+    let payload = Payload::new(b"abc".to_vec(rt.alloc()).expect(&rt, "memory"));
     expect!(rt; payload.as_slice() == b"abc".as_slice());
     let bytes = payload.into_bytes();
     expect!(rt; bytes.as_slice() == b"abc".as_slice());
-    Ok(())
 }
 
 /// A spool of one hop and one peer, for five bytes.
@@ -214,48 +208,37 @@ fn expect_restored(rt: &impl Abort, machine: &Machine<Payload>)
 }
 
 /// Its last datagram was taken, three bytes more don't fit, and two do.
-fn expect_room(
-    rt: &impl Abort,
-    alloc: Global,
-    machine: &mut Machine<Payload>,
-) -> Result<(), AllocError> {
-    expect!(rt; matches!(&reply_to_take(alloc, machine, 3, 1, 30, b"C")?, Reply::Already(3)));
-    let long = reply_to_take(alloc, machine, 4, 1, 30, b"DDD")?;
+fn expect_room(rt: &impl Abort, alloc: Global, machine: &mut Machine<Payload>) {
+    expect!(rt; matches!(&reply_to_take(alloc, machine, 3, 1, 30, b"C").expect(rt, "memory"), Reply::Already(3)));
+    let long = reply_to_take(alloc, machine, 4, 1, 30, b"DDD").expect(rt, "memory");
     expect!(rt; matches!(&long, Reply::Refused(Refusal::Full)));
-    expect!(rt; matches!(&reply_to_take(alloc, machine, 4, 1, 30, b"DD")?, Reply::Taken(7)));
-    Ok(())
+    expect!(rt; matches!(&reply_to_take(alloc, machine, 4, 1, 30, b"DD").expect(rt, "memory"), Reply::Taken(7)));
 }
 
 /// What waited is picked.
-fn expect_restored_pick(
-    rt: &impl Abort,
-    alloc: Global,
-    machine: &mut Machine<Payload>,
-) -> Result<(), AllocError> {
+fn expect_restored_pick(rt: &impl Abort, alloc: Global, machine: &mut Machine<Payload>) {
     let pick = Command::Pick {
         hop: HopId(1),
         now: 31,
     };
     expect!(rt; matches!(
-            &run(alloc, machine, pick)?,
+            &run(alloc, machine, pick).expect(rt, "memory"),
             Reply::Picked {
                 number: 3,
                 id: 5,
                 ..
             }
         ));
-    Ok(())
 }
 
 /// A restored spool goes on where it was, its bytes in flight counted: two more fit, three don't.
 #[test]
-fn a_restored_spool_goes_on(rt: HostRuntime) -> Result<(), Fail> {
+fn a_restored_spool_goes_on(rt: HostRuntime) {
     let alloc = rt.alloc();
-    let mut machine = restored(alloc)?;
+    let mut machine = restored(alloc).expect(&rt, "memory");
     expect_restored(&rt, &machine);
-    expect_room(&rt, alloc, &mut machine)?;
-    expect_restored_pick(&rt, alloc, &mut machine)?;
-    Ok(())
+    expect_room(&rt, alloc, &mut machine);
+    expect_restored_pick(&rt, alloc, &mut machine);
 }
 
 /// The spool of one item in flight and one that waits, in which one of them carries other bytes.
@@ -271,9 +254,9 @@ fn relocated(alloc: Global, index: usize, bytes: &[u8]) -> Result<Machine<Payloa
 
 /// The item in flight carries what was put in its place, and nothing else changed.
 #[test]
-fn an_item_in_flight_is_relocated(rt: HostRuntime) -> Result<(), Fail> {
+fn an_item_in_flight_is_relocated(rt: HostRuntime) {
     let alloc = rt.alloc();
-    let mut machine = relocated(alloc, 0, b"ZZ")?;
+    let mut machine = relocated(alloc, 0, b"ZZ").expect(&rt, "memory");
     match machine.item(HopId(1), 2) {
         Ok(item) => {
             expect!(rt; item.id == 4 && item.stamp == 10);
@@ -282,22 +265,20 @@ fn an_item_in_flight_is_relocated(rt: HostRuntime) -> Result<(), Fail> {
     }
     expect_bytes(&rt, &machine, 2, b"ZZ");
     expect!(rt; machine.item_count() == 2 && machine.byte_count() == 3);
-    expect_room(&rt, alloc, &mut machine)?;
-    expect_restored_pick(&rt, alloc, &mut machine)?;
+    expect_room(&rt, alloc, &mut machine);
+    expect_restored_pick(&rt, alloc, &mut machine);
     expect_bytes(&rt, &machine, 3, b"C");
-    Ok(())
 }
 
 /// So does one that waits, once it is picked.
 #[test]
-fn an_item_that_waits_is_relocated(rt: HostRuntime) -> Result<(), Fail> {
+fn an_item_that_waits_is_relocated(rt: HostRuntime) {
     let alloc = rt.alloc();
-    let mut machine = relocated(alloc, 1, b"Z")?;
+    let mut machine = relocated(alloc, 1, b"Z").expect(&rt, "memory");
     expect_bytes(&rt, &machine, 2, b"BB");
-    expect_room(&rt, alloc, &mut machine)?;
-    expect_restored_pick(&rt, alloc, &mut machine)?;
+    expect_room(&rt, alloc, &mut machine);
+    expect_restored_pick(&rt, alloc, &mut machine);
     expect_bytes(&rt, &machine, 3, b"Z");
-    Ok(())
 }
 
 /// What is in flight under a number has these bytes.
@@ -312,11 +293,10 @@ fn expect_bytes(rt: &impl Abort, machine: &Machine<Payload>, number: u64, bytes:
 
 /// An empty one takes its first datagram.
 #[test]
-fn an_empty_restored_spool_begins(rt: HostRuntime) -> Result<(), Fail> {
+fn an_empty_restored_spool_begins(rt: HostRuntime) {
     let alloc = rt.alloc();
-    let mut machine = restored_empty(alloc)?;
+    let mut machine = restored_empty(alloc).expect(&rt, "memory");
     expect!(rt; machine.seq() == 0 && machine.last(PeerId(1)) == 0);
-    let first = reply_to_take(alloc, &mut machine, 1, 1, 900, b"ABCDE")?;
+    let first = reply_to_take(alloc, &mut machine, 1, 1, 900, b"ABCDE").expect(&rt, "memory");
     expect!(rt; matches!(&first, Reply::Taken(1)));
-    Ok(())
 }

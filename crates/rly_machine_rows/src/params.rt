@@ -1,6 +1,5 @@
 //! The limits of a spool's parameters, and the texts of refusals.
 use rly_core::{Params, Refusal};
-use std::test::Fail;
 
 #[test]
 fn default_params_are_within_the_limits(rt: HostRuntime) {
@@ -93,7 +92,7 @@ fn each_limit_is_met_and_not_passed(rt: HostRuntime) {
 }
 
 #[test]
-fn refusals_print_their_number_text_and_value(rt: HostRuntime) -> Result<(), Fail> {
+fn refusals_print_their_number_text_and_value(rt: HostRuntime) {
     for (refusal, line) in [
         (Refusal::Gap(2), "refused 4 gap 2"),
         (Refusal::Line, "refused 16 line"),
@@ -101,8 +100,7 @@ fn refusals_print_their_number_text_and_value(rt: HostRuntime) -> Result<(), Fai
         (Refusal::OutOfMemory, "refused 14 memory"),
         (Refusal::Overlap, "refused 52 plan"),
     ] {
-        let printed = refusal.to_string(rt.alloc())?;
+        let printed = refusal.to_string(rt.alloc()).expect(&rt, "memory");
         expect!(rt; printed.as_str() == line);
     }
-    Ok(())
 }

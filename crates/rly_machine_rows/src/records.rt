@@ -8,7 +8,6 @@ use rly_machine::{Command, Payload};
 use rly_record::{DecodeFault, read_body, read_command, record_len, write_body, write_command};
 use std::alloc::{AllocError, Global};
 use std::process::Abort;
-use std::test::Fail;
 
 /// The record of `take 1 1 1 0 41`.
 const TAKE: [u8; 24] = [
@@ -103,58 +102,59 @@ fn expect_record(
 {
     assert!(rt; record_len(command) == want.len());
     let mut out = Vec::new(alloc);
-    write_command(command, &mut out)?;
+    write_command(command, &mut out).expect(rt, "memory");
     expect!(rt; out.as_slice() == want);
     expect!(rt; out.capacity() / 2 <= want.len());
     Ok(())
 }
 
 #[test]
-fn the_worked_records_are_written(rt: HostRuntime) -> Result<(), Fail> {
+fn the_worked_records_are_written(rt: HostRuntime) {
     let alloc = rt.alloc();
-    expect_record(&rt, alloc, &take(alloc, &[0x41])?, &TAKE)?;
-    expect_record(&rt, alloc, &pick(), &PICK)?;
-    expect_record(&rt, alloc, &release(), &RELEASE)?;
-    Ok(())
+    expect_record(
+        &rt,
+        alloc,
+        &take(alloc, &[0x41]).expect(&rt, "memory"),
+        &TAKE,
+    )
+    .expect(&rt, "memory");
+    expect_record(&rt, alloc, &pick(), &PICK).expect(&rt, "memory");
+    expect_record(&rt, alloc, &release(), &RELEASE).expect(&rt, "memory");
 }
 
 #[test]
-fn a_record_is_written_behind_another(rt: HostRuntime) -> Result<(), Fail> {
+fn a_record_is_written_behind_another(rt: HostRuntime) {
     let mut out = Vec::new(rt.alloc());
-    write_command(&pick(), &mut out)?;
-    write_command(&release(), &mut out)?;
+    write_command(&pick(), &mut out).expect(&rt, "memory");
+    write_command(&release(), &mut out).expect(&rt, "memory");
     expect!(rt; out.as_slice() == &TWO[2..]);
-    Ok(())
 }
 
 /// Writes two bodies, the second over the first.
-fn expect_bodies(rt: &impl Abort, alloc: Global, out: &mut Vec<u8>) -> Result<(), AllocError> {
-    write_one(take(alloc, &[0x41])?, out)?;
+fn expect_bodies(rt: &impl Abort, alloc: Global, out: &mut Vec<u8>) {
+    write_one(take(alloc, &[0x41]).expect(rt, "memory"), out).expect(rt, "memory");
     expect!(rt; out.as_slice() == TAKE_BODY.as_slice());
     out.clear();
-    write_two(pick(), release(), out)?;
+    write_two(pick(), release(), out).expect(rt, "memory");
     expect!(rt; out.as_slice() == TWO.as_slice());
     expect!(rt; out.capacity() == 50);
-    Ok(())
 }
 
 #[test]
-fn the_worked_bodies_are_written(rt: HostRuntime) -> Result<(), Fail> {
+fn the_worked_bodies_are_written(rt: HostRuntime) {
     let alloc = rt.alloc();
-    let mut out = Vec::with_capacity(alloc, 50)?;
-    expect_bodies(&rt, alloc, &mut out)?;
-    Ok(())
+    let mut out = Vec::with_capacity(alloc, 50).expect(&rt, "memory");
+    expect_bodies(&rt, alloc, &mut out);
 }
 
 #[test]
-fn a_body_is_written_behind_what_is_there(rt: HostRuntime) -> Result<(), Fail> {
+fn a_body_is_written_behind_what_is_there(rt: HostRuntime) {
     let alloc = rt.alloc();
-    let mut out = Vec::from_slice(alloc, &[0xa5, 0xee])?;
-    write_two(pick(), release(), &mut out)?;
+    let mut out = Vec::from_slice(alloc, &[0xa5, 0xee]).expect(&rt, "memory");
+    write_two(pick(), release(), &mut out).expect(&rt, "memory");
     assert!(rt; out.len() == 26);
     expect!(rt; &out.as_slice()[..2] == [0xa5, 0xee].as_slice());
     expect!(rt; &out.as_slice()[2..] == TWO.as_slice());
-    Ok(())
 }
 
 fn is_worked_take(command: &Command<Payload>) -> bool {
@@ -214,14 +214,13 @@ fn expect_release(rt: &impl Abort, alloc: Global, bytes: &[u8]) -> Result<(), De
 }
 
 #[test]
-fn the_worked_records_are_read(rt: HostRuntime) -> Result<(), Fail> {
+fn the_worked_records_are_read(rt: HostRuntime) {
     let alloc = rt.alloc();
-    expect_take(&rt, alloc, &TAKE)?;
-    expect_pick(&rt, alloc, &PICK)?;
-    expect_release(&rt, alloc, &RELEASE)?;
+    expect_take(&rt, alloc, &TAKE).expect(&rt, "no fault");
+    expect_pick(&rt, alloc, &PICK).expect(&rt, "no fault");
+    expect_release(&rt, alloc, &RELEASE).expect(&rt, "no fault");
     // other bytes may follow a record
-    expect_pick(&rt, alloc, &TWO[2..])?;
-    Ok(())
+    expect_pick(&rt, alloc, &TWO[2..]).expect(&rt, "no fault");
 }
 
 /// Whether a body has the worked Take alone.
@@ -237,10 +236,9 @@ fn has_two(alloc: Global, bytes: &[u8]) -> Result<bool, DecodeFault> {
 }
 
 #[test]
-fn the_worked_bodies_are_read(rt: HostRuntime) -> Result<(), Fail> {
-    expect!(rt; has_take(rt.alloc(), &TAKE_BODY)?);
-    expect!(rt; has_two(rt.alloc(), &TWO)?);
-    Ok(())
+fn the_worked_bodies_are_read(rt: HostRuntime) {
+    expect!(rt; has_take(rt.alloc(), &TAKE_BODY).expect(&rt, "no fault"));
+    expect!(rt; has_two(rt.alloc(), &TWO).expect(&rt, "no fault"));
 }
 
 #[test]
@@ -257,12 +255,11 @@ fn each_cut_of_a_good_body_is_refused(rt: HostRuntime) {
 }
 
 #[test]
-fn a_byte_behind_the_last_record_is_refused(rt: HostRuntime) -> Result<(), Fail> {
+fn a_byte_behind_the_last_record_is_refused(rt: HostRuntime) {
     let alloc = rt.alloc();
-    let mut bytes = Vec::from_slice(alloc, &TAKE_BODY)?;
-    bytes.push(0x00)?;
+    let mut bytes = Vec::from_slice(alloc, &TAKE_BODY).expect(&rt, "memory");
+    bytes.push(0x00).expect(&rt, "memory");
     expect!(rt; is_malformed(alloc, &bytes));
-    Ok(())
 }
 
 /// The bytes of a body of so many of the worked Picks.
@@ -285,11 +282,10 @@ fn picks_read(alloc: Global, count: u8) -> Result<Option<usize>, DecodeFault> {
 }
 
 #[test]
-fn a_body_has_1_to_64_records(rt: HostRuntime) -> Result<(), Fail> {
+fn a_body_has_1_to_64_records(rt: HostRuntime) {
     for (count, want) in [(0, None), (1, Some(1)), (64, Some(64)), (65, None)] {
-        expect!(rt; picks_read(rt.alloc(), count)? == want);
+        expect!(rt; picks_read(rt.alloc(), count).expect(&rt, "no fault") == want);
     }
-    Ok(())
 }
 
 /// Whether a command is a Take of 8,192 bytes.
@@ -299,34 +295,33 @@ pub(crate) fn has_longest_payload(command: &Command<Payload>) -> bool {
 
 /// The longest body: 64 Takes of the longest payload.
 #[test]
-fn the_longest_body_is_read(rt: HostRuntime) -> Result<(), Fail> {
+fn the_longest_body_is_read(rt: HostRuntime) {
     let alloc = rt.alloc();
-    let mut bytes = vec![in alloc; 0, 64]?;
+    let mut bytes = vec![in alloc; 0, 64].expect(&rt, "memory");
     for _ in 0..64 {
-        bytes.extend_from_slice(&long_take(alloc, 8_192)?)?;
+        bytes
+            .extend_from_slice(&long_take(alloc, 8_192).expect(&rt, "memory"))
+            .expect(&rt, "memory");
     }
     expect!(rt; bytes.len() == 525_762);
-    let commands = read_body(alloc, &bytes)?;
+    let commands = read_body(alloc, &bytes).expect(&rt, "no fault");
     expect!(rt; commands.len() == 64 && commands.capacity() == 64);
     expect!(rt; commands.iter().all(has_longest_payload));
-    Ok(())
 }
 
 /// Reads a Pick's bytes under another kind, as a record and as a body.
-fn expect_no_kind(rt: &impl Abort, alloc: Global, kind: u8) -> Result<(), AllocError> {
-    let mut body = vec![in alloc; 0, 1, kind]?;
-    body.extend_from_slice(&PICK[1..])?;
+fn expect_no_kind(rt: &impl Abort, alloc: Global, kind: u8) {
+    let mut body = vec![in alloc; 0, 1, kind].expect(rt, "memory");
+    body.extend_from_slice(&PICK[1..]).expect(rt, "memory");
     expect!(rt; is_no_record(alloc, &body.as_slice()[2..]));
     expect!(rt; is_malformed(alloc, &body));
-    Ok(())
 }
 
 #[test]
-fn no_other_kind_is_read(rt: HostRuntime) -> Result<(), Fail> {
+fn no_other_kind_is_read(rt: HostRuntime) {
     for kind in [0x00, 0x04, 0xff] {
-        expect_no_kind(&rt, rt.alloc(), kind)?;
+        expect_no_kind(&rt, rt.alloc(), kind);
     }
-    Ok(())
 }
 
 /// The bytes of a Take of peer 0xfffe, number 2^64 - 1, hop 0xfffd and stamp 2^64 - 2 with a payload of so many bytes 07.
@@ -371,26 +366,33 @@ fn expect_long_take(
 
 /// A record is read whatever the longest payload of a spool is.
 #[test]
-fn a_payload_has_at_most_8192_bytes(rt: HostRuntime) -> Result<(), Fail> {
+fn a_payload_has_at_most_8192_bytes(rt: HostRuntime) {
     let alloc = rt.alloc();
     for size in [1_200, 1_201, 8_192u16] {
-        expect_long_take(&rt, alloc, &long_take(alloc, size)?, usize::from(size))?;
+        expect_long_take(
+            &rt,
+            alloc,
+            &long_take(alloc, size).expect(&rt, "memory"),
+            usize::from(size),
+        )
+        .expect(&rt, "memory");
     }
     for size in [8_193, 65_535] {
-        assert!(rt; is_no_record(alloc, &long_take(alloc, size)?), "{size}");
+        assert!(rt;
+            is_no_record(alloc, &long_take(alloc, size).expect(&rt, "memory")),
+            "{size}"
+        );
     }
-    Ok(())
 }
 
 /// Cut before its length, within it, behind it, and before the last byte of its payload.
 #[test]
-fn each_cut_of_a_long_record_is_refused(rt: HostRuntime) -> Result<(), Fail> {
-    let bytes = long_take(rt.alloc(), 8_192)?;
+fn each_cut_of_a_long_record_is_refused(rt: HostRuntime) {
+    let bytes = long_take(rt.alloc(), 8_192).expect(&rt, "memory");
     assert!(rt; bytes.len() == 8_215);
     for length in [21, 22, 23, 24, 1_223, 8_214] {
         assert!(rt; is_no_record(rt.alloc(), &bytes[..length]), "{length}");
     }
-    Ok(())
 }
 
 /// What stands for a payload by its length alone.

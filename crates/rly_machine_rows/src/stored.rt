@@ -12,7 +12,6 @@ use rly_core::{HopId, Params};
 use rly_machine::{Machine, Reply};
 use std::alloc::{AllocError, Global};
 use std::process::Abort;
-use std::test::Fail;
 
 const PARAMS: Params = Params {
     hops: 1,
@@ -100,21 +99,26 @@ fn expect_places(rt: &impl Abort, machine: &Machine<Stored>) {
 }
 
 #[test]
-fn a_state_with_places_is_read_and_spelled(rt: HostRuntime) -> Result<(), Fail> {
+fn a_state_with_places_is_read_and_spelled(rt: HostRuntime) {
     let alloc = rt.alloc();
     law_inline();
     law_one_spelling::<Stored>();
-    let machine: Machine<Stored> = read_state(alloc, HeadForm::Second, PARAMS, &SPELLED)?;
+    let machine: Machine<Stored> = read_state(alloc, HeadForm::Second, PARAMS, &SPELLED).expect(
+        &rt, "no fault",
+    );
     expect_places(&rt, &machine);
-    expect!(rt; spelled(alloc, &machine)?.as_slice() == SPELLED.as_slice());
-    Ok(())
+    expect!(rt; spelled(alloc, &machine).expect(&rt, "memory").as_slice() == SPELLED.as_slice());
 }
 
 #[test]
-fn a_state_of_the_first_form_is_read(rt: HostRuntime) -> Result<(), Fail> {
-    let machine: Machine<Stored> = read_state(rt.alloc(), HeadForm::First, PARAMS, &OLD_SPELLED)?;
+fn a_state_of_the_first_form_is_read(rt: HostRuntime) {
+    let machine: Machine<Stored> = read_state(
+        rt.alloc(),
+        HeadForm::First,
+        PARAMS,
+        &OLD_SPELLED,
+    ).expect(&rt, "no fault");
     expect_places(&rt, &machine);
-    Ok(())
 }
 
 /// The state after one more was taken, which has expired. What is in flight has the greatest limit, and the greatest place.
@@ -145,12 +149,13 @@ fn expect_limited(rt: &impl Abort, machine: &Machine<Stored>) {
 }
 
 #[test]
-fn a_state_with_limits_is_read_and_spelled(rt: HostRuntime) -> Result<(), Fail> {
+fn a_state_with_limits_is_read_and_spelled(rt: HostRuntime) {
     let (alloc, bytes) = (rt.alloc(), limited());
-    let machine: Machine<Stored> = read_state(alloc, HeadForm::Second, PARAMS, &bytes)?;
+    let machine: Machine<Stored> = read_state(alloc, HeadForm::Second, PARAMS, &bytes).expect(
+        &rt, "no fault",
+    );
     expect_limited(&rt, &machine);
-    expect!(rt; spelled(alloc, &machine)?.as_slice() == bytes.as_slice());
-    Ok(())
+    expect!(rt; spelled(alloc, &machine).expect(&rt, "memory").as_slice() == bytes.as_slice());
 }
 
 /// Whether bytes are read as no state, of the second form.
@@ -166,7 +171,7 @@ fn is_malformed(alloc: Global, bytes: &[u8]) -> bool {
 
 /// A place of no bytes, another form, and the spelling without its last byte are no state.
 #[test]
-fn only_spellings_of_places_are_read(rt: HostRuntime) -> Result<(), Fail> {
+fn only_spellings_of_places_are_read(rt: HostRuntime) {
     let alloc = rt.alloc();
     let mut bytes = SPELLED;
     bytes[FIRST_LENGTH] = 0;
@@ -175,7 +180,6 @@ fn only_spellings_of_places_are_read(rt: HostRuntime) -> Result<(), Fail> {
     bytes[THIRD_FORM] = 2;
     expect!(rt; is_malformed(alloc, &bytes));
     expect!(rt; is_malformed(alloc, &SPELLED[..THIRD_FORM]));
-    Ok(())
 }
 
 /// Whether the worked state is read for a spool of so long payloads.
@@ -201,11 +205,10 @@ fn is_read(
 
 /// The payload that stands by place has two bytes: more than the spool's longest where that has one.
 #[test]
-fn a_longer_payload_by_place_is_malformed(rt: HostRuntime) -> Result<(), Fail> {
+fn a_longer_payload_by_place_is_malformed(rt: HostRuntime) {
     let alloc = rt.alloc();
     for form in [HeadForm::First, HeadForm::Second] {
-        expect!(rt; is_read(&rt, alloc, form, 2)?);
-        expect!(rt; !is_read(&rt, alloc, form, 1)?);
+        expect!(rt; is_read(&rt, alloc, form, 2).expect(&rt, "memory"));
+        expect!(rt; !is_read(&rt, alloc, form, 1).expect(&rt, "memory"));
     }
-    Ok(())
 }

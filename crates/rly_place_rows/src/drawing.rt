@@ -13,7 +13,6 @@ use rly_places::is_placed;
 use rly_reclaim::fits;
 use std::alloc::{AllocError, Global};
 use std::process::Abort;
-use std::test::Fail;
 
 /// One hop, one peer, a window of 64, 64 items and 76,800 bytes, on four segments of the least length. They begin at 64, 105,772,
 /// 211,480 and 317,188, and the device ends at 422,896.
@@ -124,11 +123,11 @@ fn is_inline(payload: &Stored, bytes: &[u8]) -> bool {
 }
 
 #[test]
-fn the_victims_payloads_are_read(rt: HostRuntime) -> Result<(), Fail> {
+fn the_victims_payloads_are_read(rt: HostRuntime) {
     let alloc = rt.alloc();
-    let mut disk = disk_of(alloc)?;
+    let mut disk = disk_of(alloc).expect(&rt, "memory");
     let Ok(copy) = drawn_of(&rt, alloc, &mut disk, &FOUR, &BODY, 1) else {
-        return Err(AllocError.into());
+        panic!(rt; "not drawn");
     };
     let reads = [read_of(105_900, 3), read_of(107_000, 4)];
     expect!(rt; disk.told() == reads.as_slice());
@@ -141,20 +140,18 @@ fn the_victims_payloads_are_read(rt: HostRuntime) -> Result<(), Fail> {
     expect!(rt; matches!(&hop.queue.item(0).payload, Stored::Placed(Place { start: 211_600, length: 2 })));
     expect!(rt; is_inline(&hop.queue.item(1).payload, &[0xf8, 0xf9, 0xfa, 0xfb]));
     expect!(rt; is_inline(&hop.queue.item(2).payload, &[]));
-    Ok(())
 }
 
 /// A segment in which no payload lies is drawn by no call.
 #[test]
-fn nothing_is_read_of_an_empty_segment(rt: HostRuntime) -> Result<(), Fail> {
+fn nothing_is_read_of_an_empty_segment(rt: HostRuntime) {
     let alloc = rt.alloc();
-    let mut disk = disk_of(alloc)?;
+    let mut disk = disk_of(alloc).expect(&rt, "memory");
     let Ok(copy) = drawn_of(&rt, alloc, &mut disk, &FOUR, &BODY, 3) else {
-        return Err(AllocError.into());
+        panic!(rt; "not drawn");
     };
     expect!(rt; disk.told().is_empty());
     expect!(rt; is_placed(&FOUR, 0, &copy));
-    Ok(())
 }
 
 /// As many hops and peers as may be, and a window as wide, on 128 segments of the least length: 21 bytes, 8 for each peer, 71 for
@@ -243,16 +240,15 @@ fn broad_body(alloc: Global) -> Result<Vec<u8>, AllocError> {
 
 /// At these limits a copy is drawn: 63 payloads of the last segment are read, and 88, and no memory is refused.
 #[test]
-fn the_broadest_spool_is_drawn(rt: HostRuntime) -> Result<(), Fail> {
+fn the_broadest_spool_is_drawn(rt: HostRuntime) {
     let alloc = rt.alloc();
-    let body = broad_body(alloc)?;
-    let bytes = vec![in alloc; 0u8; BROAD_SIZE]?;
-    let told = Vec::with_capacity(alloc, 256)?;
+    let body = broad_body(alloc).expect(&rt, "memory");
+    let bytes = vec![in alloc; 0u8; BROAD_SIZE].expect(&rt, "memory");
+    let told = Vec::with_capacity(alloc, 256).expect(&rt, "memory");
     let mut disk = Watched::new(MemDisk::new(alloc, bytes), told);
     let Ok(copy) = drawn_of(&rt, alloc, &mut disk, &BROAD, &body, 127) else {
-        return Err(AllocError.into());
+        panic!(rt; "not drawn");
     };
     expect!(rt; disk.told().len() == 63 + 88);
     expect!(rt; copy.item_count() == 153 && copy.byte_count() == 63 * 1_200 + 1_200 + 88 * 100);
-    Ok(())
 }

@@ -9,7 +9,6 @@ use rly_disk::{After, Disk, DiskCall, FaultDisk, MemDisk, ToldCall, Watched};
 use rly_fetching::{Outcome, answer_all, place_of, read_payload, refuse_all};
 use rly_machine::{Answer, Payload, Reply, SeatId};
 use std::alloc::{AllocError, Global};
-use std::test::Fail;
 
 /// A disk in memory of 256 bytes, each the number of its place, of which the second call fails.
 fn disk_of(alloc: Global) -> Result<Watched<FaultDisk<MemDisk>>, AllocError> {
@@ -88,18 +87,19 @@ pub(crate) fn gives(reply: &Reply, number: u64, bytes: &[u8]) -> bool {
 
 /// The second of three reads fails: its call alone is answered 13. A payload without bytes isn't read.
 #[test]
-fn a_failed_read_refuses_its_call_alone(rt: HostRuntime) -> Result<(), Fail> {
+fn a_failed_read_refuses_its_call_alone(rt: HostRuntime) {
     let alloc = rt.alloc();
-    let mut disk = disk_of(alloc)?;
+    let mut disk = disk_of(alloc).expect(&rt, "memory");
     let mut outcomes = vec![in alloc;
         wanted(1, 41, place(10, 3)),
         answered(2),
         wanted(3, 43, None),
         wanted(4, 44, place(20, 2)),
         wanted(5, 45, place(255, 1)),
-    ]?;
+    ]
+    .expect(&rt, "memory");
     assert!(rt; are_there(&outcomes, disk.size()));
-    let mut answers = Vec::with_capacity(alloc, 5)?;
+    let mut answers = Vec::with_capacity(alloc, 5).expect(&rt, "memory");
     answer_all(alloc, &mut disk, &mut outcomes, &mut answers);
     let reads = [
         read_of(10, 3, false),
@@ -117,15 +117,14 @@ fn a_failed_read_refuses_its_call_alone(rt: HostRuntime) -> Result<(), Fail> {
     expect!(rt; matches!(fourth.reply, Reply::Refused(Refusal::DeviceRead)) && fourth.number == 4 && fourth.position == 44);
     expect!(rt; gives(&fifth.reply, 5, &[255]));
     expect!(rt; outcomes.is_empty());
-    Ok(())
 }
 
 /// Where the round's commands may not be durable, each of its calls is refused and nothing is read.
 #[test]
-fn an_unsure_round_reads_nothing(rt: HostRuntime) -> Result<(), Fail> {
+fn an_unsure_round_reads_nothing(rt: HostRuntime) {
     let alloc = rt.alloc();
-    let mut outcomes = vec![in alloc; wanted(1, 20, None), answered(2)]?;
-    let mut answers = Vec::with_capacity(alloc, 2)?;
+    let mut outcomes = vec![in alloc; wanted(1, 20, None), answered(2)].expect(&rt, "memory");
+    let mut answers = Vec::with_capacity(alloc, 2).expect(&rt, "memory");
     refuse_all(&mut outcomes, &mut answers, Refusal::Unsure, 30);
     let [first, second] = answers.as_slice() else {
         panic!(rt; "not two answers");
@@ -133,14 +132,13 @@ fn an_unsure_round_reads_nothing(rt: HostRuntime) -> Result<(), Fail> {
     expect!(rt; matches!(first.reply, Reply::Refused(Refusal::Unsure)) && first.number == 1 && first.position == 30);
     expect!(rt; matches!(second.reply, Reply::Refused(Refusal::Unsure)) && second.number == 2 && second.position == 30);
     expect!(rt; outcomes.is_empty());
-    Ok(())
 }
 
 /// One payload alone.
 #[test]
-fn a_payload_is_read(rt: HostRuntime) -> Result<(), Fail> {
+fn a_payload_is_read(rt: HostRuntime) {
     let alloc = rt.alloc();
-    let mut disk = disk_of(alloc)?;
+    let mut disk = disk_of(alloc).expect(&rt, "memory");
     assert!(rt; disk.size() == 256);
     let place = Place {
         start: 1,
@@ -155,7 +153,6 @@ fn a_payload_is_read(rt: HostRuntime) -> Result<(), Fail> {
     expect!(rt; matches!(failed, Err(Refusal::DeviceRead)));
     let empty = Stored::Inline(Payload::new(Vec::new(alloc)));
     expect!(rt; place_of(&empty).is_none());
-    Ok(())
 }
 
 /// The bytes of the longest device: its header's 64, and 256 segments.
@@ -199,21 +196,23 @@ fn gives_low(reply: &Reply, place: Place) -> bool {
 
 /// 64 Fetches of a round, of payloads of up to 8,192 bytes all over the longest device, under great numbers and positions.
 #[test]
-fn payloads_of_a_round_are_read_far_away(rt: HostRuntime) -> Result<(), Fail> {
+fn payloads_of_a_round_are_read_far_away(rt: HostRuntime) {
     let alloc = rt.alloc();
     let mut disk = FarDisk::new(LONGEST);
-    let mut outcomes = Vec::with_capacity(alloc, 64)?;
+    let mut outcomes = Vec::with_capacity(alloc, 64).expect(&rt, "memory");
     for index in 0..64u16 {
-        outcomes.push(Outcome::Wanted {
-            seat: SeatId(255 - index),
-            number: far_number(index),
-            position: 1_099_511_627_776 + u64::from(index),
-            limit: 0,
-            place: Some(far_place(index)),
-        })?;
+        outcomes
+            .push(Outcome::Wanted {
+                seat: SeatId(255 - index),
+                number: far_number(index),
+                position: 1_099_511_627_776 + u64::from(index),
+                limit: 0,
+                place: Some(far_place(index)),
+            })
+            .expect(&rt, "memory");
     }
     assert!(rt; are_there(&outcomes, disk.size()));
-    let mut answers = Vec::with_capacity(alloc, outcomes.len())?;
+    let mut answers = Vec::with_capacity(alloc, outcomes.len()).expect(&rt, "memory");
     answer_all(alloc, &mut disk, &mut outcomes, &mut answers);
     assert!(rt; answers.len() == 64);
     for index in 0..64u16 {
@@ -222,5 +221,4 @@ fn payloads_of_a_round_are_read_far_away(rt: HostRuntime) -> Result<(), Fail> {
         expect!(rt; answer.number == far_number(index));
     }
     expect!(rt; disk.calls() == 64 && disk.failures() == 0);
-    Ok(())
 }

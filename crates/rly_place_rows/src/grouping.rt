@@ -9,7 +9,6 @@ use rly_grouping::{Group, is_recordable};
 use rly_machine::{Command, Payload};
 use std::alloc::{AllocError, Global};
 use std::process::Abort;
-use std::test::Fail;
 
 /// A Take of some bytes, with that limit.
 fn take_of(alloc: Global, limit: u64, bytes: &[u8]) -> Result<Command<Payload>, AllocError> {
@@ -70,17 +69,37 @@ fn staged(
 /// The gate is at 100. After it stand the length in 4 bytes, the count in 2, and from 107 on the records, in each of which 23 bytes come
 /// before the payload. A record that is given up leaves its place to the next one.
 #[test]
-fn a_group_tells_its_places(rt: HostRuntime) -> Result<(), Fail> {
+fn a_group_tells_its_places(rt: HostRuntime) {
     let alloc = rt.alloc();
-    let mut disk = MemDisk::new(alloc, vec![in alloc; 0u8; 200]?);
-    let mut group = Group::new(alloc, 1_200)?;
-    let three = staged(&rt, &mut group, take_of(alloc, 0, &[7, 8, 9])?, 1_200);
+    let mut disk = MemDisk::new(alloc, vec![in alloc; 0u8; 200].expect(&rt, "memory"));
+    let mut group = Group::new(alloc, 1_200).expect(&rt, "no fault");
+    let three = staged(
+        &rt,
+        &mut group,
+        take_of(alloc, 0, &[7, 8, 9]).expect(&rt, "no fault"),
+        1_200,
+    );
     group.keep();
-    let given_up = staged(&rt, &mut group, take_of(alloc, 0, &[1, 2])?, 1_200);
+    let given_up = staged(
+        &rt,
+        &mut group,
+        take_of(alloc, 0, &[1, 2]).expect(&rt, "no fault"),
+        1_200,
+    );
     group.discard();
-    let none = staged(&rt, &mut group, take_of(alloc, 0, &[])?, 1_200);
+    let none = staged(
+        &rt,
+        &mut group,
+        take_of(alloc, 0, &[]).expect(&rt, "no fault"),
+        1_200,
+    );
     group.keep();
-    let one = staged(&rt, &mut group, take_of(alloc, 0, &[5])?, 1_200);
+    let one = staged(
+        &rt,
+        &mut group,
+        take_of(alloc, 0, &[5]).expect(&rt, "no fault"),
+        1_200,
+    );
     group.keep();
     expect!(rt; lies_at(&three, 130, 3));
     expect!(rt; lies_at(&given_up, 156, 2));
@@ -98,17 +117,21 @@ fn a_group_tells_its_places(rt: HostRuntime) -> Result<(), Fail> {
     assert!(rt; disk.read_at(179, &mut last).is_ok());
     expect!(rt; last == [5, 0]);
     expect!(rt; group.is_empty());
-    Ok(())
 }
 
 /// A record with a limit is of another kind, in which 23 bytes come before the payload too: peer 1, number 1, hop 1, stamp 10, a
 /// limit of 5,000 and two bytes.
 #[test]
-fn a_take_with_a_limit_is_staged(rt: HostRuntime) -> Result<(), Fail> {
+fn a_take_with_a_limit_is_staged(rt: HostRuntime) {
     let alloc = rt.alloc();
-    let mut disk = MemDisk::new(alloc, vec![in alloc; 0u8; 200]?);
-    let mut group = Group::new(alloc, 1_200)?;
-    let limited = staged(&rt, &mut group, take_of(alloc, 5_000, &[7, 8])?, 1_200);
+    let mut disk = MemDisk::new(alloc, vec![in alloc; 0u8; 200].expect(&rt, "memory"));
+    let mut group = Group::new(alloc, 1_200).expect(&rt, "no fault");
+    let limited = staged(
+        &rt,
+        &mut group,
+        take_of(alloc, 5_000, &[7, 8]).expect(&rt, "no fault"),
+        1_200,
+    );
     group.keep();
     expect!(rt; lies_at(&limited, 130, 2));
     expect!(rt; matches!(&limited, Command::Take { limit: 5_000, .. }));
@@ -119,7 +142,6 @@ fn a_take_with_a_limit_is_staged(rt: HostRuntime) -> Result<(), Fail> {
     expect!(rt; whole == [
         0xa5, 0, 0, 0, 27, 0, 1, 5, 1, 0, 0, 0, 0, 0, 1, 1, 0, 0, 0, 0, 0, 0, 10, 0, 0, 0, 0x13, 0x88, 0, 2, 7, 8, 0,
     ]);
-    Ok(())
 }
 
 /// Adds a command that can be recorded to a group for payloads of so many bytes.
@@ -143,10 +165,15 @@ fn full_group(rt: &impl Abort, alloc: Global, payload: u64) -> Result<Group, All
     ensures nothing { IfOk result (λ group. group.staged ≡ []) }
 {
     assert!(rt; payload <= MAX_PAYLOAD);
-    let bytes = vec![in alloc; 7u8; payload as usize]?;
-    let mut group = Group::new(alloc, payload)?;
+    let bytes = vec![in alloc; 7u8; payload as usize].expect(rt, "memory");
+    let mut group = Group::new(alloc, payload).expect(rt, "no fault");
     for _take in 0..64u64 {
-        add(rt, &mut group, take_of(alloc, 0, &bytes)?, payload);
+        add(
+            rt,
+            &mut group,
+            take_of(alloc, 0, &bytes).expect(rt, "no fault"),
+            payload,
+        );
     }
     Ok(group)
 }
@@ -158,15 +185,9 @@ fn filled_disk(alloc: Global) -> Result<MemDisk, AllocError> {
 
 /// The group of 64 of the longest has so many bytes with a gate: it fills its frame. It is written with this length, and the closed gate
 /// stands behind its last payload.
-fn expect_full(
-    rt: &impl Abort,
-    alloc: Global,
-    payload: u64,
-    size: u64,
-    front: [u8; 7],
-) -> Result<(), AllocError> {
-    let mut disk = filled_disk(alloc)?;
-    let mut group = full_group(rt, alloc, payload)?;
+fn expect_full(rt: &impl Abort, alloc: Global, payload: u64, size: u64, front: [u8; 7]) {
+    let mut disk = filled_disk(alloc).expect(rt, "memory");
+    let mut group = full_group(rt, alloc, payload).expect(rt, "memory");
     assert!(rt; group.len() == size, "{payload}");
     assert!(rt; disk.size() == 526_000 && size <= 525_767);
     assert!(rt; group.write(&mut disk, GATE).is_ok());
@@ -177,26 +198,24 @@ fn expect_full(
     assert!(rt; disk.read_at(GATE + size - 1, &mut ended).is_ok());
     expect!(rt; ended == [7, 0, 0xee]);
     expect!(rt; group.is_empty());
-    Ok(())
 }
 
 /// Bodies of 1,538, 78,274 and 525,762 bytes: 2, and 64 times 23 and the payload's.
 #[test]
-fn sixty_four_of_the_longest(rt: HostRuntime) -> Result<(), Fail> {
+fn sixty_four_of_the_longest(rt: HostRuntime) {
     let alloc = rt.alloc();
     for (payload, size, front) in [
         (1, 1_543, [0xa5, 0, 0, 0x06, 0x02, 0, 64]),
         (1_200, 78_279, [0xa5, 0, 0x01, 0x31, 0xc2, 0, 64]),
         (8_192, 525_767, [0xa5, 0, 0x08, 0x05, 0xc2, 0, 64]),
     ] {
-        expect_full(&rt, alloc, payload, size, front)?;
+        expect_full(&rt, alloc, payload, size, front);
     }
-    Ok(())
 }
 
 /// What is longer than payloads of a group may be can't be recorded.
 #[test]
-fn what_is_too_long_has_no_record(rt: HostRuntime) -> Result<(), Fail> {
+fn what_is_too_long_has_no_record(rt: HostRuntime) {
     let alloc = rt.alloc();
     for (payload, length, want) in [
         (1, 1, true),
@@ -206,25 +225,23 @@ fn what_is_too_long_has_no_record(rt: HostRuntime) -> Result<(), Fail> {
         (8_192, 8_192, true),
         (8_192, 8_193, false),
     ] {
-        let bytes = vec![in alloc; 7u8; length]?;
+        let bytes = vec![in alloc; 7u8; length].expect(&rt, "memory");
         for limit in [0, 5_000] {
-            let take = take_of(alloc, limit, &bytes)?;
+            let take = take_of(alloc, limit, &bytes).expect(&rt, "no fault");
             assert!(rt;
                 is_recordable(&take, payload) == want,
                 "{length} of {payload}"
             );
         }
     }
-    Ok(())
 }
 
 /// What has a limit and numbers that no spool has can't be recorded; without a limit it can.
 #[test]
-fn what_has_no_record_is_told(rt: HostRuntime) -> Result<(), Fail> {
+fn what_has_no_record_is_told(rt: HostRuntime) {
     let alloc = rt.alloc();
-    expect!(rt; !is_recordable(&far_take(alloc, 1)?, 1_200));
-    expect!(rt; is_recordable(&far_take(alloc, 0)?, 1_200));
-    expect!(rt; !is_recordable(&take_of(alloc, 1_099_511_627_776, &[7])?, 1_200));
-    expect!(rt; is_recordable(&take_of(alloc, 1_099_511_627_775, &[7])?, 1_200));
-    Ok(())
+    expect!(rt; !is_recordable(&far_take(alloc, 1).expect(&rt, "memory"), 1_200));
+    expect!(rt; is_recordable(&far_take(alloc, 0).expect(&rt, "memory"), 1_200));
+    expect!(rt; !is_recordable(&take_of(alloc, 1_099_511_627_776, &[7]).expect(&rt, "no fault"), 1_200));
+    expect!(rt; is_recordable(&take_of(alloc, 1_099_511_627_775, &[7]).expect(&rt, "no fault"), 1_200));
 }

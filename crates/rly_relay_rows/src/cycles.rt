@@ -6,7 +6,6 @@ use rly_machine::{Ask, Command, HopStatus, Payload, Query, Reply, SeatId};
 use rly_relay::{Relay, Step};
 use std::alloc::{AllocError, Global};
 use std::process::Abort;
-use std::test::Fail;
 
 /// The least device of two segments for 64 datagrams of 1,200 bytes.
 pub(crate) const DEVICE: Geometry = Geometry {
@@ -131,7 +130,7 @@ fn is_due(kind: Kind, number: u64, id: u64, reply: &Reply) -> bool {
 
 /// Makes a step, for which there is memory.
 pub(crate) fn step(rt: &impl Abort, relay: &mut Relay, next: Step) {
-    assert!(rt; relay.step(next).is_ok());
+    expect!(rt; relay.step(next).is_ok());
 }
 
 /// Asks all numbers from one on in one round, hears the answers, and expects those that are due.
@@ -154,11 +153,11 @@ pub(crate) fn round(
     let mut number = first;
     let mut id = first_id;
     for answer in relay.known(SEAT).iter().skip(before) {
-        assert!(rt; is_due(kind, number, id, &answer.reply));
+        expect!(rt; is_due(kind, number, id, &answer.reply));
         number = number.saturating_add(1);
         id = id.saturating_add(1);
     }
-    assert!(rt; number == first.saturating_add(count));
+    expect!(rt; number == first.saturating_add(count));
     Ok(())
 }
 
@@ -176,7 +175,7 @@ pub(crate) fn open(rt: &impl Abort, relay: &mut Relay) {
 }
 
 /// Makes three cycles on a new device.
-fn cycle(rt: &impl Abort, alloc: Global, device: &Geometry) -> Result<(), AllocError> {
+fn cycle(rt: &impl Abort, alloc: Global, device: &Geometry) {
     let Ok(mut relay) = Relay::new(alloc, device, 1) else {
         panic!(rt; "no relay");
     };
@@ -185,26 +184,24 @@ fn cycle(rt: &impl Abort, alloc: Global, device: &Geometry) -> Result<(), AllocE
     for first_id in FIRST_IDS {
         let oldest = first.saturating_sub(CYCLE).max(1);
         let flying = first.saturating_add(CYCLE).saturating_sub(oldest);
-        round(rt, alloc, &mut relay, Kind::Take, (first, first_id), CYCLE)?;
-        round(rt, alloc, &mut relay, Kind::Pick, (first, first_id), CYCLE)?;
-        round(rt, alloc, &mut relay, Kind::Fetch, (oldest, 0), flying)?;
+        round(rt, alloc, &mut relay, Kind::Take, (first, first_id), CYCLE).expect(rt, "memory");
+        round(rt, alloc, &mut relay, Kind::Pick, (first, first_id), CYCLE).expect(rt, "memory");
+        round(rt, alloc, &mut relay, Kind::Fetch, (oldest, 0), flying).expect(rt, "memory");
         if first > 1 {
-            round(rt, alloc, &mut relay, Kind::Release, (first - 1, 0), 1)?;
+            round(rt, alloc, &mut relay, Kind::Release, (first - 1, 0), 1).expect(rt, "memory");
         }
         first = first.saturating_add(CYCLE);
     }
-    round(rt, alloc, &mut relay, Kind::Show, (1, 0), 1)?;
+    round(rt, alloc, &mut relay, Kind::Show, (1, 0), 1).expect(rt, "memory");
     step(rt, &mut relay, Step::Crash(Torn::AsSynced));
     open(rt, &mut relay);
-    round(rt, alloc, &mut relay, Kind::Show, (1, 0), 1)?;
-    Ok(())
+    round(rt, alloc, &mut relay, Kind::Show, (1, 0), 1).expect(rt, "memory");
 }
 
 #[test]
-fn three_cycles(rt: HostRuntime) -> Result<(), Fail> {
+fn three_cycles(rt: HostRuntime) {
     let alloc = rt.alloc();
     for device in &DEVICES {
-        cycle(&rt, alloc, device)?;
+        cycle(&rt, alloc, device);
     }
-    Ok(())
 }

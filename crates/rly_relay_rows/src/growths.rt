@@ -53,7 +53,7 @@ fn is_starved(
     let told = relay.step(first);
     let refused = was_refused(alloc);
     if told.is_err() {
-        assert!(rt; refused);
+        expect!(rt; refused);
         step(rt, relay, again);
         return Ok(false);
     }
@@ -99,17 +99,17 @@ fn steps_of_a_relay(rt: HostRuntime) -> Result<(), Fail> {
         starved |= is_starved(&rt, alloc, &mut relay, index)?;
     }
     let answers = relay.known(SEAT);
-    assert!(rt; answers.len() == ASKS);
+    expect!(rt; answers.len() == ASKS);
     let refused = count_of(answers, Refusal::OutOfMemory);
     let unsure = count_of(answers, Refusal::Unsure);
     let taken = answers
         .iter()
         .filter(|answer| matches!(answer.reply, Reply::Taken(_)))
         .count();
-    assert!(rt; starved || taken == 2);
-    assert!(rt; refused <= 1 && (unsure == 0 || unsure == ASKS));
+    expect!(rt; starved || taken == 2);
+    expect!(rt; refused <= 1 && (unsure == 0 || unsure == ASKS));
     let stands = taken_of(&rt, alloc, &mut relay)? as usize;
-    assert!(rt;
+    expect!(rt;
         if unsure > 0 {
             stands == 0 || stands == 2
         } else {

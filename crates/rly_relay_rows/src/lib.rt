@@ -5,8 +5,18 @@
 //! compares every answer. The crate has no code but tests, so no crate may call it.
 #![tactic(auto)]
 
+/// As `assert!`, by one call: the prover then sees one way on where `assert!` has two.
+#[cfg(test)]
+macro_rules! expect {
+    ($rt:expr; $cond:expr $(,)?) => {
+        crate::expect::expect(&$rt, $cond, stringify!($cond))
+    };
+}
+
 #[cfg(test)]
 mod cycles;
+#[cfg(test)]
+mod expect;
 #[cfg(test)]
 mod growths;
 #[cfg(test)]

@@ -7,7 +7,6 @@ use rly_machine::{Ask, Command, HopStatus, Payload, Query, Reply};
 use rly_relay::{Relay, Step};
 use std::alloc::{AllocError, Global};
 use std::process::Abort;
-use std::test::Fail;
 
 /// The least device of two segments for 16 datagrams and 4,096 bytes.
 const SMALL: Geometry = Geometry {
@@ -89,36 +88,35 @@ fn ask_once<'a>(
 }
 
 /// Half of the datagrams are taken, each with its limit.
-fn takes(rt: &impl Abort, alloc: Global, relay: &mut Relay, first: u64) -> Result<(), AllocError> {
+fn takes(rt: &impl Abort, alloc: Global, relay: &mut Relay, first: u64) {
     let mut asks = Vec::new(alloc);
     for index in 0..HALF {
         let number = first.saturating_add(index);
-        asks.push(take(alloc, number, limit_of(number))?)?;
+        asks.push(take(alloc, number, limit_of(number)).expect(rt, "memory"))
+            .expect(rt, "memory");
     }
     let before = round(rt, relay, asks);
     let mut number = first;
     for answer in relay.known(SEAT).iter().skip(before) {
-        assert!(rt; matches!(answer.reply, Reply::Taken(id) if id == number));
+        expect!(rt; matches!(answer.reply, Reply::Taken(id) if id == number));
         number = number.saturating_add(1);
     }
-    assert!(rt; number == first.saturating_add(HALF));
-    Ok(())
+    expect!(rt; number == first.saturating_add(HALF));
 }
 
 /// The first half is picked when none is past its limit.
-fn picks_in_time(rt: &impl Abort, alloc: Global, relay: &mut Relay) -> Result<(), AllocError> {
+fn picks_in_time(rt: &impl Abort, alloc: Global, relay: &mut Relay) {
     let mut asks = Vec::new(alloc);
     for _index in 0..HALF {
-        asks.push(pick(LIMIT))?;
+        asks.push(pick(LIMIT)).expect(rt, "memory");
     }
     let before = round(rt, relay, asks);
     let mut next = 1u64;
     for answer in relay.known(SEAT).iter().skip(before) {
-        assert!(rt; is_picked(&answer.reply, next, next, 0));
+        expect!(rt; is_picked(&answer.reply, next, next, 0));
         next = next.saturating_add(1);
     }
-    assert!(rt; next == HALF.saturating_add(1));
-    Ok(())
+    expect!(rt; next == HALF.saturating_add(1));
 }
 
 /// Whether ids are so many, one after the other, from the datagram on that is the first of the second half.
@@ -157,20 +155,16 @@ fn is_late(reply: &Reply) -> bool {
 }
 
 /// Datagrams in flight are fetched, each with its bytes and its limit.
-fn fetches(
-    rt: &impl Abort,
-    alloc: Global,
-    relay: &mut Relay,
-    first: u64,
-) -> Result<(), AllocError> {
+fn fetches(rt: &impl Abort, alloc: Global, relay: &mut Relay, first: u64) {
     for number in first..=HALF {
         let found = ask_once(
             rt,
             alloc,
             relay,
             Ask::Query(Query::Fetch { hop: HOP, number }),
-        )?;
-        assert!(rt;
+        )
+        .expect(rt, "memory");
+        expect!(rt;
             match found {
                 Some(Reply::Bytes { payload, limit }) => {
                     *limit == limit_of(number)
@@ -184,7 +178,6 @@ fn fetches(
             }
         );
     }
-    Ok(())
 }
 
 /// How many a hop took, has waiting and in flight, dropped, expired and released.
@@ -225,87 +218,86 @@ fn new_relay(rt: &impl Abort, alloc: Global) -> Relay {
 }
 
 /// The relay gets 16 datagrams that have their limits, of which 8 are in flight: its segment is full. It crashes between the groups.
-fn fill(rt: &impl Abort, alloc: Global, relay: &mut Relay) -> Result<(), AllocError> {
-    takes(rt, alloc, relay, 1)?;
+fn fill(rt: &impl Abort, alloc: Global, relay: &mut Relay) {
+    takes(rt, alloc, relay, 1);
     open_again(rt, relay, Torn::AsSynced);
-    takes(rt, alloc, relay, HALF.saturating_add(1))?;
+    takes(rt, alloc, relay, HALF.saturating_add(1));
     picks_in_time(rt, alloc, relay)
 }
 
 /// The limits are in records, and from the release on, for which a segment is opened, in its head. None expires in flight.
 #[test]
-fn limits_through_a_segment_that_is_opened(rt: HostRuntime) -> Result<(), Fail> {
+fn limits_through_a_segment_that_is_opened(rt: HostRuntime) {
     let alloc = rt.alloc();
     let mut relay = new_relay(&rt, alloc);
-    a_segment_is_opened(&rt, alloc, &mut relay)
+    a_segment_is_opened(&rt, alloc, &mut relay);
 }
 
 /// A full relay releases four, and later picks when most are past their limits.
-fn a_segment_is_opened(rt: &impl Abort, alloc: Global, relay: &mut Relay) -> Result<(), Fail> {
-    fill(rt, alloc, relay)?;
-    fetches(rt, alloc, relay, 1)?;
+fn a_segment_is_opened(rt: &impl Abort, alloc: Global, relay: &mut Relay) {
+    fill(rt, alloc, relay);
+    fetches(rt, alloc, relay, 1);
     let released = Ask::Command(Command::Release {
         hop: HOP,
         number: 4,
     });
-    let told = ask_once(rt, alloc, relay, released)?;
-    assert!(rt; matches!(told, Some(Reply::Released(4))));
+    let told = ask_once(rt, alloc, relay, released).expect(rt, "memory");
+    expect!(rt; matches!(told, Some(Reply::Released(4))));
     open_again(rt, relay, Torn::AsSynced);
-    fetches(rt, alloc, relay, 5)?;
-    assert!(rt; shown(rt, alloc, relay)? == (16, 8, 4, 0, 0, 4));
-    let told = ask_once(rt, alloc, relay, pick(LATE))?;
-    assert!(rt; told.is_some_and(is_late));
-    assert!(rt; shown(rt, alloc, relay)? == (16, 0, 5, 0, 7, 4));
+    fetches(rt, alloc, relay, 5);
+    expect!(rt; shown(rt, alloc, relay).expect(rt, "memory") == (16, 8, 4, 0, 0, 4));
+    let told = ask_once(rt, alloc, relay, pick(LATE)).expect(rt, "memory");
+    expect!(rt; told.is_some_and(is_late));
+    expect!(rt; shown(rt, alloc, relay).expect(rt, "memory") == (16, 0, 5, 0, 7, 4));
     open_again(rt, relay, Torn::AsSynced);
-    fetches(rt, alloc, relay, 5)?;
-    assert!(rt; shown(rt, alloc, relay)? == (16, 0, 5, 0, 7, 4));
-    Ok(())
+    fetches(rt, alloc, relay, 5);
+    expect!(rt; shown(rt, alloc, relay).expect(rt, "memory") == (16, 0, 5, 0, 7, 4));
 }
 
 /// A pick that all expire at leaves nothing for another one.
 #[test]
-fn all_expire_at_a_pick(rt: HostRuntime) -> Result<(), Fail> {
+fn all_expire_at_a_pick(rt: HostRuntime) {
     let alloc = rt.alloc();
     let mut relay = new_relay(&rt, alloc);
-    all_expire(&rt, alloc, &mut relay)
+    all_expire(&rt, alloc, &mut relay);
 }
 
 /// Three with the same limit wait when it has passed.
-fn all_expire(rt: &impl Abort, alloc: Global, relay: &mut Relay) -> Result<(), Fail> {
+fn all_expire(rt: &impl Abort, alloc: Global, relay: &mut Relay) {
     for number in 1..=3 {
-        let told = ask_once(rt, alloc, relay, take(alloc, number, LIMIT)?)?;
-        assert!(rt; matches!(told, Some(Reply::Taken(id)) if *id == number));
+        let told = ask_once(
+            rt,
+            alloc,
+            relay,
+            take(alloc, number, LIMIT).expect(rt, "memory"),
+        )
+        .expect(rt, "memory");
+        expect!(rt; matches!(told, Some(Reply::Taken(id)) if *id == number));
     }
     open_again(rt, relay, Torn::AsSynced);
-    match ask_once(rt, alloc, relay, pick(LATE))? {
-        Some(Reply::Nothing { expired }) => assert!(rt; expired.as_slice() == [1, 2, 3].as_slice()),
+    match ask_once(rt, alloc, relay, pick(LATE)).expect(rt, "memory") {
+        Some(Reply::Nothing { expired }) => expect!(rt; expired.as_slice() == [1, 2, 3].as_slice()),
         _ => panic!(rt; "something is left"),
     }
     open_again(rt, relay, Torn::AsSynced);
-    assert!(rt; shown(rt, alloc, relay)? == (3, 0, 0, 0, 3, 0));
-    let told = ask_once(rt, alloc, relay, pick(LATE))?;
-    assert!(rt; matches!(told, Some(Reply::Refused(Refusal::Empty))));
-    Ok(())
+    expect!(rt; shown(rt, alloc, relay).expect(rt, "memory") == (3, 0, 0, 0, 3, 0));
+    let told = ask_once(rt, alloc, relay, pick(LATE)).expect(rt, "memory");
+    expect!(rt; matches!(told, Some(Reply::Refused(Refusal::Empty))));
 }
 
 /// After a late pick whose round failed at some call of the device, and a crash, it was made or it wasn't. Then it is made.
-fn expect_either(
-    rt: &impl Abort,
-    alloc: Global,
-    relay: &mut Relay,
-    torn: Torn,
-) -> Result<bool, AllocError> {
+fn expect_either(rt: &impl Abort, alloc: Global, relay: &mut Relay, torn: Torn) -> bool {
     open_again(rt, relay, torn);
-    let counts = shown(rt, alloc, relay)?;
+    let counts = shown(rt, alloc, relay).expect(rt, "memory");
     let made = counts == (16, 0, 9, 0, 7, 0);
-    assert!(rt; made || counts == (16, 8, 8, 0, 0, 0));
+    expect!(rt; made || counts == (16, 8, 8, 0, 0, 0));
     if !made {
-        let told = ask_once(rt, alloc, relay, pick(LATE))?;
-        assert!(rt; told.is_some_and(is_late));
+        let told = ask_once(rt, alloc, relay, pick(LATE)).expect(rt, "memory");
+        expect!(rt; told.is_some_and(is_late));
     }
-    assert!(rt; shown(rt, alloc, relay)? == (16, 0, 9, 0, 7, 0));
-    fetches(rt, alloc, relay, 1)?;
-    Ok(made)
+    expect!(rt; shown(rt, alloc, relay).expect(rt, "memory") == (16, 0, 9, 0, 7, 0));
+    fetches(rt, alloc, relay, 1);
+    made
 }
 
 /// How a late pick went, whose device fails at some call.
@@ -320,24 +312,19 @@ enum Went {
 }
 
 /// A full relay opens, opens a segment for a late pick, and appends it, on a device whose call of this number fails.
-fn late_pick(
-    rt: &impl Abort,
-    alloc: Global,
-    relay: &mut Relay,
-    at: u64,
-) -> Result<Went, AllocError> {
-    fill(rt, alloc, relay)?;
+fn late_pick(rt: &impl Abort, alloc: Global, relay: &mut Relay, at: u64) -> Went {
+    fill(rt, alloc, relay);
     let after = After::GoesOn;
     step(rt, relay, Step::Opening { at, torn: 0, after });
-    let told = ask_once(rt, alloc, relay, pick(LATE))?;
+    let told = ask_once(rt, alloc, relay, pick(LATE)).expect(rt, "memory");
     if told.is_some_and(is_late) {
-        return Ok(Went::Picked);
+        return Went::Picked;
     }
     if matches!(told, Some(Reply::Refused(Refusal::Unsure))) {
-        return Ok(Went::Unsure);
+        return Went::Unsure;
     }
-    assert!(rt; matches!(told, None | Some(Reply::Refused(Refusal::DeviceRead))));
-    Ok(Went::Not)
+    expect!(rt; matches!(told, None | Some(Reply::Refused(Refusal::DeviceRead))));
+    Went::Not
 }
 
 /// After it and a crash, what was picked is there.
@@ -347,25 +334,25 @@ fn late_pick_and_crash(
     relay: &mut Relay,
     torn: Torn,
     at: u64,
-) -> Result<Went, AllocError> {
-    let went = late_pick(rt, alloc, relay, at)?;
-    let made = expect_either(rt, alloc, relay, torn)?;
-    assert!(rt; made || went != Went::Picked);
-    Ok(went)
+) -> Went {
+    let went = late_pick(rt, alloc, relay, at);
+    let made = expect_either(rt, alloc, relay, torn);
+    expect!(rt; made || went != Went::Picked);
+    went
 }
 
 /// The same of a new relay.
-fn fails_at(rt: &impl Abort, alloc: Global, torn: Torn, at: u64) -> Result<Went, AllocError> {
+fn fails_at(rt: &impl Abort, alloc: Global, torn: Torn, at: u64) -> Went {
     let mut relay = new_relay(rt, alloc);
     late_pick_and_crash(rt, alloc, &mut relay, torn, at)
 }
 
 /// Each call of the device fails in turn. Returns how many of them were writes and syncs, each of which makes the pick unsure.
-fn fails_at_each(rt: &impl Abort, alloc: Global, torn: Torn) -> Result<u64, AllocError> {
+fn fails_at_each(rt: &impl Abort, alloc: Global, torn: Torn) -> u64 {
     let mut unsure = 0u64;
     for at in 1..MOST_CALLS {
-        match fails_at(rt, alloc, torn, at)? {
-            Went::Picked => return Ok(unsure),
+        match fails_at(rt, alloc, torn, at) {
+            Went::Picked => return unsure,
             Went::Unsure => unsure = unsure.saturating_add(1),
             Went::Not => {}
         }
@@ -375,10 +362,9 @@ fn fails_at_each(rt: &impl Abort, alloc: Global, torn: Torn) -> Result<u64, Allo
 
 /// The head, its gate, the body and its gate are written and synced: that are eight calls at least.
 #[test]
-fn limits_through_every_phase(rt: HostRuntime) -> Result<(), Fail> {
+fn limits_through_every_phase(rt: HostRuntime) {
     let alloc = rt.alloc();
     for torn in [Torn::AsSynced, Torn::AsRead] {
-        assert!(rt; fails_at_each(&rt, alloc, torn)? >= 8);
+        expect!(rt; fails_at_each(&rt, alloc, torn) >= 8);
     }
-    Ok(())
 }

@@ -7,7 +7,6 @@ use rly_machine::{Answer, Ask, Call, Command, Payload, Reply, SeatId};
 use rly_segment::format;
 use std::alloc::{AllocError, Global};
 use std::process::Abort;
-use std::test::Fail;
 
 /// As many hops and peers as there may be, with a datagram for each, on two segments of the least length.
 const BROAD: Geometry = Geometry {
@@ -106,55 +105,40 @@ fn ask_each(
 }
 
 /// Each hop has the one datagram of its peer in flight.
-fn expect_in_flight(
-    rt: &impl Abort,
-    alloc: Global,
-    journal: &mut Journal<MemDisk>,
-) -> Result<(), AllocError> {
+fn expect_in_flight(rt: &impl Abort, alloc: Global, journal: &mut Journal<MemDisk>) {
     for id in 1..=64 {
         expect!(rt; journal.last(PeerId(id)) == Ok(1), u64::from(id));
         let found = journal.fetch(alloc, HopId(id), 1);
         expect!(rt; matches!(&found, Ok(bytes) if bytes.len() == length_of(id)), u64::from(id));
     }
-    Ok(())
 }
 
 /// A journal on a new device.
 fn new_journal(rt: &impl Abort, alloc: Global) -> Result<Journal<MemDisk>, AllocError> {
-    let mut disk = MemDisk::new(alloc, vec![in alloc; 0u8; BROAD_SIZE]?);
+    let mut disk = MemDisk::new(alloc, vec![in alloc; 0u8; BROAD_SIZE].expect(rt, "memory"));
     expect!(rt; format(alloc, &mut disk, &BROAD) == Ok(()));
     Ok(opened(rt, alloc, disk))
 }
 
 /// Each hop's datagram is taken, picked and fetched.
-fn send_all(
-    rt: &impl Abort,
-    alloc: Global,
-    journal: &mut Journal<MemDisk>,
-) -> Result<(), AllocError> {
-    ask_each(rt, alloc, journal, Kind::Take)?;
-    ask_each(rt, alloc, journal, Kind::Pick)?;
+fn send_all(rt: &impl Abort, alloc: Global, journal: &mut Journal<MemDisk>) {
+    ask_each(rt, alloc, journal, Kind::Take).expect(rt, "memory");
+    ask_each(rt, alloc, journal, Kind::Pick).expect(rt, "memory");
     expect_in_flight(rt, alloc, journal)
 }
 
 /// Each is fetched again, and released.
-fn release_all(
-    rt: &impl Abort,
-    alloc: Global,
-    journal: &mut Journal<MemDisk>,
-) -> Result<(), AllocError> {
-    expect_in_flight(rt, alloc, journal)?;
-    ask_each(rt, alloc, journal, Kind::Release)?;
+fn release_all(rt: &impl Abort, alloc: Global, journal: &mut Journal<MemDisk>) {
+    expect_in_flight(rt, alloc, journal);
+    ask_each(rt, alloc, journal, Kind::Release).expect(rt, "memory");
     expect!(rt; journal.position() == 192);
-    Ok(())
 }
 
 #[test]
-fn sixty_four_hops_and_peers(rt: HostRuntime) -> Result<(), Fail> {
+fn sixty_four_hops_and_peers(rt: HostRuntime) {
     let alloc = rt.alloc();
-    let mut journal = new_journal(&rt, alloc)?;
-    send_all(&rt, alloc, &mut journal)?;
+    let mut journal = new_journal(&rt, alloc).expect(&rt, "memory");
+    send_all(&rt, alloc, &mut journal);
     let mut journal = opened(&rt, alloc, journal.into_disk());
-    release_all(&rt, alloc, &mut journal)?;
-    Ok(())
+    release_all(&rt, alloc, &mut journal);
 }

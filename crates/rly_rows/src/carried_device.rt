@@ -9,7 +9,6 @@ use rly_journal::Journal;
 use rly_machine::{Machine, Payload};
 use std::alloc::{AllocError, Global};
 use std::process::Abort;
-use std::test::Fail;
 
 /// How many rounds wrote it, of a step each.
 const ROUNDS: usize = 9;
@@ -173,13 +172,9 @@ fn bytes_of_all(alloc: Global, parts: &[Part]) -> Result<Vec<u8>, AllocError> {
 }
 
 /// The journal of a device that is written out.
-fn opened_of(
-    rt: &impl Abort,
-    alloc: Global,
-    parts: &[Part],
-) -> Result<Journal<MemDisk>, AllocError> {
-    let bytes = bytes_of_all(alloc, parts)?;
-    Ok(opened(rt, alloc, MemDisk::new(alloc, bytes)))
+fn opened_of(rt: &impl Abort, alloc: Global, parts: &[Part]) -> Journal<MemDisk> {
+    let bytes = bytes_of_all(alloc, parts).expect(rt, "memory");
+    opened(rt, alloc, MemDisk::new(alloc, bytes))
 }
 
 /// The plain machine after those rounds.
@@ -200,21 +195,19 @@ fn written(rt: &impl Abort, alloc: Global) -> Result<Vec<u8>, AllocError> {
 }
 
 #[test]
-fn a_device_with_two_heads(rt: HostRuntime) -> Result<(), Fail> {
-    let written = written(&rt, rt.alloc())?;
-    let want = bytes_of_all(rt.alloc(), &WRITTEN)?;
+fn a_device_with_two_heads(rt: HostRuntime) {
+    let written = written(&rt, rt.alloc()).expect(&rt, "memory");
+    let want = bytes_of_all(rt.alloc(), &WRITTEN).expect(&rt, "memory");
     expect!(rt; written.as_slice() == want.as_slice());
-    Ok(())
 }
 
 #[test]
-fn it_opens_as_it_is(rt: HostRuntime) -> Result<(), Fail> {
+fn it_opens_as_it_is(rt: HostRuntime) {
     let alloc = rt.alloc();
-    let mut machine = machine(alloc)?;
-    let mut journal = opened_of(&rt, alloc, &STORED)?;
+    let mut machine = machine(alloc).expect(&rt, "memory");
+    let mut journal = opened_of(&rt, alloc, &STORED);
     expect!(rt; journal.params() == DEVICE_E.params && journal.position() == 9);
-    expect_state(&rt, alloc, &mut journal, &mut machine)?;
-    Ok(())
+    expect_state(&rt, alloc, &mut journal, &mut machine).expect(&rt, "memory");
 }
 
 /// A round of a release, a take, a pick and a fetch, in which a datagram is sent under this number.
@@ -238,13 +231,12 @@ fn carry_on(
     alloc: Global,
     journal: &mut Journal<MemDisk>,
     machine: &mut Machine<Payload>,
-) -> Result<(), AllocError> {
+) {
     for sent in 3..15 {
         let round = next_round(sent);
-        let answers = ask_all(rt, alloc, journal, &round)?;
-        expect_replies(rt, alloc, machine, &round, &answers)?;
+        let answers = ask_all(rt, alloc, journal, &round).expect(rt, "memory");
+        expect_replies(rt, alloc, machine, &round, &answers).expect(rt, "memory");
     }
-    Ok(())
 }
 
 /// The device after them.
@@ -253,8 +245,8 @@ fn carried(
     alloc: Global,
     machine: &mut Machine<Payload>,
 ) -> Result<MemDisk, AllocError> {
-    let mut journal = opened_of(rt, alloc, &STORED)?;
-    carry_on(rt, alloc, &mut journal, machine)?;
+    let mut journal = opened_of(rt, alloc, &STORED);
+    carry_on(rt, alloc, &mut journal, machine);
     Ok(journal.into_disk())
 }
 
@@ -266,16 +258,15 @@ fn is_of_second_form(bytes: &[u8], gate: usize) -> bool {
 /// Rounds of a release, a take, a pick and a fetch go on from there. Both segments are opened again and again, with heads of the second
 /// form. The header stays as it is, of version 1.
 #[test]
-fn it_is_carried_on(rt: HostRuntime) -> Result<(), Fail> {
+fn it_is_carried_on(rt: HostRuntime) {
     let alloc = rt.alloc();
-    let mut machine = machine(alloc)?;
-    let mut disk = carried(&rt, alloc, &mut machine)?;
-    let bytes = bytes_of(&rt, alloc, &mut disk)?;
+    let mut machine = machine(alloc).expect(&rt, "memory");
+    let mut disk = carried(&rt, alloc, &mut machine).expect(&rt, "memory");
+    let bytes = bytes_of(&rt, alloc, &mut disk).expect(&rt, "memory");
     expect!(rt; is_of_second_form(&bytes, 64) && is_of_second_form(&bytes, SECOND_GATE));
     expect!(rt; stand_at(&bytes, 0, &FIRST_HEADER));
     let mut journal = opened(&rt, alloc, disk);
-    expect_state(&rt, alloc, &mut journal, &mut machine)?;
-    Ok(())
+    expect_state(&rt, alloc, &mut journal, &mut machine).expect(&rt, "memory");
 }
 
 /// A device whose head, of the first form, has one datagram that waits, with its one byte inline.
@@ -322,12 +313,11 @@ fn machine_of_one(alloc: Global) -> Result<Machine<Payload>, AllocError> {
 
 /// It is the head that is refused where that byte is by place (`refused_devices`).
 #[test]
-fn a_head_of_one_inline(rt: HostRuntime) -> Result<(), Fail> {
+fn a_head_of_one_inline(rt: HostRuntime) {
     let alloc = rt.alloc();
     for parts in [OLD_INLINE.as_slice(), ONE_INLINE.as_slice()] {
-        let mut machine = machine_of_one(alloc)?;
-        let mut journal = opened_of(&rt, alloc, parts)?;
-        expect_state(&rt, alloc, &mut journal, &mut machine)?;
+        let mut machine = machine_of_one(alloc).expect(&rt, "memory");
+        let mut journal = opened_of(&rt, alloc, parts);
+        expect_state(&rt, alloc, &mut journal, &mut machine).expect(&rt, "memory");
     }
-    Ok(())
 }

@@ -46,23 +46,18 @@ pub(crate) fn formatted(rt: &impl Abort, alloc: Global) -> Result<Vec<u8>, Alloc
 
 /// Its bytes once the first datagram was taken: the line `take 1 1 1 0 41`.
 pub(crate) fn taken(rt: &impl Abort, alloc: Global) -> Result<Vec<u8>, AllocError> {
-    let mut journal = opened(rt, alloc, device_e(rt, alloc)?);
-    take_first(rt, alloc, &mut journal)?;
+    let mut journal = opened(rt, alloc, device_e(rt, alloc).expect(rt, "memory"));
+    take_first(rt, alloc, &mut journal);
     let mut disk = journal.into_disk();
     bytes_of(rt, alloc, &mut disk)
 }
 
 /// Takes the first datagram.
-fn take_first(
-    rt: &impl Abort,
-    alloc: Global,
-    journal: &mut Journal<MemDisk>,
-) -> Result<(), AllocError> {
-    let answers = ask_all(rt, alloc, journal, &[FIRST_TAKE])?;
+fn take_first(rt: &impl Abort, alloc: Global, journal: &mut Journal<MemDisk>) {
+    let answers = ask_all(rt, alloc, journal, &[FIRST_TAKE]).expect(rt, "memory");
     expect!(rt; answers
             .iter()
             .all(|answer| matches!(answer.reply, Reply::Taken(1))));
-    Ok(())
 }
 
 /// The line `take 1 1 1 0 41`.

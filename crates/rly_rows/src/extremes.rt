@@ -11,7 +11,6 @@ use rly_machine::{Machine, Payload};
 use rly_segment::format;
 use std::alloc::{AllocError, Global};
 use std::process::Abort;
-use std::test::Fail;
 
 /// Room for 128 datagrams of 1,200 bytes, on two segments of the least length.
 const WIDE: Geometry = Geometry {
@@ -106,11 +105,10 @@ fn ask_rounds(
     alloc: Global,
     (journal, machine): (&mut Journal<MemDisk>, &mut Machine<Payload>),
     rounds: &[Round],
-) -> Result<(), AllocError> {
+) {
     for round in rounds {
-        ask_round(rt, alloc, (&mut *journal, &mut *machine), *round)?;
+        ask_round(rt, alloc, (&mut *journal, &mut *machine), *round).expect(rt, "memory");
     }
-    Ok(())
 }
 
 /// Opens a device, and asks these rounds of its journal and of the plain machine.
@@ -120,10 +118,10 @@ pub(crate) fn ask_opened(
     disk: MemDisk,
     machine: &mut Machine<Payload>,
     rounds: &[Round],
-) -> Result<MemDisk, AllocError> {
+) -> MemDisk {
     let mut journal = opened(rt, alloc, disk);
-    ask_rounds(rt, alloc, (&mut journal, machine), rounds)?;
-    Ok(journal.into_disk())
+    ask_rounds(rt, alloc, (&mut journal, machine), rounds);
+    journal.into_disk()
 }
 
 /// A new device of so many bytes.
@@ -132,10 +130,10 @@ pub(crate) fn device_of(
     alloc: Global,
     geometry: &Geometry,
     size: usize,
-) -> Result<MemDisk, AllocError> {
-    let mut disk = MemDisk::new(alloc, vec![in alloc; 0u8; size]?);
+) -> MemDisk {
+    let mut disk = MemDisk::new(alloc, vec![in alloc; 0u8; size].expect(rt, "memory"));
     expect!(rt; format(alloc, &mut disk, geometry) == Ok(()));
-    Ok(disk)
+    disk
 }
 
 /// What stands on a device from a place on.
@@ -152,13 +150,12 @@ pub(crate) fn expect_found(
     disk: &mut MemDisk,
     size: usize,
     want: &[Found],
-) -> Result<(), AllocError> {
-    let bytes = bytes_of(rt, alloc, disk)?;
+) {
+    let bytes = bytes_of(rt, alloc, disk).expect(rt, "memory");
     expect!(rt; bytes.len() == size);
     for found in want {
         expect!(rt; stand_at(&bytes, found.place, found.bytes), found.place as u64);
     }
-    Ok(())
 }
 
 /// Two rounds of 64 Takes and one of 64 Picks.
@@ -195,26 +192,21 @@ const WIDE_HEAD: Found = Found {
 };
 
 /// The device once its second segment was opened.
-fn wide(
-    rt: &impl Abort,
-    alloc: Global,
-    machine: &mut Machine<Payload>,
-) -> Result<MemDisk, AllocError> {
-    let disk = device_of(rt, alloc, &WIDE, WIDE_SIZE)?;
-    let disk = ask_opened(rt, alloc, disk, machine, &WIDE_FILLED)?;
+fn wide(rt: &impl Abort, alloc: Global, machine: &mut Machine<Payload>) -> MemDisk {
+    let disk = device_of(rt, alloc, &WIDE, WIDE_SIZE);
+    let disk = ask_opened(rt, alloc, disk, machine, &WIDE_FILLED);
     ask_opened(rt, alloc, disk, machine, &WIDE_MOVED)
 }
 
 /// Its head has 128 datagrams. Those in flight are fetched from their group, and from the head, each time after an opening.
 #[test]
-fn sixty_four_of_the_longest_in_a_round(rt: HostRuntime) -> Result<(), Fail> {
+fn sixty_four_of_the_longest_in_a_round(rt: HostRuntime) {
     let alloc = rt.alloc();
-    let mut machine = Machine::new(alloc, WIDE.params)?;
-    let mut disk = wide(&rt, alloc, &mut machine)?;
+    let mut machine = Machine::new(alloc, WIDE.params).expect(&rt, "no fault");
+    let mut disk = wide(&rt, alloc, &mut machine);
     expect!(rt; machine.item_count() == 127);
-    expect_found(&rt, alloc, &mut disk, WIDE_SIZE, &[WIDE_HEAD])?;
-    let _ = ask_opened(&rt, alloc, disk, &mut machine, &WIDE_FETCHED)?;
-    Ok(())
+    expect_found(&rt, alloc, &mut disk, WIDE_SIZE, &[WIDE_HEAD]);
+    let _ = ask_opened(&rt, alloc, disk, &mut machine, &WIDE_FETCHED);
 }
 
 /// Room for 64 datagrams of the longest that there are, on two segments of the least length.
@@ -304,27 +296,22 @@ const LONG_HEAD: Found = Found {
 };
 
 /// The device once its second segment was opened.
-fn long(
-    rt: &impl Abort,
-    alloc: Global,
-    machine: &mut Machine<Payload>,
-) -> Result<MemDisk, AllocError> {
-    let disk = device_of(rt, alloc, &LONG, LONG_SIZE)?;
-    let disk = ask_opened(rt, alloc, disk, machine, &LONG_FILLED)?;
+fn long(rt: &impl Abort, alloc: Global, machine: &mut Machine<Payload>) -> MemDisk {
+    let disk = device_of(rt, alloc, &LONG, LONG_SIZE);
+    let disk = ask_opened(rt, alloc, disk, machine, &LONG_FILLED);
     ask_opened(rt, alloc, disk, machine, &LONG_MOVED)
 }
 
 /// Its head has 64 datagrams. Those in flight are fetched from their group, and from the head, each time after an opening.
 #[test]
-fn sixty_four_of_8192_bytes_in_a_round(rt: HostRuntime) -> Result<(), Fail> {
+fn sixty_four_of_8192_bytes_in_a_round(rt: HostRuntime) {
     let alloc = rt.alloc();
-    let mut machine = Machine::new(alloc, LONG.params)?;
-    let mut disk = long(&rt, alloc, &mut machine)?;
+    let mut machine = Machine::new(alloc, LONG.params).expect(&rt, "no fault");
+    let mut disk = long(&rt, alloc, &mut machine);
     expect!(rt; machine.item_count() == 63 && machine.byte_count() == 516_096);
-    expect_found(&rt, alloc, &mut disk, LONG_SIZE, &LONG_GROUPS)?;
-    expect_found(&rt, alloc, &mut disk, LONG_SIZE, &[LONG_HEAD])?;
-    let _ = ask_opened(&rt, alloc, disk, &mut machine, &LONG_FETCHED)?;
-    Ok(())
+    expect_found(&rt, alloc, &mut disk, LONG_SIZE, &LONG_GROUPS);
+    expect_found(&rt, alloc, &mut disk, LONG_SIZE, &[LONG_HEAD]);
+    let _ = ask_opened(&rt, alloc, disk, &mut machine, &LONG_FETCHED);
 }
 
 /// Room for 16,384 datagrams and 16,777,216 bytes, on two segments of the least length.
@@ -372,12 +359,11 @@ fn take_all(
     rt: &impl Abort,
     alloc: Global,
     (journal, machine): (&mut Journal<MemDisk>, &mut Machine<Payload>),
-) -> Result<(), AllocError> {
+) {
     for round in 0..256 {
         let takes = Round::Takes(64 * round + 1, 1_024);
-        ask_round(rt, alloc, (&mut *journal, &mut *machine), takes)?;
+        ask_round(rt, alloc, (&mut *journal, &mut *machine), takes).expect(rt, "memory");
     }
-    Ok(())
 }
 
 /// Sends 64 of them on, and takes 64 more, in so many turns.
@@ -386,7 +372,7 @@ fn turn_all(
     alloc: Global,
     (journal, machine): (&mut Journal<MemDisk>, &mut Machine<Payload>),
     turns: u64,
-) -> Result<(), AllocError> {
+) {
     for turn in 1..=turns {
         let number = 64 * turn.min(5);
         let rounds = [
@@ -394,9 +380,8 @@ fn turn_all(
             Round::Asks(&[Step::Release { number }]),
             Round::Takes(16_321 + number, 1_024),
         ];
-        ask_rounds(rt, alloc, (&mut *journal, &mut *machine), &rounds)?;
+        ask_rounds(rt, alloc, (&mut *journal, &mut *machine), &rounds);
     }
-    Ok(())
 }
 
 /// Fills a journal. It has as many datagrams and as many bytes as a spool may have, and sends one more on.
@@ -405,13 +390,13 @@ fn fill(
     alloc: Global,
     (journal, machine): (&mut Journal<MemDisk>, &mut Machine<Payload>),
     filling: &Filling,
-) -> Result<(), AllocError> {
-    take_all(rt, alloc, (&mut *journal, &mut *machine))?;
-    turn_all(rt, alloc, (&mut *journal, &mut *machine), filling.turns)?;
+) {
+    take_all(rt, alloc, (&mut *journal, &mut *machine));
+    turn_all(rt, alloc, (&mut *journal, &mut *machine), filling.turns);
     expect!(rt; machine.item_count() == 16_384 && machine.byte_count() == 16_777_216);
     let number = filling.next();
     let steps = [Step::Pick { now: 0 }, Step::Fetch { number }];
-    ask_both(rt, alloc, (journal, machine), &steps)
+    ask_both(rt, alloc, (journal, machine), &steps).expect(rt, "memory");
 }
 
 /// A device that was filled.
@@ -420,21 +405,15 @@ fn filled(
     alloc: Global,
     machine: &mut Machine<Payload>,
     filling: &Filling,
-) -> Result<MemDisk, AllocError> {
-    let disk = device_of(rt, alloc, filling.geometry, filling.size)?;
+) -> MemDisk {
+    let disk = device_of(rt, alloc, filling.geometry, filling.size);
     let mut journal = opened(rt, alloc, disk);
-    fill(rt, alloc, (&mut journal, machine), filling)?;
-    Ok(journal.into_disk())
+    fill(rt, alloc, (&mut journal, machine), filling);
+    journal.into_disk()
 }
 
 /// Opens it, and sends one more on.
-fn go_on(
-    rt: &impl Abort,
-    alloc: Global,
-    disk: MemDisk,
-    machine: &mut Machine<Payload>,
-    next: u64,
-) -> Result<(), AllocError> {
+fn go_on(rt: &impl Abort, alloc: Global, disk: MemDisk, machine: &mut Machine<Payload>, next: u64) {
     let last = [
         Step::Show,
         Step::Window,
@@ -446,22 +425,21 @@ fn go_on(
         },
         Step::Show,
     ];
-    let _ = ask_opened(rt, alloc, disk, machine, &[Round::Asks(&last)])?;
-    Ok(())
+    let _ = ask_opened(rt, alloc, disk, machine, &[Round::Asks(&last)]);
 }
 
 /// The last head that is written has as many datagrams and as many bytes as a spool may have.
-fn expect_full(rt: &impl Abort, alloc: Global, filling: &Filling) -> Result<(), AllocError> {
-    let mut machine = Machine::new(alloc, FULL.params)?;
-    let mut disk = filled(rt, alloc, &mut machine, filling)?;
-    expect_found(rt, alloc, &mut disk, filling.size, filling.heads)?;
+fn expect_full(rt: &impl Abort, alloc: Global, filling: &Filling) {
+    let mut machine = Machine::new(alloc, FULL.params).expect(rt, "no fault");
+    let mut disk = filled(rt, alloc, &mut machine, filling);
+    expect_found(rt, alloc, &mut disk, filling.size, filling.heads);
     go_on(rt, alloc, disk, &mut machine, filling.next())
 }
 
 /// A segment is due after the first turn: the offset 17,223,677 and 78,280 exceed 17,297,964. Its head has 17,121,360 bytes, which are
 /// 80 and 1,045 for each of 16,384.
 #[test]
-fn the_greatest_spool(rt: HostRuntime) -> Result<(), Fail> {
+fn the_greatest_spool(rt: HostRuntime) {
     let filling = Filling {
         geometry: &FULL,
         size: 34_595_992,
@@ -471,15 +449,14 @@ fn the_greatest_spool(rt: HostRuntime) -> Result<(), Fail> {
             bytes: &[0, 0, 0, 0, 0, 0, 0, 2, 0x81, 0x05, 0x40, 0x50],
         }],
     };
-    expect_full(&rt, rt.alloc(), &filling)?;
-    Ok(())
+    expect_full(&rt, rt.alloc(), &filling);
 }
 
 /// The second segment is opened where 8,448 datagrams lie in the first: a head of 219,728 bytes, which are 80 and 26 for each of them.
 /// The third is after five turns: the offset 8,868,321 and 78,280 exceed 8,909,356. The 8,128 that are left in the first are moved
 /// into its head, of 8,708,496 bytes: 80, 1,045 for each of them, and 26 for each of the other 8,256.
 #[test]
-fn the_greatest_spool_on_three_segments(rt: HostRuntime) -> Result<(), Fail> {
+fn the_greatest_spool_on_three_segments(rt: HostRuntime) {
     let filling = Filling {
         geometry: &FULL_THREE,
         size: 26_728_132,
@@ -495,6 +472,5 @@ fn the_greatest_spool_on_three_segments(rt: HostRuntime) -> Result<(), Fail> {
             },
         ],
     };
-    expect_full(&rt, rt.alloc(), &filling)?;
-    Ok(())
+    expect_full(&rt, rt.alloc(), &filling);
 }

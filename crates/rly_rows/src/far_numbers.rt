@@ -11,44 +11,28 @@ use rly_journal::Journal;
 use rly_machine::{Machine, Payload, Reply};
 use std::alloc::{AllocError, Global};
 use std::process::Abort;
-use std::test::Fail;
 
 /// The bytes of device E with another generation and another count of accepted commands in its first head.
-fn aged_bytes(
-    rt: &impl Abort,
-    alloc: Global,
-    generation: u64,
-    seq: u64,
-) -> Result<Vec<u8>, AllocError> {
-    let mut bytes = formatted(rt, alloc)?;
+fn aged_bytes(rt: &impl Abort, alloc: Global, generation: u64, seq: u64) -> Vec<u8> {
+    let mut bytes = formatted(rt, alloc).expect(rt, "memory");
     assert!(rt; bytes.len() == SIZE);
     bytes[65..73].copy_from_slice(&generation.to_be_bytes());
     bytes[77..85].copy_from_slice(&seq.to_be_bytes());
-    Ok(bytes)
+    bytes
 }
 
 /// The machine that stands in the body of a head of 80 bytes.
-fn machine_at(
-    rt: &impl Abort,
-    alloc: Global,
-    bytes: &[u8],
-    place: usize,
-) -> Result<Machine<Payload>, Fail> {
+fn machine_at(rt: &impl Abort, alloc: Global, bytes: &[u8], place: usize) -> Machine<Payload> {
     assert!(rt; place < bytes.len() && 80 <= bytes.len() - place);
     let body = &bytes[place..place + 80];
-    Ok(read_checkpoint(alloc, HeadForm::Second, DEVICE_E.params, body)?)
+    read_checkpoint(alloc, HeadForm::Second, DEVICE_E.params, body).expect(rt, "no fault")
 }
 
 /// A device of those bytes, and the machine that it stands for.
-fn aged(
-    rt: &impl Abort,
-    alloc: Global,
-    generation: u64,
-    seq: u64,
-) -> Result<(MemDisk, Machine<Payload>), Fail> {
-    let bytes = aged_bytes(rt, alloc, generation, seq)?;
-    let machine = machine_at(rt, alloc, &bytes, 77)?;
-    Ok((MemDisk::new(alloc, bytes), machine))
+fn aged(rt: &impl Abort, alloc: Global, generation: u64, seq: u64) -> (MemDisk, Machine<Payload>) {
+    let bytes = aged_bytes(rt, alloc, generation, seq);
+    let machine = machine_at(rt, alloc, &bytes, 77);
+    (MemDisk::new(alloc, bytes), machine)
 }
 
 /// Forty datagrams of 1,200 bytes pass through, each in a round.
@@ -56,7 +40,7 @@ fn pass_forty(
     rt: &impl Abort,
     alloc: Global,
     (journal, machine): (&mut Journal<MemDisk>, &mut Machine<Payload>),
-) -> Result<(), AllocError> {
+) {
     for number in 1..=40 {
         let steps = [
             Step::Take {
@@ -69,9 +53,8 @@ fn pass_forty(
             Step::Pick { now: 0 },
             Step::Release { number },
         ];
-        ask_both(rt, alloc, (&mut *journal, &mut *machine), &steps)?;
+        ask_both(rt, alloc, (&mut *journal, &mut *machine), &steps).expect(rt, "memory");
     }
-    Ok(())
 }
 
 /// The device after them.
@@ -80,10 +63,10 @@ fn passed(
     alloc: Global,
     disk: MemDisk,
     machine: &mut Machine<Payload>,
-) -> Result<MemDisk, AllocError> {
+) -> MemDisk {
     let mut journal = opened(rt, alloc, disk);
-    pass_forty(rt, alloc, (&mut journal, machine))?;
-    Ok(journal.into_disk())
+    pass_forty(rt, alloc, (&mut journal, machine));
+    journal.into_disk()
 }
 
 /// The generation of its second segment.
@@ -95,14 +78,13 @@ const PASSED: Found = Found {
 /// A datagram of 1,200 bytes passes through in each round of 1,252 bytes. Each segment has four of them: the offset 5,101 and
 /// 78,280 exceed 82,908. So nine segments are opened for forty rounds.
 #[test]
-fn generations_past_65535(rt: HostRuntime) -> Result<(), Fail> {
+fn generations_past_65535(rt: HostRuntime) {
     let alloc = rt.alloc();
-    let (disk, mut machine) = aged(&rt, alloc, 65_533, 70_000)?;
-    let mut disk = passed(&rt, alloc, disk, &mut machine)?;
-    expect_found(&rt, alloc, &mut disk, SIZE, &[PASSED])?;
+    let (disk, mut machine) = aged(&rt, alloc, 65_533, 70_000);
+    let mut disk = passed(&rt, alloc, disk, &mut machine);
+    expect_found(&rt, alloc, &mut disk, SIZE, &[PASSED]);
     let asks = [Step::Show, Step::Window];
-    let _ = ask_opened(&rt, alloc, disk, &mut machine, &[Round::Asks(&asks)])?;
-    Ok(())
+    let _ = ask_opened(&rt, alloc, disk, &mut machine, &[Round::Asks(&asks)]);
 }
 
 /// Device E with segments of 1 MiB.
@@ -118,21 +100,20 @@ const FAR_SIZE: usize = 2_097_216;
 const FAR_GATE: usize = 1_048_640;
 
 /// Copies the first head to the second segment, with generation 2 and one accepted command.
-fn copy_head(rt: &impl Abort, alloc: Global, bytes: &mut [u8]) -> Result<(), AllocError> {
+fn copy_head(rt: &impl Abort, alloc: Global, bytes: &mut [u8]) {
     assert!(rt; bytes.len() == FAR_SIZE);
-    let head = Vec::from_slice(alloc, &bytes[64..157])?;
+    let head = Vec::from_slice(alloc, &bytes[64..157]).expect(rt, "memory");
     bytes[FAR_GATE..FAR_GATE + 93].copy_from_slice(&head);
     bytes[FAR_GATE + 8] = 2;
     bytes[FAR_GATE + 20] = 1;
-    Ok(())
 }
 
 /// The bytes of that device, with both heads.
-fn far_bytes(rt: &impl Abort, alloc: Global) -> Result<Vec<u8>, AllocError> {
-    let mut disk = device_of(rt, alloc, &FAR, FAR_SIZE)?;
-    let mut bytes = bytes_of(rt, alloc, &mut disk)?;
-    copy_head(rt, alloc, &mut bytes)?;
-    Ok(bytes)
+fn far_bytes(rt: &impl Abort, alloc: Global) -> Vec<u8> {
+    let mut disk = device_of(rt, alloc, &FAR, FAR_SIZE);
+    let mut bytes = bytes_of(rt, alloc, &mut disk).expect(rt, "memory");
+    copy_head(rt, alloc, &mut bytes);
+    bytes
 }
 
 /// A datagram is taken, picked and fetched.
@@ -154,14 +135,13 @@ const FAR_FETCHED: [Step; 3] = [Step::Fetch { number: 1 }, Step::Show, Step::Win
 
 /// The newest head is that of the second segment, of generation 2, in the empty state after one accepted command.
 #[test]
-fn a_head_past_the_first_mib(rt: HostRuntime) -> Result<(), Fail> {
+fn a_head_past_the_first_mib(rt: HostRuntime) {
     let alloc = rt.alloc();
-    let bytes = far_bytes(&rt, alloc)?;
-    let mut machine = machine_at(&rt, alloc, &bytes, FAR_GATE + 13)?;
+    let bytes = far_bytes(&rt, alloc);
+    let mut machine = machine_at(&rt, alloc, &bytes, FAR_GATE + 13);
     let disk = MemDisk::new(alloc, bytes);
-    let disk = ask_opened(&rt, alloc, disk, &mut machine, &[Round::Asks(&FAR_TAKEN)])?;
-    let _ = ask_opened(&rt, alloc, disk, &mut machine, &[Round::Asks(&FAR_FETCHED)])?;
-    Ok(())
+    let disk = ask_opened(&rt, alloc, disk, &mut machine, &[Round::Asks(&FAR_TAKEN)]);
+    let _ = ask_opened(&rt, alloc, disk, &mut machine, &[Round::Asks(&FAR_FETCHED)]);
 }
 
 /// A datagram is taken and picked, and the others are refused.
@@ -185,11 +165,11 @@ fn ask_last(
     alloc: Global,
     disk: MemDisk,
     machine: &mut Machine<Payload>,
-) -> Result<MemDisk, AllocError> {
+) -> MemDisk {
     let mut journal = opened(rt, alloc, disk);
-    ask_both(rt, alloc, (&mut journal, machine), &LAST_STEPS)?;
+    ask_both(rt, alloc, (&mut journal, machine), &LAST_STEPS).expect(rt, "memory");
     expect!(rt; journal.position() == 281_474_976_710_655);
-    Ok(journal.into_disk())
+    journal.into_disk()
 }
 
 /// A journal's answer to a step.
@@ -199,34 +179,27 @@ fn expect_reply(
     journal: &mut Journal<MemDisk>,
     step: Step,
     reply: &Reply,
-) -> Result<(), AllocError> {
-    let answers = ask_all(rt, alloc, journal, &[step])?;
+) {
+    let answers = ask_all(rt, alloc, journal, &[step]).expect(rt, "memory");
     expect!(rt; answers.iter().all(|answer| is_same(&answer.reply, reply)));
-    Ok(())
 }
 
 /// Opens the device once more: it takes no command.
-fn expect_spent(
-    rt: &impl Abort,
-    alloc: Global,
-    disk: MemDisk,
-    machine: &mut Machine<Payload>,
-) -> Result<(), AllocError> {
+fn expect_spent(rt: &impl Abort, alloc: Global, disk: MemDisk, machine: &mut Machine<Payload>) {
     let mut journal = opened(rt, alloc, disk);
     let release = Step::Release { number: 1 };
     let spent = Reply::Refused(Refusal::Spent);
-    expect_reply(rt, alloc, &mut journal, release, &spent)?;
-    ask_both(rt, alloc, (&mut journal, machine), &LAST_STEPS)
+    expect_reply(rt, alloc, &mut journal, release, &spent);
+    ask_both(rt, alloc, (&mut journal, machine), &LAST_STEPS).expect(rt, "memory");
 }
 
 /// Two commands before the last of a spool's life.
 #[test]
-fn the_last_command(rt: HostRuntime) -> Result<(), Fail> {
+fn the_last_command(rt: HostRuntime) {
     let alloc = rt.alloc();
-    let (disk, mut machine) = aged(&rt, alloc, 281_474_976_710_654, 281_474_976_710_653)?;
-    let disk = ask_last(&rt, alloc, disk, &mut machine)?;
-    expect_spent(&rt, alloc, disk, &mut machine)?;
-    Ok(())
+    let (disk, mut machine) = aged(&rt, alloc, 281_474_976_710_654, 281_474_976_710_653);
+    let disk = ask_last(&rt, alloc, disk, &mut machine);
+    expect_spent(&rt, alloc, disk, &mut machine);
 }
 
 /// The greatest numbers, and 0, on an empty device, and the reply to each.
@@ -281,28 +254,22 @@ const GREATEST: [(Step, Reply); 8] = [
 ];
 
 /// A journal's replies to them.
-fn expect_greatest(
-    rt: &impl Abort,
-    alloc: Global,
-    journal: &mut Journal<MemDisk>,
-) -> Result<(), AllocError> {
+fn expect_greatest(rt: &impl Abort, alloc: Global, journal: &mut Journal<MemDisk>) {
     for (step, reply) in &GREATEST {
-        expect_reply(rt, alloc, journal, *step, reply)?;
+        expect_reply(rt, alloc, journal, *step, reply);
     }
-    Ok(())
 }
 
 /// A journal on a new device E.
 fn new_journal(rt: &impl Abort, alloc: Global) -> Result<Journal<MemDisk>, AllocError> {
-    Ok(opened(rt, alloc, device_e(rt, alloc)?))
+    Ok(opened(rt, alloc, device_e(rt, alloc).expect(rt, "memory")))
 }
 
 #[test]
-fn the_greatest_numbers(rt: HostRuntime) -> Result<(), Fail> {
+fn the_greatest_numbers(rt: HostRuntime) {
     let alloc = rt.alloc();
-    let mut journal = new_journal(&rt, alloc)?;
-    expect_greatest(&rt, alloc, &mut journal)?;
+    let mut journal = new_journal(&rt, alloc).expect(&rt, "memory");
+    expect_greatest(&rt, alloc, &mut journal);
     expect!(rt; matches!(journal.fetch(alloc, HOP, 0), Err(Refusal::NotInFlight)));
     expect!(rt; matches!(journal.fetch(alloc, HOP, u64::MAX), Err(Refusal::NeverSent)));
-    Ok(())
 }

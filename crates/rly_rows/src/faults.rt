@@ -4,7 +4,7 @@ use crate::script::Script;
 use rly_disk::{Disk, Torn};
 use rly_journal::Journal;
 use rly_machine::{Machine, Payload};
-use std::alloc::{AllocError, Global};
+use std::alloc::Global;
 use std::process::Abort;
 
 /// What a crash may leave of the bytes that were written since the last sync.
@@ -24,17 +24,17 @@ pub(crate) fn standing<D: Disk>(
     journal: &Journal<D>,
     script: Script,
     ended: (usize, bool),
-) -> Result<(usize, Machine<Payload>), AllocError> {
+) -> (usize, Machine<Payload>) {
     let (answered, failed) = ended;
     let position = journal.position();
-    let machine = machine_after(alloc, script, answered)?;
+    let machine = machine_after(alloc, script, answered).expect(rt, "memory");
     if position == machine.seq() {
-        return Ok((answered, machine));
+        return (answered, machine);
     }
     // else an answer was lost
     expect!(rt; failed && answered < script.steps.len());
     let next = answered.saturating_add(1);
-    Ok((next, standing_at(rt, alloc, script, next, position)?))
+    (next, standing_at(rt, alloc, script, next, position))
 }
 
 /// The plain machine after so many rounds, at a journal's position.
@@ -44,9 +44,9 @@ fn standing_at(
     script: Script,
     rounds: usize,
     position: u64,
-) -> Result<Machine<Payload>, AllocError> {
-    let machine = machine_after(alloc, script, rounds)?;
+) -> Machine<Payload> {
+    let machine = machine_after(alloc, script, rounds).expect(rt, "memory");
     // else a part of a round stands
     expect!(rt; position == machine.seq());
-    Ok(machine)
+    machine
 }

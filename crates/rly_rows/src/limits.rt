@@ -8,7 +8,6 @@ use rly_journal::Journal;
 use rly_machine::{Ids, Machine, Payload, Reply};
 use std::alloc::{AllocError, Global};
 use std::process::Abort;
-use std::test::Fail;
 
 /// The line `take 1 2 1 0 42 5000`.
 const LIMITED: Step = Step::Take {
@@ -29,35 +28,28 @@ const LIMITED_GROUP: [u8; 32] = [
 ];
 
 /// The device of these bytes once that datagram was taken, the second one.
-fn limited(rt: &impl Abort, alloc: Global, bytes: Vec<u8>) -> Result<MemDisk, AllocError> {
+fn limited(rt: &impl Abort, alloc: Global, bytes: Vec<u8>) -> MemDisk {
     let mut journal = opened(rt, alloc, MemDisk::new(alloc, bytes));
-    let answers = ask_all(rt, alloc, &mut journal, &[LIMITED])?;
+    let answers = ask_all(rt, alloc, &mut journal, &[LIMITED]).expect(rt, "memory");
     expect!(rt; answers.iter().all(|answer| matches!(answer.reply, Reply::Taken(2))));
-    Ok(journal.into_disk())
+    journal.into_disk()
 }
 
 /// Its group stands behind the first one, whose gate is at this place.
-fn expect_groups(
-    rt: &impl Abort,
-    alloc: Global,
-    bytes: Vec<u8>,
-    gate: usize,
-) -> Result<(), AllocError> {
-    let mut disk = limited(rt, alloc, bytes)?;
-    let bytes = bytes_of(rt, alloc, &mut disk)?;
+fn expect_groups(rt: &impl Abort, alloc: Global, bytes: Vec<u8>, gate: usize) {
+    let mut disk = limited(rt, alloc, bytes);
+    let bytes = bytes_of(rt, alloc, &mut disk).expect(rt, "memory");
     let (first, _) = FIRST_GROUP.split_at(31);
     expect!(rt; stand_at(&bytes, gate, first));
     expect!(rt; stand_at(&bytes, gate.saturating_add(31), &LIMITED_GROUP));
-    Ok(())
 }
 
 /// At place 195 behind a head of the first form, and at 188 behind one of the second.
 #[test]
-fn a_record_of_a_limit(rt: HostRuntime) -> Result<(), Fail> {
+fn a_record_of_a_limit(rt: HostRuntime) {
     let alloc = rt.alloc();
-    expect_groups(&rt, alloc, stored_taken(alloc)?, 164)?;
-    expect_groups(&rt, alloc, taken(&rt, alloc)?, 157)?;
-    Ok(())
+    expect_groups(&rt, alloc, stored_taken(alloc).expect(&rt, "memory"), 164);
+    expect_groups(&rt, alloc, taken(&rt, alloc).expect(&rt, "memory"), 157);
 }
 
 /// The plain machine after both takes.
@@ -70,17 +62,12 @@ fn machine(alloc: Global) -> Result<Machine<Payload>, AllocError> {
 }
 
 /// Asks steps of the device once it was opened again and of the plain machine, and then all that the state tells.
-fn expect_again(
-    rt: &impl Abort,
-    alloc: Global,
-    disk: MemDisk,
-    steps: &[Step],
-) -> Result<(), AllocError> {
-    let mut machine = machine(alloc)?;
+fn expect_again(rt: &impl Abort, alloc: Global, disk: MemDisk, steps: &[Step]) {
+    let mut machine = machine(alloc).expect(rt, "memory");
     let mut journal = opened(rt, alloc, disk);
-    let answers = ask_all(rt, alloc, &mut journal, steps)?;
-    expect_replies(rt, alloc, &mut machine, steps, &answers)?;
-    expect_state(rt, alloc, &mut journal, &mut machine)
+    let answers = ask_all(rt, alloc, &mut journal, steps).expect(rt, "memory");
+    expect_replies(rt, alloc, &mut machine, steps, &answers).expect(rt, "memory");
+    expect_state(rt, alloc, &mut journal, &mut machine).expect(rt, "memory");
 }
 
 /// The first datagram is sent, and then the one with a limit, or the hop is asked too late for it.
@@ -102,22 +89,21 @@ const KEPT: [&[Step]; 2] = [
 
 /// The limit stands on the device, whatever the form of its head.
 #[test]
-fn a_limit_is_there_again(rt: HostRuntime) -> Result<(), Fail> {
+fn a_limit_is_there_again(rt: HostRuntime) {
     let alloc = rt.alloc();
     for steps in KEPT {
-        let disk = limited(&rt, alloc, stored_taken(alloc)?)?;
-        expect_again(&rt, alloc, disk, steps)?;
-        let disk = limited(&rt, alloc, taken(&rt, alloc)?)?;
-        expect_again(&rt, alloc, disk, steps)?;
+        let disk = limited(&rt, alloc, stored_taken(alloc).expect(&rt, "memory"));
+        expect_again(&rt, alloc, disk, steps);
+        let disk = limited(&rt, alloc, taken(&rt, alloc).expect(&rt, "memory"));
+        expect_again(&rt, alloc, disk, steps);
     }
-    Ok(())
 }
 
 /// A journal of a new device E, in which the first of three datagrams has a limit, and so has the third.
-fn three_taken(rt: &impl Abort, alloc: Global) -> Result<Journal<MemDisk>, AllocError> {
-    let mut journal = opened(rt, alloc, device_e(rt, alloc)?);
-    ask_each(rt, alloc, &mut journal, &THREE)?;
-    Ok(journal)
+fn three_taken(rt: &impl Abort, alloc: Global) -> Journal<MemDisk> {
+    let mut journal = opened(rt, alloc, device_e(rt, alloc).expect(rt, "memory"));
+    ask_each(rt, alloc, &mut journal, &THREE).expect(rt, "memory");
+    journal
 }
 
 /// They are taken.
@@ -179,32 +165,33 @@ const THIRD_ENTRY: [u8; 21] = [
 
 /// What has expired and the limits that are left stand in the next head, and are read of it.
 #[test]
-fn a_head_has_limits(rt: HostRuntime) -> Result<(), Fail> {
+fn a_head_has_limits(rt: HostRuntime) {
     let alloc = rt.alloc();
-    let mut machine = Machine::new(alloc, DEVICE_E.params)?;
-    make_all(alloc, &mut machine, &THREE)?;
-    make_all(alloc, &mut machine, &LATE)?;
-    let mut journal = three_taken(&rt, alloc)?;
-    ask_each(&rt, alloc, &mut journal, &LATE)?;
+    let mut machine = Machine::new(alloc, DEVICE_E.params).expect(&rt, "no fault");
+    make_all(alloc, &mut machine, &THREE).expect(&rt, "memory");
+    make_all(alloc, &mut machine, &LATE).expect(&rt, "memory");
+    let mut journal = three_taken(&rt, alloc);
+    ask_each(&rt, alloc, &mut journal, &LATE).expect(&rt, "memory");
     let mut disk = journal.into_disk();
-    let bytes = bytes_of(&rt, alloc, &mut disk)?;
+    let bytes = bytes_of(&rt, alloc, &mut disk).expect(&rt, "memory");
     expect!(rt; stand_at(&bytes, 82_972, &EXPIRED_HEAD));
     expect!(rt; stand_at(&bytes, 84_286, &THIRD_ENTRY));
     let mut journal = opened(&rt, alloc, disk);
-    expect_state(&rt, alloc, &mut journal, &mut machine)?;
-    Ok(())
+    expect_state(&rt, alloc, &mut journal, &mut machine).expect(&rt, "memory");
 }
 
 /// Each reply lists what has expired before what went into flight.
 #[test]
-fn what_expired_is_listed(rt: HostRuntime) -> Result<(), Fail> {
+fn what_expired_is_listed(rt: HostRuntime) {
     let alloc = rt.alloc();
-    let mut journal = three_taken(&rt, alloc)?;
-    let answers = ask_all(&rt, alloc, &mut journal, &[Step::Pick { now: 11 }])?;
+    let mut journal = three_taken(&rt, alloc);
+    let answers = ask_all(&rt, alloc, &mut journal, &[Step::Pick { now: 11 }]).expect(
+        &rt, "memory",
+    );
     let want = Reply::Picked {
         number: 1,
         id: 2,
-        expired: Ids::new(vec![in alloc; 1u64]?),
+        expired: Ids::new(vec![in alloc; 1u64].expect(&rt, "memory")),
         dropped: Ids::new(Vec::new(alloc)),
     };
     let [answer] = answers.as_slice() else {
@@ -212,5 +199,4 @@ fn what_expired_is_listed(rt: HostRuntime) -> Result<(), Fail> {
     };
     expect!(rt; is_same(&answer.reply, &want));
     expect!(rt; journal.fetch(alloc, HOP, 2).is_err());
-    Ok(())
 }

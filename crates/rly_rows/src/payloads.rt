@@ -10,7 +10,6 @@ use rly_journal::Journal;
 use rly_machine::Reply;
 use std::alloc::{AllocError, Global};
 use std::process::Abort;
-use std::test::Fail;
 
 /// What a take is told.
 #[derive(Clone, Copy)]
@@ -52,23 +51,23 @@ fn told_by(
     disk: MemDisk,
     params: Params,
     (steps, want): (&[Step], &[Told]),
-) -> Result<MemDisk, AllocError> {
+) -> MemDisk {
     let mut journal = opened(rt, alloc, disk);
     expect!(rt; journal.params() == params);
-    expect_told(rt, alloc, &mut journal, steps, want)?;
-    Ok(journal.into_disk())
+    expect_told(rt, alloc, &mut journal, steps, want).expect(rt, "memory");
+    journal.into_disk()
 }
 
 /// Device E with a header of version 1, and bytes after its fields.
-fn first_version(rt: &impl Abort, alloc: Global, after: u8) -> Result<Vec<u8>, AllocError> {
-    let mut bytes = stored(alloc)?;
+fn first_version(rt: &impl Abort, alloc: Global, after: u8) -> Vec<u8> {
+    let mut bytes = stored(alloc).expect(rt, "memory");
     assert!(rt; bytes.len() == SIZE);
     bytes[51..64].fill(after);
-    Ok(bytes)
+    bytes
 }
 
 /// Device E takes 1,200 bytes and no more.
-fn expect_1200(rt: &impl Abort, alloc: Global, bytes: Vec<u8>) -> Result<(), AllocError> {
+fn expect_1200(rt: &impl Abort, alloc: Global, bytes: Vec<u8>) {
     let steps = [
         take(1, 0, 1_201),
         take(1, 0, 1_200),
@@ -82,42 +81,41 @@ fn expect_1200(rt: &impl Abort, alloc: Global, bytes: Vec<u8>) -> Result<(), All
         Told::Refused(Refusal::TooLong),
     ];
     let disk = MemDisk::new(alloc, bytes);
-    let _ = told_by(rt, alloc, disk, DEVICE_E.params, (&steps, &want))?;
-    Ok(())
+    let _ = told_by(rt, alloc, disk, DEVICE_E.params, (&steps, &want));
 }
 
 /// So it does whatever the version of its header, and whatever stands after the fields of one of version 1.
 #[test]
-fn payloads_of_1200_bytes(rt: HostRuntime) -> Result<(), Fail> {
+fn payloads_of_1200_bytes(rt: HostRuntime) {
     let alloc = rt.alloc();
-    expect_1200(&rt, alloc, formatted(&rt, alloc)?)?;
+    expect_1200(&rt, alloc, formatted(&rt, alloc).expect(&rt, "memory"));
     for after in [0, 0x20, 0xff] {
-        expect_1200(&rt, alloc, first_version(&rt, alloc, after)?)?;
+        expect_1200(&rt, alloc, first_version(&rt, alloc, after));
     }
-    Ok(())
 }
 
 /// The device of these bytes after the rounds in which its second segment is opened.
 fn carried(rt: &impl Abort, alloc: Global, bytes: Vec<u8>) -> Result<Vec<u8>, AllocError> {
     let mut journal = opened(rt, alloc, MemDisk::new(alloc, bytes));
-    ask_each(rt, alloc, &mut journal, &steps())?;
+    ask_each(rt, alloc, &mut journal, &steps()).expect(rt, "memory");
     let mut disk = journal.into_disk();
     bytes_of(rt, alloc, &mut disk)
 }
 
 /// Neither a round nor an opening of a segment writes to a header.
 #[test]
-fn a_header_stays_as_it_is(rt: HostRuntime) -> Result<(), Fail> {
+fn a_header_stays_as_it_is(rt: HostRuntime) {
     let alloc = rt.alloc();
-    let first = first_version(&rt, alloc, 0xff)?;
-    let after = carried(&rt, alloc, first_version(&rt, alloc, 0xff)?)?;
+    let first = first_version(&rt, alloc, 0xff);
+    let after = carried(&rt, alloc, first_version(&rt, alloc, 0xff)).expect(&rt, "memory");
     expect!(rt; after.iter().take(64).eq(first.iter().take(64)));
-    let second = formatted(&rt, alloc)?;
-    let after = carried(&rt, alloc, formatted(&rt, alloc)?)?;
+    let second = formatted(&rt, alloc).expect(&rt, "memory");
+    let after = carried(&rt, alloc, formatted(&rt, alloc).expect(&rt, "memory")).expect(
+        &rt, "memory",
+    );
     expect!(rt; after.iter().take(64).eq(second.iter().take(64)));
     // the second segment was opened
     expect!(rt; stand_at(&after, 82_972, &[0xa5, 0, 0, 0, 0, 0, 0, 0, 2]));
-    Ok(())
 }
 
 /// One hop, one peer, a window of 8, 16 items and 8,192 bytes on two segments of the least length for payloads of 8,192 bytes.
@@ -172,7 +170,7 @@ const LONG_GROUP: [Found; 2] = [
 ];
 
 /// It takes 8,192 bytes and no more, and a second one finds no room.
-fn taken(rt: &impl Abort, alloc: Global, disk: MemDisk) -> Result<MemDisk, AllocError> {
+fn taken(rt: &impl Abort, alloc: Global, disk: MemDisk) -> MemDisk {
     let steps = [
         take(1, 0, 8_193),
         take(1, 0, 8_192),
@@ -190,21 +188,20 @@ fn taken(rt: &impl Abort, alloc: Global, disk: MemDisk) -> Result<MemDisk, Alloc
 
 /// What it took is sent, also after an opening.
 #[test]
-fn payloads_of_8192_bytes(rt: HostRuntime) -> Result<(), Fail> {
+fn payloads_of_8192_bytes(rt: HostRuntime) {
     let alloc = rt.alloc();
-    let mut disk = device_of(&rt, alloc, &LONG, LONG_SIZE)?;
-    expect_found(&rt, alloc, &mut disk, LONG_SIZE, &LONG_FRONT)?;
-    let mut disk = taken(&rt, alloc, disk)?;
-    expect_found(&rt, alloc, &mut disk, LONG_SIZE, &LONG_GROUP)?;
-    expect_sent(&rt, alloc, disk)?;
-    Ok(())
+    let mut disk = device_of(&rt, alloc, &LONG, LONG_SIZE);
+    expect_found(&rt, alloc, &mut disk, LONG_SIZE, &LONG_FRONT);
+    let mut disk = taken(&rt, alloc, disk);
+    expect_found(&rt, alloc, &mut disk, LONG_SIZE, &LONG_GROUP);
+    expect_sent(&rt, alloc, disk);
 }
 
 /// Its datagram is picked and fetched.
-fn expect_sent(rt: &impl Abort, alloc: Global, disk: MemDisk) -> Result<(), AllocError> {
+fn expect_sent(rt: &impl Abort, alloc: Global, disk: MemDisk) {
     let steps = [Step::Pick { now: 0 }, Step::Fetch { number: 1 }];
     let mut journal = opened(rt, alloc, disk);
-    let answers = ask_all(rt, alloc, &mut journal, &steps)?;
+    let answers = ask_all(rt, alloc, &mut journal, &steps).expect(rt, "memory");
     let [picked, fetched] = answers.as_slice() else {
         panic!(rt; "not two answers");
     };
@@ -216,5 +213,4 @@ fn expect_sent(rt: &impl Abort, alloc: Global, disk: MemDisk) -> Result<(), Allo
         }
         _ => panic!(rt; "not fetched"),
     }
-    Ok(())
 }

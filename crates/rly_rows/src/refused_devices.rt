@@ -8,7 +8,6 @@ use rly_machine::Machine;
 use rly_standing::OpenFault;
 use std::alloc::{AllocError, Global};
 use std::process::Abort;
-use std::test::Fail;
 
 /// A device that a row begins with.
 #[derive(Clone, Copy, PartialEq, Eq)]
@@ -340,11 +339,11 @@ fn expect_row(
     size: usize,
     changes: &[(usize, u8)],
     want: Option<OpenFault>,
-) -> Result<(), AllocError> {
-    let mut bytes = Vec::from_slice(alloc, device)?;
+) {
+    let mut bytes = Vec::from_slice(alloc, device).expect(rt, "memory");
     set_all(rt, &mut bytes, changes);
     bytes.truncate(size);
-    expect_opening(rt, alloc, &bytes, want)
+    expect_opening(rt, alloc, &bytes, want).expect(rt, "memory");
 }
 
 /// Sets bytes.
@@ -356,34 +355,32 @@ fn set_all(rt: &impl Abort, bytes: &mut [u8], changes: &[(usize, u8)]) {
 }
 
 /// The bytes of the device that a row begins with.
-fn bytes_of_base(rt: &impl Abort, alloc: Global, base: Base) -> Result<Vec<u8>, AllocError> {
+fn bytes_of_base(rt: &impl Abort, alloc: Global, base: Base) -> Vec<u8> {
     match base {
-        Base::Formatted => formatted(rt, alloc),
-        Base::Taken => taken(rt, alloc),
-        Base::Stored => stored(alloc),
-        Base::StoredTaken => stored_taken(alloc),
+        Base::Formatted => formatted(rt, alloc).expect(rt, "memory"),
+        Base::Taken => taken(rt, alloc).expect(rt, "memory"),
+        Base::Stored => stored(alloc).expect(rt, "memory"),
+        Base::StoredTaken => stored_taken(alloc).expect(rt, "memory"),
     }
 }
 
 #[test]
-fn changed_devices(rt: HostRuntime) -> Result<(), Fail> {
+fn changed_devices(rt: HostRuntime) {
     let alloc = rt.alloc();
     for (base, size, changes, want) in &ROWS {
-        let device = bytes_of_base(&rt, alloc, *base)?;
-        expect_row(&rt, alloc, &device, *size, changes, *want)?;
+        let device = bytes_of_base(&rt, alloc, *base);
+        expect_row(&rt, alloc, &device, *size, changes, *want);
     }
-    Ok(())
 }
 
 /// A group that was made before is refused at its own gate: its Take is not accepted again.
 #[test]
-fn a_group_that_stands_twice(rt: HostRuntime) -> Result<(), Fail> {
+fn a_group_that_stands_twice(rt: HostRuntime) {
     let alloc = rt.alloc();
-    let mut bytes = stored_taken(alloc)?;
+    let mut bytes = stored_taken(alloc).expect(&rt, "memory");
     assert!(rt; bytes.len() == SIZE);
     for place in 164..195 {
         bytes[place + 31] = bytes[place];
     }
-    expect_opening(&rt, alloc, &bytes, Some(OpenFault::Damaged(195)))?;
-    Ok(())
+    expect_opening(&rt, alloc, &bytes, Some(OpenFault::Damaged(195))).expect(&rt, "memory");
 }

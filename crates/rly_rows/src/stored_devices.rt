@@ -2,7 +2,6 @@
 //! before there were limits and longer payloads, and with a header of version 2 and heads of the second form.
 use crate::device::{SECOND_GATE, SIZE, formatted, taken};
 use std::alloc::{AllocError, Global};
-use std::test::Fail;
 
 /// Places 0 to 52, the header: the gate, the text, version 2, the counts, the segments' length, the limits, and the longest payload.
 pub(crate) const HEADER: [u8; 53] = [
@@ -64,8 +63,8 @@ pub(crate) fn stand_at(bytes: &[u8], place: usize, want: &[u8]) -> bool {
 }
 
 #[test]
-fn a_device_that_was_formatted(rt: HostRuntime) -> Result<(), Fail> {
-    let bytes = formatted(&rt, rt.alloc())?;
+fn a_device_that_was_formatted(rt: HostRuntime) {
+    let bytes = formatted(&rt, rt.alloc()).expect(&rt, "memory");
     assert!(rt; bytes.len() == SIZE);
     expect!(rt; stand_at(&bytes, 0, &HEADER));
     expect!(rt; are_zero(&bytes, 53, 11));
@@ -73,17 +72,15 @@ fn a_device_that_was_formatted(rt: HostRuntime) -> Result<(), Fail> {
     expect!(rt; are_zero(&bytes, 77, 80));
     expect!(rt; are_zero(&bytes, 157, SIZE - 157));
     expect!(rt; bytes.get(SECOND_GATE) == Some(&0));
-    Ok(())
 }
 
 #[test]
-fn a_device_that_took_one_datagram(rt: HostRuntime) -> Result<(), Fail> {
-    let bytes = taken(&rt, rt.alloc())?;
+fn a_device_that_took_one_datagram(rt: HostRuntime) {
+    let bytes = taken(&rt, rt.alloc()).expect(&rt, "memory");
     assert!(rt; bytes.len() == SIZE);
     expect!(rt; stand_at(&bytes, 0, &HEADER));
     expect!(rt; stand_at(&bytes, 64, &HEAD));
     expect!(rt; are_zero(&bytes, 77, 80));
     expect!(rt; stand_at(&bytes, 157, &FIRST_GROUP));
     expect!(rt; are_zero(&bytes, 189, SIZE - 189));
-    Ok(())
 }

@@ -78,8 +78,11 @@ const FORMATTED: [Made; 14] = [
 #[test]
 fn a_format(rt: HostRuntime) -> Result<(), Fail> {
     let alloc = rt.alloc();
-    let zeroed = MemDisk::new(alloc, vec![in alloc; 0u8; SIZE]?);
-    let mut disk = Watched::new(zeroed, Vec::with_capacity(alloc, MOST)?);
+    let zeroed = MemDisk::new(alloc, vec![in alloc; 0u8; SIZE].expect(&rt, "memory"));
+    let mut disk = Watched::new(
+        zeroed,
+        Vec::with_capacity(alloc, MOST).expect(&rt, "memory"),
+    );
     expect!(rt; format(alloc, &mut disk, &DEVICE_E) == Ok(()));
     expect!(rt; are_told(&disk, 0, &FORMATTED));
     Ok(())
@@ -119,19 +122,20 @@ const OPENED: [Made; 10] = [
 
 /// The device after the opening and the round.
 fn taken(rt: &impl Abort, alloc: Global) -> Result<Watched<MemDisk>, AllocError> {
-    let mut journal = watched_e(rt, alloc)?;
-    ask_each(rt, alloc, &mut journal, &[FIRST_TAKE])?;
+    let mut journal = watched_e(rt, alloc).expect(rt, "memory");
+    ask_each(rt, alloc, &mut journal, &[FIRST_TAKE]).expect(rt, "memory");
     Ok(journal.into_disk())
 }
 
 #[test]
-fn a_round_and_an_opening(rt: HostRuntime) -> Result<(), Fail> {
+fn a_round_and_an_opening(rt: HostRuntime) {
     let alloc = rt.alloc();
-    let disk = taken(&rt, alloc)?;
+    let disk = taken(&rt, alloc).expect(&rt, "memory");
     expect!(rt; are_told(&disk, 0, &OPENED_AND_TAKEN));
-    let disk = watched(&rt, alloc, disk.into_inner())?.into_disk();
+    let disk = watched(&rt, alloc, disk.into_inner())
+        .expect(&rt, "memory")
+        .into_disk();
     expect!(rt; are_told(&disk, 0, &OPENED));
-    Ok(())
 }
 
 /// A device that fails at the first sync of a round, after it. The opening makes 7 calls.
@@ -144,8 +148,8 @@ fn failed(rt: &impl Abort, alloc: Global) -> Result<Watched<FaultDisk<MemDisk>>,
 }
 
 #[test]
-fn a_round_whose_first_sync_fails(rt: HostRuntime) -> Result<(), Fail> {
-    let disk = failed(&rt, rt.alloc())?;
+fn a_round_whose_first_sync_fails(rt: HostRuntime) {
+    let disk = failed(&rt, rt.alloc()).expect(&rt, "memory");
     let last = ToldCall {
         call: DiskCall::Sync,
         failed: true,
@@ -153,7 +157,6 @@ fn a_round_whose_first_sync_fails(rt: HostRuntime) -> Result<(), Fail> {
     expect!(rt; disk.told().len() == 9);
     let want = [Made::Write(158, 31).told(), last];
     expect!(rt; disk.told().iter().skip(7).eq(want.iter()));
-    Ok(())
 }
 
 /// Takes, picks, fetches and releases in one round: of a datagram of three bytes, and of one without any.
@@ -219,15 +222,14 @@ fn expect_fetched(rt: &impl Abort, alloc: Global, journal: &mut Journal<Watched<
 /// A Fetch of bytes is one read of them, where the group has them, once that is durable; and so where they are released in the same
 /// round. A refused one and one of no bytes are none.
 #[test]
-fn fetches(rt: HostRuntime) -> Result<(), Fail> {
+fn fetches(rt: HostRuntime) {
     let alloc = rt.alloc();
-    let mut journal = watched_e(&rt, alloc)?;
-    ask_fetching(&rt, alloc, &mut journal)?;
+    let mut journal = watched_e(&rt, alloc).expect(&rt, "memory");
+    ask_fetching(&rt, alloc, &mut journal).expect(&rt, "memory");
     expect_fetched(&rt, alloc, &mut journal);
     let disk = journal.into_disk();
     // The opening makes 7 calls.
     expect!(rt; are_told(&disk, 7, &FETCHED));
-    Ok(())
 }
 
 /// The round in which a segment is opened.
@@ -250,14 +252,13 @@ const MOVED: [Made; 12] = [
 
 /// A segment is opened: the victim's three payloads are read, those in flight and then the one that waits.
 #[test]
-fn a_round_that_opens_a_segment(rt: HostRuntime) -> Result<(), Fail> {
+fn a_round_that_opens_a_segment(rt: HostRuntime) {
     let alloc = rt.alloc();
-    let mut journal = watched_e(&rt, alloc)?;
+    let mut journal = watched_e(&rt, alloc).expect(&rt, "memory");
     let steps = steps();
     let (first, _) = steps.split_at(8);
-    ask_each(&rt, alloc, &mut journal, first)?;
+    ask_each(&rt, alloc, &mut journal, first).expect(&rt, "memory");
     let disk = journal.into_disk();
     // The opening makes 7 calls, and seven rounds make four each.
     expect!(rt; are_told(&disk, 35, &MOVED));
-    Ok(())
 }

@@ -8,9 +8,8 @@ use rly_core::Refusal;
 use rly_disk::{After, Disk, FaultDisk, MemDisk, Torn};
 use rly_journal::Journal;
 use rly_machine::Reply;
-use std::alloc::{AllocError, Global};
+use std::alloc::Global;
 use std::process::Abort;
-use std::test::Fail;
 
 /// The first datagram twice.
 const TWICE: [Step; 2] = [FIRST_TAKE, FIRST_TAKE];
@@ -37,35 +36,38 @@ const THIRD_TAKE: Step = Step::Take {
 const THREE: [Step; 3] = [FIRST_TAKE, SECOND_TAKE, THIRD_TAKE];
 
 /// How many device calls the opening of device E makes.
-fn calls_of_opening(rt: &impl Abort, alloc: Global) -> Result<u64, AllocError> {
-    let disk = FaultDisk::new(device_e(rt, alloc)?, 0, 0, After::GoesOn);
+fn calls_of_opening(rt: &impl Abort, alloc: Global) -> u64 {
+    let disk = FaultDisk::new(
+        device_e(rt, alloc).expect(rt, "memory"),
+        0,
+        0,
+        After::GoesOn,
+    );
     let disk = opened(rt, alloc, disk).into_disk();
-    Ok(disk.calls())
+    disk.calls()
 }
 
 /// A journal of device E whose device fails at a sync of its first round: the round writes, syncs, writes and syncs.
-fn failing_at_the_second_sync(
-    rt: &impl Abort,
-    alloc: Global,
-) -> Result<Journal<FaultDisk<MemDisk>>, AllocError> {
-    let at = calls_of_opening(rt, alloc)?.saturating_add(4);
-    let disk = FaultDisk::new(device_e(rt, alloc)?, at, 0, After::GoesOn);
-    Ok(opened(rt, alloc, disk))
+fn failing_at_the_second_sync(rt: &impl Abort, alloc: Global) -> Journal<FaultDisk<MemDisk>> {
+    let at = calls_of_opening(rt, alloc).saturating_add(4);
+    let disk = FaultDisk::new(
+        device_e(rt, alloc).expect(rt, "memory"),
+        at,
+        0,
+        After::GoesOn,
+    );
+    opened(rt, alloc, disk)
 }
 
 /// Asks a round in which the device fails, and one more, of a device that fails once.
-fn expect_unsure(
-    rt: &impl Abort,
-    alloc: Global,
-    steps: &[Step],
-) -> Result<FaultDisk<MemDisk>, AllocError> {
-    let opening = calls_of_opening(rt, alloc)?;
-    let mut journal = failing_at_the_second_sync(rt, alloc)?;
-    ask_unsure(rt, alloc, &mut journal, steps)?;
+fn expect_unsure(rt: &impl Abort, alloc: Global, steps: &[Step]) -> FaultDisk<MemDisk> {
+    let opening = calls_of_opening(rt, alloc);
+    let mut journal = failing_at_the_second_sync(rt, alloc);
+    ask_unsure(rt, alloc, &mut journal, steps);
     let disk = journal.into_disk();
     expect!(rt; (disk.failures(), disk.syncs()) == (1, 3));
     expect!(rt; disk.calls() == opening.saturating_add(4));
-    Ok(disk)
+    disk
 }
 
 /// Asks them.
@@ -74,69 +76,58 @@ fn ask_unsure(
     alloc: Global,
     journal: &mut Journal<FaultDisk<MemDisk>>,
     steps: &[Step],
-) -> Result<(), AllocError> {
-    let answers = ask_all(rt, alloc, journal, steps)?;
+) {
+    let answers = ask_all(rt, alloc, journal, steps).expect(rt, "memory");
     expect_refused(rt, &answers, Refusal::Unsure, 0);
-    expect_broken(rt, alloc, journal, steps, 0)
+    expect_broken(rt, alloc, journal, steps, 0).expect(rt, "memory");
 }
 
 /// Expects of a journal the state before a round or after it.
-fn expect_whole<D: Disk>(
-    rt: &impl Abort,
-    alloc: Global,
-    journal: &mut Journal<D>,
-    steps: &[Step],
-) -> Result<(), AllocError> {
+fn expect_whole<D: Disk>(rt: &impl Abort, alloc: Global, journal: &mut Journal<D>, steps: &[Step]) {
     let script = Script { steps, calls: 64 };
-    let (_, mut machine) = standing(rt, alloc, journal, script, (0, true))?;
-    expect_state(rt, alloc, journal, &mut machine)
+    let (_, mut machine) = standing(rt, alloc, journal, script, (0, true));
+    expect_state(rt, alloc, journal, &mut machine).expect(rt, "memory");
 }
 
 /// Device E after two openings and a round of two copies, which makes two syncs.
-fn two_copies(rt: &impl Abort, alloc: Global) -> Result<MemDisk, AllocError> {
-    let disk = FaultDisk::new(device_e(rt, alloc)?, 0, 0, After::GoesOn);
+fn two_copies(rt: &impl Abort, alloc: Global) -> MemDisk {
+    let disk = FaultDisk::new(
+        device_e(rt, alloc).expect(rt, "memory"),
+        0,
+        0,
+        After::GoesOn,
+    );
     let disk = opened(rt, alloc, disk).into_disk();
     let syncs = disk.syncs();
     let mut journal = opened(rt, alloc, disk);
-    expect_copies(rt, alloc, &mut journal)?;
+    expect_copies(rt, alloc, &mut journal);
     let disk = journal.into_disk();
     // each opening makes one sync
     expect!(rt; disk.syncs() == syncs.saturating_add(1 + 2));
-    Ok(disk.into_inner())
+    disk.into_inner()
 }
 
 /// Takes the first datagram twice in one round: it is taken once.
-fn expect_copies(
-    rt: &impl Abort,
-    alloc: Global,
-    journal: &mut Journal<FaultDisk<MemDisk>>,
-) -> Result<(), AllocError> {
-    let answers = ask_all(rt, alloc, journal, &TWICE)?;
+fn expect_copies(rt: &impl Abort, alloc: Global, journal: &mut Journal<FaultDisk<MemDisk>>) {
+    let answers = ask_all(rt, alloc, journal, &TWICE).expect(rt, "memory");
     assert!(rt; answers.len() == 2);
     expect!(rt; is_same(&answers[0].reply, &Reply::Taken(1)) && answers[0].position == 1);
     expect!(rt; is_same(&answers[1].reply, &Reply::Already(1)) && answers[1].position == 1);
     expect!(rt; journal.position() == 1);
-    Ok(())
 }
 
 /// The first group stands on a device.
-fn expect_first_group(
-    rt: &impl Abort,
-    alloc: Global,
-    disk: &mut MemDisk,
-) -> Result<(), AllocError> {
-    let bytes = bytes_of(rt, alloc, disk)?;
+fn expect_first_group(rt: &impl Abort, alloc: Global, disk: &mut MemDisk) {
+    let bytes = bytes_of(rt, alloc, disk).expect(rt, "memory");
     expect!(rt; stand_at(&bytes, 157, &FIRST_GROUP));
-    Ok(())
 }
 
 #[test]
-fn two_copies_in_one_round(rt: HostRuntime) -> Result<(), Fail> {
-    let mut disk = two_copies(&rt, rt.alloc())?;
-    expect_first_group(&rt, rt.alloc(), &mut disk)?;
+fn two_copies_in_one_round(rt: HostRuntime) {
+    let mut disk = two_copies(&rt, rt.alloc());
+    expect_first_group(&rt, rt.alloc(), &mut disk);
     let journal = opened(&rt, rt.alloc(), disk);
     expect!(rt; journal.last(PEER) == Ok(1) && journal.position() == 1);
-    Ok(())
 }
 
 /// Opens what is left of a round in which the device failed: none of its takes stands, or all up to `last` do.
@@ -146,7 +137,7 @@ fn expect_none_or_all<D: Disk + Drop>(
     disk: D,
     steps: &[Step],
     last: u64,
-) -> Result<(), AllocError> {
+) {
     let mut journal = opened(rt, alloc, disk);
     let found = journal.last(PEER);
     expect!(rt; found == Ok(0) || found == Ok(last));
@@ -154,40 +145,26 @@ fn expect_none_or_all<D: Disk + Drop>(
 }
 
 /// The same after a crash.
-fn expect_crashed(
-    rt: &impl Abort,
-    alloc: Global,
-    kind: Torn,
-    steps: &[Step],
-    last: u64,
-) -> Result<(), AllocError> {
-    let disk = expect_unsure(rt, alloc, steps)?;
+fn expect_crashed(rt: &impl Abort, alloc: Global, kind: Torn, steps: &[Step], last: u64) {
+    let disk = expect_unsure(rt, alloc, steps);
     expect_none_or_all(rt, alloc, disk.into_inner().crash(kind), steps, last)
 }
 
 /// A round whose second sync fails, with no crash, and with each.
-fn expect_failed_sync(
-    rt: &impl Abort,
-    alloc: Global,
-    steps: &[Step],
-    last: u64,
-) -> Result<(), AllocError> {
-    let disk = expect_unsure(rt, alloc, steps)?;
-    expect_none_or_all(rt, alloc, disk, steps, last)?;
+fn expect_failed_sync(rt: &impl Abort, alloc: Global, steps: &[Step], last: u64) {
+    let disk = expect_unsure(rt, alloc, steps);
+    expect_none_or_all(rt, alloc, disk, steps, last);
     for kind in &KINDS {
-        expect_crashed(rt, alloc, *kind, steps, last)?;
+        expect_crashed(rt, alloc, *kind, steps, last);
     }
-    Ok(())
 }
 
 #[test]
-fn two_copies_and_a_failed_sync(rt: HostRuntime) -> Result<(), Fail> {
-    expect_failed_sync(&rt, rt.alloc(), &TWICE, 1)?;
-    Ok(())
+fn two_copies_and_a_failed_sync(rt: HostRuntime) {
+    expect_failed_sync(&rt, rt.alloc(), &TWICE, 1);
 }
 
 #[test]
-fn three_takes_and_a_failed_sync(rt: HostRuntime) -> Result<(), Fail> {
-    expect_failed_sync(&rt, rt.alloc(), &THREE, 3)?;
-    Ok(())
+fn three_takes_and_a_failed_sync(rt: HostRuntime) {
+    expect_failed_sync(&rt, rt.alloc(), &THREE, 3);
 }

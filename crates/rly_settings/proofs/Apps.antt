@@ -1,6 +1,8 @@
 -- Commands that are built of arguments and subcommands.
-use Rattle.std.proofs.Common.{◌≡◌, Bool, true, false, not, refl, ◌∙◌, ap, ap₂}
+use Rattle.std.proofs.Common.{◌≡◌, Bool, true, false, not, refl, ◌∙◌, ap, ap₂, subst}
 use Rattle.std.proofs.lemmas.Bool.{and_parts}
+use Rattle.std.specs.Prelude.{IfOk, Ok, Result}
+use Rattle.std.specs.declared.alloc.AllocError.{AllocError}
 use Rattle.clap.specs.Words.{AddsSubcommand, App, Rule, app_of, is_simple, is_simple_and_free, rule_of, with_rule, with_subcommand}
 use Rattle.clap.specs.declared.builder.arg.Arg.{Arg}
 use Rattle.clap.specs.declared.builder.command.Command.{Command}
@@ -15,10 +17,12 @@ pub adds_command : (old sub new : Command) → AddsSubcommand old sub new → (a
 adds_command old sub new added plain = added.shape (not_true _ (and_parts _ _ (and_parts _ _ (and_parts _ _ plain).1).1).0)
 
 -- the same, of what the two are known to be
-pub with_below : (old sub new : Command) (app below : App) → ((app_of sub).top.is_plain ≡ true → app_of new ≡ with_subcommand (app_of old) (app_of sub).top)
-    → app_of old ≡ app → app_of sub ≡ below → below.top.is_plain ≡ true → app_of new ≡ with_subcommand app below.top
-with_below old sub new app below added before is plain =
-    added (ap (λ (a : App). a.top.is_plain) is ∙ plain) ∙ ap₂ with_subcommand before (ap (λ (a : App). a.top) is)
+pub with_below : (old new : Command) (sub : Result Command AllocError) (app below : App)
+    → (found : Command) × (sub ≡ Ok found) × ((app_of found).top.is_plain ≡ true → app_of new ≡ with_subcommand (app_of old) (app_of found).top)
+    → app_of old ≡ app → IfOk sub (λ command. app_of command ≡ below) → below.top.is_plain ≡ true → app_of new ≡ with_subcommand app below.top
+with_below old new sub app below added before told plain =
+    let is : app_of added.0 ≡ below = subst (λ r. IfOk r (λ command. app_of command ≡ below)) added.1 told in
+    added.2 (ap (λ (a : App). a.top.is_plain) is ∙ plain) ∙ ap₂ with_subcommand before (ap (λ (a : App). a.top) is)
 
 pub with_ruled : (old new : Command) (a : Arg) (app : App) (rule : Rule) → app_of new ≡ with_rule (app_of old) (rule_of a) → app_of old ≡ app → rule_of a ≡ rule → app_of new ≡ with_rule app rule
 with_ruled old new a app rule added before is = added ∙ ap₂ with_rule before is

@@ -1,5 +1,6 @@
-ghost use Rattle.std.specs.Prelude.{◌≡◌, IfOk, true};
+ghost use Rattle.std.specs.Prelude.{◌≡◌, IfOk, Ok, true};
 ghost use Rattle.clap.specs.Words.{app_of, new_app, with_subcommand};
+ghost use Rattle.clap.specs.declared.builder.command.Command.{Command as ACommand};
 ghost use Rattle.rly_settings.specs.CommandLine.{audit_app, format_app, key_app, plan_app, play_app, rly_app, rly_top, serve_app, sim_app};
 
 use crate::arguments::{at, batch, flag, number, with_arg, with_option, with_params, with_path};
@@ -61,20 +62,13 @@ const MADE: &str = "The file of a device that `format` made";
 pub(crate) fn program<'a>(alloc: Global) -> Result<Command<'a>, AllocError>
     ensures { IfOk result (λ command. app_of command ≡ rly_app) }
 {
-    let sim_command = sim(alloc)?;
-    let format_command = format(alloc)?;
-    let play_command = play(alloc)?;
-    let audit_command = audit(alloc)?;
-    let serve_command = serve(alloc)?;
-    let key_command = key(alloc);
-    let plan_command = plan(alloc)?;
-    let with_sim = with_command(top(alloc), sim_command)?;
-    let with_format = with_command(with_sim, format_command)?;
-    let with_play = with_command(with_format, play_command)?;
-    let with_audit = with_command(with_play, audit_command)?;
-    let with_serve = with_command(with_audit, serve_command)?;
-    let with_key = with_command(with_serve, key_command)?;
-    let with_plan = with_command(with_key, plan_command)?;
+    let with_sim = with_command(top(alloc), sim(alloc))?;
+    let with_format = with_command(with_sim, format(alloc))?;
+    let with_play = with_command(with_format, play(alloc))?;
+    let with_audit = with_command(with_play, audit(alloc))?;
+    let with_serve = with_command(with_audit, serve(alloc))?;
+    let with_key = with_command(with_serve, Ok(key(alloc)))?;
+    let with_plan = with_command(with_key, plan(alloc))?;
     Ok(with_plan)
 }
 
@@ -228,9 +222,16 @@ fn named<'a>(alloc: Global, name: &'a str, about: &'a str, behind: &'a str) -> C
     Command::new(alloc, name).about(about).after_help(behind)
 }
 
-/// A command with one command more below it.
-fn with_command<'a>(command: Command<'a>, below: Command<'a>) -> Result<Command<'a>, AllocError>
-    ensures { IfOk result (λ new. (app_of below.entry).top.is_plain ≡ true → app_of new ≡ with_subcommand (app_of command.entry) (app_of below.entry).top) }
+/// A command with one command more below it, if there was memory for that one.
+fn with_command<'a>(
+    command: Command<'a>,
+    below: Result<Command<'a>, AllocError>,
+) -> Result<Command<'a>, AllocError>
+    ensures { IfOk result (λ new. (found : ACommand) × (below.entry ≡ Ok found)
+        × ((app_of found).top.is_plain ≡ true → app_of new ≡ with_subcommand (app_of command.entry) (app_of found).top)) }
 {
-    command.subcommand(below)
+    match below {
+        Ok(found) => command.subcommand(found),
+        Err(refused) => Err(refused),
+    }
 }

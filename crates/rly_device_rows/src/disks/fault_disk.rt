@@ -39,20 +39,21 @@ fn expect_calls(
     after: After,
     done: [bool; 4],
     counted: [u64; 4],
-) -> Result<(), AllocError> {
-    let mut disk = FaultDisk::new(mem_disk(alloc, &[0; 8])?, at, 0, after);
+) {
+    let mut disk = FaultDisk::new(mem_disk(alloc, &[0; 8]).expect(rt, "memory"), at, 0, after);
     assert!(rt; disk.size() == 8);
-    assert!(rt; four_calls(alloc, &mut disk)? == done, "at {at}, {after:?}");
+    assert!(rt;
+        four_calls(alloc, &mut disk).expect(rt, "memory") == done,
+        "at {at}, {after:?}"
+    );
     assert!(rt; counts(&disk) == counted, "at {at}, {after:?}");
-    Ok(())
 }
 
 #[test]
-fn the_chosen_call_fails(rt: HostRuntime) -> Result<(), Fail> {
+fn the_chosen_call_fails(rt: HostRuntime) {
     for (at, after, done, counted) in &FAILURES {
-        expect_calls(&rt, rt.alloc(), *at, *after, *done, *counted)?;
+        expect_calls(&rt, rt.alloc(), *at, *after, *done, *counted);
     }
-    Ok(())
 }
 
 /// How many bytes the failing write puts, and what a read then gives.
@@ -71,46 +72,56 @@ fn expect_torn(rt: &impl Abort, disk: &MemDisk, image: &[u8; 4]) {
 }
 
 /// Fails in a write of 1 and 2 at place 1 of a disk of nines, and crashes after the first byte of it.
-fn expect_torn_write(
-    rt: &impl Abort,
-    alloc: Global,
-    torn: u64,
-    image: &[u8; 4],
-) -> Result<(), AllocError> {
-    let mut disk = FaultDisk::new(mem_disk(alloc, &[9; 4])?, 1, torn, After::GoesOn);
+fn expect_torn_write(rt: &impl Abort, alloc: Global, torn: u64, image: &[u8; 4]) {
+    let mut disk = FaultDisk::new(
+        mem_disk(alloc, &[9; 4]).expect(rt, "memory"),
+        1,
+        torn,
+        After::GoesOn,
+    );
     expect!(rt; put(&mut disk, 1, &[1, 2]) == Err(DiskFault));
-    assert!(rt; reads(alloc, &mut disk, 0, image)?, "torn {torn}");
+    assert!(rt;
+        reads(alloc, &mut disk, 0, image).expect(rt, "memory"),
+        "torn {torn}"
+    );
     let inner = disk.into_inner();
     expect_torn(rt, &inner, image);
     let mut crashed = inner.crash(Torn::Split(1));
     let first = if torn == 0 { 9 } else { 1 };
-    expect!(rt; reads(alloc, &mut crashed, 0, &[9, first, 9, 9])?);
-    Ok(())
+    expect!(rt; reads(alloc, &mut crashed, 0, &[9, first, 9, 9]).expect(rt, "memory"));
 }
 
 #[test]
-fn a_failing_write_is_torn(rt: HostRuntime) -> Result<(), Fail> {
+fn a_failing_write_is_torn(rt: HostRuntime) {
     for (torn, image) in &TORN_WRITES {
-        expect_torn_write(&rt, rt.alloc(), *torn, image)?;
+        expect_torn_write(&rt, rt.alloc(), *torn, image);
     }
-    Ok(())
 }
 
 #[test]
-fn a_failing_sync_settles_nothing(rt: HostRuntime) -> Result<(), Fail> {
-    let mut disk = FaultDisk::new(mem_disk(rt.alloc(), &[9; 2])?, 2, 0, After::GoesOn);
-    put(&mut disk, 0, &[1])?;
+fn a_failing_sync_settles_nothing(rt: HostRuntime) {
+    let mut disk = FaultDisk::new(
+        mem_disk(rt.alloc(), &[9; 2]).expect(&rt, "memory"),
+        2,
+        0,
+        After::GoesOn,
+    );
+    put(&mut disk, 0, &[1]).expect(&rt, "no fault");
     expect!(rt; disk.sync() == Err(DiskFault));
     let inner = disk.into_inner();
     expect!(rt; inner.is_image(&[1, 9]));
     expect!(rt; inner.is_image(&[77, 9]));
     expect!(rt; counts(&inner) == [1, 0, 0, 0]);
-    Ok(())
 }
 
 #[test]
 fn a_failing_read_leaves_its_buffer(rt: HostRuntime) -> Result<(), Fail> {
-    let mut disk = FaultDisk::new(mem_disk(rt.alloc(), &[9; 2])?, 1, 0, After::GoesOn);
+    let mut disk = FaultDisk::new(
+        mem_disk(rt.alloc(), &[9; 2]).expect(&rt, "memory"),
+        1,
+        0,
+        After::GoesOn,
+    );
     let mut buffer = [7; 2];
     let outcome = match fits(&disk, 0, 2) {
         true => disk.read_at(0, &mut buffer),
@@ -121,14 +132,13 @@ fn a_failing_read_leaves_its_buffer(rt: HostRuntime) -> Result<(), Fail> {
 }
 
 #[test]
-fn a_client_of_the_trait(rt: HostRuntime) -> Result<(), Fail> {
+fn a_client_of_the_trait(rt: HostRuntime) {
     let alloc = rt.alloc();
-    let mut disk = mem_disk(alloc, &[0; 6])?;
+    let mut disk = mem_disk(alloc, &[0; 6]).expect(&rt, "memory");
     if disk.size() == 6 {
-        write_both(&mut disk, 0, &[1, 2], 4, &[3])?;
+        write_both(&mut disk, 0, &[1, 2], 4, &[3]).expect(&rt, "no fault");
     }
-    expect!(rt; reads(alloc, &mut disk, 0, &[1, 2, 0, 0, 3, 0])?);
+    expect!(rt; reads(alloc, &mut disk, 0, &[1, 2, 0, 0, 3, 0]).expect(&rt, "memory"));
     expect!(rt; disk.is_image(&[1, 2, 0, 0, 3, 0]));
     expect!(rt; !disk.is_image(&[0, 2, 0, 0, 3, 0]));
-    Ok(())
 }

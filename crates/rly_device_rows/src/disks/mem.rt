@@ -3,27 +3,24 @@ use super::{counts, mem_disk, put, reads};
 use rly_disk::{Disk, DiskFault, MemDisk, Torn};
 use std::alloc::Global;
 use std::process::Abort;
-use std::test::Fail;
 
 /// Writes and reads a disk of eight zeroes.
-fn expect_reads(rt: &impl Abort, alloc: Global, disk: &mut MemDisk) -> Result<(), Fail> {
-    put(disk, 2, &[1, 2, 3])?;
-    expect!(rt; reads(alloc, disk, 0, &[0, 0, 1, 2, 3, 0, 0, 0])?);
-    put(disk, 4, &[9, 9])?;
-    disk.sync()?;
-    expect!(rt; reads(alloc, disk, 0, &[0, 0, 1, 2, 9, 9, 0, 0])?);
-    expect!(rt; reads(alloc, disk, 3, &[2, 9])?);
-    expect!(rt; reads(alloc, disk, 8, &[])?);
-    Ok(())
+fn expect_reads(rt: &impl Abort, alloc: Global, disk: &mut MemDisk) {
+    put(disk, 2, &[1, 2, 3]).expect(rt, "memory");
+    expect!(rt; reads(alloc, disk, 0, &[0, 0, 1, 2, 3, 0, 0, 0]).expect(rt, "memory"));
+    put(disk, 4, &[9, 9]).expect(rt, "memory");
+    disk.sync().expect(rt, "no fault");
+    expect!(rt; reads(alloc, disk, 0, &[0, 0, 1, 2, 9, 9, 0, 0]).expect(rt, "memory"));
+    expect!(rt; reads(alloc, disk, 3, &[2, 9]).expect(rt, "memory"));
+    expect!(rt; reads(alloc, disk, 8, &[]).expect(rt, "memory"));
 }
 
 #[test]
-fn reads_after_writes(rt: HostRuntime) -> Result<(), Fail> {
-    let mut disk = mem_disk(rt.alloc(), &[0; 8])?;
+fn reads_after_writes(rt: HostRuntime) {
+    let mut disk = mem_disk(rt.alloc(), &[0; 8]).expect(&rt, "memory");
     assert!(rt; disk.size() == 8);
-    expect_reads(&rt, rt.alloc(), &mut disk)?;
+    expect_reads(&rt, rt.alloc(), &mut disk);
     expect!(rt; counts(&disk) == [7, 0, 1, 0]);
-    Ok(())
 }
 
 // Each row: an image, and whether a crash may leave it.
@@ -88,13 +85,12 @@ fn expect_images_between(rt: &impl Abort, disk: &mut MemDisk) -> Result<(), Disk
 }
 
 #[test]
-fn images_before_between_and_after_syncs(rt: HostRuntime) -> Result<(), Fail> {
-    let mut disk = mem_disk(rt.alloc(), &[10, 11, 12, 13])?;
+fn images_before_between_and_after_syncs(rt: HostRuntime) {
+    let mut disk = mem_disk(rt.alloc(), &[10, 11, 12, 13]).expect(&rt, "memory");
     expect_images(&rt, &disk, &NEW);
     expect!(rt; !disk.is_image(&[10, 11, 12]));
     expect!(rt; !disk.is_image(&[10, 11, 12, 13, 0]));
-    expect_images_between(&rt, &mut disk)?;
-    Ok(())
+    expect_images_between(&rt, &mut disk).expect(&rt, "no fault");
 }
 
 /// Puts five bytes on a disk of six that has 3 at place 2 and was synced, one place of them twice.
@@ -108,10 +104,10 @@ fn write_pending(disk: &mut MemDisk) -> Result<(), DiskFault> {
 }
 
 /// Settled as 1 to 6, with five bytes put since.
-fn pending(alloc: Global) -> Result<MemDisk, Fail> {
-    let mut disk = mem_disk(alloc, &[1, 2, 0, 4, 5, 6])?;
-    write_pending(&mut disk)?;
-    Ok(disk)
+fn pending(rt: &impl Abort, alloc: Global) -> MemDisk {
+    let mut disk = mem_disk(alloc, &[1, 2, 0, 4, 5, 6]).expect(rt, "memory");
+    write_pending(&mut disk).expect(rt, "no fault");
+    disk
 }
 
 /// What each crash leaves of it.
@@ -139,28 +135,29 @@ fn expect_only(rt: &impl Abort, disk: &MemDisk, image: &[u8; 6]) {
 }
 
 /// Crashes, and reads what is left.
-fn expect_crash(rt: &impl Abort, alloc: Global, torn: Torn, image: &[u8; 6]) -> Result<(), Fail> {
-    let before = pending(alloc)?;
+fn expect_crash(rt: &impl Abort, alloc: Global, torn: Torn, image: &[u8; 6]) {
+    let before = pending(rt, alloc);
     assert!(rt; before.is_image(image), "at {torn:?}");
     let mut disk = before.crash(torn);
     expect!(rt; counts(&disk) == [0, 0, 0, 0]);
-    assert!(rt; reads(alloc, &mut disk, 0, image)?, "at {torn:?}");
+    assert!(rt;
+        reads(alloc, &mut disk, 0, image).expect(rt, "memory"),
+        "at {torn:?}"
+    );
     expect_only(rt, &disk, image);
-    Ok(())
 }
 
 #[test]
-fn a_crash_leaves_the_image_that_is_named(rt: HostRuntime) -> Result<(), Fail> {
+fn a_crash_leaves_the_image_that_is_named(rt: HostRuntime) {
     for (torn, image) in &CRASHES {
-        expect_crash(&rt, rt.alloc(), *torn, image)?;
+        expect_crash(&rt, rt.alloc(), *torn, image);
     }
-    Ok(())
 }
 
 // With an allocation that fails (`rt try --test --fail-alloc N`) a write or a sync fails, and changes nothing.
 #[test]
-fn a_refused_growth_changes_nothing(rt: HostRuntime) -> Result<(), Fail> {
-    let mut disk = mem_disk(rt.alloc(), &[5; 4])?;
+fn a_refused_growth_changes_nothing(rt: HostRuntime) {
+    let mut disk = mem_disk(rt.alloc(), &[5; 4]).expect(&rt, "memory");
     let mut failures: u64 = 0;
     let mut first = 5;
     for byte in 6..26 {
@@ -177,22 +174,20 @@ fn a_refused_growth_changes_nothing(rt: HostRuntime) -> Result<(), Fail> {
         }
     }
     expect!(rt; counts(&disk) == [40, failures, 20, 0]);
-    Ok(())
 }
 
 /// Two hundred bytes, each by a write of its own.
 #[test]
-fn many_writes_before_a_sync(rt: HostRuntime) -> Result<(), Fail> {
+fn many_writes_before_a_sync(rt: HostRuntime) {
     let alloc = rt.alloc();
-    let mut disk = mem_disk(alloc, &[5; 256])?;
+    let mut disk = mem_disk(alloc, &[5; 256]).expect(&rt, "memory");
     for byte in 0..200u8 {
-        put(&mut disk, u64::from(byte), &[byte])?;
+        put(&mut disk, u64::from(byte), &[byte]).expect(&rt, "no fault");
     }
     expect!(rt; disk.is_image(&[5; 256]));
     expect!(rt; counts(&disk) == [200, 0, 0, 0]);
-    disk.sync()?;
+    disk.sync().expect(&rt, "no fault");
     expect!(rt; !disk.is_image(&[5; 256]));
-    expect!(rt; reads(alloc, &mut disk, 0, &[0, 1, 2, 3])?);
-    expect!(rt; reads(alloc, &mut disk, 197, &[197, 198, 199, 5])?);
-    Ok(())
+    expect!(rt; reads(alloc, &mut disk, 0, &[0, 1, 2, 3]).expect(&rt, "memory"));
+    expect!(rt; reads(alloc, &mut disk, 197, &[197, 198, 199, 5]).expect(&rt, "memory"));
 }

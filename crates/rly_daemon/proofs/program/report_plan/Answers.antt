@@ -1,14 +1,15 @@
 use Rattle.std.proofs.Common.{◌∙◌, ap}
+use Rattle.rly_daemon.proofs.Outcomes.{then_both}
 use Rattle.rly_journal.specs.Journal.{JournalState}
 use Rattle.rly_daemon.specs.declared.file_disk.FileDisk.{FileDisk}
-use Rattle.rly_daemon.proofs.program.run_reports.Goals as goal
+use Rattle.rly_daemon.proofs.program.report_plan.Goals as goal
 
 pub returns : goal.returns
 returns g c =
     let relay = c.in-Ok in
     record {
-      served = record {
-        plan = c.in_ok-plan.plan;
+      served = then_both c.reports_ended.result c.reports_ended.ensures.told c.reports_ended.ensures.end (λ told end. record {
+        plan = c.args.plan.now;
         left = relay.reported.relayed.finished.last.value;
         served = record {
           opened = c.in_ok-journal.journal;
@@ -21,11 +22,11 @@ returns g c =
           seats = relay.ensures.served.2;
           served = relay.ensures.served.3;
           begins = g.E.Write.contents c.serve_reporting.new.errors;
-          told = c.in_ok-tell_end.ensures;
+          told = told;
         };
         seat = relay.reported.watched.seat.value;
         end = relay.reported.watched.end;
-        all = c.in_ok-reports_ended.ensures;
+        all = end;
         reports = relay.ensures.reported;
-      };
+      });
     }

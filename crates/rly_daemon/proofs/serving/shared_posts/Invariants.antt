@@ -1,7 +1,7 @@
 use Rattle.std.proofs.Common.{◌≡◌, ◌++◌, map}
 use Rattle.std.specs.Vec.Iter.{into_iter_items}
 use Rattle.rly_daemon.specs.Serving.{duties, duty_at, duty_of}
-use Rattle.rly_daemon.proofs.serving.posts_of.Given as goal
+use Rattle.rly_daemon.proofs.serving.shared_posts.Given as goal
 
 -- the workers so far, before those that are left
 abbrev pub invariant-loop-link : goal.invariant-loop-link

@@ -1,14 +1,15 @@
 use Rattle.std.proofs.Common.{◌∙◌, ap, arith}
+use Rattle.rly_daemon.proofs.Outcomes.{then_ok}
 use Rattle.rly_journal.specs.Journal.{JournalState}
 use Rattle.rly_daemon.specs.declared.file_disk.FileDisk.{FileDisk}
-use Rattle.rly_daemon.proofs.program.run_serve.Goals as goal
+use Rattle.rly_daemon.proofs.program.serve_plan.Goals as goal
 
 pub returns-in-Ok : goal.returns-in-Ok
 returns-in-Ok g c =
     let relay = c.in-Ok in
     record {
-      served = (
-        c.in_ok-plan.plan,
+      served = then_ok c.tell_end.result c.tell_end.ensures (λ told. (
+        c.args.plan.now,
         relay._relayed.finished.last.value,
         record {
           opened = c.in_ok-journal.journal;
@@ -21,7 +22,7 @@ returns-in-Ok g c =
           seats = omega (arith, relay.ensures.served.2);
           served = relay.ensures.served.3;
           begins = g.E.Write.contents c.serve.new.errors;
-          told = c.in_ok-tell_end-in-Ok.ensures;
+          told = told;
         },
-      );
+      ));
     }
