@@ -1,3 +1,0 @@
-cd /work/h; date +%H:%M:%S; uptime | sed 's/.*load/load/'; free -g | sed -n 2p; cat mf.done | tail -4
-for g in g15 g16 g42 g43 g50 g51 g52 g53 g54 g55 g56 g57 g58 g59 g35 g36 $(ls g6*.log 2>/dev/null | sed 's/.log//'); do [ -f $g.log ] && echo "$g $(grep -E '^rt:.*(proved|PROVED|passed|FAILED)' $g.log | grep -v kept | tail -2 | tr '\n' ';') $(tail -1 $g.log | cut -c1-90)"; done
-for p in $(pgrep -f 'bin/rattle'); do c=$(readlink /proc/$p/cwd); n=$(tr '\0' ' ' </proc/$p/cmdline 2>/dev/null| grep -o 'crate-name [a-z_]*'); o=$(tr '\0' ' ' </proc/$p/cmdline | grep -oE -- '--only[= ][A-Za-z_.]*' | tr '\n' ' ' | cut -c1-60); echo "$p $c $n $o $(ps -o ni=,stat=,time=,rss= -p $p)"; done | sort -k2 | cut -c1-160
