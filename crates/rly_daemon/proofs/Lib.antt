@@ -1,3 +1,4 @@
+pub mod Beginnings
 pub mod Workers
 pub mod Turns
 pub mod Endless

@@ -1,4 +1,5 @@
 pub mod Faults
+pub mod Gates
 pub mod FileDisk
 pub mod Formatting
 pub mod WallClock

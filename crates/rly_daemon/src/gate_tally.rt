@@ -1,4 +1,9 @@
-ghost use Rattle.std.specs.Prelude.{◌<◌, ◌^◌};
+//! What a station that reports counts of the gates that it opens.
+
+ghost use Rattle.std.specs.Prelude.{◌≡◌, ◌≢◌, ◌+◌, ◌*◌, ◌<◌, ◌≤◌, ◌^◌, ◌↔◌, ◌∷◌, [], IsTrue, ℕ};
+ghost use Rattle.rly_daemon.specs.Gates.{BeginsSegment, one_more};
+ghost use Rattle.rly_gate.specs.Group.{open_gate};
+ghost use Rattle.rly_segment.specs.Heads.{segment_place};
 
 use rly_core::Geometry;
 use rly_gate::OPEN_GATE;
@@ -10,8 +15,9 @@ use std::sync::Arc;
 /// Counts the gates that are opened on a device: a segment's, or that of a group, which a round wrote.
 #[derive(Debug, Drop)]
 pub(crate) struct GateTally {
+    /// Where the first segment begins, and the length of each.
     first: u64,
-    second: u64,
+    length: u64,
     rounds: u64,
     segments: u64,
     tally: Arc<Tally, Global>,
@@ -21,10 +27,12 @@ impl GateTally {
     /// Nothing was opened yet on a device of this geometry.
     pub(crate) fn new(geometry: &Geometry, tally: Arc<Tally, Global>) -> GateTally
         requires { geometry.now.length < 2 ^ 31 }
+        ensures segments { (result.first ≡ segment_place geometry.now 0) × (result.length ≡ geometry.now.length) }
+        ensures none { (result.rounds ≡ 0) × (result.segments ≡ 0) }
     {
         GateTally {
             first: segment_place(geometry, 0),
-            second: segment_place(geometry, 1),
+            length: geometry.length,
             rounds: 0,
             segments: 0,
             tally,
@@ -32,15 +40,32 @@ impl GateTally {
     }
 
     /// These bytes were written at a place.
-    pub(crate) fn note(&mut self, place: u64, bytes: &[u8]) {
+    pub(crate) fn note(&mut self, place: u64, bytes: &[u8])
+        ensures closed { bytes.now ≢ open_gate ∷ [] → self.new ≡ self.old }
+        ensures segment { 1 ≤ self.old.length → bytes.now ≡ open_gate ∷ [] → BeginsSegment self.old place
+            → self.new ≡ record self.old { segments = one_more self.old.segments } }
+        ensures round { 1 ≤ self.old.length → bytes.now ≡ open_gate ∷ [] → ¬ BeginsSegment self.old place
+            → self.new ≡ record self.old { rounds = one_more self.old.rounds } }
+    {
         if bytes != [OPEN_GATE].as_slice() {
             return;
         }
-        if place == self.first || place == self.second {
+        if self.begins_segment(place) {
             self.segments = self.segments.saturating_add(1);
         } else {
             self.rounds = self.rounds.saturating_add(1);
         }
         self.tally.set_rounds(self.rounds, self.segments);
+    }
+
+    #[tactic(auto, using(crate::proofs::Beginnings::begins_there, crate::proofs::Beginnings::there_begins))]
+    /// Whether a segment begins at a place, so that the gate there is the segment's.
+    fn begins_segment(&self, place: u64) -> bool
+        ensures { 1 ≤ self.now.length → IsTrue result ↔ BeginsSegment self.now place }
+    {
+        if self.length == 0 || place < self.first {
+            return false;
+        }
+        (place - self.first) % self.length == 0
     }
 }
