@@ -1,5 +1,6 @@
-ghost use Rattle.std.specs.Prelude.{◌≡◌, IfOk, false};
-ghost use Rattle.clap.specs.Words.{app_of, rule_of, with_rule};
+ghost use Rattle.std.specs.Prelude.{◌≡◌, false};
+ghost use Rattle.clap.specs.Words.{App, Rule, rule_of, with_rule};
+ghost use Rattle.rly_settings.specs.HelpersBuilt.{IsBuilt};
 ghost use Rattle.rly_settings.specs.CommandLine.{at_rule, batch_rule, flag_rule, number_rule, option_rule, path_rule, with_more_rules, with_param_rules};
 
 use clap::{Arg, ArgAction, Command, value_parser};
@@ -12,23 +13,26 @@ const MAX_BATCH: i64 = limits::MAX_ROUND as i64;
 /// The last moment that a plan may have.
 const LAST_MOMENT: i64 = limits::MOMENT_LIMIT as i64 - 1;
 
-/// A command with one argument more.
-pub(crate) fn with_arg<'a>(command: Command<'a>, arg: Arg<'a>) -> Result<Command<'a>, AllocError>
+/// A command with one argument more, where there was memory for the command.
+pub(crate) fn with_arg<'a>(
+    command: Result<Command<'a>, AllocError>,
+    arg: Arg<'a>,
+) -> Result<Command<'a>, AllocError>
     requires { arg.global ≡ false }
-    ensures { IfOk result (λ new. app_of new ≡ with_rule (app_of command.entry) (rule_of arg.entry)) }
+    ensures { (app : App) (rule : Rule) → IsBuilt app command.entry → rule_of arg.entry ≡ rule → IsBuilt (with_rule app rule) result }
 {
-    command.arg(arg)
+    command?.arg(arg)
 }
 
 /// A command with one option more that takes a number, and has a default.
 pub(crate) fn with_option<'a>(
     alloc: Global,
-    command: Command<'a>,
+    command: Result<Command<'a>, AllocError>,
     name: &'a str,
     default: &'a str,
     help: &'a str,
 ) -> Result<Command<'a>, AllocError>
-    ensures { IfOk result (λ new. app_of new ≡ with_rule (app_of command.entry) (option_rule name.now default.now)) }
+    ensures { (app : App) → IsBuilt app command.entry → IsBuilt (with_rule app (option_rule name.now default.now)) result }
 {
     with_arg(command, option(alloc, name, default, help))
 }
@@ -36,12 +40,12 @@ pub(crate) fn with_option<'a>(
 /// A command with one path more that it works on.
 pub(crate) fn with_path<'a>(
     alloc: Global,
-    command: Command<'a>,
+    command: Result<Command<'a>, AllocError>,
     name: &'a str,
     value_name: &'a str,
     help: &'a str,
 ) -> Result<Command<'a>, AllocError>
-    ensures { IfOk result (λ new. app_of new ≡ with_rule (app_of command.entry) (path_rule name.now)) }
+    ensures { (app : App) → IsBuilt app command.entry → IsBuilt (with_rule app (path_rule name.now)) result }
 {
     with_arg(command, path(alloc, name, value_name, help))
 }
@@ -49,38 +53,41 @@ pub(crate) fn with_path<'a>(
 /// A command with the options for the parameters of a spool.
 pub(crate) fn with_params<'a>(
     alloc: Global,
-    command: Command<'a>,
+    command: Result<Command<'a>, AllocError>,
 ) -> Result<Command<'a>, AllocError>
-    ensures { IfOk result (λ new. app_of new ≡ with_param_rules (app_of command.entry)) }
+    ensures { (app : App) → IsBuilt app command.entry → IsBuilt (with_param_rules app) result }
 {
-    let with_hops = with_option(alloc, command, "hops", "4", "Next hops, 1 to 64")?;
+    let with_hops = with_option(alloc, command, "hops", "4", "Next hops, 1 to 64");
     let with_peers = with_option(
         alloc,
         with_hops,
         "peers",
         "4",
         "Upstream neighbours, 1 to 64",
-    )?;
+    );
     let with_window = with_option(
         alloc,
         with_peers,
         "window",
         "8",
         "Datagrams in flight for a hop, 1 to 64",
-    )?;
+    );
     let with_items = with_option(
         alloc,
         with_window,
         "items",
         "1024",
         "Live datagrams, waiting and in flight, 1 to 16384",
-    )?;
+    );
     with_more_params(alloc, with_items)
 }
 
 /// A command with the options for the payload bytes of a spool, for CoDel and for the longest payload.
-fn with_more_params<'a>(alloc: Global, command: Command<'a>) -> Result<Command<'a>, AllocError>
-    ensures { IfOk result (λ new. app_of new ≡ with_more_rules (app_of command.entry)) }
+fn with_more_params<'a>(
+    alloc: Global,
+    command: Result<Command<'a>, AllocError>,
+) -> Result<Command<'a>, AllocError>
+    ensures { (app : App) → IsBuilt app command.entry → IsBuilt (with_more_rules app) result }
 {
     let with_bytes = with_option(
         alloc,
@@ -88,36 +95,35 @@ fn with_more_params<'a>(alloc: Global, command: Command<'a>) -> Result<Command<'
         "bytes",
         "1048576",
         "Live payload bytes, 1 to 16777216",
-    )?;
+    );
     let with_maxpacket = with_option(
         alloc,
         with_bytes,
         "maxpacket",
         "1500",
         "CoDel drops nothing while at most this many payload bytes wait behind a datagram, 0 to 65535",
-    )?;
+    );
     let with_target = with_option(
         alloc,
         with_maxpacket,
         "target",
         "5000",
         "CoDel's acceptable waiting time in microseconds, 1 to the interval",
-    )?;
+    );
     let with_interval = with_option(
         alloc,
         with_target,
         "interval",
         "100000",
         "CoDel's interval in microseconds, 1 to 3600000000",
-    )?;
-    let with_payload = with_option(
+    );
+    with_option(
         alloc,
         with_interval,
         "payload",
         "1200",
         "The longest payload of a datagram in bytes, 1 to 8192",
-    )?;
-    Ok(with_payload)
+    )
 }
 
 /// An option without a value, which is there or not.

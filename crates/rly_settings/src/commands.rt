@@ -1,6 +1,6 @@
-ghost use Rattle.std.specs.Prelude.{◌≡◌, IfOk, Ok, true};
-ghost use Rattle.clap.specs.Words.{app_of, new_app, with_subcommand};
-ghost use Rattle.clap.specs.declared.builder.command.Command.{Command as ACommand};
+ghost use Rattle.std.specs.Prelude.{◌≡◌, true};
+ghost use Rattle.clap.specs.Words.{App, app_of, new_app, with_subcommand};
+ghost use Rattle.rly_settings.specs.HelpersBuilt.{IsBuilt};
 ghost use Rattle.rly_settings.specs.CommandLine.{audit_app, format_app, key_app, plan_app, play_app, rly_app, rly_top, serve_app, sim_app};
 
 use crate::arguments::{at, batch, flag, number, with_arg, with_option, with_params, with_path};
@@ -60,16 +60,15 @@ const MADE: &str = "The file of a device that `format` made";
 
 /// The whole command line: its commands, options and help texts.
 pub(crate) fn program<'a>(alloc: Global) -> Result<Command<'a>, AllocError>
-    ensures { IfOk result (λ command. app_of command ≡ rly_app) }
+    ensures { IsBuilt rly_app result }
 {
-    let with_sim = with_command(top(alloc), sim(alloc))?;
-    let with_format = with_command(with_sim, format(alloc))?;
-    let with_play = with_command(with_format, play(alloc))?;
-    let with_audit = with_command(with_play, audit(alloc))?;
-    let with_serve = with_command(with_audit, serve(alloc))?;
-    let with_key = with_command(with_serve, Ok(key(alloc)))?;
-    let with_plan = with_command(with_key, plan(alloc))?;
-    Ok(with_plan)
+    let with_sim = with_command(Ok(top(alloc)), sim(alloc));
+    let with_format = with_command(with_sim, format(alloc));
+    let with_play = with_command(with_format, play(alloc));
+    let with_audit = with_command(with_play, audit(alloc));
+    let with_serve = with_command(with_audit, serve(alloc));
+    let with_key = with_command(with_serve, Ok(key(alloc)));
+    with_command(with_key, plan(alloc))
 }
 
 /// The program, without its commands.
@@ -84,7 +83,7 @@ fn top<'a>(alloc: Global) -> Command<'a>
 }
 
 fn sim<'a>(alloc: Global) -> Result<Command<'a>, AllocError>
-    ensures { IfOk result (λ command. app_of command ≡ sim_app) }
+    ensures { IsBuilt sim_app result }
 {
     let bare = named(
         alloc,
@@ -92,12 +91,11 @@ fn sim<'a>(alloc: Global) -> Result<Command<'a>, AllocError>
         "Runs commands from standard input on a spool in memory",
         LINES,
     );
-    let with_options = with_params(alloc, bare)?;
-    Ok(with_options)
+    with_params(alloc, Ok(bare))
 }
 
 fn format<'a>(alloc: Global) -> Result<Command<'a>, AllocError>
-    ensures { IfOk result (λ command. app_of command ≡ format_app) }
+    ensures { IsBuilt format_app result }
 {
     let bare = named(
         alloc,
@@ -107,36 +105,35 @@ fn format<'a>(alloc: Global) -> Result<Command<'a>, AllocError>
     );
     let with_file = with_path(
         alloc,
-        bare,
+        Ok(bare),
         "file",
         "FILE",
         "The file of the device; it is made where there is none, and never shortened",
-    )?;
-    let with_options = with_params(alloc, with_file)?;
+    );
+    let with_options = with_params(alloc, with_file);
     let with_segments = with_option(
         alloc,
         with_options,
         "segments",
         "4",
         "Segments of the device, 2 to 256",
-    )?;
+    );
     let length = number(
         alloc,
         "length",
         "Bytes of each segment, below 2147483648; the least that fits the other options where none is given",
     );
-    let with_length = with_arg(with_segments, length)?;
+    let with_length = with_arg(with_segments, length);
     let force = flag(
         alloc,
         "force",
         "Formats also a device that holds live datagrams, which are lost then",
     );
-    let with_force = with_arg(with_length, force)?;
-    Ok(with_force)
+    with_arg(with_length, force)
 }
 
 fn play<'a>(alloc: Global) -> Result<Command<'a>, AllocError>
-    ensures { IfOk result (λ command. app_of command ≡ play_app) }
+    ensures { IsBuilt play_app result }
 {
     let bare = named(
         alloc,
@@ -144,13 +141,12 @@ fn play<'a>(alloc: Global) -> Result<Command<'a>, AllocError>
         "Runs commands from standard input on the device in a file, each answered once it is durable",
         LINES,
     );
-    let with_file = with_path(alloc, bare, "file", "FILE", MADE)?;
-    let with_lines = with_arg(with_file, batch(alloc))?;
-    Ok(with_lines)
+    let with_file = with_path(alloc, Ok(bare), "file", "FILE", MADE);
+    with_arg(with_file, batch(alloc))
 }
 
 fn audit<'a>(alloc: Global) -> Result<Command<'a>, AllocError>
-    ensures { IfOk result (λ command. app_of command ≡ audit_app) }
+    ensures { IsBuilt audit_app result }
 {
     let bare = named(
         alloc,
@@ -158,12 +154,11 @@ fn audit<'a>(alloc: Global) -> Result<Command<'a>, AllocError>
         "Reports what the device in a file holds, and writes nothing to it",
         AUDITED,
     );
-    let with_file = with_path(alloc, bare, "file", "FILE", MADE)?;
-    Ok(with_file)
+    with_path(alloc, Ok(bare), "file", "FILE", MADE)
 }
 
 fn serve<'a>(alloc: Global) -> Result<Command<'a>, AllocError>
-    ensures { IfOk result (λ command. app_of command ≡ serve_app) }
+    ensures { IsBuilt serve_app result }
 {
     let bare = named(
         alloc,
@@ -171,23 +166,22 @@ fn serve<'a>(alloc: Global) -> Result<Command<'a>, AllocError>
         "Relays datagrams between the neighbours of a plan, on the device in a file",
         SERVED,
     );
-    let with_file = with_path(alloc, bare, "file", "FILE", MADE)?;
-    let with_plan = with_path(alloc, with_file, "plan", "PLAN", PLAN)?;
+    let with_file = with_path(alloc, Ok(bare), "file", "FILE", MADE);
+    let with_plan = with_path(alloc, with_file, "plan", "PLAN", PLAN);
     let with_turns = with_option(
         alloc,
         with_plan,
         "turns",
         "0",
         "Turns of each peer and each hop, in each of which it waits about 10 milliseconds for a packet; 0 is without end",
-    )?;
-    let with_report = with_option(
+    );
+    with_option(
         alloc,
         with_turns,
         "report",
         "0",
         "Seconds between two reports on standard output: what waits, who was heard and what CoDel does; 0 is no reports",
-    )?;
-    Ok(with_report)
+    )
 }
 
 fn key<'a>(alloc: Global) -> Command<'a>
@@ -202,7 +196,7 @@ fn key<'a>(alloc: Global) -> Command<'a>
 }
 
 fn plan<'a>(alloc: Global) -> Result<Command<'a>, AllocError>
-    ensures { IfOk result (λ command. app_of command ≡ plan_app) }
+    ensures { IsBuilt plan_app result }
 {
     let bare = named(
         alloc,
@@ -210,9 +204,8 @@ fn plan<'a>(alloc: Global) -> Result<Command<'a>, AllocError>
         "Prints a plan as the program understands it at a moment",
         PLANNED,
     );
-    let with_file = with_path(alloc, bare, "plan", "PLAN", PLAN)?;
-    let with_moment = with_arg(with_file, at(alloc))?;
-    Ok(with_moment)
+    let with_file = with_path(alloc, Ok(bare), "plan", "PLAN", PLAN);
+    with_arg(with_file, at(alloc))
 }
 
 /// A command with its help texts.
@@ -222,16 +215,12 @@ fn named<'a>(alloc: Global, name: &'a str, about: &'a str, behind: &'a str) -> C
     Command::new(alloc, name).about(about).after_help(behind)
 }
 
-/// A command with one command more below it, if there was memory for that one.
+/// A command with one command more below it, where there was memory for both.
 fn with_command<'a>(
-    command: Command<'a>,
+    command: Result<Command<'a>, AllocError>,
     below: Result<Command<'a>, AllocError>,
 ) -> Result<Command<'a>, AllocError>
-    ensures { IfOk result (λ new. (found : ACommand) × (below.entry ≡ Ok found)
-        × ((app_of found).top.is_plain ≡ true → app_of new ≡ with_subcommand (app_of command.entry) (app_of found).top)) }
+    ensures { (app found : App) → IsBuilt app command.entry → IsBuilt found below.entry → found.top.is_plain ≡ true → IsBuilt (with_subcommand app found.top) result }
 {
-    match below {
-        Ok(found) => command.subcommand(found),
-        Err(refused) => Err(refused),
-    }
+    command?.subcommand(below?)
 }

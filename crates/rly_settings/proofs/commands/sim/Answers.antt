@@ -1,7 +1,6 @@
-use Rattle.std.proofs.Common.{◌∙◌, ap}
-use Rattle.rly_settings.specs.CommandLine.{sim_app, with_param_rules}
+use Rattle.rly_settings.specs.CommandLine.{sim_app}
 use Rattle.rly_settings.proofs.commands.sim.Goals as goal
 
 pub returns : goal.returns
 unfolding sim_app
-returns c = c.in_ok-with_options.ensures ∙ ap with_param_rules c.named-bare.ensures
+returns c = c.with_params.ensures _ c.named-bare.ensures

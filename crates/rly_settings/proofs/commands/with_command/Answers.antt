@@ -1,6 +1,12 @@
+use Rattle.std.proofs.Common.{◌≡◌, subst}
 use Rattle.std.proofs.lemmas.Result.{IfOk-weaker}
-use Rattle.rly_settings.proofs.Apps.{adds_command}
+use Rattle.clap.specs.Words.{app_of}
+use Rattle.rly_settings.specs.HelpersBuilt.{IsBuilt}
+use Rattle.rly_settings.proofs.Apps.{with_below}
 use Rattle.rly_settings.proofs.commands.with_command.Goals as goal
 
-pub returns-in-Ok : goal.returns-in-Ok
-returns-in-Ok c = IfOk-weaker c.subcommand.result _ _ (λ new added. (c.in-Ok.found, c.in-Ok.is, adds_command _ _ new added)) c.subcommand.ensures
+pub returns : goal.returns
+returns c = λ app found outer inner plain.
+    let above : app_of c.in_ok-command.field-0 ≡ app = subst (λ r. IsBuilt app r) c.in_ok-command.was outer in
+    let below : app_of c.in_ok-below.field-0 ≡ found = subst (λ r. IsBuilt found r) c.in_ok-below.was inner in
+    IfOk-weaker c.subcommand.result _ _ (λ new added. with_below _ _ new app found added above below plain) c.subcommand.ensures
