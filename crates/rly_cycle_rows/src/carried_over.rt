@@ -35,14 +35,24 @@ fn put_run(rt: &impl Abort, bytes: &mut [u8], place: usize, byte: u8, count: usi
     bytes[place..place + count].fill(byte);
 }
 
+/// What stands in no run: by a call, since the prover sees all of a constant at each step where it is named.
+fn texts() -> &'static [(usize, &'static [u8])] {
+    &TEXTS
+}
+
+/// What stands in runs.
+fn runs() -> &'static [(usize, u8, usize)] {
+    &RUNS
+}
+
 /// The bytes of the device.
 fn stored(rt: &impl Abort, alloc: Global) -> Vec<u8> {
     let mut bytes = vec![in alloc; 0u8; SIZE].expect(rt, "memory");
-    for (place, text) in &TEXTS {
+    for (place, text) in texts() {
         let part = spelled(rt, alloc, text);
         put(rt, &mut bytes, *place, &part);
     }
-    for (place, byte, count) in &RUNS {
+    for (place, byte, count) in runs() {
         put_run(rt, &mut bytes, *place, *byte, *count);
     }
     bytes

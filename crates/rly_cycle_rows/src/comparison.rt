@@ -145,6 +145,20 @@ pub(crate) fn expect_numbers<D: Disk>(
     let Reply::WindowIs { first, next } = machine.ask_window(HOP) else {
         panic!(rt; "no window");
     };
+    expect_answered(rt, alloc, journal, machine, (first, next));
+    for number in 0..=next {
+        expect!(rt; is_fetched(alloc, journal, machine, number), number);
+    }
+}
+
+/// Expects of a journal a machine's answers to a Show, a Window, and Fetches of these two.
+fn expect_answered<D: Disk>(
+    rt: &impl Abort,
+    alloc: Global,
+    journal: &mut Journal<D>,
+    machine: &mut Machine<Payload>,
+    (first, next): (u64, u64),
+) {
     let steps = [
         Step::Show,
         Step::Window,
@@ -153,9 +167,6 @@ pub(crate) fn expect_numbers<D: Disk>(
     ];
     let answers = ask_all(rt, alloc, journal, &steps);
     expect_replies(rt, alloc, machine, &steps, &answers).expect(rt, "memory");
-    for number in 0..=next {
-        expect!(rt; is_fetched(alloc, journal, machine, number), number);
-    }
 }
 
 /// Whether a journal gives the payload in flight that a machine has under a number, or refuses it for the same reason.

@@ -11,14 +11,13 @@ use rly_scarce::{before, was_refused};
 use rly_standing::OpenFault;
 use std::alloc::{AllocError, Global};
 use std::process::Abort;
-use std::test::Fail;
 
 /// What is refused is handed back as it was, and is opened where there is memory.
 #[test]
-fn opening(rt: HostRuntime) -> Result<(), Fail> {
+fn opening(rt: HostRuntime) {
     let alloc = rt.alloc();
-    let disk = device_with(&rt, alloc, &TAKEN_AND_PICKED)?;
-    before(alloc)?;
+    let disk = device_with(&rt, alloc, &TAKEN_AND_PICKED).expect(&rt, "memory");
+    before(alloc).expect(&rt, "memory");
     let told = Journal::open(alloc, disk);
     let refused = was_refused(alloc);
     let disk = match told {
@@ -31,15 +30,14 @@ fn opening(rt: HostRuntime) -> Result<(), Fail> {
         }
     };
     expect!(rt; opened(&rt, alloc, disk).position() == 2);
-    Ok(())
 }
 
 #[test]
-fn a_fetch(rt: HostRuntime) -> Result<(), Fail> {
+fn a_fetch(rt: HostRuntime) {
     let alloc = rt.alloc();
-    let disk = device_with(&rt, alloc, &TAKEN_AND_PICKED)?;
+    let disk = device_with(&rt, alloc, &TAKEN_AND_PICKED).expect(&rt, "memory");
     let mut journal = opened(&rt, alloc, disk);
-    before(alloc)?;
+    before(alloc).expect(&rt, "memory");
     let told = journal.fetch(alloc, HopId(1), 1);
     let refused = was_refused(alloc);
     match told {
@@ -47,7 +45,6 @@ fn a_fetch(rt: HostRuntime) -> Result<(), Fail> {
         Err(refusal) => expect!(rt; refused && refusal == Refusal::OutOfMemory),
     }
     expect!(rt; journal.position() == 2 && !journal.is_broken());
-    Ok(())
 }
 
 /// Two cycles: 64 datagrams were taken and picked, of which 32 are in flight, and no segment is due. Or the takes of the third too: then a
@@ -120,50 +117,69 @@ fn expect_answers(
     Ok(starved)
 }
 
-/// A round, before which a segment is opened or not. What a crash leaves stands for what was accepted. Where the disk in memory could
-/// not grow, all are told unsure, and it stands for the state before or after.
-fn expect_round(rt: &impl Abort, alloc: Global, due: bool, kind: Torn) -> Result<(), AllocError> {
-    let (mut journal, mut machine) = begun(rt, alloc, due)?;
-    let whole = machine.seq().saturating_add(3);
-    let mut calls = calls_in_scarce_memory(alloc, due)?;
+/// Asks a round, and expects of what it is told: the answers of the plain machine, or that memory was refused. Where the disk in memory
+/// could not grow, all are told unsure.
+fn expect_told(
+    rt: &impl Abort,
+    alloc: Global,
+    journal: &mut Journal<MemDisk>,
+    machine: &mut Machine<Payload>,
+    due: bool,
+) {
+    let mut calls = calls_in_scarce_memory(alloc, due).expect(rt, "memory");
     let mut answers = Vec::new(alloc);
     assert!(rt; calls.len() == 4);
-    before(alloc)?;
+    before(alloc).expect(rt, "memory");
     let undone = journal.round(alloc, &mut calls, &mut answers).is_err();
     let refused = was_refused(alloc);
-    let broken = journal.is_broken();
     expect!(rt; answers.len() == if undone { 0 } else { 4 });
-    if broken {
+    if journal.is_broken() {
         expect!(rt; refused && are_all(&answers, Refusal::Unsure));
     } else if are_all(&answers, Refusal::OutOfMemory) {
         expect!(rt; refused && (undone || due));
     } else {
-        let starved = expect_answers(rt, alloc, &mut machine, &answers, due)?;
+        let starved = expect_answers(rt, alloc, machine, &answers, due).expect(rt, "memory");
         expect!(rt; refused || !starved);
     }
+}
+
+/// What a crash leaves stands for the commands that were accepted; of a broken journal it may stand for the whole round too.
+fn expect_left(
+    rt: &impl Abort,
+    alloc: Global,
+    journal: Journal<MemDisk>,
+    kind: Torn,
+    (accepted, whole): (u64, u64),
+) {
+    let broken = journal.is_broken();
     let disk = journal.into_disk();
     expect!(rt; broken == (disk.failures() > 0));
     let mut again = opened(rt, alloc, disk.crash(kind));
     let position = again.position();
-    expect!(rt; position == machine.seq() || broken && position == whole);
+    expect!(rt; position == accepted || broken && position == whole);
     expect_in_flight(rt, alloc, &mut again, 34, 64);
-    Ok(())
+}
+
+/// A round, before which a segment is opened or not, and a crash.
+fn expect_round(rt: &impl Abort, alloc: Global, due: bool, kind: Torn) {
+    let (mut journal, mut machine) = begun(rt, alloc, due).expect(rt, "memory");
+    let whole = machine.seq().saturating_add(3);
+    expect_told(rt, alloc, &mut journal, &mut machine, due);
+    expect_left(rt, alloc, journal, kind, (machine.seq(), whole));
 }
 
 /// No segment is due: the round's own growths alone.
 #[test]
-fn a_round(rt: HostRuntime) -> Result<(), Fail> {
+fn a_round(rt: HostRuntime) {
     for kind in KINDS {
-        expect_round(&rt, rt.alloc(), false, kind)?;
+        expect_round(&rt, rt.alloc(), false, kind);
     }
-    Ok(())
 }
 
 /// The payloads of 32 datagrams are moved into the head.
 #[test]
-fn a_round_that_opens_a_segment(rt: HostRuntime) -> Result<(), Fail> {
+fn a_round_that_opens_a_segment(rt: HostRuntime) {
     for kind in KINDS {
-        expect_round(&rt, rt.alloc(), true, kind)?;
+        expect_round(&rt, rt.alloc(), true, kind);
     }
-    Ok(())
 }

@@ -2,8 +2,11 @@
 use crate::cycles::{Part, answers_to, expect_replies, expect_round, has_part};
 use crate::device::{bytes_of, new_device, opened};
 use rly_core::{Geometry, HopId, Params, PeerId};
+use rly_disk::MemDisk;
+use rly_journal::Journal;
 use rly_machine::{Ask, Call, Command, Machine, Payload, SeatId};
 use std::alloc::{AllocError, Global};
+use std::process::Abort;
 
 /// Two hops and two peers, 330 items and 10,240 bytes, on segments of the least length.
 const MANY: Geometry = Geometry {
@@ -60,49 +63,56 @@ fn passing(alloc: Global, round: u64) -> Result<Vec<Call>, AllocError> {
     Ok(calls)
 }
 
+/// Makes the rounds, and compares them with the plain machine's.
+fn pass_all(
+    rt: &impl Abort,
+    alloc: Global,
+    journal: &mut Journal<MemDisk>,
+    machine: &mut Machine<Payload>,
+) {
+    for round in 1..=ROUNDS {
+        let calls = passing(alloc, round).expect(rt, "memory");
+        let answers = answers_to(rt, alloc, journal, calls).expect(rt, "memory");
+        let calls = passing(alloc, round).expect(rt, "memory");
+        expect_replies(rt, alloc, machine, calls, &answers).expect(rt, "memory");
+    }
+}
+
+/// Checks where generation 256 stands, which is in the last segment, and generation 320, in number 63.
+fn expect_generations(rt: &impl Abort, bytes: &[u8]) {
+    assert!(rt; bytes.len() == 22_376_768);
+    expect!(rt; &bytes[LAST..LAST + 9] == [0xa5, 0, 0, 0, 0, 0, 0, 1, 0].as_slice());
+    expect!(rt; &bytes[5_506_831..5_506_840] == [0xa5, 0, 0, 0, 0, 0, 0, 1, 64].as_slice());
+}
+
+/// Makes ten of the worked cycles over what is left, and compares them with the plain machine's.
+fn expect_cycles(
+    rt: &impl Abort,
+    alloc: Global,
+    journal: &mut Journal<MemDisk>,
+    machine: &mut Machine<Payload>,
+) {
+    for cycle in 1..=10 {
+        for part in [Part::Picks, Part::Fetches, Part::Release] {
+            if has_part(cycle, part) {
+                expect_round(rt, alloc, journal, machine, cycle, part).expect(rt, "memory");
+            }
+        }
+    }
+    expect!(rt; journal.position() == 6_089);
+}
+
 /// The first 256 rounds leave a byte in each segment, and are written to one after the other. Before the last of them and each later
 /// one the segment that is opened is the only one without a live byte, and a byte is moved into its head.
 #[test]
 fn two_hundred_and_fifty_six_segments(rt: HostRuntime) {
     let alloc = rt.alloc();
     let mut machine = Machine::new(alloc, MANY.params).expect(&rt, "memory");
-    let mut journal = opened(
-        &rt,
-        alloc,
-        new_device(&rt, alloc, &MANY).expect(&rt, "memory"),
-    );
-    for round in 1..=ROUNDS {
-        let answers = answers_to(
-            &rt,
-            alloc,
-            &mut journal,
-            passing(alloc, round).expect(&rt, "memory"),
-        )
-        .expect(&rt, "memory");
-        expect_replies(
-            &rt,
-            alloc,
-            &mut machine,
-            passing(alloc, round).expect(&rt, "memory"),
-            &answers,
-        )
-        .expect(&rt, "memory");
-    }
-    let mut disk = journal.into_disk();
-    let bytes = bytes_of(&rt, alloc, &mut disk);
-    assert!(rt; bytes.len() == 22_376_768);
-    // generation 256 in the last segment, and 320 in number 63
-    expect!(rt; &bytes[LAST..LAST + 9] == [0xa5, 0, 0, 0, 0, 0, 0, 1, 0].as_slice());
-    expect!(rt; &bytes[5_506_831..5_506_840] == [0xa5, 0, 0, 0, 0, 0, 0, 1, 64].as_slice());
+    let disk = new_device(&rt, alloc, &MANY).expect(&rt, "memory");
     let mut journal = opened(&rt, alloc, disk);
-    for cycle in 1..=10 {
-        for part in [Part::Picks, Part::Fetches, Part::Release] {
-            if has_part(cycle, part) {
-                expect_round(&rt, alloc, &mut journal, &mut machine, cycle, part).expect(
-                    &rt, "memory",
-                );
-            }
-        }
-    }
-    expect!(rt; journal.position() == 6_089);
+    pass_all(&rt, alloc, &mut journal, &mut machine);
+    let mut disk = journal.into_disk();
+    expect_generations(&rt, &bytes_of(&rt, alloc, &mut disk));
+    let mut journal = opened(&rt, alloc, disk);
+    expect_cycles(&rt, alloc, &mut journal, &mut machine);
 }

@@ -4,7 +4,7 @@ use rly_core::{HopId, PeerId, Refusal};
 use rly_disk::MemDisk;
 use rly_journal::Journal;
 use rly_machine::{Answer, Ask, Call, Command, Payload, Query, Reply, SeatId};
-use std::alloc::{AllocError, Global};
+use std::alloc::Global;
 use std::process::Abort;
 
 const HOP: HopId = HopId(1);
@@ -19,35 +19,75 @@ fn call(number: u64, ask: Ask) -> Call {
 }
 
 /// A Take of so many bytes, each the number's lowest byte.
-fn take(alloc: Global, number: u64, length: usize) -> Result<Ask, AllocError> {
-    let bytes = vec![in alloc; (number & 0xff) as u8; length]?;
-    Ok(Ask::Command(Command::Take {
+fn take(rt: &impl Abort, alloc: Global, number: u64, length: usize) -> Ask {
+    let bytes = vec![in alloc; (number & 0xff) as u8; length].expect(rt, "memory");
+    Ask::Command(Command::Take {
         peer: PeerId(1),
         number,
         hop: HOP,
         stamp: number,
         limit: 0,
         payload: Payload::new(bytes),
-    }))
+    })
+}
+
+/// A Release of this number.
+fn release(number: u64) -> Ask {
+    Ask::Command(Command::Release { hop: HOP, number })
 }
 
 /// One round of one call, and its reply.
-fn reply_to(
-    rt: &impl Abort,
-    alloc: Global,
-    journal: &mut Journal<MemDisk>,
-    ask: Ask,
-) -> Result<Reply, AllocError> {
-    let mut calls = Vec::new(alloc);
-    calls.push(call(7, ask)).expect(rt, "memory");
+fn reply_to(rt: &impl Abort, alloc: Global, journal: &mut Journal<MemDisk>, ask: Ask) -> Reply {
+    let mut calls = vec![in alloc; call(7, ask)].ok().expect(rt, "memory");
     let mut answers = Vec::new(alloc);
+    assert!(rt; calls.len() == 1);
     journal
         .round(alloc, &mut calls, &mut answers)
         .expect(rt, "memory");
     match answers.pop() {
-        Some(answer) => Ok(answer.reply),
+        Some(answer) => answer.reply,
         None => panic!(rt; "no answer"),
     }
+}
+
+/// Checks that a command is accepted, in a round of its own.
+fn expect_accepted(rt: &impl Abort, alloc: Global, journal: &mut Journal<MemDisk>, ask: Ask) {
+    let reply = reply_to(rt, alloc, journal, ask);
+    expect!(rt; reply.is_accepted());
+}
+
+/// Takes a datagram of so many bytes, and picks one.
+fn take_and_pick(
+    rt: &impl Abort,
+    alloc: Global,
+    journal: &mut Journal<MemDisk>,
+    number: u64,
+    length: usize,
+) {
+    expect_accepted(rt, alloc, journal, take(rt, alloc, number, length));
+    let pick = Command::Pick {
+        hop: HOP,
+        now: number,
+    };
+    expect_accepted(rt, alloc, journal, Ask::Command(pick));
+}
+
+/// The reply to a Fetch of this number, in a round of its own.
+fn fetched(rt: &impl Abort, alloc: Global, journal: &mut Journal<MemDisk>, number: u64) -> Reply {
+    let fetch = Query::Fetch { hop: HOP, number };
+    reply_to(rt, alloc, journal, Ask::Query(fetch))
+}
+
+/// Checks that so many bytes are in flight under a number, each its lowest byte.
+fn expect_bytes(
+    rt: &impl Abort,
+    alloc: Global,
+    journal: &mut Journal<MemDisk>,
+    number: u64,
+    length: usize,
+) {
+    let reply = fetched(rt, alloc, journal, number);
+    expect!(rt; gives(&reply, (number & 0xff) as u8, length));
 }
 
 /// Whether a reply gives so many bytes, each of the same value.
@@ -61,94 +101,60 @@ fn gives(reply: &Reply, value: u8, length: usize) -> bool {
     }
 }
 
-/// A datagram is taken and picked, the device is opened again, and the datagram is fetched and released.
-#[test]
-fn a_datagram_is_there_again(rt: HostRuntime) {
-    let alloc = rt.alloc();
-    let mut journal = opened(
-        &rt,
-        alloc,
-        device_with(&rt, alloc, &[]).expect(&rt, "memory"),
-    );
-    let taken = reply_to(
-        &rt,
-        alloc,
-        &mut journal,
-        take(alloc, 1, 100).expect(&rt, "memory"),
-    )
-    .expect(&rt, "memory");
-    expect!(rt; taken.is_accepted());
-    let picked = reply_to(
-        &rt,
-        alloc,
-        &mut journal,
-        Ask::Command(Command::Pick { hop: HOP, now: 5 }),
-    )
-    .expect(&rt, "memory");
-    expect!(rt; picked.is_accepted());
-    let mut again = opened(&rt, alloc, journal.into_disk());
-    expect!(rt; again.position() == 2);
-    let asked = Ask::Query(Query::Fetch {
-        hop: HOP,
-        number: 1,
-    });
-    expect!(rt; gives(&reply_to(&rt, alloc, &mut again, asked).expect(&rt, "memory"), 1, 100));
-    match again.fetch(alloc, HOP, 1) {
+/// The journal of a new device of three segments.
+fn new_journal(rt: &impl Abort, alloc: Global) -> Journal<MemDisk> {
+    let disk = device_with(rt, alloc, &[]).expect(rt, "memory");
+    opened(rt, alloc, disk)
+}
+
+/// Checks that the first datagram is in flight, and no other, until it is released.
+fn expect_first_in_flight(rt: &impl Abort, alloc: Global, journal: &mut Journal<MemDisk>) {
+    expect_bytes(rt, alloc, journal, 1, 100);
+    match journal.fetch(alloc, HOP, 1) {
         Ok(bytes) => expect!(rt; bytes.len() == 100 && bytes[0] == 1),
         Err(_) => panic!(rt; "not fetched"),
     }
-    expect!(rt; again.fetch(alloc, HOP, 2) == Err(Refusal::NeverSent));
-    let released = reply_to(
-        &rt,
-        alloc,
-        &mut again,
-        Ask::Command(Command::Release {
-            hop: HOP,
-            number: 1,
-        }),
-    )
-    .expect(&rt, "memory");
-    expect!(rt; released.is_accepted());
-    let asked = Ask::Query(Query::Fetch {
-        hop: HOP,
-        number: 1,
-    });
-    expect!(rt; matches!(reply_to(&rt, alloc, &mut again, asked).expect(&rt, "memory"), Reply::Refused(Refusal::NotInFlight)));
+    expect!(rt; journal.fetch(alloc, HOP, 2) == Err(Refusal::NeverSent));
+    expect_accepted(rt, alloc, journal, release(1));
+    let reply = fetched(rt, alloc, journal, 1);
+    expect!(rt; matches!(reply, Reply::Refused(Refusal::NotInFlight)));
+}
+
+/// A datagram is taken and picked, the device is opened again, and the datagram is fetched and released.
+#[test]
+fn a_datagram_is_there_again(rt: HostRuntime) {
+    let mut journal = new_journal(&rt, rt.alloc());
+    take_and_pick(&rt, rt.alloc(), &mut journal, 1, 100);
+    let mut again = opened(&rt, rt.alloc(), journal.into_disk());
+    expect!(rt; again.position() == 2);
+    expect_first_in_flight(&rt, rt.alloc(), &mut again);
+}
+
+/// Takes and picks 300 datagrams of 1,000 bytes, and releases each 20 later: each segment is opened several times.
+fn pass_300(rt: &impl Abort, alloc: Global, journal: &mut Journal<MemDisk>) {
+    for number in 1..=300u64 {
+        take_and_pick(rt, alloc, journal, number, 1_000);
+        if number > 20 {
+            expect_accepted(rt, alloc, journal, release(number - 20));
+        }
+    }
+}
+
+/// Checks that the last 20 are in flight.
+fn expect_last_20(rt: &impl Abort, alloc: Global, journal: &mut Journal<MemDisk>) {
+    for number in 281..=300u64 {
+        expect_bytes(rt, alloc, journal, number, 1_000);
+    }
 }
 
 /// Rounds of a Take, a Pick and a Release of an older one, until each segment was opened several times: what is in flight is fetched
 /// as it was taken, also once the device was opened again.
 #[test]
 fn payloads_stay_while_segments_are_opened(rt: HostRuntime) {
-    let alloc = rt.alloc();
-    let mut journal = opened(
-        &rt,
-        alloc,
-        device_with(&rt, alloc, &[]).expect(&rt, "memory"),
-    );
-    for number in 1..=300u64 {
-        expect!(rt; reply_to(&rt, alloc, &mut journal, take(alloc, number, 1_000).expect(&rt, "memory")).expect(&rt, "memory").is_accepted());
-        let pick = Ask::Command(Command::Pick {
-            hop: HOP,
-            now: number,
-        });
-        expect!(rt; reply_to(&rt, alloc, &mut journal, pick).expect(&rt, "memory").is_accepted());
-        if number > 20 {
-            let release = Ask::Command(Command::Release {
-                hop: HOP,
-                number: number - 20,
-            });
-            expect!(rt; reply_to(&rt, alloc, &mut journal, release).expect(&rt, "memory").is_accepted());
-        }
-    }
-    for number in 281..=300u64 {
-        let asked = Ask::Query(Query::Fetch { hop: HOP, number });
-        expect!(rt; gives(&reply_to(&rt, alloc, &mut journal, asked).expect(&rt, "memory"), (number & 0xff) as u8, 1_000));
-    }
-    let mut again = opened(&rt, alloc, journal.into_disk());
+    let mut journal = new_journal(&rt, rt.alloc());
+    pass_300(&rt, rt.alloc(), &mut journal);
+    expect_last_20(&rt, rt.alloc(), &mut journal);
+    let mut again = opened(&rt, rt.alloc(), journal.into_disk());
     expect!(rt; again.position() == 880);
-    for number in 281..=300u64 {
-        let asked = Ask::Query(Query::Fetch { hop: HOP, number });
-        expect!(rt; gives(&reply_to(&rt, alloc, &mut again, asked).expect(&rt, "memory"), (number & 0xff) as u8, 1_000));
-    }
+    expect_last_20(&rt, rt.alloc(), &mut again);
 }

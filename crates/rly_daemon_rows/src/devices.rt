@@ -67,15 +67,20 @@ fn expect_head(rt: &impl Abort, bytes: &[u8]) {
     expect!(*rt; bytes.get(157) == Some(&0));
 }
 
+/// Checks a new device, byte by byte.
+fn expect_new_device(rt: &(impl Abort + Host), path: &str) {
+    make_small(rt, path);
+    let bytes = read(rt, path);
+    expect!(*rt; bytes.len() == 320_772);
+    expect_bytes(rt, bytes.as_slice(), 0, SMALL_HEADER);
+    expect_head(rt, bytes.as_slice());
+    remove(rt, path);
+}
+
 #[test]
 fn a_new_device_is_as_the_format_says(rt: HostRuntime) {
     let path = path_of(&rt, rt, "new");
-    make_small(&rt, path.as_str());
-    let bytes = read(&rt, path.as_str());
-    expect!(rt; bytes.len() == 320_772);
-    expect_bytes(&rt, bytes.as_slice(), 0, SMALL_HEADER);
-    expect_head(&rt, bytes.as_slice());
-    remove(&rt, path.as_str());
+    expect_new_device(&rt, path.as_str());
 }
 
 /// Lines of several runs of `play` on one device, and what each writes.
@@ -87,12 +92,17 @@ const RUNS: [(&[u8], &[u8]); 5] = [
     (b"done 1 1\nno\n", b"released 1 1\nrefused 16 line\n"),
 ];
 
+/// Checks these runs on a new device.
+fn expect_goes_on(rt: &(impl Abort + Host), path: &str) {
+    make_small(rt, path);
+    expect_runs(rt, path);
+    remove(rt, path);
+}
+
 #[test]
 fn play_goes_on_where_it_stopped(rt: HostRuntime) {
     let path = path_of(&rt, rt, "stopped");
-    make_small(&rt, path.as_str());
-    expect_runs(&rt, path.as_str());
-    remove(&rt, path.as_str());
+    expect_goes_on(&rt, path.as_str());
 }
 
 /// Checks these runs on a device.
@@ -132,25 +142,25 @@ fn make_long(rt: &(impl Abort + Host), path: &str) {
     expect(rt, &words, b"", 0, b"formatted 1069048\n", b"");
 }
 
+/// Checks what a device for the longest payloads takes.
+fn expect_longest_taken(rt: &(impl Abort + Host), path: &str) {
+    make_long(rt, path);
+    expect_take(rt, path, 8_193, b"refused 5 toolong\n");
+    expect_take(rt, path, 8_192, b"taken 1 1\n");
+    let bytes = read(rt, path);
+    expect!(*rt; bytes.len() == 1_069_048);
+    expect_bytes(rt, bytes.as_slice(), 0, LONG_HEADER);
+    expect_bytes(rt, bytes.as_slice(), 157, LONG_TAKE);
+    expect!(*rt; bytes.iter().skip(187).take(8_193).all(|byte| *byte == 0));
+    expect_played(rt, path, b"take 1 2 1 0 41\n", b"refused 6 full\n");
+    remove(rt, path);
+}
+
 /// A device for the longest payloads takes one, and none that is longer.
 #[test]
 fn the_longest_payload_is_taken(rt: HostRuntime) {
     let path = path_of(&rt, rt, "payload");
-    make_long(&rt, path.as_str());
-    expect_take(&rt, path.as_str(), 8_193, b"refused 5 toolong\n");
-    expect_take(&rt, path.as_str(), 8_192, b"taken 1 1\n");
-    let bytes = read(&rt, path.as_str());
-    expect!(rt; bytes.len() == 1_069_048);
-    expect_bytes(&rt, bytes.as_slice(), 0, LONG_HEADER);
-    expect_bytes(&rt, bytes.as_slice(), 157, LONG_TAKE);
-    expect!(rt; bytes.iter().skip(187).take(8_193).all(|byte| *byte == 0));
-    expect_played(
-        &rt,
-        path.as_str(),
-        b"take 1 2 1 0 41\n",
-        b"refused 6 full\n",
-    );
-    remove(&rt, path.as_str());
+    expect_longest_taken(&rt, path.as_str());
 }
 
 /// Makes a device of version 1 of one of version 2. After its interval version 1 has no field, and what stands there isn't read.
@@ -165,17 +175,22 @@ fn make_first_version(rt: &(impl Abort + Host), path: &str) -> Vec<u8> {
     bytes
 }
 
+/// Checks what a device of version 1 takes.
+fn expect_first_version(rt: &(impl Abort + Host), path: &str) {
+    make_small(rt, path);
+    let before = make_first_version(rt, path);
+    expect_take(rt, path, 1_201, b"refused 5 toolong\n");
+    expect_take(rt, path, 1_200, b"taken 1 1\n");
+    let after = read(rt, path);
+    expect!(*rt; after.iter().take(64).eq(before.iter().take(64)));
+    remove(rt, path);
+}
+
 /// A device of version 1 takes payloads of 1,200 bytes, and none that is longer. Its header stays as it is.
 #[test]
 fn a_device_of_version_1_is_played(rt: HostRuntime) {
     let path = path_of(&rt, rt, "version");
-    make_small(&rt, path.as_str());
-    let before = make_first_version(&rt, path.as_str());
-    expect_take(&rt, path.as_str(), 1_201, b"refused 5 toolong\n");
-    expect_take(&rt, path.as_str(), 1_200, b"taken 1 1\n");
-    let after = read(&rt, path.as_str());
-    expect!(rt; after.iter().take(64).eq(before.iter().take(64)));
-    remove(&rt, path.as_str());
+    expect_first_version(&rt, path.as_str());
 }
 
 /// Lines of several runs of `play` with limits, and what each writes.
@@ -192,16 +207,21 @@ const LIMITED_RUNS: [(&[u8], &[u8]); 3] = [
 const LIMITED_BOOKS: &[u8] = b"hop 1 taken 2 queued 0 flight 1 dropped 0 released 0 expired 1\n\
 peer 1 last 2\nseq 3\nbalance ok\n";
 
+/// Checks runs with limits, and what is told after them.
+fn expect_limits_kept(rt: &(impl Abort + Host), path: &str) {
+    make_small(rt, path);
+    for (input, output) in &LIMITED_RUNS {
+        expect_played(rt, path, *input, *output);
+    }
+    expect_books(rt, path, LIMITED_BOOKS);
+    remove(rt, path);
+}
+
 /// A limit outlives the program.
 #[test]
 fn limits_outlive_the_program(rt: HostRuntime) {
     let path = path_of(&rt, rt, "limited");
-    make_small(&rt, path.as_str());
-    for (input, output) in &LIMITED_RUNS {
-        expect_played(&rt, path.as_str(), *input, *output);
-    }
-    expect_books(&rt, path.as_str(), LIMITED_BOOKS);
-    remove(&rt, path.as_str());
+    expect_limits_kept(&rt, path.as_str());
 }
 
 /// Options of geometries that are out of their limits.
@@ -233,15 +253,20 @@ fn geometries_out_of_limits_touch_no_file(rt: HostRuntime) {
     }
 }
 
+/// Formats a longer file, and checks what lies after the device.
+fn expect_not_shortened(rt: &(impl Abort + Host), path: &str) {
+    let long = Vec::from_elem(rt.alloc(), 7u8, 400_000).expect(rt, "memory");
+    write(rt, path, long.as_slice());
+    make_small(rt, path);
+    let bytes = read(rt, path);
+    expect_kept(rt, bytes.as_slice());
+    remove(rt, path);
+}
+
 #[test]
 fn format_never_shortens_a_file(rt: HostRuntime) {
     let path = path_of(&rt, rt, "long");
-    let long = Vec::from_elem(rt.alloc(), 7u8, 400_000).expect(&rt, "memory");
-    write(&rt, path.as_str(), long.as_slice());
-    make_small(&rt, path.as_str());
-    let bytes = read(&rt, path.as_str());
-    expect_kept(&rt, bytes.as_slice());
-    remove(&rt, path.as_str());
+    expect_not_shortened(&rt, path.as_str());
 }
 
 /// Checks that what lies after the small device is as it was.
@@ -277,16 +302,21 @@ fn expect_damaged(rt: &(impl Abort + Host), path: &str, device: &[u8]) {
 pub(super) const NOT_THERE: &[u8] =
     b"refused 23 device\nrly: device: No such file or directory (os error 2)\n";
 
+/// Checks what is told of files that are none, and of changed devices.
+fn expect_no_device(rt: &(impl Abort + Host), path: &str) {
+    expect_play_refused(rt, path, NOT_THERE);
+    write(rt, path, [0xa5u8; 63].as_slice());
+    expect_play_refused(rt, path, b"refused 20 notadevice\n");
+    make_small(rt, path);
+    let device = read(rt, path);
+    expect_damaged(rt, path, device.as_slice());
+    remove(rt, path);
+}
+
 #[test]
 fn a_file_that_is_no_device_is_refused(rt: HostRuntime) {
     let path = path_of(&rt, rt, "damaged");
-    expect_play_refused(&rt, path.as_str(), NOT_THERE);
-    write(&rt, path.as_str(), [0xa5u8; 63].as_slice());
-    expect_play_refused(&rt, path.as_str(), b"refused 20 notadevice\n");
-    make_small(&rt, path.as_str());
-    let device = read(&rt, path.as_str());
-    expect_damaged(&rt, path.as_str(), device.as_slice());
-    remove(&rt, path.as_str());
+    expect_no_device(&rt, path.as_str());
 }
 
 /// What is told of a device that another process has.
@@ -299,16 +329,19 @@ fn expect_held(rt: &(impl Abort + Host), path: &str) {
     expect_refused(rt, &["rly", "format", path, "--force"], HELD);
 }
 
+/// Holds a new device, and checks that no other command has it.
+fn expect_one_process(rt: &(impl Abort + Host), path: &str) {
+    make_small(rt, path);
+    let disk = FileDisk::open(rt, path).ok().expect(rt, "a device");
+    expect_held(rt, path);
+    drop(disk);
+    remove(rt, path);
+}
+
 #[test]
 fn a_device_is_one_process_s(rt: HostRuntime) {
     let path = path_of(&rt, rt, "locked");
-    make_small(&rt, path.as_str());
-    let disk = FileDisk::open(&rt, path.as_str())
-        .ok()
-        .expect(&rt, "a device");
-    expect_held(&rt, path.as_str());
-    drop(disk);
-    remove(&rt, path.as_str());
+    expect_one_process(&rt, path.as_str());
 }
 
 /// Six takes of 1,000 bytes and three picks.
@@ -352,17 +385,22 @@ fn make_busy(rt: &(impl Abort + Host), path: &str) {
     expect(rt, &words, lines.as_bytes(), 0, BUSY_REPLIES, b"");
 }
 
+/// Checks the books of a device, and that other files have none.
+fn expect_audited(rt: &(impl Abort + Host), path: &str) {
+    expect_audit_refused(rt, path, NOT_THERE);
+    make_busy(rt, path);
+    expect_books(rt, path, BUSY_BOOKS);
+    expect_stuck(rt, &["rly", "audit", path]);
+    cut(rt, path);
+    expect_audit_refused(rt, path, b"refused 20 notadevice\n");
+    remove(rt, path);
+}
+
 /// The books of a device are what `play` left, whatever runs there were; other files have none.
 #[test]
 fn audit_tells_what_play_left(rt: HostRuntime) {
     let path = path_of(&rt, rt, "audited");
-    expect_audit_refused(&rt, path.as_str(), NOT_THERE);
-    make_busy(&rt, path.as_str());
-    expect_books(&rt, path.as_str(), BUSY_BOOKS);
-    expect_stuck(&rt, &["rly", "audit", path.as_str()]);
-    cut(&rt, path.as_str());
-    expect_audit_refused(&rt, path.as_str(), b"refused 20 notadevice\n");
-    remove(&rt, path.as_str());
+    expect_audited(&rt, path.as_str());
 }
 
 /// What is told where a device that holds a live datagram would be formatted.
@@ -405,13 +443,18 @@ fn expect_forced(rt: &(impl Abort + Host), path: &str) {
     expect_played(rt, path, b"window 1\n", b"window 1 1 1\n");
 }
 
+/// Checks when a device with live datagrams is formatted.
+fn expect_lost_by_force(rt: &(impl Abort + Host), path: &str) {
+    expect_kept_alive(rt, path);
+    expect_forced(rt, path);
+    remove(rt, path);
+}
+
 /// A device that holds live datagrams is formatted by force alone, and else stays as it was.
 #[test]
 fn live_datagrams_are_lost_by_force_alone(rt: HostRuntime) {
     let path = path_of(&rt, rt, "alive");
-    expect_kept_alive(&rt, path.as_str());
-    expect_forced(&rt, path.as_str());
-    remove(&rt, path.as_str());
+    expect_lost_by_force(&rt, path.as_str());
 }
 
 /// Puts 0 where a device's first gate stands.
@@ -428,17 +471,22 @@ const LETS_GO: &[u8] = b"take 1 1 1 0 41\npick 1 5\ndone 1 1\n";
 
 const LET_GO: &[u8] = b"taken 1 1\npicked 1 1 1\nreleased 1 1\n";
 
+/// Checks that a device with nothing live is formatted, and a damaged one.
+fn expect_free(rt: &(impl Abort + Host), path: &str) {
+    make_small(rt, path);
+    expect_played(rt, path, LETS_GO, LET_GO);
+    make_small(rt, path);
+    expect_played(rt, path, b"take 1 1 1 0 41\n", b"taken 1 1\n");
+    damage(rt, path);
+    make_small(rt, path);
+    remove(rt, path);
+}
+
 /// A device with nothing live is formatted as a new one is, and so is one that is damaged.
 #[test]
 fn a_device_with_nothing_live_is_formatted(rt: HostRuntime) {
     let path = path_of(&rt, rt, "freed");
-    make_small(&rt, path.as_str());
-    expect_played(&rt, path.as_str(), LETS_GO, LET_GO);
-    make_small(&rt, path.as_str());
-    expect_played(&rt, path.as_str(), b"take 1 1 1 0 41\n", b"taken 1 1\n");
-    damage(&rt, path.as_str());
-    make_small(&rt, path.as_str());
-    remove(&rt, path.as_str());
+    expect_free(&rt, path.as_str());
 }
 
 /// A free disk in memory, as it is handed back, and two datagrams that are taken on it.
@@ -532,23 +580,33 @@ fn expect_segments(rt: &(impl Abort + Host), path: &str, option: &str, formatted
     expect_runs(rt, path);
 }
 
+/// Checks a device of each of these counts of segments.
+fn expect_each_count(rt: &(impl Abort + Host), path: &str) {
+    for (option, formatted) in &SEGMENTS {
+        expect_segments(rt, path, *option, *formatted);
+    }
+    remove(rt, path);
+}
+
 /// A device has 2 to 256 segments.
 #[test]
 fn a_device_has_as_many_segments_as_are_asked_for(rt: HostRuntime) {
     let path = path_of(&rt, rt, "segments");
-    for (option, formatted) in &SEGMENTS {
-        expect_segments(&rt, path.as_str(), *option, *formatted);
-    }
-    remove(&rt, path.as_str());
+    expect_each_count(&rt, path.as_str());
+}
+
+/// Checks the longest device, by a long path.
+fn expect_longest_device(rt: &(impl Abort + Host), path: &str) {
+    let long = lengthened(rt, path);
+    expect_long_device(rt, long.as_str());
+    remove(rt, path);
 }
 
 /// A device may be longer than 4 GiB, and is reached by a path of 3,900 bytes.
 #[test]
 fn the_longest_device_is_as_any_other(rt: HostRuntime) {
     let path = path_of(&rt, rt, "longest");
-    let long = lengthened(&rt, path.as_str());
-    expect_long_device(&rt, long.as_str());
-    remove(&rt, path.as_str());
+    expect_longest_device(&rt, path.as_str());
 }
 
 /// The same path by 1,900 steps more, each of which stays in its folder.

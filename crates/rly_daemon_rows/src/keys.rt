@@ -168,16 +168,21 @@ fn expect_right(rt: &(impl Abort + Host), plan: &str, key: &str, name: &str, mod
     remove(rt, plan);
 }
 
+/// Checks what is told of a relay whose key is wrong, and of one whose key is right.
+fn expect_needs_keys(rt: &(impl Abort + Host), plan: &str, key: &str) {
+    expect_faults(rt, plan, key);
+    write_plan(rt, plan, "/");
+    expect_fault(rt, plan, "/", "Is a directory (os error 21)");
+    expect_right(rt, plan, key, key, 0o600);
+}
+
 /// A relay isn't started where a key's file isn't there, isn't of a key's form, or isn't its owner's alone. What is told names the
 /// file.
 #[test]
 fn a_relay_needs_its_keys(rt: HostRuntime) {
     let plan = path_of(&rt, rt, "keyed-plan");
     let key = path_of(&rt, rt, "hop.key");
-    expect_faults(&rt, plan.as_str(), key.as_str());
-    write_plan(&rt, plan.as_str(), "/");
-    expect_fault(&rt, plan.as_str(), "/", "Is a directory (os error 21)");
-    expect_right(&rt, plan.as_str(), key.as_str(), key.as_str(), 0o600);
+    expect_needs_keys(&rt, plan.as_str(), key.as_str());
 }
 
 /// A path that isn't absolute begins at the plan's folder.

@@ -100,19 +100,24 @@ fn neighbour_s(rt: &(impl Abort + Host)) -> UdpSocket {
     remote
 }
 
+/// Checks which packets a link hears, and which it sends.
+fn expect_carried(rt: &(impl Abort + Host), link: &mut UdpLink<HostRuntime>) {
+    expect!(*rt; link.recv(&mut [0; MAX_PACKET]) == Ok(None));
+    expect_heard(rt, link, b"abc", 3);
+    expect_heard(rt, link, &[7; 8_231], 8_231);
+    expect_heard(rt, link, &[7; 8_400], MAX_PACKET);
+    let remote = neighbour_s(rt);
+    expect_sent(rt, link, &remote, b"xyz");
+    expect_sent(rt, link, &remote, &[7; 8_231]);
+    expect!(*rt; link.failures() == 0);
+}
+
 /// A link hears packets from any address, and sends to its neighbour's. A packet that is too long for its buffer is cut. The longest
 /// that it hears or sends has 8,231 bytes, with its tag.
 #[test]
 fn a_link_carries_packets(rt: HostRuntime) {
     let mut link = link_of(&rt, rt, "127.0.0.1:4021", "127.0.0.1:4022");
-    expect!(rt; link.recv(&mut [0; MAX_PACKET]) == Ok(None));
-    expect_heard(&rt, &mut link, b"abc", 3);
-    expect_heard(&rt, &mut link, &[7; 8_231], 8_231);
-    expect_heard(&rt, &mut link, &[7; 8_400], MAX_PACKET);
-    let remote = neighbour_s(&rt);
-    expect_sent(&rt, &mut link, &remote, b"xyz");
-    expect_sent(&rt, &mut link, &remote, &[7; 8_231]);
-    expect!(rt; link.failures() == 0);
+    expect_carried(&rt, &mut link);
 }
 
 /// Checks that each send of a packet that UDP can't carry fails, and is counted.
@@ -155,14 +160,19 @@ fn expect_wait(rt: &(impl Abort + Host), link: &mut UdpLink<HostRuntime>) {
     expect!(*rt; now(rt).saturating_sub(before) >= Duration::from_millis(5));
 }
 
+/// Checks the receives of a link that wait, and those that don't.
+fn expect_tries(rt: &(impl Abort + Host), link: &mut UdpLink<HostRuntime>) {
+    expect_tried(rt, link);
+    expect_no_wait(rt, link);
+    expect_wait(rt, link);
+    expect!(*rt; link.failures() == 0);
+}
+
 /// A receive that doesn't wait answers at once: 200 that waited would take two seconds. One after them waits again.
 #[test]
 fn a_link_is_tried(rt: HostRuntime) {
     let mut link = link_of(&rt, rt, "127.0.0.1:4025", "127.0.0.1:4026");
-    expect_tried(&rt, &mut link);
-    expect_no_wait(&rt, &mut link);
-    expect_wait(&rt, &mut link);
-    expect!(rt; link.failures() == 0);
+    expect_tries(&rt, &mut link);
 }
 
 /// Checks that an empty packet ends a wait, and gives nothing.
@@ -172,17 +182,22 @@ fn expect_woken(rt: &(impl Abort + Host), link: &mut UdpLink<HostRuntime>, other
     expect!(*rt; link.recv(&mut [0; MAX_PACKET]) == Ok(None));
 }
 
+/// Checks that 200 empty packets end 200 waits, in less than a second.
+fn expect_waits_ended(rt: &(impl Abort + Host), link: &mut UdpLink<HostRuntime>) {
+    let other = bound(rt, "127.0.0.1:0");
+    let before = now(rt);
+    for _packet in 0..200 {
+        expect_woken(rt, link, &other);
+    }
+    expect!(*rt; now(rt).saturating_sub(before) < Duration::from_millis(1_000));
+    expect!(*rt; link.failures() == 0);
+}
+
 /// An empty packet ends a wait and isn't heard: 200 waits take two seconds.
 #[test]
 fn an_empty_packet_ends_a_wait(rt: HostRuntime) {
     let mut link = link_of(&rt, rt, "127.0.0.1:4027", "127.0.0.1:4028");
-    let other = bound(&rt, "127.0.0.1:0");
-    let before = now(&rt);
-    for _packet in 0..200 {
-        expect_woken(&rt, &mut link, &other);
-    }
-    expect!(rt; now(&rt).saturating_sub(before) < Duration::from_millis(1_000));
-    expect!(rt; link.failures() == 0);
+    expect_waits_ended(&rt, &mut link);
 }
 
 /// Each send of a packet that UDP can't carry fails, and is counted.

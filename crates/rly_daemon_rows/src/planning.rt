@@ -99,17 +99,22 @@ fn remove_folder(rt: &(impl Abort + Host), folder: &str) {
     expect!(*rt; removed.is_ok());
 }
 
+/// Checks what is told of a plan and its key in a folder.
+fn expect_plan_told(rt: &(impl Abort + Host), folder: &str) {
+    let plan = made_plan(rt, folder);
+    let key = path_in(rt, folder, "ten.key");
+    make_file(rt, key.as_str(), LINE, 0o600);
+    expect_told(rt, plan.as_str());
+    let long = lengthened(rt, plan.as_str());
+    expect_told(rt, long.as_str());
+    remove_folder(rt, folder);
+}
+
 /// Keys of links are read from beside the plan, and aren't told. The plan's path may have 3,900 bytes.
 #[test]
 fn a_plan_is_told(rt: HostRuntime) {
     let folder = path_of(&rt, rt, "told");
-    let plan = made_plan(&rt, folder.as_str());
-    let key = path_in(&rt, folder.as_str(), "ten.key");
-    make_file(&rt, key.as_str(), LINE, 0o600);
-    expect_told(&rt, plan.as_str());
-    let long = lengthened(&rt, plan.as_str());
-    expect_told(&rt, long.as_str());
-    remove_folder(&rt, folder.as_str());
+    expect_plan_told(&rt, folder.as_str());
 }
 
 /// Checks what is told of a plan whose hop 2 has no key in its file, and that nothing is put out.
@@ -130,20 +135,25 @@ const KEYS: [(&str, u32, &str); 2] = [
     ),
 ];
 
+/// Checks what is told of a plan whose key is wrong.
+fn expect_keys_needed(rt: &(impl Abort + Host), folder: &str) {
+    let plan = made_plan(rt, folder);
+    let key = path_in(rt, folder, "ten.key");
+    let none = "No such file or directory (os error 2)";
+    expect_no_key(rt, plan.as_str(), key.as_str(), none);
+    for (text, mode, told) in &KEYS {
+        make_file(rt, key.as_str(), *text, *mode);
+        expect_no_key(rt, plan.as_str(), key.as_str(), *told);
+        remove(rt, key.as_str());
+    }
+    remove_folder(rt, folder);
+}
+
 /// A plan whose keys `serve` would refuse is refused.
 #[test]
 fn a_plan_needs_its_keys(rt: HostRuntime) {
     let folder = path_of(&rt, rt, "keyless");
-    let plan = made_plan(&rt, folder.as_str());
-    let key = path_in(&rt, folder.as_str(), "ten.key");
-    let none = "No such file or directory (os error 2)";
-    expect_no_key(&rt, plan.as_str(), key.as_str(), none);
-    for (text, mode, told) in &KEYS {
-        make_file(&rt, key.as_str(), *text, *mode);
-        expect_no_key(&rt, plan.as_str(), key.as_str(), *told);
-        remove(&rt, key.as_str());
-    }
-    remove_folder(&rt, folder.as_str());
+    expect_keys_needed(&rt, folder.as_str());
 }
 
 /// Plans that are refused, and what is told.
@@ -165,16 +175,21 @@ fn expect_refused(rt: &(impl Abort + Host), plan: &str, errors: &[u8]) {
     expect(rt, &["rly", "plan", plan], b"", 1, b"", errors);
 }
 
+/// Checks what is told of plans that are refused.
+fn expect_none_told(rt: &(impl Abort + Host), plan: &str) {
+    for (text, errors) in &REFUSED {
+        write(rt, plan, text.as_bytes());
+        expect_refused(rt, plan, errors.as_bytes());
+    }
+    remove(rt, plan);
+    expect_refused(rt, plan, NO_PLAN);
+}
+
 /// Nothing is put out of a plan that is refused, or isn't there.
 #[test]
 fn a_plan_that_is_none_is_refused(rt: HostRuntime) {
     let plan = path_of(&rt, rt, "refused-plan");
-    for (text, errors) in &REFUSED {
-        write(&rt, plan.as_str(), text.as_bytes());
-        expect_refused(&rt, plan.as_str(), errors.as_bytes());
-    }
-    remove(&rt, plan.as_str());
-    expect_refused(&rt, plan.as_str(), NO_PLAN);
+    expect_none_told(&rt, plan.as_str());
 }
 
 /// A plan of 64 peers and 64 hops, each with the key of this file.
@@ -210,14 +225,19 @@ fn expect_greatest(rt: &(impl Abort + Host), plan: &str) {
     expect!(*rt; told.output.ends_with(b"\nhop 64 resend 160 contacts 0 open 0\nhop 64 contact closed\n"));
 }
 
+/// Checks what is told of the plan of 128 links, each with a key.
+fn expect_greatest_told(rt: &(impl Abort + Host), plan: &str, key: &str) {
+    make_file(rt, key, LINE, 0o600);
+    write_greatest(rt, plan, key);
+    expect_greatest(rt, plan);
+    remove(rt, key);
+    remove(rt, plan);
+}
+
 /// Each of 128 links of a plan may have a key, and all are told.
 #[test]
 fn the_greatest_plan_is_told(rt: HostRuntime) {
     let plan = path_of(&rt, rt, "greatest-plan");
     let key = path_of(&rt, rt, "greatest.key");
-    make_file(&rt, key.as_str(), LINE, 0o600);
-    write_greatest(&rt, plan.as_str(), key.as_str());
-    expect_greatest(&rt, plan.as_str());
-    remove(&rt, key.as_str());
-    remove(&rt, plan.as_str());
+    expect_greatest_told(&rt, plan.as_str(), key.as_str());
 }

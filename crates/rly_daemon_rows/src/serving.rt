@@ -117,19 +117,24 @@ rly: ended after 20 turns\n";
 const ONE_TAKEN: &[u8] = b"hop 1 taken 1 queued 1 flight 0 dropped 0 released 0\n\
 peer 1 last 1\nseq 1\nbalance ok\n";
 
+/// Checks a datagram that comes over UDP, and the books after it.
+fn expect_served(rt: &(impl Abort + Host), device: &str, plan: &str) {
+    make_small(rt, device);
+    write(rt, plan, PLAN.as_bytes());
+    let addresses = ("127.0.0.1:4002", "127.0.0.1:4001");
+    expect_custody(rt, device, plan, DATA, addresses);
+    let words = ["rly", "audit", device];
+    expect(rt, &words, b"", 0, ONE_TAKEN, b"");
+    remove(rt, plan);
+    remove(rt, device);
+}
+
 /// A datagram that comes over UDP is taken and its custody sent.
 #[test]
 fn serve_custody(rt: HostRuntime) {
     let device = path_of(&rt, rt, "served");
     let plan = path_of(&rt, rt, "plan");
-    make_small(&rt, device.as_str());
-    write(&rt, plan.as_str(), PLAN.as_bytes());
-    let addresses = ("127.0.0.1:4002", "127.0.0.1:4001");
-    expect_custody(&rt, device.as_str(), plan.as_str(), DATA, addresses);
-    let words = ["rly", "audit", device.as_str()];
-    expect(&rt, &words, b"", 0, ONE_TAKEN, b"");
-    remove(&rt, plan.as_str());
-    remove(&rt, device.as_str());
+    expect_served(&rt, device.as_str(), plan.as_str());
 }
 
 /// The plan at other ports, which begin so.
@@ -143,20 +148,25 @@ const ASKED: &[u8] = b"pick 1 0\nfetch 1 1\n";
 
 const FETCHED: &[u8] = b"picked 1 1 1\nbytes 1 1 000c41 5000\n";
 
+/// Checks a datagram that comes over UDP with a limit.
+fn expect_limit_served(rt: &(impl Abort + Host), device: &str, plan: &str) {
+    make_small(rt, device);
+    let text = plan_at(rt, "127.0.0.1:405");
+    write(rt, plan, text.as_bytes());
+    let addresses = ("127.0.0.1:4052", "127.0.0.1:4051");
+    expect_custody(rt, device, plan, LIMITED, addresses);
+    let words = ["rly", "play", device];
+    expect(rt, &words, ASKED, 0, FETCHED, b"");
+    remove(rt, plan);
+    remove(rt, device);
+}
+
 /// A datagram that comes over UDP with a limit is taken with it, and its custody is that of any other.
 #[test]
 fn serve_custody_of_a_limit(rt: HostRuntime) {
     let device = path_of(&rt, rt, "limit");
     let plan = path_of(&rt, rt, "limit-plan");
-    make_small(&rt, device.as_str());
-    let text = plan_at(&rt, "127.0.0.1:405");
-    write(&rt, plan.as_str(), text.as_bytes());
-    let addresses = ("127.0.0.1:4052", "127.0.0.1:4051");
-    expect_custody(&rt, device.as_str(), plan.as_str(), LIMITED, addresses);
-    let words = ["rly", "play", device.as_str()];
-    expect(&rt, &words, ASKED, 0, FETCHED, b"");
-    remove(&rt, plan.as_str());
-    remove(&rt, device.as_str());
+    expect_limit_served(&rt, device.as_str(), plan.as_str());
 }
 
 /// A plan of so many peers and hops, whose links all have these addresses.
@@ -227,18 +237,22 @@ fn expect_no_device(rt: &(impl Abort + Host), device: &str, plan: &str) {
     remove(rt, device);
 }
 
+/// Checks what is told where the plan or the device is wrong.
+fn expect_needs(rt: &(impl Abort + Host), device: &str, plan: &str) {
+    expect_end(rt, device, plan, 1, NO_PLAN);
+    expect_plan(rt, device, plan, b"station = 7 # \xff\n", NO_TEXT);
+    for (text, errors) in &PLANS {
+        expect_plan(rt, device, plan, text.as_bytes(), *errors);
+    }
+    expect_no_device(rt, device, plan);
+}
+
 /// The plan is looked at first, then the file, then the device in it.
 #[test]
 fn a_relay_needs_a_plan_and_a_device(rt: HostRuntime) {
     let device = path_of(&rt, rt, "unserved");
     let plan = path_of(&rt, rt, "unserved-plan");
-    let (device, plan) = (device.as_str(), plan.as_str());
-    expect_end(&rt, device, plan, 1, NO_PLAN);
-    expect_plan(&rt, device, plan, b"station = 7 # \xff\n", NO_TEXT);
-    for (text, errors) in &PLANS {
-        expect_plan(&rt, device, plan, text.as_bytes(), *errors);
-    }
-    expect_no_device(&rt, device, plan);
+    expect_needs(&rt, device.as_str(), plan.as_str());
 }
 
 /// An address whose port the system picks, one that is free, and one at which this machine doesn't receive.
@@ -306,16 +320,21 @@ fn expect_links(rt: &(impl Abort + Host), device: &str, plan: &str) {
     }
 }
 
+/// Checks what is told where a plan has no room, or no links.
+fn expect_needs_room(rt: &(impl Abort + Host), device: &str, plan: &str) {
+    make_small(rt, device);
+    expect_links(rt, device, plan);
+    remove(rt, plan);
+    remove(rt, device);
+}
+
 /// The device needs each peer and each hop of the plan, before any link is opened; then the system judges the
 /// addresses of the links, none of which is there twice.
 #[test]
 fn a_relay_needs_room_and_links(rt: HostRuntime) {
     let device = path_of(&rt, rt, "narrow");
     let plan = path_of(&rt, rt, "narrow-plan");
-    make_small(&rt, device.as_str());
-    expect_links(&rt, device.as_str(), plan.as_str());
-    remove(&rt, plan.as_str());
-    remove(&rt, device.as_str());
+    expect_needs_room(&rt, device.as_str(), plan.as_str());
 }
 
 /// A plan of 64 peers and 64 hops, each with a loopback address of its own at this port, and a comment of 70,000 bytes.
@@ -439,14 +458,19 @@ fn expect_broken(
     expect!(*rt; errors.as_slice() == BEGUN);
 }
 
+/// Checks the end of a relay whose device fails, beside a neighbour.
+fn expect_ends_broken(rt: &(impl Abort + Host), path: &str) {
+    let plan = other_plan(rt, path);
+    let journal = journal_on(rt, failing(rt));
+    let neighbour = neighbour(rt, "127.0.0.1:4032", "127.0.0.1:4031", 20);
+    expect_broken(rt, &plan, path, journal);
+    expect!(*rt; !neighbour.join(rt));
+}
+
 /// Where a write of the device fails, nothing is acknowledged, and the relay ends broken by itself: its turns are without
 /// end, and the sender never has anything to ask that is written.
 #[test]
 fn a_failed_write_ends_a_relay_broken(rt: HostRuntime) {
     let path = path_of(&rt, rt, "broken-plan");
-    let plan = other_plan(&rt, path.as_str());
-    let journal = journal_on(&rt, failing(&rt));
-    let neighbour = neighbour(&rt, "127.0.0.1:4032", "127.0.0.1:4031", 20);
-    expect_broken(&rt, &plan, path.as_str(), journal);
-    expect!(rt; !neighbour.join(&rt));
+    expect_ends_broken(&rt, path.as_str());
 }

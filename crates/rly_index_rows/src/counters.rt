@@ -261,53 +261,159 @@ fn a_head_that_was_read_is_counted(rt: HostRuntime) {
     expect!(rt; matches!(&hop.queue.item(2).payload, Stored::Placed(Place { start: 260, length: 1 })));
 }
 
+/// A command of the tables below.
+enum Act {
+    /// A Pick at this moment.
+    Pick(u64),
+    /// A Release up to this number.
+    Release(u64),
+    /// A Take of six bytes under this number, at this place, with this limit.
+    Take(u64, u64, u64),
+}
+
+fn command_of(act: &Act) -> Command<Stored> {
+    match act {
+        Act::Pick(now) => pick(*now),
+        Act::Release(number) => release(*number),
+        Act::Take(number, start, limit) => limited_take(*number, *start, *limit),
+    }
+}
+
+/// What it is told.
+enum Told {
+    /// A datagram went into flight under this number, with this id, and those were dropped.
+    Picked(u64, u64, &'static [u64]),
+    /// Nothing went into flight, and those expired.
+    Expired(&'static [u64]),
+    Released(u64),
+    Taken(u64),
+    Refused(Refusal),
+}
+
+/// Whether a reply says so.
+fn is_told(reply: &Reply, told: &Told) -> bool {
+    match told {
+        Told::Picked(number, id, dropped) => is_picked(reply, *number, *id, dropped),
+        Told::Expired(late) => is_expired(reply, late),
+        Told::Released(number) => matches!(reply, Reply::Released(found) if found == number),
+        Told::Taken(id) => matches!(reply, Reply::Taken(found) if found == id),
+        Told::Refused(refusal) => matches!(reply, Reply::Refused(found) if found == refusal),
+    }
+}
+
+/// A row: how many bytes the command's record takes, the command, what it is told, the live bytes of each segment after it, and how
+/// much of the current segment is used.
+type Row = (u64, Act, Told, [u64; 4], u64);
+
+/// Makes the step of a row, and checks what comes of it.
+fn expect_row(rt: &impl Abort, alloc: Global, index: &mut Index, row: &Row) {
+    let (bytes, act, told, left, used) = row;
+    let reply = step(rt, alloc, index, *bytes, command_of(act)).expect(rt, "memory");
+    expect!(*rt; is_told(&reply, told));
+    expect!(*rt; live(index) == *left);
+    expect!(*rt; index.used() == *used);
+}
+
+/// Makes these steps on the index of the head, and checks what comes of each. The index.
+fn index_after(rt: &impl Abort, alloc: Global, rows: &[Row]) -> Index {
+    let mut disk = disk_of(alloc).expect(rt, "memory");
+    let mut index = index_of(rt, alloc, &mut disk).expect(rt, "memory");
+    for row in rows {
+        expect_row(rt, alloc, &mut index, row);
+    }
+    index
+}
+
 /// A Pick that drops takes off the bytes of what it drops, a Release those of what it names, and a Take adds its own to the current
 /// segment. A refused command changes nothing.
+const CHANGES: [Row; 6] = [
+    (
+        20,
+        Act::Pick(10_000),
+        Told::Picked(2, 2, &[]),
+        [5, 3, 2, 0],
+        281,
+    ),
+    (
+        20,
+        Act::Pick(200_000),
+        Told::Picked(3, 4, &[3]),
+        [1, 3, 2, 0],
+        301,
+    ),
+    (20, Act::Release(2), Told::Released(2), [1, 0, 0, 0], 321),
+    (
+        20,
+        Act::Release(9),
+        Told::Refused(Refusal::NeverSent),
+        [1, 0, 0, 0],
+        321,
+    ),
+    (100, Act::Take(5, 350, 0), Told::Taken(9), [7, 0, 0, 0], 421),
+    (
+        100,
+        Act::Take(9, 430, 0),
+        Told::Refused(Refusal::Gap(6)),
+        [7, 0, 0, 0],
+        421,
+    ),
+];
+
 #[test]
 fn commands_change_the_counters(rt: HostRuntime) {
-    let alloc = rt.alloc();
-    let mut index = index_of(&rt, alloc, &mut disk_of(alloc).expect(&rt, "memory")).expect(
-        &rt, "memory",
-    );
-    let reply = step(&rt, alloc, &mut index, 20, pick(10_000)).expect(&rt, "memory");
-    expect!(rt; is_picked(&reply, 2, 2, &[]) && live(&index) == [5, 3, 2, 0]);
-    let reply = step(&rt, alloc, &mut index, 20, pick(200_000)).expect(&rt, "memory");
-    expect!(rt; is_picked(&reply, 3, 4, &[3]) && live(&index) == [1, 3, 2, 0]);
-    let reply = step(&rt, alloc, &mut index, 20, release(2)).expect(&rt, "memory");
-    expect!(rt; matches!(&reply, Reply::Released(2)) && live(&index) == [1, 0, 0, 0]);
-    expect!(rt; index.used() == 321);
-    let reply = step(&rt, alloc, &mut index, 20, release(9)).expect(&rt, "memory");
-    expect!(rt; matches!(&reply, Reply::Refused(Refusal::NeverSent)) && index.used() == 321);
-    let reply = step(&rt, alloc, &mut index, 100, take(5, 350)).expect(&rt, "memory");
-    expect!(rt; matches!(&reply, Reply::Taken(9)) && live(&index) == [7, 0, 0, 0]);
-    let reply = step(&rt, alloc, &mut index, 100, take(9, 430)).expect(&rt, "memory");
-    expect!(rt; matches!(&reply, Reply::Refused(Refusal::Gap(6))) && live(&index) == [7, 0, 0, 0]);
-    expect!(rt; index.used() == 421);
+    let index = index_after(&rt, rt.alloc(), &CHANGES);
     expect!(rt; index.choose() == Choice { target: 1, victim: 2 });
 }
 
 /// A Pick takes off the bytes of what is past its limit, once it came after the limit and not before.
+const EXPIRING: [Row; 6] = [
+    (
+        20,
+        Act::Pick(10_000),
+        Told::Picked(2, 2, &[]),
+        [5, 3, 2, 0],
+        281,
+    ),
+    (
+        20,
+        Act::Pick(200_000),
+        Told::Picked(3, 4, &[3]),
+        [1, 3, 2, 0],
+        301,
+    ),
+    (
+        100,
+        Act::Take(5, 350, 5_000),
+        Told::Taken(8),
+        [7, 3, 2, 0],
+        401,
+    ),
+    (
+        100,
+        Act::Take(6, 450, 5_000),
+        Told::Taken(9),
+        [13, 3, 2, 0],
+        501,
+    ),
+    (
+        20,
+        Act::Pick(205_000),
+        Told::Picked(4, 8, &[]),
+        [13, 3, 2, 0],
+        521,
+    ),
+    (
+        20,
+        Act::Pick(205_001),
+        Told::Expired(&[9]),
+        [7, 3, 2, 0],
+        541,
+    ),
+];
+
 #[test]
 fn what_expired_is_taken_off(rt: HostRuntime) {
-    let alloc = rt.alloc();
-    let mut index = index_of(&rt, alloc, &mut disk_of(alloc).expect(&rt, "memory")).expect(
-        &rt, "memory",
-    );
-    let _ = step(&rt, alloc, &mut index, 20, pick(10_000)).expect(&rt, "memory");
-    let reply = step(&rt, alloc, &mut index, 20, pick(200_000)).expect(&rt, "memory");
-    expect!(rt; is_picked(&reply, 3, 4, &[3]) && live(&index) == [1, 3, 2, 0]);
-    let reply = step(&rt, alloc, &mut index, 100, limited_take(5, 350, 5_000)).expect(
-        &rt, "memory",
-    );
-    expect!(rt; matches!(&reply, Reply::Taken(8)) && live(&index) == [7, 3, 2, 0]);
-    let reply = step(&rt, alloc, &mut index, 100, limited_take(6, 450, 5_000)).expect(
-        &rt, "memory",
-    );
-    expect!(rt; matches!(&reply, Reply::Taken(9)) && live(&index) == [13, 3, 2, 0]);
-    let reply = step(&rt, alloc, &mut index, 20, pick(205_000)).expect(&rt, "memory");
-    expect!(rt; is_picked(&reply, 4, 8, &[]) && live(&index) == [13, 3, 2, 0]);
-    let reply = step(&rt, alloc, &mut index, 20, pick(205_001)).expect(&rt, "memory");
-    expect!(rt; is_expired(&reply, &[9]) && live(&index) == [7, 3, 2, 0]);
+    let _index = index_after(&rt, rt.alloc(), &EXPIRING);
 }
 
 /// The second of the datagrams, whose two bytes lie in the victim, lies in the new head after it, which is of form 2: 317,188 with

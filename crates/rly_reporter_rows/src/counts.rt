@@ -4,11 +4,12 @@ use crate::reporters::greatest_text;
 use rly_core::{HopId, PeerId};
 use rly_hop::StationId;
 use rly_plan::Plan;
-use rly_report::{PeerCounts, PeerReport};
+use rly_report::{Counted, PeerCounts, PeerReport};
 use rly_reporter::{CountedLink, Counters, Tally};
 use rly_threads::{Link, MemLink};
+use std::alloc::Global;
+use std::process::Abort;
 use std::sync::Arc;
-use std::test::Fail;
 use std::time::Clock;
 
 /// Data from station 3 to station 7, and custody and refusal back: the worked messages of docs/PROTOCOL.md.
@@ -25,32 +26,28 @@ const REFUSED: [u8; 17] = [
     0x52, 0x4c, 0x01, 0x03, 0x00, 0x07, 0x00, 0x03, 0, 0, 0, 0, 0, 0, 0, 1, 0x06,
 ];
 
-/// Each packet that the link below gives counts, by either receive, and each that is sent, also one that fails. A receive that
-/// gives nothing or fails doesn't count.
-#[test]
-fn packets_of_a_link_are_counted(rt: HostRuntime) -> Result<(), Fail> {
-    let alloc = rt.alloc();
-    let mut coming = Vec::new(alloc);
-    coming.push(Some(DATA.to_vec(alloc)?))?;
-    coming.push(None)?;
-    coming.push(Some(DATA[..20].to_vec(alloc)?))?;
-    // The fifth call fails: the second that is sent.
-    let link = MemLink::new(alloc, coming, 5);
-    let mut link = CountedLink::new(link, StationId(7), StationId(3), &rt);
-    expect!(rt; link.counts() == PeerCounts::new());
+/// A link that gives a Data, nothing, and a Data that is cut short. Its fifth call fails: the second that is sent.
+fn link_below(rt: &impl Abort, alloc: Global) -> MemLink {
+    let whole = DATA.to_vec(alloc).expect(rt, "memory");
+    let cut = DATA[..20].to_vec(alloc).expect(rt, "memory");
+    let coming = vec![in alloc; Some(whole), None, Some(cut)];
+    MemLink::new(alloc, coming.ok().expect(rt, "memory"), 5)
+}
+
+/// Makes three receives of a link and three sends, one of which fails.
+fn use_link<L: Link>(rt: &impl Abort, link: &mut L) {
     let mut buffer = [0; 100];
-    let before = rt.since_1970()?.as_micros();
-    assert!(rt; link.recv(&mut buffer) == Ok(Some(21)));
-    assert!(rt; link.try_recv(&mut buffer) == Ok(None));
-    assert!(rt; link.try_recv(&mut buffer) == Ok(Some(20)));
-    assert!(rt; link.send(&CUSTODY).is_ok());
-    assert!(rt; link.send(&CUSTODY).is_err());
-    assert!(rt; link.send(&REFUSED).is_ok());
-    assert!(rt; link.failures() == 1);
-    let counts = link.counts();
-    let after = rt.since_1970()?.as_micros();
-    let heard = u128::from(counts.last.unwrap_or(0));
-    assert!(rt; before <= heard && heard <= after);
+    expect!(rt; link.recv(&mut buffer) == Ok(Some(21)));
+    expect!(rt; link.try_recv(&mut buffer) == Ok(None));
+    expect!(rt; link.try_recv(&mut buffer) == Ok(Some(20)));
+    expect!(rt; link.send(&CUSTODY).is_ok());
+    expect!(rt; link.send(&CUSTODY).is_err());
+    expect!(rt; link.send(&REFUSED).is_ok());
+    expect!(rt; link.failures() == 1);
+}
+
+/// Checks what was counted then. The moment at which a packet was heard last.
+fn expect_counts(rt: &impl Abort, counts: PeerCounts) -> u128 {
     let expected = PeerCounts {
         heard: 2,
         custody: 2,
@@ -58,9 +55,27 @@ fn packets_of_a_link_are_counted(rt: HostRuntime) -> Result<(), Fail> {
         malformed: 1,
         last: counts.last,
     };
-    assert!(rt; counts == expected);
+    expect!(rt; counts == expected);
+    u128::from(counts.last.unwrap_or(0))
+}
+
+/// The wall clock, in microseconds.
+fn micros(rt: &(impl Abort + Clock)) -> u128 {
+    rt.since_1970().ok().expect(rt, "a clock").as_micros()
+}
+
+/// Each packet that the link below gives counts, by either receive, and each that is sent, also one that fails. A receive that
+/// gives nothing or fails doesn't count.
+#[test]
+fn packets_of_a_link_are_counted(rt: HostRuntime) {
+    let link = link_below(&rt, rt.alloc());
+    let mut link = CountedLink::new(link, StationId(7), StationId(3), &rt);
+    expect!(rt; link.counts() == PeerCounts::new());
+    let before = micros(&rt);
+    use_link(&rt, &mut link);
+    let heard = expect_counts(&rt, link.counts());
+    expect!(rt; before <= heard && heard <= micros(&rt));
     expect!(rt; link.link().delivered().len() == 2);
-    Ok(())
 }
 
 /// Two peers and two hops.
@@ -75,45 +90,61 @@ hop = [
 ]
 ";
 
-/// A reporter sees what was set, of the neighbour of which it was set, and nothing of others.
-#[test]
-fn what_was_set_is_seen(rt: HostRuntime) -> Result<(), Fail> {
-    let alloc = rt.alloc();
-    let plan = Plan::from_toml(alloc, PLAN)?;
-    let tally = Tally::new(alloc, &plan)?;
-    let heard = PeerReport {
-        peer: PeerId(2),
-        counts: PeerCounts {
-            heard: 41,
-            custody: 42,
-            refused: 43,
-            malformed: 44,
-            last: Some(46),
-        },
-        wrong: 45,
-    };
-    tally.set_peer(&heard);
-    tally.set_wrong(HopId(1), 47);
-    tally.set_rounds(52, 53);
-    // There is no such peer and no such hop.
-    tally.set_peer(&PeerReport {
-        peer: PeerId(3),
-        ..heard
-    });
-    tally.set_wrong(HopId(0), 9);
-    let mut shared = Arc::new(alloc, tally)?;
-    let counted = shared.look();
+/// What is set of the second peer.
+const HEARD: PeerReport = PeerReport {
+    peer: PeerId(2),
+    counts: PeerCounts {
+        heard: 41,
+        custody: 42,
+        refused: 43,
+        malformed: 44,
+        last: Some(46),
+    },
+    wrong: 45,
+};
+
+/// The same of a peer that there isn't.
+const UNKNOWN: PeerReport = PeerReport {
+    peer: PeerId(3),
+    ..HEARD
+};
+
+/// What a reporter sees of a tally.
+fn seen(rt: &impl Abort, alloc: Global, tally: Tally) -> Counted {
+    let mut shared = Arc::new(alloc, tally).ok().expect(rt, "memory");
+    shared.look()
+}
+
+/// A tally of the neighbours of a plan.
+fn tally_of(rt: &impl Abort, alloc: Global, text: &str) -> Tally {
+    let plan = Plan::from_toml(alloc, text).ok().expect(rt, "a plan");
+    Tally::new(alloc, &plan).expect(rt, "memory")
+}
+
+/// Checks what is seen of peers.
+fn expect_peers(rt: &impl Abort, peers: &[PeerReport]) {
     let silent = PeerReport {
         peer: PeerId(1),
         counts: PeerCounts::new(),
         wrong: 0,
     };
-    assert!(rt; counted.peers[0] == silent);
-    assert!(rt; counted.peers[1] == heard);
-    assert!(rt; counted.peers[2].counts == PeerCounts::new());
-    assert!(rt; counted.wrong[0] == 47 && counted.wrong[1] == 0);
-    assert!(rt; counted.rounds == 52 && counted.segments == 53);
-    Ok(())
+    expect!(rt; peers.get(0) == Some(&silent) && peers.get(1) == Some(&HEARD));
+    expect!(rt; matches!(peers.get(2), Some(peer) if peer.counts == PeerCounts::new()));
+}
+
+/// A reporter sees what was set, of the neighbour of which it was set, and nothing of others. There is no peer 3 and no hop 0.
+#[test]
+fn what_was_set_is_seen(rt: HostRuntime) {
+    let tally = tally_of(&rt, rt.alloc(), PLAN);
+    tally.set_peer(&HEARD);
+    tally.set_peer(&UNKNOWN);
+    tally.set_wrong(HopId(1), 47);
+    tally.set_wrong(HopId(0), 9);
+    tally.set_rounds(52, 53);
+    let counted = seen(&rt, rt.alloc(), tally);
+    expect_peers(&rt, &counted.peers);
+    expect!(rt; counted.wrong[0] == 47 && counted.wrong[1] == 0);
+    expect!(rt; counted.rounds == 52 && counted.segments == 53);
 }
 
 /// The greatest numbers that may be counted of a peer.
@@ -133,21 +164,18 @@ fn greatest(id: u16) -> PeerReport {
 
 /// Of each of 64 peers and 64 hops the greatest numbers are seen.
 #[test]
-fn the_greatest_counts_are_seen(rt: HostRuntime) -> Result<(), Fail> {
-    let alloc = rt.alloc();
-    let plan = Plan::from_toml(alloc, greatest_text(alloc)?.as_str())?;
-    let tally = Tally::new(alloc, &plan)?;
+fn the_greatest_counts_are_seen(rt: HostRuntime) {
+    let text = greatest_text(rt.alloc()).ok().expect(&rt, "memory");
+    let tally = tally_of(&rt, rt.alloc(), text.as_str());
     for id in 1..=64 {
         tally.set_peer(&greatest(id));
         tally.set_wrong(HopId(id), u64::MAX);
     }
     tally.set_rounds(u64::MAX, u64::MAX);
-    let mut shared = Arc::new(alloc, tally)?;
-    let counted = shared.look();
+    let counted = seen(&rt, rt.alloc(), tally);
     for (peer, id) in counted.peers.iter().zip(1..=64) {
         expect!(rt; *peer == greatest(id));
     }
     expect!(rt; counted.wrong.iter().all(|wrong| *wrong == u64::MAX));
     expect!(rt; counted.rounds == u64::MAX && counted.segments == u64::MAX);
-    Ok(())
 }

@@ -6,7 +6,7 @@ use crate::reporters::{Rising, plan_of};
 use rly_core::{Geometry, HopId, Params, PeerId};
 use rly_disk::{After, Disk, FaultDisk, MemDisk};
 use rly_journal::Journal;
-use rly_reporter::{Pace, Reported, ReporterEnd, run_reported};
+use rly_reporter::{Pace, ReporterEnd, run_reported};
 use rly_segment::format;
 use rly_threads::{Go, MemLink, Point, Post, Turn, Worker};
 use std::alloc::Global;
@@ -14,6 +14,7 @@ use std::process::Abort;
 use std::sync::atomic::{AtomicU64, Ordering};
 use std::sync::{OnceLock, Wait};
 use std::thread;
+use std::thread::Threads;
 use std::time::{Clock, Duration};
 
 /// Station 7, after station 3 and before station 9. Its contact is from 1000 to 2000.
@@ -156,30 +157,42 @@ peer 1 heard 1 custody 0 refused 0 malformed 0 wrong 0
 device seq 1 rounds 1 segments 0
 ";
 
-/// The reporter's Show is answered beside the calls of the workers, also where these have ended: the relay waits until the reporter
-/// has left its seat.
-#[test]
-fn a_running_relay_reports(rt: HostRuntime) {
-    let alloc = rt.alloc();
-    let plan = plan_of(&rt, alloc, PLAN);
+/// How a relay and the reporter beside it ended.
+#[derive(Drop)]
+struct Ended {
+    had_thread: bool,
+    complete: bool,
+    broken: bool,
+    is_cut: bool,
+    end: ReporterEnd,
+    /// The word of the relay.
+    word: Option<bool>,
+    written: Vec<u8>,
+}
+
+/// Runs a relay over this journal. Its reporter waits for so many answers to the receiver.
+fn run_over<R: Abort + Threads + Wait + Clock + Sync + Copy + Send + Drop, D: Disk + Drop>(
+    rt: &R,
+    alloc: Global,
+    journal: Journal<D>,
+    wanted: u64,
+) -> Ended {
+    let plan = plan_of(rt, alloc, PLAN);
     let answered = AtomicU64::new(0);
-    let posts = posts(&rt, alloc, &answered);
+    let posts = posts(rt, alloc, &answered);
     assert!(rt; posts.len() == 2);
-    let journal = Journal::open(alloc, device(&rt, alloc))
-        .ok()
-        .expect(&rt, "a journal");
     let word = OnceLock::new();
     let pace = Once {
-        clock: rt,
+        clock: *rt,
         answered: &answered,
         word: &word,
-        wanted: 1,
+        wanted,
         told: 0,
     };
     let counters = Rising::new();
     let mut written = Vec::new(alloc);
-    let reported = run_reported(
-        &rt,
+    let ran = run_reported(
+        rt,
         alloc,
         journal,
         &plan,
@@ -189,62 +202,39 @@ fn a_running_relay_reports(rt: HostRuntime) {
         &mut written,
         &word,
     );
-    let Ok(reported) = reported else {
+    let Ok(reported) = ran else {
         panic!(rt; "no relay");
     };
-    expect!(rt; reported.had_thread);
-    expect!(rt; reported.relayed.complete);
-    expect!(rt; !reported.relayed.finished.broken);
-    expect!(rt; reported.watched.end == ReporterEnd::Paced);
-    expect!(rt; written.as_slice() == TOLD.as_bytes());
-    expect!(rt; matches!(word.get(), Some(false)));
+    Ended {
+        had_thread: reported.had_thread,
+        complete: reported.relayed.complete,
+        broken: reported.relayed.finished.broken,
+        is_cut: reported.relayed.is_cut,
+        end: reported.watched.end,
+        word: word.get().copied(),
+        written,
+    }
 }
 
-/// Checks that the journal is broken, that the workers were told to end, and that the reporter found the line closed.
-fn expect_closed<R: Abort>(
-    rt: &R,
-    reported: &Reported<FaultDisk<MemDisk>, MemLink, Counting<'_>, Once<'_, HostRuntime>, Rising>,
-) {
-    expect!(rt; reported.relayed.finished.broken);
-    expect!(rt; reported.relayed.is_cut);
-    expect!(rt; reported.watched.end == ReporterEnd::Closed);
+/// The reporter's Show is answered beside the calls of the workers, also where these have ended: the relay waits until the reporter
+/// has left its seat.
+#[test]
+fn a_running_relay_reports(rt: HostRuntime) {
+    let opened = Journal::open(rt.alloc(), device(&rt, rt.alloc()));
+    let journal = opened.ok().expect(&rt, "a journal");
+    let ended = run_over(&rt, rt.alloc(), journal, 1);
+    expect!(rt; ended.had_thread && ended.complete && !ended.broken);
+    expect!(rt; ended.end == ReporterEnd::Paced && ended.word == Some(false));
+    expect!(rt; ended.written.as_slice() == TOLD.as_bytes());
 }
 
 /// Where the journal breaks the relay doesn't wait for the reporter, whose word is said, and whose line is closed.
 #[test]
 fn a_relay_that_breaks_ends_its_reporter(rt: HostRuntime) {
-    let alloc = rt.alloc();
-    let plan = plan_of(&rt, alloc, PLAN);
-    let answered = AtomicU64::new(0);
-    let posts = posts(&rt, alloc, &answered);
-    assert!(rt; posts.len() == 2);
-    let journal = Journal::open(alloc, failing(&rt, alloc))
-        .ok()
-        .expect(&rt, "a journal");
-    let word = OnceLock::new();
-    let pace = Once {
-        clock: rt,
-        answered: &answered,
-        word: &word,
-        wanted: 1_000,
-        told: 0,
-    };
-    let counters = Rising::new();
-    let mut written = Vec::new(alloc);
-    let reported = run_reported(
-        &rt,
-        alloc,
-        journal,
-        &plan,
-        posts,
-        pace,
-        counters,
-        &mut written,
-        &word,
-    );
-    let Ok(reported) = reported else {
-        panic!(rt; "no relay");
-    };
-    expect_closed(&rt, &reported);
-    expect!(rt; written.is_empty());
+    let opened = Journal::open(rt.alloc(), failing(&rt, rt.alloc()));
+    let journal = opened.ok().expect(&rt, "a journal");
+    let ended = run_over(&rt, rt.alloc(), journal, 1_000);
+    expect!(rt; ended.broken && ended.is_cut);
+    expect!(rt; ended.end == ReporterEnd::Closed && ended.word.is_some());
+    expect!(rt; ended.written.is_empty());
 }

@@ -3,9 +3,12 @@
 //! the replies are whole.
 use crate::playing::{SMALL, formatted, geometry_of};
 use crate::rows::replies;
+use rly_disk::MemDisk;
 use rly_journal::Journal;
 use rly_scarce::{before, was_refused};
 use rly_text::{TextFault, play, sim};
+use std::alloc::Global;
+use std::process::Abort;
 use std::test::Fail;
 
 /// Lines of each kind.
@@ -50,26 +53,31 @@ fn count_of(text: &[u8], byte: u8) -> usize {
     text.iter().filter(|found| **found == byte).count()
 }
 
-#[test]
-fn a_play(rt: HostRuntime) -> Result<(), Fail> {
-    let alloc = rt.alloc();
-    let whole = replies(alloc, SMALL, LINES)?;
-    let disk = formatted(&rt, &geometry_of(&rt, SMALL))?;
-    let mut journal = Journal::open(alloc, disk).ok().ok_or("a journal")?;
+/// Plays the lines on a journal, and checks what was written and how it ended.
+fn expect_played(rt: &impl Abort, alloc: Global, journal: &mut Journal<MemDisk>, whole: &[u8]) {
     let mut reader = LINES.as_bytes();
-    let mut written: Vec<u8> = Vec::with_capacity(alloc, 1_024)?;
-    before(alloc)?;
-    let told = play(alloc, &mut reader, &mut written, &mut journal, 3);
+    let mut written: Vec<u8> = Vec::with_capacity(alloc, 1_024).expect(rt, "memory");
+    before(alloc).expect(rt, "memory");
+    let told = play(alloc, &mut reader, &mut written, journal, 3);
     let refused = was_refused(alloc);
     match told {
         Ok(()) => {
-            let is_whole = written.as_slice() == whole.as_slice();
-            expect!(rt; is_whole || refused && tell_of_scarcity(&written, &whole));
+            let is_whole = written.as_slice() == whole;
+            expect!(rt; is_whole || refused && tell_of_scarcity(&written, whole));
         }
         Err(fault) => {
             expect!(rt; refused && matches!(fault, TextFault::OutOfMemory));
-            expect!(rt; whole.as_slice().starts_with(written.as_slice()));
+            expect!(rt; whole.starts_with(written.as_slice()));
         }
     }
+}
+
+#[test]
+fn a_play(rt: HostRuntime) -> Result<(), Fail> {
+    let whole = replies(rt.alloc(), SMALL, LINES)?;
+    let disk = formatted(&rt, &geometry_of(&rt, SMALL))?;
+    let opened = Journal::open(rt.alloc(), disk);
+    let mut journal = opened.ok().expect(&rt, "a journal");
+    expect_played(&rt, rt.alloc(), &mut journal, &whole);
     Ok(())
 }

@@ -206,19 +206,24 @@ const STRAYS: [&[u8]; 3] = [
     b"\x52\x4c\x01\x02\x00\x0a\x00\x07\x00\x00\x00\x00\x00\x00\x00\x01",
 ];
 
+/// How many receives wait where each datagram goes out once, in order.
+fn waits_of<R: Abort + Wait>(
+    rt: &R,
+    alloc: Global,
+    way: &Way,
+    stray: Option<&'static [u8]>,
+) -> u64 {
+    let ends = hand_over(rt, alloc, way, 0, stray);
+    expect!(rt; ends.link.numbers.iter().copied().eq(1..=way.datagrams));
+    ends.link.waits
+}
+
 /// Checks that each datagram goes out once, in order, and that this is so and as many receives wait where a stray packet comes in each
 /// turn.
 fn expect_once<R: Abort + Wait>(rt: &R, alloc: Global, way: &Way) {
-    let alone = hand_over(rt, alloc, way, 0, None);
-    let mut numbers = alone.link.numbers.iter();
-    for number in 1..=way.datagrams {
-        expect!(rt; numbers.next() == Some(&number));
-    }
-    expect!(rt; numbers.next().is_none());
+    let waits = waits_of(rt, alloc, way, None);
     for stray in &STRAYS {
-        let ends = hand_over(rt, alloc, way, 0, Some(*stray));
-        expect!(rt; ends.link.numbers.as_slice() == alone.link.numbers.as_slice());
-        expect!(rt; ends.link.waits == alone.link.waits);
+        expect!(rt; waits_of(rt, alloc, way, Some(*stray)) == waits);
     }
 }
 
@@ -255,6 +260,18 @@ fn each_goes_out_once(rt: HostRuntime) {
 /// second datagram goes out once, and from then on the wait is 1.5 s + 4 * 0.75 s.
 const MEASURED: [u64; 6] = [1, 1, 2, 3, 4, 5];
 
+/// How many receives wait where they go out so.
+fn measured_waits<R: Abort + Wait>(
+    rt: &R,
+    alloc: Global,
+    way: &Way,
+    stray: Option<&'static [u8]>,
+) -> u64 {
+    let ends = hand_over(rt, alloc, way, 0, stray);
+    expect!(rt; ends.link.numbers.as_slice() == MEASURED.as_slice());
+    ends.link.waits
+}
+
 /// Where the way there and back is a second and a half, one datagram goes out twice, whatever else comes.
 #[test]
 fn a_long_way_is_measured(rt: HostRuntime) {
@@ -264,12 +281,9 @@ fn a_long_way_is_measured(rt: HostRuntime) {
         datagrams: 5,
         window: 1,
     };
-    let alone = hand_over(&rt, rt.alloc(), &way, 0, None);
-    expect!(rt; alone.link.numbers.as_slice() == MEASURED.as_slice());
+    let waits = measured_waits(&rt, rt.alloc(), &way, None);
     for stray in &STRAYS {
-        let ends = hand_over(&rt, rt.alloc(), &way, 0, Some(*stray));
-        expect!(rt; ends.link.numbers.as_slice() == MEASURED.as_slice());
-        expect!(rt; ends.link.waits == alone.link.waits);
+        expect!(rt; measured_waits(&rt, rt.alloc(), &way, Some(*stray)) == waits);
     }
 }
 

@@ -6,6 +6,7 @@ ghost use Rattle.rly_machine.specs.History.{IsAnswered, harm, next_state, withou
 ghost use Rattle.rly_thread_rows.specs.InStep.{IsInStep};
 
 use crate::asks::{take_again, take_first, window};
+use crate::served::spawned;
 use rly_core::{HopId, Params, Refusal};
 use rly_line::{CallError, LineEnd, Responder, Seat, make};
 use rly_machine::{Answer, Ask, Call, Machine, Payload, Query, Reply};
@@ -14,6 +15,7 @@ use std::process::Abort;
 use std::snapshot::Snapshot;
 use std::sync::Wait;
 use std::thread;
+use std::thread::Threads;
 
 /// How many asks each of four seats makes.
 const ASKS: u64 = 50;
@@ -106,25 +108,48 @@ impl Answering {
     }
 }
 
-/// Two seats, each in a thread of its own. The second asks after the first was answered.
-#[test]
-fn line_row_2(rt: HostRuntime) {
-    let alloc = rt.alloc();
-    let (mut seats, mut answering) = Answering::new(&rt, alloc, 4, 2);
-    let second = seats.pop().expect(&rt, "two seats");
-    let first = seats.pop().expect(&rt, "two seats");
-    expect!(rt; (first.id().0, second.id().0) == (0, 1));
-    let asking = thread::spawn(&rt, move || take_first(&rt, alloc, first, second))
-        .ok()
-        .expect(&rt, "a thread");
+/// Checks that what the first of two seats asks is taken. The second seat.
+fn expect_taken<R: Abort + Threads + Wait + Copy + Send + 'static>(
+    rt: R,
+    alloc: Global,
+    answering: &mut Answering,
+    first: Seat,
+    second: Seat,
+) -> Seat
+    requires { IsInStep answering.old.machine.state answering.old.calls }
+    ensures { IsInStep answering.new.machine.state answering.new.calls }
+{
+    let asking = spawned(&rt, move || take_first(&rt, alloc, first, second));
     expect!(rt; answering.answer(&rt));
     let (reply, second) = asking.join(&rt);
     expect!(rt; matches!(&reply, Reply::Taken(1)));
-    let asking = thread::spawn(&rt, move || take_again(&rt, alloc, second))
-        .ok()
-        .expect(&rt, "a thread");
+    second
+}
+
+/// Checks the answer to the same take at the second seat, which was taken before.
+fn expect_already<R: Abort + Threads + Wait + Copy + Send + 'static>(
+    rt: R,
+    alloc: Global,
+    answering: &mut Answering,
+    second: Seat,
+)
+    requires { IsInStep answering.old.machine.state answering.old.calls }
+    ensures { IsInStep answering.new.machine.state answering.new.calls }
+{
+    let asking = spawned(&rt, move || take_again(&rt, alloc, second));
     expect!(rt; answering.answer(&rt));
     expect!(rt; matches!(&asking.join(&rt), Reply::Already(1)));
+}
+
+/// Two seats, each in a thread of its own. The second asks after the first was answered.
+#[test]
+fn line_row_2(rt: HostRuntime) {
+    let (mut seats, mut answering) = Answering::new(&rt, rt.alloc(), 4, 2);
+    let second = seats.pop().expect(&rt, "two seats");
+    let first = seats.pop().expect(&rt, "two seats");
+    expect!(rt; (first.id().0, second.id().0) == (0, 1));
+    let second = expect_taken(rt, rt.alloc(), &mut answering, first, second);
+    expect_already(rt, rt.alloc(), &mut answering, second);
     expect!(rt; !answering.answer(&rt));
 }
 

@@ -115,14 +115,18 @@ fn journal_of_70<R: Abort + Threads + Wait + Sync>(rt: &R, alloc: Global) -> Jou
     finished.journal
 }
 
+/// Checks that a relay took the 71st datagram.
+fn expect_71<R: Abort>(rt: &R, left: &Relayed<MemDisk, MemLink, Turns>) {
+    expect!(*rt; left.complete && !left.finished.broken);
+    expect!(*rt; matches!(left.finished.journal.last(PeerId(1)), Ok(71)));
+}
+
 /// One worker takes 70 datagrams in two turns, of which the first has 64. A relay over the journal that this one leaves takes the
 /// next.
 #[test]
 fn a_worker_alone_takes_full_batches(rt: HostRuntime) {
     let journal = journal_of_70(&rt, rt.alloc());
-    let second = alone(&rt, rt.alloc(), journal, 71, 71);
-    expect!(rt; second.complete && !second.finished.broken);
-    expect!(rt; matches!(second.finished.journal.last(PeerId(1)), Ok(71)));
+    expect_71(&rt, &alone(&rt, rt.alloc(), journal, 71, 71));
 }
 
 /// The posts of 256 workers, of which the first hears a datagram.
@@ -136,6 +140,13 @@ fn many_posts<R: Abort>(rt: &R, alloc: Global) -> Vec<Post<MemLink, Turns>> {
     posts
 }
 
+/// Checks that 256 workers ended, and that a datagram was taken.
+fn expect_wide<R: Abort>(rt: &R, left: &Relayed<MemDisk, MemLink, Turns>) {
+    expect!(*rt; left.complete && !left.is_cut);
+    expect!(*rt; left.ended.len() == 256);
+    expect!(*rt; matches!(left.finished.journal.last(PeerId(1)), Ok(1)));
+}
+
 /// A relay may have 256 workers, over a journal of 64 hops and peers. Those whose peer isn't in the plan end at once.
 #[test]
 fn as_many_workers_as_a_line_has_seats(rt: HostRuntime) {
@@ -145,19 +156,20 @@ fn as_many_workers_as_a_line_has_seats(rt: HostRuntime) {
         panic!(rt; "256 posts");
     }
     let journal = journal_on(&rt, alloc, wide_device(&rt, alloc));
-    let left = relayed(&rt, alloc, journal, posts);
-    expect!(rt; left.complete && !left.is_cut);
-    expect!(rt; left.ended.len() == 256);
-    expect!(rt; matches!(left.finished.journal.last(PeerId(1)), Ok(1)));
+    expect_wide(&rt, &relayed(&rt, alloc, journal, posts));
+}
+
+/// Checks that a relay said that its journal is broken, and that no worker sent anything.
+fn expect_nothing_taken<R: Abort, D: Disk>(rt: &R, left: &Relayed<D, MemLink, Turns>) {
+    expect!(*rt; left.finished.broken && left.is_cut);
+    for ended in &left.ended {
+        expect!(*rt; matches!(ended, Some(worker) if worker.post.link.delivered().is_empty()));
+    }
 }
 
 /// A relay over a journal that is broken begins, takes nothing, and says so.
 #[test]
 fn a_relay_of_a_broken_journal_ends(rt: HostRuntime) {
-    let alloc = rt.alloc();
-    let left = alone(&rt, alloc, broken_journal(rt, alloc), 1, 1);
-    expect!(rt; left.finished.broken && left.is_cut);
-    for ended in &left.ended {
-        expect!(rt; matches!(ended, Some(worker) if worker.post.link.delivered().is_empty()));
-    }
+    let journal = broken_journal(rt, rt.alloc());
+    expect_nothing_taken(&rt, &alone(&rt, rt.alloc(), journal, 1, 1));
 }

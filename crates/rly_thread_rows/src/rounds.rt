@@ -214,13 +214,13 @@ fn told_in_rounds<R: Abort + Threads + Wait + Copy + Send + 'static>(
     rt: R,
     alloc: Global,
     seat: Seat,
-    mut flusher: Flusher<FaultDisk<MemDisk>>,
+    flusher: &mut Flusher<FaultDisk<MemDisk>>,
 ) -> (Option<Refusal>, Option<Refusal>) {
     let asking = spawned(&rt, move || two_takes(&rt, alloc, seat));
-    expect!(rt; round(&rt, &mut flusher));
-    expect!(rt; round(&rt, &mut flusher));
+    expect!(rt; round(&rt, flusher));
+    expect!(rt; round(&rt, flusher));
     let told = asking.join(&rt);
-    expect!(rt; !round(&rt, &mut flusher));
+    expect!(rt; !round(&rt, flusher));
     told
 }
 
@@ -231,10 +231,10 @@ fn told_in_rounds<R: Abort + Threads + Wait + Copy + Send + 'static>(
 fn a_round_of_a_broken_journal_answers(rt: HostRuntime) {
     let mut broken = 0u64;
     for fails_at in 1..100 {
-        let Some((seat, flusher)) = failing(&rt, rt.alloc(), fails_at) else {
+        let Some((seat, mut flusher)) = failing(&rt, rt.alloc(), fails_at) else {
             continue;
         };
-        match told_in_rounds(rt, rt.alloc(), seat, flusher) {
+        match told_in_rounds(rt, rt.alloc(), seat, &mut flusher) {
             (Some(first), second) => {
                 expect!(rt; first == Refusal::Unsure);
                 expect!(rt; second == Some(Refusal::Broken));
@@ -294,17 +294,21 @@ enum Told {
     Other,
 }
 
-/// Asks once, and says what became of it.
-fn question_at<R: Wait>(rt: &R, mut seat: Seat) -> Told {
-    let answered = seat.call(rt, window());
+/// What an answer says of a question.
+fn told_by(answered: &Result<Answer, CallError>) -> Told {
     match answered {
-        Ok(answer) => match refusal_in(&answer.reply) == Some(Refusal::Broken) {
-            true => Told::Broken,
-            false => Told::Other,
+        Ok(answer) => match refusal_in(&answer.reply) {
+            Some(Refusal::Broken) => Told::Broken,
+            _ => Told::Other,
         },
         Err(CallError::Lost) => Told::Lost,
         Err(CallError::Closed(_ask)) => Told::Closed,
     }
+}
+
+/// Asks once, and says what became of it.
+fn question_at<R: Wait>(rt: &R, mut seat: Seat) -> Told {
+    told_by(&seat.call(rt, window()))
 }
 
 /// A thread that asks once at a seat.

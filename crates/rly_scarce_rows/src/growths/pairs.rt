@@ -8,7 +8,6 @@ use rly_pair::{Fault, Pair, Step};
 use rly_scarce::{before, was_refused};
 use std::alloc::Global;
 use std::process::Abort;
-use std::test::Fail;
 
 /// One hop and one peer, a window of 8, in the least device that holds 16 datagrams and 4,096 bytes of payload.
 const SMALL: Geometry = Geometry {
@@ -54,39 +53,40 @@ fn exchange(index: usize) -> Step {
     }
 }
 
-/// Two relays, of which the upper took one datagram.
-fn one_waiting(alloc: Global) -> Result<Pair, Fail> {
-    let mut pair = Pair::new(alloc, &SMALL, &SMALL).ok().ok_or("a pair")?;
+/// Makes a step for which there is memory.
+fn make_step(rt: &impl Abort, alloc: Global, pair: &mut Pair, step: Step) {
+    pair.step(alloc, step).ok().expect(rt, "a step");
+}
+
+/// The upper takes one datagram.
+fn take_one(rt: &impl Abort, alloc: Global, pair: &mut Pair) {
+    let payload = vec![in alloc; 0x41u8; 1_200].expect(rt, "memory");
     let take = Command::Take {
         peer: PeerId(1),
         number: 1,
         hop: HopId(1),
         stamp: 0,
         limit: 0,
-        payload: Payload::new(vec![in alloc; 0x41u8; 1_200]?),
+        payload: Payload::new(payload),
     };
-    pair.step(
-        alloc,
-        Step::UpperServes {
-            ask: Ask::Command(take),
-            is_answered: true,
-        },
-    )?;
-    Ok(pair)
+    let step = Step::UpperServes {
+        ask: Ask::Command(take),
+        is_answered: true,
+    };
+    make_step(rt, alloc, pair, step);
 }
 
 /// Makes a step, and makes it again where memory was refused to it. Says whether a growth was refused in a step that was made.
-fn is_starved(rt: &impl Abort, alloc: Global, pair: &mut Pair, index: usize) -> Result<bool, Fail> {
+fn is_starved(rt: &impl Abort, alloc: Global, pair: &mut Pair, index: usize) -> bool {
     let sent = pair.packets().len();
-    before(alloc)?;
-    let told = pair.step(alloc, exchange(index));
+    before(alloc).expect(rt, "memory");
+    let is_made = pair.step(alloc, exchange(index)).is_ok();
     let refused = was_refused(alloc);
-    if told.is_err() {
+    if !is_made {
         expect!(rt; refused && pair.packets().len() == sent);
-        pair.step(alloc, exchange(index))?;
-        return Ok(false);
+        make_step(rt, alloc, pair, exchange(index));
     }
-    Ok(refused)
+    is_made && refused
 }
 
 /// Whether a packet is custody of the datagram.
@@ -102,14 +102,18 @@ fn are_handed_over(packets: &[Message<Payload>]) -> bool {
     }
 }
 
-/// Both crash, the upper sends what it has, and the lower hears all that was sent.
-fn begin_anew(alloc: Global, pair: &mut Pair) -> Result<(), Fail> {
+/// Both crash, and the upper sends what it has.
+fn begin_anew(rt: &impl Abort, alloc: Global, pair: &mut Pair) {
     let (torn, fault) = (Torn::AsSynced, SOUND);
-    pair.step(alloc, Step::UpperCrashes { torn, fault })?;
-    pair.step(alloc, Step::LowerCrashes { torn, fault })?;
+    make_step(rt, alloc, pair, Step::UpperCrashes { torn, fault });
+    make_step(rt, alloc, pair, Step::LowerCrashes { torn, fault });
     for index in 0..9 {
-        pair.step(alloc, exchange(index))?;
+        make_step(rt, alloc, pair, exchange(index));
     }
+}
+
+/// The lower hears all that was sent.
+fn hear_all(rt: &impl Abort, alloc: Global, pair: &mut Pair) {
     for packet in 0..pair.packets().len() {
         let heard = Step::LowerHears {
             packet,
@@ -117,35 +121,35 @@ fn begin_anew(alloc: Global, pair: &mut Pair) -> Result<(), Fail> {
             hop: HopId(1),
             stamp: 0,
         };
-        pair.step(alloc, heard)?;
-        pair.step(alloc, exchange(10))?;
-        pair.step(alloc, exchange(11))?;
+        make_step(rt, alloc, pair, heard);
+        make_step(rt, alloc, pair, exchange(10));
+        make_step(rt, alloc, pair, exchange(11));
     }
-    Ok(())
 }
 
 /// Where a growth was refused within a step that was made, its call was told so, and the datagram is handed over once both
 /// began anew.
-#[test]
-fn steps_of_a_pair(rt: HostRuntime) -> Result<(), Fail> {
-    let alloc = rt.alloc();
-    let mut pair = one_waiting(alloc)?;
+fn expect_handed_over(rt: &impl Abort, alloc: Global, pair: &mut Pair) {
     let mut starved = false;
     for index in 0..STEPS {
-        starved |= is_starved(&rt, alloc, &mut pair, index)?;
+        starved |= is_starved(rt, alloc, pair, index);
     }
     expect!(rt; starved || are_handed_over(pair.packets()));
-    begin_anew(alloc, &mut pair)?;
+    begin_anew(rt, alloc, pair);
+    hear_all(rt, alloc, pair);
     expect!(rt; pair.packets().iter().any(is_custody));
-    Ok(())
 }
 
 #[test]
-fn a_new_pair(rt: HostRuntime) -> Result<(), Fail> {
-    let alloc = rt.alloc();
-    before(alloc)?;
-    let made = Pair::new(alloc, &SMALL, &SMALL);
-    let refused = was_refused(alloc);
+fn steps_of_a_pair(rt: HostRuntime) {
+    let made = Pair::new(rt.alloc(), &SMALL, &SMALL);
+    let mut pair = made.ok().expect(&rt, "a pair");
+    take_one(&rt, rt.alloc(), &mut pair);
+    expect_handed_over(&rt, rt.alloc(), &mut pair);
+}
+
+/// Checks a new pair, or how it was refused.
+fn expect_made(rt: &impl Abort, made: &Result<Pair, Refusal>, refused: bool) {
     match made {
         Ok(pair) => expect!(rt; pair.packets().is_empty()),
         Err(refusal) => {
@@ -153,5 +157,12 @@ fn a_new_pair(rt: HostRuntime) -> Result<(), Fail> {
             expect!(rt; matches!(refusal, Refusal::OutOfMemory | Refusal::Device));
         }
     }
-    Ok(())
+}
+
+#[test]
+fn a_new_pair(rt: HostRuntime) {
+    before(rt.alloc()).expect(&rt, "memory");
+    let made = Pair::new(rt.alloc(), &SMALL, &SMALL);
+    let refused = was_refused(rt.alloc());
+    expect_made(&rt, &made, refused);
 }

@@ -8,10 +8,9 @@ use rly_line::{Seat, make};
 use rly_machine::{Ask, Call, Command, Payload, Reply, SeatId};
 use rly_scarce::{before, was_refused};
 use rly_segment::format;
-use std::alloc::{AllocError, Global};
+use std::alloc::Global;
 use std::process::Abort;
 use std::sync::Wait;
-use std::test::Fail;
 use std::thread;
 
 /// Four peers, on two segments of the least length.
@@ -47,40 +46,40 @@ fn opened<R: Abort>(rt: &R, alloc: Global, disk: MemDisk) -> Journal<MemDisk> {
 }
 
 #[test]
-fn making_a_line(rt: HostRuntime) -> Result<(), Fail> {
+fn making_a_line(rt: HostRuntime) {
     let alloc = rt.alloc();
-    before(alloc)?;
+    before(alloc).expect(&rt, "memory");
     let made = make(alloc, 4, 2);
     let refused = was_refused(alloc);
     match made {
         Ok((seats, _line)) => expect!(rt; seats.len() == 2),
         Err(_) => expect!(rt; refused),
     }
-    Ok(())
 }
 
-/// The journal of a new device that took one datagram.
-fn used_journal<R: Abort>(rt: &R, alloc: Global) -> Result<Journal<MemDisk>, AllocError> {
-    let mut journal = new_journal(rt, alloc);
-    let mut calls = Vec::new(alloc);
-    calls.push(Call {
+/// A journal takes one datagram.
+fn take_one<R: Abort>(rt: &R, alloc: Global, journal: &mut Journal<MemDisk>) {
+    let call = Call {
         seat: SeatId(0),
         number: 0,
         ask: take(rt, alloc, 1),
-    })?;
+    };
+    let mut calls = vec![in alloc; call].ok().expect(rt, "memory");
     let mut answers = Vec::new(alloc);
     assert!(rt; calls.len() == 1);
-    journal.round(alloc, &mut calls, &mut answers)?;
-    Ok(journal)
+    journal
+        .round(alloc, &mut calls, &mut answers)
+        .expect(rt, "memory");
 }
 
-/// Where it is refused, journal and line are handed back, and a flusher is made of them.
-#[test]
-fn a_new_flusher(rt: HostRuntime) -> Result<(), Fail> {
-    let alloc = rt.alloc();
-    let journal = used_journal(&rt, alloc)?;
-    let (seats, line) = make(alloc, 4, 2)?;
-    before(alloc)?;
+/// Two seats, and a flusher of a journal. Where it is refused, journal and line are handed back, and it is made of them.
+fn flusher_of<R: Abort>(
+    rt: &R,
+    alloc: Global,
+    journal: Journal<MemDisk>,
+) -> (Vec<Seat>, Flusher<MemDisk>) {
+    let (seats, line) = make(alloc, 4, 2).expect(rt, "a line");
+    before(alloc).expect(rt, "memory");
     let told = Flusher::new(alloc, journal, line);
     let refused = was_refused(alloc);
     expect!(rt; refused || told.is_ok());
@@ -88,13 +87,21 @@ fn a_new_flusher(rt: HostRuntime) -> Result<(), Fail> {
         Ok(flusher) => flusher,
         Err((journal, line)) => Flusher::new(alloc, journal, line)
             .ok()
-            .expect(&rt, "a flusher"),
+            .expect(rt, "a flusher"),
     };
+    (seats, flusher)
+}
+
+/// It serves what the journal took.
+#[test]
+fn a_new_flusher(rt: HostRuntime) {
+    let alloc = rt.alloc();
+    let mut journal = new_journal(&rt, alloc);
+    take_one(&rt, alloc, &mut journal);
+    let (seats, flusher) = flusher_of(&rt, alloc, journal);
     drop(seats);
     let finished = flusher.serve(&rt);
-    expect!(rt; !finished.broken);
-    expect!(rt; finished.journal.position() == 1);
-    Ok(())
+    expect!(rt; !finished.broken && finished.journal.position() == 1);
 }
 
 /// What a seat was told of its takes, up to the first that had no answer.
@@ -155,12 +162,24 @@ fn hear<R: Abort>(rt: &R, heard: &mut Heard, reply: &Reply) {
     }
 }
 
+/// Checks what a seat was told, by the journal that its flusher left.
+fn expect_heard<R: Abort>(rt: &R, alloc: Global, heard: &Heard, journal: Journal<MemDisk>) {
+    let broken = journal.is_broken();
+    expect!(rt; heard.refused || heard.taken == 3);
+    expect!(rt; broken == (heard.unsure == 1));
+    expect!(rt; broken || heard.taken.saturating_add(heard.starved) == 3);
+    let position = opened(rt, alloc, journal.into_disk()).position();
+    let more = position.saturating_sub(heard.taken);
+    expect!(rt; position >= heard.taken);
+    expect!(rt; more == 0 || broken && more == 1);
+}
+
 /// A seat in a thread of its own is told of each take that it was taken, or that memory was refused, and these weren't. Where
 /// the disk in memory couldn't grow it is told unsure, and nothing after that: that take stands or not.
 #[test]
-fn calls_of_a_seat(rt: HostRuntime) -> Result<(), Fail> {
+fn calls_of_a_seat(rt: HostRuntime) {
     let alloc = rt.alloc();
-    let (mut seats, line) = make(alloc, 4, 1)?;
+    let (mut seats, line) = make(alloc, 4, 1).expect(&rt, "a line");
     let seat = seats.pop().expect(&rt, "a seat");
     let flusher = Flusher::new(alloc, new_journal(&rt, alloc), line)
         .ok()
@@ -170,13 +189,5 @@ fn calls_of_a_seat(rt: HostRuntime) -> Result<(), Fail> {
         .expect(&rt, "a thread");
     let finished = flusher.serve(&rt);
     let heard = asking.join(&rt);
-    let broken = finished.broken;
-    expect!(rt; heard.refused || heard.taken == 3);
-    expect!(rt; broken == (heard.unsure == 1));
-    expect!(rt; broken || heard.taken.saturating_add(heard.starved) == 3);
-    let journal = opened(&rt, alloc, finished.journal.into_disk());
-    let more = journal.position().saturating_sub(heard.taken);
-    expect!(rt; journal.position() >= heard.taken);
-    expect!(rt; more == 0 || broken && more == 1);
-    Ok(())
+    expect_heard(&rt, alloc, &heard, finished.journal);
 }
