@@ -4,8 +4,7 @@ use Rattle.rly_early.specs.Early.{EarlyView, Kept, after_custody, after_data, af
 use Rattle.rly_hop.specs.declared.message.Message.{Message}
 use Rattle.rly_hop.specs.declared.message.Message.TheVariants.{Data, Custody, Refused}
 use Rattle.rly_hop.specs.declared.message.StationId.{StationId}
-use Rattle.rly_threads.specs.Ends.{Hearing, hearing}
-use Rattle.rly_threads.specs.Turns.{message_in}
+use Rattle.rly_post.specs.Telling.{Hearing, hearing, message_in}
 
 -- the link below, this station and the peer, what is kept, and what receives gave
 pub record AheadView (L : Type 0) : Type 0 where

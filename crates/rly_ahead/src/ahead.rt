@@ -4,14 +4,14 @@ ghost use Rattle.std.specs.Prelude.{◌≡◌, ◌≤◌, ◌++◌, ◌∷◌, [
 ghost use Rattle.std.specs.Option.{option_map};
 ghost use Rattle.rly_ahead.specs.AheadLink.{after_hearing, after_receive, after_sending, given_again, new_ahead};
 ghost use Rattle.rly_early.specs.Early.{after_giving, due};
-ghost use Rattle.rly_threads.specs.Ends.{FailuresRose, TellsMore, hearing, packet_in, packet_of};
-ghost use Rattle.rly_threads.specs.Memory.{heard_of, log_bytes};
+ghost use Rattle.rly_post.specs.Telling.{FailuresRose, TellsMore, hearing, packet_in, packet_of};
+ghost use Rattle.rly_post.specs.Memory.{heard_of, log_bytes};
 
 use crate::reading::{custody_of, data_of};
 use http_server::Log;
 use rly_early::Early;
 use rly_hop::StationId;
-use rly_threads::{Link, LinkFault};
+use rly_post::{Link, LinkFault};
 use std::marker::Model;
 
 /// Bytes, in proofs alone.
@@ -30,7 +30,7 @@ pub struct Ahead<L: Link> {
 
 impl<L: Link> Model for Ahead<L> {
     ghost use Rattle.rly_ahead.specs.AheadLink.{AheadView};
-    ghost use Rattle.rly_threads.specs.Memory.{heard_of};
+    ghost use Rattle.rly_post.specs.Memory.{heard_of};
 
     ghost Value = { AheadView L };
 

@@ -3,7 +3,7 @@
 ghost use Rattle.std.specs.Prelude.{◌≡◌, Some};
 ghost use Rattle.rly_ahead.specs.AheadLink.{custody_in, data_in};
 ghost use Rattle.rly_hop.specs.Payloads.{message_bytes};
-ghost use Rattle.rly_threads.specs.Turns.{message_in};
+ghost use Rattle.rly_post.specs.Telling.{message_in};
 ghost use Rattle.std.specs.Option.{option_map};
 
 use rly_hop::{Message, StationId, read_message};

@@ -3,7 +3,7 @@ use crate::packets::{custody, data, limited};
 use rly_ahead::Ahead;
 use rly_early::Early;
 use rly_hop::StationId;
-use rly_threads::{Link, LinkFault, MAX_PACKET, MemLink};
+use rly_post::{Link, LinkFault, MAX_PACKET, MemLink};
 use std::alloc::Global;
 use std::process::Abort;
 use std::test::Fail;

@@ -1,15 +1,6 @@
-pub mod Faults
 pub mod Gates
 pub mod FileDisk
 pub mod Formatting
-pub mod WallClock
-pub mod NamedKey
-pub mod Neighbour
-pub mod Warnings
-pub mod Serving
-pub mod Keeping
-pub mod Keys
+pub mod NewKey
 pub mod Planning
 pub mod Program
-pub mod WallPace
-pub mod Reporting

@@ -21,10 +21,11 @@ use Rattle.rly_settings.specs.declared.given.Settings.{Settings}
 use Rattle.rly_settings.specs.declared.given.Settings.TheVariants.{Sim, Format, Play, Audit, Serve, Key, Plan}
 use Rattle.rly_daemon.specs.FileDisk.{file_state}
 use Rattle.rly_daemon.specs.Formatting.{HasMade, wanted_geometry}
-use Rattle.rly_daemon.specs.Keys.{HasKey}
+use Rattle.rly_daemon.specs.NewKey.{HasKey}
 use Rattle.rly_daemon.specs.Planning.{HasTold}
-use Rattle.rly_daemon.specs.Reporting.{HasReports}
-use Rattle.rly_daemon.specs.Serving.{HasRoom, ended_line, workers_of}
+use Rattle.rly_serve.specs.Reporting.{HasReports}
+use Rattle.rly_serve.specs.Serving.{HasRoom}
+use Rattle.rly_station.specs.Duties.{workers_of}
 use Rattle.rly_text.specs.Playing.{PlaysAll}
 use Rattle.rly_text.specs.Text.{text_for}
 use Rattle.rly_daemon.specs.declared.file_disk.FileDisk.{FileDisk}
@@ -32,6 +33,10 @@ use Rattle.rly_daemon.specs.declared.file_disk.FileDisk.{FileDisk}
 -- the line that says how many bytes a new device takes
 abbrev pub size_line : ℕ → List ℕ
 size_line size = codes "formatted " ++ decimal size ++ 10 ∷ []
+
+-- the line that says what ended it
+abbrev pub ended_line : ℕ → List ℕ
+ended_line turns = codes "rly: ended after " ++ decimal turns ++ codes " turns" ++ 10 ∷ []
 
 -- how many lines a round has: 1 to 64
 abbrev pub lines_a_round : ℕ → ℕ

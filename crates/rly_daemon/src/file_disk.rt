@@ -1,9 +1,9 @@
 ghost use Rattle.std.specs.Prelude.{◌≡◌, ◌≤◌, IfOk, OnOk};
 ghost use Rattle.rly_daemon.specs.FileDisk.{file_state};
 
-use crate::file_fault::{FileFault, SystemWord};
 use crate::gate_tally::GateTally;
 use rly_disk::{Counts, Disk, DiskFault};
+use rly_station::{FileFault, SystemWord};
 use std::fs::{File, Files, OpenOptions, TryLockError};
 use std::io;
 use std::io::{ErrorKind, Seek, SeekFrom};

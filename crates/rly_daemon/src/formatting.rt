@@ -3,12 +3,11 @@
 ghost use Rattle.std.specs.Prelude.{◌≡◌, IfErr, IfOk, MatchResult, false};
 ghost use Rattle.rly_daemon.specs.Formatting.{FindsNoneLive, HoldsLive, IsFree};
 ghost use Rattle.rly_gate.specs.Reading.{OnlyRead};
-ghost use Rattle.rly_machine.specs.State.{live_items};
 
-use rly_core::{HopId, Refusal};
+use rly_core::Refusal;
 use rly_disk::Disk;
 use rly_journal::Journal;
-use rly_machine::Reply;
+use rly_serve::live_items;
 use rly_standing::OpenFault;
 use std::alloc::Global;
 
@@ -47,20 +46,4 @@ pub fn unused<D: Disk>(alloc: Global, disk: D) -> Result<D, (UseFault, D)>
             Ok(disk)
         }
     }
-}
-
-/// How many datagrams live in a journal that isn't broken.
-pub(crate) fn live_items<D: Disk>(journal: &Journal<D>) -> u64
-    requires { journal.now.broken ≡ false }
-    ensures { result ≡ live_items journal.now.state }
-{
-    journal.law_sound();
-    let mut live = 0;
-    for index in 0..journal.params().hops as u16 {
-        let Reply::Shown(status) = journal.ask_show(HopId(index + 1)) else {
-            unreachable!()
-        };
-        live += status.queued + status.flight;
-    }
-    live
 }

@@ -1,13 +1,24 @@
 //! A new key.
 
 ghost use Rattle.std.specs.Prelude.{OnOk};
-ghost use Rattle.rly_daemon.specs.Keys.{HasKey};
+ghost use Rattle.rly_daemon.specs.NewKey.{HasKey};
 
-use crate::file_fault::SystemWord;
-use crate::key_fault::NewKeyFault;
+use rly_station::SystemWord;
 use rly_tag::{KEY_BYTES, key_line};
 use std::io::Write;
 use std::random::RandomSource;
+use thiserror::Error;
+
+/// Why no new key was written; displays as the lines for standard error.
+#[derive(Clone, Copy, Debug, Error)]
+pub enum NewKeyFault {
+    /// The system gave no randomness.
+    #[error("rly: key failed\nrly: randomness: {0}")]
+    Random(SystemWord),
+    /// Standard output failed.
+    #[error("rly: output failed")]
+    Output,
+}
 
 /// Writes the line of a new key, of a source's randomness. Nothing is proved of what a source gives.
 pub fn write_key<S: RandomSource, W: Write>(source: &S, writer: &mut W) -> Result<(), NewKeyFault>

@@ -4,14 +4,12 @@ ghost use Rattle.std.specs.Prelude.{◌≡◌, ◌<◌, IfErr, IfSome, OnOk, min
 ghost use Rattle.rly_core.specs.declared.limits.TheConstants.{MOMENT_LIMIT};
 ghost use Rattle.rly_core.specs.declared.refusal.Refusal.{Refusal as ARefusal};
 ghost use Rattle.rly_daemon.specs.Planning.{HasTold, told_moment};
-ghost use Rattle.rly_daemon.specs.declared.command_fault.ServeFault.{ServeFault as AServeFault};
+ghost use Rattle.rly_station.specs.declared.serve_fault.ServeFault.{ServeFault as AServeFault};
 
 use crate::command_fault::CommandFault;
-use crate::plan_keys::read_keys;
-use crate::serving::read_plan;
-use crate::wall_clock::moment_of;
 use rly_core::limits::MOMENT_LIMIT;
 use rly_plan_text::text_of;
+use rly_station::{moment_of, read_keys, read_plan};
 use rly_text::TextFault;
 use std::fs::{File, Files};
 use std::io::Write;

@@ -4,7 +4,7 @@ use crate::serving::plan_with;
 use rly_core::PeerId;
 use rly_daemon::{End, Host, UdpLink, WallClock};
 use rly_plan::Plan;
-use rly_threads::{Link, MAX_PACKET, Point, Turn, Worker};
+use rly_post::{Link, MAX_PACKET, Point, Turn, Worker};
 use std::net::UdpSocket;
 use std::process::Abort;
 use std::sync::Wait;

@@ -4,7 +4,7 @@
 //! `read_message` and `write_message` meet the one spelling of each message
 //! (`specs/Spelling.antt`, `specs/Reading.antt`). `Receiving::step` and `Sending::step` are the
 //! two tables of `docs/PROTOCOL.md` (`specs/Receiving.antt`, `specs/Sending.antt`). Nothing here
-//! takes memory or waits, and only the bytes make a call fail. Caller: `rly_threads`, whose
+//! takes memory or waits, and only the bytes make a call fail. Caller: `rly_workers`, whose
 //! workers do what the machines name.
 #![tactic(auto)]
 

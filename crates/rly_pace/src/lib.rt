@@ -4,7 +4,7 @@
 //! `Pace` is a hop's retransmission timer and congestion window (`specs/Pacing.antt`; RFC 6298,
 //! RFC 5681), and `Rate` its token bucket (`specs/Rates.antt`). `docs/PROTOCOL.md` has them as
 //! tables. They go by the microseconds of a clock that they are given, and take no memory. Caller:
-//! the sending workers of `rly_threads`.
+//! the sending workers of `rly_workers`.
 #![tactic(auto)]
 
 mod congestion;

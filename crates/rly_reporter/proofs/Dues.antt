@@ -16,8 +16,8 @@ use Rattle.rly_reporter.specs.HelpersReporting.{HasMade, HasTold}
 use Rattle.rly_reporter.specs.Reporting.{Due, HasReported, ReporterView, asked_for, asked_in, is_open, moments_in, seen_for, seen_in, text_for, text_in}
 use Rattle.rly_stream.specs.Beginnings.{AppendsBeginning}
 use Rattle.rly_stream.proofs.Flows.{appends_appends, appends_none, begins_more}
-use Rattle.rly_threads.specs.Ends.{TellsMore}
-use Rattle.rly_threads.proofs.Grown.{tells_more, tells_nothing}
+use Rattle.rly_post.specs.Telling.{TellsMore}
+use Rattle.rly_workers.proofs.Grown.{tells_more, tells_nothing}
 
 -- memory was refused before anything was asked
 pub made_none : (plan : ContactPlan) (moment : ℕ) (r : ReporterView) (w : Option (List ℕ)) → HasMade plan (record { moment = moment; made = None }) r r w w (Ok tt)

@@ -9,7 +9,7 @@ use Rattle.rly_line.specs.Submission.{LineId}
 use Rattle.rly_line.proofs.Closing.{seats_of, still_its}
 use Rattle.rly_reporter.specs.Running.{IsLastSeat}
 use Rattle.rly_machine.specs.declared.call.SeatId.{SeatId}
-use Rattle.rly_threads.specs.Asking.{Asked, HasPut}
+use Rattle.rly_workers.specs.Asking.{Asked, HasPut}
 
 -- one more that has no partner
 zip_front : {A B : Type 0} (xs : List A) (ys : List B) (y : B) → length ys ≡ length xs → zip xs (ys ++ y ∷ []) ≡ zip xs ys

@@ -4,7 +4,7 @@ use Rattle.http_server.specs.declared.log.Log.{Log}
 use Rattle.rly_hop.specs.declared.message.StationId.{StationId}
 use Rattle.rly_report.specs.Counts.{after_heard, after_sent, no_counts}
 use Rattle.rly_report.specs.declared.peer_counts.PeerCounts.{PeerCounts}
-use Rattle.rly_threads.specs.Memory.{log_bytes}
+use Rattle.rly_post.specs.Memory.{log_bytes}
 
 -- a packet that was heard, with the moment, or one that was sent
 abbrev pub Event : Type 0

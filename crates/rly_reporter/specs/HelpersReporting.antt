@@ -9,7 +9,7 @@ use Rattle.rly_reporter.specs.declared.reporter.ReporterEnd.{ReporterEnd}
 use Rattle.rly_reporter.specs.declared.reporter.ReporterEnd.TheVariants.{Closed, Output, Paced}
 use Rattle.rly_reporter.specs.Reporting.{Due, ReporterView, asked_for, is_open, seen_for, text_for}
 use Rattle.rly_stream.specs.Beginnings.{AppendsBeginning}
-use Rattle.rly_threads.specs.Ends.{TellsMore}
+use Rattle.rly_post.specs.Telling.{TellsMore}
 
 -- whether it was answered, if it asked, as its end says
 abbrev pub GoesOn : Result (Unit {0}) ReporterEnd → Bool → Type 0

@@ -12,11 +12,10 @@ use Rattle.rly_reporter.specs.declared.beside.Work.{Work}
 use Rattle.rly_reporter.specs.declared.running.Left.{Left}
 use Rattle.rly_reporter.specs.Reporting.{HasReported}
 use Rattle.rly_reporter.specs.Running.{watch_view}
-use Rattle.rly_threads.specs.Asking.{Asked, HasPut}
+use Rattle.rly_workers.specs.Asking.{Asked, HasPut}
 use Rattle.rly_threads.specs.declared.relay.Relayed.{Relayed}
-use Rattle.rly_threads.specs.Ends.{Hearing}
+use Rattle.rly_post.specs.Telling.{Handed, Hearing}
 use Rattle.rly_threads.specs.HelpersCut.{IsRelayed}
-use Rattle.rly_threads.specs.Turns.{Handed}
 
 -- its line is new, and each post has a seat of it
 pub record CanRelay {D L T : Type 0} (work : Work D L T) : Type 0 where

@@ -12,8 +12,8 @@ use Rattle.rly_report.specs.Told.{told_text}
 use Rattle.rly_reporter.specs.declared.reporter.ReporterEnd.{ReporterEnd}
 use Rattle.rly_reporter.specs.declared.reporter.ReporterEnd.TheVariants.{Paced, Closed, Output}
 use Rattle.rly_stream.specs.Beginnings.{AppendsBeginning}
-use Rattle.rly_threads.specs.Asking.{Asked}
-use Rattle.rly_threads.specs.Ends.{TellsMore}
+use Rattle.rly_workers.specs.Asking.{Asked}
+use Rattle.rly_post.specs.Telling.{TellsMore}
 
 -- what a reporter's ends tell, each if it tells: what was asked, which moments it was
 -- told, and what it saw of the counts

@@ -7,7 +7,7 @@ use Rattle.rly_plan.specs.ContactPlan.{ContactPlan}
 use Rattle.rly_report.specs.declared.told.Counted.{Counted}
 use Rattle.rly_reporter.specs.declared.running.Watched.{Watched}
 use Rattle.rly_reporter.specs.Reporting.{HasReported, ReporterView}
-use Rattle.rly_threads.specs.Asking.{Asked, HasPut}
+use Rattle.rly_workers.specs.Asking.{Asked, HasPut}
 
 -- what a pace and the counts tell, and what was asked of a seat
 abbrev pub watch_view : {P C : Type 0} → (P → Option (List (Option ℕ))) → (C → Option (List Counted)) → P → C

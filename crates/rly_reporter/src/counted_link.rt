@@ -2,15 +2,15 @@
 
 ghost use Rattle.std.specs.Prelude.{◌≡◌, ◌≤◌, ◌++◌, ◌∷◌, [], Some, None, IfOk, IfSome, OnErr, OnOk, false, length, true, ℕ};
 ghost use Rattle.rly_reporter.specs.CountedLink.{counts_of, heard_then, new_counted};
-ghost use Rattle.rly_threads.specs.Ends.{FailuresRose, TellsMore, hearing, packet_in, packet_of};
-ghost use Rattle.rly_threads.specs.Memory.{log_bytes};
+ghost use Rattle.rly_post.specs.Telling.{FailuresRose, TellsMore, hearing, packet_in, packet_of};
+ghost use Rattle.rly_post.specs.Memory.{log_bytes};
 
 use crate::tally::Tally;
 use http_server::Log;
 use rly_core::PeerId;
 use rly_hop::StationId;
+use rly_post::{Link, LinkFault};
 use rly_report::{PeerCounts, PeerReport};
-use rly_threads::{Link, LinkFault};
 use std::alloc::Global;
 use std::marker::Model;
 use std::sync::Arc;

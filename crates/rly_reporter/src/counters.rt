@@ -1,7 +1,7 @@
 // The interface of what a station counts.
 ghost use Rattle.std.specs.Prelude.{◌∷◌, [], List, Option};
 ghost use Rattle.rly_report.specs.declared.told.Counted.{Counted as ACounted};
-ghost use Rattle.rly_threads.specs.Ends.{TellsMore};
+ghost use Rattle.rly_post.specs.Telling.{TellsMore};
 
 use rly_report::Counted;
 

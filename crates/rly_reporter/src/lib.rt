@@ -21,5 +21,5 @@ pub use crate::counters::Counters;
 pub use crate::pace::Pace;
 pub use crate::reporter::{Reporter, ReporterEnd, reporter_run};
 pub use crate::running::{Reported, Watched, run_reported};
-pub use crate::tallied_link::{TaggedLink, TalliedLink};
+pub use crate::tallied_link::TalliedLink;
 pub use crate::tally::Tally;

@@ -1,6 +1,6 @@
 // The interface of what says when a report is due.
 ghost use Rattle.std.specs.Prelude.{◌∷◌, [], List, Option, ℕ};
-ghost use Rattle.rly_threads.specs.Ends.{TellsMore};
+ghost use Rattle.rly_post.specs.Telling.{TellsMore};
 
 use std::sync::Wait;
 

@@ -7,17 +7,12 @@ use crate::counted_link::CountedLink;
 use crate::tally::Tally;
 use rly_core::{HopId, PeerId};
 use rly_hop::StationId;
+use rly_post::{Link, LinkFault};
 use rly_report::PeerReport;
-use rly_threads::{Link, LinkFault};
+use rly_seal::TaggedLink;
 use std::alloc::Global;
 use std::sync::Arc;
 use std::time::Clock;
-
-/// A link that counts the packets that come without a right tag.
-pub trait TaggedLink: Link {
-    /// How many there were.
-    fn wrong_tags(&self) -> u64;
-}
 
 /// The link to a neighbour, whose counts are put into a tally after each call.
 #[derive(Drop)]

@@ -9,7 +9,7 @@ use rly_machine::{Answer, Ask, Command, Machine, Payload, Reply};
 use rly_plan::{Plan, law_plan_is_sound};
 use rly_report::{Counted, PeerCounts, PeerReport};
 use rly_reporter::{Counters, Pace, Reporter, ReporterEnd, reporter_run};
-use rly_threads::{Desk, MemDesk};
+use rly_workers::{Desk, MemDesk};
 use std::alloc::{AllocError, Global};
 use std::io;
 use std::io::{ErrorKind, Write};

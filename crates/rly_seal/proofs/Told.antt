@@ -9,7 +9,7 @@ use Rattle.std.specs.Str.{bytes_eq}
 use Rattle.rly_tag.specs.Keys.{Keys}
 use Rattle.rly_tag.specs.Seal.{sealed, tag_of}
 use Rattle.rly_seal.specs.SealedLink.{SealedView, all_sealed, all_sent_with, given_if_sealed, is_short}
-use Rattle.rly_threads.specs.Ends.{TellsMore}
+use Rattle.rly_post.specs.Telling.{TellsMore}
 
 -- what the link below is given for one packet more
 all_sealed-short : (key : List ℕ) (given : List (List ℕ)) (packet : List ℕ) → is_short packet ≡ true

@@ -6,7 +6,7 @@ use Rattle.std.specs.Option.{option_map}
 use Rattle.std.specs.Str.{bytes_eq}
 use Rattle.rly_tag.specs.Keys.{Keys}
 use Rattle.rly_tag.specs.Seal.{sealed, unsealed}
-use Rattle.rly_threads.specs.Ends.{Hearing, hearing}
+use Rattle.rly_post.specs.Telling.{Hearing, hearing}
 
 -- the link below a key; the keys; how many packets had no right tag; what was given to be sent,
 -- and how much of that was too long

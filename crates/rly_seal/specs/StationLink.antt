@@ -4,7 +4,7 @@ use Rattle.rly_seal.specs.declared.station_link.StationLink.{StationLink}
 use Rattle.rly_seal.specs.declared.station_link.StationLink.TheVariants.{Keyed, Open}
 use Rattle.rly_seal.specs.SealedLink.{new_sealed, sealed_failed, sealed_heard, sealed_sent}
 use Rattle.rly_tag.specs.Keys.{Keys}
-use Rattle.rly_threads.specs.Ends.{Hearing}
+use Rattle.rly_post.specs.Telling.{Hearing}
 
 -- a link as it is where there are no keys, and sealed where there are
 abbrev pub station_link : {L : Type 0} → L → Option Keys → StationLink L

@@ -3,12 +3,12 @@
 ghost use Rattle.std.specs.Prelude.{◌≡◌, ◌≤◌, IfSome, length, option_and_then};
 ghost use Rattle.rly_seal.specs.SealedLink.{new_sealed, wrong_after};
 ghost use Rattle.rly_tag.specs.Seal.{unsealed};
-ghost use Rattle.rly_threads.specs.Ends.{packet_in};
-ghost use Rattle.rly_threads.specs.Memory.{log_bytes};
+ghost use Rattle.rly_post.specs.Telling.{packet_in};
+ghost use Rattle.rly_post.specs.Memory.{log_bytes};
 
 use http_server::Log;
+use rly_post::{Link, LinkFault, MAX_PACKET};
 use rly_tag::{Key, TAG_BYTES};
-use rly_threads::{Link, LinkFault, MAX_PACKET};
 use std::marker::Model;
 
 /// The most bytes of a sealed packet.
@@ -29,7 +29,7 @@ pub struct Sealed<L: Link> {
 
 impl<L: Link> Model for Sealed<L> {
     ghost use Rattle.rly_seal.specs.SealedLink.{SealedView};
-    ghost use Rattle.rly_threads.specs.Memory.{sent_of};
+    ghost use Rattle.rly_post.specs.Memory.{sent_of};
 
     ghost Value = { SealedView L };
 

@@ -4,8 +4,8 @@ ghost use Rattle.std.specs.Prelude.{◌≡◌};
 ghost use Rattle.rly_seal.specs.StationLink.{keys_over, station_link, wrong_tags};
 
 use crate::sealed::Sealed;
+use rly_post::{Link, LinkFault};
 use rly_tag::Key;
-use rly_threads::{Link, LinkFault};
 
 /// The link to a neighbour: one that anyone can speak on, or one with a key.
 #[derive(Drop)]

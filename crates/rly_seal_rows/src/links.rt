@@ -1,9 +1,9 @@
 //! A link with a key over a link in memory.
 use crate::keys::{CUSTODY, LINE, OTHER, TAG};
 use crate::packets::with_tag;
+use rly_post::{Link, LinkFault, MAX_PACKET, MemLink};
 use rly_seal::{Sealed, StationLink};
 use rly_tag::Key;
-use rly_threads::{Link, LinkFault, MAX_PACKET, MemLink};
 use std::alloc::Global;
 use std::test::Fail;
 

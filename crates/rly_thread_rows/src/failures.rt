@@ -10,7 +10,8 @@ use crate::workers::{
 };
 use crate::{receivers, senders};
 use rly_core::{HopId, PeerId};
-use rly_threads::{Ends, Link, MemDesk, MemLink, MemTurn, sender_run};
+use rly_post::{Link, MemLink, MemTurn};
+use rly_workers::{Ends, MemDesk, sender_run};
 use std::alloc::Global;
 use std::process::Abort;
 use std::sync::Wait;

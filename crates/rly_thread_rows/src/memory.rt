@@ -4,7 +4,8 @@ use crate::asks::window;
 use crate::receivers::empty;
 use rly_core::HopId;
 use rly_machine::{Ask, Query, Reply};
-use rly_threads::{Desk, Link, MAX_PACKET, MemDesk, MemLink};
+use rly_post::{Link, MAX_PACKET, MemLink};
+use rly_workers::{Desk, MemDesk};
 use std::alloc::Global;
 use std::process::Abort;
 

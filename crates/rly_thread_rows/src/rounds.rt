@@ -12,7 +12,7 @@ use rly_flush::Flusher;
 use rly_journal::Journal;
 use rly_line::{CallError, Seat};
 use rly_machine::{Answer, Ask, Reply};
-use rly_threads::Desk;
+use rly_workers::Desk;
 use std::alloc::Global;
 use std::process::Abort;
 use std::sync::Wait;

@@ -5,7 +5,8 @@ use crate::workers::{
 };
 use rly_core::{HopId, Params};
 use rly_machine::{Machine, Payload};
-use rly_threads::{Ends, MemDesk, MemLink, MemTurn, sender_run};
+use rly_post::{MemLink, MemTurn};
+use rly_workers::{Ends, MemDesk, sender_run};
 use std::alloc::Global;
 use std::process::Abort;
 use std::sync::Wait;

@@ -5,7 +5,8 @@ ghost use Rattle.std.specs.Prelude.{◌≤◌};
 use rly_core::{HopId, Params, PeerId};
 use rly_machine::{Command, Machine, Payload, Reply};
 use rly_plan::Plan;
-use rly_threads::{Ends, Link, MemDesk, MemLink, MemTurn};
+use rly_post::{Link, MemLink, MemTurn};
+use rly_workers::{Ends, MemDesk};
 use std::alloc::Global;
 use std::process::Abort;
 

@@ -15,11 +15,10 @@ use Rattle.rly_plan.specs.ContactPlan.{ContactPlan}
 use Rattle.rly_threads.specs.declared.relay.Duty.{Duty}
 use Rattle.rly_threads.specs.declared.relay.Ended.{Ended}
 use Rattle.rly_threads.specs.declared.relay.Left.{Left}
-use Rattle.rly_threads.specs.declared.relay.Post.{Post}
-use Rattle.rly_threads.specs.Ends.{Hearing}
+use Rattle.rly_post.specs.declared.post.Post.{Post}
+use Rattle.rly_post.specs.Telling.{Handed, Hearing}
 use Rattle.rly_threads.specs.HelpersCut.{AreSeatsOf, GivesBack, IsFor, IsJoined}
 use Rattle.rly_threads.specs.Relay.{AreAnsweredBy, HasEnded, HaveEnded}
-use Rattle.rly_threads.specs.Turns.{Handed}
 use Rattle.rly_threads.proofs.Threads.{through}
 
 -- what holds of the items of a list beside those of another holds of them

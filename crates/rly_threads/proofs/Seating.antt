@@ -15,7 +15,7 @@ use Rattle.rly_machine.specs.declared.call.Call.{Call}
 use Rattle.rly_machine.specs.declared.call.SeatId.{SeatId}
 use Rattle.rly_machine.specs.declared.command.Ask.{Ask}
 use Rattle.rly_machine.specs.History.{Entry}
-use Rattle.rly_threads.specs.Asking.{Asked, HasPut, answers_of, batch_outcome, put_of}
+use Rattle.rly_workers.specs.Asking.{Asked, HasPut, answers_of, batch_outcome, put_of}
 
 abbrev asks_in : List Call → List Ask
 asks_in calls = map (λ (call : Call). call.ask) calls

@@ -1,12 +1,8 @@
 -- Threads that were started one by one for the items of a list, and joined one by one in the same order.
-use Rattle.std.proofs.Common.{◌≡◌, ◌∙◌, List, [], ◌∷◌, ◌++◌, arith, length, refl, sym, subst}
+use Rattle.std.proofs.Common.{◌≡◌, ◌∙◌, List, [], ◌∷◌, ◌++◌, refl, sym, subst}
 use Rattle.std.proofs.lemmas.List.{append-nil, append_assoc}
 use Rattle.std.proofs.lemmas.Slice.Zip.{all_zipped_more}
 use Rattle.std.specs.List.{AllZip}
-
-pub none_left : {P : Type 0} (left : List P) → length left ≡ 0 → left ≡ []
-none_left [] none = refl
-none_left (p ∷ left) none = absurd (omega (arith, none))
 
 -- the items before those that are left have something each, so far
 pub record Each {P H : Type 0} (Has : P → H → Type 0) (all left : List P) (had : List H) : Type 0 where

@@ -1,7 +1,7 @@
 -- A worker's turns, which its relay may cut.
 use Rattle.std.specs.Prelude.{◌&&◌, ◌||◌, not, Bool, List}
 use Rattle.std.specs.List.{list_all, list_any}
-use Rattle.rly_threads.specs.Turns.{Handed}
+use Rattle.rly_post.specs.Telling.{Handed}
 
 -- what a worker's turns handed out, and whether it was cut there
 pub record Look : Type 0 where

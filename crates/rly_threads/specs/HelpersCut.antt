@@ -19,18 +19,17 @@ use Rattle.http_server.specs.declared.log.Log.{Log}
 use Rattle.rly_threads.specs.declared.relay.Duty.{Duty}
 use Rattle.rly_threads.specs.declared.relay.Ended.{Ended}
 use Rattle.rly_threads.specs.declared.relay.Left.{Left}
-use Rattle.rly_threads.specs.declared.relay.Post.{Post}
+use Rattle.rly_post.specs.declared.post.Post.{Post}
 use Rattle.rly_threads.specs.declared.relay.Relayed.{Relayed}
-use Rattle.rly_threads.specs.declared.turn.Go.{Go}
-use Rattle.rly_threads.specs.declared.turn.Point.{Point}
-use Rattle.rly_threads.specs.declared.turn.Worker.{Worker}
+use Rattle.rly_post.specs.declared.turn.Go.{Go}
+use Rattle.rly_post.specs.declared.turn.Point.{Point}
+use Rattle.rly_post.specs.declared.turn.Worker.{Worker}
 use Rattle.rly_threads.specs.declared.seat_desk.Said.{Said}
 use Rattle.rly_threads.specs.declared.seat_desk.Said.TheVariants.{One, Several}
-use Rattle.rly_threads.specs.Asking.{Asked, HasPut, batch_outcome, call_asked}
+use Rattle.rly_workers.specs.Asking.{Asked, HasPut, batch_outcome, call_asked}
 use Rattle.rly_threads.specs.Cut.{Look, all_on, cut_early, was_cut}
-use Rattle.rly_threads.specs.Ends.{Hearing, TellsMore}
+use Rattle.rly_post.specs.Telling.{Handed, Hearing, TellsMore}
 use Rattle.rly_threads.specs.Relay.{AreAnsweredBy, HasEnded, HaveEnded, has_run_out, is_to_end}
-use Rattle.rly_threads.specs.Turns.{Handed}
 
 -- what a log has
 abbrev pub looks_in : Log (Worker × Point) (Go × Bool) → List Look

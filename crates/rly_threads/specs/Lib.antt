@@ -1,14 +1,3 @@
-pub mod Ends
-pub mod Turns
-pub mod Intake
-pub mod Pacing
-pub mod Outlet
-pub mod Runs
-pub mod Memory
-pub mod HelpersTurns
 pub mod Cut
 pub mod Relay
-pub mod RateKept
-pub mod Strays
 pub mod HelpersCut
-pub mod Asking

@@ -1,64 +1,27 @@
 -- A relay: its lines, and what its workers did.
-use Rattle.std.specs.Prelude.{◌≡◌, ◌⊎◌, ◌||◌, ℕ, not, Bool, false, true, List, []}
-use Rattle.std.specs.Prelude.{length, map, Option, None, Some, IfNone, IfSome}
+use Rattle.std.specs.Prelude.{◌≡◌, ◌||◌, ℕ, not, Bool, false, true, List, []}
+use Rattle.std.specs.Prelude.{length, map, Option, None, Some, IfSome}
 use Rattle.std.specs.List.{AllByRecursion, list_all, zip}
 use Rattle.std.specs.Option.{is_some}
-use Rattle.rly_core.specs.declared.ids.HopId.{HopId}
-use Rattle.rly_core.specs.declared.ids.PeerId.{PeerId}
 use Rattle.rly_core.specs.declared.params.Params.{Params}
-use Rattle.rly_hop.specs.Receiving.{receiver}
-use Rattle.rly_hop.specs.Sending.{sender}
 use Rattle.rly_line.specs.EndViews.{EndView, new_tellers}
 use Rattle.rly_line.specs.Replies.{ReplyId}
 use Rattle.rly_line.specs.Responding.{IsAnsweredBy, Responding}
 use Rattle.rly_line.specs.Seats.{Caller, new_callers}
 use Rattle.rly_line.specs.Submission.{LineId}
-use Rattle.rly_plan.specs.ContactPlan.{ContactPlan, next_hop_at, peer_at, rate, resend}
+use Rattle.rly_plan.specs.ContactPlan.{ContactPlan}
+use Rattle.rly_post.specs.declared.post.Post.{Post}
+use Rattle.rly_post.specs.Telling.{Handed, Hearing, TellsMore}
 use Rattle.rly_threads.specs.declared.relay.Ended.{Ended}
-use Rattle.rly_threads.specs.declared.relay.Post.{Post}
-use Rattle.rly_threads.specs.declared.turn.Worker.{Worker}
-use Rattle.rly_threads.specs.declared.turn.Worker.TheVariants as worker
-use Rattle.rly_threads.specs.Asking.{Asked, HasPut}
 use Rattle.rly_threads.specs.Cut.{Look, all_on, cut_early, handed_at, was_cut}
-use Rattle.rly_threads.specs.Ends.{Hearing, TellsMore}
-use Rattle.rly_threads.specs.Intake.{Arrivals, intake, intake_turn}
-use Rattle.rly_threads.specs.Outlet.{outlet, outlet_turn}
-use Rattle.rly_threads.specs.Pacing.{first_pacing}
-use Rattle.rly_threads.specs.Runs.{Ran, EndsView}
-use Rattle.rly_threads.specs.Turns.{Given, Handed, done_in}
+use Rattle.rly_workers.specs.Asking.{Asked, HasPut}
+use Rattle.rly_workers.specs.Runs.{EndsView}
+use Rattle.rly_workers.specs.Working.{HasWorked}
 
 -- the end of a new line whose seats are answered in these lines, with room for a batch of each
 abbrev pub new_end : LineId → List (Option ReplyId) → EndView
 new_end line names =
     record { of = line; capacity = length names; taken = []; lines = new_tellers 0 names; over = false }
-
--- A receiver of a peer of the plan, from its start to its end: it waited, asked and sent as its cores and its
--- rules of waiting name for what it was given, in order, and did nothing else. It takes up to 64 packets a
--- turn, or one where memory for the lists of their Takes was refused at its start. A receiver of a peer that
--- isn't in the plan did nothing at all.
-abbrev pub HasReceived : ContactPlan → PeerId → EndsView → EndsView → Type 0
-HasReceived plan peer old new =
-    IfNone (peer_at plan peer) (new ≡ old)
-    × IfSome (peer_at plan peer) (λ neighbour. (most : ℕ) × ((most ≡ 64) ⊎ (most ≡ 1)) × (turns : List Arrivals)
-    × Ran old new (worker.Receiver peer)
-    (done_in (intake_turn (intake plan peer) most)
-    (receiver (record { 0 = plan.station }) (record { 0 = neighbour.station })) turns))
-
--- The same of a sender to a hop of the plan, in a spool with these parameters: with its window and its longest payload,
--- at the hop's `resend` and rate. It makes up to 64 calls together, or one at a time where memory for their lists was
--- refused at its start.
-abbrev pub HasSent : ContactPlan → Params → HopId → EndsView → EndsView → Type 0
-HasSent plan params hop old new =
-    IfNone (next_hop_at plan hop) (new ≡ old)
-    × IfSome (next_hop_at plan hop) (λ neighbour. (most : ℕ) × ((most ≡ 64) ⊎ (most ≡ 1)) × (turns : List Given)
-    × Ran old new (worker.Sender hop)
-    (done_in (outlet_turn (outlet plan hop) most)
-    (first_pacing (sender (record { 0 = plan.station }) (record { 0 = neighbour.station }) params.window) params
-    (resend plan hop) (rate plan hop)) turns))
-
-abbrev pub HasWorked : ContactPlan → Params → Worker → EndsView → EndsView → Type 0
-HasWorked plan params (worker.Receiver peer) old new = HasReceived plan peer old new
-HasWorked plan params (worker.Sender hop) old new = HasSent plan params hop old new
 
 -- what the link at a post tells, what was asked of its seat, and what its worker was handed
 abbrev pub told_at : Option (List Hearing) → Option (List (List ℕ)) → List Asked → List Handed → EndsView

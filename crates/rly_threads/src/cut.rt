@@ -2,11 +2,11 @@
 
 ghost use Rattle.std.specs.Prelude.{◌≡◌, ◌≤◌, ◌∷◌, [], None, Some, false, map, true};
 ghost use Rattle.rly_threads.specs.Cut.{handed_at};
-ghost use Rattle.rly_threads.specs.Ends.{TellsMore};
+ghost use Rattle.rly_post.specs.Telling.{TellsMore};
 ghost use Rattle.rly_threads.specs.HelpersCut.{IsCutting, IsHeard};
 
-use crate::turn::{Go, Point, Turn, Worker};
 use http_server::Log;
+use rly_post::{Go, Point, Turn, Worker};
 use std::marker::{Brand, Model, PhantomData};
 use std::sync::{OnceLock, OnceToken, Wait};
 
@@ -32,7 +32,7 @@ pub(crate) fn tell_workers<'a, R: Wait>(
 pub trait Whose {
     ghost use Rattle.std.specs.Prelude.{ℕ, Bool, List, Option};
     ghost use Rattle.rly_line.specs.Seats.{Caller};
-    ghost use Rattle.rly_threads.specs.Turns.{Handed};
+    ghost use Rattle.rly_post.specs.Telling.{Handed};
 
     /// What the turns told at first.
     ghost first: { Option (List Handed) };

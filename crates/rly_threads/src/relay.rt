@@ -13,35 +13,21 @@ ghost use Rattle.rly_threads.specs.HelpersCut.{AreSeatsOf, GivesBack, IsFor, IsH
 ghost use Rattle.rly_threads.specs.Relay.{AreAnsweredBy, HasEnded, HaveEnded, has_run_out, is_to_end, new_end, seated};
 
 use crate::cut::{CutTurn, Whose, tell_workers};
-use crate::ends::Ends;
-use crate::link::Link;
-use crate::receiver::receiver_run;
 use crate::seat_desk::SeatDesk;
-use crate::sender::sender_run;
-use crate::turn::{Turn, Worker};
 use rly_core::Params;
 use rly_disk::Disk;
 use rly_flush::{Finished, Flusher};
 use rly_journal::Journal;
 use rly_line::{ClosedEnd, LeftSeat, LineEnd, Seat, make};
 use rly_plan::Plan;
+use rly_post::{Link, Post, Turn, Worker};
+use rly_workers::{Ends, receiver_run, sender_run};
 use std::alloc::Global;
 use std::marker::Brand;
 use std::snapshot::Snapshot;
 use std::sync::{OnceLock, OnceToken, Wait};
 use std::thread;
 use std::thread::{Promise, PromisedHandle, Scope, Threads};
-
-/// A worker of a relay.
-#[derive(Drop)]
-pub struct Post<L: Link, T: Turn> {
-    /// Which it is: a receiver of a peer of the plan, or a sender to a hop of it.
-    pub worker: Worker,
-    /// Its link to that neighbour.
-    pub link: L,
-    /// Who hands it its moments.
-    pub turn: T,
-}
 
 /// A worker that had a thread, at its end.
 #[derive(Drop)]

@@ -2,14 +2,14 @@
 
 ghost use Rattle.std.specs.Prelude.{◌≡◌, ◌≤◌, ◌∷◌, [], IfErr, IfSome, OnOk, Some, length, vec_capacity};
 ghost use Rattle.rly_core.specs.Bounds.{IsIn};
-ghost use Rattle.rly_threads.specs.Asking.{HasPut, batch_outcome, call_asked};
-ghost use Rattle.rly_threads.specs.Ends.{TellsMore};
+ghost use Rattle.rly_workers.specs.Asking.{HasPut, batch_outcome, call_asked};
+ghost use Rattle.rly_post.specs.Telling.{TellsMore};
 
 use crate::cut::Whose;
-use crate::desk::Desk;
 use http_server::Log;
 use rly_line::{BatchError, CallError, LeftSeat, Seat};
 use rly_machine::{Answer, Ask};
+use rly_workers::Desk;
 use std::marker::{Model, PhantomData};
 use std::snapshot::Snapshot;
 use std::sync::Wait;

@@ -3,8 +3,9 @@
 use rly_core::{HopId, Params, PeerId};
 use rly_machine::{Command, Machine, Payload, Reply};
 use rly_plan::Plan;
+use rly_post::{MemLink, MemTurn};
 use rly_scarce::{before, was_refused};
-use rly_threads::{Ends, MemDesk, MemLink, MemTurn, receiver_run, sender_run};
+use rly_workers::{Ends, MemDesk, receiver_run, sender_run};
 use std::alloc::{AllocError, Global};
 use std::process::Abort;
 use std::test::Fail;

@@ -1,5 +1,5 @@
 use Rattle.std.proofs.Common.{◌≡◌, take}
-use Rattle.rly_threads.specs.Memory.{log_bytes}
+use Rattle.rly_post.specs.Memory.{log_bytes}
 use Rattle.rly_reporter.proofs.counted_link.bytes_in.Given as goal
 
 abbrev pub invariant-loop-byte : goal.invariant-loop-byte

@@ -3,7 +3,8 @@ use Rattle.std.specs.List.{AllByRecursion}
 use Rattle.rly_line.specs.EndViews.{ClosedView, names_of}
 use Rattle.rly_line.specs.Responding.{IsSeatOf}
 use Rattle.rly_threads.specs.HelpersCut.{GivesBack, IsJoined}
-use Rattle.rly_threads.proofs.Threads.{each_all, each_first, each_next, none_left}
+use Rattle.rly_threads.proofs.Threads.{each_all, each_first, each_next}
+use Rattle.rly_workers.proofs.Receivers.{none_left}
 use Rattle.rly_threads.proofs.relay.join_all.Goals as goal
 
 pub loop-thread-init : goal.loop-thread-init

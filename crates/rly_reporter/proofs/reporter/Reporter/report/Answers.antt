@@ -3,7 +3,7 @@ use Rattle.std.specs.Prelude.{Err, None, Ok, Some}
 use Rattle.rly_machine.specs.declared.call.Answer.{Answer}
 use Rattle.rly_machine.specs.declared.command.Ask.{Ask}
 use Rattle.rly_report.specs.Hops.{show_asks}
-use Rattle.rly_threads.specs.Ends.{TellsMore}
+use Rattle.rly_post.specs.Telling.{TellsMore}
 use Rattle.rly_reporter.proofs.Dues.{made_closed, made_none, made_told}
 use Rattle.rly_reporter.proofs.reporter.Reporter.report.Goals as goal
 

@@ -2,7 +2,7 @@ use Rattle.std.proofs.Common.{◌≡◌, ℕ, List, [], ◌∷◌, ◌++◌, ◌
 use Rattle.std.proofs.lemmas.List.{map-append}
 use Rattle.rly_tag.specs.Seal.{sealed}
 use Rattle.rly_seal.specs.SealedLink.{SealedView}
-use Rattle.rly_threads.specs.Memory.{log_bytes, sent_of}
+use Rattle.rly_post.specs.Memory.{log_bytes, sent_of}
 use Rattle.rly_seal.proofs.Told.{sent_more_in, written_packet}
 use Rattle.rly_seal.proofs.sealed.SealedLink.send.Goals as goal
 

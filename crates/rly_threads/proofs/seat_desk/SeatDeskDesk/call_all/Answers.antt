@@ -2,7 +2,7 @@ use Rattle.std.proofs.Common.{◌≡◌, ◌∙◌, ◌∷◌, [], ◌++◌, Lis
 use Rattle.std.proofs.lemmas.List.{map-append}
 use Rattle.rly_threads.specs.declared.seat_desk.Said.{Said}
 use Rattle.rly_threads.specs.declared.seat_desk.Said.TheVariants.{Several}
-use Rattle.rly_threads.specs.Asking.{Asked, batch_outcome}
+use Rattle.rly_workers.specs.Asking.{Asked, batch_outcome}
 use Rattle.rly_threads.specs.HelpersCut.{IsTelling, asked_in, exchange}
 use Rattle.rly_threads.proofs.Seating.{told_several}
 use Rattle.rly_threads.proofs.seat_desk.SeatDeskDesk.call_all.Goals as goal

@@ -1,7 +1,0 @@
-use Rattle.std.proofs.Common.{◌≡◌, ◌++◌}
-use Rattle.rly_daemon.specs.Serving.{receivers}
-use Rattle.rly_daemon.proofs.serving.add_receivers.Given as goal
-
--- the receivers of as many peers stand after what was there
-abbrev pub invariant-loop-index : goal.invariant-loop-index
-invariant-loop-index l = l.workers.items ≡ l.fn.workers.items ++ receivers l.index

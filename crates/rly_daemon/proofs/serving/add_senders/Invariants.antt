@@ -1,7 +1,0 @@
-use Rattle.std.proofs.Common.{◌≡◌, ◌++◌}
-use Rattle.rly_daemon.specs.Serving.{senders}
-use Rattle.rly_daemon.proofs.serving.add_senders.Given as goal
-
--- the senders to as many hops stand after what was there
-abbrev pub invariant-loop-index : goal.invariant-loop-index
-invariant-loop-index l = l.workers.items ≡ l.fn.workers.items ++ senders l.index

@@ -1,4 +1,0 @@
-use Rattle.rly_daemon.proofs.serving.read_plan.Goals as goal
-
-pub returns-in-Ok-read-clause-sound : goal.returns-in-Ok-read-clause-sound
-returns-in-Ok-read-clause-sound g c = c.law_plan_is_sound.ensures _ _ c.in-Ok-read.ensures.plan

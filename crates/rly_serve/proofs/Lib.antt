@@ -1,0 +1,3 @@
+pub mod Endless
+pub mod Tallied
+pub mod PaceBegun

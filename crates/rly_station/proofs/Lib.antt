@@ -1,0 +1,3 @@
+pub mod CountedWorkers
+pub mod Turns
+pub mod Sending

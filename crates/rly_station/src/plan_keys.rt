@@ -1,0 +1,167 @@
+//! The keys of a plan's links, and the files that they are read from.
+
+ghost use Rattle.std.specs.Prelude.{◌≡◌, IfOk, option_copied, string_bytes};
+ghost use Rattle.rly_station.specs.Keys.{AreKeysOf, assigned, key_file_of, key_in, path_beside};
+ghost use Rattle.rly_plan.specs.Sound.{IsSoundPlan};
+
+use crate::key_fault::{KeyFault, KeyWord};
+use crate::serve_fault::ServeFault;
+use crate::workers::workers_of;
+use rly_plan::{KeyFile, Plan};
+use rly_post::Worker;
+use rly_tag::{Key, LINE_BYTES};
+use std::alloc::{AllocError, Global};
+use std::fs::{File, Files};
+use std::marker::Model;
+use std::os::unix::fs::{FileExt, PermissionsExt};
+use std::path::Path;
+
+/// The most bytes of a file that are read: one more than the longest file of a key has.
+const MOST: usize = 2 * LINE_BYTES + 1;
+
+/// The permissions of others than a file's owner.
+const OTHERS: u32 = 0o077;
+
+/// The key of a link, and the file that the plan names for it.
+#[derive(Drop)]
+pub struct NamedKey<'a> {
+    file: &'a KeyFile,
+    key: Key,
+}
+
+impl<'a> Model for NamedKey<'a> {
+    ghost use Rattle.rly_station.specs.NamedKey.{KeyOfFile};
+
+    ghost Value = { KeyOfFile };
+
+    ghost view = { λ k. record { file = k.file.now; keys = k.key } };
+}
+
+impl<'a> NamedKey<'a> {
+    /// The key.
+    pub(crate) fn into_key(self) -> Key
+        ensures { result ≡ self.entry.keys }
+    {
+        self.key
+    }
+}
+
+/// A worker of a plan, and the key of its link, if that has one.
+#[derive(Drop)]
+pub struct KeyedWorker<'a> {
+    /// Which it is.
+    pub worker: Worker,
+    /// The key, where the plan names a file.
+    pub key: Option<NamedKey<'a>>,
+}
+
+/// The keys of a plan's links.
+#[derive(Drop)]
+pub struct PlanKeys<'a> {
+    pub(crate) links: Vec<KeyedWorker<'a>>,
+}
+
+impl<'a> Model for PlanKeys<'a> {
+    ghost use Rattle.std.specs.Prelude.{List};
+    ghost use Rattle.rly_station.specs.declared.plan_keys.KeyedWorker.{KeyedWorker};
+
+    ghost Value = { List KeyedWorker };
+
+    ghost view = { λ k. k.links.items };
+}
+
+/// Reads the keys of a plan's links from the files that the plan names. Their paths begin at the folder of the plan's own
+/// file, which is at `path`.
+pub fn read_keys<'a, H: AllocGlobal + Files<File = File>>(
+    rt: &H,
+    plan: &'a Plan,
+    path: &str,
+) -> Result<PlanKeys<'a>, ServeFault>
+    requires sound { IsSoundPlan plan.now }
+    // The link of each worker has the key of the file that the plan names for it, and no key where it names none.
+    ensures keys { IfOk result (λ keys. AreKeysOf plan.now keys) }
+{
+    let mut links = Vec::new(rt.alloc());
+    for worker in workers_of(rt.alloc(), plan)? {
+        let link = keyed(rt, plan, worker, path)?;
+        if links.push(link).is_err() {
+            return Err(AllocError.into());
+        }
+    }
+    Ok(PlanKeys { links })
+}
+
+/// A worker, and the key of its link.
+fn keyed<'a, H: AllocGlobal + Files<File = File>>(
+    rt: &H,
+    plan: &'a Plan,
+    worker: Worker,
+    path: &str,
+) -> Result<KeyedWorker<'a>, ServeFault>
+    ensures { IfOk result (λ link. assigned link ≡ (worker, key_file_of plan.now worker)) }
+{
+    let key = match key_file_of(plan, worker) {
+        Some(file) => Some(read_key(rt, worker, file, path)?),
+        None => None,
+    };
+    Ok(KeyedWorker { worker, key })
+}
+
+/// The file of the key of a worker's link, if the plan names one.
+fn key_file_of(plan: &Plan, worker: Worker) -> Option<&KeyFile>
+    ensures { option_copied result ≡ key_file_of plan.now worker }
+{
+    let neighbour = match worker {
+        Worker::Receiver(peer) => plan.peer(peer),
+        Worker::Sender(hop) => plan.hop(hop),
+    };
+    neighbour?.key.as_ref()
+}
+
+/// The key in a file that a plan names.
+fn read_key<'a, H: AllocGlobal + Files<File = File>>(
+    rt: &H,
+    worker: Worker,
+    file: &'a KeyFile,
+    plan: &str,
+) -> Result<NamedKey<'a>, ServeFault>
+    ensures { IfOk result (λ key. key.file ≡ file.now) }
+{
+    let path = path_beside(rt.alloc(), plan, file.path())?;
+    match key_in_file(rt, path.as_str()) {
+        Ok(key) => Ok(NamedKey { file, key }),
+        Err(word) => Err(ServeFault::Key(KeyFault { worker, path, word })),
+    }
+}
+
+/// The path of a key's file, by the path of the plan and the one that the plan names.
+fn path_beside(alloc: Global, plan: &str, named: &str) -> Result<String, AllocError>
+    ensures { IfOk result (λ path. string_bytes path ≡ path_beside plan.now named.now) }
+{
+    let folder = Path::new(plan).parent().unwrap_or(Path::new(""));
+    Ok(folder.join(alloc, named)?.into_string())
+}
+
+/// The key in a file.
+fn key_in_file<H: Files<File = File>>(files: &H, path: &str) -> Result<Key, KeyWord> {
+    let file = File::open(files, path)?;
+    let found = file.metadata()?;
+    let mut text = [0; MOST];
+    let length = found.len().min(MOST as u64) as usize;
+    file.read_exact_at(&mut text[..length], 0)?;
+    key_in(found.permissions().mode(), &text[..length])
+}
+
+/// The key that a file holds which has these permissions and this text: none where others than its owner may read it, write
+/// it or run it.
+pub fn key_in(mode: u32, text: &[u8]) -> Result<Key, KeyWord>
+    ensures { result ≡ key_in mode text.now }
+{
+    if mode & OTHERS != 0 {
+        return Err(KeyWord::Shared(mode & OTHERS));
+    }
+    match Key::read(text) {
+        Some(key) => Ok(key),
+        None => Err(KeyWord::Form),
+    }
+}

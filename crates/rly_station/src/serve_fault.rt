@@ -1,0 +1,58 @@
+use crate::address_fault::AddressFault;
+use crate::file_fault::{Cause, SystemWord};
+use crate::key_fault::KeyFault;
+use rly_core::Refusal;
+use rly_plan::PlanFault;
+use std::alloc::AllocError;
+use thiserror::Error;
+
+/// Why a relay wasn't started, or didn't end well; displays as the lines for standard error.
+#[derive(Debug, Drop, Error)]
+pub enum ServeFault {
+    /// The plan can't be read, or isn't UTF-8.
+    #[error("rly: plan failed\nrly: plan: {0}")]
+    Plan(SystemWord),
+    /// A socket refused an address of a link.
+    #[error("rly: link failed\nrly: {0}")]
+    Link(AddressFault),
+    /// A file holds no key that a link may have.
+    #[error("rly: key failed\nrly: {0}")]
+    Key(KeyFault),
+    /// There was no thread for a worker.
+    #[error("rly: worker failed")]
+    Worker,
+    /// Standard error failed, so that what is served wasn't told.
+    #[error("rly: output failed")]
+    Untold,
+    /// The plan or the device was refused, or the journal ended broken.
+    #[error("{0}{1}")]
+    Refused(Refusal, Cause),
+}
+
+impl From<AllocError> for ServeFault {
+    ghost use Rattle.std.specs.Prelude.{◌≡◌};
+    ghost use Rattle.rly_core.specs.declared.refusal.Refusal.TheVariants.{OutOfMemory};
+    ghost use Rattle.rly_station.specs.declared.serve_fault.ServeFault.TheVariants.{Refused};
+    ghost use Rattle.rly_station.specs.declared.file_fault.Cause.TheVariants.{Told};
+
+    ghost from_gives = { λ _ fault. fault ≡ Refused OutOfMemory Told };
+
+    fn from(_refused: AllocError) -> ServeFault {
+        ServeFault::Refused(Refusal::OutOfMemory, Cause::Told)
+    }
+}
+
+impl From<PlanFault> for ServeFault {
+    ghost use Rattle.std.specs.Prelude.{◌≡◌};
+    ghost use Rattle.rly_station.specs.Faults.{cause_at};
+    ghost use Rattle.rly_station.specs.declared.serve_fault.ServeFault.TheVariants.{Refused};
+
+    ghost from_gives = { λ plan fault. fault ≡ Refused plan.refusal (cause_at plan.place) };
+
+    fn from(plan: PlanFault) -> ServeFault {
+        match plan.place {
+            Some(place) => ServeFault::Refused(plan.refusal, Cause::At(place)),
+            None => ServeFault::Refused(plan.refusal, Cause::Told),
+        }
+    }
+}

@@ -1,0 +1,21 @@
+use rly_post::Worker;
+use std::fmt;
+use std::fmt::{Display, Formatter};
+
+/// Whose link it is; displays as `peer 1` or `hop 1`.
+#[derive(Clone, Copy, Debug, PartialEq, Eq)]
+pub struct WorkerName(pub Worker);
+
+impl Display for WorkerName {
+    ghost use Rattle.std.specs.Prelude.{Some};
+    ghost use Rattle.rly_station.specs.Warnings.{name_text};
+
+    ghost output = { λ name. Some (name_text name.0) };
+
+    fn fmt<W: fmt::Write>(&self, f: &mut Formatter<W>) -> fmt::Result {
+        match self.0 {
+            Worker::Receiver(peer) => write!(f, "peer {}", peer.0),
+            Worker::Sender(hop) => write!(f, "hop {}", hop.0),
+        }
+    }
+}

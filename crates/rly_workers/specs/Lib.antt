@@ -1,0 +1,11 @@
+pub mod Turns
+pub mod Intake
+pub mod Pacing
+pub mod Outlet
+pub mod Runs
+pub mod Memory
+pub mod HelpersTurns
+pub mod RateKept
+pub mod Strays
+pub mod Asking
+pub mod Working
