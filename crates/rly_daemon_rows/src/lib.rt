@@ -23,6 +23,8 @@ mod expect;
 #[cfg(test)]
 mod files;
 #[cfg(test)]
+mod formatting;
+#[cfg(test)]
 mod keys;
 #[cfg(test)]
 mod links;

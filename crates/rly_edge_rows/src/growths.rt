@@ -3,37 +3,53 @@
 use crate::audits::{bytes_of, report_on, six_takes_and_three_picks};
 use rly_audit::{AuditFault, audit};
 use rly_core::Refusal;
-use rly_disk::Disk;
+use rly_disk::{Disk, MemDisk};
 use rly_scarce::{before, was_refused};
-use std::test::Fail;
+use std::alloc::Global;
+use std::process::Abort;
+
+/// An audit where one growth of memory is refused: the disk, whether one was, and why it wrote nothing, if it did.
+fn audited(
+    rt: &impl Abort,
+    alloc: Global,
+    disk: MemDisk,
+    written: &mut Vec<u8>,
+) -> (MemDisk, bool, Option<AuditFault>) {
+    before(alloc).ok().expect(rt, "memory");
+    let told = audit(alloc, disk, written);
+    let refused = was_refused(alloc);
+    match told {
+        Ok(disk) => (disk, refused, None),
+        Err((fault, disk)) => (disk, refused, Some(fault)),
+    }
+}
+
+/// The fault that a refused growth leads to: that of the device, where it was the device's.
+fn wanted(disk: &MemDisk) -> AuditFault {
+    match disk.failures() {
+        0 => AuditFault::Refused(Refusal::OutOfMemory),
+        _ => AuditFault::Refused(Refusal::Device),
+    }
+}
+
+/// Checks that a device reads as before, and that what was written of it, if anything was, is the report.
+fn expect_same(rt: &impl Abort, alloc: Global, mut disk: MemDisk, bytes: &[u8], written: &[u8]) {
+    expect!(*rt; bytes_of(rt, alloc, &mut disk).as_slice() == bytes);
+    let report = report_on(rt, alloc, disk);
+    expect!(*rt; written.is_empty() || report.as_slice() == written);
+}
 
 #[test]
-fn a_report(rt: HostRuntime) -> Result<(), Fail> {
+fn a_report(rt: HostRuntime) {
     let alloc = rt.alloc();
-    let mut disk = six_takes_and_three_picks(&rt, alloc)?;
-    let bytes = bytes_of(&rt, alloc, &mut disk)?;
-    let mut written: Vec<u8> = Vec::with_capacity(alloc, 1_024)?;
-    before(alloc)?;
-    let told = audit(alloc, disk, &mut written);
-    let refused = was_refused(alloc);
-    expect!(rt; refused || told.is_ok());
-    let mut disk = match told {
-        Ok(disk) => disk,
-        Err((fault, disk)) => {
-            let failed = disk.failures() > 0;
-            let refusal = if failed {
-                Refusal::Device
-            } else {
-                Refusal::OutOfMemory
-            };
-            expect!(rt; fault == AuditFault::Refused(refusal) && written.is_empty());
-            disk
-        }
-    };
-    let same = bytes_of(&rt, alloc, &mut disk)?;
-    expect!(rt; same.as_slice() == bytes.as_slice());
-    let report = report_on(&rt, alloc, disk)?;
-    expect!(rt; written.is_empty() || report.as_slice() == written.as_slice());
+    let mut disk = six_takes_and_three_picks(&rt, alloc);
+    let bytes = bytes_of(&rt, alloc, &mut disk);
+    let mut written: Vec<u8> = Vec::with_capacity(alloc, 1_024).expect(&rt, "memory");
+    let (disk, refused, fault) = audited(&rt, alloc, disk, &mut written);
+    expect!(rt; refused || fault.is_none());
     expect!(rt; refused || !written.is_empty());
-    Ok(())
+    if let Some(fault) = fault {
+        expect!(rt; fault == wanted(&disk) && written.is_empty());
+    }
+    expect_same(&rt, alloc, disk, &bytes, &written);
 }

@@ -1,6 +1,7 @@
 //! What words ask for, and which words ask for nothing.
 use rly_core::Params;
 use rly_settings::{Settings, SettingsFault, settings};
+use std::process::Abort;
 
 /// The settings of words, where they are any.
 fn settings_of<'a>(rt: &impl AllocGlobal, words: &'a [&'a str]) -> Option<Settings<'a>> {
@@ -20,99 +21,251 @@ fn are_asked(rt: &impl AllocGlobal, words: &[&str]) -> bool {
     matches!(&settings(rt.alloc(), words), Err(SettingsFault::Asked(_)))
 }
 
-#[test]
-fn what_is_left_out_is_the_default(rt: HostRuntime) {
-    let params = Params::DEFAULT;
-    let sim = settings_of(&rt, ["rly", "sim"].as_slice());
-    expect!(rt; sim == Some(Settings::Sim { params }));
-    let format = settings_of(&rt, ["rly", "format", "spool"].as_slice());
-    let file = "spool";
-    expect!(rt; format == Some(Settings::Format {
-            file,
-            params,
+/// Words, and what they ask for.
+type Given = (&'static [&'static str], Settings<'static>);
+
+/// Words, and why they are a bad command line.
+type Bad = (&'static [&'static str], &'static str);
+
+/// Checks what words ask for.
+fn expect_settings(rt: &(impl Abort + AllocGlobal), words: &[&str], wanted: &Settings<'_>) {
+    assert!(rt; settings_of(rt, words).as_ref() == Some(wanted));
+}
+
+/// Checks what the words of each row ask for.
+fn expect_given(rt: &(impl Abort + AllocGlobal), rows: &[Given]) {
+    for (words, wanted) in rows {
+        expect_settings(rt, *words, wanted);
+    }
+}
+
+/// Checks that the words of each row are a bad command line.
+fn expect_bad(rt: &(impl Abort + AllocGlobal), rows: &[Bad]) {
+    for (words, why) in rows {
+        assert!(rt; are_bad(rt, *words), "{why}");
+    }
+}
+
+/// Each command with nothing but what it has to have.
+const DEFAULTS: [Given; 7] = [
+    (
+        &["rly", "sim"],
+        Settings::Sim {
+            params: Params::DEFAULT,
+        },
+    ),
+    (
+        &["rly", "format", "spool"],
+        Settings::Format {
+            file: "spool",
+            params: Params::DEFAULT,
             segments: 4,
             length: None,
-            force: false
-        }));
-    let play = settings_of(&rt, ["rly", "play", "spool"].as_slice());
-    expect!(rt; play == Some(Settings::Play { file, batch: 1 }));
-    let audit = settings_of(&rt, ["rly", "audit", "spool"].as_slice());
-    expect!(rt; audit == Some(Settings::Audit { file }));
-    let serve = settings_of(&rt, ["rly", "serve", "spool", "plan.toml"].as_slice());
-    let plan = "plan.toml";
-    expect!(rt; serve == Some(Settings::Serve {
-            file,
-            plan,
+            force: false,
+        },
+    ),
+    (
+        &["rly", "play", "spool"],
+        Settings::Play {
+            file: "spool",
+            batch: 1,
+        },
+    ),
+    (
+        &["rly", "audit", "spool"],
+        Settings::Audit { file: "spool" },
+    ),
+    (
+        &["rly", "serve", "spool", "plan.toml"],
+        Settings::Serve {
+            file: "spool",
+            plan: "plan.toml",
             turns: 0,
-            report: 0
-        }));
-    let key = settings_of(&rt, ["rly", "key"].as_slice());
-    expect!(rt; key == Some(Settings::Key));
-    let told = settings_of(&rt, ["rly", "plan", "plan.toml"].as_slice());
-    expect!(rt; told == Some(Settings::Plan { plan, at: None }));
+            report: 0,
+        },
+    ),
+    (&["rly", "key"], Settings::Key),
+    (
+        &["rly", "plan", "plan.toml"],
+        Settings::Plan {
+            plan: "plan.toml",
+            at: None,
+        },
+    ),
+];
+
+#[test]
+fn what_is_left_out_is_the_default(rt: HostRuntime) {
+    expect_given(&rt, &DEFAULTS);
 }
+
+/// Options before and after what a command has to have, with a blank and with `=`.
+const GIVEN: [Given; 5] = [
+    (
+        &[
+            "rly",
+            "format",
+            "--length=4096",
+            "spool",
+            "--segments",
+            "3",
+            "--window",
+            "64",
+            "--bytes=18446744073709551615",
+            "--payload=8192",
+        ],
+        Settings::Format {
+            file: "spool",
+            params: Params {
+                window: 64,
+                bytes: u64::MAX,
+                payload: 8_192,
+                ..Params::DEFAULT
+            },
+            segments: 3,
+            length: Some(4096),
+            force: false,
+        },
+    ),
+    (
+        &["rly", "format", "--force", "spool"],
+        Settings::Format {
+            file: "spool",
+            params: Params::DEFAULT,
+            segments: 4,
+            length: None,
+            force: true,
+        },
+    ),
+    (
+        &["rly", "play", "--batch", "64", "spool"],
+        Settings::Play {
+            file: "spool",
+            batch: 64,
+        },
+    ),
+    (
+        &[
+            "rly",
+            "serve",
+            "--turns",
+            "20",
+            "--report=15",
+            "spool",
+            "plan.toml",
+        ],
+        Settings::Serve {
+            file: "spool",
+            plan: "plan.toml",
+            turns: 20,
+            report: 15,
+        },
+    ),
+    (
+        &["rly", "plan", "plan.toml", "--at", "4503599627370495"],
+        Settings::Plan {
+            plan: "plan.toml",
+            at: Some(4_503_599_627_370_495),
+        },
+    ),
+];
 
 #[test]
 fn what_is_given_is_read(rt: HostRuntime) {
+    expect_given(&rt, &GIVEN);
+}
+
+/// Each option of `format` with one number.
+fn expect_format(rt: &(impl Abort + AllocGlobal), text: &str, number: u64) {
     let words = [
         "rly",
         "format",
-        "--length=4096",
-        "spool",
-        "--segments",
-        "3",
+        "--hops",
+        text,
+        "--peers",
+        text,
         "--window",
-        "64",
-        "--bytes=18446744073709551615",
-        "--payload=8192",
+        text,
+        "--items",
+        text,
+        "--bytes",
+        text,
+        "--maxpacket",
+        text,
+        "--target",
+        text,
+        "--interval",
+        text,
+        "--payload",
+        text,
+        "--segments",
+        text,
+        "--length",
+        text,
+        "--force",
+        "spool",
     ];
     let params = Params {
-        window: 64,
-        bytes: u64::MAX,
-        payload: 8_192,
+        hops: number,
+        peers: number,
+        window: number,
+        items: number,
+        bytes: number,
+        maxpacket: number,
+        target: number,
+        interval: number,
+        payload: number,
+    };
+    let wanted = Settings::Format {
+        file: "spool",
+        params,
+        segments: number,
+        length: Some(number),
+        force: true,
+    };
+    expect_settings(rt, words.as_slice(), &wanted);
+}
+
+/// Options of `sim` with one number.
+fn expect_sim(rt: &(impl Abort + AllocGlobal), text: &str, number: u64) {
+    let words = [
+        "rly",
+        "sim",
+        "--hops",
+        text,
+        "--interval",
+        text,
+        "--payload",
+        text,
+    ];
+    let params = Params {
+        hops: number,
+        interval: number,
+        payload: number,
         ..Params::DEFAULT
     };
-    let format = settings_of(&rt, words.as_slice());
-    let file = "spool";
-    expect!(rt; format == Some(Settings::Format {
-            file,
-            params,
-            segments: 3,
-            length: Some(4096),
-            force: false
-        }));
-    let forced = settings_of(&rt, ["rly", "format", "--force", "spool"].as_slice());
-    let params = Params::DEFAULT;
-    expect!(rt; forced == Some(Settings::Format {
-            file,
-            params,
-            segments: 4,
-            length: None,
-            force: true
-        }));
-    let play = settings_of(&rt, ["rly", "play", "--batch", "64", "spool"].as_slice());
-    expect!(rt; play == Some(Settings::Play { file, batch: 64 }));
+    expect_settings(rt, words.as_slice(), &Settings::Sim { params });
+}
+
+/// The options of `serve` with one number.
+fn expect_serve(rt: &(impl Abort + AllocGlobal), text: &str, number: u64) {
     let words = [
         "rly",
         "serve",
-        "--turns",
-        "20",
-        "--report=15",
         "spool",
         "plan.toml",
+        "--turns",
+        text,
+        "--report",
+        text,
     ];
-    let serve = settings_of(&rt, words.as_slice());
-    let plan = "plan.toml";
-    expect!(rt; serve == Some(Settings::Serve {
-            file,
-            plan,
-            turns: 20,
-            report: 15
-        }));
-    let words = ["rly", "plan", "plan.toml", "--at", "4503599627370495"];
-    let told = settings_of(&rt, words.as_slice());
-    let at = Some(4_503_599_627_370_495);
-    expect!(rt; told == Some(Settings::Plan { plan, at }));
+    let wanted = Settings::Serve {
+        file: "spool",
+        plan: "plan.toml",
+        turns: number,
+        report: number,
+    };
+    expect_settings(rt, words.as_slice(), &wanted);
 }
 
 /// Each option of `format` together, and those of `sim` and `serve`, at 0 and at the last number of 64 bits: whether they are
@@ -120,91 +273,26 @@ fn what_is_given_is_read(rt: HostRuntime) {
 #[test]
 fn numbers_are_read_as_they_are(rt: HostRuntime) {
     for (text, number) in [("0", 0), ("18446744073709551615", u64::MAX)] {
-        let words = [
-            "rly",
-            "format",
-            "--hops",
-            text,
-            "--peers",
-            text,
-            "--window",
-            text,
-            "--items",
-            text,
-            "--bytes",
-            text,
-            "--maxpacket",
-            text,
-            "--target",
-            text,
-            "--interval",
-            text,
-            "--payload",
-            text,
-            "--segments",
-            text,
-            "--length",
-            text,
-            "--force",
-            "spool",
-        ];
-        let params = Params {
-            hops: number,
-            peers: number,
-            window: number,
-            items: number,
-            bytes: number,
-            maxpacket: number,
-            target: number,
-            interval: number,
-            payload: number,
-        };
-        let format = settings_of(&rt, words.as_slice());
-        let file = "spool";
-        expect!(rt; format == Some(Settings::Format {
-            file,
-            params,
-            segments: number,
-            length: Some(number),
-            force: true
-        }));
-        let words = [
-            "rly",
-            "sim",
-            "--hops",
-            text,
-            "--interval",
-            text,
-            "--payload",
-            text,
-        ];
-        let sim = settings_of(&rt, words.as_slice());
-        let params = Params {
-            hops: number,
-            interval: number,
-            payload: number,
-            ..Params::DEFAULT
-        };
-        expect!(rt; sim == Some(Settings::Sim { params }));
-        let words = [
-            "rly",
-            "serve",
-            "spool",
-            "plan.toml",
-            "--turns",
-            text,
-            "--report",
-            text,
-        ];
-        let serve = settings_of(&rt, words.as_slice());
-        let plan = "plan.toml";
-        expect!(rt; serve == Some(Settings::Serve {
-            file,
-            plan,
-            turns: number,
-            report: number
-        }));
+        expect_format(&rt, text, number);
+        expect_sim(&rt, text, number);
+        expect_serve(&rt, text, number);
     }
+}
+
+/// Checks that a path is read as it is.
+fn expect_path(rt: &(impl Abort + AllocGlobal), path: &str) {
+    let played = Settings::Play {
+        file: path,
+        batch: 1,
+    };
+    expect_settings(rt, ["rly", "play", path].as_slice(), &played);
+    let served = Settings::Serve {
+        file: "spool",
+        plan: path,
+        turns: 0,
+        report: 0,
+    };
+    expect_settings(rt, ["rly", "serve", "spool", path].as_slice(), &served);
 }
 
 /// A path may have any letters and be long, or be `-`.
@@ -212,148 +300,191 @@ fn numbers_are_read_as_they_are(rt: HostRuntime) {
 fn paths_are_read_as_they_are(rt: HostRuntime) {
     let bytes = [b'a'; 5_000];
     let long = str::from_utf8(bytes.as_slice()).ok().expect(&rt, "a text");
-    for file in [long, "Spule für Müller 1", "-"] {
-        let words = ["rly", "play", file];
-        let play = settings_of(&rt, words.as_slice());
-        expect!(rt; play == Some(Settings::Play { file, batch: 1 }));
-        let words = ["rly", "serve", "spool", file];
-        let serve = settings_of(&rt, words.as_slice());
-        expect!(rt; serve == Some(Settings::Serve {
-            file: "spool",
-            plan: file,
-            turns: 0,
-            report: 0
-        }));
+    for path in [long, "Spule für Müller 1", "-"] {
+        expect_path(&rt, path);
     }
 }
+
+const BAD_WORDS: [Bad; 14] = [
+    (&["rly"], "no command"),
+    (&["rly", "audit"], "no file"),
+    (&["rly", "audit", "spool", "twice"], "a word too many"),
+    (&["rly", "audit", "spool", "--batch=1"], "an unknown option"),
+    (&["rly", "play", "spool", "--batch=0"], "too small a batch"),
+    (&["rly", "play", "spool", "--batch=65"], "too great a batch"),
+    (&["rly", "play", "spool", "--batch=-1"], "a batch below 0"),
+    (&["rly", "play", "spool", "--batch=x"], "a batch of letters"),
+    (&["rly", "play", "spool", "--batch="], "an empty batch"),
+    (
+        &["rly", "format", "spool", "--force=1"],
+        "a flag with a number",
+    ),
+    (
+        &["rly", "format", "spool", "--force=true"],
+        "a flag with a word",
+    ),
+    (&["rly", "format", "spool", "--forced"], "another option"),
+    (&["rly", "format", "spool", "-f"], "a short option"),
+    (
+        &["rly", "play", "spool", "--batch=1", "--batch=1"],
+        "a repeated option",
+    ),
+];
 
 #[test]
 fn bad_words_are_refused(rt: HostRuntime) {
-    assert!(rt; are_bad(&rt, ["rly"].as_slice()), "no command");
-    assert!(rt; are_bad(&rt, ["rly", "audit"].as_slice()), "no file");
-    assert!(rt;
-        are_bad(&rt, ["rly", "audit", "spool", "twice"].as_slice()),
-        "a word too many"
-    );
-    assert!(rt;
-        are_bad(&rt, ["rly", "audit", "spool", "--batch=1"].as_slice()),
-        "an unknown option"
-    );
-    for batch in [
-        "--batch=0",
-        "--batch=65",
-        "--batch=-1",
-        "--batch=x",
-        "--batch=",
-    ] {
-        assert!(rt;
-            are_bad(&rt, ["rly", "play", "spool", batch].as_slice()),
-            "{batch}"
-        );
-    }
-    for force in ["--force=1", "--force=true", "--forced", "-f"] {
-        assert!(rt;
-            are_bad(&rt, ["rly", "format", "spool", force].as_slice()),
-            "{force}"
-        );
-    }
-    let twice = ["rly", "play", "spool", "--batch=1", "--batch=1"];
-    assert!(rt; are_bad(&rt, twice.as_slice()), "a repeated option");
+    expect_bad(&rt, &BAD_WORDS);
 }
+
+const BAD_PAYLOADS: [Bad; 10] = [
+    (&["rly", "sim", "--payload=x"], "letters"),
+    (&["rly", "sim", "--payload=-1"], "below 0"),
+    (&["rly", "sim", "--payload="], "empty"),
+    (
+        &["rly", "sim", "--payload=18446744073709551616"],
+        "too great",
+    ),
+    (&["rly", "format", "spool", "--payload=x"], "letters"),
+    (&["rly", "format", "spool", "--payload=-1"], "below 0"),
+    (&["rly", "format", "spool", "--payload="], "empty"),
+    (
+        &["rly", "format", "spool", "--payload=18446744073709551616"],
+        "too great",
+    ),
+    (
+        &["rly", "sim", "--payload=1", "--payload=1"],
+        "a repeated option",
+    ),
+    (
+        &["rly", "play", "spool", "--payload=1"],
+        "a device has its own",
+    ),
+];
 
 #[test]
 fn a_bad_payload_is_refused(rt: HostRuntime) {
-    for payload in [
-        "--payload=x",
-        "--payload=-1",
-        "--payload=",
-        "--payload=18446744073709551616",
-    ] {
-        let words = ["rly", "sim", payload];
-        assert!(rt; are_bad(&rt, words.as_slice()), "{payload}");
-        let words = ["rly", "format", "spool", payload];
-        assert!(rt; are_bad(&rt, words.as_slice()), "{payload}");
-    }
-    let twice = ["rly", "sim", "--payload=1", "--payload=1"];
-    assert!(rt; are_bad(&rt, twice.as_slice()), "a repeated option");
-    let played = ["rly", "play", "spool", "--payload=1"];
-    assert!(rt; are_bad(&rt, played.as_slice()), "a device has its own");
+    expect_bad(&rt, &BAD_PAYLOADS);
 }
+
+const BAD_SERVES: [Bad; 12] = [
+    (&["rly", "serve"], "no file"),
+    (&["rly", "serve", "spool"], "no plan"),
+    (
+        &["rly", "serve", "spool", "plan.toml", "more"],
+        "a word too many",
+    ),
+    (
+        &["rly", "serve", "spool", "plan.toml", "--turns=x"],
+        "turns of letters",
+    ),
+    (
+        &["rly", "serve", "spool", "plan.toml", "--turns=-1"],
+        "turns below 0",
+    ),
+    (
+        &["rly", "serve", "spool", "plan.toml", "--turns="],
+        "empty turns",
+    ),
+    (
+        &[
+            "rly",
+            "serve",
+            "spool",
+            "plan.toml",
+            "--turns=18446744073709551616",
+        ],
+        "too many turns",
+    ),
+    (
+        &["rly", "serve", "spool", "plan.toml", "--report=x"],
+        "a report of letters",
+    ),
+    (
+        &["rly", "serve", "spool", "plan.toml", "--report=-1"],
+        "a report below 0",
+    ),
+    (
+        &["rly", "serve", "spool", "plan.toml", "--report=0.5"],
+        "half a report",
+    ),
+    (
+        &["rly", "serve", "spool", "plan.toml", "--batch=1"],
+        "an unknown option",
+    ),
+    (
+        &[
+            "rly",
+            "serve",
+            "--turns=1",
+            "spool",
+            "plan.toml",
+            "--turns=1",
+        ],
+        "a repeated option",
+    ),
+];
 
 #[test]
 fn bad_words_behind_serve_are_refused(rt: HostRuntime) {
-    assert!(rt; are_bad(&rt, ["rly", "serve"].as_slice()), "no file");
-    assert!(rt;
-        are_bad(&rt, ["rly", "serve", "spool"].as_slice()),
-        "no plan"
-    );
-    let more = ["rly", "serve", "spool", "plan.toml", "more"];
-    assert!(rt; are_bad(&rt, more.as_slice()), "a word too many");
-    for turns in [
-        "--turns=x",
-        "--turns=-1",
-        "--turns=",
-        "--turns=18446744073709551616",
-        "--report=x",
-        "--report=-1",
-        "--report=0.5",
-        "--batch=1",
-    ] {
-        let words = ["rly", "serve", "spool", "plan.toml", turns];
-        assert!(rt; are_bad(&rt, words.as_slice()), "{turns}");
-    }
-    let twice = [
-        "rly",
-        "serve",
-        "--turns=1",
-        "spool",
-        "plan.toml",
-        "--turns=1",
-    ];
-    assert!(rt; are_bad(&rt, twice.as_slice()), "a repeated option");
+    expect_bad(&rt, &BAD_SERVES);
 }
+
+const BAD_KEYS: [Bad; 3] = [
+    (&["rly", "key", "hop.key"], "a file"),
+    (&["rly", "key", "--turns=1"], "an unknown option"),
+    (&["rly", "keys"], "another word"),
+];
 
 #[test]
 fn words_behind_key_are_refused(rt: HostRuntime) {
-    assert!(rt;
-        are_bad(&rt, ["rly", "key", "hop.key"].as_slice()),
-        "a file"
-    );
-    assert!(rt;
-        are_bad(&rt, ["rly", "key", "--turns=1"].as_slice()),
-        "an unknown option"
-    );
-    assert!(rt; are_bad(&rt, ["rly", "keys"].as_slice()), "another word");
+    expect_bad(&rt, &BAD_KEYS);
 }
+
+const BAD_PLANS: [Bad; 9] = [
+    (&["rly", "plan"], "no plan"),
+    (&["rly", "plan", "plan.toml", "more"], "a word too many"),
+    (&["rly", "plan", "plan.toml", "--at=x"], "letters"),
+    (&["rly", "plan", "plan.toml", "--at=-1"], "below 0"),
+    (&["rly", "plan", "plan.toml", "--at="], "empty"),
+    (
+        &["rly", "plan", "plan.toml", "--at=4503599627370496"],
+        "too great",
+    ),
+    (
+        &["rly", "plan", "plan.toml", "--at=2026-11-25T04:38:17Z"],
+        "a date",
+    ),
+    (
+        &["rly", "plan", "plan.toml", "--turns=1"],
+        "an unknown option",
+    ),
+    (
+        &["rly", "plan", "--at=1", "plan.toml", "--at=1"],
+        "a repeated option",
+    ),
+];
 
 #[test]
 fn bad_words_behind_plan_are_refused(rt: HostRuntime) {
-    assert!(rt; are_bad(&rt, ["rly", "plan"].as_slice()), "no plan");
-    let more = ["rly", "plan", "plan.toml", "more"];
-    assert!(rt; are_bad(&rt, more.as_slice()), "a word too many");
-    for at in [
-        "--at=x",
-        "--at=-1",
-        "--at=",
-        "--at=4503599627370496",
-        "--at=2026-11-25T04:38:17Z",
-        "--turns=1",
-    ] {
-        let words = ["rly", "plan", "plan.toml", at];
-        assert!(rt; are_bad(&rt, words.as_slice()), "{at}");
-    }
-    let twice = ["rly", "plan", "--at=1", "plan.toml", "--at=1"];
-    assert!(rt; are_bad(&rt, twice.as_slice()), "a repeated option");
+    expect_bad(&rt, &BAD_PLANS);
 }
+
+/// Questions for help, and for the version.
+const QUESTIONS: [&[&str]; 9] = [
+    &["rly", "--version"],
+    &["rly", "--help"],
+    &["rly", "sim", "--help"],
+    &["rly", "format", "--help"],
+    &["rly", "play", "--help"],
+    &["rly", "audit", "--help"],
+    &["rly", "serve", "--help"],
+    &["rly", "key", "--help"],
+    &["rly", "plan", "--help"],
+];
 
 #[test]
 fn help_and_the_version_are_questions(rt: HostRuntime) {
-    expect!(rt; are_asked(&rt, ["rly", "--version"].as_slice()));
-    expect!(rt; are_asked(&rt, ["rly", "--help"].as_slice()));
-    for command in ["sim", "format", "play", "audit", "serve", "key", "plan"] {
-        assert!(rt;
-            are_asked(&rt, ["rly", command, "--help"].as_slice()),
-            "{command}"
-        );
+    for words in &QUESTIONS {
+        expect!(rt; are_asked(&rt, *words));
     }
 }

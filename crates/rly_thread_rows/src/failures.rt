@@ -71,22 +71,38 @@ fn receive<R: Abort + Wait>(rt: &R, alloc: Global, fails_at: u64) -> MemEnds {
     receivers::receive(rt, alloc, receivers::empty(rt, alloc), link, 64)
 }
 
+/// Checks that so many calls of a worker's link failed.
+fn expect_failures<R: Abort>(rt: &R, ends: &MemEnds, failures: u64) {
+    expect!(rt; ends.link.failures() == failures);
+}
+
+/// Checks what a receiver leaves over that link.
+fn expect_received<R: Abort>(rt: &R, ends: &MemEnds, fails_at: u64) {
+    expect_done(rt, ends, &received(fails_at), receivers::CUSTODY);
+    expect_failures(rt, ends, fails_at.min(1));
+    expect!(rt; matches!(ends.desk.machine().lasts().first(), Some(1)));
+    expect!(rt; ends.desk.machine().item_count() == 1);
+}
+
 /// Whichever call fails, the datagram is taken once, and each copy that was heard is acknowledged, unless that send failed.
 #[test]
 fn receiver_goes_on(rt: HostRuntime) {
-    let alloc = rt.alloc();
     for fails_at in 0..=LAST_RECEIVED {
-        let ends = receive(&rt, alloc, fails_at);
-        expect_done(&rt, &ends, &received(fails_at), receivers::CUSTODY);
-        expect!(rt; ends.link.failures() == fails_at.min(1));
-        expect!(rt; matches!(ends.desk.machine().lasts().first(), Some(1)));
-        expect!(rt; ends.desk.machine().item_count() == 1);
+        expect_received(&rt, &receive(&rt, rt.alloc(), fails_at), fails_at);
     }
-    expect!(rt; receive(&rt, alloc, 97).link.failures() == 0);
+    expect_failures(&rt, &receive(&rt, rt.alloc(), 97), 0);
 }
 
-/// The sender of hop 1 has one datagram, and so many turns of 100 ms.
-fn send<R: Abort + Wait>(rt: &R, alloc: Global, link: MemLink, turns: u64) -> MemEnds {
+/// The sender of hop 1 has one datagram, and so many turns of 100 ms. Its custody comes in the receives of these numbers, counted
+/// from 0.
+fn send<R: Abort + Wait>(
+    rt: &R,
+    alloc: Global,
+    places: &[usize],
+    fails_at: u64,
+    turns: u64,
+) -> MemEnds {
+    let link = senders::custody_at(rt, alloc, places, fails_at);
     senders::send(rt, alloc, link, MemTurn::new(1_000, 100_000, turns))
 }
 
@@ -108,19 +124,21 @@ fn unheard(fails_at: u64) -> Done {
     }
 }
 
+/// Checks what a sender leaves in silence.
+fn expect_unheard<R: Abort>(rt: &R, ends: &MemEnds, fails_at: u64) {
+    expect_done(rt, ends, &unheard(fails_at), senders::DATA);
+    expect_failures(rt, ends, fails_at.min(1));
+    expect_counts(rt, ends, 0, 1, 0);
+}
+
 /// In silence the datagram stays in flight, and a send that fails changes nothing but that it doesn't go out.
 #[test]
 fn sender_goes_on_in_silence(rt: HostRuntime) {
-    let alloc = rt.alloc();
     for fails_at in 0..=LAST_UNHEARD {
-        let link = senders::custody_at(&rt, alloc, &[], fails_at);
-        let ends = send(&rt, alloc, link, 64);
-        expect_done(&rt, &ends, &unheard(fails_at), senders::DATA);
-        expect!(rt; ends.link.failures() == fails_at.min(1));
-        expect_counts(&rt, &ends, 0, 1, 0);
+        expect_unheard(&rt, &send(&rt, rt.alloc(), &[], fails_at, 64), fails_at);
     }
-    let link = senders::custody_at(&rt, alloc, &[], LAST_UNHEARD + 1);
-    expect!(rt; send(&rt, alloc, link, 64).link.failures() == 0);
+    let last = LAST_UNHEARD + 1;
+    expect_failures(&rt, &send(&rt, rt.alloc(), &[], last, 64), 0);
 }
 
 /// The call that sends the datagram, which fails, and how often it was sent after so many turns: in turn 3, and then a second, two and
@@ -137,16 +155,18 @@ const FAILED: [(u64, u64, usize); 9] = [
     (36, 73, 3),
 ];
 
+/// Checks that one call failed, that the datagram went out so often, and that it is in flight.
+fn expect_delivered<R: Abort>(rt: &R, ends: &MemEnds, delivered: usize) {
+    expect_failures(rt, ends, 1);
+    expect!(rt; ends.link.delivered().len() == delivered);
+    expect_counts(rt, ends, 0, 1, 0);
+}
+
 /// A send that fails leaves its datagram in flight, and it goes out after the next timeout.
 #[test]
 fn failed_send_is_made_again(rt: HostRuntime) {
-    let alloc = rt.alloc();
     for (call, turns, delivered) in &FAILED {
-        let link = senders::custody_at(&rt, alloc, &[], *call);
-        let ends = send(&rt, alloc, link, *turns);
-        expect!(rt; ends.link.failures() == 1);
-        expect!(rt; ends.link.delivered().len() == *delivered);
-        expect_counts(&rt, &ends, 0, 1, 0);
+        expect_delivered(&rt, &send(&rt, rt.alloc(), &[], *call, *turns), *delivered);
     }
 }
 
@@ -178,19 +198,22 @@ fn acknowledged(fails_at: u64) -> Done {
     }
 }
 
+/// Checks what a sender leaves with that neighbour.
+fn expect_acknowledged<R: Abort>(rt: &R, ends: &MemEnds, fails_at: u64) {
+    expect_done(rt, ends, &acknowledged(fails_at), senders::DATA);
+    expect_failures(rt, ends, fails_at.min(1));
+    expect_counts(rt, ends, 0, 0, 1);
+}
+
 /// Whichever call fails, the datagram is released once its custody was heard, and doesn't go out after that.
 #[test]
 fn sender_goes_on_until_it_is_acknowledged(rt: HostRuntime) {
-    let alloc = rt.alloc();
     for fails_at in 0..=LAST_ACKNOWLEDGED {
-        let link = senders::custody_at(&rt, alloc, &ACKNOWLEDGED, fails_at);
-        let ends = send(&rt, alloc, link, 64);
-        expect_done(&rt, &ends, &acknowledged(fails_at), senders::DATA);
-        expect!(rt; ends.link.failures() == fails_at.min(1));
-        expect_counts(&rt, &ends, 0, 0, 1);
+        let ends = send(&rt, rt.alloc(), &ACKNOWLEDGED, fails_at, 64);
+        expect_acknowledged(&rt, &ends, fails_at);
     }
-    let link = senders::custody_at(&rt, alloc, &ACKNOWLEDGED, LAST_ACKNOWLEDGED + 1);
-    expect!(rt; send(&rt, alloc, link, 64).link.failures() == 0);
+    let last = LAST_ACKNOWLEDGED + 1;
+    expect_failures(&rt, &send(&rt, rt.alloc(), &ACKNOWLEDGED, last, 64), 0);
 }
 
 /// Data from station 7 to station 10, number 1, payload `000e42`.
@@ -231,36 +254,50 @@ fn send_to_the_other<R: Abort + Wait>(rt: &R, alloc: Global, link: MemLink) -> M
 /// are calls 4 and 35.
 const LAST_OF_THE_OTHER: u64 = 66;
 
-/// A second hop has a `resend`, a flight and a queue of its own. What waits for the first hop stays where it is.
-#[test]
-fn second_hop_goes_on_in_silence(rt: HostRuntime) {
-    let alloc = rt.alloc();
-    for fails_at in 0..=LAST_OF_THE_OTHER {
-        let link = link_with(&rt, alloc, 0, &[], OTHER_CUSTODY, fails_at);
-        let ends = send_to_the_other(&rt, alloc, link);
-        let is_lost = fails_at == 4 || fails_at == 35;
-        let done = Done {
-            delivered: if is_lost { 1 } else { 2 },
-            calls: 66,
-            waits: 62,
-            asked: 4,
-        };
-        expect_done(&rt, &ends, &done, OTHER_DATA);
-        expect!(rt; ends.link.failures() == fails_at.min(1));
-        expect_counts_of(&rt, &ends.desk, HopId(1), (1, 0, 0));
-        expect_counts_of(&rt, &ends.desk, HopId(2), (0, 1, 0));
+/// What a sender to hop 2 does in silence.
+fn unheard_by_the_other(fails_at: u64) -> Done {
+    let is_lost = fails_at == 4 || fails_at == 35;
+    Done {
+        delivered: if is_lost { 1 } else { 2 },
+        calls: 66,
+        waits: 62,
+        asked: 4,
     }
 }
 
-/// A custody of the second hop's station releases the second hop's datagram, and one of the first hop's station releases nothing.
+/// Checks how many datagrams the second hop has in flight and released. That of the first hop waits.
+fn expect_other_counts<R: Abort>(rt: &R, ends: &MemEnds, flight: u64, released: u64) {
+    expect_counts_of(rt, &ends.desk, HopId(1), (1, 0, 0));
+    expect_counts_of(rt, &ends.desk, HopId(2), (0, flight, released));
+}
+
+/// Checks what a sender to hop 2 leaves in silence.
+fn expect_other_unheard<R: Abort>(rt: &R, ends: &MemEnds, fails_at: u64) {
+    expect_done(rt, ends, &unheard_by_the_other(fails_at), OTHER_DATA);
+    expect_failures(rt, ends, fails_at.min(1));
+    expect_other_counts(rt, ends, 1, 0);
+}
+
+/// A second hop has a `resend`, a flight and a queue of its own. What waits for the first hop stays where it is.
+#[test]
+fn second_hop_goes_on_in_silence(rt: HostRuntime) {
+    for fails_at in 0..=LAST_OF_THE_OTHER {
+        let link = link_with(&rt, rt.alloc(), 0, &[], OTHER_CUSTODY, fails_at);
+        let ends = send_to_the_other(&rt, rt.alloc(), link);
+        expect_other_unheard(&rt, &ends, fails_at);
+    }
+}
+
+/// A custody of the first hop's station releases nothing of the second hop.
+#[test]
+fn second_hop_is_not_acknowledged_by_the_first_station(rt: HostRuntime) {
+    let link = senders::custody_at(&rt, rt.alloc(), &[40], 0);
+    expect_other_counts(&rt, &send_to_the_other(&rt, rt.alloc(), link), 1, 0);
+}
+
+/// A custody of the second hop's station releases the second hop's datagram.
 #[test]
 fn second_hop_is_acknowledged_by_its_own_station(rt: HostRuntime) {
-    let alloc = rt.alloc();
-    let first = senders::custody_at(&rt, alloc, &[40], 0);
-    let ends = send_to_the_other(&rt, alloc, first);
-    expect_counts_of(&rt, &ends.desk, HopId(2), (0, 1, 0));
-    let second = link_with(&rt, alloc, 64, &[40], OTHER_CUSTODY, 0);
-    let ends = send_to_the_other(&rt, alloc, second);
-    expect_counts_of(&rt, &ends.desk, HopId(1), (1, 0, 0));
-    expect_counts_of(&rt, &ends.desk, HopId(2), (0, 0, 1));
+    let link = link_with(&rt, rt.alloc(), 64, &[40], OTHER_CUSTODY, 0);
+    expect_other_counts(&rt, &send_to_the_other(&rt, rt.alloc(), link), 0, 1);
 }

@@ -16,20 +16,36 @@ use std::thread::{JoinHandle, Threads};
 /// So many takes each seat makes.
 const TAKES: u64 = 100;
 
+/// Whether a take is taken.
+fn is_taken<R: Abort + Wait>(
+    rt: &R,
+    alloc: Global,
+    seat: &mut Seat,
+    peer: u16,
+    number: u64,
+) -> bool {
+    match &seat.call(rt, take(rt, alloc, peer, number)) {
+        Ok(answer) => matches!(&answer.reply, Reply::Taken(_)),
+        Err(_) => false,
+    }
+}
+
 /// Takes of one peer, one after the other, up to the first that is not taken or not answered: a flusher whose journal broke ends, and
 /// answers no further call. How many were taken.
-fn takes_at<R: Abort + Wait>(rt: &R, alloc: Global, mut seat: Seat, peer: u16) -> u64 {
+fn takes_of<R: Abort + Wait>(rt: &R, alloc: Global, seat: &mut Seat, peer: u16) -> u64 {
     let mut taken = 0;
     for number in 1..=TAKES {
-        let Ok(answer) = seat.call(rt, take(rt, alloc, peer, number)) else {
+        if !is_taken(rt, alloc, seat, peer, number) {
             break;
-        };
-        match answer.reply {
-            Reply::Taken(_) => taken = number,
-            _ => break,
         }
+        taken = number;
     }
     taken
+}
+
+/// The same at a seat that is let go then.
+fn takes_at<R: Abort + Wait>(rt: &R, alloc: Global, mut seat: Seat, peer: u16) -> u64 {
+    takes_of(rt, alloc, &mut seat, peer)
 }
 
 /// Seats in threads of their own, each with takes of its own peer.
@@ -160,17 +176,22 @@ fn seats_that_are_gone_are_forgotten(rt: HostRuntime) {
     expect!(rt; finished.journal.position() == 1);
 }
 
+/// Checks that each seat's takes were all taken, and that the journal has them.
+fn expect_all_taken<R: Abort>(rt: &R, taken: u64, finished: &Finished<MemDisk>) {
+    expect!(*rt; taken == 4 * TAKES);
+    expect!(*rt; !finished.broken);
+    let shown = finished.journal.ask_show(HopId(1));
+    expect!(*rt; matches!(&shown, Reply::Shown(status) if status.taken == 4 * TAKES));
+    for peer in 1..=4 {
+        expect!(*rt; matches!(finished.journal.last(PeerId(peer)), Ok(TAKES)));
+    }
+}
+
 /// Each seat's takes are all taken.
 #[test]
 fn four_seats_are_served(rt: HostRuntime) {
     let (taken, finished) = four_seats(rt, rt.alloc(), device(&rt, rt.alloc()));
-    expect!(rt; taken == 4 * TAKES);
-    expect!(rt; !finished.broken);
-    let shown = finished.journal.ask_show(HopId(1));
-    expect!(rt; matches!(&shown, Reply::Shown(status) if status.taken == 4 * TAKES));
-    for peer in 1..=4 {
-        expect!(rt; matches!(finished.journal.last(PeerId(peer)), Ok(TAKES)));
-    }
+    expect_all_taken(&rt, taken, &finished);
 }
 
 /// Whether a run on a device that stops at its call 1,500 met that failure; where it didn't, all was taken.
@@ -233,20 +254,27 @@ fn last_taken(answers: &[Answer], before: u64) -> u64 {
     taken
 }
 
-/// Two batches of takes of one peer, so many each, asked at a seat one after the other. How many were taken, in order,
-/// each with its answer.
-fn batches_at<R: Abort + Wait>(rt: &R, alloc: Global, mut seat: Seat, peer: u16, size: u64) -> u64 {
+/// A batch of takes of one peer, so many, under the numbers after those that were taken before. The last number that was taken then.
+fn batch_of<R: Abort + Wait>(
+    rt: &R,
+    alloc: Global,
+    seat: &mut Seat,
+    peer: u16,
+    size: u64,
+    before: u64,
+) -> u64 {
     let mut answers = Vec::with_capacity(alloc, 64).expect(rt, "memory");
-    let mut taken = 0u64;
-    for batch in 0..2u64 {
-        let first = batch.saturating_mul(size).saturating_add(1);
-        let mut asks = takes_from(rt, alloc, peer, first, size);
-        put_batch(rt, &mut seat, &mut asks, &mut answers);
-        expect!(*rt; asks.is_empty());
-        taken = last_taken(answers.as_slice(), taken);
-        answers.clear();
-    }
-    taken
+    let mut asks = takes_from(rt, alloc, peer, before.saturating_add(1), size);
+    put_batch(rt, seat, &mut asks, &mut answers);
+    expect!(*rt; asks.is_empty());
+    last_taken(answers.as_slice(), before)
+}
+
+/// Two batches of takes of one peer, so many each, asked at a seat one after the other, which is let go then. How many were taken, in
+/// order, each with its answer.
+fn batches_at<R: Abort + Wait>(rt: &R, alloc: Global, mut seat: Seat, peer: u16, size: u64) -> u64 {
+    let taken = batch_of(rt, alloc, &mut seat, peer, size, 0);
+    batch_of(rt, alloc, &mut seat, peer, size, taken)
 }
 
 /// Seats in threads of their own, each with two batches of its own peer: 31 takes each at the first seat, 32 at the second, and so on.

@@ -224,6 +224,16 @@ fn told_in_rounds<R: Abort + Threads + Wait + Copy + Send + 'static>(
     told
 }
 
+/// How two takes were refused, in a round each, over a device whose call of this number fails. None where no journal opens on it.
+fn told_at<R: Abort + Threads + Wait + Copy + Send + 'static>(
+    rt: R,
+    alloc: Global,
+    fails_at: u64,
+) -> Option<(Option<Refusal>, Option<Refusal>)> {
+    let (seat, mut flusher) = failing(&rt, alloc, fails_at)?;
+    Some(told_in_rounds(rt, alloc, seat, &mut flusher))
+}
+
 /// A round takes a call and answers it also where the journal broke in the round before: 12 of the round that broke it, and
 /// 11 of the next. Then one more finds that no seat is left. A round has four calls of its device, and the first round is met
 /// by four of the runs.
@@ -231,16 +241,14 @@ fn told_in_rounds<R: Abort + Threads + Wait + Copy + Send + 'static>(
 fn a_round_of_a_broken_journal_answers(rt: HostRuntime) {
     let mut broken = 0u64;
     for fails_at in 1..100 {
-        let Some((seat, mut flusher)) = failing(&rt, rt.alloc(), fails_at) else {
-            continue;
-        };
-        match told_in_rounds(rt, rt.alloc(), seat, &mut flusher) {
-            (Some(first), second) => {
+        match told_at(rt, rt.alloc(), fails_at) {
+            None => {}
+            Some((Some(first), second)) => {
                 expect!(rt; first == Refusal::Unsure);
                 expect!(rt; second == Some(Refusal::Broken));
                 broken = broken.saturating_add(1);
             }
-            (None, _) => {
+            Some((None, _)) => {
                 expect!(rt; broken == 4);
                 return;
             }
