@@ -1,6 +1,3 @@
 pub mod Gates
-pub mod FileDisk
-pub mod Formatting
-pub mod NewKey
-pub mod Planning
+pub mod CountedDisk
 pub mod Program

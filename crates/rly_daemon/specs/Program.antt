@@ -1,11 +1,9 @@
 -- What a run of the program leaves, by what its command line asks (docs/COMMANDS.md).
 use Rattle.std.specs.Prelude.{◌≡◌, ◌⊎◌, ℕ, ◌+◌, ◌≤◌, ◌==◌, MatchBool, List, [], ◌∷◌, ◌++◌, length, IfSome}
-use Rattle.std.specs.Prelude.{max, min, Bool, Option, false, true, codes}
+use Rattle.std.specs.Prelude.{Option, false, codes}
 use Rattle.std.specs.Fmt.{decimal}
 use Rattle.std.specs.Io.KnownBytes.{Appends}
-use Rattle.rly_audit.specs.Report.{balances, books_of, report_of}
 use Rattle.rly_core.specs.Limits.{IsWithinLimits}
-use Rattle.rly_core.specs.declared.params.Geometry.{Geometry}
 use Rattle.rly_flush.specs.Flushing.{FlusherState, IsServed, new_flusher}
 use Rattle.rly_line.specs.Replies.{ReplyId}
 use Rattle.rly_line.specs.Seats.{Caller}
@@ -13,59 +11,35 @@ use Rattle.rly_line.specs.Submission.{LineId}
 use Rattle.rly_plan.specs.ContactPlan.{ContactPlan}
 use Rattle.rly_threads.specs.Relay.{new_end}
 use Rattle.rly_journal.specs.Journal.{JournalState}
-use Rattle.rly_machine.specs.State.{State, new_state}
+use Rattle.rly_machine.specs.State.{new_state}
 use Rattle.rly_reporter.specs.declared.reporter.ReporterEnd.{ReporterEnd}
 use Rattle.rly_reporter.specs.declared.reporter.ReporterEnd.TheVariants.{Closed, Paced}
 use Rattle.rly_segment.specs.Device.{IsLayout, device_length}
 use Rattle.rly_settings.specs.declared.given.Settings.{Settings}
 use Rattle.rly_settings.specs.declared.given.Settings.TheVariants.{Sim, Format, Play, Audit, Serve, Key, Plan}
-use Rattle.rly_daemon.specs.FileDisk.{file_state}
-use Rattle.rly_daemon.specs.Formatting.{HasMade, wanted_geometry}
-use Rattle.rly_daemon.specs.NewKey.{HasKey}
-use Rattle.rly_daemon.specs.Planning.{HasTold}
+use Rattle.rly_commands.specs.Commands.{HasFormatted, HasPlayed, HasReport}
+use Rattle.rly_commands.specs.FileDisk.{file_state}
+use Rattle.rly_commands.specs.Formatting.{wanted_geometry}
+use Rattle.rly_commands.specs.NewKey.{HasKey}
+use Rattle.rly_commands.specs.Planning.{HasTold}
+use Rattle.rly_daemon.specs.CountedDisk.{counted_state}
+use Rattle.rly_disk.specs.DiskModel.{DiskState}
 use Rattle.rly_serve.specs.Reporting.{HasReports}
 use Rattle.rly_serve.specs.Serving.{HasRoom}
 use Rattle.rly_station.specs.Duties.{workers_of}
-use Rattle.rly_text.specs.Playing.{PlaysAll}
 use Rattle.rly_text.specs.Text.{text_for}
-use Rattle.rly_daemon.specs.declared.file_disk.FileDisk.{FileDisk}
-
--- the line that says how many bytes a new device takes
-abbrev pub size_line : ℕ → List ℕ
-size_line size = codes "formatted " ++ decimal size ++ 10 ∷ []
+use Rattle.rly_commands.specs.declared.file_disk.FileDisk.{FileDisk}
+use Rattle.rly_daemon.specs.declared.counted_disk.CountedDisk.{CountedDisk}
 
 -- the line that says what ended it
 abbrev pub ended_line : ℕ → List ℕ
 ended_line turns = codes "rly: ended after " ++ decimal turns ++ codes " turns" ++ 10 ∷ []
 
--- how many lines a round has: 1 to 64
-abbrev pub lines_a_round : ℕ → ℕ
-lines_a_round batch = max 1 (min batch 64)
-
--- the report on a state in which the books balance was written
-pub record HasReport (old new : Option (List ℕ)) : Type 0 where
-  pub state : State (List ℕ)
-  pub balance : balances (books_of state) ≡ true
-  pub written : Appends old new (report_of state)
-
--- a journal was opened whole, all lines were played on it, and it is whole after them
-pub record HasPlayed (batch : ℕ) (left old new : Option (List ℕ)) : Type 0 where
-  pub opened : JournalState FileDisk
-  pub behind : JournalState FileDisk
-  pub whole : opened.broken ≡ false
-  pub goes : behind.broken ≡ false
-  pub played : PlaysAll (lines_a_round batch) file_state opened behind left old new
-
--- a new device was made, and its size told
-pub record HasFormatted (geometry : Geometry) (force : Bool) (old new : Option (List ℕ)) : Type 0 where
-  pub made : HasMade geometry force
-  pub written : Appends old new (size_line (device_length geometry))
-
 -- A plan was served on a device that was opened whole, until its workers had their turns, and the journal is whole
 -- after all rounds. Its line had a seat for each worker, and as many for others. What ended it was told.
-pub record HasServedAt (turns others : ℕ) (new : Option (List ℕ)) (plan : ContactPlan) (left : FlusherState FileDisk)
-    : Type 0 where
-  pub opened : JournalState FileDisk
+pub record HasServedAt {D : Type 0} (state : D → DiskState) (turns others : ℕ) (new : Option (List ℕ))
+    (plan : ContactPlan) (left : FlusherState D) : Type 0 where
+  pub opened : JournalState D
   pub room : HasRoom plan opened.state.params
   pub ends : 1 ≤ turns
   pub begun : opened.broken ≡ false
@@ -73,19 +47,19 @@ pub record HasServedAt (turns others : ℕ) (new : Option (List ℕ)) (plan : Co
   pub line : LineId
   pub names : List (Option ReplyId)
   pub seats : length names ≡ length (workers_of plan) + others
-  pub served : IsServed file_state (new_flusher opened (new_end line names)) left
+  pub served : IsServed state (new_flusher opened (new_end line names)) left
   pub begins : Option (List ℕ)
   pub told : Appends begins new (ended_line turns)
 
 abbrev pub HasServed : ℕ → Option (List ℕ) → Type 0
-HasServed turns new = (plan : ContactPlan) × (left : FlusherState FileDisk) × HasServedAt turns 0 new plan left
+HasServed turns new = (plan : ContactPlan) × (left : FlusherState FileDisk) × HasServedAt file_state turns 0 new plan left
 
 -- The same, with reports: all that was written is a report at each moment that was due, of what was answered at a seat
--- beside those of the workers, in the one history of the device.
+-- beside those of the workers, in the one history of the device, whose gates were counted.
 pub record HasServedReporting (turns : ℕ) (old new told : Option (List ℕ)) : Type 0 where
   pub plan : ContactPlan
-  pub left : FlusherState FileDisk
-  pub served : HasServedAt turns 1 told plan left
+  pub left : FlusherState (CountedDisk FileDisk)
+  pub served : HasServedAt (counted_state file_state) turns 1 told plan left
   pub seat : Caller
   pub end : ReporterEnd
   pub all : (end ≡ Paced) ⊎ (end ≡ Closed)

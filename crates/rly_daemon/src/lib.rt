@@ -1,23 +1,18 @@
-//! The program `rly` as a library: its commands, and the file that a device is.
+//! The program `rly` as a library: its command line, and the relay that it serves.
 //!
 //! `run` is the whole program up to its status; `specs/Program.antt` says what a command leaves
-//! that ended well. The calls of `rly_text`, `rly_settings`, `rly_station` and `rly_serve` are
-//! handed on. This is the edge: only the program and tests call it.
+//! that ended well. The calls of `rly_commands`, `rly_text`, `rly_settings`, `rly_station` and
+//! `rly_serve` are handed on. This is the edge: only the program and tests call it.
 #![tactic(auto)]
 
-mod command_fault;
-mod file_disk;
-mod formatting;
+mod counted_disk;
 mod gate_tally;
-mod geometry;
-mod new_key;
-mod planning;
 mod program;
+mod serving;
 
-pub use crate::file_disk::FileDisk;
-pub use crate::formatting::{UseFault, unused};
-pub use crate::new_key::{NewKeyFault, write_key};
+pub use crate::counted_disk::CountedDisk;
 pub use crate::program::{Host, run};
+pub use rly_commands::{FileDisk, NewKeyFault, UseFault, unused, write_key};
 pub use rly_serve::{Reports, UdpRelayed, UdpReported, WallPace, serve, serve_reporting};
 pub use rly_settings::{Settings, SettingsFault, settings};
 pub use rly_station::{

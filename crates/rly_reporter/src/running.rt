@@ -54,6 +54,32 @@ pub struct Reported<D: Disk, L: Link, T: Turn, P: Pace, C: Counters> {
     pub had_thread: bool,
 }
 
+impl<D: Disk + Drop, L: Link + Drop, T: Turn + Drop, P: Pace + Drop, C: Counters + Drop> Reported<
+    D,
+    L,
+    T,
+    P,
+    C,
+> {
+    /// Why the reporter ended.
+    pub fn into_end(self) -> ReporterEnd
+        ensures { result ≡ self.watched.end }
+    {
+        let Reported {
+            relayed: _relayed,
+            watched,
+            had_thread: _had_thread,
+        } = self;
+        let Watched {
+            pace: _pace,
+            counters: _counters,
+            seat: _seat,
+            end,
+        } = watched;
+        end
+    }
+}
+
 /// As `run_relay`, with a reporter that has the last seat of its line and a thread of its own. The relay ends once the reporter has
 /// left its seat as well, unless the journal broke. The word is said once the workers are to end or the relay has ended: a pace
 /// that sees it should end. Where there is no thread for the reporter the relay runs without it.

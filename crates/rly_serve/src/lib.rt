@@ -5,12 +5,10 @@
 //! `rly_daemon`, whose disk is a file.
 #![tactic(auto)]
 
-mod live;
 mod reporting;
 mod serving;
 mod wall_pace;
 
-pub use crate::live::live_items;
 pub use crate::reporting::{Reports, UdpReported, serve_reporting};
 pub use crate::serving::{UdpRelayed, serve};
 pub use crate::wall_pace::WallPace;

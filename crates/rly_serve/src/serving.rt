@@ -14,7 +14,7 @@ ghost use Rattle.rly_station.specs.declared.file_fault.Cause.TheVariants as caus
 ghost use Rattle.rly_station.specs.declared.serve_fault.ServeFault.TheVariants as fault;
 ghost use Rattle.rly_threads.specs.Relay.{new_end};
 
-use crate::live::live_items;
+use rly_audit::live_items;
 use rly_core::{Params, Refusal};
 use rly_disk::Disk;
 use rly_hop::longest_message;

@@ -53,8 +53,13 @@ pub struct FileFault {
 }
 
 impl FileFault {
+    ghost use Rattle.std.specs.Prelude.{◌≡◌};
+    ghost use Rattle.rly_station.specs.declared.file_fault.FilePart.TheVariants.{Lock};
+
     /// A file that another program has, or that can't be locked.
-    pub fn of_lock(error: io::Error) -> FileFault {
+    pub fn of_lock(error: io::Error) -> FileFault
+        ensures { result ≡ record { part = Lock; word = record { 0 = error } } }
+    {
         FileFault {
             part: FilePart::Lock,
             word: SystemWord(error),
@@ -67,7 +72,7 @@ impl From<io::Error> for FileFault {
     ghost use Rattle.std.specs.IoError.{error_kind};
     ghost use Rattle.rly_station.specs.Faults.{part_of};
 
-    ghost from_gives = { λ error fault. fault.part ≡ part_of (error_kind error) };
+    ghost from_gives = { λ error fault. fault ≡ record { part = part_of (error_kind error); word = record { 0 = error } } };
 
     fn from(error: io::Error) -> FileFault {
         FileFault {
@@ -101,13 +106,16 @@ pub enum Cause {
 }
 
 impl Cause {
-    ghost use Rattle.std.specs.Prelude.{◌≡◌};
-    ghost use Rattle.rly_core.specs.declared.refusal.Refusal.TheVariants.{BadGeometry};
-    ghost use Rattle.rly_station.specs.declared.file_fault.Cause.TheVariants.{Header};
+    ghost use Rattle.std.specs.Prelude.{◌≡◌, ◌≢◌, ◌⊎◌, IfSome, None};
+    ghost use Rattle.rly_core.specs.declared.refusal.Refusal.TheVariants.{BadGeometry, Broken, Device};
+    ghost use Rattle.rly_station.specs.declared.file_fault.Cause.TheVariants.{Header, System, Told};
 
     /// What was refused where a device was opened, or where a call of it failed: `fault` is the first of its calls that did.
     pub fn of_device(refusal: Refusal, fault: Option<FileFault>) -> Cause
-        ensures { refusal ≡ BadGeometry → result ≡ Header }
+        ensures header { refusal ≡ BadGeometry → result ≡ Header }
+        ensures system { (refusal ≡ Device) ⊎ (refusal ≡ Broken) → IfSome fault (λ first. result ≡ System first) }
+        ensures no_fault { refusal ≢ BadGeometry → fault ≡ None → result ≡ Told }
+        ensures other { refusal ≢ BadGeometry → refusal ≢ Device → refusal ≢ Broken → result ≡ Told }
     {
         match (refusal, fault) {
             (Refusal::BadGeometry, _) => Cause::Header,

@@ -1,0 +1,11 @@
+use Rattle.std.proofs.Common.{[], rules}
+use Rattle.rly_commands.specs.FileDisk.{file_state}
+use Rattle.rly_disk.specs.Trace.{Sync}
+use Rattle.rly_disk.proofs.Traces.{sync_makes, not_counted}
+use Rattle.rly_commands.proofs.file_disk.FileDiskDisk.sync.Goals as goal
+
+pub returns-then-is_spent : goal.returns-then-is_spent
+returns-then-is_spent c = record { trace = not_counted file_state Sync [] (c.is_spent.ensures.0 c.if-is_spent.true) }
+
+pub returns : goal.returns
+returns c = record { trace = sync_makes file_state c.map_err.result (search rules) (search rules) (search rules) (λ honest. absurd honest) (λ honest. absurd honest) (λ honest. absurd honest) }

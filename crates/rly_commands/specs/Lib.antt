@@ -1,0 +1,5 @@
+pub mod FileDisk
+pub mod Formatting
+pub mod NewKey
+pub mod Planning
+pub mod Commands

@@ -1,0 +1,191 @@
+//! The commands that make, play and audit a device in a file, and the one that needs none.
+
+ghost use Rattle.std.specs.Prelude.{◌≡◌, ◌↔◌, Err, IfErr, IfOk, IfSome, IsErr, OnOk, false};
+ghost use Rattle.std.specs.Io.KnownBytes.{Appends, Keeps};
+ghost use Rattle.rly_core.specs.Limits.{IsWithinLimits};
+ghost use Rattle.rly_core.specs.declared.refusal.Refusal.{Refusal as ARefusal};
+ghost use Rattle.rly_machine.specs.State.{new_state};
+ghost use Rattle.rly_standing.specs.Faults.{opening_refusal};
+ghost use Rattle.rly_standing.specs.declared.open_fault.OpenFault.{OpenFault};
+ghost use Rattle.rly_segment.specs.Device.{IsLayout, device_length};
+ghost use Rattle.rly_commands.specs.Commands.{HasFormatted, HasPlayed, HasReport, size_line};
+ghost use Rattle.rly_commands.specs.FileDisk.{file_state};
+ghost use Rattle.rly_commands.specs.Formatting.{FindsNoneLive, HasMade, wanted_geometry};
+ghost use Rattle.rly_station.specs.declared.file_fault.Cause.{Cause as ACause};
+ghost use Rattle.rly_text.specs.Text.{text_for};
+
+use crate::command_fault::CommandFault;
+use crate::file_disk::FileDisk;
+use crate::formatting::{UseFault, unused};
+use crate::geometry::{device_size, geometry_of};
+use rly_audit::{AuditFault, audit};
+use rly_core::{Geometry, Params, Refusal};
+use rly_journal::Journal;
+use rly_segment::{FormatFault, format};
+use rly_station::Cause;
+use rly_text::{TextFault, play, sim};
+use std::alloc::Global;
+use std::fs::{File, Files};
+use std::io::{Read, Write};
+
+/// The most lines of a round.
+const MAX_BATCH: u64 = 64;
+
+/// Runs `sim`. Values out of their limits are refused before anything is read.
+pub fn run_sim<R: Read, W: Write>(
+    alloc: Global,
+    params: Params,
+    reader: &mut R,
+    writer: &mut W,
+) -> Result<(), CommandFault>
+    ensures limits { OnOk result (IsWithinLimits params) }
+    ensures written { OnOk result (IfSome (R.remaining reader.old) (λ input.
+        Appends (W.contents writer.old) (W.contents writer.new) (text_for (new_state params) input))) }
+    ensures refused { ¬ IsWithinLimits params → (result ≡ Err (CommandFault.Refused Refusal.BadGeometry Cause.Options))
+        × (reader.new ≡ reader.old) × (writer.new ≡ writer.old) }
+{
+    if let Err(refusal) = params.check() {
+        return Err(CommandFault::Refused(refusal, Cause::Options));
+    }
+    sim(alloc, params, reader, writer)?;
+    Ok(())
+}
+
+/// Makes a new device in a file, and prints how many bytes it takes. Values out of their limits are refused before any file is
+/// touched. Without `force` a device on which datagrams live stays as it is.
+pub fn run_format<H: AllocGlobal + Files<File = File>, W: Write>(
+    rt: &H,
+    file: &str,
+    params: Params,
+    segments: u64,
+    length: Option<u64>,
+    force: bool,
+    writer: &mut W,
+) -> Result<(), CommandFault>
+    ensures formatted { OnOk result (HasFormatted (wanted_geometry params segments length) force (W.contents writer.old) (W.contents writer.new)) }
+    ensures refused { ¬ IsLayout (wanted_geometry params segments length) (device_length (wanted_geometry params segments length))
+        → (result ≡ Err (CommandFault.Refused Refusal.BadGeometry Cause.Options)) × (writer.new ≡ writer.old) }
+{
+    let geometry = wanted(params, segments, length)?;
+    let size = format_file(rt, file, &geometry, force)?;
+    print_size(size, writer)?;
+    Ok(())
+}
+
+/// The geometry that is asked for. Values out of their limits are refused before any file is touched.
+fn wanted(params: Params, segments: u64, length: Option<u64>) -> Result<Geometry, CommandFault>
+    ensures geometry { IfOk result (λ geometry. (geometry ≡ wanted_geometry params segments length) × IsLayout geometry (device_length geometry)) }
+    ensures refused { IfErr result (λ fault. fault ≡ CommandFault.Refused Refusal.BadGeometry Cause.Options) }
+    ensures limits { IsErr result ↔ ¬ IsLayout (wanted_geometry params segments length) (device_length (wanted_geometry params segments length)) }
+{
+    match geometry_of(params, segments, length) {
+        Ok(geometry) => Ok(geometry),
+        Err(refusal) => Err(CommandFault::Refused(refusal, Cause::Options)),
+    }
+}
+
+/// Makes a new device in a file, and answers how many bytes it takes.
+fn format_file<H: AllocGlobal + Files<File = File>>(
+    rt: &H,
+    file: &str,
+    geometry: &Geometry,
+    force: bool,
+) -> Result<u64, CommandFault>
+    requires { IsLayout geometry.now (device_length geometry.now) }
+    ensures size { IfOk result (λ size. size ≡ device_length geometry.now) }
+    ensures made { OnOk result (HasMade geometry.now force) }
+{
+    let size = device_size(geometry);
+    let disk = FileDisk::make(rt, file)?;
+    let mut disk = free_disk(rt.alloc(), disk, force)?;
+    disk.extend(size)?;
+    match format(rt.alloc(), &mut disk, geometry) {
+        Ok(()) => Ok(size),
+        Err(FormatFault::OutOfMemory) => Err(refused(Refusal::OutOfMemory, &disk)),
+        Err(FormatFault::BadGeometry) => Err(refused(Refusal::BadGeometry, &disk)),
+        Err(FormatFault::Device) => Err(refused(Refusal::Device, &disk)),
+    }
+}
+
+/// A disk on which no datagram lives, or any where that is forced.
+fn free_disk(alloc: Global, disk: FileDisk, force: bool) -> Result<FileDisk, CommandFault>
+    ensures looked { IfOk result (λ left. force ≡ false → FindsNoneLive file_state disk left) }
+{
+    if force {
+        return Ok(disk);
+    }
+    match unused(alloc, disk) {
+        Ok(disk) => Ok(disk),
+        Err((UseFault::Live(count), _disk)) => Err(CommandFault::Live(count)),
+        Err((UseFault::Refused(refusal), disk)) => Err(refused(refusal, &disk)),
+    }
+}
+
+/// Prints how many bytes a new device takes.
+fn print_size<W: Write>(size: u64, writer: &mut W) -> Result<(), TextFault>
+    ensures { OnOk result (Appends (W.contents writer.old) (W.contents writer.new) (size_line size)) }
+{
+    writeln!(writer, "formatted {size}").map_err(|_| TextFault::Output)?;
+    writer.flush().map_err(|_| TextFault::Output)
+}
+
+/// Runs `play` on the device in a file, `batch` lines a round. Where the journal breaks, the lines that are left are answered, and
+/// then the answer is an error.
+pub fn run_play<H: AllocGlobal + Files<File = File>, R: Read, W: Write>(
+    rt: &H,
+    file: &str,
+    batch: u64,
+    reader: &mut R,
+    writer: &mut W,
+) -> Result<(), CommandFault>
+    ensures played { OnOk result (HasPlayed batch (R.remaining reader.old) (W.contents writer.old) (W.contents writer.new)) }
+{
+    let disk = FileDisk::open(rt, file)?;
+    let mut journal = open_journal(rt.alloc(), disk)?;
+    // The command line was refused for any other number.
+    let batch = batch.clamp(1, MAX_BATCH);
+    play(rt.alloc(), reader, writer, &mut journal, batch)?;
+    if journal.is_broken() {
+        return Err(refused(Refusal::Broken, &journal.into_disk()));
+    }
+    Ok(())
+}
+
+/// Writes the report on the device in a file, which is only read.
+pub fn run_audit<H: AllocGlobal + Files<File = File>, W: Write>(
+    rt: &H,
+    file: &str,
+    writer: &mut W,
+) -> Result<(), CommandFault>
+    ensures reported { OnOk result (HasReport (W.contents writer.old) (W.contents writer.new)) }
+    ensures silent { IfErr result (λ fault. (refusal : ARefusal) (cause : ACause)
+        → fault ≡ CommandFault.Refused refusal cause → Keeps (W.contents writer.old) (W.contents writer.new)) }
+{
+    let disk = FileDisk::open(rt, file)?;
+    match audit(rt.alloc(), disk, writer) {
+        Ok(_disk) => {
+            writer.flush().map_err(|_| TextFault::Output)?;
+            Ok(())
+        }
+        Err((AuditFault::Refused(refusal), disk)) => Err(refused(refusal, &disk)),
+        Err((AuditFault::Output, _disk)) => Err(CommandFault::Text(TextFault::Output)),
+    }
+}
+
+/// Opens the journal on a device.
+pub fn open_journal(alloc: Global, disk: FileDisk) -> Result<Journal<FileDisk>, CommandFault>
+    ensures whole { IfOk result (λ journal. journal.broken ≡ false) }
+    ensures refusal { IfErr result (λ told. (fault : OpenFault) × (cause : ACause) × (told ≡ CommandFault.Refused (opening_refusal fault) cause)) }
+{
+    match Journal::open(alloc, disk) {
+        Ok(journal) => Ok(journal),
+        Err((fault, disk)) => Err(refused(Refusal::from(fault), &disk)),
+    }
+}
+
+/// A refusal of a device, with what the system said of the first call that failed.
+pub fn refused(refusal: Refusal, disk: &FileDisk) -> CommandFault
+    ensures { (cause : ACause) × (result ≡ CommandFault.Refused refusal cause) }
+{
+    CommandFault::Refused(refusal, Cause::of_device(refusal, disk.fault()))
+}

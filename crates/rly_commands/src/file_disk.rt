@@ -1,0 +1,197 @@
+ghost use Rattle.std.specs.Prelude.{◌≡◌, ◌≤◌, IfOk, OnOk};
+ghost use Rattle.rly_commands.specs.FileDisk.{file_state};
+
+use rly_disk::{Counts, Disk, DiskFault};
+use rly_station::{FileFault, SystemWord};
+use std::fs::{File, Files, OpenOptions, TryLockError};
+use std::io;
+use std::io::{ErrorKind, Seek, SeekFrom};
+use std::os::fd::AsRawFd;
+use std::os::unix::fs::FileExt;
+
+/// A device in a file, which is locked against all other processes while it is open. It is a block
+/// device's file as well.
+///
+/// Of a real file nothing can be proved, so this disk is never honest: it promises its size, its
+/// ranges and its counts. What the disk model says of bytes and of crashes holds of it as far as the
+/// system keeps what `pread`, `pwrite` and `fdatasync` promise.
+#[derive(Debug, Drop)]
+pub struct FileDisk {
+    file: File,
+    size: u64,
+    counts: Counts,
+    /// What the system said of the first call that failed.
+    word: Option<SystemWord>,
+}
+
+impl FileDisk {
+    /// Opens the device in a file. What an earlier process wrote is made durable first, or the answer is an error; and what
+    /// is read from then on is what the disk has, not what the system kept in memory.
+    pub fn open<H: Files<File = File>>(files: &H, path: &str) -> Result<FileDisk, FileFault>
+        ensures calls { IfOk result (λ disk. (file_state disk).calls ≡ 0) }
+    {
+        settled(OpenOptions::new().read(true).write(true).open(files, path)?)
+    }
+
+    /// The same, and makes the file where there is none.
+    pub fn make<H: Files<File = File>>(files: &H, path: &str) -> Result<FileDisk, FileFault>
+        ensures calls { IfOk result (λ disk. (file_state disk).calls ≡ 0) }
+    {
+        let opened = OpenOptions::new().read(true).write(true).open(files, path);
+        match opened {
+            Ok(file) => settled(file),
+            Err(error) if error.kind() == ErrorKind::NotFound => created(files, path),
+            Err(error) => Err(FileFault::from(error)),
+        }
+    }
+
+    /// Makes the file as long as a device needs, durably, if it is shorter.
+    pub fn extend(&mut self, size: u64) -> Result<(), FileFault>
+        ensures size { OnOk result (size ≤ (file_state self.new).size) }
+        ensures same { self.new ≡ record self.old { size = self.new.size } }
+    {
+        if self.size < size {
+            self.file.set_len(size)?;
+            self.file.sync_all()?;
+            self.size = size;
+        }
+        Ok(())
+    }
+
+    /// What the system said of the first of its calls that failed.
+    pub fn fault(&self) -> Option<FileFault> {
+        Some(FileFault::from(self.word?.0))
+    }
+
+    /// Keeps what the system says of the first call that fails.
+    fn note<T>(&mut self, outcome: &io::Result<T>)
+        ensures { self.new ≡ record self.old { word = self.new.word } }
+    {
+        if let (None, Err(error)) = (&self.word, outcome) {
+            self.word = Some(SystemWord(*error));
+        }
+    }
+}
+
+/// Makes a file, so that it is there after a crash.
+fn created<H: Files<File = File>>(files: &H, path: &str) -> Result<FileDisk, FileFault>
+    ensures calls { IfOk result (λ disk. (file_state disk).calls ≡ 0) }
+{
+    let file = OpenOptions::new()
+        .read(true)
+        .write(true)
+        .create(true)
+        .open(files, path)?;
+    let disk = settled(file)?;
+    File::open(files, folder_of(path))?.sync_all()?;
+    Ok(disk)
+}
+
+/// The folder that a path's file is in.
+fn folder_of(path: &str) -> &str {
+    match path.rsplit_once('/') {
+        None => ".",
+        Some(("", _)) => "/",
+        Some((folder, _)) => folder,
+    }
+}
+
+/// Locks an open file, makes its bytes durable, has the system forget what it keeps of them in memory, and finds its size. After
+/// a sync that failed the system may show bytes that the disk doesn't have, and a later sync may succeed over them.
+fn settled(file: File) -> Result<FileDisk, FileFault>
+    ensures calls { IfOk result (λ disk. (file_state disk).calls ≡ 0) }
+{
+    // Where a standard stream is closed, the file was opened under its number, and what is meant for that stream would go into
+    // the device. A clone never has such a number.
+    let mut file = file.try_clone()?;
+    lock(&file)?;
+    file.sync_all()?;
+    forget(&file)?;
+    let size = file.seek(SeekFrom::End(0))?;
+    Ok(FileDisk {
+        file,
+        size,
+        counts: Counts::new(),
+        word: None,
+    })
+}
+
+/// Locks a file against all other programs.
+fn lock(file: &File) -> Result<(), FileFault> {
+    match file.try_lock() {
+        Ok(()) => Ok(()),
+        Err(TryLockError::WouldBlock) => {
+            let held = io::Error::new(ErrorKind::WouldBlock, "another program has it");
+            Err(FileFault::of_lock(held))
+        }
+        Err(TryLockError::Error(error)) => Err(FileFault::of_lock(error)),
+    }
+}
+
+/// Has the system forget what it keeps of a file in memory, once that is durable.
+fn forget(file: &File) -> io::Result<()> {
+    match libc::posix_fadvise(file.as_raw_fd(), 0, 0, libc::POSIX_FADV_DONTNEED) {
+        0 => Ok(()),
+        error => Err(io::Error::from_raw_os_error(error)),
+    }
+}
+
+impl Disk for FileDisk {
+    ghost use Rattle.rly_commands.specs.FileDisk.{file_calls_lead, file_consistent, file_state};
+
+    ghost state = { file_state };
+
+    ghost consistent = { λ disk honest. file_consistent disk honest };
+
+    ghost calls_lead = { λ disk. file_calls_lead disk };
+
+    fn size(&self) -> u64 {
+        self.size
+    }
+
+    fn read_at(&mut self, place: u64, buffer: &mut [u8]) -> Result<(), DiskFault> {
+        if self.counts.is_spent() {
+            return Err(DiskFault);
+        }
+        let outcome = self.file.read_exact_at(buffer, place);
+        self.note(&outcome);
+        self.counts.count_read(outcome.is_err());
+        outcome.map_err(|_| DiskFault)
+    }
+
+    fn write_at(&mut self, place: u64, bytes: &[u8]) -> Result<(), DiskFault> {
+        if self.counts.is_spent() {
+            return Err(DiskFault);
+        }
+        let outcome = self.file.write_all_at(bytes, place);
+        self.note(&outcome);
+        self.counts.count_write(outcome.is_err());
+        outcome.map_err(|_| DiskFault)
+    }
+
+    fn sync(&mut self) -> Result<(), DiskFault> {
+        if self.counts.is_spent() {
+            return Err(DiskFault);
+        }
+        let outcome = self.file.sync_data();
+        self.note(&outcome);
+        self.counts.count_sync(outcome.is_err());
+        outcome.map_err(|_| DiskFault)
+    }
+
+    fn failures(&self) -> u64 {
+        self.counts.failures
+    }
+
+    fn calls(&self) -> u64 {
+        self.counts.calls
+    }
+
+    fn syncs(&self) -> u64 {
+        self.counts.syncs
+    }
+
+    fn failed_reads(&self) -> u64 {
+        self.counts.failed_reads
+    }
+}

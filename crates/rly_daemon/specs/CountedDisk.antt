@@ -1,0 +1,6 @@
+-- What contracts see of a disk whose gates are counted: that of the disk in it.
+use Rattle.rly_disk.specs.DiskModel.{DiskState}
+use Rattle.rly_daemon.specs.declared.counted_disk.CountedDisk.{CountedDisk}
+
+abbrev pub counted_state : {D : Type 0} → (D → DiskState) → CountedDisk D → DiskState
+counted_state state disk = state disk.inner

@@ -1,0 +1,178 @@
+//! `rly serve`: the relay of a plan on the device in a file, with reports or without.
+
+ghost use Rattle.std.specs.Prelude.{◌≡◌, ◌⊎◌, IfOk, OnOk, false};
+ghost use Rattle.std.specs.Io.KnownBytes.{Appends};
+ghost use Rattle.rly_plan.specs.Sound.{IsSoundPlan};
+ghost use Rattle.rly_daemon.specs.Program.{HasServed, HasServedReporting, HasServedWith, ended_line};
+
+use crate::counted_disk::CountedDisk;
+use crate::gate_tally::GateTally;
+use crate::program::Host;
+use rly_commands::{CommandFault, FileDisk, open_journal, refused};
+use rly_core::Refusal;
+use rly_disk::Disk;
+use rly_journal::Journal;
+use rly_plan::Plan;
+use rly_reporter::{ReporterEnd, Tally};
+use rly_segment::read_header;
+use rly_serve::{Reports, serve, serve_reporting};
+use rly_station::{ServeFault, read_keys, read_plan};
+use rly_text::TextFault;
+use std::alloc::{AllocError, Global};
+use std::fs::{File, Files};
+use std::io::Write;
+use std::sync::{Arc, OnceLock};
+
+/// Runs the relay of a plan, with a report at once and whenever so many seconds have passed, or without reports where they are 0.
+/// The plan and its keys are read before the file is touched.
+pub(crate) fn run_serving<H: Host, W: Write + Send, E: Write>(
+    rt: &H,
+    file: &str,
+    path: &str,
+    turns: u64,
+    seconds: u64,
+    writer: &mut W,
+    errors: &mut E,
+) -> Result<(), CommandFault>
+    ensures served { OnOk result (HasServedWith turns seconds (W.contents writer.old) (W.contents writer.new) (E.contents errors.new)) }
+{
+    let plan = read_plan(rt, path)?;
+    if seconds == 0 {
+        serve_plan(rt, file, path, &plan, turns, errors)
+    } else {
+        report_plan(rt, file, path, &plan, turns, seconds, writer, errors)
+    }
+}
+
+/// Runs the relay of a plan on the device in a file.
+fn serve_plan<H: Host, E: Write>(
+    rt: &H,
+    file: &str,
+    path: &str,
+    plan: &Plan,
+    turns: u64,
+    errors: &mut E,
+) -> Result<(), CommandFault>
+    requires { IsSoundPlan plan.now }
+    ensures served { OnOk result (HasServed turns (E.contents errors.new)) }
+{
+    let keys = read_keys(rt, plan, path)?;
+    let (journal, size) = open_file(rt, file)?;
+    match serve(rt, journal, plan, keys, turns, size, errors) {
+        Ok(_relayed) => tell_end(turns, errors),
+        Err(failed) => Err(fault_of(failed)),
+    }
+}
+
+/// The same, with a report at once and whenever so many seconds have passed.
+fn report_plan<H: Host, W: Write + Send, E: Write>(
+    rt: &H,
+    file: &str,
+    path: &str,
+    plan: &Plan,
+    turns: u64,
+    seconds: u64,
+    writer: &mut W,
+    errors: &mut E,
+) -> Result<(), CommandFault>
+    requires { IsSoundPlan plan.now }
+    ensures served { OnOk result (HasServedReporting turns (W.contents writer.old) (W.contents writer.new) (E.contents errors.new)) }
+{
+    let keys = read_keys(rt, plan, path)?;
+    let tally = tally_of(rt.alloc(), plan)?;
+    let (journal, size) = open_counted(rt, file, &tally)?;
+    let word = OnceLock::new();
+    let reports = Reports {
+        seconds,
+        tally,
+        word: &word,
+    };
+    match serve_reporting(
+        rt, journal, plan, keys, turns, size, reports, writer, errors,
+    ) {
+        Ok(reported) => reports_ended(turns, reported.into_end(), errors),
+        Err((fault, disk)) => Err(fault_of((fault, disk.into_inner()))),
+    }
+}
+
+/// What a relay's fault is told as. Where its journal broke, that is what the system said of its device.
+fn fault_of(failed: (ServeFault, FileDisk)) -> CommandFault {
+    let (fault, disk) = failed;
+    match fault {
+        ServeFault::Refused(Refusal::Broken, _) => refused(Refusal::Broken, &disk),
+        fault => CommandFault::Serve(fault),
+    }
+}
+
+/// Says what ended a relay that reports. It ended as it should where the reports' writer didn't fail.
+fn reports_ended<E: Write>(turns: u64, end: ReporterEnd, errors: &mut E) -> Result<(), CommandFault>
+    ensures told { OnOk result (Appends (E.contents errors.old) (E.contents errors.new) (ended_line turns)) }
+    ensures end { OnOk result ((end ≡ ReporterEnd.Paced) ⊎ (end ≡ ReporterEnd.Closed)) }
+{
+    tell_end(turns, errors)?;
+    match end {
+        ReporterEnd::Output => Err(CommandFault::Text(TextFault::Output)),
+        ReporterEnd::Paced | ReporterEnd::Closed => Ok(()),
+    }
+}
+
+/// Where the workers of a plan count.
+fn tally_of(alloc: Global, plan: &Plan) -> Result<Arc<Tally, Global>, ServeFault> {
+    let tally = Tally::new(alloc, plan)?;
+    match Arc::new(alloc, tally) {
+        Ok(tally) => Ok(tally),
+        Err(_) => Err(AllocError.into()),
+    }
+}
+
+/// The same disk, whose gates are counted where it has a header.
+fn watched(
+    disk: FileDisk,
+    tally: &Arc<Tally, Global>,
+) -> Result<CountedDisk<FileDisk>, ServeFault> {
+    let mut disk = disk;
+    let Ok(geometry) = read_header(&mut disk) else {
+        return Ok(CountedDisk::new(disk, None));
+    };
+    let tally = Arc::try_clone(tally)?;
+    let gates = GateTally::new(&geometry, tally);
+    Ok(CountedDisk::new(disk, Some(gates)))
+}
+
+/// Says what ended a relay.
+fn tell_end<E: Write>(turns: u64, errors: &mut E) -> Result<(), CommandFault>
+    ensures { OnOk result (Appends (E.contents errors.old) (E.contents errors.new) (ended_line turns)) }
+{
+    let told = writeln!(errors, "rly: ended after {turns} turns");
+    told.map_err(|_| CommandFault::Serve(ServeFault::Untold))
+}
+
+/// Opens the journal on the device in a file, and says how many bytes the file has.
+fn open_file<H: AllocGlobal + Files<File = File>>(
+    rt: &H,
+    file: &str,
+) -> Result<(Journal<FileDisk>, u64), CommandFault>
+    ensures whole { IfOk result (λ opened. opened.0.broken ≡ false) }
+{
+    let disk = FileDisk::open(rt, file)?;
+    let size = disk.size();
+    let journal = open_journal(rt.alloc(), disk)?;
+    Ok((journal, size))
+}
+
+/// The same, and the gates of the device are counted.
+fn open_counted<H: AllocGlobal + Files<File = File>>(
+    rt: &H,
+    file: &str,
+    tally: &Arc<Tally, Global>,
+) -> Result<(Journal<CountedDisk<FileDisk>>, u64), CommandFault>
+    ensures whole { IfOk result (λ opened. opened.0.broken ≡ false) }
+{
+    let disk = FileDisk::open(rt, file)?;
+    let size = disk.size();
+    let disk = watched(disk, tally)?;
+    match Journal::open(rt.alloc(), disk) {
+        Ok(journal) => Ok((journal, size)),
+        Err((fault, disk)) => Err(refused(Refusal::from(fault), &disk.into_inner())),
+    }
+}
