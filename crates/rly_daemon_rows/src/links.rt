@@ -1,6 +1,5 @@
 //! A link over loopback, and the wall clock.
 
-use crate::serving::plan_with;
 use rly_core::PeerId;
 use rly_daemon::{End, Host, UdpLink, WallClock};
 use rly_plan::Plan;
@@ -12,9 +11,14 @@ use std::time::{Clock, Duration};
 
 /// A plan whose links have these addresses.
 fn plan_of(rt: &(impl Abort + AllocGlobal), listen: &str, remote: &str) -> Plan {
-    let text = plan_with(rt.alloc(), 1, 1, listen, remote)
-        .ok()
-        .expect(rt, "memory");
+    let link = format!(in rt.alloc();
+        "id = 1\nstation = 1\nlisten = '{listen}'\nremote = '{remote}'"
+    );
+    let link = link.ok().expect(rt, "memory");
+    let text = format!(in rt.alloc();
+        "station = 7\n[[peer]]\n{link}\n[[hop]]\n{link}\ncontacts = []\n"
+    );
+    let text = text.ok().expect(rt, "memory");
     Plan::from_toml(rt.alloc(), text.as_str())
         .ok()
         .expect(rt, "a plan")
@@ -44,13 +48,18 @@ fn refused_end(rt: &(impl Abort + Host), clock: HostRuntime, listen: &str, remot
     fault.end
 }
 
+/// Checks at which end the system refuses addresses.
+fn expect_refused(rt: &(impl Abort + Host), clock: HostRuntime) {
+    let there = "127.0.0.1:4029";
+    expect!(*rt; refused_end(rt, clock, "127.0.0.1:0", there) == End::Listen);
+    expect!(*rt; refused_end(rt, clock, "nowhere", there) == End::Listen);
+    expect!(*rt; refused_end(rt, clock, there, "nowhere") == End::Remote);
+}
+
 /// A link receives at a port that its neighbour can know, so at none that the system picks, and sends to an address that there is.
 #[test]
 fn a_link_has_two_addresses(rt: HostRuntime) {
-    let there = "127.0.0.1:4029";
-    expect!(rt; refused_end(&rt, rt, "127.0.0.1:0", there) == End::Listen);
-    expect!(rt; refused_end(&rt, rt, "nowhere", there) == End::Listen);
-    expect!(rt; refused_end(&rt, rt, there, "nowhere") == End::Remote);
+    expect_refused(&rt, rt);
 }
 
 /// A socket at an address.
@@ -112,12 +121,17 @@ fn expect_carried(rt: &(impl Abort + Host), link: &mut UdpLink<HostRuntime>) {
     expect!(*rt; link.failures() == 0);
 }
 
+/// Checks that of a new link.
+fn expect_carrier(rt: &(impl Abort + Host), clock: HostRuntime) {
+    let mut link = link_of(rt, clock, "127.0.0.1:4021", "127.0.0.1:4022");
+    expect_carried(rt, &mut link);
+}
+
 /// A link hears packets from any address, and sends to its neighbour's. A packet that is too long for its buffer is cut. The longest
 /// that it hears or sends has 8,231 bytes, with its tag.
 #[test]
 fn a_link_carries_packets(rt: HostRuntime) {
-    let mut link = link_of(&rt, rt, "127.0.0.1:4021", "127.0.0.1:4022");
-    expect_carried(&rt, &mut link);
+    expect_carrier(&rt, rt);
 }
 
 /// Checks that each send of a packet that UDP can't carry fails, and is counted.
@@ -168,11 +182,16 @@ fn expect_tries(rt: &(impl Abort + Host), link: &mut UdpLink<HostRuntime>) {
     expect!(*rt; link.failures() == 0);
 }
 
+/// Checks those of a new link.
+fn expect_tried_link(rt: &(impl Abort + Host), clock: HostRuntime) {
+    let mut link = link_of(rt, clock, "127.0.0.1:4025", "127.0.0.1:4026");
+    expect_tries(rt, &mut link);
+}
+
 /// A receive that doesn't wait answers at once: 200 that waited would take two seconds. One after them waits again.
 #[test]
 fn a_link_is_tried(rt: HostRuntime) {
-    let mut link = link_of(&rt, rt, "127.0.0.1:4025", "127.0.0.1:4026");
-    expect_tries(&rt, &mut link);
+    expect_tried_link(&rt, rt);
 }
 
 /// Checks that an empty packet ends a wait, and gives nothing.
@@ -193,19 +212,29 @@ fn expect_waits_ended(rt: &(impl Abort + Host), link: &mut UdpLink<HostRuntime>)
     expect!(*rt; link.failures() == 0);
 }
 
+/// Checks that of a new link.
+fn expect_woken_link(rt: &(impl Abort + Host), clock: HostRuntime) {
+    let mut link = link_of(rt, clock, "127.0.0.1:4027", "127.0.0.1:4028");
+    expect_waits_ended(rt, &mut link);
+}
+
 /// An empty packet ends a wait and isn't heard: 200 waits take two seconds.
 #[test]
 fn an_empty_packet_ends_a_wait(rt: HostRuntime) {
-    let mut link = link_of(&rt, rt, "127.0.0.1:4027", "127.0.0.1:4028");
-    expect_waits_ended(&rt, &mut link);
+    expect_woken_link(&rt, rt);
+}
+
+/// Checks it of a packet that is longer than any of UDP.
+fn expect_failures(rt: &(impl Abort + Host), clock: HostRuntime) {
+    let mut link = link_of(rt, clock, "127.0.0.1:4023", "127.0.0.1:4024");
+    let packet = Vec::from_elem(rt.alloc(), 0u8, 65_536).expect(rt, "memory");
+    expect_counted(rt, &mut link, packet.as_slice());
 }
 
 /// Each send of a packet that UDP can't carry fails, and is counted.
 #[test]
 fn failures_of_a_link_are_counted(rt: HostRuntime) {
-    let mut link = link_of(&rt, rt, "127.0.0.1:4023", "127.0.0.1:4024");
-    let packet = Vec::from_elem(rt.alloc(), 0u8, 65_536).expect(&rt, "memory");
-    expect_counted(&rt, &mut link, packet.as_slice());
+    expect_failures(&rt, rt);
 }
 
 /// The system's moments in microseconds: since 1970, and since the machine started.
@@ -236,24 +265,34 @@ fn expect_moments(
     expect!(*rt; (held.now, held.since) == (go.now, go.since));
 }
 
+/// Checks the turns of a clock that ends its worker, and the moments that it hands out.
+fn expect_ended(rt: &(impl Abort + Host + Wait), clock: HostRuntime) {
+    let worker = Worker::Receiver(PeerId(1));
+    let mut turn = WallClock::new(clock, 3);
+    for on in [true, true, true, false, false] {
+        expect!(*rt; turn.between(rt, worker, Point::Start).on == on);
+        expect_moments(rt, &mut turn, Point::Heard, Point::Call);
+        expect_moments(rt, &mut turn, Point::Answered, Point::Call);
+    }
+}
+
 /// The moments are those after a packet or an answer was waited for, and the turns end.
 #[test]
 fn a_wall_clock_ends_its_worker(rt: HostRuntime) {
+    expect_ended(&rt, rt);
+}
+
+/// Checks that a clock without a number of turns goes on.
+fn expect_endless(rt: &(impl Abort + Host + Wait), clock: HostRuntime) {
     let worker = Worker::Receiver(PeerId(1));
-    let mut turn = WallClock::new(rt, 3);
-    for on in [true, true, true, false, false] {
-        expect!(rt; turn.between(&rt, worker, Point::Start).on == on);
-        expect_moments(&rt, &mut turn, Point::Heard, Point::Call);
-        expect_moments(&rt, &mut turn, Point::Answered, Point::Call);
+    let mut endless = WallClock::new(clock, 0);
+    for _turn in 0..100 {
+        expect!(*rt; endless.between(rt, worker, Point::Start).on);
     }
 }
 
 /// Turns without a number don't end.
 #[test]
 fn an_endless_wall_clock_goes_on(rt: HostRuntime) {
-    let worker = Worker::Receiver(PeerId(1));
-    let mut endless = WallClock::new(rt, 0);
-    for _turn in 0..100 {
-        expect!(rt; endless.between(&rt, worker, Point::Start).on);
-    }
+    expect_endless(&rt, rt);
 }

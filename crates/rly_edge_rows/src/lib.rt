@@ -1,8 +1,10 @@
-//! Tests of the command line, of the report on a device, and of the reports of a station that serves.
+//! Tests of the command line, of the report on a device, and of the reports of a station.
 //!
-//! What words ask for, and which ask for nothing (docs/COMMANDS.md); reports on devices in memory that were filled by rounds,
-//! refusals, and writers that fail; the text of a station's report, and what is counted for it. They stand over the built libraries, so that these are proved once. No crate may call it:
-//! it has no code but tests.
+//! What words ask for (docs/COMMANDS.md); the report on a device in memory that fails; the text of
+//! a station's report, and what is counted for it. Bad command lines, and the reports on devices
+//! that the program can make, are rows of the program (tests/test_command_line.py,
+//! tests/test_audit.py). The tests stand over the built libraries, so that these are proved once.
+//! No crate may call it: it has no code but tests.
 #![tactic(auto)]
 
 /// As `assert!`, by one call: the prover then sees one way on where `assert!` has two. `assert!` stands where a later call needs

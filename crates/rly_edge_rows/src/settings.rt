@@ -1,6 +1,6 @@
-//! What words ask for, and which words ask for nothing.
+//! What words ask for.
 use rly_core::Params;
-use rly_settings::{Settings, SettingsFault, settings};
+use rly_settings::{Settings, settings};
 use std::process::Abort;
 
 /// The settings of words, where they are any.
@@ -8,24 +8,8 @@ fn settings_of<'a>(rt: &impl AllocGlobal, words: &'a [&'a str]) -> Option<Settin
     settings(rt.alloc(), words).ok()
 }
 
-/// Whether words are a bad command line.
-fn are_bad(rt: &impl AllocGlobal, words: &[&str]) -> bool {
-    matches!(
-        &settings(rt.alloc(), words),
-        Err(SettingsFault::CommandLine(_))
-    )
-}
-
-/// Whether words ask for help or the version.
-fn are_asked(rt: &impl AllocGlobal, words: &[&str]) -> bool {
-    matches!(&settings(rt.alloc(), words), Err(SettingsFault::Asked(_)))
-}
-
 /// Words, and what they ask for.
 type Given = (&'static [&'static str], Settings<'static>);
-
-/// Words, and why they are a bad command line.
-type Bad = (&'static [&'static str], &'static str);
 
 /// Checks what words ask for.
 fn expect_settings(rt: &(impl Abort + AllocGlobal), words: &[&str], wanted: &Settings<'_>) {
@@ -36,13 +20,6 @@ fn expect_settings(rt: &(impl Abort + AllocGlobal), words: &[&str], wanted: &Set
 fn expect_given(rt: &(impl Abort + AllocGlobal), rows: &[Given]) {
     for (words, wanted) in rows {
         expect_settings(rt, *words, wanted);
-    }
-}
-
-/// Checks that the words of each row are a bad command line.
-fn expect_bad(rt: &(impl Abort + AllocGlobal), rows: &[Bad]) {
-    for (words, why) in rows {
-        assert!(rt; are_bad(rt, *words), "{why}");
     }
 }
 
@@ -302,189 +279,5 @@ fn paths_are_read_as_they_are(rt: HostRuntime) {
     let long = str::from_utf8(bytes.as_slice()).ok().expect(&rt, "a text");
     for path in [long, "Spule für Müller 1", "-"] {
         expect_path(&rt, path);
-    }
-}
-
-const BAD_WORDS: [Bad; 14] = [
-    (&["rly"], "no command"),
-    (&["rly", "audit"], "no file"),
-    (&["rly", "audit", "spool", "twice"], "a word too many"),
-    (&["rly", "audit", "spool", "--batch=1"], "an unknown option"),
-    (&["rly", "play", "spool", "--batch=0"], "too small a batch"),
-    (&["rly", "play", "spool", "--batch=65"], "too great a batch"),
-    (&["rly", "play", "spool", "--batch=-1"], "a batch below 0"),
-    (&["rly", "play", "spool", "--batch=x"], "a batch of letters"),
-    (&["rly", "play", "spool", "--batch="], "an empty batch"),
-    (
-        &["rly", "format", "spool", "--force=1"],
-        "a flag with a number",
-    ),
-    (
-        &["rly", "format", "spool", "--force=true"],
-        "a flag with a word",
-    ),
-    (&["rly", "format", "spool", "--forced"], "another option"),
-    (&["rly", "format", "spool", "-f"], "a short option"),
-    (
-        &["rly", "play", "spool", "--batch=1", "--batch=1"],
-        "a repeated option",
-    ),
-];
-
-#[test]
-fn bad_words_are_refused(rt: HostRuntime) {
-    expect_bad(&rt, &BAD_WORDS);
-}
-
-const BAD_PAYLOADS: [Bad; 10] = [
-    (&["rly", "sim", "--payload=x"], "letters"),
-    (&["rly", "sim", "--payload=-1"], "below 0"),
-    (&["rly", "sim", "--payload="], "empty"),
-    (
-        &["rly", "sim", "--payload=18446744073709551616"],
-        "too great",
-    ),
-    (&["rly", "format", "spool", "--payload=x"], "letters"),
-    (&["rly", "format", "spool", "--payload=-1"], "below 0"),
-    (&["rly", "format", "spool", "--payload="], "empty"),
-    (
-        &["rly", "format", "spool", "--payload=18446744073709551616"],
-        "too great",
-    ),
-    (
-        &["rly", "sim", "--payload=1", "--payload=1"],
-        "a repeated option",
-    ),
-    (
-        &["rly", "play", "spool", "--payload=1"],
-        "a device has its own",
-    ),
-];
-
-#[test]
-fn a_bad_payload_is_refused(rt: HostRuntime) {
-    expect_bad(&rt, &BAD_PAYLOADS);
-}
-
-const BAD_SERVES: [Bad; 12] = [
-    (&["rly", "serve"], "no file"),
-    (&["rly", "serve", "spool"], "no plan"),
-    (
-        &["rly", "serve", "spool", "plan.toml", "more"],
-        "a word too many",
-    ),
-    (
-        &["rly", "serve", "spool", "plan.toml", "--turns=x"],
-        "turns of letters",
-    ),
-    (
-        &["rly", "serve", "spool", "plan.toml", "--turns=-1"],
-        "turns below 0",
-    ),
-    (
-        &["rly", "serve", "spool", "plan.toml", "--turns="],
-        "empty turns",
-    ),
-    (
-        &[
-            "rly",
-            "serve",
-            "spool",
-            "plan.toml",
-            "--turns=18446744073709551616",
-        ],
-        "too many turns",
-    ),
-    (
-        &["rly", "serve", "spool", "plan.toml", "--report=x"],
-        "a report of letters",
-    ),
-    (
-        &["rly", "serve", "spool", "plan.toml", "--report=-1"],
-        "a report below 0",
-    ),
-    (
-        &["rly", "serve", "spool", "plan.toml", "--report=0.5"],
-        "half a report",
-    ),
-    (
-        &["rly", "serve", "spool", "plan.toml", "--batch=1"],
-        "an unknown option",
-    ),
-    (
-        &[
-            "rly",
-            "serve",
-            "--turns=1",
-            "spool",
-            "plan.toml",
-            "--turns=1",
-        ],
-        "a repeated option",
-    ),
-];
-
-#[test]
-fn bad_words_behind_serve_are_refused(rt: HostRuntime) {
-    expect_bad(&rt, &BAD_SERVES);
-}
-
-const BAD_KEYS: [Bad; 3] = [
-    (&["rly", "key", "hop.key"], "a file"),
-    (&["rly", "key", "--turns=1"], "an unknown option"),
-    (&["rly", "keys"], "another word"),
-];
-
-#[test]
-fn words_behind_key_are_refused(rt: HostRuntime) {
-    expect_bad(&rt, &BAD_KEYS);
-}
-
-const BAD_PLANS: [Bad; 9] = [
-    (&["rly", "plan"], "no plan"),
-    (&["rly", "plan", "plan.toml", "more"], "a word too many"),
-    (&["rly", "plan", "plan.toml", "--at=x"], "letters"),
-    (&["rly", "plan", "plan.toml", "--at=-1"], "below 0"),
-    (&["rly", "plan", "plan.toml", "--at="], "empty"),
-    (
-        &["rly", "plan", "plan.toml", "--at=4503599627370496"],
-        "too great",
-    ),
-    (
-        &["rly", "plan", "plan.toml", "--at=2026-11-25T04:38:17Z"],
-        "a date",
-    ),
-    (
-        &["rly", "plan", "plan.toml", "--turns=1"],
-        "an unknown option",
-    ),
-    (
-        &["rly", "plan", "--at=1", "plan.toml", "--at=1"],
-        "a repeated option",
-    ),
-];
-
-#[test]
-fn bad_words_behind_plan_are_refused(rt: HostRuntime) {
-    expect_bad(&rt, &BAD_PLANS);
-}
-
-/// Questions for help, and for the version.
-const QUESTIONS: [&[&str]; 9] = [
-    &["rly", "--version"],
-    &["rly", "--help"],
-    &["rly", "sim", "--help"],
-    &["rly", "format", "--help"],
-    &["rly", "play", "--help"],
-    &["rly", "audit", "--help"],
-    &["rly", "serve", "--help"],
-    &["rly", "key", "--help"],
-    &["rly", "plan", "--help"],
-];
-
-#[test]
-fn help_and_the_version_are_questions(rt: HostRuntime) {
-    for words in &QUESTIONS {
-        expect!(rt; are_asked(&rt, *words));
     }
 }

@@ -1,8 +1,7 @@
-//! What plans say of neighbours, routes and links.
+//! What plans say by ids, destinations and moments: what `rly plan` doesn't print.
 use rly_core::{HopId, PeerId};
 use rly_plan::{Neighbour, Plan};
 use std::process::Abort;
-use std::test::Fail;
 
 /// The plan of `docs/FORMATS.md`, "The plan".
 pub(crate) const WHOLE: &str = "station = 7
@@ -23,13 +22,15 @@ destination = 12
 hop = 1
 ";
 
-/// Three hops, of which the second doesn't say its `resend`.
-const RESENDS: &str = "station = 7
+/// Three hops. The first has the least `resend` and `rate`, the second has neither, the third the greatest. The first has no
+/// contact, the second some that touch, the third the longest.
+const THREE: &str = "station = 7
 peer = [{ id = 1, station = 3, listen = '', remote = '' }]
 hop = [
-  { id = 1, station = 9, listen = '', remote = '', resend = 10, contacts = [] },
-  { id = 2, station = 10, listen = '', remote = '', contacts = [] },
-  { id = 3, station = 11, listen = '', remote = '', contacts = [], resend = 3_600_000 },
+  { id = 1, station = 9, listen = '', remote = '', resend = 10, rate = 1, contacts = [] },
+  { id = 2, station = 10, listen = '', remote = '', contacts = [[10, 20], [20, 30], [30, 31], [40, 41]] },
+  { id = 3, station = 11, listen = '', remote = '', resend = 3_600_000, rate = 1_000_000_000, \
+contacts = [[0, 4_503_599_627_370_495]] },
 ]
 ";
 
@@ -49,24 +50,6 @@ fn resends(rt: &impl Abort, plan: &Plan) {
     }
 }
 
-#[test]
-fn each_hop_has_its_resend(rt: HostRuntime) {
-    resends(
-        &rt,
-        &Plan::from_toml(rt.alloc(), RESENDS).expect(&rt, "no fault"),
-    );
-}
-
-/// Three hops, of which the second has no `rate`.
-const RATES: &str = "station = 7
-peer = [{ id = 1, station = 3, listen = '', remote = '' }]
-hop = [
-  { id = 1, station = 9, listen = '', remote = '', rate = 1, contacts = [] },
-  { id = 2, station = 10, listen = '', remote = '', contacts = [] },
-  { id = 3, station = 11, listen = '', remote = '', contacts = [], rate = 1_000_000_000 },
-]
-";
-
 /// A hop, and its `rate`, or 0 where it has none.
 const RATE_OF: [(u16, u32); 6] = [
     (0, 0),
@@ -83,78 +66,71 @@ fn rates(rt: &impl Abort, plan: &Plan) {
     }
 }
 
+/// A hop, a moment, and when its link changes next.
+const CHANGES: [(u16, u64, Option<u64>); 12] = [
+    (0, 0, None),
+    (1, 0, None),
+    (2, 0, Some(10)),
+    (2, 9, Some(10)),
+    (2, 10, Some(31)),
+    (2, 30, Some(31)),
+    (2, 31, Some(40)),
+    (2, 40, Some(41)),
+    (2, 41, None),
+    (3, 0, Some(4_503_599_627_370_495)),
+    (3, u64::MAX, None),
+    (4, 0, None),
+];
+
+fn changes(rt: &impl Abort, plan: &Plan) {
+    for (index, (hop, moment, change)) in CHANGES.iter().enumerate() {
+        expect!(rt; plan.next_change(HopId(*hop), *moment) == *change, index as u64);
+    }
+}
+
+/// A hop, and how long its link is open in all.
+const OPEN_TIMES: [(u16, u64); 5] = [(0, 0), (1, 0), (2, 22), (3, 4_503_599_627_370_495), (4, 0)];
+
+fn open_times(rt: &impl Abort, plan: &Plan) {
+    for (hop, open) in &OPEN_TIMES {
+        expect!(rt; plan.open_time(HopId(*hop)) == *open, *hop as u64);
+    }
+}
+
+/// A hop that isn't there has the default `resend`, no `rate` and a link that never opens.
 #[test]
-fn each_hop_has_its_rate(rt: HostRuntime) {
-    rates(
-        &rt,
-        &Plan::from_toml(rt.alloc(), RATES).expect(&rt, "no fault"),
-    );
+fn each_hop_has_its_numbers(rt: HostRuntime) {
+    let plan = Plan::from_toml(rt.alloc(), THREE).expect(&rt, "no fault");
+    resends(&rt, &plan);
+    rates(&rt, &plan);
+    changes(&rt, &plan);
+    open_times(&rt, &plan);
 }
 
-/// A peer and a hop with keys, and a peer and a hop without.
-const KEYS: &str = "station = 7
-peer = [
-  { id = 1, station = 3, listen = '', remote = '', key = 'three.key' },
-  { id = 2, station = 4, listen = '', remote = '' },
-]
-hop = [
-  { id = 1, station = 9, listen = '', remote = '', contacts = [] },
-  { id = 2, station = 10, key = '/etc/rly/ten.key', listen = '', remote = '', contacts = [] },
-]
-";
+/// An id, and the stations of the peer and of the hop that have it, or 0 where none has.
+const STATIONS: [(u16, u16, u16); 4] = [(0, 0, 0), (1, 3, 9), (2, 0, 0), (65_535, 0, 0)];
 
-/// The key file of a neighbour, if it is there and has one.
-fn key_of(neighbour: Option<&Neighbour>) -> Option<&str> {
-    Some(neighbour?.key.as_ref()?.path())
+fn station_of(neighbour: Option<&Neighbour>) -> u16 {
+    match neighbour {
+        Some(neighbour) => neighbour.station,
+        None => 0,
+    }
 }
 
-fn keys(rt: &impl Abort, plan: &Plan) {
-    expect!(rt; key_of(plan.peer(PeerId(1))) == Some("three.key"));
-    expect!(rt; key_of(plan.peer(PeerId(2))) == None);
-    expect!(rt; key_of(plan.hop(HopId(1))) == None);
-    expect!(rt; key_of(plan.hop(HopId(2))) == Some("/etc/rly/ten.key"));
-}
-
-#[test]
-fn a_neighbour_has_its_key_file(rt: HostRuntime) {
-    keys(
-        &rt,
-        &Plan::from_toml(rt.alloc(), KEYS).expect(&rt, "no fault"),
-    );
-}
-
-/// The ids of no neighbour of the whole plan.
-const ABSENT: [u16; 3] = [0, 2, 65_535];
-
-/// What the whole plan says of its stations and their links.
-fn neighbours(rt: &impl Abort, plan: &Plan) -> Result<(), Fail> {
-    let peer = plan.peer(PeerId(1)).ok_or("peer 1").expect(rt, "memory");
-    expect!(rt; peer.station == 3);
-    expect!(rt; peer.addresses.listen() == "127.0.0.1:4001");
-    expect!(rt; peer.addresses.remote() == "127.0.0.1:4002");
-    expect!(rt; peer.key.is_none());
-    let hop = plan.hop(HopId(1)).ok_or("hop 1").expect(rt, "memory");
-    expect!(rt; hop.station == 9);
-    expect!(rt; hop.addresses.listen() == "127.0.0.1:4003");
-    expect!(rt; hop.addresses.remote() == "127.0.0.1:4004");
-    Ok(())
-}
-
-fn counts(rt: &impl Abort, plan: &Plan) {
-    expect!(rt; plan.station() == 7);
-    expect!(rt; plan.peer_count() == 1);
-    expect!(rt; plan.hop_count() == 1);
-    for absent in &ABSENT {
-        expect!(rt; plan.peer(PeerId(*absent)).is_none());
-        expect!(rt; plan.hop(HopId(*absent)).is_none());
+fn neighbours(rt: &impl Abort, plan: &Plan) {
+    expect!(rt; plan.peer_count() == 1 && plan.hop_count() == 1);
+    for (id, peer, hop) in &STATIONS {
+        expect!(rt; station_of(plan.peer(PeerId(*id))) == *peer, *id as u64);
+        expect!(rt; station_of(plan.hop(HopId(*id))) == *hop, *id as u64);
     }
 }
 
 #[test]
-fn the_whole_plan_reads(rt: HostRuntime) -> Result<(), Fail> {
-    let plan = Plan::from_toml(rt.alloc(), WHOLE).expect(&rt, "no fault");
-    counts(&rt, &plan);
-    neighbours(&rt, &plan)
+fn an_id_has_its_neighbour(rt: HostRuntime) {
+    neighbours(
+        &rt,
+        &Plan::from_toml(rt.alloc(), WHOLE).expect(&rt, "no fault"),
+    );
 }
 
 fn routes(rt: &impl Abort, plan: &Plan) {
@@ -171,6 +147,9 @@ fn a_destination_has_the_hop_of_its_route(rt: HostRuntime) {
         &Plan::from_toml(rt.alloc(), WHOLE).expect(&rt, "no fault"),
     );
 }
+
+/// The ids of no hop of the whole plan.
+const ABSENT: [u16; 3] = [0, 2, 65_535];
 
 /// A moment, and the link clock then.
 const CLOCK: [(u64, u64); 5] = [(0, 0), (150, 50), (250, 100), (325, 125), (1000, 150)];

@@ -22,25 +22,6 @@ pub(crate) fn take(
     })
 }
 
-/// Takes so many bytes 07 of peer 1 at hop 1, with a limit or without.
-pub(crate) fn take_within(
-    alloc: Global,
-    number: u64,
-    stamp: u64,
-    limit: u64,
-    length: usize,
-) -> Result<Command<Payload>, AllocError> {
-    let payload = Payload::new(vec![in alloc; 7u8; length]?);
-    Ok(Command::Take {
-        peer: PeerId(1),
-        number,
-        hop: HopId(1),
-        stamp,
-        limit,
-        payload,
-    })
-}
-
 /// Applies a command.
 pub(crate) fn run(
     alloc: Global,

@@ -2,8 +2,10 @@
 //! worked rows, byte by byte.
 //!
 //! A contract says what one call does for all inputs. These tests compare calls with what a
-//! person wrote down (docs/DEFINITIONS.md, docs/FORMATS.md). They use the built libraries, so
-//! that these are proved once. The crate has no code but tests, so no crate may call it.
+//! person wrote down (docs/DEFINITIONS.md, docs/FORMATS.md). What command lines ask of a machine,
+//! and its replies, are rows of the program (`tests/test_sim.py`). The tests use the built
+//! libraries, so that these are proved once. The crate has no code but tests, so no crate may call
+//! it.
 #![tactic(auto)]
 
 /// As `assert!`, by one call: the prover then sees one way on where `assert!` has two. `assert!` stands where a later call needs
@@ -25,8 +27,6 @@ mod control_law;
 mod dequeues;
 #[cfg(test)]
 mod expect;
-#[cfg(test)]
-mod expiry;
 #[cfg(test)]
 mod extremes;
 #[cfg(test)]

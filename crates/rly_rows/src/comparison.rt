@@ -43,7 +43,7 @@ pub(crate) fn reply_of(
 }
 
 /// Makes the steps on the plain machine, and expects each of its replies, at its position, of a journal.
-pub(crate) fn expect_replies(
+fn expect_replies(
     rt: &impl Abort,
     alloc: Global,
     machine: &mut Machine<Payload>,
@@ -59,7 +59,7 @@ pub(crate) fn expect_replies(
 }
 
 /// Makes a step on the plain machine, and says whether an answer has its reply and its position.
-pub(crate) fn is_answered(
+fn is_answered(
     alloc: Global,
     machine: &mut Machine<Payload>,
     step: Step,
@@ -178,7 +178,7 @@ fn expect_turn<D: Disk>(
 }
 
 /// Expects of a journal a machine's numbers and payloads in flight.
-pub(crate) fn expect_numbers<D: Disk>(
+fn expect_numbers<D: Disk>(
     rt: &impl Abort,
     alloc: Global,
     journal: &mut Journal<D>,
@@ -202,7 +202,7 @@ pub(crate) fn expect_numbers<D: Disk>(
 }
 
 /// Whether a journal gives the payload in flight that a machine has under a number, or refuses it for the same reason.
-pub(crate) fn is_fetched<D: Disk>(
+fn is_fetched<D: Disk>(
     alloc: Global,
     journal: &mut Journal<D>,
     machine: &Machine<Payload>,

@@ -1,9 +1,8 @@
 //! Device E, a small device of two segments, and its bytes.
-use crate::script::{Step, ask_all};
+use crate::script::Step;
 use rly_core::{Geometry, Params};
 use rly_disk::{Disk, MemDisk};
 use rly_journal::Journal;
-use rly_machine::Reply;
 use rly_segment::format;
 use std::alloc::{AllocError, Global};
 use std::process::Abort;
@@ -42,22 +41,6 @@ pub(crate) fn device_e(rt: &impl Abort, alloc: Global) -> Result<MemDisk, AllocE
 pub(crate) fn formatted(rt: &impl Abort, alloc: Global) -> Result<Vec<u8>, AllocError> {
     let mut disk = device_e(rt, alloc)?;
     bytes_of(rt, alloc, &mut disk)
-}
-
-/// Its bytes once the first datagram was taken: the line `take 1 1 1 0 41`.
-pub(crate) fn taken(rt: &impl Abort, alloc: Global) -> Result<Vec<u8>, AllocError> {
-    let mut journal = opened(rt, alloc, device_e(rt, alloc).expect(rt, "memory"));
-    take_first(rt, alloc, &mut journal);
-    let mut disk = journal.into_disk();
-    bytes_of(rt, alloc, &mut disk)
-}
-
-/// Takes the first datagram.
-fn take_first(rt: &impl Abort, alloc: Global, journal: &mut Journal<MemDisk>) {
-    let answers = ask_all(rt, alloc, journal, &[FIRST_TAKE]).expect(rt, "memory");
-    expect!(rt; answers
-            .iter()
-            .all(|answer| matches!(answer.reply, Reply::Taken(1))));
 }
 
 /// The line `take 1 1 1 0 41`.

@@ -1,10 +1,12 @@
-//! Tests that cross crates: stored devices byte by byte, worked rounds, a journal in scarce memory,
-//! and great ones.
+//! Tests that cross crates: what a device is asked call by call, rounds in which it fails, and a
+//! journal in scarce memory.
 //!
 //! A contract says what one call does. These tests say of several crates together what a person
-//! wrote down (docs/FORMATS.md, docs/DEFINITIONS.md): the bytes of a device; the answer to each
-//! changed device; and the state of the plain machine after a failed sync or a refused growth, and
-//! a crash of each kind. Devices are in memory, most of them of two segments. The crate has no code but tests, so no crate may call it.
+//! wrote down (docs/FORMATS.md, docs/DEFINITIONS.md): the calls of a format, a round and an opening;
+//! and the state of the plain machine after a failed sync or a refused growth, and a crash of each
+//! kind. Devices are in memory, and have two segments. What the program shows of devices in files
+//! stands in `tests/`: their bytes, what opening answers to changed ones, worked rounds, and great
+//! devices. The crate has no code but tests, so no crate may call it.
 #![tactic(auto)]
 
 /// As `assert!`, by one call: the prover then sees one way on where `assert!` has two. `assert!` stands where a later call needs
@@ -20,17 +22,11 @@ macro_rules! expect {
 }
 
 #[cfg(test)]
-mod broad;
-#[cfg(test)]
-mod carried_device;
-#[cfg(test)]
 mod comparison;
 #[cfg(test)]
 mod device;
 #[cfg(test)]
 mod expect;
-#[cfg(test)]
-mod extremes;
 #[cfg(test)]
 mod far_numbers;
 #[cfg(test)]
@@ -38,17 +34,9 @@ mod faults;
 #[cfg(test)]
 mod growths;
 #[cfg(test)]
-mod limits;
-#[cfg(test)]
-mod payloads;
-#[cfg(test)]
-mod refused_devices;
-#[cfg(test)]
 mod refused_memory;
 #[cfg(test)]
 mod script;
-#[cfg(test)]
-mod stored_devices;
 #[cfg(test)]
 mod traces;
 #[cfg(test)]

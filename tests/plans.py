@@ -1,0 +1,31 @@
+"""Texts of plans that several tests start from."""
+
+# The plan of `docs/FORMATS.md`, "The plan".
+WHOLE = """station = 7
+[[peer]]
+id = 1
+station = 3
+listen = "127.0.0.1:4001"
+remote = "127.0.0.1:4002"
+[[hop]]
+id = 1
+station = 9
+listen = "127.0.0.1:4003"
+remote = "127.0.0.1:4004"
+resend = 160
+contacts = [[100, 200], [300, 350]]
+[[route]]
+destination = 12
+hop = 1
+"""
+
+
+def changed(old, new):
+    """The whole plan with `new` in place of the first `old`."""
+    at = WHOLE.index(old)
+    return WHOLE[:at] + new + WHOLE[at + len(old):]
+
+
+def neighbours(count, more=""):
+    """So many peers or hops, each as it comes in its array, with `more` behind its addresses."""
+    return "".join(f"{{ id = {id}, station = {id}, listen = '', remote = ''{more} }}," for id in range(1, count + 1))

@@ -1,0 +1,360 @@
+"""Texts that are no plan: the refusal of each, and where its first fault is (`docs/FORMATS.md`, "The plan")."""
+import re
+
+from plans import WHOLE, changed, neighbours
+from program import KEY, Rows
+
+# All that is said of a text that is no plan.
+REFUSED = re.compile(r"refused (5[0-4]) plan\nrly: plan: at ([^\n]+)\n")
+
+
+class Texts(Rows):
+    """Tests that give `rly plan` a text."""
+
+    def run_plan(self, text):
+        return self.rly("plan", self.write("plan.toml", text), "--at=0")
+
+    def fault(self, text):
+        """The refusal's number, and where the fault is: 0 and nothing for a plan."""
+        run = self.run_plan(text)
+        if run.returncode == 0:
+            self.assertTrue(run.stdout.startswith(b"at 1970-01-01T00:00:00Z 0\n"))
+            self.assertEqual(run.stderr, b"")
+            return 0, ""
+        refused = REFUSED.fullmatch(run.stderr.decode())
+        self.assertIsNotNone(refused, run.stderr[:1000])
+        self.assertEqual((run.returncode, run.stdout), (1, b""))
+        return int(refused[1]), refused[2]
+
+    def expect_number(self, number, text, /, **row):
+        with self.subTest(**row):
+            self.assertEqual(self.fault(text)[0], number)
+
+    def expect_numbers(self, rows):
+        """Each change of the whole plan gets its number."""
+        for old, new, number in rows:
+            self.expect_number(number, changed(old, new), old=old, new=new)
+
+    def expect_place(self, wanted, text, /, **row):
+        """The number and the place in one text, which is empty for a plan."""
+        with self.subTest(**row):
+            number, place = self.fault(text)
+            self.assertEqual(f"{number} {place}" if number else "", wanted)
+
+    def expect_places(self, rows):
+        """Each change of the whole plan gets its number and its place."""
+        for old, new, wanted in rows:
+            self.expect_place(wanted, changed(old, new), old=old, new=new)
+
+
+class Numbers(Texts):
+    def test_changes_of_the_whole_plan(self):
+        self.expect_numbers([
+            ("", "", 0),
+            ("[[100, 200], [300, 350]]", "[[100, 200], [50, 60]]", 51),
+            ("[[100, 200], [300, 350]]", "[[100, 200], [150, 300]]", 52),
+            ("[[100, 200], [300, 350]]", "[[100, 200], [200, 300]]", 0),
+            ("[[100, 200], [300, 350]]", "[[200, 200]]", 53),
+            ("hop = 1\n", "hop = 2\n", 54),
+            ("hop = 1\n", "hop = 65\n", 53),
+            ('remote = "127.0.0.1:4002"', "color = 1", 54),
+        ])
+
+    def test_what_is_no_plan_is_50(self):
+        self.expect_numbers([
+            ("station = 7", "station = ", 50),
+            ("station = 7", "station = 9223372036854775808", 50),
+            ("station = 7", "station = 7\nstation = 7", 50),
+            ("station = 7\n", "", 50),
+            ("station = 7", 'station = "7"', 50),
+            ("station = 7", "station = 7.0", 50),
+            ("station = 7", "station = {}", 50),
+            ("station = 3\n", "", 50),
+            ("station = 9\n", "", 50),
+            ("id = 1\n", "", 50),
+            ('listen = "127.0.0.1:4001"\n', "", 50),
+            ('remote = "127.0.0.1:4004"\n', "", 50),
+            ('listen = "127.0.0.1:4003"', "listen = 4003", 50),
+            ("station = 3", "station = 3\nkey = 3", 50),
+            ("station = 9", "station = 9\nkey = ['a']", 50),
+            ("contacts = [[100, 200], [300, 350]]\n", "", 50),
+            ("[[100, 200], [300, 350]]", "100", 50),
+            ("[300, 350]", "300", 50),
+            ("[300, 350]", "[300]", 50),
+            ("[300, 350]", "[300, 350, 400]", 50),
+            ("[300, 350]", "[300, 350.5]", 50),
+            ("destination = 12\n", "", 50),
+            ("hop = 1\n", "", 50),
+            ("hop = 1\n", "hop = true\n", 50),
+        ])
+        for text, number in [
+            ("", 50),
+            ("station = 7\npeer = []\n", 50),
+            ("station = 7\nhop = []\n", 50),
+            ("station = 7\npeer = 1\nhop = []\n", 50),
+            ("station = 7\npeer = [1]\nhop = []\n", 50),
+            ("station = 7\npeer = {}\nhop = []\n", 50),
+            ("station = 7\npeer = []\nhop = []\nroute = 5\n", 50),
+            ("station = 7\npeer = []\nhop = []\nroute = []\n", 53),
+        ]:
+            self.expect_number(number, text, text=text)
+
+    def test_a_key_that_is_not_known_is_54(self):
+        self.expect_numbers([
+            ("station = 7", "station = 7\nid = 1", 54),
+            ("station = 7", "station = { x = 1 }", 54),
+            ("station = 3", "station = 3\ncontacts = []", 54),
+            ("station = 9", "station = 9\ncolor = 1", 54),
+            ("station = 9", "station = 9\nkey = { file = 'a' }", 54),
+            ("hop = 1\n", "hop = 1\nkey = 'a'\n", 54),
+            ("station = 7", "station = 7\nkey = 'a'", 54),
+            ("hop = 1\n", "hop = 1\nid = 1\n", 54),
+            ("[[peer]]", "[peer]", 54),
+            ("[[hop]]", "[hop]", 54),
+            ("[[route]]", "[route]", 54),
+            ("[300, 350]", "{ begin = 300, end = 350 }", 54),
+            ("[300, 350]", "[{ x = 1 }, 350]", 54),
+            ("destination = 12", "destination = [[{ x = 1 }]]", 54),
+            ("[[route]]", "[[peers]]", 54),
+        ])
+
+    def test_a_number_out_of_its_range_is_53(self):
+        self.expect_numbers([
+            ("station = 7", "station = 0", 53),
+            ("station = 7", "station = -7", 53),
+            ("station = 7", "station = 65536", 53),
+            ("station = 7", "station = 65535", 0),
+            ("station = 3", "station = 0", 53),
+            ("station = 9", "station = 65536", 53),
+            ("station = 3", "station = 65535", 0),
+            ("station = 9", "station = 65535", 0),
+            ("id = 1\n", "id = 2\n", 53),
+            ("id = 1\nstation = 9", "id = 0\nstation = 9", 53),
+            ("destination = 12", "destination = 0", 53),
+            ("destination = 12", "destination = 65536", 53),
+            ("destination = 12", "destination = 65535", 0),
+            ("hop = 1\n", "hop = 0\n", 53),
+            ("[300, 350]", "[300, 300]", 53),
+            ("[300, 350]", "[350, 300]", 53),
+            ("[100, 200]", "[-1, 200]", 53),
+            ("[300, 350]", "[300, 4503599627370496]", 53),
+            ("[300, 350]", "[300, 4503599627370495]", 0),
+            ("[[100, 200], [300, 350]]", "[]", 0),
+        ])
+
+    def test_rate_is_a_whole_number_in_its_range(self):
+        self.expect_numbers([
+            ("resend = 160", "rate = 1", 0),
+            ("resend = 160", "rate = 1000000000", 0),
+            ("resend = 160", "resend = 160\nrate = 160", 0),
+            ("resend = 160", "rate = 0", 53),
+            ("resend = 160", "rate = 1000000001", 53),
+            ("resend = 160", "rate = -1", 53),
+            ("resend = 160", "rate = 4294967297", 53),
+            ("resend = 160", "rate = '160'", 50),
+            ("resend = 160", "rate = 160.0", 50),
+            ("resend = 160", "rate = { bytes = 160 }", 54),
+            ("destination", "rate = 160\ndestination", 54),
+            ("station = 3", "station = 3\nrate = 160", 54),
+            ("station = 7", "station = 7\nrate = 160", 54),
+        ])
+
+    def test_resend_is_a_whole_number_in_its_range(self):
+        self.expect_numbers([
+            ("resend = 160\n", "", 0),
+            ("resend = 160", "resend = 10", 0),
+            ("resend = 160", "resend = 3600000", 0),
+            ("resend = 160", "resend = 9", 53),
+            ("resend = 160", "resend = 3600001", 53),
+            ("resend = 160", "resend = 0", 53),
+            ("resend = 160", "resend = -160", 53),
+            ("resend = 160", "resend = 4294967306", 53),
+            ("resend = 160", "resend = '160'", 50),
+            ("resend = 160", "resend = 160.0", 50),
+            ("resend = 160", "resend = [160]", 50),
+            ("resend = 160", "resend = { ms = 160 }", 54),
+            ("resend = 160", "resend = 160\nresend = 160", 50),
+            ("destination", "resend = 160\ndestination", 54),
+            ("station = 3", "station = 3\nresend = 160", 54),
+            ("station = 7", "station = 7\nresend = 160", 54),
+            ("resend = 160\ncontacts", "resend = 9\nroutes", 54),
+            ("resend = 160\ncontacts = [[100, 200], [300, 350]]", "resend = 9", 50),
+            ("160\ncontacts = [[100, 200], [300, 350]]", "9\ncontacts = [[2, 3], [1, 2]]", 53),
+        ])
+
+    def test_what_is_there_twice_is_52(self):
+        peer = "[[peer]]\nid = 2\nlisten = ''\nremote = ''\nstation = "
+        hop = "[[hop]]\nid = 2\nlisten = ''\nremote = ''\ncontacts = []\nstation = "
+        route = "[[route]]\nhop = 1\ndestination = "
+        for tail, station, number in [(peer, 3, 52), (peer, 9, 0), (hop, 9, 52), (hop, 3, 0), (route, 12, 52), (route, 7, 0)]:
+            self.expect_number(number, f"{WHOLE}{tail}{station}\n", tail=tail, station=station)
+
+    def test_counts_are_met_and_not_passed(self):
+        """The text of the second plan has more than a million bytes."""
+        for peers, hops, each, number in [
+            (64, 64, 1, 0),
+            (64, 64, 1_300, 0),
+            (1, 1, 4_096, 0),
+            (65, 1, 1, 53),
+            (1, 65, 1, 53),
+            (1, 1, 4_097, 53),
+        ]:
+            contacts = "".join(f"[{id}0, {id}5]," for id in range(1, each + 1))
+            hop = neighbours(hops, f", contacts = [{contacts}]")
+            text = f"station = 7\npeer = [{neighbours(peers)}]\nhop = [{hop}]\n"
+            self.expect_number(number, text, peers=peers, hops=hops, contacts=each)
+
+    def test_many_destinations_may_have_a_route(self):
+        routes = "".join(f"[[route]]\ndestination = {destination}\nhop = 1\n" for destination in range(1, 20_001))
+        self.expect_number(0, changed("[[route]]\ndestination = 12\nhop = 1\n", "") + routes)
+
+    def test_addresses_have_any_length(self):
+        for length in (0, 1, 64, 255, 10_000):
+            self.expect_number(0, changed('"127.0.0.1:4003"', f'"{"n" * length}"'), length=length)
+
+    def test_paths_of_keys_have_any_length(self):
+        """A plan is judged before its keys are read. An empty path leads to no file, and one of 10,000 bytes is too long for the
+        system: the fault is then the key's."""
+        for length in (1, 64, 255):
+            self.write("n" * length, KEY)
+            self.expect_number(0, changed('"127.0.0.1:4003"', f"''\nkey = \"{'n' * length}\""), length=length)
+        for length in (0, 10_000):
+            with self.subTest(length=length):
+                run = self.run_plan(changed('"127.0.0.1:4003"', f"''\nkey = \"{'n' * length}\""))
+                front = f"rly: key failed\nrly: hop 1: key {self.path('n' * length)}"
+                self.assertEqual((run.returncode, run.stdout), (1, b""))
+                self.assertEqual(run.stderr[: len(front)].decode(), front)
+
+    def test_a_plan_has_any_length(self):
+        for length in (0, 70_000, 1_100_000):
+            self.expect_number(0, f"{WHOLE}# {'n' * length}", length=length)
+
+    def test_the_earlier_pass_wins(self):
+        self.expect_numbers([
+            ("station = 7\n", "color = 1\n", 54),
+            ("station = 7\n[[peer]]\nid = 1", "[[peer]]\nid = 2", 50),
+            (
+                "contacts = [[100, 200], [300, 350]]\n[[route]]\ndestination = 12",
+                "contacts = [[2, 3], [1, 2]]\n[[route]]\ndestination = 0",
+                53,
+            ),
+            ("[[100, 200], [300, 350]]", "[[100, 200], [150, 250], [120, 130]]", 51),
+            (
+                "contacts = [[100, 200], [300, 350]]\n[[route]]\ndestination = 12\nhop = 1",
+                "contacts = [[1, 3], [2, 4]]\n[[route]]\ndestination = 12\nhop = 2",
+                52,
+            ),
+        ])
+
+
+class Places(Texts):
+    def test_a_text_that_toml_refuses_has_a_line_and_a_column(self):
+        self.expect_places([
+            ("", "", ""),
+            ("station = 7", "station = ", "50 line 1, column 11"),
+            ("station = 7\n", "station = 7\n\n = 7\n", "50 line 3, column 2"),
+            ('"127.0.0.1:4001"', '"\u00e9\u20ac" x', "50 line 5, column 15"),
+        ])
+
+    def test_a_key_that_is_not_known_has_its_table(self):
+        self.expect_places([
+            ("station = 7", "station = 7\ncolor = 1", "54 the top"),
+            ("station = 7", "station = { x = 1 }", "54 station"),
+            ("[[peer]]", "[peer]", "54 peer"),
+            ("station = 3", "station = 3\ncolor = 1", "54 peer[1]"),
+            ("station = 3", "station = 3\nresend = 160", "54 peer[1].resend"),
+            ("station = 3", "station = 3\nrate = 1", "54 peer[1].rate"),
+            ("[300, 350]", "{ begin = 300, end = 350 }", "54 hop[1].contacts"),
+            ("station = 9", "station = 9\nkey = { file = 'a' }", "54 hop[1].key"),
+            ("hop = 1\n", "hop = 1\nid = 1\n", "54 route[1].id"),
+        ])
+
+    def test_what_is_missing_or_of_another_type_has_its_key(self):
+        self.expect_places([
+            ("station = 7\n", "", "50 station"),
+            ("station = 7", 'station = "7"', "50 station"),
+            ("id = 1\n", "", "50 peer[1].id"),
+            ("station = 3\n", "", "50 peer[1].station"),
+            ('listen = "127.0.0.1:4003"', "listen = 4003", "50 hop[1].listen"),
+            ('remote = "127.0.0.1:4004"\n', "", "50 hop[1].remote"),
+            ("station = 3", "station = 3\nkey = 3", "50 peer[1].key"),
+            ("resend = 160", "resend = '160'", "50 hop[1].resend"),
+            ("resend = 160", "rate = '160'", "50 hop[1].rate"),
+            ("contacts = [[100, 200], [300, 350]]\n", "", "50 hop[1].contacts"),
+            ("[[100, 200], [300, 350]]", "100", "50 hop[1].contacts"),
+            ("[300, 350]", "[300]", "50 hop[1].contacts[2]"),
+            ("[100, 200]", "[100, 200.5]", "50 hop[1].contacts[1]"),
+            ("destination = 12\n", "", "50 route[1].destination"),
+            ("hop = 1\n", "", "50 route[1].hop"),
+        ])
+        for text, wanted in [
+            ("", "50 station"),
+            ("station = 7\npeer = []\n", "50 hop"),
+            ("station = 7\npeer = 1\nhop = []\n", "50 peer"),
+            ("station = 7\npeer = [1]\nhop = []\n", "50 peer[1]"),
+            ("station = 7\npeer = []\nhop = []\nroute = 5\n", "50 route"),
+        ]:
+            self.expect_place(wanted, text, text=text)
+
+    def test_a_number_out_of_its_range_has_its_key(self):
+        self.expect_places([
+            ("station = 7", "station = 0", "53 station"),
+            ("id = 1\n", "id = 2\n", "53 peer[1].id"),
+            ("station = 3", "station = 65536", "53 peer[1].station"),
+            ("id = 1\nstation = 9", "id = 0\nstation = 9", "53 hop[1].id"),
+            ("resend = 160", "resend = 9", "53 hop[1].resend"),
+            ("resend = 160", "rate = 0", "53 hop[1].rate"),
+            ("[300, 350]", "[300, 300]", "53 hop[1].contacts[2]"),
+            ("[100, 200]", "[-1, 200]", "53 hop[1].contacts[1]"),
+            ("destination = 12", "destination = 0", "53 route[1].destination"),
+            ("hop = 1\n", "hop = 65\n", "53 route[1].hop"),
+        ])
+        self.expect_place("53 peer", "station = 7\npeer = []\nhop = []\n")
+
+    def test_contacts_out_of_order_have_the_later_one(self):
+        hop = "[[hop]]\nid = 2\nstation = 10\nlisten = ''\nremote = ''\ncontacts = "
+        for contacts, wanted in [
+            ("[[1, 2], [3, 4], [4, 9], [9, 12]]", ""),
+            ("[[1, 2], [3, 4], [2, 3], [1, 2]]", "51 hop[2].contacts[3]"),
+            ("[[1, 2], [3, 5], [5, 9], [8, 12]]", "52 hop[2].contacts[4]"),
+            ("[[1, 2], [3, 5], [4, 9], [2, 3]]", "51 hop[2].contacts[4]"),
+        ]:
+            self.expect_place(wanted, f"{WHOLE}{hop}{contacts}\n", contacts=contacts)
+
+    def test_what_is_there_twice_has_the_first_of_them(self):
+        for tail, wanted in [
+            (
+                "[[peer]]\nid = 2\nstation = 5\nlisten = ''\nremote = ''\n"
+                "[[peer]]\nid = 3\nstation = 5\nlisten = ''\nremote = ''\n",
+                "52 peer[2].station",
+            ),
+            ("[[hop]]\nid = 2\nstation = 9\nlisten = ''\nremote = ''\ncontacts = []\n", "52 hop[1].station"),
+            (
+                "[[route]]\ndestination = 13\nhop = 1\n"
+                "[[route]]\ndestination = 14\nhop = 1\n"
+                "[[route]]\ndestination = 13\nhop = 1\n",
+                "52 route[2].destination",
+            ),
+            ("[[route]]\ndestination = 13\nhop = 2\n", "54 route[2].hop"),
+        ]:
+            self.expect_place(wanted, f"{WHOLE}{tail}", tail=tail)
+
+    def test_a_fault_may_be_far_down(self):
+        """The fault stands behind 70,000 empty lines."""
+        newlines = "\n" * 70_000
+        self.expect_place("50 line 70017, column 2", f"{WHOLE}{newlines} = 7\n")
+
+    def test_the_last_hop_has_its_place(self):
+        """The last of 64 hops has the fault, behind its addresses."""
+        peer = "{ id = 1, station = 3, listen = '', remote = '' }"
+        hops = neighbours(63, ", contacts = []")
+        for more, wanted in [
+            (", contacts = []", ""),
+            (", contacts = [], color = 1", "54 hop[64]"),
+            ("", "50 hop[64].contacts"),
+            (", contacts = [], resend = 9", "53 hop[64].resend"),
+            (", contacts = [[5, 6], [1, 2]]", "51 hop[64].contacts[2]"),
+            (", contacts = [[1, 3], [2, 4]]", "52 hop[64].contacts[2]"),
+        ]:
+            last = f"{{ id = 64, station = 64, listen = '', remote = ''{more} }}"
+            self.expect_place(wanted, f"station = 7\npeer = [{peer}]\nhop = [{hops}{last}]\n", more=more)

@@ -1,0 +1,285 @@
+"""`rly serve` over loopback and on files, and what it reports."""
+import itertools
+import random
+import resource
+import socket
+import threading
+
+from program import KEY, NO_DEVICE, SECONDS, Rows, plan_of
+
+# Station 7, with station 3 upstream and station 9 as the next hop, at four ports.
+PLAN = """station = 7
+[[peer]]
+id = 1
+station = 3
+listen = "127.0.0.1:{}"
+remote = "127.0.0.1:{}"
+[[hop]]
+id = 1
+station = 9
+listen = "127.0.0.1:{}"
+remote = "127.0.0.1:{}"
+contacts = [[100, 200], [300, 350]]
+[[route]]
+destination = 12
+hop = 1
+"""
+
+# Data from station 3 to station 7, number 1, payload `000c41`; the same with a limit of 5,000 microseconds; the custody of each.
+DATA = bytes.fromhex("524c01010003000700000000000000010003000c41")
+LIMITED = bytes.fromhex("524c010400030007000000000000000100000013880003000c41")
+CUSTODY = bytes.fromhex("524c0102000700030000000000000001")
+
+# What is told of a relay of 20 turns on a new small device.
+SERVED = """rly: serving station 7, 1 peers, 1 hops, device 320772 bytes, 0 of 16 live
+rly: anyone can speak on peer 1, hop 1
+rly: ended after 20 turns
+"""
+
+# What is told of one on a small device of two segments whose first write fails.
+BROKEN = """rly: serving station 7, 1 peers, 1 hops, device 165880 bytes, 0 of 16 live
+rly: anyone can speak on peer 1, hop 1
+refused 11 broken
+rly: room: File too large (os error 27)
+"""
+
+# The place behind the gate of a small device's first group. The gate follows the header and the head of the first segment.
+FIRST_GROUP = 158
+
+# The books of a small device with one datagram, and of one that took none.
+ONE_TAKEN = "hop 1 taken 1 queued 1 flight 0 dropped 0 released 0\npeer 1 last 1\nseq 1\nbalance ok\n"
+NONE_TAKEN = "hop 1 taken 0 queued 0 flight 0 dropped 0 released 0\npeer 1 last 0\nseq 0\nbalance ok\n"
+
+# What is told of a plan that isn't there, and of one that is no text.
+NO_PLAN = "rly: plan failed\nrly: plan: No such file or directory (os error 2)\n"
+NO_TEXT = "rly: plan failed\nrly: plan: stream did not contain valid UTF-8\n"
+
+# Plans, and what is told of a relay of theirs whose device isn't there.
+PLANS = [
+    (b"station = 7 # \xff\n", NO_TEXT),
+    ("station = 7\n", "refused 50 plan\nrly: plan: at peer\n"),
+    ("color = 7\n", "refused 54 plan\nrly: plan: at the top\n"),
+    (PLAN.format(4001, 4002, 4003, 4004), NO_DEVICE),
+]
+
+# What is told where a plan has more peers or hops than the small device.
+NO_ROOM = "refused 21 badgeometry\nrly: plan: it has more peers or hops than the device\n"
+
+# Plans of so many peers and hops whose links have these addresses, and what is told of a relay of theirs on a small device.
+# `FREE` is an address that is free.
+LINKS = [
+    (2, 1, "nowhere", "nowhere", NO_ROOM),
+    (1, 2, "nowhere", "nowhere", NO_ROOM),
+    (1, 1, "127.0.0.1:0", "FREE", "rly: link failed\nrly: peer 1: listen 127.0.0.1:0: a neighbour can't send to port 0\n"),
+    (
+        1,
+        1,
+        "192.0.2.1:4019",
+        "FREE",
+        "rly: link failed\nrly: hop 1: listen 192.0.2.1:4019: Cannot assign requested address (os error 99)\n",
+    ),
+    (1, 1, "FREE", "127.0.0.1:x", "rly: link failed\nrly: peer 1: remote 127.0.0.1:x: invalid port value\n"),
+    (1, 1, "FREE", "FREE", "rly: link failed\nrly: hop 1: listen FREE: Address already in use (os error 98)\n"),
+]
+
+# What the first report tells behind its moment, of a new device.
+FIRST = """\
+hop 1 taken 0 queued 0 flight 0 dropped 0 released 0 first 0 next 0 count 0 last 0 dropping no moment 0 contact closed wrong 0
+peer 1 heard 0 custody 0 refused 0 malformed 0 wrong 0
+device seq 0 rounds 0 segments 0
+"""
+
+
+def is_free(port):
+    """Whether nobody has a port of UDP, at any address."""
+    with socket.socket(socket.AF_INET, socket.SOCK_DGRAM) as probe:
+        try:
+            probe.bind(("", port))
+        except OSError:
+            return False
+    return True
+
+
+def free_ports(count):
+    """So many ports that are free. None is of those that the system picks by itself, since a relay has sockets at such ports."""
+    ports = random.sample(range(20_000, 30_000), 1_000)
+    return list(itertools.islice(filter(is_free, ports), count))
+
+
+def greatest_plan(port):
+    """A plan of 64 peers and 64 hops, each with a loopback address of its own at this port, and a comment of 70,000 bytes."""
+    link = 'id = {0}\nstation = {0}\nlisten = "127.0.{1}.{0}:{2}"\nremote = "127.0.0.1:9"\n'
+    peers = "".join("[[peer]]\n" + link.format(id, 1, port) for id in range(1, 65))
+    hops = "".join("[[hop]]\n" + link.format(id, 2, port) + "contacts = []\n" for id in range(1, 65))
+    return f"station = 7\n{peers}{hops}#{'n' * 70_000}"
+
+
+def last_of(text, word):
+    """The last line that begins with a word, without its end."""
+    return [line for line in text.splitlines() if line.startswith(word)][-1]
+
+
+class Neighbour(threading.Thread):
+    """Sends a datagram to a relay every 10 ms, until it hears something or its `with` block ends. What it hears is `heard`."""
+
+    def __init__(self, port, relay, data):
+        super().__init__()
+        self.relay, self.data, self.heard, self.is_over = relay, data, None, False
+        self.socket = socket.socket(socket.AF_INET, socket.SOCK_DGRAM)
+        self.socket.bind(("127.0.0.1", port))
+        self.socket.settimeout(0.01)
+
+    def run(self):
+        while self.heard is None and not self.is_over:
+            self.socket.sendto(self.data, ("127.0.0.1", self.relay))
+            try:
+                self.heard = self.socket.recv(64)
+            except TimeoutError:
+                pass
+
+    def __enter__(self):
+        self.start()
+        return self
+
+    def __exit__(self, *_error):
+        self.is_over = True
+        self.join()
+        self.socket.close()
+
+
+class Stations(Rows):
+    """Tests of a relay of `PLAN` on `device`, whose addresses are free."""
+
+    def setUp(self):
+        super().setUp()
+        self.ports = free_ports(4)
+        self.write("plan", PLAN.format(*self.ports))
+
+    def neighbour(self, data=DATA):
+        return Neighbour(self.ports[1], self.ports[0], data)
+
+    def expect_end(self, errors):
+        """Checks that a relay of one turn isn't started, and what is told."""
+        self.expect("serve", "device", "plan", "--turns=1", errors=errors, status=1)
+
+    def served(self, *words):
+        """What a relay puts out that ends well."""
+        run = self.rly("serve", "device", "plan", *words)
+        self.assertEqual(run.returncode, 0, run.stderr)
+        return run.stdout.decode(), run.stderr.decode()
+
+
+class Serving(Stations):
+    def expect_custody(self, data):
+        """Runs a relay on a new device beside a neighbour that sends this datagram, which has to hear the datagram's custody."""
+        self.make_small("device")
+        with self.neighbour(data) as neighbour:
+            self.expect("serve", "device", "plan", "--turns", "20", errors=SERVED)
+        self.assertEqual(neighbour.heard, CUSTODY)
+
+    def test_a_datagram_is_taken_and_its_custody_sent(self):
+        self.expect_custody(DATA)
+        self.expect("audit", "device", output=ONE_TAKEN)
+
+    def test_a_datagram_with_a_limit_is_taken_with_it(self):
+        """Its custody is that of any other. It is asked for before the link's clock has gone on."""
+        self.expect_custody(LIMITED)
+        self.expect("play", "device", input="pick 1 0\nfetch 1 1\n", output="picked 1 1 1\nbytes 1 1 000c41 5000\n")
+
+    def test_a_failed_write_ends_a_relay_broken(self):
+        """Nothing is acknowledged, and the relay ends by itself: its turns are without end, and its sender never asks anything
+        that is written. The bytes of its first group can't be written, and its gate could be opened."""
+        words = ["--hops=1", "--peers=1", "--items=16", "--bytes=4096", "--segments=2"]
+        self.expect("format", "device", *words, output="formatted 165880\n")
+        # Python ignores the signal of a write past the limit, and so does what it starts where signals aren't restored.
+        run = self.start("serve", "device", "plan", restore_signals=False)
+        resource.prlimit(run.pid, resource.RLIMIT_FSIZE, (FIRST_GROUP, FIRST_GROUP))
+        with self.neighbour() as neighbour:
+            output, errors = run.communicate(timeout=SECONDS)
+        self.assertEqual((run.returncode, output, errors.decode()), (1, b"", BROKEN))
+        self.assertIsNone(neighbour.heard)
+        self.expect("audit", "device", output=NONE_TAKEN)
+
+
+class Starts(Stations):
+    def test_a_relay_needs_a_plan_and_a_device(self):
+        """The plan is looked at first, then the file, then the device in it."""
+        self.expect("serve", "device", "nowhere", "--turns=1", errors=NO_PLAN, status=1)
+        for text, errors in PLANS:
+            with self.subTest(text):
+                self.write("plan", text)
+                self.expect_end(errors)
+        self.write("device", "no device")
+        self.expect_end("refused 20 notadevice\n")
+        self.expect("serve", "device", "nowhere", "--turns=1", errors=NO_PLAN, status=1)
+
+    def test_a_relay_needs_room_and_links(self):
+        """The device needs each peer and each hop of the plan, before any link is opened; then the system judges the addresses of
+        the links, none of which is there twice."""
+        self.make_small("device")
+        free = f"127.0.0.1:{self.ports[0]}"
+        for peers, hops, listen, remote, errors in LINKS:
+            with self.subTest(errors):
+                text = plan_of(peers, hops, listen, remote)
+                self.write("plan", text.replace("FREE", free))
+                self.expect_end(errors.replace("FREE", free))
+
+
+class Greatest(Stations):
+    """Tests of a relay that has as many workers as a plan may have neighbours."""
+
+    def greatest_run(self, option):
+        """The output of such a relay of one turn, with one option more."""
+        words = ["--hops=64", "--peers=64", "--items=16", "--bytes=4096"]
+        self.expect("format", "device", *words, output="formatted 340680\n")
+        self.write("plan", greatest_plan(self.ports[0]))
+        output, errors = self.served("--turns=1", option)
+        self.assertTrue(errors.endswith("\nrly: ended after 1 turns\n"), errors)
+        return output
+
+    def test_the_greatest_relay_is_served(self):
+        self.assertEqual(self.greatest_run("--report=0"), "")
+
+    def test_the_greatest_relay_reports(self):
+        """A reporter beside as many workers tells of each neighbour."""
+        report = self.greatest_run("--report=100000")
+        self.assertIn("\nhop 64 ", report)
+        self.assertIn("\npeer 64 ", report)
+
+
+class Reports(Stations):
+    def test_a_report_is_written_at_once(self):
+        """There is no other before its time."""
+        self.make_small("device")
+        output, _errors = self.served("--turns=5", "--report=3600")
+        moment, rest = output.split("\n", 1)
+        self.assertTrue(moment.startswith("report 1"), moment)
+        self.assertEqual(rest, FIRST)
+
+    def test_there_are_no_reports_where_none_are_asked_for(self):
+        self.make_small("device")
+        output, _errors = self.served("--turns=5", "--report=0")
+        self.assertEqual(output, "")
+
+    def test_what_was_taken_is_reported(self):
+        """What is taken and acknowledged while it is served stands in the next report."""
+        self.make_small("device")
+        with self.neighbour() as neighbour:
+            output, _errors = self.served("--turns=200", "--report=1")
+        self.assertEqual(neighbour.heard, CUSTODY)
+        self.assertIn("taken 1 queued 1 flight 0", last_of(output, "hop 1 "))
+        self.assertNotIn(" custody 0 ", last_of(output, "peer 1 "))
+        self.assertIn(" refused 0 malformed 0 wrong 0 last ", last_of(output, "peer 1 "))
+        self.assertIn("seq 1 rounds 1 ", last_of(output, "device "))
+
+    def test_wrong_tags_are_reported(self):
+        """Packets without a right tag are counted by their peer, and as not heard."""
+        self.make_small("device")
+        key = self.write("peer.key", KEY)
+        self.write("plan", PLAN.format(*self.ports).replace("[[hop]]", f'key = "{key}"\n[[hop]]'))
+        with self.neighbour() as neighbour:
+            output, _errors = self.served("--turns=200", "--report=1")
+        self.assertIsNone(neighbour.heard)
+        self.assertIn(" wrong 0", last_of(output, "hop 1 "))
+        self.assertIn(" heard 0 custody 0 refused 0 malformed 0 wrong ", last_of(output, "peer 1 "))
+        self.assertNotIn(" wrong 0", last_of(output, "peer 1 "))
