@@ -4,7 +4,7 @@
 //! where the plan names a key for it, which keeps what comes ahead of a gap and tells of sends that
 //! fail and of packets without a right tag. Turns hand out the moments of the system's clocks. The
 //! plan and its keys are read from files. Sockets and clocks are called here alone. Callers:
-//! `rly_serve` and `rly_daemon`.
+//! `rly_commands`, `rly_serve` and `rly_daemon`.
 #![tactic(auto)]
 
 mod address_fault;
