@@ -11,43 +11,22 @@ hop = [
 route = [{ destination = 12, hop = 2 }]
 """
 
-# What is told of it while its first link is open.
-OPEN = """at 1970-01-01T00:00:00.00015Z 150
-station 7
+# What is told of it from the second line on, where that of its first link's contact goes on so.
+TOLD = """station 7
 peer 1 station 3 listen 127.0.0.1:4001 remote 127.0.0.1:4002
 hop 1 station 9 listen 127.0.0.1:4003 remote 127.0.0.1:4004
 hop 1 resend 160 contacts 2 open 150
-hop 1 contact open until 1970-01-01T00:00:00.0002Z 200
+hop 1 contact {}
 hop 2 station 10 listen 127.0.0.1:4005 remote 127.0.0.1:4006 key ten.key
 hop 2 resend 160 contacts 0 open 0
 hop 2 contact closed
 route 12 hop 2
 """
 
-# The same between its contacts.
-CLOSED = """at 1970-01-01T00:00:00.00025Z 250
-station 7
-peer 1 station 3 listen 127.0.0.1:4001 remote 127.0.0.1:4002
-hop 1 station 9 listen 127.0.0.1:4003 remote 127.0.0.1:4004
-hop 1 resend 160 contacts 2 open 150
-hop 1 contact closed until 1970-01-01T00:00:00.0003Z 300
-hop 2 station 10 listen 127.0.0.1:4005 remote 127.0.0.1:4006 key ten.key
-hop 2 resend 160 contacts 0 open 0
-hop 2 contact closed
-route 12 hop 2
-"""
-
-# The same after the last of them, from the second line on.
-PASSED = b"""station 7
-peer 1 station 3 listen 127.0.0.1:4001 remote 127.0.0.1:4002
-hop 1 station 9 listen 127.0.0.1:4003 remote 127.0.0.1:4004
-hop 1 resend 160 contacts 2 open 150
-hop 1 contact closed
-hop 2 station 10 listen 127.0.0.1:4005 remote 127.0.0.1:4006 key ten.key
-hop 2 resend 160 contacts 0 open 0
-hop 2 contact closed
-route 12 hop 2
-"""
+# What is told while its first link is open, between its contacts, and after the last of them but for the first line.
+OPEN = f"at 1970-01-01T00:00:00.00015Z 150\n{TOLD.format('open until 1970-01-01T00:00:00.0002Z 200')}"
+CLOSED = f"at 1970-01-01T00:00:00.00025Z 250\n{TOLD.format('closed until 1970-01-01T00:00:00.0003Z 300')}"
+PASSED = TOLD.format("closed").encode()
 
 # Plans that are refused, and what is told.
 REFUSED = [
