@@ -1,4 +1,6 @@
+pub mod Faults
 pub mod Fields
+pub mod KindFields
 pub mod Messages
 pub mod Parts
 pub mod ReceivingLaws

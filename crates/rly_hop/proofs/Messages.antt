@@ -1,6 +1,7 @@
 -- What is read is spelled so, and what is spelled so is read.
-use Rattle.std.proofs.Common.{◌≡◌, ℕ, zero, suc, ◌+◌, ◌^◌, ◌<◌, ◌≤◌, false, not, ◌&&◌, ◌||◌, ◌==◌, nat_lt, slice_index, List, [], ◌∷◌, ◌++◌, length, drop, None, Result, Ok, Err, refl, sym, ap, subst, ◌∙◌, arith, inl, inr}
+use Rattle.std.proofs.Common.{◌≡◌, ℕ, zero, suc, ◌+◌, ◌^◌, ◌<◌, ◌≤◌, false, not, ◌&&◌, ◌||◌, ◌==◌, nat_lt, slice_index, List, [], ◌∷◌, ◌++◌, length, drop, Option, None, Result, Ok, Err, refl, sym, ap, subst, ◌∙◌, arith, inl, inr}
 use Rattle.std.specs.Prelude.{IfOk, IsOkAnd, MatchResult}
+use Rattle.std.specs.Result.{result_err}
 use Rattle.std.specs.Borrow.{Bor}
 use Rattle.std.proofs.lemmas.Bool.{le-ltb, ltb-false, ne_eqb, or_from}
 use Rattle.std.proofs.lemmas.List.{drop_all, get_or-drop, length-drop, take-append-drop}
@@ -13,7 +14,7 @@ use Rattle.rly_hop.specs.declared.message.Message.{Message}
 use Rattle.rly_hop.specs.declared.message.Message.TheVariants.{Data, Custody, Refused}
 use Rattle.rly_hop.specs.Payloads.{message_bytes}
 use Rattle.rly_hop.specs.Spelling.{IsMessage, IsStation, header, spelling}
-use Rattle.rly_hop.specs.Reading.{first_fault, fixed_length, kind_of, message_at, field_at, payload_length, reading, station_at, whole_length}
+use Rattle.rly_hop.specs.Reading.{first_fault, fixed_length, found_unless, kind_of, message_at, field_at, payload_length, reading, station_at, whole_length}
 use Rattle.rly_hop.proofs.Fields.{IsBytes, IsBytes-drop, IsHeader, IsHeader-from, NoFault, field-append, field_2, field_5, field_8, front, joined_3, known_kind, no_fault, ok-is, positive, quiet, unless-is, unless-ok}
 
 -- a station's number, where it isn't 0
@@ -256,6 +257,15 @@ reading-spelling (Refused from to number told) h =
 -- a message has one spelling
 pub spelling-once : (a b : Message (List ℕ)) → IsMessage a → IsMessage b → spelling a ≡ spelling b → a ≡ b
 spelling-once a b fits_a fits_b same = ok-is a b (sym (reading-spelling a fits_a) ∙ ap reading same ∙ reading-spelling b fits_b)
+
+-- a result that has the first fault, or else the message at its place, is what the bytes read as
+pub reading-of : (bytes : List ℕ) (found : Result (Message (Bor (List ℕ))) Refusal) → result_err found ≡ first_fault bytes
+    → IfOk found (λ m. message_bytes m ≡ message_at (kind_of bytes) bytes)
+    → MatchResult found (λ m. reading bytes ≡ Ok (message_bytes m)) (λ e. reading bytes ≡ Err e)
+unfolding reading
+reading-of bytes (Ok m) none is = unless-is (first_fault bytes) (message_at (kind_of bytes) bytes) (message_bytes m) (sym none) (sym is)
+reading-of bytes (Err fault) first is =
+    ap (λ (x : Option Refusal). found_unless x (message_at (kind_of bytes) bytes)) (sym first)
 
 -- the two facts of what a reader found
 pub found-spelled : (bytes : List ℕ) (found : Result (Message (Bor (List ℕ))) Refusal) → IsBytes bytes

@@ -1,5 +1,5 @@
 -- What a receiving core keeps over its events, and what its actions follow from.
-use Rattle.std.proofs.Common.{◌≡◌, ℕ, zero, suc, ◌+◌, ◌-◌, Bool, true, false, ◌&&◌, ◌==◌, if◌then◌else◌, List, [], ◌∷◌, length, Option, Some, None, is_none, refl, sym, ap, subst, ◌∙◌, arith}
+use Rattle.std.proofs.Common.{◌≡◌, ℕ, zero, suc, ◌+◌, ◌-◌, Bool, true, false, ◌&&◌, ◌==◌, if◌then◌else◌, List, [], ◌∷◌, length, Option, Some, None, is_none, refl, sym, ap, subst, ◌∙◌, ◌⊎◌, inl, inr, arith}
 use Rattle.std.specs.List.{AllByRecursion}
 use Rattle.std.proofs.lemmas.Bool.{and_parts, and_right, eqb-false, eqb-true}
 use Rattle.rly_core.specs.Refusals.{number_of}
@@ -15,7 +15,7 @@ use Rattle.rly_hop.specs.declared.receiving.event.InEvent.TheVariants.{Heard, An
 use Rattle.rly_hop.specs.declared.receiving.event.InAction.{InAction}
 use Rattle.rly_hop.specs.declared.receiving.event.InAction.TheVariants.{Take, Send}
 use Rattle.rly_hop.specs.Receiver.{Receiver}
-use Rattle.rly_hop.specs.Receiving.{ReceivingResult, after_answer, receiving_step, receiver, take_reply}
+use Rattle.rly_hop.specs.Receiving.{ReceivingResult, after_answer, is_told, receiving_step, receiver, refusal_message, take_reply}
 use Rattle.rly_hop.specs.ReceivingRuns.{IsCustodyDue, IsHeard, in_actions, last_take, receiver_after}
 
 -- stations with one number are one
@@ -105,17 +105,48 @@ otherwise : {A : Type 0} (b : Bool) (x y : A) → (if b then None else Some x) �
 otherwise true x y e = absurd cc
 otherwise false x y e = (refl, cc)
 
-told-custody : (r : Receiver) (k : ℕ) (any : TakeAnswer) (from to : StationId) (n : ℕ) → take_reply r k any ≡ Some (Send (message.Custody from to n))
-    → (from ≡ r.own) × (to ≡ r.peer) × IsCustodyDue (Some k) (Answered any) n
-told-custody r k answer.Taken from to n e = (cc, cc, cc)
-told-custody r k (answer.Already last) from to n e = (cc, cc, cc)
-told-custody r k (answer.Refused (Gap expected)) from to n e =
+-- what is named where a test is met
+told-where : (b : Bool) (x y : InAction (List ℕ)) → (if b then Some x else None) ≡ Some y → x ≡ y
+told-where true x y e = cc
+told-where false x y e = absurd cc
+
+-- a refusal is by a gap, or else the peer station is told of its number, if of anything
+gap-or-other : (r : Receiver) (k : ℕ) (refusal : Refusal)
+    → ((expected : ℕ) × (refusal ≡ Gap expected)) ⊎ (take_reply r k (answer.Refused refusal) ≡ (if is_told refusal then refusal_message r k refusal else None))
+gap-or-other r k (Gap expected) = inl (expected, refl)
+gap-or-other r k refusal = inr refl
+
+-- what a refusal that is no gap names is the message that tells of it
+refusal-named : (r : Receiver) (k : ℕ) (refusal : Refusal) (action : InAction (List ℕ))
+    → take_reply r k (answer.Refused refusal) ≡ (if is_told refusal then refusal_message r k refusal else None)
+    → take_reply r k (answer.Refused refusal) ≡ Some action → named (Send (message.Refused r.own r.peer k (number_of refusal))) ≡ named action
+refusal-named r k refusal action is e = told-where (is_told refusal) (Send (message.Refused r.own r.peer k (number_of refusal))) action (sym is ∙ e)
+
+gap-custody : (r : Receiver) (k expected : ℕ) (from to : StationId) (n : ℕ) → take_reply r k (answer.Refused (Gap expected)) ≡ Some (Send (message.Custody from to n))
+    → (from ≡ r.own) × (to ≡ r.peer) × IsCustodyDue (Some k) (Answered (answer.Refused (Gap expected))) n
+gap-custody r k expected from to n e =
     let gap = otherwise (expected == 0) (Send (message.Custody r.own r.peer (expected - 1))) (Send (message.Custody from to n)) e in
     let above = eqb-false expected 0 gap.0 in
     let same : named (Send (message.Custody r.own r.peer (expected - 1))) ≡ named (Send (message.Custody from to n)) = ap named gap.1 in
     let last : expected - 1 ≡ n = cc in
     (cc, cc, above_zero expected n above last)
-told-custody r k (answer.Refused refusal) from to n e = absurd cc
+
+refused-custody : (r : Receiver) (k : ℕ) (refusal : Refusal) (from to : StationId) (n : ℕ) → take_reply r k (answer.Refused refusal) ≡ Some (Send (message.Custody from to n))
+    → (from ≡ r.own) × (to ≡ r.peer) × IsCustodyDue (Some k) (Answered (answer.Refused refusal)) n
+refused-custody r k refusal from to n e =
+    elim (gap-or-other r k refusal) [
+      | inl gap ↦ subst (λ (x : Refusal). take_reply r k (answer.Refused x) ≡ Some (Send (message.Custody from to n)) → (from ≡ r.own) × (to ≡ r.peer) × IsCustodyDue (Some k) (Answered (answer.Refused x)) n)
+          (sym gap.1) (gap-custody r k gap.0 from to n) e
+      | inr other ↦
+          let same : named (Send (message.Refused r.own r.peer k (number_of refusal))) ≡ named (Send (message.Custody from to n)) = refusal-named r k refusal (Send (message.Custody from to n)) other e in
+          absurd cc
+    ]
+
+told-custody : (r : Receiver) (k : ℕ) (any : TakeAnswer) (from to : StationId) (n : ℕ) → take_reply r k any ≡ Some (Send (message.Custody from to n))
+    → (from ≡ r.own) × (to ≡ r.peer) × IsCustodyDue (Some k) (Answered any) n
+told-custody r k answer.Taken from to n e = (cc, cc, cc)
+told-custody r k (answer.Already last) from to n e = (cc, cc, cc)
+told-custody r k (answer.Refused refusal) from to n e = refused-custody r k refusal from to n e
 told-custody r k answer.Other from to n e = absurd cc
 
 answered-custody : (r : Receiver) (p taken : Option ℕ) (any : TakeAnswer) (from to : StationId) (n : ℕ) → ((k : ℕ) → p ≡ Some k → taken ≡ Some k)
@@ -139,15 +170,27 @@ received-custody r taken Lost from to n h e = absurd cc
 abbrev pub IsRefusal : TakeAnswer → ℕ → Type 0
 IsRefusal any code = (refusal : Refusal) × (any ≡ answer.Refused refusal) × (code ≡ number_of refusal)
 
+gap-refused : (r : Receiver) (k expected : ℕ) (from to : StationId) (n code : ℕ) → take_reply r k (answer.Refused (Gap expected)) ≡ Some (Send (message.Refused from to n code)) → ⊥
+gap-refused r k expected from to n code e =
+    let gap = otherwise (expected == 0) (Send (message.Custody r.own r.peer (expected - 1))) (Send (message.Refused from to n code)) e in
+    let same : named (Send (message.Custody r.own r.peer (expected - 1))) ≡ named (Send (message.Refused from to n code)) = ap named gap.1 in
+    cc
+
+refused-refused : (r : Receiver) (k : ℕ) (refusal : Refusal) (from to : StationId) (n code : ℕ) → take_reply r k (answer.Refused refusal) ≡ Some (Send (message.Refused from to n code))
+    → (from ≡ r.own) × (to ≡ r.peer) × (k ≡ n) × IsRefusal (answer.Refused refusal) code
+refused-refused r k refusal from to n code e =
+    elim (gap-or-other r k refusal) [
+      | inl gap ↦ absurd (subst (λ (x : Refusal). take_reply r k (answer.Refused x) ≡ Some (Send (message.Refused from to n code)) → ⊥) (sym gap.1) (gap-refused r k gap.0 from to n code) e)
+      | inr other ↦
+          let same : named (Send (message.Refused r.own r.peer k (number_of refusal))) ≡ named (Send (message.Refused from to n code)) = refusal-named r k refusal (Send (message.Refused from to n code)) other e in
+          (cc, cc, cc, (refusal, refl, cc))
+    ]
+
 told-refused : (r : Receiver) (k : ℕ) (any : TakeAnswer) (from to : StationId) (n code : ℕ) → take_reply r k any ≡ Some (Send (message.Refused from to n code))
     → (from ≡ r.own) × (to ≡ r.peer) × (k ≡ n) × IsRefusal any code
 told-refused r k answer.Taken from to n code e = absurd cc
 told-refused r k (answer.Already last) from to n code e = absurd cc
-told-refused r k (answer.Refused (Gap expected)) from to n code e =
-    let gap = otherwise (expected == 0) (Send (message.Custody r.own r.peer (expected - 1))) (Send (message.Refused from to n code)) e in
-    let same : named (Send (message.Custody r.own r.peer (expected - 1))) ≡ named (Send (message.Refused from to n code)) = ap named gap.1 in
-    absurd cc
-told-refused r k (answer.Refused refusal) from to n code e = (cc, cc, cc, (refusal, refl, cc))
+told-refused r k (answer.Refused refusal) from to n code e = refused-refused r k refusal from to n code e
 told-refused r k answer.Other from to n code e = absurd cc
 
 answered-refused : (r : Receiver) (p taken : Option ℕ) (any : TakeAnswer) (from to : StationId) (n code : ℕ) → ((k : ℕ) → p ≡ Some k → taken ≡ Some k)
@@ -172,14 +215,25 @@ received-refused r taken Lost from to n code h e = absurd cc
 
 -- ---- a Take follows the Data that was heard, and nothing is named after it
 
-told-take : (r : Receiver) (k : ℕ) (any : TakeAnswer) (n limit : ℕ) (payload : List ℕ) → take_reply r k any ≡ Some (Take n limit payload) → ⊥
-told-take r k answer.Taken n limit payload e = cc
-told-take r k (answer.Already last) n limit payload e = cc
-told-take r k (answer.Refused (Gap expected)) n limit payload e =
+gap-take : (r : Receiver) (k expected n limit : ℕ) (payload : List ℕ) → take_reply r k (answer.Refused (Gap expected)) ≡ Some (Take n limit payload) → ⊥
+gap-take r k expected n limit payload e =
     let gap = otherwise (expected == 0) (Send (message.Custody r.own r.peer (expected - 1))) (Take n limit payload) e in
     let same : named (Send (message.Custody r.own r.peer (expected - 1))) ≡ named (Take n limit payload) = ap named gap.1 in
     cc
-told-take r k (answer.Refused refusal) n limit payload e = cc
+
+refused-take : (r : Receiver) (k : ℕ) (refusal : Refusal) (n limit : ℕ) (payload : List ℕ) → take_reply r k (answer.Refused refusal) ≡ Some (Take n limit payload) → ⊥
+refused-take r k refusal n limit payload e =
+    elim (gap-or-other r k refusal) [
+      | inl gap ↦ subst (λ (x : Refusal). take_reply r k (answer.Refused x) ≡ Some (Take n limit payload) → ⊥) (sym gap.1) (gap-take r k gap.0 n limit payload) e
+      | inr other ↦
+          let same : named (Send (message.Refused r.own r.peer k (number_of refusal))) ≡ named (Take n limit payload) = refusal-named r k refusal (Take n limit payload) other e in
+          cc
+    ]
+
+told-take : (r : Receiver) (k : ℕ) (any : TakeAnswer) (n limit : ℕ) (payload : List ℕ) → take_reply r k any ≡ Some (Take n limit payload) → ⊥
+told-take r k answer.Taken n limit payload e = cc
+told-take r k (answer.Already last) n limit payload e = cc
+told-take r k (answer.Refused refusal) n limit payload e = refused-take r k refusal n limit payload e
 told-take r k answer.Other n limit payload e = cc
 
 answered-take : (r : Receiver) (p : Option ℕ) (any : TakeAnswer) (n limit : ℕ) (payload : List ℕ) → (after_answer r p any).1 ≡ Some (Take n limit payload) → ⊥

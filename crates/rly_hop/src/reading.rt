@@ -1,11 +1,11 @@
-ghost use Rattle.std.specs.Prelude.{◌≡◌, ◌≤◌, ◌<◌, ◌^◌, length, nat_lt, ◌∷◌, [], IfOk, IsOkAnd, MatchResult, OnOk, List, ℕ};
+ghost use Rattle.std.specs.Prelude.{◌≡◌, ◌≤◌, ◌<◌, ◌^◌, length, nat_lt, ◌∷◌, [], IfOk, IsOkAnd, OnOk, List, ℕ};
 ghost use Rattle.rly_hop.specs.declared.message.Message.{Message};
 ghost use Rattle.rly_hop.specs.Spelling.{IsMessage, spelling};
 ghost use Rattle.std.specs.Result.{result_err};
 ghost use Rattle.rly_hop.specs.Payloads.{message_bytes};
 ghost use Rattle.rly_hop.specs.HelpersKinds.{message_kind_byte};
 ghost use Rattle.rly_hop.specs.Rows.{first_row};
-ghost use Rattle.rly_hop.specs.Reading.{field_at, first_fault, fixed_length, kind_of, header_faults, length_faults, message_at, payload_length, reading, station_at, whole_length};
+ghost use Rattle.rly_hop.specs.Reading.{field_at, first_fault, fixed_length, kind_of, header_faults, length_faults, message_at, payload_length, station_at, whole_length};
 
 use crate::kind::Kind;
 use crate::message::{HEADER_LENGTH, MAGIC, Message, StationId, VERSION, place};
@@ -116,10 +116,9 @@ pub fn read_message(bytes: &[u8]) -> Result<Message<&[u8]>, Refusal>
 }
 
 /// What the bytes read as, field by field.
-#[tactic(auto, unfolding(crate::specs::Reading::first_fault, crate::specs::Reading::reading))]
 fn message_of(bytes: &[u8]) -> Result<Message<&[u8]>, Refusal>
     ensures fault { result_err result ≡ first_fault bytes.now }
-    ensures exact { MatchResult result (λ m. reading bytes.now ≡ Ok (message_bytes m)) (λ e. reading bytes.now ≡ Err e) }
+    ensures fields { IfOk result (λ m. message_bytes m ≡ message_at (kind_of bytes.now) bytes.now) }
 {
     let header = read_header(bytes)?;
     let whole = read_length(header.kind, bytes)?;
