@@ -1,12 +1,13 @@
 -- The report on a state (docs/COMMANDS.md, "rly audit"): a line for each hop, then one for each peer, then the count of
 -- accepted commands, and, where the books balance, that they do.
-use Rattle.std.specs.Prelude.{ℕ, ◌+◌, ◌==◌, nat_lt, if◌then◌else◌, Bool, true, false, ◌&&◌, List, [], ◌∷◌, ◌++◌, codes}
+use Rattle.std.specs.Prelude.{ℕ, ◌+◌, ◌==◌, Bool, true, false, ◌&&◌, List, [], ◌∷◌, ◌++◌, codes}
 use Rattle.std.specs.Prelude.{map, sum, sum_by}
 use Rattle.std.specs.Fmt.{decimal}
 use Rattle.std.specs.List.{enumerate_from, flat_map, list_all}
 use Rattle.rly_machine.specs.declared.reply.HopStatus.{HopStatus}
 use Rattle.rly_machine.specs.Query.{status_of}
 use Rattle.rly_machine.specs.State.{State}
+use Rattle.rly_reply.specs.Counts.{counts_text, expired_text}
 
 -- the numbers that a report tells: those of each hop, the last one taken from each peer, and how many commands were
 -- accepted
@@ -18,19 +19,6 @@ pub record BooksState : Type 0 where
 -- the numbers of a state
 abbrev pub books_of : State (List ℕ) → BooksState
 books_of s = record { hops = map status_of s.hops; lasts = s.lasts; seq = s.seq }
-
--- what became of a hop's datagrams
-unfoldable pub counts_text : HopStatus → List ℕ
-counts_text h =
-    codes " taken " ++ decimal h.taken
-    ++ codes " queued " ++ decimal h.queued
-    ++ codes " flight " ++ decimal h.flight
-    ++ codes " dropped " ++ decimal h.dropped
-    ++ codes " released " ++ decimal h.released
-
--- how many expired, where any did
-unfoldable pub expired_text : ℕ → List ℕ
-expired_text count = if nat_lt 0 count then codes " expired " ++ decimal count else []
 
 -- hop H taken A queued B flight C dropped D released E, and at its end how many expired
 abbrev pub hop_line : ℕ × HopStatus → List ℕ

@@ -7,6 +7,7 @@ use rly_core::{HopId, PeerId};
 use rly_disk::Disk;
 use rly_journal::Journal;
 use rly_machine::{HopStatus, Reply};
+use rly_reply::{Expired, HopCounts};
 use std::alloc::{AllocError, Global};
 use std::fmt;
 use std::marker::Model;
@@ -180,55 +181,4 @@ fn total(numbers: &[u64]) -> u128
         total += u128::from(*number);
     }
     total
-}
-
-/// What became of a hop's datagrams, but for those that expired. It displays as their counts, each after its name.
-#[derive(Drop)]
-pub struct HopCounts<'a> {
-    /// All numbers of the hop.
-    pub status: &'a HopStatus,
-}
-
-impl fmt::Display for HopCounts<'_> {
-    ghost use Rattle.std.specs.Prelude.{Some};
-    ghost use Rattle.rly_audit.specs.Report.{counts_text};
-
-    ghost output = { λ counts. Some (counts_text counts.status.now) };
-
-    #[tactic(auto, unfolding(crate::specs::Report::counts_text))]
-    fn fmt<W: fmt::Write>(&self, f: &mut fmt::Formatter<W>) -> fmt::Result {
-        let HopStatus {
-            taken,
-            queued,
-            flight,
-            dropped,
-            released,
-            ..
-        } = *self.status;
-        write!(f, " taken {taken} queued {queued} flight {flight}")?;
-        write!(f, " dropped {dropped} released {released}")
-    }
-}
-
-/// How many of a hop's datagrams expired. It displays as their count after its name, where any did.
-#[derive(Drop)]
-pub struct Expired {
-    /// How many.
-    pub count: u64,
-}
-
-impl fmt::Display for Expired {
-    ghost use Rattle.std.specs.Prelude.{Some};
-    ghost use Rattle.rly_audit.specs.Report.{expired_text};
-
-    ghost output = { λ expired. Some (expired_text expired.count) };
-
-    #[tactic(auto, unfolding(crate::specs::Report::expired_text))]
-    fn fmt<W: fmt::Write>(&self, f: &mut fmt::Formatter<W>) -> fmt::Result {
-        let count = self.count;
-        if count == 0 {
-            return Ok(());
-        }
-        write!(f, " expired {count}")
-    }
 }

@@ -12,6 +12,5 @@ mod fault;
 mod live;
 
 pub use crate::auditing::audit;
-pub use crate::books::{Expired, HopCounts};
 pub use crate::fault::AuditFault;
 pub use crate::live::live_items;

@@ -1,6 +1,10 @@
 -- What contracts see of a disk over a file.
-use Rattle.std.specs.Prelude.{◌≤◌, []}
+use Rattle.std.specs.Prelude.{◌≤◌, [], Option, Some, None}
+use Rattle.std.specs.IoError.{error_kind}
 use Rattle.rly_disk.specs.DiskModel.{Consistent, DiskState}
+use Rattle.rly_station.specs.Faults.{part_of}
+use Rattle.rly_station.specs.declared.file_fault.FileFault.{FileFault}
+use Rattle.rly_station.specs.declared.file_fault.SystemWord.{SystemWord}
 use Rattle.rly_commands.specs.declared.file_disk.FileDisk.{FileDisk}
 
 -- its size and its counts; of the bytes of a real file nothing can be proved, so it is never honest
@@ -17,6 +21,15 @@ file_state disk = record {
   syncs = disk.counts.syncs;
   failed_reads = disk.counts.failed_reads;
 }
+
+-- the fault that a word of the system is, where there is one
+abbrev pub fault_of : Option SystemWord → Option FileFault
+fault_of None = None
+fault_of (Some word) = Some (record { part = part_of (error_kind word.0); word = word })
+
+-- the fault of the first of its calls that failed
+abbrev pub first_fault : FileDisk → Option FileFault
+first_fault disk = fault_of disk.word
 
 pub file_consistent : (disk : FileDisk) → ⊥ → Consistent (file_state disk)
 file_consistent disk honest = absurd honest

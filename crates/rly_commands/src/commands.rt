@@ -9,8 +9,9 @@ ghost use Rattle.rly_standing.specs.Faults.{opening_refusal};
 ghost use Rattle.rly_standing.specs.declared.open_fault.OpenFault.{OpenFault};
 ghost use Rattle.rly_segment.specs.Device.{IsLayout, device_length};
 ghost use Rattle.rly_commands.specs.Commands.{HasFormatted, HasPlayed, HasReport, size_line};
-ghost use Rattle.rly_commands.specs.FileDisk.{file_state};
+ghost use Rattle.rly_commands.specs.FileDisk.{file_state, first_fault};
 ghost use Rattle.rly_commands.specs.Formatting.{FindsNoneLive, HasMade, wanted_geometry};
+ghost use Rattle.rly_station.specs.Faults.{device_cause};
 ghost use Rattle.rly_station.specs.declared.file_fault.Cause.{Cause as ACause};
 ghost use Rattle.rly_text.specs.Text.{text_for};
 
@@ -185,7 +186,7 @@ pub fn open_journal(alloc: Global, disk: FileDisk) -> Result<Journal<FileDisk>, 
 
 /// A refusal of a device, with what the system said of the first call that failed.
 pub fn refused(refusal: Refusal, disk: &FileDisk) -> CommandFault
-    ensures { (cause : ACause) × (result ≡ CommandFault.Refused refusal cause) }
+    ensures { result ≡ CommandFault.Refused refusal (device_cause refusal (first_fault disk.now)) }
 {
     CommandFault::Refused(refusal, Cause::of_device(refusal, disk.fault()))
 }

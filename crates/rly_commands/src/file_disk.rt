@@ -1,5 +1,5 @@
 ghost use Rattle.std.specs.Prelude.{◌≡◌, ◌≤◌, IfOk, OnOk};
-ghost use Rattle.rly_commands.specs.FileDisk.{file_state};
+ghost use Rattle.rly_commands.specs.FileDisk.{file_state, first_fault};
 
 use rly_disk::{Counts, Disk, DiskFault};
 use rly_station::{FileFault, SystemWord};
@@ -59,7 +59,9 @@ impl FileDisk {
     }
 
     /// What the system said of the first of its calls that failed.
-    pub fn fault(&self) -> Option<FileFault> {
+    pub fn fault(&self) -> Option<FileFault>
+        ensures { result ≡ first_fault self.now }
+    {
         Some(FileFault::from(self.word?.0))
     }
 

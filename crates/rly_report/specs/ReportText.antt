@@ -11,7 +11,7 @@ use Rattle.rly_report.specs.declared.peer_counts.PeerCounts.{PeerCounts}
 use Rattle.rly_report.specs.declared.report.DeviceReport.{DeviceReport}
 use Rattle.rly_report.specs.declared.report.HopReport.{HopReport}
 use Rattle.rly_report.specs.declared.report.PeerReport.{PeerReport}
-use Rattle.rly_text.specs.Replies.{status_text}
+use Rattle.rly_reply.specs.Replies.{status_text}
 
 -- report MOMENT
 abbrev pub moment_line : ℕ → List ℕ

@@ -3,7 +3,7 @@ ghost use Rattle.rly_report.specs.ReportText.{answer_text, device_line, hop_line
 
 use crate::peer_counts::PeerCounts;
 use crate::report::{DeviceReport, HopReport, PeerReport, Report};
-use rly_text::StatusLine;
+use rly_reply::StatusLine;
 use std::alloc::{AllocError, Global};
 use std::fmt;
 

@@ -106,16 +106,12 @@ pub enum Cause {
 }
 
 impl Cause {
-    ghost use Rattle.std.specs.Prelude.{◌≡◌, ◌≢◌, ◌⊎◌, IfSome, None};
-    ghost use Rattle.rly_core.specs.declared.refusal.Refusal.TheVariants.{BadGeometry, Broken, Device};
-    ghost use Rattle.rly_station.specs.declared.file_fault.Cause.TheVariants.{Header, System, Told};
+    ghost use Rattle.std.specs.Prelude.{◌≡◌};
+    ghost use Rattle.rly_station.specs.Faults.{device_cause};
 
     /// What was refused where a device was opened, or where a call of it failed: `fault` is the first of its calls that did.
     pub fn of_device(refusal: Refusal, fault: Option<FileFault>) -> Cause
-        ensures header { refusal ≡ BadGeometry → result ≡ Header }
-        ensures system { (refusal ≡ Device) ⊎ (refusal ≡ Broken) → IfSome fault (λ first. result ≡ System first) }
-        ensures no_fault { refusal ≢ BadGeometry → fault ≡ None → result ≡ Told }
-        ensures other { refusal ≢ BadGeometry → refusal ≢ Device → refusal ≢ Broken → result ≡ Told }
+        ensures { result ≡ device_cause refusal fault }
     {
         match (refusal, fault) {
             (Refusal::BadGeometry, _) => Cause::Header,

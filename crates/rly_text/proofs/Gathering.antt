@@ -7,7 +7,7 @@ use Rattle.rly_text.specs.Grammar.{ask_in_line}
 use Rattle.rly_text.specs.HelpersReading.{TakesLine}
 use Rattle.rly_text.specs.Lines.{lines_of}
 use Rattle.rly_text.specs.HelpersPlaying.{EndsAt, Gathers, asks_in, asks_of, subject_in}
-use Rattle.rly_text.specs.declared.reply_line.Subject.{Subject}
+use Rattle.rly_reply.specs.declared.reply_line.Subject.{Subject}
 use Rattle.rly_text.proofs.Texts.{kept_asks}
 
 asks_push : (asked : List (Option Ask)) (one : Option Ask) → asks_in (asked ++ one ∷ []) ≡ asks_in asked ++ asks_in (one ∷ [])

@@ -7,7 +7,6 @@ pub mod Newlines
 pub mod Pieces
 pub mod Outflows
 pub mod Texts
-pub mod Digits
 pub mod Rounds
 pub mod Gathering
 pub mod Answered

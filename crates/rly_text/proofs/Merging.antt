@@ -17,7 +17,7 @@ use Rattle.rly_machine.specs.declared.reply.Reply.{Reply}
 use Rattle.rly_machine.specs.declared.reply.Reply.TheVariants.{Refused}
 use Rattle.rly_text.specs.HelpersPlaying.{asks_in, asks_of, round_text, subject_in}
 use Rattle.rly_text.specs.Playing.{AreLinesLostWhereWanted, AreLinesRefused, AreLinesServed, AreUnreadOnlyWhere, IsLineServed, IsLost, ServedLine, asked_command, served_text}
-use Rattle.rly_text.specs.Replies.{reply_text, subject_of}
+use Rattle.rly_reply.specs.Replies.{reply_text, subject_of}
 use Rattle.rly_text.specs.Text.{ByteState}
 
 abbrev pub merge : List (Option Ask) → List Answer → List ServedLine

@@ -15,7 +15,7 @@ use Rattle.rly_text.specs.Grammar.{ask_in_line}
 use Rattle.rly_text.specs.HelpersPlaying.{IsAnsweredBy, asks_in, asks_of, round_text, subject_in}
 use Rattle.rly_text.specs.Playing.{AreLinesLostWhereWanted, AreLinesRefused, AreLinesServed, AreLostForHead, AreUnreadOnlyWhere, IsLostInRounds, PlayCourse, Plays}
 use Rattle.rly_text.specs.Text.{ByteState}
-use Rattle.rly_text.specs.declared.reply_line.Subject.{Subject}
+use Rattle.rly_reply.specs.declared.reply_line.Subject.{Subject}
 use Rattle.rly_text.proofs.Courses.{by_flag, plays_of}
 use Rattle.rly_text.proofs.Losing.{broken_unread, broken_wanted}
 use Rattle.rly_text.proofs.Merging.{merge, merge_asked, merge_commands, merge_refused, merge_served, merge_text, merge_unread, merge_wanted}

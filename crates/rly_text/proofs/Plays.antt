@@ -11,7 +11,7 @@ use Rattle.rly_text.specs.Lines.{lines_of}
 use Rattle.rly_text.specs.HelpersOutflow.{Adds, AddsBeginning, Outflow, outflow_of}
 use Rattle.rly_text.specs.HelpersPlaying.{AddsPlay, BeginsPlay, EndsAt, Gathers, IsAnsweredBy, PlaysSome, asks_of, round_text}
 use Rattle.rly_text.specs.Playing.{Plays, PlaysAll, PlaysFront}
-use Rattle.rly_text.specs.declared.reply_line.Subject.{Subject}
+use Rattle.rly_reply.specs.declared.reply_line.Subject.{Subject}
 use Rattle.rly_text.proofs.Courses.{plays_append, plays_none}
 use Rattle.rly_text.proofs.Outflows.{adds_adds, adds_begins, adds_none, begins_added, ends_begun, ends_written}
 use Rattle.rly_text.proofs.PlayedRounds.{plays_round}

@@ -4,7 +4,7 @@ use Rattle.std.proofs.Math.Seq.{drop-cons}
 use Rattle.rly_machine.specs.declared.call.Answer.{Answer}
 use Rattle.rly_text.specs.HelpersOutflow.{Adds, AddsBeginning, Outflow}
 use Rattle.rly_text.specs.HelpersPlaying.{answers_behind, round_text, slot_text}
-use Rattle.rly_text.specs.declared.reply_line.Subject.{Subject}
+use Rattle.rly_reply.specs.declared.reply_line.Subject.{Subject}
 use Rattle.rly_text.proofs.Outflows.{adds_adds, adds_begins, begins_whole}
 
 abbrev pub Slots : Type 0

@@ -12,7 +12,7 @@ use Rattle.rly_machine.specs.declared.reply.Reply.TheVariants.{Bytes, Refused}
 use Rattle.rly_machine.proofs.RealReplies.{real_reply}
 use Rattle.rly_text.specs.Grammar.{ask_in_line}
 use Rattle.rly_text.specs.Playing.{AreLinesRefused, AreLinesServed, AreMachineLines, AreUnreadOnlyWhere, IsLineRefused, IsLineServed, IsLost, IsMachineLine, NoneStarved, ServedLine, reply_line, served_text, state_behind, state_behind_all}
-use Rattle.rly_text.specs.Replies.{reply_text, subject_of}
+use Rattle.rly_reply.specs.Replies.{reply_text, subject_of}
 use Rattle.rly_text.specs.Text.{ByteState, answer_of, ask_answer, replies_from}
 
 -- ---- lines, and then others

@@ -16,9 +16,9 @@ use Rattle.rly_text.specs.Grammar.{ask_in_line}
 use Rattle.rly_text.specs.HelpersOutflow.{Adds, AddsBeginning, Outflow}
 use Rattle.rly_text.specs.Lines.{lines_of}
 use Rattle.rly_text.specs.Playing.{Plays}
-use Rattle.rly_text.specs.Replies.{subject_of, reply_text}
+use Rattle.rly_reply.specs.Replies.{subject_of, reply_text}
 use Rattle.rly_text.specs.declared.line_batch.Batch.{Batch}
-use Rattle.rly_text.specs.declared.reply_line.Subject.{Subject}
+use Rattle.rly_reply.specs.declared.reply_line.Subject.{Subject}
 
 -- all lines of the known bytes that were left were played, and their text was added to what is held back
 abbrev pub AddsPlay : {D : Type 0} → ℕ → (D → DiskState) → JournalState D → JournalState D

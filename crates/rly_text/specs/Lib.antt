@@ -1,6 +1,5 @@
 pub mod Lines
 pub mod Grammar
-pub mod Replies
 pub mod Text
 pub mod Playing
 pub mod HelpersReading

@@ -18,7 +18,7 @@ use Rattle.rly_machine.specs.declared.reply.Reply.TheVariants.{Refused}
 use Rattle.rly_stream.specs.Beginnings.{AppendsBeginning}
 use Rattle.rly_text.specs.Grammar.{ask_in_line}
 use Rattle.rly_text.specs.Lines.{lines_of}
-use Rattle.rly_text.specs.Replies.{subject_of, reply_text}
+use Rattle.rly_reply.specs.Replies.{subject_of, reply_text}
 use Rattle.rly_text.specs.Text.{ByteState, ask_answer, replies_from}
 
 -- what a line asked, if it is a command or a question, and the reply that it got

@@ -11,7 +11,7 @@ use Rattle.rly_text.specs.declared.text_fault.TextFault.{TextFault}
 use Rattle.rly_text.specs.declared.text_fault.TextFault.TheVariants as fault
 use Rattle.rly_text.specs.Grammar.{ask_in_line}
 use Rattle.rly_text.specs.Lines.{lines_of}
-use Rattle.rly_text.specs.Replies.{subject_of, reply_text}
+use Rattle.rly_reply.specs.Replies.{subject_of, reply_text}
 
 -- the state of a spool whose payloads are bytes
 abbrev pub ByteState : Type 0

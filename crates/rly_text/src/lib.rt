@@ -1,9 +1,9 @@
-//! The language of lines of the program `rly`: what a line asks, the line of its reply, and the
-//! commands `sim` and `play`, which answer the lines of any reader. It has no handles.
+//! The language of lines of the program `rly`: what a line asks, and the commands `sim` and `play`,
+//! which answer the lines of any reader. It has no handles.
 //!
-//! `specs/Grammar.antt` says what a line asks, `specs/Replies.antt` gives the line of a reply,
-//! and `specs/Text.antt` the text for a whole input. `specs/Playing.antt` has the text of a play,
-//! with what becomes of its journal. `sim` and `play` write these texts. Callers: `rly_daemon`
+//! `specs/Grammar.antt` says what a line asks, and `specs/Text.antt` the text for a whole input,
+//! whose lines are those of `rly_reply`. `specs/Playing.antt` has the text of a play, with what
+//! becomes of its journal. `sim` and `play` write these texts. Callers: `rly_daemon`
 //! and tests.
 #![tactic(auto)]
 
@@ -14,11 +14,9 @@ mod line_evaluation;
 mod line_reader;
 mod outflow;
 mod playing;
-mod reply_line;
 mod simulation;
 mod text_fault;
 
 pub use crate::playing::play;
-pub use crate::reply_line::StatusLine;
 pub use crate::simulation::sim;
 pub use crate::text_fault::TextFault;

@@ -11,11 +11,11 @@ use crate::grammar::parse_line;
 use crate::line_evaluation::{add_refused_line, add_reply};
 use crate::line_reader::LineReader;
 use crate::outflow::{hand_on, relieve};
-use crate::reply_line::Subject;
 use crate::text_fault::TextFault;
 use rly_disk::Disk;
 use rly_journal::Journal;
 use rly_machine::{Answer, Ask, Call, SeatId};
+use rly_reply::Subject;
 use std::alloc::{AllocError, Global};
 use std::io::{Read, Write};
 

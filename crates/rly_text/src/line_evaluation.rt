@@ -2,13 +2,13 @@ ghost use Rattle.std.specs.Prelude.{◌≡◌, ◌∷◌, ◌++◌, [], OnErr, O
 ghost use Rattle.rly_core.specs.Refusals.{refusal_line};
 ghost use Rattle.rly_machine.specs.Ask.{ask_step};
 ghost use Rattle.rly_text.specs.HelpersOutflow.{LeavesBeginning};
-ghost use Rattle.rly_text.specs.Replies.{reply_text, subject_of};
+ghost use Rattle.rly_reply.specs.Replies.{reply_text, subject_of};
 ghost use Rattle.rly_text.specs.Text.{answer_of};
 
 use crate::grammar::parse_line;
-use crate::reply_line::{ReplyLine, Subject};
 use rly_core::Refusal;
 use rly_machine::{Ask, Machine, Payload, Reply};
+use rly_reply::{ReplyLine, Subject};
 use std::alloc::{AllocError, Global};
 
 /// Evaluates the ask of a line on a machine, and adds the reply line with its newline.

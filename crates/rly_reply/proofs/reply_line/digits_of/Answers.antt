@@ -1,5 +1,5 @@
-use Rattle.rly_text.proofs.Digits.{digits_text, never_error}
-use Rattle.rly_text.proofs.reply_line.digits_of.Goals as goal
+use Rattle.rly_reply.proofs.Digits.{digits_text, never_error}
+use Rattle.rly_reply.proofs.reply_line.digits_of.Goals as goal
 
 pub unwrap-requires-2 : goal.unwrap-requires-2
 unwrap-requires-2 c =

@@ -1,8 +1,8 @@
 use Rattle.std.proofs.Common.{rules, ◌++◌, [], ◌∙◌, sym, append_assoc}
 use Rattle.std.proofs.lemmas.Grind.{put_two}
 use Rattle.hex.specs.Hex.{encode_lower, lower_digits}
-use Rattle.rly_text.proofs.Digits.{encode_both, encode_nil}
-use Rattle.rly_text.proofs.reply_line.DigitsDisplay.fmt.Goals as goal
+use Rattle.rly_reply.proofs.Digits.{encode_both, encode_nil}
+use Rattle.rly_reply.proofs.reply_line.DigitsDisplay.fmt.Goals as goal
 
 pub loop-piece-init : goal.loop-piece-init
 loop-piece-init g c = (search rules, [], search rules, λ plain. rw encode_nil (search rules))

@@ -3,7 +3,6 @@ use Rattle.std.specs.Prelude.{ℕ, nat_lt, if◌then◌else◌, List, [], ◌∷
 use Rattle.std.specs.Fmt.{decimal}
 use Rattle.std.specs.List.{flat_map}
 use Rattle.hex.specs.Hex.{encode_lower}
-use Rattle.rly_audit.specs.Report.{counts_text, expired_text}
 use Rattle.rly_core.specs.Refusals.{refusal_line}
 use Rattle.rly_core.specs.declared.ids.HopId.{HopId}
 use Rattle.rly_machine.specs.declared.command.Ask.{Ask}
@@ -15,7 +14,8 @@ use Rattle.rly_machine.specs.declared.reply.HopStatus.{HopStatus}
 use Rattle.rly_machine.specs.declared.reply.Reply.{Reply}
 use Rattle.rly_machine.specs.declared.reply.Reply.TheVariants.{Taken, Already, Picked, Nothing, Released, Unchanged}
 use Rattle.rly_machine.specs.declared.reply.Reply.TheVariants.{Bytes, WindowIs, Shown, Refused}
-use Rattle.rly_text.specs.declared.reply_line.Subject.{Subject}
+use Rattle.rly_reply.specs.Counts.{counts_text, expired_text}
+use Rattle.rly_reply.specs.declared.reply_line.Subject.{Subject}
 
 -- what of an ask its reply repeats
 abbrev pub subject_of : Ask → Subject

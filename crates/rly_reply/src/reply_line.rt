@@ -1,9 +1,9 @@
 ghost use Rattle.std.specs.Prelude.{◌≡◌, ◌≤◌, Some, codes, length};
 ghost use Rattle.hex.specs.Hex.{encode_lower};
 
-use rly_audit::{Expired, HopCounts};
+use crate::status_line::StatusLine;
 use rly_core::{HopId, PeerId};
-use rly_machine::{Ask, CodelState, Command, HopStatus, Ids, Payload, Query, Reply};
+use rly_machine::{Ask, Command, Ids, Payload, Query, Reply};
 use std::fmt;
 
 /// What of an ask its reply line repeats.
@@ -18,7 +18,7 @@ pub struct Subject {
 }
 
 impl Subject {
-    ghost use Rattle.rly_text.specs.Replies.{subject_of};
+    ghost use Rattle.rly_reply.specs.Replies.{subject_of};
 
     /// What the reply to an ask repeats of it.
     pub fn of(ask: &Ask) -> Subject
@@ -64,7 +64,7 @@ pub struct ReplyLine<'a> {
 }
 
 impl fmt::Display for ReplyLine<'_> {
-    ghost use Rattle.rly_text.specs.Replies.{reply_text};
+    ghost use Rattle.rly_reply.specs.Replies.{reply_text};
 
     ghost output = { λ line. Some (reply_text line.subject line.reply.now) };
 
@@ -108,7 +108,7 @@ struct ListedIds<'a> {
 }
 
 impl fmt::Display for ListedIds<'_> {
-    ghost use Rattle.rly_text.specs.Replies.{listed_text};
+    ghost use Rattle.rly_reply.specs.Replies.{listed_text};
 
     ghost output = { λ listed. Some (listed_text listed.word.now listed.ids.now) };
 
@@ -151,7 +151,7 @@ struct SpacedIds<'a> {
 }
 
 impl fmt::Display for SpacedIds<'_> {
-    ghost use Rattle.rly_text.specs.Replies.{ids_text};
+    ghost use Rattle.rly_reply.specs.Replies.{ids_text};
 
     ghost output = { λ spaced. Some (ids_text spaced.ids.now) };
 
@@ -171,7 +171,7 @@ struct Hexadecimal<'a> {
 }
 
 impl fmt::Display for Hexadecimal<'_> {
-    ghost use Rattle.rly_text.specs.Replies.{payload_text};
+    ghost use Rattle.rly_reply.specs.Replies.{payload_text};
 
     ghost output = { λ hexadecimal. Some (payload_text hexadecimal.payload.now) };
 
@@ -223,7 +223,7 @@ struct Limit {
 }
 
 impl fmt::Display for Limit {
-    ghost use Rattle.rly_text.specs.Replies.{limit_text};
+    ghost use Rattle.rly_reply.specs.Replies.{limit_text};
 
     ghost output = { λ limit. Some (limit_text limit.limit) };
 
@@ -234,60 +234,5 @@ impl fmt::Display for Limit {
             return Ok(());
         }
         write!(f, " {limit}")
-    }
-}
-
-/// All numbers of a hop, as a line.
-#[derive(Drop)]
-pub struct StatusLine<'a> {
-    /// Which hop it is.
-    pub hop: HopId,
-    /// Its numbers.
-    pub status: &'a HopStatus,
-}
-
-impl fmt::Display for StatusLine<'_> {
-    ghost use Rattle.rly_text.specs.Replies.{status_text};
-
-    ghost output = { λ line. Some (status_text line.hop line.status.now) };
-
-    fn fmt<W: fmt::Write>(&self, f: &mut fmt::Formatter<W>) -> fmt::Result {
-        let (hop, status) = (self.hop.0, self.status);
-        let counts = HopCounts { status };
-        let codel = Discards {
-            codel: &status.codel,
-        };
-        let (moment, count) = (status.moment, status.expired);
-        let expired = Expired { count };
-        write!(f, "hop {hop}{counts}{codel} moment {moment}{expired}")
-    }
-}
-
-/// CoDel's state of a hop.
-#[derive(Drop)]
-struct Discards<'a> {
-    codel: &'a CodelState,
-}
-
-impl fmt::Display for Discards<'_> {
-    ghost use Rattle.rly_text.specs.Replies.{discards_text};
-
-    ghost output = { λ discards. Some (discards_text discards.codel.now) };
-
-    #[tactic(auto, unfolding(crate::specs::Replies::discards_text))]
-    fn fmt<W: fmt::Write>(&self, f: &mut fmt::Formatter<W>) -> fmt::Result {
-        let CodelState {
-            first_above_time,
-            drop_next,
-            count,
-            lastcount,
-            dropping,
-        } = *self.codel;
-        let dropping = if dropping { "yes" } else { "no" };
-        write!(
-            f,
-            " first {first_above_time} next {drop_next} count {count}"
-        )?;
-        write!(f, " last {lastcount} dropping {dropping}")
     }
 }

@@ -1,7 +1,7 @@
 use Rattle.std.proofs.Common.{take}
 use Rattle.std.specs.Fmt.{HasWritten, IsPlainFormatter}
-use Rattle.rly_text.specs.Replies.{ids_text}
-use Rattle.rly_text.proofs.reply_line.SpacedIdsDisplay.fmt.Given as goal
+use Rattle.rly_reply.specs.Replies.{ids_text}
+use Rattle.rly_reply.proofs.reply_line.SpacedIdsDisplay.fmt.Given as goal
 
 abbrev pub invariant-loop-id : goal.invariant-loop-id
 invariant-loop-id g l =
