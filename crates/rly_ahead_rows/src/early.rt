@@ -1,160 +1,239 @@
 //! What is kept, and whose turn comes.
+use crate::expect::expect_row;
 use crate::packets::data;
 use rly_early::Early;
+use std::alloc::Global;
 use std::process::Abort;
-use std::test::Fail;
 
-/// These numbers are given one after the other, and no more is due then.
-fn gives<R: Abort>(rt: &R, early: &mut Early, numbers: &[u8]) {
+/// What comes, what custody covers, and what is given then.
+#[derive(Clone, Copy)]
+enum Act {
+    /// Data of all numbers from one up to another come, one after the other.
+    Hears(u8, u8),
+    /// Data come under another number than theirs.
+    HearsAs(u64, u8),
+    /// A packet of 22 bytes comes under this number.
+    HearsLonger(u8),
+    /// Custody covers all numbers up to this one.
+    Covers(u64),
+    /// The Data of all numbers from one up to another are given, one after the other, and no more is due then.
+    Gives(u8, u8),
+    /// Nothing is due.
+    GivesNothing,
+    /// Nothing is given into a buffer of 20 bytes.
+    FitsNot,
+}
+
+/// The Data of this number are given.
+fn gives<R: Abort>(rt: &R, early: &mut Early, number: u8) {
     let mut buffer = [0; 21];
-    for number in numbers {
-        let found = early.give(&mut buffer);
-        crate::expect::expect_row(rt, found == Some(21), "given", u64::from(*number));
-        crate::expect::expect_row(rt, buffer == data(*number), "itself", u64::from(*number));
+    let found = early.give(&mut buffer);
+    expect_row(rt, found == Some(21), "given", u64::from(number));
+    expect_row(rt, buffer == data(number), "itself", u64::from(number));
+}
+
+/// Those of all these are.
+fn gives_all<R: Abort>(rt: &R, early: &mut Early, first: u8, last: u8) {
+    for number in first..=last {
+        gives(rt, early, number);
     }
-    crate::expect::expect(rt, early.give(&mut buffer) == None, "no more");
 }
 
 /// These come one after the other.
-fn hear(early: &mut Early, numbers: &[u8]) {
-    for number in numbers {
-        early.hear(u64::from(*number), &data(*number));
+fn hear(early: &mut Early, first: u8, last: u8) {
+    for number in first..=last {
+        early.hear(u64::from(number), &data(number));
     }
 }
 
+/// Makes an act. Whether no more is due, where the act says so.
+fn is_done<R: Abort>(rt: &R, early: &mut Early, act: Act) -> bool {
+    match act {
+        Act::Hears(first, last) => hear(early, first, last),
+        Act::HearsAs(number, other) => early.hear(number, &data(other)),
+        Act::HearsLonger(number) => early.hear(u64::from(number), &[number; 22]),
+        Act::Covers(last) => early.cover(last),
+        Act::Gives(first, last) => {
+            gives_all(rt, early, first, last);
+            return early.give(&mut [0; 21]).is_none();
+        }
+        Act::GivesNothing => return early.give(&mut [0; 21]).is_none(),
+        Act::FitsNot => return early.give(&mut [0; 20]).is_none(),
+    }
+    true
+}
+
+/// Makes the acts, one after the other.
+fn run<R: Abort>(rt: &R, early: &mut Early, acts: &[Act]) {
+    let mut row = 0u64;
+    for act in acts {
+        row = row.saturating_add(1);
+        expect_row(rt, is_done(rt, early, *act), "no more", row);
+    }
+}
+
+/// The same where packets of so many bytes are kept, and none that is longer.
+fn run_for<R: Abort>(rt: &R, alloc: Global, longest: usize, acts: &[Act]) {
+    let mut early = Early::new(alloc, longest).expect(rt, "memory");
+    run(rt, &mut early, acts);
+}
+
 /// 1, 3 and 4 came. Once 2 comes, 3 and 4 are given again, once.
+const MISSING: &[Act] = &[
+    Act::Hears(1, 1),
+    Act::Hears(3, 4),
+    Act::GivesNothing,
+    Act::Covers(1),
+    Act::GivesNothing,
+    Act::Hears(2, 2),
+    Act::Gives(3, 4),
+    Act::Covers(4),
+    Act::GivesNothing,
+];
+
 #[test]
-fn what_came_early_follows_what_was_missing(rt: HostRuntime) -> Result<(), Fail> {
-    let mut early = Early::new(rt.alloc(), 1_223)?;
-    hear(&mut early, &[1, 3, 4]);
-    gives(&rt, &mut early, &[]);
-    early.cover(1);
-    gives(&rt, &mut early, &[]);
-    hear(&mut early, &[2]);
-    gives(&rt, &mut early, &[3, 4]);
-    early.cover(4);
-    gives(&rt, &mut early, &[]);
-    Ok(())
+fn what_came_early_follows_what_was_missing(rt: HostRuntime) {
+    run_for(&rt, rt.alloc(), 1_223, MISSING);
 }
 
 /// 1 to 5 came, and room was for two. Custody of 2 gives 3 to 5 once more, and the same custody again gives nothing. Later the
 /// neighbour sends 3 again and it is taken: then 4 and 5 come once more.
+const REST: &[Act] = &[
+    Act::Hears(1, 5),
+    Act::GivesNothing,
+    Act::Covers(2),
+    Act::Gives(3, 5),
+    Act::Covers(2),
+    Act::Covers(1),
+    Act::GivesNothing,
+    Act::Hears(3, 3),
+    Act::GivesNothing,
+    Act::Covers(3),
+    Act::Gives(4, 5),
+];
+
 #[test]
-fn custody_of_more_gives_the_rest_once(rt: HostRuntime) -> Result<(), Fail> {
-    let mut early = Early::new(rt.alloc(), 1_223)?;
-    hear(&mut early, &[1, 2, 3, 4, 5]);
-    gives(&rt, &mut early, &[]);
-    early.cover(2);
-    gives(&rt, &mut early, &[3, 4, 5]);
-    early.cover(2);
-    early.cover(1);
-    gives(&rt, &mut early, &[]);
-    hear(&mut early, &[3]);
-    gives(&rt, &mut early, &[]);
-    early.cover(3);
-    gives(&rt, &mut early, &[4, 5]);
-    Ok(())
+fn custody_of_more_gives_the_rest_once(rt: HostRuntime) {
+    run_for(&rt, rt.alloc(), 1_223, REST);
 }
 
 /// 2 and 4 are missing, 3 and 5 came twice. Each is given once, when its turn has come.
+const TWO_GAPS: &[Act] = &[
+    Act::Hears(1, 1),
+    Act::Hears(3, 3),
+    Act::Hears(5, 5),
+    Act::Hears(3, 3),
+    Act::Hears(5, 5),
+    Act::Covers(1),
+    Act::Hears(2, 2),
+    Act::Gives(3, 3),
+    Act::Covers(3),
+    Act::Hears(4, 4),
+    Act::Gives(5, 5),
+];
+
 #[test]
-fn two_gaps_are_closed_one_after_the_other(rt: HostRuntime) -> Result<(), Fail> {
-    let mut early = Early::new(rt.alloc(), 1_223)?;
-    hear(&mut early, &[1, 3, 5, 3, 5]);
-    early.cover(1);
-    hear(&mut early, &[2]);
-    gives(&rt, &mut early, &[3]);
-    early.cover(3);
-    hear(&mut early, &[4]);
-    gives(&rt, &mut early, &[5]);
-    Ok(())
+fn two_gaps_are_closed_one_after_the_other(rt: HostRuntime) {
+    run_for(&rt, rt.alloc(), 1_223, TWO_GAPS);
 }
 
 /// Custody is of 10. 74 lies 64 above it and is kept; 75 lies further, and isn't, though 75 is sent before 74.
+const FAR_AHEAD: &[Act] = &[
+    Act::Covers(10),
+    Act::Hears(75, 75),
+    Act::Hears(74, 74),
+    Act::Hears(200, 200),
+    Act::Hears(11, 73),
+    Act::Gives(74, 74),
+];
+
 #[test]
-fn numbers_far_ahead_are_not_kept(rt: HostRuntime) -> Result<(), Fail> {
-    let mut early = Early::new(rt.alloc(), 1_223)?;
-    early.cover(10);
-    hear(&mut early, &[75, 74, 200]);
-    for number in 11..=73 {
-        hear(&mut early, &[number]);
-    }
-    gives(&rt, &mut early, &[74]);
-    Ok(())
+fn numbers_far_ahead_are_not_kept(rt: HostRuntime) {
+    run_for(&rt, rt.alloc(), 1_223, FAR_AHEAD);
 }
 
 /// Custody of 10 is the first of this run. 11 is missing, and 12 to 74 came: all 63 are given again, in order.
+const WINDOW: &[Act] = &[
+    Act::Covers(10),
+    Act::Hears(12, 74),
+    Act::GivesNothing,
+    Act::Hears(11, 11),
+    Act::Gives(12, 74),
+];
+
 #[test]
-fn a_whole_window_is_kept(rt: HostRuntime) -> Result<(), Fail> {
-    let mut early = Early::new(rt.alloc(), 1_223)?;
-    early.cover(10);
-    let mut numbers = Vec::new(rt.alloc());
-    for number in 12..=74 {
-        numbers.push(number)?;
-    }
-    hear(&mut early, &numbers);
-    gives(&rt, &mut early, &[]);
-    hear(&mut early, &[11]);
-    gives(&rt, &mut early, &numbers);
-    Ok(())
+fn a_whole_window_is_kept(rt: HostRuntime) {
+    run_for(&rt, rt.alloc(), 1_223, WINDOW);
 }
 
 /// What custody covers isn't given, also where it was kept. So a number's place is free for the one that lies 64 above it.
+const COVERED: &[Act] = &[
+    Act::Hears(3, 4),
+    Act::Covers(4),
+    Act::GivesNothing,
+    Act::Hears(68, 68),
+    Act::Hears(5, 67),
+    Act::Gives(68, 68),
+];
+
 #[test]
-fn what_is_covered_is_not_given(rt: HostRuntime) -> Result<(), Fail> {
-    let mut early = Early::new(rt.alloc(), 1_223)?;
-    hear(&mut early, &[3, 4]);
-    early.cover(4);
-    gives(&rt, &mut early, &[]);
-    hear(&mut early, &[68]);
-    for number in 5..=67 {
-        hear(&mut early, &[number]);
-    }
-    gives(&rt, &mut early, &[68]);
-    Ok(())
+fn what_is_covered_is_not_given(rt: HostRuntime) {
+    run_for(&rt, rt.alloc(), 1_223, COVERED);
 }
 
 /// The last number of 64 bits is never kept, so that nothing is given without end.
+const LAST: &[Act] = &[
+    Act::Covers(u64::MAX - 3),
+    Act::HearsAs(u64::MAX - 1, 1),
+    Act::HearsAs(u64::MAX, 2),
+    Act::HearsAs(u64::MAX - 2, 3),
+    Act::Gives(1, 1),
+];
+
 #[test]
-fn the_last_number_is_not_kept(rt: HostRuntime) -> Result<(), Fail> {
-    let mut early = Early::new(rt.alloc(), 1_223)?;
-    early.cover(u64::MAX - 3);
-    early.hear(u64::MAX - 1, &data(1));
-    early.hear(u64::MAX, &data(2));
-    early.hear(u64::MAX - 2, &data(3));
-    gives(&rt, &mut early, &[1]);
-    Ok(())
+fn the_last_number_is_not_kept(rt: HostRuntime) {
+    run_for(&rt, rt.alloc(), 1_223, LAST);
 }
 
 /// A packet that is longer than the longest isn't kept: 3 has to come again, and then 4 is given.
+const LONGER: &[Act] = &[
+    Act::Hears(2, 2),
+    Act::Hears(4, 4),
+    Act::HearsLonger(3),
+    Act::Hears(1, 1),
+    Act::Gives(2, 2),
+    Act::HearsLonger(3),
+    Act::Gives(4, 4),
+];
+
 #[test]
-fn a_longer_packet_is_not_kept(rt: HostRuntime) -> Result<(), Fail> {
-    let mut early = Early::new(rt.alloc(), 21)?;
-    hear(&mut early, &[2, 4]);
-    early.hear(3, &[3; 22]);
-    hear(&mut early, &[1]);
-    gives(&rt, &mut early, &[2]);
-    early.hear(3, &[3; 22]);
-    gives(&rt, &mut early, &[4]);
-    Ok(())
+fn a_longer_packet_is_not_kept(rt: HostRuntime) {
+    run_for(&rt, rt.alloc(), 21, LONGER);
 }
 
 /// Without room nothing is kept.
+const NO_ROOM: &[Act] = &[
+    Act::Hears(1, 1),
+    Act::Hears(3, 3),
+    Act::Hears(2, 2),
+    Act::GivesNothing,
+];
+
 #[test]
-fn without_room_nothing_is_kept(rt: HostRuntime) -> Result<(), Fail> {
-    let mut early = Early::without_room(rt.alloc());
-    hear(&mut early, &[1, 3, 2]);
-    gives(&rt, &mut early, &[]);
-    Ok(())
+fn without_room_nothing_is_kept(rt: HostRuntime) {
+    run(&rt, &mut Early::without_room(rt.alloc()), NO_ROOM);
 }
 
 /// What doesn't fit into the buffer stays where it is.
+const SHORT: &[Act] = &[
+    Act::Hears(1, 1),
+    Act::Hears(3, 3),
+    Act::Hears(2, 2),
+    Act::FitsNot,
+    Act::Gives(3, 3),
+];
+
 #[test]
-fn what_does_not_fit_stays(rt: HostRuntime) -> Result<(), Fail> {
-    let mut early = Early::new(rt.alloc(), 1_223)?;
-    hear(&mut early, &[1, 3, 2]);
-    let mut short = [0; 20];
-    expect!(rt; early.give(&mut short) == None);
-    gives(&rt, &mut early, &[3]);
-    Ok(())
+fn what_does_not_fit_stays(rt: HostRuntime) {
+    run_for(&rt, rt.alloc(), 1_223, SHORT);
 }

@@ -1,90 +1,179 @@
 //! A link that keeps early Data, over a link in memory. The stations are those of docs/PROTOCOL.md, "An exchange, byte for byte".
-use crate::packets::{custody, data, limited};
+use crate::expect::expect_row;
+use crate::packets::{custody, data, limited, put};
 use rly_ahead::Ahead;
 use rly_early::Early;
 use rly_hop::StationId;
 use rly_post::{Link, LinkFault, MAX_PACKET, MemLink};
 use std::alloc::Global;
 use std::process::Abort;
-use std::test::Fail;
 
 /// Station 7's link with station 3 over one that gives these packets, and nothing where one is empty. It keeps Data of payloads up to
 /// 1,200 bytes.
-fn ahead_over(alloc: Global, coming: &[&[u8]], fails_at: u64) -> Result<Ahead<MemLink>, Fail> {
-    ahead_for(alloc, 1_223, coming, fails_at)
+fn ahead_over<R: Abort>(rt: &R, alloc: Global, coming: &[&[u8]], fails_at: u64) -> Ahead<MemLink> {
+    ahead_for(rt, alloc, 1_223, coming, fails_at)
 }
 
 /// The same for packets of at most so many bytes.
-fn ahead_for(
+fn ahead_for<R: Abort>(
+    rt: &R,
     alloc: Global,
     longest: usize,
     coming: &[&[u8]],
     fails_at: u64,
-) -> Result<Ahead<MemLink>, Fail> {
+) -> Ahead<MemLink> {
     let mut packets = Vec::new(alloc);
     for packet in coming {
-        if packet.is_empty() {
-            packets.push(None)?;
-        } else {
-            packets.push(Some(packet.to_vec(alloc)?))?;
-        }
+        put(rt, alloc, &mut packets, *packet);
     }
     let below = MemLink::new(alloc, packets, fails_at);
-    let early = Early::new(alloc, longest)?;
-    Ok(Ahead::new(below, StationId(7), StationId(3), early))
+    let early = Early::new(alloc, longest).expect(rt, "memory");
+    Ahead::new(below, StationId(7), StationId(3), early)
 }
 
-/// A receive gives this packet.
-fn gives<R: Abort>(rt: &R, link: &mut Ahead<MemLink>, packet: &[u8], row: u64) {
+/// A call of a link, and what is seen of it.
+#[derive(Clone, Copy)]
+enum Act<'a> {
+    /// A receive that doesn't wait gives Data of this number.
+    Data(u8),
+    /// One that waits gives Data of this number.
+    DataAtOnce(u8),
+    /// A receive that doesn't wait gives this packet.
+    Gives(&'a [u8]),
+    /// One that waits gives this packet.
+    Waits(&'a [u8]),
+    /// One that waits gives nothing.
+    Nothing,
+    /// One that waits fails.
+    Fails,
+    /// This packet is sent.
+    Sends(&'a [u8]),
+    /// Custody of all numbers up to this one is sent.
+    Acknowledges(u8),
+    /// The link below had so many calls.
+    Calls(u64),
+    /// So many of them were receives that wait.
+    Waited(u64),
+    /// So many failed.
+    Failed(u64),
+}
+
+/// A receive gives this packet, waiting for it or not.
+fn gives<R: Abort>(rt: &R, link: &mut Ahead<MemLink>, waits: bool, packet: &[u8], row: u64) {
     let mut buffer = [0; MAX_PACKET];
-    let found = link.try_recv(&mut buffer);
-    crate::expect::expect_row(rt, found == Ok(Some(packet.len())), "given", row);
-    crate::expect::expect_row(rt, buffer.starts_with(packet), "itself", row);
+    let found = match waits {
+        true => link.recv(&mut buffer),
+        false => link.try_recv(&mut buffer),
+    };
+    expect_row(rt, found == Ok(Some(packet.len())), "given", row);
+    expect_row(rt, buffer.starts_with(packet), "itself", row);
+}
+
+/// What a receive that waits answers, whatever it gives.
+fn waited(link: &mut Ahead<MemLink>) -> Result<Option<usize>, LinkFault> {
+    let mut buffer = [0; MAX_PACKET];
+    link.recv(&mut buffer)
+}
+
+/// Whether an act is seen that gives no packet.
+fn is_seen(link: &mut Ahead<MemLink>, act: &Act<'_>) -> bool {
+    match act {
+        Act::Data(_) | Act::DataAtOnce(_) | Act::Gives(_) | Act::Waits(_) => false,
+        Act::Nothing => waited(link) == Ok(None),
+        Act::Fails => waited(link) == Err(LinkFault),
+        Act::Sends(packet) => link.send(*packet) == Ok(()),
+        Act::Acknowledges(last) => link.send(&custody(*last)) == Ok(()),
+        Act::Calls(calls) => link.link().calls() == *calls,
+        Act::Waited(waits) => link.link().waits() == *waits,
+        Act::Failed(failures) => link.failures() == *failures,
+    }
+}
+
+/// Makes the acts, and checks what is seen of each.
+fn run<R: Abort>(rt: &R, link: &mut Ahead<MemLink>, acts: &[Act<'_>]) {
+    let mut row = 0u64;
+    for act in acts {
+        row = row.saturating_add(1);
+        match act {
+            Act::Data(number) => gives(rt, link, false, &data(*number), row),
+            Act::DataAtOnce(number) => gives(rt, link, true, &data(*number), row),
+            Act::Gives(packet) => gives(rt, link, false, *packet, row),
+            Act::Waits(packet) => gives(rt, link, true, *packet, row),
+            _ => expect_row(rt, is_seen(link, act), "seen", row),
+        }
+    }
+}
+
+/// Checks that so many packets went out over the link below, and which was the last.
+fn expect_last<R: Abort>(rt: &R, below: &MemLink, count: usize, packet: &[u8]) {
+    let delivered = below.delivered();
+    expect!(*rt; delivered.len() == count);
+    expect!(*rt; matches!(delivered.last(), Some(last) if last.as_slice() == packet));
 }
 
 /// Data 2 is lost. Data 3 is heard, and no custody of it goes out. Once 2 has come, 3 is given again, though the link below isn't
 /// asked for it.
 #[test]
-fn a_lost_packet_costs_itself_alone(rt: HostRuntime) -> Result<(), Fail> {
+fn a_lost_packet_costs_itself_alone(rt: HostRuntime) {
     let coming: &[&[u8]] = &[&data(1), &[], &data(3), &[], &data(2), &[]];
-    let mut link = ahead_over(rt.alloc(), coming, 0)?;
-    let mut buffer = [0; MAX_PACKET];
-    gives(&rt, &mut link, &data(1), 1);
-    expect!(rt; link.recv(&mut buffer) == Ok(None));
-    expect!(rt; link.send(&custody(1)) == Ok(()));
-    gives(&rt, &mut link, &data(3), 2);
-    expect!(rt; link.recv(&mut buffer) == Ok(None));
-    expect!(rt; link.send(&custody(1)) == Ok(()));
-    gives(&rt, &mut link, &data(2), 3);
-    let calls = link.link().calls();
-    gives(&rt, &mut link, &data(3), 4);
-    expect!(rt; link.link().calls() == calls);
-    expect!(rt; link.recv(&mut buffer) == Ok(None));
-    expect!(rt; link.send(&custody(3)) == Ok(()));
-    expect!(rt; link.recv(&mut buffer) == Ok(None));
-    let below = link.into_link();
-    assert!(rt; below.delivered().len() == 3);
-    expect!(rt; below.delivered()[2].as_slice() == custody(3).as_slice());
-    Ok(())
+    let mut link = ahead_over(&rt, rt.alloc(), coming, 0);
+    let acts: &[Act<'_>] = &[
+        Act::Data(1),
+        Act::Nothing,
+        Act::Acknowledges(1),
+        Act::Data(3),
+        Act::Nothing,
+        Act::Acknowledges(1),
+        Act::Data(2),
+        Act::Calls(7),
+        Act::Data(3),
+        Act::Calls(7),
+        Act::Nothing,
+        Act::Acknowledges(3),
+        Act::Nothing,
+    ];
+    run(&rt, &mut link, acts);
+    expect_last(&rt, &link.into_link(), 3, &custody(3));
 }
 
 /// A receive that waits gives what is due at once.
 #[test]
-fn what_is_due_is_not_waited_for(rt: HostRuntime) -> Result<(), Fail> {
-    let mut link = ahead_over(rt.alloc(), &[&data(2)], 0)?;
-    let mut buffer = [0; MAX_PACKET];
-    gives(&rt, &mut link, &data(2), 1);
-    expect!(rt; link.send(&custody(1)) == Ok(()));
-    expect!(rt; link.recv(&mut buffer) == Ok(Some(21)));
-    expect!(rt; link.link().waits() == 0);
-    expect!(rt; link.recv(&mut buffer) == Ok(None));
-    expect!(rt; link.link().waits() == 1);
-    Ok(())
+fn what_is_due_is_not_waited_for(rt: HostRuntime) {
+    let mut link = ahead_over(&rt, rt.alloc(), &[&data(2)], 0);
+    let acts: &[Act<'_>] = &[
+        Act::Data(2),
+        Act::Acknowledges(1),
+        Act::DataAtOnce(2),
+        Act::Waited(0),
+        Act::Nothing,
+        Act::Waited(1),
+    ];
+    run(&rt, &mut link, acts);
 }
 
-/// Data of another station, or to another one, isn't kept, nor is what is no message. Custody of or for another says nothing.
+/// Checks that a packet is heard, and isn't kept.
+fn expect_not_kept<R: Abort>(rt: &R, alloc: Global, longest: usize, packet: &[u8]) {
+    let mut link = ahead_for(rt, alloc, longest, &[packet], 0);
+    let acts: &[Act<'_>] = &[Act::Gives(packet), Act::Acknowledges(1), Act::Nothing];
+    run(rt, &mut link, acts);
+}
+
+/// Checks that a custody says nothing of what is kept.
+fn expect_nothing_said<R: Abort>(rt: &R, alloc: Global, other: &[u8]) {
+    let mut link = ahead_over(rt, alloc, &[&data(2)], 0);
+    let acts: &[Act<'_>] = &[
+        Act::Data(2),
+        Act::Sends(other),
+        Act::Nothing,
+        Act::Acknowledges(1),
+        Act::Data(2),
+    ];
+    run(rt, &mut link, acts);
+}
+
+/// Data of another station, or to another one, isn't kept, nor is what is no message.
 #[test]
-fn others_are_not_kept(rt: HostRuntime) -> Result<(), Fail> {
+fn others_are_not_kept(rt: HostRuntime) {
     let mut from_other = data(2);
     from_other[5] = 4;
     let mut to_other = data(2);
@@ -92,57 +181,48 @@ fn others_are_not_kept(rt: HostRuntime) -> Result<(), Fail> {
     let mut no_message = data(2);
     no_message[0] = 0x53;
     for other in [from_other, to_other, no_message] {
-        let mut link = ahead_over(rt.alloc(), &[&other], 0)?;
-        let mut buffer = [0; MAX_PACKET];
-        gives(&rt, &mut link, &other, 1);
-        expect!(rt; link.send(&custody(1)) == Ok(()));
-        expect!(rt; link.recv(&mut buffer) == Ok(None));
+        expect_not_kept(&rt, rt.alloc(), 1_223, &other);
     }
+}
+
+/// Custody of or for another says nothing.
+#[test]
+fn custody_of_others_says_nothing(rt: HostRuntime) {
     let mut to_other = custody(1);
     to_other[7] = 4;
     let mut of_other = custody(1);
     of_other[5] = 8;
     for other in [to_other, of_other] {
-        let mut link = ahead_over(rt.alloc(), &[&data(2)], 0)?;
-        let mut buffer = [0; MAX_PACKET];
-        gives(&rt, &mut link, &data(2), 2);
-        expect!(rt; link.send(&other) == Ok(()));
-        expect!(rt; link.recv(&mut buffer) == Ok(None));
-        expect!(rt; link.send(&custody(1)) == Ok(()));
-        gives(&rt, &mut link, &data(2), 3);
+        expect_nothing_said(&rt, rt.alloc(), &other);
     }
-    Ok(())
 }
 
 /// A call that fails below fails, and is counted there.
 #[test]
-fn a_failure_below_is_told(rt: HostRuntime) -> Result<(), Fail> {
-    let mut link = ahead_over(rt.alloc(), &[&data(2), &data(3)], 2)?;
-    let mut buffer = [0; MAX_PACKET];
-    gives(&rt, &mut link, &data(2), 1);
-    expect!(rt; link.recv(&mut buffer) == Err(LinkFault));
-    expect!(rt; link.failures() == 1);
-    expect!(rt; link.send(&custody(1)) == Ok(()));
-    gives(&rt, &mut link, &data(2), 2);
-    expect!(rt; link.failures() == 1);
-    Ok(())
+fn a_failure_below_is_told(rt: HostRuntime) {
+    let mut link = ahead_over(&rt, rt.alloc(), &[&data(2), &data(3)], 2);
+    let acts: &[Act<'_>] = &[
+        Act::Data(2),
+        Act::Fails,
+        Act::Failed(1),
+        Act::Acknowledges(1),
+        Act::Data(2),
+        Act::Failed(1),
+    ];
+    run(&rt, &mut link, acts);
 }
 
 /// A packet of Data 2 comes whole, waited for or not, and whole once more when its turn has come.
-fn expect_given_again(
-    rt: &impl Abort,
-    alloc: Global,
-    longest: usize,
-    packet: &[u8],
-) -> Result<(), Fail> {
-    let mut link = ahead_for(alloc, longest, &[packet, packet], 0)?;
-    let mut buffer = [0; MAX_PACKET];
-    gives(rt, &mut link, packet, 1);
-    expect!(rt; link.recv(&mut buffer) == Ok(Some(packet.len())));
-    expect!(rt; link.send(&custody(1)) == Ok(()));
-    gives(rt, &mut link, packet, 2);
-    expect!(rt; link.link().calls() == 3);
-    Ok(())
+fn expect_given_again<R: Abort>(rt: &R, alloc: Global, longest: usize, packet: &[u8]) {
+    let mut link = ahead_for(rt, alloc, longest, &[packet, packet], 0);
+    let acts: &[Act<'_>] = &[
+        Act::Gives(packet),
+        Act::Waits(packet),
+        Act::Acknowledges(1),
+        Act::Gives(packet),
+        Act::Calls(3),
+    ];
+    run(rt, &mut link, acts);
 }
 
 /// Data 2 with a payload of 1,200 bytes.
@@ -164,24 +244,18 @@ fn longest_data() -> [u8; 8_215] {
 }
 
 #[test]
-fn the_longest_data_is_given_again(rt: HostRuntime) -> Result<(), Fail> {
-    expect_given_again(&rt, rt.alloc(), 1_223, &long_data())?;
-    expect_given_again(&rt, rt.alloc(), 8_215, &longest_data())
+fn the_longest_data_is_given_again(rt: HostRuntime) {
+    expect_given_again(&rt, rt.alloc(), 1_223, &long_data());
+    expect_given_again(&rt, rt.alloc(), 8_215, &longest_data());
 }
 
 #[test]
-fn a_data_with_a_limit_is_given_again(rt: HostRuntime) -> Result<(), Fail> {
-    expect_given_again(&rt, rt.alloc(), 1_223, &limited(2))
+fn a_data_with_a_limit_is_given_again(rt: HostRuntime) {
+    expect_given_again(&rt, rt.alloc(), 1_223, &limited(2));
 }
 
 /// A Data that is longer than what the spool takes is heard, and isn't kept.
 #[test]
-fn a_longer_data_is_not_kept(rt: HostRuntime) -> Result<(), Fail> {
-    let packet = longest_data();
-    let mut link = ahead_for(rt.alloc(), 8_214, &[&packet], 0)?;
-    let mut buffer = [0; MAX_PACKET];
-    gives(&rt, &mut link, &packet, 1);
-    expect!(rt; link.send(&custody(1)) == Ok(()));
-    expect!(rt; link.recv(&mut buffer) == Ok(None));
-    Ok(())
+fn a_longer_data_is_not_kept(rt: HostRuntime) {
+    expect_not_kept(&rt, rt.alloc(), 8_214, &longest_data());
 }

@@ -1,4 +1,6 @@
 //! The packets of these tests, by the bytes of docs/PROTOCOL.md.
+use std::alloc::{AllocError, Global};
+use std::process::Abort;
 
 /// Data from station 3 to station 7 under a number below 256, payload `000c` and that number.
 pub(crate) fn data(number: u8) -> [u8; 21] {
@@ -23,4 +25,23 @@ pub(crate) fn custody(last: u8) -> [u8; 16] {
     let mut packet = *b"\x52\x4c\x01\x02\x00\x07\x00\x03\x00\x00\x00\x00\x00\x00\x00\x00";
     packet[15] = last;
     packet
+}
+
+/// What a link gives: this packet, and nothing where it is empty.
+fn given(alloc: Global, packet: &[u8]) -> Result<Option<Vec<u8>>, AllocError> {
+    if packet.is_empty() {
+        return Ok(None);
+    }
+    Ok(Some(packet.to_vec(alloc)?))
+}
+
+/// A link gives this packet after the others, and nothing where it is empty.
+pub(crate) fn put<R: Abort>(
+    rt: &R,
+    alloc: Global,
+    coming: &mut Vec<Option<Vec<u8>>>,
+    packet: &[u8],
+) {
+    let next = given(alloc, packet).expect(rt, "memory");
+    coming.push(next).expect(rt, "memory");
 }

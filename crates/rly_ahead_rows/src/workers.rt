@@ -1,5 +1,5 @@
 //! A receiving worker over a link that keeps early Data.
-use crate::packets::{custody, data};
+use crate::packets::{custody, data, put};
 use rly_ahead::Ahead;
 use rly_core::{Params, PeerId};
 use rly_early::Early;
@@ -11,7 +11,6 @@ use rly_workers::{Ends, MemDesk, receiver_run};
 use std::alloc::Global;
 use std::process::Abort;
 use std::sync::Wait;
-use std::test::Fail;
 
 /// Station 7, after station 3, with a route to destination 12.
 const PLAN: &str = r#"
@@ -35,24 +34,32 @@ hop = 1
 /// A receiving worker of an empty spool with its link.
 type MemEnds = Ends<Ahead<MemLink>, MemDesk, MemTurn>;
 
-/// It hears what these turns give, one list of numbers each.
-fn receive<R: Abort + Wait>(rt: &R, alloc: Global, turns: &[&[u8]]) -> Result<MemEnds, Fail> {
+/// A link gives the Data of a turn, and then nothing.
+fn put_turn<R: Abort>(rt: &R, alloc: Global, coming: &mut Vec<Option<Vec<u8>>>, numbers: &[u8]) {
+    for number in numbers {
+        put(rt, alloc, coming, &data(*number));
+    }
+    put(rt, alloc, coming, &[]);
+}
+
+/// The ends of a worker whose link gives what these turns give.
+fn ends_of<R: Abort>(rt: &R, alloc: Global, turns: &[&[u8]]) -> MemEnds {
     let mut coming = Vec::new(alloc);
     for numbers in turns {
-        for number in *numbers {
-            coming.push(Some(data(*number).to_vec(alloc)?))?;
-        }
-        coming.push(None)?;
+        put_turn(rt, alloc, &mut coming, *numbers);
     }
-    let plan = Plan::from_toml(alloc, PLAN).ok().ok_or("a plan")?;
-    let below = MemLink::new(alloc, coming, 0);
-    let mut ends = Ends {
-        link: Ahead::new(below, StationId(7), StationId(3), Early::new(alloc, 1_223)?),
-        desk: MemDesk::new(alloc, Machine::new(alloc, Params::DEFAULT)?),
+    let early = Early::new(alloc, 1_223).expect(rt, "memory");
+    let machine = Machine::new(alloc, Params::DEFAULT).expect(rt, "memory");
+    Ends {
+        link: Ahead::new(
+            MemLink::new(alloc, coming, 0),
+            StationId(7),
+            StationId(3),
+            early,
+        ),
+        desk: MemDesk::new(alloc, machine),
         turn: MemTurn::new(150, 1, turns.len() as u64),
-    };
-    receiver_run(rt, alloc, &plan, PeerId(1), &mut ends);
-    Ok(ends)
+    }
 }
 
 /// These custodies went out, and nothing else.
@@ -69,40 +76,60 @@ fn has_sent<R: Abort>(rt: &R, ends: &MemEnds, lasts: &[u8]) {
     }
 }
 
+/// What stands when a worker has ended: the datagrams that were taken, the calls that were made, and the receives that waited.
+#[derive(Clone, Copy)]
+struct Ended {
+    items: u64,
+    calls: u64,
+    waits: u64,
+}
+
+/// The worker hears all that its link gives, and sends these custodies.
+fn run<R: Abort + Wait>(rt: &R, alloc: Global, ends: &mut MemEnds, lasts: &[u8]) -> Ended {
+    let plan = Plan::from_toml(alloc, PLAN).ok().expect(rt, "a plan");
+    receiver_run(rt, alloc, &plan, PeerId(1), ends);
+    has_sent(rt, ends, lasts);
+    Ended {
+        items: ends.desk.machine().item_count(),
+        calls: ends.desk.calls(),
+        waits: ends.link.link().waits(),
+    }
+}
+
+/// A new worker hears what these turns give, one list of numbers each, and sends these custodies.
+fn receive<R: Abort + Wait>(rt: &R, alloc: Global, turns: &[&[u8]], lasts: &[u8]) -> Ended {
+    let mut ends = ends_of(rt, alloc, turns);
+    run(rt, alloc, &mut ends, lasts)
+}
+
 /// Data 2 of ten is lost. In the turn in which it comes the eight after it are asked with it, and one custody of all goes out.
 #[test]
-fn one_lost_packet_is_sent_again_alone(rt: HostRuntime) -> Result<(), Fail> {
-    let ends = receive(&rt, rt.alloc(), &[&[1, 3, 4, 5, 6, 7, 8, 9, 10], &[2]])?;
-    has_sent(&rt, &ends, &[1, 10]);
-    expect!(rt; ends.desk.machine().item_count() == 10);
-    expect!(rt; ends.desk.calls() == 18);
-    expect!(rt; ends.link.link().waits() == 2);
-    Ok(())
+fn one_lost_packet_is_sent_again_alone(rt: HostRuntime) {
+    let turns: &[&[u8]] = &[&[1, 3, 4, 5, 6, 7, 8, 9, 10], &[2]];
+    let ended = receive(&rt, rt.alloc(), turns, &[1, 10]);
+    expect!(rt; ended.items == 10);
+    expect!(rt; ended.calls == 18);
+    expect!(rt; ended.waits == 2);
 }
 
 /// Nothing that is kept is acknowledged: 3 is kept, and custody stays at 1.
 #[test]
-fn what_is_kept_is_not_acknowledged(rt: HostRuntime) -> Result<(), Fail> {
-    let ends = receive(&rt, rt.alloc(), &[&[1], &[3], &[], &[3]])?;
-    has_sent(&rt, &ends, &[1, 1, 1]);
-    expect!(rt; ends.desk.machine().item_count() == 1);
-    Ok(())
+fn what_is_kept_is_not_acknowledged(rt: HostRuntime) {
+    let ended = receive(&rt, rt.alloc(), &[&[1], &[3], &[], &[3]], &[1, 1, 1]);
+    expect!(rt; ended.items == 1);
 }
 
 /// Packets that overtake each other within a turn are taken in it.
 #[test]
-fn what_overtakes_is_taken_in_its_turn(rt: HostRuntime) -> Result<(), Fail> {
-    let ends = receive(&rt, rt.alloc(), &[&[3, 1, 2]])?;
-    has_sent(&rt, &ends, &[3]);
-    expect!(rt; ends.desk.machine().item_count() == 3);
-    Ok(())
+fn what_overtakes_is_taken_in_its_turn(rt: HostRuntime) {
+    let ended = receive(&rt, rt.alloc(), &[&[3, 1, 2]], &[3]);
+    expect!(rt; ended.items == 3);
 }
 
 /// In order nothing is asked twice.
 #[test]
-fn in_order_nothing_is_given_again(rt: HostRuntime) -> Result<(), Fail> {
-    let ends = receive(&rt, rt.alloc(), &[&[1, 2, 3], &[4, 5], &[6]])?;
-    has_sent(&rt, &ends, &[3, 5, 6]);
-    expect!(rt; ends.desk.calls() == 6);
-    Ok(())
+fn in_order_nothing_is_given_again(rt: HostRuntime) {
+    let ended = receive(&rt, rt.alloc(), &[&[1, 2, 3], &[4, 5], &[6]], &[3, 5, 6]);
+    expect!(rt; ended.items == 6);
+    expect!(rt; ended.calls == 6);
 }

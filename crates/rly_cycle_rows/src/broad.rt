@@ -169,18 +169,21 @@ fn ask_each(rt: &impl Abort, alloc: Global, journal: &mut Journal<MemDisk>, kind
 /// each of 64 hops, and 26 for each of 64 datagrams by place.
 #[test]
 fn each_of_64_hops_takes_one(rt: HostRuntime) {
-    let alloc = rt.alloc();
-    let mut journal = opened(&rt, alloc, broad_device(&rt, alloc));
+    expect_each(&rt, rt.alloc());
+}
+
+fn expect_each(rt: &impl Abort, alloc: Global) {
+    let mut journal = opened(rt, alloc, broad_device(rt, alloc));
     for kind in [Kind::Take, Kind::Pick, Kind::Fetch] {
-        ask_each(&rt, alloc, &mut journal, kind);
+        ask_each(rt, alloc, &mut journal, kind);
     }
-    let mut journal = opened(&rt, alloc, journal.into_disk());
+    let mut journal = opened(rt, alloc, journal.into_disk());
     expect!(rt; journal.position() == COMMANDS + 128);
     for id in 1..=64u16 {
         let found = journal.fetch(alloc, HopId(id), RELEASED + 1);
         expect!(rt; matches!(&found, Ok(bytes) if are_of(id, bytes)));
     }
-    ask_each(&rt, alloc, &mut journal, Kind::Release);
+    ask_each(rt, alloc, &mut journal, Kind::Release);
     let mut disk = journal.into_disk();
     let mut start = [0; 13];
     assert!(rt; disk.size() as usize == SIZE && disk.read_at(64, &mut start).is_ok());

@@ -1,16 +1,16 @@
 //! A device with a header of version 1 and heads of the first form opens as it is and takes limits at once, and the next segment that is
 //! opened has a head of the second form.
-use crate::comparison::{expect_replies, is_same};
+use crate::comparison::expect_replies;
 use crate::cycles::expect_in_flight;
 use crate::device::{THREE, bytes_of, opened};
-use crate::old_device::{DIGEST, RUNS, SIZE, TEXTS};
+use crate::old_device::{DIGEST, ITEMS, Item, SIZE};
 use crate::script::{HOP, Script, Step, ask_all, take, take_within};
 use crate::stops::{Costs, expect_costs, new_machine, walk_part};
 use crate::walks::cycle;
 use rly_core::Refusal;
 use rly_disk::MemDisk;
 use rly_journal::Journal;
-use rly_machine::{HopStatus, Ids, Reply};
+use rly_machine::{HopStatus, Machine, Payload, Reply};
 use sha2::{Digest, Sha256};
 use std::alloc::{AllocError, Global};
 use std::process::Abort;
@@ -29,31 +29,39 @@ fn put(rt: &impl Abort, bytes: &mut [u8], place: usize, part: &[u8]) {
     bytes[place..place + part.len()].copy_from_slice(part);
 }
 
-/// Puts a byte so many times from a place on.
-fn put_run(rt: &impl Abort, bytes: &mut [u8], place: usize, byte: u8, count: usize) {
-    assert!(rt; place <= bytes.len() && count <= bytes.len() - place);
-    bytes[place..place + count].fill(byte);
+/// What was written: by a call, since the prover sees all of it at each step where it is named.
+fn items() -> &'static [(usize, u64, usize, Item)] {
+    &ITEMS
 }
 
-/// What stands in no run: by a call, since the prover sees all of a constant at each step where it is named.
-fn texts() -> &'static [(usize, &'static [u8])] {
-    &TEXTS
-}
-
-/// What stands in runs.
-fn runs() -> &'static [(usize, u8, usize)] {
-    &RUNS
+/// The bytes of an item, of which so many stand before it in its row.
+fn spelled_item(rt: &impl Abort, alloc: Global, item: Item, index: u64) -> Vec<u8> {
+    match item {
+        Item::Text(text) => spelled(rt, alloc, text),
+        Item::Number(first, more) => {
+            let number = first.wrapping_add(more.wrapping_mul(index));
+            Vec::from_slice(alloc, &number.to_be_bytes()).expect(rt, "memory")
+        }
+        Item::Payload(first) => {
+            vec![in alloc; first.wrapping_add((index & 0xff) as u8); 1_200].expect(rt, "memory")
+        }
+    }
 }
 
 /// The bytes of the device.
 fn stored(rt: &impl Abort, alloc: Global) -> Vec<u8> {
     let mut bytes = vec![in alloc; 0u8; SIZE].expect(rt, "memory");
-    for (place, text) in texts() {
-        let part = spelled(rt, alloc, text);
-        put(rt, &mut bytes, *place, &part);
-    }
-    for (place, byte, count) in runs() {
-        put_run(rt, &mut bytes, *place, *byte, *count);
+    for (first, count, apart, item) in items() {
+        let mut place = *first;
+        for index in 0..*count {
+            put(
+                rt,
+                &mut bytes,
+                place,
+                &spelled_item(rt, alloc, *item, index),
+            );
+            place = place.wrapping_add(*apart);
+        }
     }
     bytes
 }
@@ -77,22 +85,34 @@ fn head_at(rt: &impl Abort, bytes: &[u8], segment: usize) -> [u8; 13] {
 /// and 1,200 for each that is inline.
 #[test]
 fn the_device_is_as_it_was_written(rt: HostRuntime) {
-    let alloc = rt.alloc();
-    let bytes = stored(&rt, alloc);
-    expect!(rt; head_at(&rt, &bytes, 0) == [0xa5, 0, 0, 0, 0, 0, 0, 0, 4, 0, 0, 0x9c, 0x17]);
-    expect!(rt; head_at(&rt, &bytes, 1) == [0xa5, 0, 0, 0, 0, 0, 0, 0, 2, 0, 0, 0x07, 0x17]);
-    expect!(rt; head_at(&rt, &bytes, 2) == [0xa5, 0, 0, 0, 0, 0, 0, 0, 3, 0, 0, 0x9c, 0x17]);
+    expect_written(&rt, rt.alloc());
+}
+
+/// The heads of its three segments.
+const HEADS: [[u8; 13]; 3] = [
+    [0xa5, 0, 0, 0, 0, 0, 0, 0, 4, 0, 0, 0x9c, 0x17],
+    [0xa5, 0, 0, 0, 0, 0, 0, 0, 2, 0, 0, 0x07, 0x17],
+    [0xa5, 0, 0, 0, 0, 0, 0, 0, 3, 0, 0, 0x9c, 0x17],
+];
+
+fn expect_written(rt: &impl Abort, alloc: Global) {
+    let bytes = stored(rt, alloc);
+    for (segment, head) in HEADS.iter().enumerate() {
+        expect!(rt; head_at(rt, &bytes, segment) == *head, segment as u64);
+    }
     let digest = Sha256::digest(&bytes);
-    expect!(rt; digest.as_slice() == spelled(&rt, alloc, DIGEST).as_slice());
+    expect!(rt; digest.as_slice() == spelled(rt, alloc, DIGEST).as_slice());
 }
 
 /// Its payloads by place are read where a head of the first form has them, and those inline at its entries.
 #[test]
 fn all_that_is_in_flight_is_fetched(rt: HostRuntime) {
-    let alloc = rt.alloc();
-    let mut journal = stored_journal(&rt, alloc);
+    expect_carried(&rt, rt.alloc(), &mut stored_journal(&rt, rt.alloc()));
+}
+
+fn expect_carried(rt: &impl Abort, alloc: Global, journal: &mut Journal<MemDisk>) {
     expect!(rt; journal.params() == THREE.params && journal.position() == 193);
-    expect_in_flight(&rt, alloc, &mut journal, 33, 96);
+    expect_in_flight(rt, alloc, journal, 33, 96);
     expect!(rt; journal.fetch(alloc, HOP, 32) == Err(Refusal::NotInFlight));
     expect!(rt; journal.fetch(alloc, HOP, 97) == Err(Refusal::NeverSent));
 }
@@ -132,89 +152,122 @@ const LIMITED_GROUP: [u8; 32] = [
     0,
 ];
 
-/// One step in a round of its own, and the journal's reply.
-fn reply_to(
+/// A reply that is wanted.
+#[derive(Clone, Copy)]
+enum Told<'a> {
+    Refused(Refusal),
+    Taken(u64),
+    Released(u64),
+    /// Picked under a number and an id, and nothing has expired or was dropped.
+    Picked(u64, u64),
+    /// These bytes, and their limit.
+    Bytes(&'a [u8], u64),
+    /// Nothing, and these have expired.
+    Nothing(&'a [u64]),
+}
+
+/// Whether a reply is that one.
+fn is_told(reply: &Reply, told: Told) -> bool {
+    match (reply, told) {
+        (Reply::Refused(refusal), Told::Refused(want)) => *refusal == want,
+        (Reply::Taken(id), Told::Taken(want)) => *id == want,
+        (Reply::Released(count), Told::Released(want)) => *count == want,
+        (
+            Reply::Picked {
+                number,
+                id,
+                expired,
+                dropped,
+            },
+            Told::Picked(want_number, want_id),
+        ) => {
+            *number == want_number
+                && *id == want_id
+                && expired.as_slice().is_empty()
+                && dropped.as_slice().is_empty()
+        }
+        (Reply::Bytes { payload, limit }, Told::Bytes(bytes, want)) => {
+            payload.as_slice() == bytes && *limit == want
+        }
+        (Reply::Nothing { expired }, Told::Nothing(ids)) => expired.as_slice() == ids,
+        _ => false,
+    }
+}
+
+/// Asks each step in a round of its own, and expects its reply.
+fn expect_told(
     rt: &impl Abort,
     alloc: Global,
     journal: &mut Journal<MemDisk>,
-    step: Step,
-) -> Result<Reply, AllocError> {
-    let mut answers = ask_all(rt, alloc, journal, &[step]);
-    match answers.pop() {
-        Some(answer) => Ok(answer.reply),
-        None => panic!(rt; "no answer"),
+    rows: &[(Step, Told)],
+) {
+    for (step, told) in rows {
+        let answers = ask_all(rt, alloc, journal, &[*step]);
+        let is_right = answers.iter().all(|answer| is_told(&answer.reply, *told));
+        expect!(rt; is_right, journal.position());
     }
 }
 
 /// The device once the older 32 were released, and one more datagram was taken, with a limit. Before that nothing fits.
-fn limited(rt: &impl Abort, alloc: Global) -> Result<MemDisk, AllocError> {
+fn limited(rt: &impl Abort, alloc: Global) -> MemDisk {
     let mut journal = stored_journal(rt, alloc);
-    let full = reply_to(rt, alloc, &mut journal, LIMITED).expect(rt, "memory");
-    expect!(rt; is_same(&full, &Reply::Refused(Refusal::Full)));
-    let released = reply_to(rt, alloc, &mut journal, Step::Release { number: 64 }).expect(
-        rt, "memory",
-    );
-    expect!(rt; is_same(&released, &Reply::Released(32)));
-    let taken = reply_to(rt, alloc, &mut journal, LIMITED).expect(rt, "memory");
-    expect!(rt; is_same(&taken, &Reply::Taken(195)));
-    Ok(journal.into_disk())
+    let rows = [
+        (LIMITED, Told::Refused(Refusal::Full)),
+        (Step::Release { number: 64 }, Told::Released(32)),
+        (LIMITED, Told::Taken(195)),
+    ];
+    expect_told(rt, alloc, &mut journal, &rows);
+    journal.into_disk()
 }
 
 /// A record of a limit stands behind a head of the first form.
 #[test]
 fn a_limit_is_recorded_at_once(rt: HostRuntime) {
-    let alloc = rt.alloc();
-    let mut disk = limited(&rt, alloc).expect(&rt, "memory");
-    let bytes = bytes_of(&rt, alloc, &mut disk);
-    expect!(rt; head_at(&rt, &bytes, 0) == [0xa5, 0, 0, 0, 0, 0, 0, 0, 4, 0, 0, 0x9c, 0x17]);
-    // the head ends at 40,036, and the Release's group has 18 bytes
+    expect_recorded(&rt, rt.alloc());
+}
+
+fn expect_recorded(rt: &impl Abort, alloc: Global) {
+    let mut disk = limited(rt, alloc);
+    let bytes = bytes_of(rt, alloc, &mut disk);
     assert!(rt; bytes.len() == SIZE);
+    expect!(rt; head_at(rt, &bytes, 0) == HEADS[0]);
+    // the head ends at 40,036, and the Release's group has 18 bytes
     expect!(rt; &bytes[40_054..40_086] == LIMITED_GROUP.as_slice());
 }
 
 /// At its limit it is sent, and is fetched with its limit.
 #[test]
 fn a_limit_is_kept_and_not_yet_over(rt: HostRuntime) {
-    let alloc = rt.alloc();
-    let disk = limited(&rt, alloc).expect(&rt, "memory");
-    let mut journal = opened(&rt, alloc, disk);
-    expect_in_flight(&rt, alloc, &mut journal, 65, 96);
-    let picked = reply_to(&rt, alloc, &mut journal, Step::Pick { now: 5_000 }).expect(
-        &rt, "memory",
-    );
-    let want = Reply::Picked {
-        number: 97,
-        id: 195,
-        expired: Ids::new(Vec::new(alloc)),
-        dropped: Ids::new(Vec::new(alloc)),
-    };
-    expect!(rt; is_same(&picked, &want));
-    let fetched = reply_to(&rt, alloc, &mut journal, Step::Fetch { number: 97 }).expect(
-        &rt, "memory",
-    );
-    match &fetched {
-        Reply::Bytes { payload, limit } => {
-            expect!(rt; payload.as_slice() == [97].as_slice() && *limit == 5_000);
-        }
-        _ => panic!(rt; "not fetched"),
-    }
+    expect_kept(&rt, rt.alloc());
+}
+
+fn expect_kept(rt: &impl Abort, alloc: Global) {
+    let mut journal = opened(rt, alloc, limited(rt, alloc));
+    expect_in_flight(rt, alloc, &mut journal, 65, 96);
+    let rows = [
+        (Step::Pick { now: 5_000 }, Told::Picked(97, 195)),
+        (Step::Fetch { number: 97 }, Told::Bytes(&[97], 5_000)),
+    ];
+    expect_told(rt, alloc, &mut journal, &rows);
 }
 
 /// A microsecond later it has expired.
 #[test]
 fn a_limit_is_kept_and_over(rt: HostRuntime) {
-    let alloc = rt.alloc();
-    let disk = limited(&rt, alloc).expect(&rt, "memory");
-    let mut journal = opened(&rt, alloc, disk);
-    let nothing = reply_to(&rt, alloc, &mut journal, Step::Pick { now: 5_001 }).expect(
-        &rt, "memory",
-    );
-    let expired = Ids::new(vec![in alloc; 195u64].expect(&rt, "memory"));
-    expect!(rt; is_same(&nothing, &Reply::Nothing { expired }));
-    let disk = journal.into_disk();
-    let journal = opened(&rt, alloc, disk);
-    match &journal.ask_show(HOP) {
-        Reply::Shown(status) => expect_expired(&rt, status),
+    expect_over(&rt, rt.alloc());
+}
+
+fn expect_over(rt: &impl Abort, alloc: Global) {
+    let mut journal = opened(rt, alloc, limited(rt, alloc));
+    let rows = [(Step::Pick { now: 5_001 }, Told::Nothing(&[195]))];
+    expect_told(rt, alloc, &mut journal, &rows);
+    expect_shown(rt, &opened(rt, alloc, journal.into_disk()));
+}
+
+/// The numbers of the hop are those after that.
+fn expect_shown(rt: &impl Abort, journal: &Journal<MemDisk>) {
+    match journal.ask_show(HOP) {
+        Reply::Shown(status) => expect_expired(rt, &status),
         _ => panic!(rt; "not shown"),
     }
 }
@@ -253,94 +306,107 @@ const OPENED: [(usize, usize, [u8; 13]); 4] = [
     (11, 1, [0xa5, 0, 0, 0, 0, 0, 0, 0, 8, 0x80, 0, 0x06, 0xd0]),
 ];
 
-/// The rounds' answers are the plain machine's, whatever the form of the head. Each head that is written is of the second form.
-#[test]
-fn the_next_segments_are_of_the_second_form(rt: HostRuntime) {
-    let alloc = rt.alloc();
-    let (before, rounds) = (
-        asked(alloc).expect(&rt, "memory"),
-        rounds(alloc).expect(&rt, "memory"),
-    );
-    let script = Script {
-        geometry: THREE,
-        before: &before,
-        rounds: &rounds,
-    };
-    let mut machine = new_machine(&rt, alloc, script);
-    let mut disk = MemDisk::new(alloc, stored(&rt, alloc));
+/// Asks the rounds before each of those heads, and reads it. The plain machine goes on beside.
+fn expect_opened(rt: &impl Abort, alloc: Global, script: Script, image: &[u8]) {
+    let mut machine = new_machine(rt, alloc, script);
+    let mut disk = MemDisk::new(alloc, Vec::from_slice(alloc, image).expect(rt, "memory"));
     let mut asked = 0;
     for (count, segment, head) in OPENED {
-        let mut journal = opened(&rt, alloc, disk);
-        for index in asked..count {
-            let steps = script.round(index);
-            let answers = ask_all(&rt, alloc, &mut journal, steps);
-            expect_replies(&rt, alloc, &mut machine, steps, &answers).expect(&rt, "memory");
-        }
+        disk = asked_up_to(rt, alloc, script, disk, &mut machine, (asked, count));
         asked = count;
-        disk = journal.into_disk();
-        let bytes = bytes_of(&rt, alloc, &mut disk);
-        expect!(rt; head_at(&rt, &bytes, segment) == head, count as u64);
+        let bytes = bytes_of(rt, alloc, &mut disk);
+        expect!(rt; head_at(rt, &bytes, segment) == head, count as u64);
     }
 }
 
-/// The rounds make 328 calls. Opening makes 8; each of the ten rounds with commands 4; fetches of all in flight 64, three times; and each
-/// of the four segments that are opened 6, since its gate is open, and two of them 32 reads.
-#[test]
-fn thirteen_rounds(rt: HostRuntime) {
-    let alloc = rt.alloc();
-    let (before, rounds) = (
-        asked(alloc).expect(&rt, "memory"),
-        rounds(alloc).expect(&rt, "memory"),
-    );
-    let script = Script {
-        geometry: THREE,
-        before: &before,
-        rounds: &rounds,
-    };
-    let costs = Costs {
-        calls: 328,
-        syncs: 33,
-        generations: &[7, 8, 6],
-    };
-    let image = stored(&rt, alloc);
-    expect_costs(&rt, alloc, script, &image, costs);
+/// A disk after further rounds of a script, which are expected to be the plain machine's.
+fn asked_up_to(
+    rt: &impl Abort,
+    alloc: Global,
+    script: Script,
+    disk: MemDisk,
+    machine: &mut Machine<Payload>,
+    (from, count): (usize, usize),
+) -> MemDisk {
+    let mut journal = opened(rt, alloc, disk);
+    for index in from..count {
+        let steps = script.round(index);
+        let answers = ask_all(rt, alloc, &mut journal, steps);
+        expect_replies(rt, alloc, machine, steps, &answers).expect(rt, "memory");
+    }
+    journal.into_disk()
 }
 
-/// The thirteen rounds, stopped at each of these calls, and with each failing.
-fn expect_part(rt: &impl Abort, alloc: Global, part: (u64, u64)) {
-    let (before, rounds) = (
-        asked(alloc).expect(rt, "memory"),
-        rounds(alloc).expect(rt, "memory"),
-    );
+/// What is done with the thirteen rounds.
+#[derive(Clone, Copy)]
+enum Trial<'a> {
+    /// Each head that is opened is read.
+    Heads,
+    /// They are asked without a failure.
+    Costs(Costs<'a>),
+    /// They are stopped at each of these calls, and each fails.
+    Part(u64, u64),
+}
+
+/// Tries the thirteen rounds on the device.
+fn try_rounds(rt: &impl Abort, alloc: Global, trial: Trial) {
+    let before = asked(alloc).expect(rt, "memory");
+    let rounds = rounds(alloc).expect(rt, "memory");
     let script = Script {
         geometry: THREE,
         before: &before,
         rounds: &rounds,
     };
     let image = stored(rt, alloc);
-    walk_part(rt, alloc, script, &image, part)
+    try_script(rt, alloc, script, &image, trial)
+}
+
+fn try_script(rt: &impl Abort, alloc: Global, script: Script, image: &[u8], trial: Trial) {
+    match trial {
+        Trial::Heads => expect_opened(rt, alloc, script, image),
+        Trial::Costs(costs) => expect_costs(rt, alloc, script, image, costs),
+        Trial::Part(first, last) => walk_part(rt, alloc, script, image, (first, last)),
+    }
+}
+
+/// The rounds' answers are the plain machine's, whatever the form of the head. Each head that is written is of the second form.
+#[test]
+fn the_next_segments_are_of_the_second_form(rt: HostRuntime) {
+    try_rounds(&rt, rt.alloc(), Trial::Heads);
+}
+
+/// The rounds make 328 calls. Opening makes 8; each of the ten rounds with commands 4; fetches of all in flight 64, three times; and each
+/// of the four segments that are opened 6, since its gate is open, and two of them 32 reads.
+#[test]
+fn thirteen_rounds(rt: HostRuntime) {
+    let costs = Costs {
+        calls: 328,
+        syncs: 33,
+        generations: &[7, 8, 6],
+    };
+    try_rounds(&rt, rt.alloc(), Trial::Costs(costs));
 }
 
 /// From the opening of the device to the takes of the second cycle, with one segment opened.
 #[test]
 fn thirteen_rounds_up_to_call_98(rt: HostRuntime) {
-    expect_part(&rt, rt.alloc(), (1, 98));
+    try_rounds(&rt, rt.alloc(), Trial::Part(1, 98));
 }
 
 /// The picks of the second cycle, for which a segment is opened and 32 payloads are read, and its fetches.
 #[test]
 fn thirteen_rounds_up_to_call_204(rt: HostRuntime) {
-    expect_part(&rt, rt.alloc(), (99, 204));
+    try_rounds(&rt, rt.alloc(), Trial::Part(99, 204));
 }
 
 /// Its release, for which the same is done, and the takes and picks of the third cycle, with one more segment opened.
 #[test]
 fn thirteen_rounds_up_to_call_260(rt: HostRuntime) {
-    expect_part(&rt, rt.alloc(), (205, 260));
+    try_rounds(&rt, rt.alloc(), Trial::Part(205, 260));
 }
 
 /// The fetches of the third cycle, and its release.
 #[test]
 fn thirteen_rounds_up_to_call_328(rt: HostRuntime) {
-    expect_part(&rt, rt.alloc(), (261, 328));
+    try_rounds(&rt, rt.alloc(), Trial::Part(261, 328));
 }

@@ -252,28 +252,34 @@ pub(crate) fn before_the_picks(
 /// no payload in it.
 #[test]
 fn the_second_segment_is_opened(rt: HostRuntime) {
-    let alloc = rt.alloc();
-    let (journal, mut machine) = before_the_picks(&rt, alloc, 2).expect(&rt, "memory");
+    expect_second(&rt, rt.alloc());
+}
+
+fn expect_second(rt: &impl Abort, alloc: Global) {
+    let (journal, mut machine) = before_the_picks(rt, alloc, 2).expect(rt, "memory");
     let mut disk = journal.into_disk();
-    expect!(rt; head_of(&rt, &mut disk, 1)[0] != 0xa5);
-    let mut journal = opened(&rt, alloc, disk);
-    expect_round(&rt, alloc, &mut journal, &mut machine, 2, Part::Picks).expect(&rt, "memory");
+    expect!(rt; head_of(rt, &mut disk, 1)[0] != 0xa5);
+    let mut journal = opened(rt, alloc, disk);
+    expect_round(rt, alloc, &mut journal, &mut machine, 2, Part::Picks).expect(rt, "memory");
     let mut disk = journal.into_disk();
-    expect!(rt; head_of(&rt, &mut disk, 1) == [0xa5, 0, 0, 0, 0, 0, 0, 0, 2, 0x80, 0, 0x06, 0xd0]);
-    expect!(rt; head_of(&rt, &mut disk, 2)[0] != 0xa5);
+    expect!(rt; head_of(rt, &mut disk, 1) == [0xa5, 0, 0, 0, 0, 0, 0, 0, 2, 0x80, 0, 0x06, 0xd0]);
+    expect!(rt; head_of(rt, &mut disk, 2)[0] != 0xa5);
 }
 
 /// The third is opened before those of the third cycle: the 32 payloads that live in the first are moved into its head, of 39,997
 /// bytes.
 #[test]
 fn the_third_segment_is_opened(rt: HostRuntime) {
-    let alloc = rt.alloc();
-    let (journal, mut machine) = before_the_picks(&rt, alloc, 3).expect(&rt, "memory");
+    expect_third(&rt, rt.alloc());
+}
+
+fn expect_third(rt: &impl Abort, alloc: Global) {
+    let (journal, mut machine) = before_the_picks(rt, alloc, 3).expect(rt, "memory");
     let mut disk = journal.into_disk();
-    expect!(rt; head_of(&rt, &mut disk, 2)[0] != 0xa5);
-    let mut journal = opened(&rt, alloc, disk);
-    expect_round(&rt, alloc, &mut journal, &mut machine, 3, Part::Picks).expect(&rt, "memory");
-    expect_round(&rt, alloc, &mut journal, &mut machine, 3, Part::Fetches).expect(&rt, "memory");
+    expect!(rt; head_of(rt, &mut disk, 2)[0] != 0xa5);
+    let mut journal = opened(rt, alloc, disk);
+    expect_round(rt, alloc, &mut journal, &mut machine, 3, Part::Picks).expect(rt, "memory");
+    expect_round(rt, alloc, &mut journal, &mut machine, 3, Part::Fetches).expect(rt, "memory");
     let mut disk = journal.into_disk();
-    expect!(rt; head_of(&rt, &mut disk, 2) == [0xa5, 0, 0, 0, 0, 0, 0, 0, 3, 0x80, 0, 0x9c, 0x30]);
+    expect!(rt; head_of(rt, &mut disk, 2) == [0xa5, 0, 0, 0, 0, 0, 0, 0, 3, 0x80, 0, 0x9c, 0x30]);
 }

@@ -20,14 +20,17 @@ fn new_image(rt: &impl Abort, alloc: Global) -> Vec<u8> {
 /// They ask of it what those of 1,200 bytes ask of theirs.
 #[test]
 fn three_cycles(rt: HostRuntime) {
-    let alloc = rt.alloc();
-    let rounds = three_cycles_of(alloc, 8_192).expect(&rt, "memory");
+    expect_three_cycles(&rt, rt.alloc());
+}
+
+fn expect_three_cycles(rt: &impl Abort, alloc: Global) {
+    let rounds = three_cycles_of(alloc, 8_192).expect(rt, "memory");
     let script = Script {
         geometry: LONG,
         before: &[],
         rounds: &rounds,
     };
-    expect_costs(&rt, alloc, script, &new_image(&rt, alloc), THREE_CYCLES);
+    expect_costs(rt, alloc, script, &new_image(rt, alloc), THREE_CYCLES);
 }
 
 /// The device after the first of their rounds, asked beside the plain machine.
@@ -57,15 +60,18 @@ fn head_at(rt: &impl Abort, bytes: &[u8], segment: usize) -> [u8; 13] {
 /// The heads have 1,757 bytes where each payload is by place, and 263,741 where 32 are inline, 13 of them before the state.
 #[test]
 fn the_heads_of_three_cycles(rt: HostRuntime) {
-    let alloc = rt.alloc();
-    let rounds = three_cycles_of(alloc, 8_192).expect(&rt, "memory");
+    expect_heads(&rt, rt.alloc());
+}
+
+fn expect_heads(rt: &impl Abort, alloc: Global) {
+    let rounds = three_cycles_of(alloc, 8_192).expect(rt, "memory");
     assert!(rt; rounds.len() == 11);
-    let bytes = image_after(&rt, alloc, &rounds[..9]);
-    expect!(rt; head_at(&rt, &bytes, 0) == [0xa5, 0, 0, 0, 0, 0, 0, 0, 1, 0x80, 0, 0, 0x50]);
-    expect!(rt; head_at(&rt, &bytes, 1) == [0xa5, 0, 0, 0, 0, 0, 0, 0, 2, 0x80, 0, 0x06, 0xd0]);
-    expect!(rt; head_at(&rt, &bytes, 2) == [0xa5, 0, 0, 0, 0, 0, 0, 0, 3, 0x80, 0x04, 0x06, 0x30]);
-    let bytes = image_after(&rt, alloc, &rounds);
-    expect!(rt; head_at(&rt, &bytes, 0) == [0xa5, 0, 0, 0, 0, 0, 0, 0, 4, 0x80, 0x04, 0x06, 0x30]);
+    let bytes = image_after(rt, alloc, &rounds[..9]);
+    expect!(rt; head_at(rt, &bytes, 0) == [0xa5, 0, 0, 0, 0, 0, 0, 0, 1, 0x80, 0, 0, 0x50]);
+    expect!(rt; head_at(rt, &bytes, 1) == [0xa5, 0, 0, 0, 0, 0, 0, 0, 2, 0x80, 0, 0x06, 0xd0]);
+    expect!(rt; head_at(rt, &bytes, 2) == [0xa5, 0, 0, 0, 0, 0, 0, 0, 3, 0x80, 0x04, 0x06, 0x30]);
+    let bytes = image_after(rt, alloc, &rounds);
+    expect!(rt; head_at(rt, &bytes, 0) == [0xa5, 0, 0, 0, 0, 0, 0, 0, 4, 0x80, 0x04, 0x06, 0x30]);
 }
 
 /// Adds the commands of a round.
@@ -125,15 +131,18 @@ fn expect_stops(
 /// payloads are read, the head is written in 5 and the group in 4.
 #[test]
 fn a_stop_at_each_call_of_an_opening(rt: HostRuntime) {
-    let alloc = rt.alloc();
-    let rounds = three_cycles_of(alloc, 8_192).expect(&rt, "memory");
+    expect_stopped(&rt, rt.alloc());
+}
+
+fn expect_stopped(rt: &impl Abort, alloc: Global) {
+    let rounds = three_cycles_of(alloc, 8_192).expect(rt, "memory");
     assert!(rt; rounds.len() == 11);
-    let image = image_after(&rt, alloc, &rounds[..8]);
-    let before = commands_of(alloc, &rounds[..8]).expect(&rt, "no fault");
+    let image = image_after(rt, alloc, &rounds[..8]);
+    let before = commands_of(alloc, &rounds[..8]).expect(rt, "no fault");
     let script = Script {
         geometry: LONG,
         before: &before,
         rounds: &rounds[8..9],
     };
-    expect_stops(&rt, alloc, script, &image, (18, 58));
+    expect_stops(rt, alloc, script, &image, (18, 58));
 }

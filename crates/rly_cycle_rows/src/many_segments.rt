@@ -106,13 +106,16 @@ fn expect_cycles(
 /// one the segment that is opened is the only one without a live byte, and a byte is moved into its head.
 #[test]
 fn two_hundred_and_fifty_six_segments(rt: HostRuntime) {
-    let alloc = rt.alloc();
-    let mut machine = Machine::new(alloc, MANY.params).expect(&rt, "memory");
-    let disk = new_device(&rt, alloc, &MANY).expect(&rt, "memory");
-    let mut journal = opened(&rt, alloc, disk);
-    pass_all(&rt, alloc, &mut journal, &mut machine);
+    expect_segments(&rt, rt.alloc());
+}
+
+fn expect_segments(rt: &impl Abort, alloc: Global) {
+    let mut machine = Machine::new(alloc, MANY.params).expect(rt, "memory");
+    let disk = new_device(rt, alloc, &MANY).expect(rt, "memory");
+    let mut journal = opened(rt, alloc, disk);
+    pass_all(rt, alloc, &mut journal, &mut machine);
     let mut disk = journal.into_disk();
-    expect_generations(&rt, &bytes_of(&rt, alloc, &mut disk));
-    let mut journal = opened(&rt, alloc, disk);
-    expect_cycles(&rt, alloc, &mut journal, &mut machine);
+    expect_generations(rt, &bytes_of(rt, alloc, &mut disk));
+    let mut journal = opened(rt, alloc, disk);
+    expect_cycles(rt, alloc, &mut journal, &mut machine);
 }

@@ -7,7 +7,8 @@ use rly_journal::Journal;
 use rly_machine::Reply;
 use rly_segment::{FormatFault, format};
 use rly_standing::OpenFault;
-use std::test::Fail;
+use std::alloc::Global;
+use std::process::Abort;
 
 /// A group of one Take, of the payload "abc" for hop 1, and one of a Pick there.
 pub(crate) const TAKEN_AND_PICKED: [u8; 51] = [
@@ -24,8 +25,11 @@ pub(crate) const TAKEN_AND_PICKED: [u8; 51] = [
 /// A new device of three segments holds nothing, and it is opened again where it was opened.
 #[test]
 fn a_new_device_of_three_segments_is_opened(rt: HostRuntime) {
-    let alloc = rt.alloc();
-    let disk = device_with(&rt, alloc, &[]).expect(&rt, "memory");
+    expect_new(&rt, rt.alloc());
+}
+
+fn expect_new(rt: &impl Abort, alloc: Global) {
+    let disk = device_with(rt, alloc, &[]).expect(rt, "memory");
     let journal = match Journal::open(alloc, disk) {
         Ok(journal) => journal,
         Err(_) => panic!(rt; "not opened"),
@@ -39,8 +43,11 @@ fn a_new_device_of_three_segments_is_opened(rt: HostRuntime) {
 /// Both groups are made again: the datagram is in flight.
 #[test]
 fn groups_are_made_again(rt: HostRuntime) {
-    let alloc = rt.alloc();
-    let disk = device_with(&rt, alloc, &TAKEN_AND_PICKED).expect(&rt, "memory");
+    expect_made_again(&rt, rt.alloc());
+}
+
+fn expect_made_again(rt: &impl Abort, alloc: Global) {
+    let disk = device_with(rt, alloc, &TAKEN_AND_PICKED).expect(rt, "memory");
     let journal = match Journal::open(alloc, disk) {
         Ok(journal) => journal,
         Err(_) => panic!(rt; "not opened"),
@@ -58,8 +65,11 @@ fn groups_are_made_again(rt: HostRuntime) {
 /// What is in flight is read where the group has it.
 #[test]
 fn a_payload_is_fetched_from_its_group(rt: HostRuntime) {
-    let alloc = rt.alloc();
-    let disk = device_with(&rt, alloc, &TAKEN_AND_PICKED).expect(&rt, "memory");
+    expect_fetched(&rt, rt.alloc());
+}
+
+fn expect_fetched(rt: &impl Abort, alloc: Global) {
+    let disk = device_with(rt, alloc, &TAKEN_AND_PICKED).expect(rt, "memory");
     let mut journal = match Journal::open(alloc, disk) {
         Ok(journal) => journal,
         Err(_) => panic!(rt; "not opened"),
@@ -74,46 +84,43 @@ fn a_payload_is_fetched_from_its_group(rt: HostRuntime) {
     }
 }
 
-/// A group whose body spells no record is damage, at its gate.
-#[test]
-fn a_group_without_commands_is_damage(rt: HostRuntime) {
-    let alloc = rt.alloc();
-    let disk = device_with(&rt, alloc, &[0xa5, 0, 0, 0, 2, 0, 0]).expect(&rt, "memory");
+/// Expects a device with these bytes from the first gate on to be damaged there.
+fn expect_damage(rt: &impl Abort, alloc: Global, bytes: &[u8]) {
+    let disk = device_with(rt, alloc, bytes).expect(rt, "memory");
     match Journal::open(alloc, disk) {
         Ok(_) => panic!(rt; "opened"),
         Err((fault, _)) => expect!(rt; fault == OpenFault::Damaged(FIRST_GATE as u64)),
     }
+}
+
+/// A group whose body spells no record is damage, at its gate.
+#[test]
+fn a_group_without_commands_is_damage(rt: HostRuntime) {
+    expect_damage(&rt, rt.alloc(), &[0xa5, 0, 0, 0, 2, 0, 0]);
 }
 
 /// A Pick that the state refuses isn't made again: its group is damage.
 #[test]
 fn a_refused_command_is_damage(rt: HostRuntime) {
-    let alloc = rt.alloc();
-    let disk = device_with(
-        &rt,
-        alloc,
-        &[0xa5, 0, 0, 0, 13, 0, 1, 2, 0, 1, 0, 0, 0, 0, 0, 0, 0, 6],
-    )
-    .expect(&rt, "memory");
-    match Journal::open(alloc, disk) {
-        Ok(_) => panic!(rt; "opened"),
-        Err((fault, _)) => expect!(rt; fault == OpenFault::Damaged(FIRST_GATE as u64)),
-    }
+    let group = [0xa5, 0, 0, 0, 13, 0, 1, 2, 0, 1, 0, 0, 0, 0, 0, 0, 0, 6];
+    expect_damage(&rt, rt.alloc(), &group);
 }
 
 /// Segments of one byte less than the least are refused, and nothing is written: 118,508 is the least of three, 156,908 of two.
 #[test]
-fn segments_that_are_too_short(rt: HostRuntime) -> Result<(), Fail> {
-    let alloc = rt.alloc();
+fn segments_that_are_too_short(rt: HostRuntime) {
+    expect_too_short(&rt, rt.alloc());
+}
+
+fn expect_too_short(rt: &impl Abort, alloc: Global) {
     for (geometry, length) in [(THREE, 118_507), (TWO, 156_907)] {
-        let mut disk = MemDisk::new(alloc, vec![in alloc; 0u8; 355_588].expect(&rt, "memory"));
+        let mut disk = MemDisk::new(alloc, vec![in alloc; 0u8; 355_588].expect(rt, "memory"));
         let told = format(alloc, &mut disk, &Geometry { length, ..geometry });
         expect!(rt; told == Err(FormatFault::BadGeometry));
-        let bytes = bytes_of(&rt, alloc, &mut disk);
+        let bytes = bytes_of(rt, alloc, &mut disk);
         expect!(rt; bytes.iter().all(|byte| *byte == 0));
         expect!(rt; format(alloc, &mut disk, &geometry) == Ok(()));
     }
-    Ok(())
 }
 
 /// What is read of a device where the third segment was opened and 32 datagrams were picked: the header, three generations, the head and
@@ -134,19 +141,22 @@ const READS: [(u64, u64); 10] = [
 /// A sync, and then those reads: none of the 32 payloads that the head has by place.
 #[test]
 fn payloads_by_place_are_not_read(rt: HostRuntime) {
-    let alloc = rt.alloc();
-    let (journal, mut machine) = before_the_picks(&rt, alloc, 3).expect(&rt, "memory");
+    expect_reads(&rt, rt.alloc());
+}
+
+fn expect_reads(rt: &impl Abort, alloc: Global) {
+    let (journal, mut machine) = before_the_picks(rt, alloc, 3).expect(rt, "memory");
     let mut journal = journal;
-    expect_round(&rt, alloc, &mut journal, &mut machine, 3, Part::Picks).expect(&rt, "memory");
+    expect_round(rt, alloc, &mut journal, &mut machine, 3, Part::Picks).expect(rt, "memory");
     let disk = Watched::new(
         journal.into_disk(),
-        Vec::with_capacity(alloc, 20).expect(&rt, "memory"),
+        Vec::with_capacity(alloc, 20).expect(rt, "memory"),
     );
-    let disk = opened(&rt, alloc, disk).into_disk();
-    let mut want = vec![in alloc; DiskCall::Sync].expect(&rt, "memory");
+    let disk = opened(rt, alloc, disk).into_disk();
+    let mut want = vec![in alloc; DiskCall::Sync].expect(rt, "memory");
     for (place, count) in READS {
         want.push(DiskCall::Read { place, count })
-            .expect(&rt, "memory");
+            .expect(rt, "memory");
     }
     expect!(rt; disk.told().len() == 11);
     for (told, call) in disk.told().iter().zip(want) {

@@ -123,11 +123,15 @@ fn expect_first_in_flight(rt: &impl Abort, alloc: Global, journal: &mut Journal<
 /// A datagram is taken and picked, the device is opened again, and the datagram is fetched and released.
 #[test]
 fn a_datagram_is_there_again(rt: HostRuntime) {
-    let mut journal = new_journal(&rt, rt.alloc());
-    take_and_pick(&rt, rt.alloc(), &mut journal, 1, 100);
-    let mut again = opened(&rt, rt.alloc(), journal.into_disk());
+    expect_there_again(&rt, rt.alloc());
+}
+
+fn expect_there_again(rt: &impl Abort, alloc: Global) {
+    let mut journal = new_journal(rt, alloc);
+    take_and_pick(rt, alloc, &mut journal, 1, 100);
+    let mut again = opened(rt, alloc, journal.into_disk());
     expect!(rt; again.position() == 2);
-    expect_first_in_flight(&rt, rt.alloc(), &mut again);
+    expect_first_in_flight(rt, alloc, &mut again);
 }
 
 /// Takes and picks 300 datagrams of 1,000 bytes, and releases each 20 later: each segment is opened several times.
@@ -151,10 +155,14 @@ fn expect_last_20(rt: &impl Abort, alloc: Global, journal: &mut Journal<MemDisk>
 /// as it was taken, also once the device was opened again.
 #[test]
 fn payloads_stay_while_segments_are_opened(rt: HostRuntime) {
-    let mut journal = new_journal(&rt, rt.alloc());
-    pass_300(&rt, rt.alloc(), &mut journal);
-    expect_last_20(&rt, rt.alloc(), &mut journal);
-    let mut again = opened(&rt, rt.alloc(), journal.into_disk());
+    expect_stay(&rt, rt.alloc());
+}
+
+fn expect_stay(rt: &impl Abort, alloc: Global) {
+    let mut journal = new_journal(rt, alloc);
+    pass_300(rt, alloc, &mut journal);
+    expect_last_20(rt, alloc, &mut journal);
+    let mut again = opened(rt, alloc, journal.into_disk());
     expect!(rt; again.position() == 880);
-    expect_last_20(&rt, rt.alloc(), &mut again);
+    expect_last_20(rt, alloc, &mut again);
 }

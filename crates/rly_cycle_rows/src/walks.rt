@@ -2,8 +2,41 @@
 use crate::device::{FOUR, SMALL, THREE, bytes_of, new_device};
 use crate::script::{Script, Step, in_rounds, take, take_within};
 use crate::stops::{Costs, walk, walk_image};
+use rly_core::Geometry;
 use std::alloc::{AllocError, Global};
 use std::process::Abort;
+
+/// The rounds of a script.
+#[derive(Clone, Copy)]
+enum Rounds {
+    Commands,
+    Limited,
+    /// 35 mixed steps of 900 bytes, seven in each round.
+    OfSeven,
+    /// 180 mixed steps of 300 bytes, 64 in each round.
+    OfSixtyFour,
+    Held,
+    ThreeCycles,
+}
+
+impl Rounds {
+    fn made(self, alloc: Global) -> Result<Vec<Vec<Step>>, AllocError> {
+        match self {
+            Rounds::Commands => in_rounds(alloc, &commands(), 1),
+            Rounds::Limited => in_rounds(alloc, &limited(), 1),
+            Rounds::OfSeven => many_mixed(alloc, 35, 900, 7),
+            Rounds::OfSixtyFour => many_mixed(alloc, 180, 300, 64),
+            Rounds::Held => held(alloc),
+            Rounds::ThreeCycles => three_cycles_of(alloc, 1_200),
+        }
+    }
+}
+
+/// Walks rounds on a new device.
+fn walk_rounds(rt: &impl Abort, alloc: Global, rounds: Rounds, geometry: Geometry, costs: Costs) {
+    let rounds = rounds.made(alloc).expect(rt, "memory");
+    walk(rt, alloc, geometry, &rounds, costs)
+}
 
 /// Commands one by one: three datagrams are taken, CoDel begins to drop, and segments are opened. On two segments these are two,
 /// the first where three datagrams are live, the second where one is in flight and its gate is open from before.
@@ -29,20 +62,18 @@ fn commands() -> [Step; 15] {
 
 #[test]
 fn rounds_of_one_call(rt: HostRuntime) {
-    let alloc = rt.alloc();
-    let rounds = in_rounds(alloc, &commands(), 1).expect(&rt, "memory");
     let costs = Costs {
         calls: 76,
         syncs: 33,
         generations: &[3, 2],
     };
-    walk(&rt, alloc, SMALL, &rounds, costs);
+    walk_rounds(&rt, rt.alloc(), Rounds::Commands, SMALL, costs);
     let costs = Costs {
         calls: 77,
         syncs: 36,
         generations: &[4, 2, 3, 0],
     };
-    walk(&rt, alloc, FOUR, &rounds, costs);
+    walk_rounds(&rt, rt.alloc(), Rounds::Commands, FOUR, costs);
 }
 
 /// Commands one by one, some with limits. The Pick at 120,000 finds one that has expired and drops the next; those at 130,000 and at
@@ -69,36 +100,22 @@ fn limited() -> [Step; 15] {
 
 #[test]
 fn limits_on_two_segments(rt: HostRuntime) {
-    let alloc = rt.alloc();
     let costs = Costs {
         calls: 83,
         syncs: 37,
         generations: &[3, 2],
     };
-    walk(
-        &rt,
-        alloc,
-        SMALL,
-        &in_rounds(alloc, &limited(), 1).expect(&rt, "memory"),
-        costs,
-    );
+    walk_rounds(&rt, rt.alloc(), Rounds::Limited, SMALL, costs);
 }
 
 #[test]
 fn limits_on_four_segments(rt: HostRuntime) {
-    let alloc = rt.alloc();
     let costs = Costs {
         calls: 85,
         syncs: 40,
         generations: &[4, 2, 3, 0],
     };
-    walk(
-        &rt,
-        alloc,
-        FOUR,
-        &in_rounds(alloc, &limited(), 1).expect(&rt, "memory"),
-        costs,
-    );
+    walk_rounds(&rt, rt.alloc(), Rounds::Limited, FOUR, costs);
 }
 
 /// Step number `index` of full rounds. Three datagrams of each ten steps are taken, picked and released.
@@ -132,38 +149,34 @@ fn many_mixed(
 
 #[test]
 fn rounds_of_seven_calls(rt: HostRuntime) {
-    let alloc = rt.alloc();
-    let rounds = many_mixed(alloc, 35, 900, 7).expect(&rt, "memory");
     let costs = Costs {
         calls: 43,
         syncs: 17,
         generations: &[3, 2],
     };
-    walk(&rt, alloc, SMALL, &rounds, costs);
+    walk_rounds(&rt, rt.alloc(), Rounds::OfSeven, SMALL, costs);
     let costs = Costs {
         calls: 51,
         syncs: 23,
         generations: &[4, 5, 3, 0],
     };
-    walk(&rt, alloc, FOUR, &rounds, costs);
+    walk_rounds(&rt, rt.alloc(), Rounds::OfSeven, FOUR, costs);
 }
 
 #[test]
 fn rounds_of_sixty_four_calls(rt: HostRuntime) {
-    let alloc = rt.alloc();
-    let rounds = many_mixed(alloc, 180, 300, 64).expect(&rt, "memory");
     let costs = Costs {
         calls: 34,
         syncs: 13,
         generations: &[3, 2],
     };
-    walk(&rt, alloc, SMALL, &rounds, costs);
+    walk_rounds(&rt, rt.alloc(), Rounds::OfSixtyFour, SMALL, costs);
     let costs = Costs {
         calls: 32,
         syncs: 13,
         generations: &[3, 2, 0, 0],
     };
-    walk(&rt, alloc, FOUR, &rounds, costs);
+    walk_rounds(&rt, rt.alloc(), Rounds::OfSixtyFour, FOUR, costs);
 }
 
 /// Rounds that each take two datagrams of 250 bytes, pick two that were taken seven before, and release two that were taken 14 before: 14
@@ -191,13 +204,12 @@ fn held(alloc: Global) -> Result<Vec<Vec<Step>>, AllocError> {
 /// Six segments are opened, four of them with payloads that are moved: two, and three times four.
 #[test]
 fn payloads_in_three_segments(rt: HostRuntime) {
-    let alloc = rt.alloc();
     let costs = Costs {
         calls: 116,
         syncs: 49,
         generations: &[7, 6, 3, 4],
     };
-    walk(&rt, alloc, FOUR, &held(alloc).expect(&rt, "memory"), costs);
+    walk_rounds(&rt, rt.alloc(), Rounds::Held, FOUR, costs);
 }
 
 /// The rounds of a worked cycle, which takes 32 datagrams of so many bytes from a number on, with a limit or without, picks them, and
@@ -249,10 +261,7 @@ pub(crate) const THREE_CYCLES: Costs = Costs {
 
 #[test]
 fn three_cycles(rt: HostRuntime) {
-    let alloc = rt.alloc();
-    let rounds = three_cycles_of(alloc, 1_200).expect(&rt, "memory");
-    expect!(rt; rounds.len() == 11);
-    walk(&rt, alloc, THREE, &rounds, THREE_CYCLES);
+    walk_rounds(&rt, rt.alloc(), Rounds::ThreeCycles, THREE, THREE_CYCLES);
 }
 
 /// The bytes of a new device, with a header of version 1 as programs wrote it that knew no longer payloads, and `ff` after its fields.
@@ -265,15 +274,19 @@ fn first_version(rt: &impl Abort, alloc: Global) -> Vec<u8> {
     image
 }
 
-/// The same rounds on a device of version 1, whose longest payload has 1,200 bytes.
-#[test]
-fn three_cycles_on_a_device_of_version_1(rt: HostRuntime) {
-    let alloc = rt.alloc();
-    let rounds = three_cycles_of(alloc, 1_200).expect(&rt, "memory");
+fn walk_first_version(rt: &impl Abort, alloc: Global) {
+    let rounds = three_cycles_of(alloc, 1_200).expect(rt, "memory");
+    expect!(rt; rounds.len() == 11);
     let script = Script {
         geometry: THREE,
         before: &[],
         rounds: &rounds,
     };
-    walk_image(&rt, alloc, script, &first_version(&rt, alloc), THREE_CYCLES);
+    walk_image(rt, alloc, script, &first_version(rt, alloc), THREE_CYCLES);
+}
+
+/// The same rounds on a device of version 1, whose longest payload has 1,200 bytes.
+#[test]
+fn three_cycles_on_a_device_of_version_1(rt: HostRuntime) {
+    walk_first_version(&rt, rt.alloc());
 }

@@ -5,7 +5,7 @@ use rly_core::{Geometry, HopId, Params, PeerId};
 use rly_disk::{Disk, MemDisk};
 use rly_index::Index;
 use rly_machine::{Command, Reply};
-use rly_segment::{HeadFault, read_placed_head};
+use rly_segment::read_placed_head;
 use std::alloc::{AllocError, Global};
 use std::process::Abort;
 
@@ -41,33 +41,43 @@ fn put_numbers(bytes: &mut Vec<u8>, numbers: &[u64]) -> Result<(), AllocError> {
     Ok(())
 }
 
-/// A disk whose first segment has a head of form 1, of 2^40 commands, with no datagram in it. Peer 1 gave all that the hops took.
-fn broad_disk(alloc: Global) -> Result<MemDisk, AllocError> {
-    let mut bytes = vec![in alloc; 0u8; 64]?;
-    bytes.push(0xa5)?;
-    put_numbers(&mut bytes, &[1])?;
-    bytes.extend_from_slice(&5_064u32.to_be_bytes())?;
-    put_numbers(&mut bytes, &[COMMANDS, 64 * DROPPED])?;
+/// The numbers of peers 2 to 64, which gave nothing, and those of the hops.
+fn put_ends(bytes: &mut Vec<u8>) -> Result<(), AllocError> {
     for _peer in 2..=64 {
-        put_numbers(&mut bytes, &[0])?;
+        put_numbers(bytes, &[0])?;
     }
     for _hop in 1..=64 {
-        put_numbers(&mut bytes, &[MOMENT, 0, 0, 0, 0])?;
+        put_numbers(bytes, &[MOMENT, 0, 0, 0, 0])?;
         bytes.push(0)?;
-        put_numbers(&mut bytes, &[DROPPED, DROPPED, 0])?;
+        put_numbers(bytes, &[DROPPED, DROPPED, 0])?;
         bytes.extend_from_slice(&[0; 6])?;
     }
-    bytes.resize(SIZE, 0)?;
-    Ok(MemDisk::new(alloc, bytes))
+    Ok(())
+}
+
+/// A head of form 1, of 2^40 commands, with no datagram in it. Peer 1 gave all that the hops took.
+fn put_head(bytes: &mut Vec<u8>) -> Result<(), AllocError> {
+    bytes.push(0xa5)?;
+    put_numbers(bytes, &[1])?;
+    bytes.extend_from_slice(&5_064u32.to_be_bytes())?;
+    put_numbers(bytes, &[COMMANDS, 64 * DROPPED])?;
+    put_ends(bytes)
+}
+
+/// A disk whose first segment has that head.
+fn broad_disk(rt: &impl Abort, alloc: Global) -> MemDisk {
+    let mut bytes = vec![in alloc; 0u8; 64].expect(rt, "memory");
+    put_head(&mut bytes).expect(rt, "memory");
+    bytes.resize(SIZE, 0).expect(rt, "memory");
+    MemDisk::new(alloc, bytes)
 }
 
 /// The index of that head.
-fn broad_index(rt: &impl Abort, alloc: Global) -> Result<Index, AllocError> {
-    let mut disk = broad_disk(alloc).expect(rt, "memory");
+fn broad_index(rt: &impl Abort, alloc: Global) -> Index {
+    let mut disk = broad_disk(rt, alloc);
     assert!(rt; may_have(&BROAD, disk.size()));
     match read_placed_head(alloc, &mut disk, &BROAD, 0) {
-        Ok(head) => Ok(Index::begin(BROAD, 0, head)),
-        Err(HeadFault::OutOfMemory) => Err(AllocError),
+        Ok(head) => Index::begin(BROAD, 0, head),
         Err(_) => panic!(rt; "no head"),
     }
 }
@@ -108,21 +118,34 @@ fn pick_all(rt: &impl Abort, alloc: Global, index: &mut Index) {
     }
 }
 
-/// Each hop takes one more, picks it and releases it, and no memory is refused.
-#[test]
-fn each_of_64_hops_takes_one(rt: HostRuntime) {
-    let alloc = rt.alloc();
-    let mut index = broad_index(&rt, alloc).expect(&rt, "memory");
-    take_all(&rt, alloc, &mut index);
-    expect!(rt; index.machine().item_count() == 64 && index.machine().byte_count() == 76_800);
-    pick_all(&rt, alloc, &mut index);
+/// Each hop releases what it picked.
+fn release_all(rt: &impl Abort, alloc: Global, index: &mut Index) {
     for hop in 1..=64u16 {
         let release = Command::Release {
             hop: HopId(hop),
             number: 1,
         };
-        let reply = step(&rt, alloc, &mut index, 11, release).expect(&rt, "memory");
-        expect!(rt; matches!(&reply, Reply::Released(1)));
+        let reply = step(rt, alloc, index, 11, release).expect(rt, "memory");
+        expect!(*rt; matches!(&reply, Reply::Released(1)));
     }
-    expect!(rt; index.machine().item_count() == 0);
+}
+
+/// How many datagrams there are, and how many bytes they have.
+fn held_by(index: &Index) -> (u64, u64) {
+    (index.machine().item_count(), index.machine().byte_count())
+}
+
+/// Each hop takes one more, picks it and releases it, and no memory is refused.
+#[test]
+fn each_of_64_hops_takes_one(rt: HostRuntime) {
+    let mut index = broad_index(&rt, rt.alloc());
+    expect_one_of_each(&rt, rt.alloc(), &mut index);
+}
+
+fn expect_one_of_each(rt: &impl Abort, alloc: Global, index: &mut Index) {
+    take_all(rt, alloc, index);
+    expect!(*rt; held_by(index) == (64, 76_800));
+    pick_all(rt, alloc, index);
+    release_all(rt, alloc, index);
+    expect!(*rt; held_by(index).0 == 0);
 }

@@ -7,12 +7,12 @@ use rly_checkpoint::{Place, Stored};
 use rly_core::limits::{MAX_SEGMENTS, SEGMENT_LENGTH_LIMIT};
 use rly_core::{Geometry, HopId, Params, PeerId, Refusal};
 use rly_disk::{Disk, MemDisk};
-use rly_drawing::{DrawingFault, draw, law_but_for_bytes};
+use rly_drawing::{draw, law_but_for_bytes};
 use rly_index::Index;
 use rly_machine::{Command, Payload, Reply};
 use rly_places::{Choice, law_drawn};
 use rly_reclaim::fits;
-use rly_segment::{HeadFault, OpeningFault, Target, open_segment, read_placed_head, segment_end};
+use rly_segment::{Target, open_segment, read_placed_head, segment_end};
 use std::alloc::{AllocError, Global};
 use std::process::Abort;
 
@@ -70,7 +70,7 @@ pub(crate) fn may_have(geometry: &Geometry, size: u64) -> bool
 }
 
 /// A disk whose first segment has that head.
-pub(crate) fn disk_of(alloc: Global) -> Result<MemDisk, AllocError> {
+fn disk_of(alloc: Global) -> Result<MemDisk, AllocError> {
     let mut bytes = vec![in alloc; 0u8; SIZE]?;
     bytes[64] = 0xa5;
     bytes[65..261].copy_from_slice(&HEAD);
@@ -78,17 +78,18 @@ pub(crate) fn disk_of(alloc: Global) -> Result<MemDisk, AllocError> {
 }
 
 /// The index of that head.
-pub(crate) fn index_of(
-    rt: &impl Abort,
-    alloc: Global,
-    disk: &mut MemDisk,
-) -> Result<Index, AllocError> {
+fn index_of(rt: &impl Abort, alloc: Global, disk: &mut MemDisk) -> Index {
     assert!(rt; may_have(&FOUR, disk.size()));
     match read_placed_head(alloc, disk, &FOUR, 0) {
-        Ok(head) => Ok(Index::begin(FOUR, 0, head)),
-        Err(HeadFault::OutOfMemory) => Err(AllocError),
+        Ok(head) => Index::begin(FOUR, 0, head),
         Err(_) => panic!(rt; "no head"),
     }
+}
+
+/// The index of that head on a disk of its own.
+pub(crate) fn new_index(rt: &impl Abort, alloc: Global) -> Index {
+    let mut disk = disk_of(alloc).expect(rt, "memory");
+    index_of(rt, alloc, &mut disk)
 }
 
 /// Whether a payload has no bytes, or lies by place from one place up to another.
@@ -136,12 +137,7 @@ pub(crate) fn step(
 }
 
 /// Opens the next segment, with generation 2, as a journal will: its head holds a copy of the spool in which the victim's payloads are inline.
-fn open_next(
-    rt: &impl Abort,
-    alloc: Global,
-    disk: &mut MemDisk,
-    index: &mut Index,
-) -> Result<(), AllocError> {
+fn open_next(rt: &impl Abort, alloc: Global, disk: &mut MemDisk, index: &mut Index) {
     law_drawn();
     law_but_for_bytes();
     index.law_index();
@@ -156,8 +152,7 @@ fn open_next(
         index.machine(),
     ) {
         Ok(copy) => copy,
-        Err(DrawingFault::OutOfMemory) => return Err(AllocError),
-        Err(DrawingFault::Device) => panic!(rt; "a read failed"),
+        Err(_) => panic!(rt; "not drawn"),
     };
     assert!(rt; may_have(&geometry, disk.size()));
     let seq = copy.seq();
@@ -167,12 +162,8 @@ fn open_next(
         closed: true,
     };
     match open_segment(alloc, disk, &geometry, target, 2, &copy) {
-        Ok(gate) => {
-            index.moved(choice, gate);
-            Ok(())
-        }
-        Err(OpeningFault::OutOfMemory) => Err(AllocError),
-        Err(OpeningFault::Device) => panic!(rt; "a write failed"),
+        Ok(gate) => index.moved(choice, gate),
+        Err(_) => panic!(rt; "no segment is opened"),
     }
 }
 
@@ -243,22 +234,36 @@ fn is_expired(reply: &Reply, late: &[u64]) -> bool {
     }
 }
 
+/// Whether the segments have these live bytes, so much of this one, the current, is used, and the next opening chooses so.
+fn stands_at(index: &Index, left: [u64; 4], current: (u64, u64), next: Choice) -> bool {
+    live(index) == left && (index.segment(), index.used()) == current && index.choose() == next
+}
+
+/// Whether three datagrams wait, and the bytes of the one at this position lie there.
+fn waits_at(index: &Index, position: usize, place: Place) -> bool {
+    let [hop] = index.machine().hops() else {
+        return false;
+    };
+    hop.queue.len() == 3
+        && position < 3
+        && matches!(&hop.queue.item(position).payload, Stored::Placed(found) if *found == place)
+}
+
 /// Five bytes that the head has inline lie in its own segment from now on.
 #[test]
 fn a_head_that_was_read_is_counted(rt: HostRuntime) {
-    let alloc = rt.alloc();
-    let index = index_of(&rt, alloc, &mut disk_of(alloc).expect(&rt, "memory")).expect(
-        &rt, "memory",
-    );
-    expect!(rt; live(&index) == [5, 3, 2, 0]);
-    expect!(rt; index.segment() == 0 && index.used() == 261);
-    expect!(rt; index.choose() == Choice { target: 3, victim: 2 });
-    let [hop] = index.machine().hops() else {
-        panic!(rt; "not one hop");
+    let index = new_index(&rt, rt.alloc());
+    expect_counted(&rt, &index);
+}
+
+fn expect_counted(rt: &impl Abort, index: &Index) {
+    let next = Choice {
+        target: 3,
+        victim: 2,
     };
-    assert!(rt; hop.queue.len() == 3);
-    expect!(rt; matches!(&hop.queue.item(1).payload, Stored::Placed(Place { start: 237, length: 4 })));
-    expect!(rt; matches!(&hop.queue.item(2).payload, Stored::Placed(Place { start: 260, length: 1 })));
+    expect!(*rt; stands_at(index, [5, 3, 2, 0], (0, 261), next));
+    expect!(*rt; waits_at(index, 1, Place { start: 237, length: 4 }));
+    expect!(*rt; waits_at(index, 2, Place { start: 260, length: 1 }));
 }
 
 /// A command of the tables below.
@@ -314,14 +319,18 @@ fn expect_row(rt: &impl Abort, alloc: Global, index: &mut Index, row: &Row) {
     expect!(*rt; index.used() == *used);
 }
 
-/// Makes these steps on the index of the head, and checks what comes of each. The index.
-fn index_after(rt: &impl Abort, alloc: Global, rows: &[Row]) -> Index {
-    let mut disk = disk_of(alloc).expect(rt, "memory");
-    let mut index = index_of(rt, alloc, &mut disk).expect(rt, "memory");
+/// Makes the steps of these rows, and checks what comes of each. What the next opening chooses then.
+fn choice_after(rt: &impl Abort, alloc: Global, index: &mut Index, rows: &[Row]) -> Choice {
     for row in rows {
-        expect_row(rt, alloc, &mut index, row);
+        expect_row(rt, alloc, index, row);
     }
-    index
+    index.choose()
+}
+
+/// The same of the index of the head.
+fn choice_after_all(rt: &impl Abort, alloc: Global, rows: &[Row]) -> Choice {
+    let mut index = new_index(rt, alloc);
+    choice_after(rt, alloc, &mut index, rows)
 }
 
 /// A Pick that drops takes off the bytes of what it drops, a Release those of what it names, and a Take adds its own to the current
@@ -361,8 +370,8 @@ const CHANGES: [Row; 6] = [
 
 #[test]
 fn commands_change_the_counters(rt: HostRuntime) {
-    let index = index_after(&rt, rt.alloc(), &CHANGES);
-    expect!(rt; index.choose() == Choice { target: 1, victim: 2 });
+    let next = choice_after_all(&rt, rt.alloc(), &CHANGES);
+    expect!(rt; next == Choice { target: 1, victim: 2 });
 }
 
 /// A Pick takes off the bytes of what is past its limit, once it came after the limit and not before.
@@ -413,23 +422,24 @@ const EXPIRING: [Row; 6] = [
 
 #[test]
 fn what_expired_is_taken_off(rt: HostRuntime) {
-    let _index = index_after(&rt, rt.alloc(), &EXPIRING);
+    let _next = choice_after_all(&rt, rt.alloc(), &EXPIRING);
 }
 
 /// The second of the datagrams, whose two bytes lie in the victim, lies in the new head after it, which is of form 2: 317,188 with
 /// 13 bytes, 80 of the spool, 26 of the first entry and 21 of its own before it.
 #[test]
 fn the_victims_bytes_move(rt: HostRuntime) {
-    let alloc = rt.alloc();
-    let mut disk = disk_of(alloc).expect(&rt, "memory");
-    let mut index = index_of(&rt, alloc, &mut disk).expect(&rt, "memory");
-    open_next(&rt, alloc, &mut disk, &mut index).expect(&rt, "memory");
-    expect!(rt; live(&index) == [5, 3, 0, 2]);
-    expect!(rt; index.segment() == 3 && index.used() == 317_382);
-    expect!(rt; index.choose() == Choice { target: 2, victim: 3 });
-    let [hop] = index.machine().hops() else {
-        panic!(rt; "not one hop");
+    let mut disk = disk_of(rt.alloc()).expect(&rt, "memory");
+    let mut index = index_of(&rt, rt.alloc(), &mut disk);
+    expect_moved(&rt, rt.alloc(), &mut disk, &mut index);
+}
+
+fn expect_moved(rt: &impl Abort, alloc: Global, disk: &mut MemDisk, index: &mut Index) {
+    open_next(rt, alloc, disk, index);
+    let next = Choice {
+        target: 2,
+        victim: 3,
     };
-    assert!(rt; hop.queue.len() == 3);
-    expect!(rt; matches!(&hop.queue.item(0).payload, Stored::Placed(Place { start: 317_328, length: 2 })));
+    expect!(*rt; stands_at(index, [5, 3, 0, 2], (3, 317_382), next));
+    expect!(*rt; waits_at(index, 0, Place { start: 317_328, length: 2 }));
 }

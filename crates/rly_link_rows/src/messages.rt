@@ -68,35 +68,29 @@ const FULL_MESSAGE: Message<&[u8]> = Message::Refused {
     refusal: 6,
 };
 
-/// These bytes are read as this message.
-fn expect_read(rt: &impl Abort, bytes: &[u8], message: Message<&[u8]>) {
-    expect!(rt; read_message(bytes) == Ok(message));
-}
+/// The worked messages.
+const WORKED: [(&[u8], Message<&[u8]>); 5] = [
+    (&DATA, DATA_MESSAGE),
+    (&LIMITED, LIMITED_MESSAGE),
+    (&MOST_LIMITED, MOST_LIMITED_MESSAGE),
+    (&CUSTODY, CUSTODY_MESSAGE),
+    (&FULL, FULL_MESSAGE),
+];
 
-#[test]
-fn the_worked_messages_are_read(rt: HostRuntime) {
-    expect_read(&rt, &DATA, DATA_MESSAGE);
-    expect_read(&rt, &LIMITED, LIMITED_MESSAGE);
-    expect_read(&rt, &MOST_LIMITED, MOST_LIMITED_MESSAGE);
-    expect_read(&rt, &CUSTODY, CUSTODY_MESSAGE);
-    expect_read(&rt, &FULL, FULL_MESSAGE);
-}
-
-/// This message is written as these bytes, and nothing after them.
-fn expect_written(rt: &impl Abort, message: Message<&[u8]>, bytes: &[u8]) {
+/// These bytes are read as this message, which is written as these bytes, and nothing after them.
+fn expect_spelled<R: Abort>(rt: &R, bytes: &[u8], message: Message<&[u8]>) {
+    expect!(*rt; read_message(bytes) == Ok(message));
     let mut out = [0xee; 8_300];
-    expect!(rt; write_message(message, &mut out) == Ok(bytes.len()));
-    expect!(rt; out.iter().take(bytes.len()).eq(bytes.iter()));
-    expect!(rt; out.get(bytes.len()) == Some(&0xee));
+    expect!(*rt; write_message(message, &mut out) == Ok(bytes.len()));
+    expect!(*rt; out.iter().take(bytes.len()).eq(bytes.iter()));
+    expect!(*rt; out.get(bytes.len()) == Some(&0xee));
 }
 
 #[test]
-fn the_worked_messages_are_written(rt: HostRuntime) {
-    expect_written(&rt, DATA_MESSAGE, &DATA);
-    expect_written(&rt, LIMITED_MESSAGE, &LIMITED);
-    expect_written(&rt, MOST_LIMITED_MESSAGE, &MOST_LIMITED);
-    expect_written(&rt, CUSTODY_MESSAGE, &CUSTODY);
-    expect_written(&rt, FULL_MESSAGE, &FULL);
+fn the_worked_messages_are_read_and_written(rt: HostRuntime) {
+    for (bytes, message) in &WORKED {
+        expect_spelled(&rt, *bytes, *message);
+    }
 }
 
 fn fault(bytes: &[u8]) -> Option<Refusal> {
@@ -107,31 +101,38 @@ fn message_in(bytes: &[u8]) -> Option<Message<&[u8]>> {
     read_message(bytes).ok()
 }
 
-/// Each of these is refused so.
-fn are_refused(rt: &impl Abort, rows: &[(&[u8], Refusal)]) {
-    for (index, (bytes, refusal)) in rows.iter().enumerate() {
-        expect!(rt; fault(bytes) == Some(*refusal), index as u64);
-    }
+/// Bytes, how many of them are there, and how they are refused.
+type Refused = (&'static [u8], usize, Refusal);
+
+/// Checks that the first bytes of a row are refused so.
+fn expect_refused<R: Abort>(rt: &R, row: u64, (bytes, length, refusal): &Refused) {
+    expect!(*rt; bytes.get(..*length).and_then(fault) == Some(*refusal), row);
 }
+
+/// Faults of the header.
+const HEADERS: [Refused; 11] = [
+    (&[], 0, Refusal::Short),
+    (
+        &[0x52, 0x4c, 0x01, 0x01, 0x00, 0x03, 0x00],
+        7,
+        Refusal::Short,
+    ),
+    (&[0x52, 0x4d, 0x02, 0x07, 0, 0, 0, 0], 8, Refusal::Magic),
+    (&[0x4c, 0x52, 0x01, 0x01, 0, 3, 0, 7], 8, Refusal::Magic),
+    (&[0x52, 0x4c, 0x02, 0x07, 0, 0, 0, 0], 8, Refusal::Version),
+    (&[0x52, 0x4c, 0x01, 0x07, 0, 0, 0, 0], 8, Refusal::Kind),
+    (&[0x52, 0x4c, 0x01, 0x00, 0, 3, 0, 7], 8, Refusal::Kind),
+    (&[0x52, 0x4c, 0x01, 0x05, 0, 3, 0, 7], 8, Refusal::Kind),
+    (&[0x52, 0x4c, 0x01, 0x04, 0, 0, 0, 7], 8, Refusal::Station),
+    (&[0x52, 0x4c, 0x01, 0x02, 0, 0, 0, 7], 8, Refusal::Station),
+    (&[0x52, 0x4c, 0x01, 0x02, 0, 3, 0, 0], 8, Refusal::Station),
+];
 
 #[test]
 fn faults_of_the_header(rt: HostRuntime) {
-    are_refused(
-        &rt,
-        &[
-            (&[], Refusal::Short),
-            (&[0x52, 0x4c, 0x01, 0x01, 0x00, 0x03, 0x00], Refusal::Short),
-            (&[0x52, 0x4d, 0x02, 0x07, 0, 0, 0, 0], Refusal::Magic),
-            (&[0x4c, 0x52, 0x01, 0x01, 0, 3, 0, 7], Refusal::Magic),
-            (&[0x52, 0x4c, 0x02, 0x07, 0, 0, 0, 0], Refusal::Version),
-            (&[0x52, 0x4c, 0x01, 0x07, 0, 0, 0, 0], Refusal::Kind),
-            (&[0x52, 0x4c, 0x01, 0x00, 0, 3, 0, 7], Refusal::Kind),
-            (&[0x52, 0x4c, 0x01, 0x05, 0, 3, 0, 7], Refusal::Kind),
-            (&[0x52, 0x4c, 0x01, 0x04, 0, 0, 0, 7], Refusal::Station),
-            (&[0x52, 0x4c, 0x01, 0x02, 0, 0, 0, 7], Refusal::Station),
-            (&[0x52, 0x4c, 0x01, 0x02, 0, 3, 0, 0], Refusal::Station),
-        ],
-    );
+    for (row, refused) in HEADERS.iter().enumerate() {
+        expect_refused(&rt, row as u64, refused);
+    }
 }
 
 /// The worked Data with one byte changed.
@@ -143,16 +144,24 @@ fn changed(place: usize, byte: u8) -> [u8; 21] {
     bytes
 }
 
+/// A place, the byte there, and how the worked Data is then refused.
+const CHANGES: [(usize, u8, Refusal); 4] = [
+    (1, 0x4d, Refusal::Magic),
+    (2, 0x02, Refusal::Version),
+    (3, 0x07, Refusal::Kind),
+    (5, 0x00, Refusal::Station),
+];
+
+/// Checks that each of them is refused so.
+fn expect_changes<R: Abort>(rt: &R) {
+    for (place, byte, refusal) in &CHANGES {
+        expect!(*rt; fault(&changed(*place, *byte)) == Some(*refusal), *place as u64);
+    }
+}
+
 #[test]
 fn changes_of_the_worked_data(rt: HostRuntime) {
-    for (place, byte, refusal) in &[
-        (1, 0x4d, Refusal::Magic),
-        (2, 0x02, Refusal::Version),
-        (3, 0x07, Refusal::Kind),
-        (5, 0x00, Refusal::Station),
-    ] {
-        expect!(rt; fault(&changed(*place, *byte)) == Some(*refusal), *place as u64);
-    }
+    expect_changes(&rt);
 }
 
 /// One byte more than a custody, a refusal and a Data have.
@@ -212,42 +221,34 @@ const LIMIT_OF_NONE_OF_8193: [u8; 26] = [
     0x01, 0x00, 0x0c, 0x41,
 ];
 
+/// Faults of the length. A limit of 0 is looked for once the part before the payload is whole, and before the payload's length.
+const LENGTHS: [Refused; 19] = [
+    (&CUSTODY, 15, Refusal::Short),
+    (&CUSTODY_AND_MORE, 17, Refusal::Long),
+    (&FULL, 16, Refusal::Short),
+    (&FULL_AND_MORE, 18, Refusal::Long),
+    (&DATA_AND_MORE, 22, Refusal::Long),
+    (&DATA_OF_1201, 21, Refusal::Short),
+    (&DATA_OF_8192, 21, Refusal::Short),
+    (&DATA_OF_8193, 21, Refusal::Long),
+    (&DATA_OF_8193, 18, Refusal::Long),
+    (&DATA_OF_8193, 17, Refusal::Short),
+    (&LIMITED_AND_MORE, 27, Refusal::Long),
+    (&LIMITED_OF_8192, 26, Refusal::Short),
+    (&LIMITED_OF_8192, 23, Refusal::Short),
+    (&LIMITED_OF_8193, 26, Refusal::Long),
+    (&LIMITED_OF_8193, 22, Refusal::Short),
+    (&LIMIT_OF_NONE, 26, Refusal::Kind),
+    (&LIMIT_OF_NONE, 23, Refusal::Kind),
+    (&LIMIT_OF_NONE, 22, Refusal::Short),
+    (&LIMIT_OF_NONE_OF_8193, 26, Refusal::Kind),
+];
+
 #[test]
 fn faults_of_the_length(rt: HostRuntime) {
-    are_refused(
-        &rt,
-        &[
-            (&CUSTODY[..15], Refusal::Short),
-            (&CUSTODY_AND_MORE, Refusal::Long),
-            (&FULL[..16], Refusal::Short),
-            (&FULL_AND_MORE, Refusal::Long),
-            (&DATA_AND_MORE, Refusal::Long),
-            (&DATA_OF_1201, Refusal::Short),
-            (&DATA_OF_8192, Refusal::Short),
-            (&DATA_OF_8193, Refusal::Long),
-            (&DATA_OF_8193[..18], Refusal::Long),
-            (&DATA_OF_8193[..17], Refusal::Short),
-        ],
-    );
-}
-
-/// A limit of 0 is looked for once the part before the payload is whole, and before the payload's length.
-#[test]
-fn faults_of_a_data_with_a_limit(rt: HostRuntime) {
-    are_refused(
-        &rt,
-        &[
-            (&LIMITED_AND_MORE, Refusal::Long),
-            (&LIMITED_OF_8192, Refusal::Short),
-            (&LIMITED_OF_8192[..23], Refusal::Short),
-            (&LIMITED_OF_8193, Refusal::Long),
-            (&LIMITED_OF_8193[..22], Refusal::Short),
-            (&LIMIT_OF_NONE, Refusal::Kind),
-            (&LIMIT_OF_NONE[..23], Refusal::Kind),
-            (&LIMIT_OF_NONE[..22], Refusal::Short),
-            (&LIMIT_OF_NONE_OF_8193, Refusal::Kind),
-        ],
-    );
+    for (row, refused) in LENGTHS.iter().enumerate() {
+        expect_refused(&rt, row as u64, refused);
+    }
 }
 
 /// A message that is cut is too short, wherever it is cut.
@@ -300,40 +301,58 @@ fn expect_unwritten(rt: &impl Abort, from: u16, limit: u64, length: usize, refus
     expect!(*rt; out[0] == 0xee);
 }
 
-/// A payload above 8,192 bytes and a limit that doesn't fit its five bytes have no spelling, nor has a message without a station,
-/// which is looked for first.
-#[test]
-fn what_has_no_spelling_is_not_written(rt: HostRuntime) {
-    expect_unwritten(&rt, 3, 0, 8_193, Refusal::Long);
-    expect_unwritten(&rt, 3, 5_000, 8_193, Refusal::Long);
-    expect_unwritten(&rt, 3, 1_099_511_627_776, 3, Refusal::Long);
-    expect_unwritten(&rt, 0, 0, 8_193, Refusal::Station);
-    expect_unwritten(&rt, 0, 1_099_511_627_776, 3, Refusal::Station);
-}
+/// A station, a limit and a payload's length that have no spelling, and why. A payload above 8,192 bytes and a limit that doesn't fit
+/// its five bytes have none, nor has a message without a station, which is looked for first.
+const UNWRITTEN: [(u16, u64, usize, Refusal); 5] = [
+    (3, 0, 8_193, Refusal::Long),
+    (3, 5_000, 8_193, Refusal::Long),
+    (3, 1_099_511_627_776, 3, Refusal::Long),
+    (0, 0, 8_193, Refusal::Station),
+    (0, 1_099_511_627_776, 3, Refusal::Station),
+];
 
 #[test]
-fn custody_for_no_station_is_not_written(rt: HostRuntime) {
+fn what_has_no_spelling_is_not_written(rt: HostRuntime) {
+    for (from, limit, length, refusal) in &UNWRITTEN {
+        expect_unwritten(&rt, *from, *limit, *length, *refusal);
+    }
+}
+
+/// Checks that a message to no station isn't written.
+fn expect_no_station<R: Abort>(rt: &R) {
     let mut out = [0xee; 8_300];
     let to_none = Message::Custody {
         from: StationId(7),
         to: StationId(0),
         last: 1,
     };
-    expect!(rt; write_message(to_none, &mut out) == Err(Refusal::Station));
-    expect!(rt; out[0] == 0xee);
+    expect!(*rt; write_message(to_none, &mut out) == Err(Refusal::Station));
+    expect!(*rt; out[0] == 0xee);
 }
 
-/// What a worker keeps room for: 23 bytes before the payload, and no payload has more than 8,192.
+#[test]
+fn custody_for_no_station_is_not_written(rt: HostRuntime) {
+    expect_no_station(&rt);
+}
+
+/// What a worker keeps room for, by the longest payload of its spool: 23 bytes before the payload, and no payload has more than 8,192.
+const LONGEST: [(u64, usize); 6] = [
+    (0, 23),
+    (1, 24),
+    (1_200, 1_223),
+    (8_192, 8_215),
+    (8_193, 8_215),
+    (u64::MAX, 8_215),
+];
+
+/// Checks how much it is.
+fn expect_room<R: Abort>(rt: &R) {
+    for (payload, length) in &LONGEST {
+        expect!(*rt; longest_message(*payload) == *length, *payload);
+    }
+}
+
 #[test]
 fn the_longest_message_of_a_spool(rt: HostRuntime) {
-    for (payload, length) in [
-        (0, 23),
-        (1, 24),
-        (1_200, 1_223),
-        (8_192, 8_215),
-        (8_193, 8_215),
-        (u64::MAX, 8_215),
-    ] {
-        expect!(rt; longest_message(payload) == length, payload);
-    }
+    expect_room(&rt);
 }

@@ -1,4 +1,5 @@
-//! A test for each row of the receiving core's table.
+//! The rows of the receiving core's table.
+use crate::expect::expect_row;
 use rly_core::Refusal;
 use rly_hop::{InAction, InEvent, Message, Receiving, StationId, TakeAnswer};
 use std::process::Abort;
@@ -17,214 +18,212 @@ const GREATEST: u64 = 1_099_511_627_775;
 /// An event, and what a core names on it.
 type Row = (InEvent<&'static [u8]>, Option<InAction<&'static [u8]>>);
 
-fn data(from: StationId, to: StationId, number: u64) -> InEvent<&'static [u8]> {
-    InEvent::Heard(Message::Data {
-        from,
-        to,
-        number,
-        limit: 0,
-        payload: PAYLOAD,
-    })
-}
+// The tables are constants, which can't call functions: so these are macros.
 
-/// Data of the peer station with a limit.
-fn limited(number: u64, limit: u64) -> InEvent<&'static [u8]> {
-    InEvent::Heard(Message::Data {
-        from: PEER,
-        to: OWN,
-        number,
-        limit,
-        payload: PAYLOAD,
-    })
-}
-
-fn custody(last: u64) -> Option<InAction<&'static [u8]>> {
-    Some(InAction::Send(Message::Custody {
-        from: OWN,
-        to: PEER,
-        last,
-    }))
-}
-
-fn take(number: u64) -> Option<InAction<&'static [u8]>> {
-    take_with(number, 0)
-}
-
-fn take_with(number: u64, limit: u64) -> Option<InAction<&'static [u8]>> {
-    Some(InAction::Take {
-        number,
-        limit,
-        payload: PAYLOAD,
-    })
-}
-
-/// A core that waits for the answer to the Take of this number.
-fn waiting(number: u64) -> Receiving {
-    let mut core = Receiving::new(OWN, PEER);
-    let _ = core.step(data(PEER, OWN, number));
-    core
-}
-
-/// What an answer to the Take of number 5 leads to.
-fn answered(answer: TakeAnswer) -> Option<InAction<&'static [u8]>> {
-    waiting(5).step(InEvent::Answered(answer))
-}
-
-/// A core names this on these events, one after the other.
-fn names(rt: &impl Abort, core: &mut Receiving, rows: &[Row]) {
-    for (index, (event, named)) in rows.iter().enumerate() {
-        expect!(rt; core.step(*event) == *named, index as u64);
-    }
-}
-
-#[test]
-fn data_of_the_peer_station_is_taken(rt: HostRuntime) {
-    let mut core = Receiving::new(OWN, PEER);
-    expect!(rt; core.step(data(PEER, OWN, 5)) == take(5));
-}
-
-/// A Data's limit goes into its Take unchanged, and into no other one.
-#[test]
-fn a_limit_is_handed_on(rt: HostRuntime) {
-    names(
-        &rt,
-        &mut Receiving::new(OWN, PEER),
-        &[
-            (limited(1, 1), take_with(1, 1)),
-            (InEvent::Answered(TakeAnswer::Taken), custody(1)),
-            (limited(2, GREATEST), take_with(2, GREATEST)),
-            (limited(3, 5_000), None),
-            (InEvent::Answered(TakeAnswer::Taken), custody(2)),
-            (data(PEER, OWN, 3), take(3)),
-        ],
-    );
-}
-
-#[test]
-fn nothing_else_is_taken(rt: HostRuntime) {
-    let custody = Message::Custody {
-        from: PEER,
-        to: OWN,
-        last: 5,
+/// Data of the peer's station, with a limit or without, or between other stations.
+macro_rules! data {
+    ($number:expr) => {
+        data!(PEER, OWN, $number, 0)
     };
-    let refused = Message::Refused {
-        from: PEER,
-        to: OWN,
-        number: 5,
-        refusal: 6,
+    ($number:expr, $limit:expr) => {
+        data!(PEER, OWN, $number, $limit)
     };
-    names(
-        &rt,
-        &mut Receiving::new(OWN, PEER),
-        &[
-            (data(OTHER, OWN, 5), None),
-            (data(PEER, OTHER, 5), None),
-            (data(OWN, PEER, 5), None),
-            (InEvent::Heard(custody), None),
-            (InEvent::Heard(refused), None),
-            (data(PEER, OWN, 6), take(6)),
+    ($from:expr, $to:expr, $number:expr, $limit:expr) => {
+        InEvent::Heard(Message::Data {
+            from: $from,
+            to: $to,
+            number: $number,
+            limit: $limit,
+            payload: PAYLOAD,
+        })
+    };
+}
+
+/// Custody up to a number is sent.
+macro_rules! custody {
+    ($last:expr) => {
+        Some(InAction::Send(Message::Custody {
+            from: OWN,
+            to: PEER,
+            last: $last,
+        }))
+    };
+}
+
+/// A refusal's number is sent in the place of custody of number 5.
+macro_rules! refused {
+    ($refusal:expr) => {
+        Some(InAction::Send(Message::Refused {
+            from: OWN,
+            to: PEER,
+            number: 5,
+            refusal: $refusal,
+        }))
+    };
+}
+
+/// A datagram is taken, with a limit or without.
+macro_rules! take {
+    ($number:expr) => {
+        take!($number, 0)
+    };
+    ($number:expr, $limit:expr) => {
+        Some(InAction::Take {
+            number: $number,
+            limit: $limit,
+            payload: PAYLOAD,
+        })
+    };
+}
+
+/// What a new core names on events, one after the other.
+struct Script {
+    shows: &'static str,
+    rows: &'static [Row],
+}
+
+const SCRIPTS: [Script; 6] = [
+    Script {
+        shows: "data of the peer's station is taken",
+        rows: &[(data!(5), take!(5))],
+    },
+    Script {
+        shows: "a limit goes into its take unchanged, and into no other one",
+        rows: &[
+            (data!(1, 1), take!(1, 1)),
+            (InEvent::Answered(TakeAnswer::Taken), custody!(1)),
+            (data!(2, GREATEST), take!(2, GREATEST)),
+            (data!(3, 5_000), None),
+            (InEvent::Answered(TakeAnswer::Taken), custody!(2)),
+            (data!(3), take!(3)),
         ],
-    );
-}
-
-#[test]
-fn one_take_waits_at_a_time(rt: HostRuntime) {
-    names(
-        &rt,
-        &mut waiting(5),
-        &[
-            (data(PEER, OWN, 6), None),
-            (InEvent::Answered(TakeAnswer::Taken), custody(5)),
-            (data(PEER, OWN, 6), take(6)),
+    },
+    Script {
+        shows: "nothing else is taken",
+        rows: &[
+            (data!(OTHER, OWN, 5, 0), None),
+            (data!(PEER, OTHER, 5, 0), None),
+            (data!(OWN, PEER, 5, 0), None),
+            (
+                InEvent::Heard(Message::Custody {
+                    from: PEER,
+                    to: OWN,
+                    last: 5,
+                }),
+                None,
+            ),
+            (
+                InEvent::Heard(Message::Refused {
+                    from: PEER,
+                    to: OWN,
+                    number: 5,
+                    refusal: 6,
+                }),
+                None,
+            ),
+            (data!(6), take!(6)),
         ],
-    );
-}
-
-#[test]
-fn custody_follows_the_answer(rt: HostRuntime) {
-    expect!(rt; answered(TakeAnswer::Taken) == custody(5));
-    expect!(rt; answered(TakeAnswer::Already(8)) == custody(8));
-    expect!(rt; answered(TakeAnswer::Refused(Refusal::Gap(3))) == custody(2));
-    expect!(rt; answered(TakeAnswer::Refused(Refusal::Gap(1))) == custody(0));
-    expect!(rt; answered(TakeAnswer::Refused(Refusal::Gap(0))) == None);
-}
-
-#[test]
-fn six_refusals_are_told(rt: HostRuntime) {
-    let told = [
-        (Refusal::NoSuchPeer, 1),
-        (Refusal::NoSuchHop, 2),
-        (Refusal::BadMoment, 3),
-        (Refusal::TooLong, 5),
-        (Refusal::Full, 6),
-        (Refusal::Spent, 15),
-    ];
-    for (refusal, number) in told {
-        expect!(rt; answered(TakeAnswer::Refused(refusal)) == Some(InAction::Send(Message::Refused {
-                from: OWN,
-                to: PEER,
-                number: 5,
-                refusal: number,
-            })));
-    }
-}
-
-#[test]
-fn other_answers_are_not_told(rt: HostRuntime) {
-    let untold = [
-        Refusal::WindowFull,
-        Refusal::Empty,
-        Refusal::NeverSent,
-        Refusal::NotInFlight,
-        Refusal::Broken,
-        Refusal::Unsure,
-        Refusal::DeviceRead,
-        Refusal::OutOfMemory,
-        Refusal::Line,
-        Refusal::Closed,
-        Refusal::Lost,
-    ];
-    for refusal in untold {
-        expect!(rt; answered(TakeAnswer::Refused(refusal)) == None);
-    }
-    expect!(rt; answered(TakeAnswer::Other) == None);
-}
-
-/// What a core that waits for the answer to number 5 makes of Data 6 after the event.
-fn next_after(event: InEvent<&'static [u8]>) -> Option<InAction<&'static [u8]>> {
-    let mut core = waiting(5);
-    let _ = core.step(event);
-    core.step(data(PEER, OWN, 6))
-}
-
-#[test]
-fn every_answer_ends_the_wait(rt: HostRuntime) {
-    let answers = [
-        TakeAnswer::Taken,
-        TakeAnswer::Already(8),
-        TakeAnswer::Refused(Refusal::Gap(3)),
-        TakeAnswer::Refused(Refusal::Gap(0)),
-        TakeAnswer::Refused(Refusal::Full),
-        TakeAnswer::Refused(Refusal::Unsure),
-        TakeAnswer::Other,
-    ];
-    for answer in answers {
-        expect!(rt; next_after(InEvent::Answered(answer)) == take(6));
-    }
-    expect!(rt; waiting(5).step(InEvent::Lost) == None);
-    expect!(rt; next_after(InEvent::Lost) == take(6));
-}
-
-#[test]
-fn an_answer_that_nothing_waits_for_changes_nothing(rt: HostRuntime) {
-    names(
-        &rt,
-        &mut Receiving::new(OWN, PEER),
-        &[
+    },
+    Script {
+        shows: "one take waits at a time",
+        rows: &[
+            (data!(5), take!(5)),
+            (data!(6), None),
+            (InEvent::Answered(TakeAnswer::Taken), custody!(5)),
+            (data!(6), take!(6)),
+        ],
+    },
+    Script {
+        shows: "what is lost ends the wait",
+        rows: &[
+            (data!(5), take!(5)),
+            (InEvent::Lost, None),
+            (data!(6), take!(6)),
+        ],
+    },
+    Script {
+        shows: "an answer that nothing waits for changes nothing",
+        rows: &[
             (InEvent::Answered(TakeAnswer::Taken), None),
             (InEvent::Answered(TakeAnswer::Already(8)), None),
             (InEvent::Lost, None),
-            (data(PEER, OWN, 1), take(1)),
+            (data!(1), take!(1)),
         ],
+    },
+];
+
+/// A core names what a script says.
+fn names<R: Abort>(rt: &R, script: &Script) {
+    let mut core = Receiving::new(OWN, PEER);
+    for (index, (event, named)) in script.rows.iter().enumerate() {
+        expect_row(rt, core.step(*event) == *named, script.shows, index as u64);
+    }
+}
+
+fn names_each(rt: &impl Abort, scripts: &[Script]) {
+    for script in scripts {
+        names(rt, script);
+    }
+}
+
+#[test]
+fn each_script_is_followed(rt: HostRuntime) {
+    names_each(&rt, &SCRIPTS);
+}
+
+/// An answer to the take of number 5, and what is named on it.
+type Answered = (TakeAnswer, Option<InAction<&'static [u8]>>);
+
+const ANSWERS: [Answered; 23] = [
+    // custody follows the answer
+    (TakeAnswer::Taken, custody!(5)),
+    (TakeAnswer::Already(8), custody!(8)),
+    (TakeAnswer::Refused(Refusal::Gap(3)), custody!(2)),
+    (TakeAnswer::Refused(Refusal::Gap(1)), custody!(0)),
+    (TakeAnswer::Refused(Refusal::Gap(0)), None),
+    // six refusals are told
+    (TakeAnswer::Refused(Refusal::NoSuchPeer), refused!(1)),
+    (TakeAnswer::Refused(Refusal::NoSuchHop), refused!(2)),
+    (TakeAnswer::Refused(Refusal::BadMoment), refused!(3)),
+    (TakeAnswer::Refused(Refusal::TooLong), refused!(5)),
+    (TakeAnswer::Refused(Refusal::Full), refused!(6)),
+    (TakeAnswer::Refused(Refusal::Spent), refused!(15)),
+    // other answers are not told
+    (TakeAnswer::Refused(Refusal::WindowFull), None),
+    (TakeAnswer::Refused(Refusal::Empty), None),
+    (TakeAnswer::Refused(Refusal::NeverSent), None),
+    (TakeAnswer::Refused(Refusal::NotInFlight), None),
+    (TakeAnswer::Refused(Refusal::Broken), None),
+    (TakeAnswer::Refused(Refusal::Unsure), None),
+    (TakeAnswer::Refused(Refusal::DeviceRead), None),
+    (TakeAnswer::Refused(Refusal::OutOfMemory), None),
+    (TakeAnswer::Refused(Refusal::Line), None),
+    (TakeAnswer::Refused(Refusal::Closed), None),
+    (TakeAnswer::Refused(Refusal::Lost), None),
+    (TakeAnswer::Other, None),
+];
+
+/// An answer is followed so, and ends the wait: Data 6 is taken after it.
+fn follows<R: Abort>(rt: &R, row: u64, (answer, named): &Answered) {
+    let mut core = Receiving::new(OWN, PEER);
+    expect_row(
+        rt,
+        core.step(data!(5)) == take!(5),
+        "the take that is answered",
+        row,
     );
+    let answered = core.step(InEvent::Answered(*answer));
+    expect_row(rt, answered == *named, "what follows an answer", row);
+    expect_row(rt, core.step(data!(6)) == take!(6), "the next take", row);
+}
+
+fn follows_each(rt: &impl Abort, answers: &[Answered]) {
+    for (index, row) in answers.iter().enumerate() {
+        follows(rt, index as u64, row);
+    }
+}
+
+#[test]
+fn each_answer_is_followed(rt: HostRuntime) {
+    follows_each(&rt, &ANSWERS);
 }

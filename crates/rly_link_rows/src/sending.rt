@@ -1,4 +1,5 @@
-//! A test for each row of the sending core's table.
+//! The rows of the sending core's table.
+use crate::expect::expect_row;
 use rly_core::Refusal;
 use rly_hop::{Message, OutAction, OutEvent, Sending, StationId};
 use std::process::Abort;
@@ -21,369 +22,450 @@ const SHUT: OutEvent<&[u8]> = OutEvent::Turn { is_open: false };
 /// An event, and what a core names on it.
 type Row = (OutEvent<&'static [u8]>, Option<OutAction<&'static [u8]>>);
 
-fn custody(from: StationId, to: StationId, last: u64) -> OutEvent<&'static [u8]> {
-    OutEvent::Heard(Message::Custody { from, to, last })
+// The tables are constants, which can't call functions: so these are macros.
+
+/// A custody of the hop's station up to a number, or one between other stations.
+macro_rules! custody {
+    ($last:expr) => {
+        custody!(HOP, OWN, $last)
+    };
+    ($from:expr, $to:expr, $last:expr) => {
+        OutEvent::Heard(Message::Custody {
+            from: $from,
+            to: $to,
+            last: $last,
+        })
+    };
 }
 
-fn fetched(number: u64) -> OutEvent<&'static [u8]> {
-    fetched_with(number, 0)
+/// The payload of a number, which was fetched with a limit or without.
+macro_rules! fetched {
+    ($number:expr) => {
+        fetched!($number, 0)
+    };
+    ($number:expr, $limit:expr) => {
+        OutEvent::Fetched {
+            number: $number,
+            limit: $limit,
+            payload: PAYLOAD,
+        }
+    };
 }
 
-fn fetched_with(number: u64, limit: u64) -> OutEvent<&'static [u8]> {
-    OutEvent::Fetched {
-        number,
-        limit,
-        payload: PAYLOAD,
-    }
+/// Data is sent, with a limit or without.
+macro_rules! data {
+    ($number:expr) => {
+        data!($number, 0)
+    };
+    ($number:expr, $limit:expr) => {
+        Some(OutAction::Send(Message::Data {
+            from: OWN,
+            to: HOP,
+            number: $number,
+            limit: $limit,
+            payload: PAYLOAD,
+        }))
+    };
 }
 
-fn data(number: u64) -> Option<OutAction<&'static [u8]>> {
-    data_with(number, 0)
+/// What a core names on events, one after the other.
+struct Script {
+    shows: &'static str,
+    window: u64,
+    /// The first number of its flight, and the one behind the last. A core without them isn't ready.
+    flight: Option<(u64, u64)>,
+    rows: &'static [Row],
 }
 
-fn data_with(number: u64, limit: u64) -> Option<OutAction<&'static [u8]>> {
-    Some(OutAction::Send(Message::Data {
-        from: OWN,
-        to: HOP,
-        number,
-        limit,
-        payload: PAYLOAD,
-    }))
-}
-
-fn fetch(number: u64) -> Option<OutAction<&'static [u8]>> {
-    Some(OutAction::Fetch(number))
-}
-
-fn release(number: u64) -> Option<OutAction<&'static [u8]>> {
-    Some(OutAction::Release(number))
-}
-
-/// A core with a window of 8 that isn't ready.
-fn fresh() -> Sending {
-    Sending::new(OWN, HOP, 8)
-}
-
-/// A core with a window of 8 whose flight holds the numbers from `first` to below `next`.
-fn ready(first: u64, next: u64) -> Sending {
-    let mut core = fresh();
-    let _ = core.step(OutEvent::WindowIs { first, next });
-    core
-}
-
-/// A core names this on these events, one after the other.
-fn names(rt: &impl Abort, core: &mut Sending, rows: &[Row]) {
-    for (index, (event, named)) in rows.iter().enumerate() {
-        expect!(rt; core.step(*event) == *named, index as u64);
-    }
-}
-
-/// A core that stood like `ready(3, 6)` names this in its next turn after the event.
-fn next_after(
-    rt: &impl Abort,
-    event: OutEvent<&'static [u8]>,
-    named: Option<OutAction<&'static [u8]>>,
-) {
-    let mut core = ready(3, 6);
-    let _ = core.step(event);
-    expect!(rt; core.step(OPEN) == named);
-}
-
-#[test]
-fn a_core_that_is_not_ready_asks_for_the_window(rt: HostRuntime) {
-    names(
-        &rt,
-        &mut fresh(),
-        &[
+const SCRIPTS: [Script; 24] = [
+    Script {
+        shows: "a core that is not ready asks for the window",
+        window: 8,
+        flight: None,
+        rows: &[
             (SHUT, Some(OutAction::AskWindow)),
             (OPEN, Some(OutAction::AskWindow)),
             (OutEvent::WindowIs { first: 3, next: 5 }, None),
-            (OPEN, fetch(3)),
+            (OPEN, Some(OutAction::Fetch(3))),
         ],
-    );
-}
-
-#[test]
-fn what_is_acknowledged_is_released_first(rt: HostRuntime) {
-    names(
-        &rt,
-        &mut ready(3, 6),
-        &[
-            (custody(HOP, OWN, 4), None),
-            (SHUT, release(4)),
-            (OPEN, release(4)),
+    },
+    Script {
+        shows: "what is acknowledged is released first",
+        window: 8,
+        flight: Some((3, 6)),
+        rows: &[
+            (custody!(4), None),
+            (SHUT, Some(OutAction::Release(4))),
+            (OPEN, Some(OutAction::Release(4))),
             (OutEvent::Released, None),
-            (OPEN, fetch(5)),
+            (OPEN, Some(OutAction::Fetch(5))),
         ],
-    );
-}
-
-#[test]
-fn nothing_is_sent_while_no_contact_is_open(rt: HostRuntime) {
-    names(&rt, &mut ready(3, 6), &[(SHUT, None)]);
-    names(&rt, &mut ready(3, 3), &[(SHUT, None)]);
-}
-
-#[test]
-fn the_flight_is_sent_in_order_and_then_more_is_picked(rt: HostRuntime) {
-    names(
-        &rt,
-        &mut ready(3, 5),
-        &[
-            (OPEN, fetch(3)),
-            (fetched(3), data(3)),
-            (OPEN, fetch(4)),
-            (fetched(4), data(4)),
+    },
+    Script {
+        shows: "nothing of a flight is sent while no contact is open",
+        window: 8,
+        flight: Some((3, 6)),
+        rows: &[(SHUT, None)],
+    },
+    Script {
+        shows: "nothing is picked while no contact is open",
+        window: 8,
+        flight: Some((3, 3)),
+        rows: &[(SHUT, None)],
+    },
+    Script {
+        shows: "the flight is sent in order, and then more is picked",
+        window: 8,
+        flight: Some((3, 5)),
+        rows: &[
+            (OPEN, Some(OutAction::Fetch(3))),
+            (fetched!(3), data!(3)),
+            (OPEN, Some(OutAction::Fetch(4))),
+            (fetched!(4), data!(4)),
             (OPEN, Some(OutAction::Pick)),
             (OutEvent::Picked(5), None),
-            (OPEN, fetch(5)),
+            (OPEN, Some(OutAction::Fetch(5))),
         ],
-    );
-}
-
-/// What was fetched with a limit goes out with it, at the first time and again.
-#[test]
-fn a_limit_is_handed_on(rt: HostRuntime) {
-    names(
-        &rt,
-        &mut ready(3, 6),
-        &[
-            (fetched_with(3, 1), data_with(3, 1)),
-            (fetched_with(4, GREATEST), data_with(4, GREATEST)),
-            (fetched(5), data(5)),
+    },
+    Script {
+        shows: "what was fetched with a limit goes out with it, at the first time and again",
+        window: 8,
+        flight: Some((3, 6)),
+        rows: &[
+            (fetched!(3, 1), data!(3, 1)),
+            (fetched!(4, GREATEST), data!(4, GREATEST)),
+            (fetched!(5), data!(5)),
             (OutEvent::Timeout, None),
-            (OPEN, fetch(3)),
-            (fetched_with(3, 1), data_with(3, 1)),
+            (OPEN, Some(OutAction::Fetch(3))),
+            (fetched!(3, 1), data!(3, 1)),
         ],
-    );
-}
-
-/// What a core names whose window is as given and whose flight of two is sent.
-fn turn_with_two_sent(window: u64) -> Option<OutAction<&'static [u8]>> {
-    let mut core = Sending::new(OWN, HOP, window);
-    let _ = core.step(OutEvent::WindowIs { first: 3, next: 5 });
-    let _ = core.step(fetched(3));
-    let _ = core.step(fetched(4));
-    core.step(OPEN)
-}
-
-#[test]
-fn a_full_window_picks_nothing(rt: HostRuntime) {
-    expect!(rt; turn_with_two_sent(1) == None);
-    expect!(rt; turn_with_two_sent(2) == None);
-    expect!(rt; turn_with_two_sent(3) == Some(OutAction::Pick));
-}
-
-#[test]
-fn a_window_begins_anew(rt: HostRuntime) {
-    names(
-        &rt,
-        &mut ready(3, 6),
-        &[
-            (fetched(3), data(3)),
-            (custody(HOP, OWN, 3), None),
+    },
+    Script {
+        shows: "a window of one picks nothing once two are sent",
+        window: 1,
+        flight: Some((3, 5)),
+        rows: &[
+            (fetched!(3), data!(3)),
+            (fetched!(4), data!(4)),
+            (OPEN, None),
+        ],
+    },
+    Script {
+        shows: "a window of two picks nothing once two are sent",
+        window: 2,
+        flight: Some((3, 5)),
+        rows: &[
+            (fetched!(3), data!(3)),
+            (fetched!(4), data!(4)),
+            (OPEN, None),
+        ],
+    },
+    Script {
+        shows: "a window of three picks once two are sent",
+        window: 3,
+        flight: Some((3, 5)),
+        rows: &[
+            (fetched!(3), data!(3)),
+            (fetched!(4), data!(4)),
+            (OPEN, Some(OutAction::Pick)),
+        ],
+    },
+    Script {
+        shows: "a window begins anew",
+        window: 8,
+        flight: Some((3, 6)),
+        rows: &[
+            (fetched!(3), data!(3)),
+            (custody!(3), None),
             (OutEvent::WindowIs { first: 7, next: 9 }, None),
-            (OPEN, fetch(7)),
+            (OPEN, Some(OutAction::Fetch(7))),
             (OutEvent::WindowIs { first: 9, next: 7 }, None),
-            (OPEN, fetch(7)),
+            (OPEN, Some(OutAction::Fetch(7))),
         ],
-    );
-}
-
-#[test]
-fn another_number_is_no_pick(rt: HostRuntime) {
-    names(
-        &rt,
-        &mut ready(3, 3),
-        &[
+    },
+    Script {
+        shows: "another number is no pick",
+        window: 8,
+        flight: Some((3, 3)),
+        rows: &[
             (OutEvent::Picked(4), None),
             (OutEvent::Picked(2), None),
             (OPEN, Some(OutAction::Pick)),
         ],
-    );
-    names(
-        &rt,
-        &mut ready(u64::MAX, u64::MAX),
-        &[
+    },
+    Script {
+        shows: "the last number of 64 bits is no pick",
+        window: 8,
+        flight: Some((u64::MAX, u64::MAX)),
+        rows: &[
             (OutEvent::Picked(u64::MAX), None),
             (OPEN, Some(OutAction::Pick)),
         ],
-    );
-    names(
-        &rt,
-        &mut fresh(),
-        &[
+    },
+    Script {
+        shows: "a core that is not ready has no pick",
+        window: 8,
+        flight: None,
+        rows: &[
             (OutEvent::Picked(1), None),
             (OPEN, Some(OutAction::AskWindow)),
         ],
-    );
-}
-
-#[test]
-fn another_payload_is_not_sent(rt: HostRuntime) {
-    names(
-        &rt,
-        &mut ready(3, 6),
-        &[(fetched(4), None), (fetched(2), None), (OPEN, fetch(3))],
-    );
-    names(&rt, &mut ready(3, 3), &[(fetched(3), None)]);
-    names(&rt, &mut fresh(), &[(fetched(1), None)]);
-}
-
-#[test]
-fn a_release_moves_the_flight(rt: HostRuntime) {
-    for answer in [OutEvent::Released, OutEvent::Unchanged] {
-        names(
-            &rt,
-            &mut ready(3, 6),
-            &[
-                (custody(HOP, OWN, 4), None),
-                (answer, None),
-                (OPEN, fetch(5)),
-            ],
-        );
-    }
-}
-
-#[test]
-fn a_release_leaves_a_cursor_behind_it(rt: HostRuntime) {
-    names(
-        &rt,
-        &mut ready(3, 6),
-        &[
-            (fetched(3), data(3)),
-            (fetched(4), data(4)),
-            (custody(HOP, OWN, 3), None),
+    },
+    Script {
+        shows: "another payload is not sent",
+        window: 8,
+        flight: Some((3, 6)),
+        rows: &[
+            (fetched!(4), None),
+            (fetched!(2), None),
+            (OPEN, Some(OutAction::Fetch(3))),
+        ],
+    },
+    Script {
+        shows: "none is sent of an empty flight",
+        window: 8,
+        flight: Some((3, 3)),
+        rows: &[(fetched!(3), None)],
+    },
+    Script {
+        shows: "none is sent by a core that is not ready",
+        window: 8,
+        flight: None,
+        rows: &[(fetched!(1), None)],
+    },
+    Script {
+        shows: "a release moves the flight",
+        window: 8,
+        flight: Some((3, 6)),
+        rows: &[
+            (custody!(4), None),
             (OutEvent::Released, None),
-            (OPEN, fetch(5)),
+            (OPEN, Some(OutAction::Fetch(5))),
         ],
-    );
-}
+    },
+    Script {
+        shows: "a release that changes nothing moves the flight",
+        window: 8,
+        flight: Some((3, 6)),
+        rows: &[
+            (custody!(4), None),
+            (OutEvent::Unchanged, None),
+            (OPEN, Some(OutAction::Fetch(5))),
+        ],
+    },
+    Script {
+        shows: "a release leaves a cursor behind it",
+        window: 8,
+        flight: Some((3, 6)),
+        rows: &[
+            (fetched!(3), data!(3)),
+            (fetched!(4), data!(4)),
+            (custody!(3), None),
+            (OutEvent::Released, None),
+            (OPEN, Some(OutAction::Fetch(5))),
+        ],
+    },
+    Script {
+        shows: "a core that is not ready hears no custody",
+        window: 8,
+        flight: None,
+        rows: &[(custody!(1), None), (OPEN, Some(OutAction::AskWindow))],
+    },
+    Script {
+        shows: "the greatest custody counts, where it comes first",
+        window: 8,
+        flight: Some((3, 6)),
+        rows: &[
+            (custody!(5), None),
+            (custody!(3), None),
+            (OPEN, Some(OutAction::Release(5))),
+        ],
+    },
+    Script {
+        shows: "the greatest custody counts, where it comes last",
+        window: 8,
+        flight: Some((3, 6)),
+        rows: &[
+            (custody!(3), None),
+            (custody!(5), None),
+            (OPEN, Some(OutAction::Release(5))),
+        ],
+    },
+    Script {
+        shows: "a timeout sends the flight again",
+        window: 8,
+        flight: Some((3, 6)),
+        rows: &[
+            (fetched!(3), data!(3)),
+            (fetched!(4), data!(4)),
+            (OutEvent::Timeout, None),
+            (OPEN, Some(OutAction::Fetch(3))),
+        ],
+    },
+    Script {
+        shows: "other events change nothing",
+        window: 8,
+        flight: Some((3, 6)),
+        rows: &[
+            (fetched!(3), data!(3)),
+            (OutEvent::Nothing, None),
+            (OutEvent::Other, None),
+            (
+                OutEvent::Heard(Message::Data {
+                    from: HOP,
+                    to: OWN,
+                    number: 4,
+                    limit: 0,
+                    payload: PAYLOAD,
+                }),
+                None,
+            ),
+            (
+                OutEvent::Heard(Message::Refused {
+                    from: HOP,
+                    to: OWN,
+                    number: 4,
+                    refusal: 6,
+                }),
+                None,
+            ),
+            (OPEN, Some(OutAction::Fetch(4))),
+        ],
+    },
+];
 
-#[test]
-fn an_answer_without_a_release_moves_nothing(rt: HostRuntime) {
-    next_after(&rt, OutEvent::Released, fetch(3));
-    next_after(&rt, OutEvent::Unchanged, fetch(3));
-}
-
-#[test]
-fn custody_outside_the_flight_is_not_heard(rt: HostRuntime) {
-    for event in [
-        custody(HOP, OWN, 2),
-        custody(HOP, OWN, 6),
-        custody(OTHER, OWN, 4),
-        custody(HOP, OTHER, 4),
-        custody(OWN, HOP, 4),
-    ] {
-        next_after(&rt, event, fetch(3));
+/// A core with a window, and with a flight if it is ready.
+fn core_of(window: u64, flight: Option<(u64, u64)>) -> Sending {
+    let mut core = Sending::new(OWN, HOP, window);
+    if let Some((first, next)) = flight {
+        let _ = core.step(OutEvent::WindowIs { first, next });
     }
-    names(
-        &rt,
-        &mut fresh(),
-        &[
-            (custody(HOP, OWN, 1), None),
-            (OPEN, Some(OutAction::AskWindow)),
-        ],
-    );
+    core
+}
+
+/// A core names what a script says.
+fn names<R: Abort>(rt: &R, script: &Script) {
+    let mut core = core_of(script.window, script.flight);
+    for (index, (event, named)) in script.rows.iter().enumerate() {
+        expect_row(rt, core.step(*event) == *named, script.shows, index as u64);
+    }
+}
+
+fn names_each(rt: &impl Abort, scripts: &[Script]) {
+    for script in scripts {
+        names(rt, script);
+    }
 }
 
 #[test]
-fn the_greatest_custody_counts(rt: HostRuntime) {
-    for (first, second) in [(5, 3), (3, 5)] {
-        names(
-            &rt,
-            &mut ready(3, 6),
-            &[
-                (custody(HOP, OWN, first), None),
-                (custody(HOP, OWN, second), None),
-                (OPEN, release(5)),
-            ],
+fn each_script_is_followed(rt: HostRuntime) {
+    names_each(&rt, &SCRIPTS);
+}
+
+/// An event on a core whose flight is from 3 to 5, and what the core names in its next turn.
+const AFTER: [Row; 20] = [
+    // an answer without a release moves nothing
+    (OutEvent::Released, Some(OutAction::Fetch(3))),
+    (OutEvent::Unchanged, Some(OutAction::Fetch(3))),
+    // custody outside the flight is not heard, nor one between other stations
+    (custody!(2), Some(OutAction::Fetch(3))),
+    (custody!(6), Some(OutAction::Fetch(3))),
+    (custody!(OTHER, OWN, 4), Some(OutAction::Fetch(3))),
+    (custody!(HOP, OTHER, 4), Some(OutAction::Fetch(3))),
+    (custody!(OWN, HOP, 4), Some(OutAction::Fetch(3))),
+    // five refusals ask for the window again
+    (
+        OutEvent::Refused(Refusal::NeverSent),
+        Some(OutAction::AskWindow),
+    ),
+    (
+        OutEvent::Refused(Refusal::NotInFlight),
+        Some(OutAction::AskWindow),
+    ),
+    (
+        OutEvent::Refused(Refusal::Broken),
+        Some(OutAction::AskWindow),
+    ),
+    (
+        OutEvent::Refused(Refusal::Unsure),
+        Some(OutAction::AskWindow),
+    ),
+    (OutEvent::Refused(Refusal::Lost), Some(OutAction::AskWindow)),
+    // others change nothing
+    (
+        OutEvent::Refused(Refusal::NoSuchHop),
+        Some(OutAction::Fetch(3)),
+    ),
+    (
+        OutEvent::Refused(Refusal::BadMoment),
+        Some(OutAction::Fetch(3)),
+    ),
+    (
+        OutEvent::Refused(Refusal::WindowFull),
+        Some(OutAction::Fetch(3)),
+    ),
+    (OutEvent::Refused(Refusal::Empty), Some(OutAction::Fetch(3))),
+    (
+        OutEvent::Refused(Refusal::DeviceRead),
+        Some(OutAction::Fetch(3)),
+    ),
+    (
+        OutEvent::Refused(Refusal::OutOfMemory),
+        Some(OutAction::Fetch(3)),
+    ),
+    (OutEvent::Refused(Refusal::Spent), Some(OutAction::Fetch(3))),
+    (
+        OutEvent::Refused(Refusal::Closed),
+        Some(OutAction::Fetch(3)),
+    ),
+];
+
+/// A core names this in its next turn after an event.
+fn next_after<R: Abort>(rt: &R, row: u64, (event, named): &Row) {
+    let mut core = core_of(8, Some((3, 6)));
+    let _ = core.step(*event);
+    expect_row(rt, core.step(OPEN) == *named, "the next turn", row);
+}
+
+fn next_after_each(rt: &impl Abort, rows: &[Row]) {
+    for (index, row) in rows.iter().enumerate() {
+        next_after(rt, index as u64, row);
+    }
+}
+
+#[test]
+fn events_are_followed_by_a_turn(rt: HostRuntime) {
+    next_after_each(&rt, &AFTER);
+}
+
+/// An event on a core whose flight is from 3 to 5, and whether something is acknowledged after it.
+const ACKNOWLEDGED: [(OutEvent<&'static [u8]>, bool); 4] = [
+    (custody!(6), false),
+    (custody!(4), true),
+    (OutEvent::Timeout, true),
+    (OutEvent::Released, false),
+];
+
+/// What is acknowledged waits for its release. The events are all that a core gets, and it names nothing on them.
+fn acknowledges<R: Abort>(rt: &R) {
+    let mut core = core_of(8, Some((3, 6)));
+    for (index, (event, is_acknowledged)) in ACKNOWLEDGED.iter().enumerate() {
+        expect_row(
+            rt,
+            core.step(*event) == None,
+            "nothing is named",
+            index as u64,
+        );
+        expect_row(
+            rt,
+            core.has_acknowledged() == *is_acknowledged,
+            "it waits",
+            index as u64,
         );
     }
 }
 
 #[test]
 fn what_is_acknowledged_waits_for_its_release(rt: HostRuntime) {
-    let mut core = ready(3, 6);
-    for (event, is_acknowledged) in [
-        (custody(HOP, OWN, 6), false),
-        (custody(HOP, OWN, 4), true),
-        (OutEvent::Timeout, true),
-        (OutEvent::Released, false),
-    ] {
-        names(&rt, &mut core, &[(event, None)]);
-        assert!(rt; core.has_acknowledged() == is_acknowledged);
-    }
-}
-
-#[test]
-fn a_timeout_sends_the_flight_again(rt: HostRuntime) {
-    names(
-        &rt,
-        &mut ready(3, 6),
-        &[
-            (fetched(3), data(3)),
-            (fetched(4), data(4)),
-            (OutEvent::Timeout, None),
-            (OPEN, fetch(3)),
-        ],
-    );
-}
-
-#[test]
-fn five_refusals_ask_for_the_window_again(rt: HostRuntime) {
-    for refusal in [
-        Refusal::NeverSent,
-        Refusal::NotInFlight,
-        Refusal::Broken,
-        Refusal::Unsure,
-        Refusal::Lost,
-    ] {
-        next_after(&rt, OutEvent::Refused(refusal), Some(OutAction::AskWindow));
-    }
-}
-
-#[test]
-fn other_refusals_change_nothing(rt: HostRuntime) {
-    for refusal in [
-        Refusal::NoSuchHop,
-        Refusal::BadMoment,
-        Refusal::WindowFull,
-        Refusal::Empty,
-        Refusal::DeviceRead,
-        Refusal::OutOfMemory,
-        Refusal::Spent,
-        Refusal::Closed,
-    ] {
-        next_after(&rt, OutEvent::Refused(refusal), fetch(3));
-    }
-}
-
-#[test]
-fn other_events_change_nothing(rt: HostRuntime) {
-    let heard = Message::Data {
-        from: HOP,
-        to: OWN,
-        number: 4,
-        limit: 0,
-        payload: PAYLOAD,
-    };
-    let refused = Message::Refused {
-        from: HOP,
-        to: OWN,
-        number: 4,
-        refusal: 6,
-    };
-    names(
-        &rt,
-        &mut ready(3, 6),
-        &[
-            (fetched(3), data(3)),
-            (OutEvent::Nothing, None),
-            (OutEvent::Other, None),
-            (OutEvent::Heard(heard), None),
-            (OutEvent::Heard(refused), None),
-            (OPEN, fetch(4)),
-        ],
-    );
+    acknowledges(&rt);
 }

@@ -1,11 +1,11 @@
 //! Checkpoints, byte by byte, in heads of both forms.
-use crate::commands::{run, take};
+use crate::commands::{Act, new_machine, tell};
 use rly_checkpoint::{
     DecodeFault, HeadForm, checkpoint_len, law_length, law_one_state, read_checkpoint,
     write_checkpoint,
 };
-use rly_core::{HopId, Params};
-use rly_machine::{Command, Machine, Payload};
+use rly_core::Params;
+use rly_machine::{Machine, Payload};
 use std::alloc::{AllocError, Global};
 use std::process::Abort;
 
@@ -54,30 +54,27 @@ const OLD_TAKEN: [u8; 107] = [
     0, 0, 0, 0, 0, 0, 0, 1, 0, 0, 0, 0, 0, 0, 0, 0, 0, 1, 0, 0x41,
 ];
 
-/// Takes a datagram at moment 0.
-fn take_into(
-    alloc: Global,
-    machine: &mut Machine<Payload>,
-    number: u64,
-    payload: &[u8],
-) -> Result<(), AllocError> {
-    let command = take(alloc, number, 1, 0, payload)?;
-    let _ = run(alloc, machine, command)?;
-    Ok(())
+/// The act that takes a datagram at moment 0.
+fn taking(number: u64, bytes: &[u8]) -> Act<'_> {
+    Act::Take {
+        number,
+        stamp: 0,
+        bytes,
+    }
 }
 
 /// A spool that took three datagrams and sent one.
-fn spool(alloc: Global) -> Result<Machine<Payload>, AllocError> {
-    let mut machine = Machine::new(alloc, PARAMS)?;
-    take_into(alloc, &mut machine, 1, &[0x41])?;
-    take_into(alloc, &mut machine, 2, &[])?;
-    take_into(alloc, &mut machine, 3, &[0x42, 0x43])?;
-    let pick = Command::Pick {
-        hop: HopId(1),
-        now: 0,
-    };
-    let _ = run(alloc, &mut machine, pick)?;
-    Ok(machine)
+fn spool<R: Abort>(rt: &R, alloc: Global) -> Machine<Payload> {
+    let mut machine = new_machine(rt, alloc, PARAMS);
+    for act in [
+        taking(1, &[0x41]),
+        taking(2, &[]),
+        taking(3, &[0x42, 0x43]),
+        Act::Pick(0),
+    ] {
+        let _ = tell(rt, alloc, &mut machine, act);
+    }
+    machine
 }
 
 fn written(alloc: Global, machine: &Machine<Payload>) -> Result<Vec<u8>, AllocError> {
@@ -117,7 +114,7 @@ fn expect_read(
 
 #[test]
 fn an_empty_spool_has_zeros(rt: HostRuntime) {
-    let machine: Machine<Payload> = Machine::new(rt.alloc(), PARAMS).expect(&rt, "no fault");
+    let machine = new_machine(&rt, rt.alloc(), PARAMS);
     expect_written(&rt, rt.alloc(), &machine, &[0; 80]);
     expect_read(&rt, rt.alloc(), (HeadForm::First, &[0; 87]), 0, &[0; 80]).expect(&rt, "no fault");
 }
@@ -125,8 +122,8 @@ fn an_empty_spool_has_zeros(rt: HostRuntime) {
 #[test]
 fn the_worked_checkpoint_is_written_and_read(rt: HostRuntime) {
     let alloc = rt.alloc();
-    let mut machine: Machine<Payload> = Machine::new(alloc, PARAMS).expect(&rt, "no fault");
-    take_into(alloc, &mut machine, 1, &[0x41]).expect(&rt, "memory");
+    let mut machine = new_machine(&rt, alloc, PARAMS);
+    let _ = tell(&rt, alloc, &mut machine, taking(1, &[0x41]));
     expect_written(&rt, alloc, &machine, &TAKEN);
     expect_read(&rt, alloc, (HeadForm::Second, &TAKEN), 1, &TAKEN).expect(&rt, "no fault");
     expect_read(&rt, alloc, (HeadForm::First, &OLD_TAKEN), 1, &TAKEN).expect(&rt, "no fault");
@@ -137,7 +134,7 @@ fn the_worked_checkpoint_is_written_and_read(rt: HostRuntime) {
 #[test]
 fn what_was_written_is_read(rt: HostRuntime) {
     let alloc = rt.alloc();
-    let first = written(alloc, &spool(alloc).expect(&rt, "memory")).expect(&rt, "memory");
+    let first = written(alloc, &spool(&rt, alloc)).expect(&rt, "memory");
     assert!(rt; first.len() == 146);
     expect_read(&rt, alloc, (HeadForm::Second, &first), 4, &first).expect(&rt, "no fault");
 }
@@ -342,7 +339,7 @@ fn the_forms_are_apart(rt: HostRuntime) {
 #[test]
 fn other_orders_are_malformed(rt: HostRuntime) {
     let alloc = rt.alloc();
-    let several = written(alloc, &spool(alloc).expect(&rt, "memory")).expect(&rt, "memory");
+    let several = written(alloc, &spool(&rt, alloc)).expect(&rt, "memory");
     expect!(rt; !is_malformed(alloc, HeadForm::Second, &several));
     for change in [(107, 1), (85, 3)] {
         expect_malformed_with(&rt, alloc, (HeadForm::Second, &several), change);

@@ -30,7 +30,7 @@ mod expect;
 #[cfg(test)]
 mod extremes;
 #[cfg(test)]
-mod limited_records;
+mod long_records;
 #[cfg(test)]
 mod machine;
 #[cfg(test)]

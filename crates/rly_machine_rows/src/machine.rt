@@ -1,60 +1,75 @@
 //! The plain machine: a datagram in flight, and spools that are restored.
-ghost use Rattle.std.specs.Prelude.{◌≡◌, ◌⊎◌, [], ◌∷◌, IfOk, Some, length};
+ghost use Rattle.std.specs.Prelude.{◌≡◌, ◌⊎◌, [], ◌∷◌, Some, length};
 ghost use Rattle.rly_machine.specs.Relocate.{carried_at};
 ghost use Rattle.rly_machine.specs.State.{hop_at, live_line};
 
-use crate::commands::{run, take};
+use crate::commands::{Act, Told, new_machine, tell};
 use rly_core::{HopId, Params, PeerId, Refusal};
-use rly_machine::{CodelState, Command, Hop, Item, Machine, Payload, Queue, Reply};
-use std::alloc::{AllocError, Global};
+use rly_machine::{CodelState, Hop, Item, Machine, Payload, Queue};
+use std::alloc::Global;
 use std::collections::VecDeque;
 use std::process::Abort;
 
-/// The reply to a take of peer 1.
-fn reply_to_take(
-    alloc: Global,
-    machine: &mut Machine<Payload>,
+/// Whether an item is in flight under a number, with this id, stamp and bytes.
+fn is_in_flight(
+    machine: &Machine<Payload>,
     number: u64,
-    hop: u16,
-    stamp: u64,
-    bytes: &[u8],
-) -> Result<Reply, AllocError> {
-    let command = take(alloc, number, hop, stamp, bytes)?;
-    run(alloc, machine, command)
+    (id, stamp, bytes): (u64, u64, &[u8]),
+) -> bool {
+    match machine.item(HopId(1), number) {
+        Ok(item) => (item.id, item.stamp) == (id, stamp) && item.payload.as_slice() == bytes,
+        Err(_refusal) => false,
+    }
 }
 
-/// Takes and picks a datagram, and looks at it in flight.
-fn expect_flight(rt: &impl Abort, alloc: Global, machine: &mut Machine<Payload>) {
-    let pick = Command::Pick {
-        hop: HopId(1),
-        now: 50,
-    };
-    let _ = reply_to_take(alloc, machine, 1, 1, 900, b"A").expect(rt, "memory");
-    let _ = run(alloc, machine, pick).expect(rt, "memory");
-    match machine.item(HopId(1), 1) {
-        Ok(item) => {
-            expect!(rt; item.stamp == 900 && item.payload.as_slice() == b"A".as_slice());
-        }
-        Err(refusal) => panic!(rt; "{refusal}"),
+/// Asks a spool for each of these, and compares what it tells.
+fn expect_told<R: Abort>(
+    rt: &R,
+    alloc: Global,
+    machine: &mut Machine<Payload>,
+    rows: &[(Act<'static>, Told)],
+) {
+    for (act, told) in rows {
+        expect!(rt; tell(rt, alloc, machine, *act) == *told);
     }
+}
+
+/// A datagram is taken and picked.
+const FLOWN: [(Act<'static>, Told); 2] = [
+    (
+        Act::Take {
+            number: 1,
+            stamp: 900,
+            bytes: b"A",
+        },
+        Told::Taken(1),
+    ),
+    (Act::Pick(50), Told::Picked { number: 1, id: 1 }),
+];
+
+/// Makes a spool take and pick it, and looks at it in flight.
+fn expect_flight<R: Abort>(rt: &R, alloc: Global, machine: &mut Machine<Payload>) {
+    expect_told(rt, alloc, machine, &FLOWN);
+    expect!(rt; is_in_flight(machine, 1, (1, 900, b"A")));
 }
 
 /// No reply tells the stamp of what is in flight.
 #[test]
 fn a_stamp_is_kept_in_flight(rt: HostRuntime) {
-    let alloc = rt.alloc();
-    let mut machine: Machine<Payload> = Machine::new(alloc, Params::DEFAULT).expect(
-        &rt, "no fault",
-    );
-    expect_flight(&rt, alloc, &mut machine);
+    let mut machine = new_machine(&rt, rt.alloc(), Params::DEFAULT);
+    expect_flight(&rt, rt.alloc(), &mut machine);
+}
+
+/// Makes a payload of bytes, and asks for them again.
+fn expect_given_back<R: Abort>(rt: &R, alloc: Global) {
+    let payload = Payload::new(b"abc".to_vec(alloc).expect(rt, "memory"));
+    expect!(rt; payload.as_slice() == b"abc".as_slice());
+    expect!(rt; payload.into_bytes().as_slice() == b"abc".as_slice());
 }
 
 #[test]
 fn a_payload_gives_its_bytes_back(rt: HostRuntime) {
-    let payload = Payload::new(b"abc".to_vec(rt.alloc()).expect(&rt, "memory"));
-    expect!(rt; payload.as_slice() == b"abc".as_slice());
-    let bytes = payload.into_bytes();
-    expect!(rt; bytes.as_slice() == b"abc".as_slice());
+    expect_given_back(&rt, rt.alloc());
 }
 
 /// A spool of one hop and one peer, for five bytes.
@@ -66,28 +81,27 @@ const SMALL: Params = Params {
 };
 
 /// A list of one item, without a limit.
-fn alone(alloc: Global, id: u64, stamp: u64, bytes: &[u8]) -> Result<Vec<Item<Payload>>, AllocError>
-    ensures { IfOk result (λ items. items.items ≡ (record { id = id; stamp = stamp; limit = 0; payload = bytes.now }) ∷ []) }
+fn alone<R: Abort>(rt: &R, alloc: Global, id: u64, stamp: u64, bytes: &[u8]) -> Vec<Item<Payload>>
+    ensures { result.items ≡ (record { id = id; stamp = stamp; limit = 0; payload = bytes.now }) ∷ [] }
 {
-    let payload = Payload::new(bytes.to_vec(alloc)?);
-    let mut items = Vec::new(alloc);
-    items.push(Item {
+    let item = Item {
         id,
         stamp,
         limit: 0,
-        payload,
-    })?;
-    Ok(items)
+        payload: Payload::copy_of(alloc, bytes).expect(rt, "memory"),
+    };
+    vec![in alloc; item].expect(rt, "memory")
 }
 
 /// One item was released, the next one is in flight, and a third one waits.
-fn restored(alloc: Global) -> Result<Machine<Payload>, AllocError>
-    ensures waits { IfOk result (λ machine. length (hop_at machine.state (record { 0 = 1 })).queue ≡ 1) }
-    ensures first { IfOk result (λ machine. carried_at length (live_line (hop_at machine.state (record { 0 = 1 }))) 0 ≡ Some 2) }
-    ensures second { IfOk result (λ machine. carried_at length (live_line (hop_at machine.state (record { 0 = 1 }))) 1 ≡ Some 1) }
+fn restored<R: Abort>(rt: &R, alloc: Global) -> Machine<Payload>
+    ensures waits { length (hop_at result.state (record { 0 = 1 })).queue ≡ 1 }
+    ensures first { carried_at length (live_line (hop_at result.state (record { 0 = 1 }))) 0 ≡ Some 2 }
+    ensures second { carried_at length (live_line (hop_at result.state (record { 0 = 1 }))) 1 ≡ Some 1 }
 {
-    let flight = VecDeque::from_vec(alone(alloc, 4, 10, b"BB")?);
-    let queue = Queue::of(alloc, alone(alloc, 5, 20, b"C")?)?;
+    let lasts = vec![in alloc; 3u64].expect(rt, "memory");
+    let flight = VecDeque::from_vec(alone(rt, alloc, 4, 10, b"BB"));
+    let queue = Queue::of(alloc, alone(rt, alloc, 5, 20, b"C")).expect(rt, "memory");
     let hop = Hop {
         queue,
         flight,
@@ -98,11 +112,13 @@ fn restored(alloc: Global) -> Result<Machine<Payload>, AllocError>
         expired: 0,
         released: 1,
     };
-    Machine::restore(SMALL, 6, vec![in alloc; 3u64]?, vec![in alloc; hop]?)
+    let hops = vec![in alloc; hop].expect(rt, "memory");
+    Machine::restore(SMALL, 6, lasts, hops).expect(rt, "memory")
 }
 
 /// A spool that nothing has come to, restored.
-fn restored_empty(alloc: Global) -> Result<Machine<Payload>, AllocError> {
+fn restored_empty<R: Abort>(rt: &R, alloc: Global) -> Machine<Payload> {
+    let lasts = vec![in alloc; 0u64].expect(rt, "memory");
     let hop = Hop {
         queue: Queue::new(alloc),
         flight: VecDeque::new(alloc),
@@ -113,11 +129,12 @@ fn restored_empty(alloc: Global) -> Result<Machine<Payload>, AllocError> {
         expired: 0,
         released: 0,
     };
-    Machine::restore(SMALL, 0, vec![in alloc; 0u64]?, vec![in alloc; hop]?)
+    let hops = vec![in alloc; hop].expect(rt, "memory");
+    Machine::restore(SMALL, 0, lasts, hops).expect(rt, "memory")
 }
 
 /// It has what it was restored from.
-fn expect_restored(rt: &impl Abort, machine: &Machine<Payload>)
+fn expect_restored<R: Abort>(rt: &R, machine: &Machine<Payload>)
     requires { length (hop_at machine.now.state (record { 0 = 1 })).queue ≡ 1 }
 {
     machine.law_sound();
@@ -128,96 +145,104 @@ fn expect_restored(rt: &impl Abort, machine: &Machine<Payload>)
     expect!(rt; machine.queued(HopId(1), 0).payload.as_slice() == b"C".as_slice());
 }
 
-/// Its last datagram was taken, three bytes more don't fit, and two do.
-fn expect_room(rt: &impl Abort, alloc: Global, machine: &mut Machine<Payload>) {
-    expect!(rt; matches!(&reply_to_take(alloc, machine, 3, 1, 30, b"C").expect(rt, "memory"), Reply::Already(3)));
-    let long = reply_to_take(alloc, machine, 4, 1, 30, b"DDD").expect(rt, "memory");
-    expect!(rt; matches!(&long, Reply::Refused(Refusal::Full)));
-    expect!(rt; matches!(&reply_to_take(alloc, machine, 4, 1, 30, b"DD").expect(rt, "memory"), Reply::Taken(7)));
+/// Its last datagram was taken, three bytes more don't fit, and two do. Then what waited is picked.
+const GOES_ON: [(Act<'static>, Told); 4] = [
+    (
+        Act::Take {
+            number: 3,
+            stamp: 30,
+            bytes: b"C",
+        },
+        Told::Already(3),
+    ),
+    (
+        Act::Take {
+            number: 4,
+            stamp: 30,
+            bytes: b"DDD",
+        },
+        Told::Refused(Refusal::Full),
+    ),
+    (
+        Act::Take {
+            number: 4,
+            stamp: 30,
+            bytes: b"DD",
+        },
+        Told::Taken(7),
+    ),
+    (Act::Pick(31), Told::Picked { number: 3, id: 5 }),
+];
+
+/// It goes on where it was. The bytes of what is in flight and of what waits are given.
+fn expect_gone_on<R: Abort>(
+    rt: &R,
+    alloc: Global,
+    machine: &mut Machine<Payload>,
+    flying: &[u8],
+    waiting: &[u8],
+) {
+    expect!(rt; is_in_flight(machine, 2, (4, 10, flying)));
+    expect!(rt; (machine.item_count(), machine.byte_count()) == (2, 3));
+    expect_told(rt, alloc, machine, &GOES_ON);
+    expect!(rt; is_in_flight(machine, 3, (5, 20, waiting)));
 }
 
-/// What waited is picked.
-fn expect_restored_pick(rt: &impl Abort, alloc: Global, machine: &mut Machine<Payload>) {
-    let pick = Command::Pick {
-        hop: HopId(1),
-        now: 31,
-    };
-    expect!(rt; matches!(
-            &run(alloc, machine, pick).expect(rt, "memory"),
-            Reply::Picked {
-                number: 3,
-                id: 5,
-                ..
-            }
-        ));
+/// Checks both of a restored spool.
+fn expect_restored_spool<R: Abort>(rt: &R, alloc: Global) {
+    let mut machine = restored(rt, alloc);
+    expect_restored(rt, &machine);
+    expect_gone_on(rt, alloc, &mut machine, b"BB", b"C");
 }
 
 /// A restored spool goes on where it was, its bytes in flight counted: two more fit, three don't.
 #[test]
 fn a_restored_spool_goes_on(rt: HostRuntime) {
-    let alloc = rt.alloc();
-    let mut machine = restored(alloc).expect(&rt, "memory");
-    expect_restored(&rt, &machine);
-    expect_room(&rt, alloc, &mut machine);
-    expect_restored_pick(&rt, alloc, &mut machine);
+    expect_restored_spool(&rt, rt.alloc());
 }
 
 /// The spool of one item in flight and one that waits, in which one of them carries other bytes.
-fn relocated(alloc: Global, index: usize, bytes: &[u8]) -> Result<Machine<Payload>, AllocError>
+fn relocated<R: Abort>(rt: &R, alloc: Global, index: usize, bytes: &[u8]) -> Machine<Payload>
     requires { ((index ≡ 0) × (length bytes.now ≡ 2)) ⊎ ((index ≡ 1) × (length bytes.now ≡ 1)) }
 {
-    let mut machine = restored(alloc)?;
-    let payload = Payload::copy_of(alloc, bytes)?;
+    let payload = Payload::copy_of(alloc, bytes).expect(rt, "memory");
+    let mut machine = restored(rt, alloc);
     machine.law_sound();
     machine.relocate(HopId(1), index, payload);
-    Ok(machine)
+    machine
 }
 
-/// The item in flight carries what was put in its place, and nothing else changed.
+/// Checks that such a spool goes on.
+fn expect_relocated<R: Abort>(rt: &R, alloc: Global) {
+    expect_gone_on(rt, alloc, &mut relocated(rt, alloc, 0, b"ZZ"), b"ZZ", b"C");
+    expect_gone_on(rt, alloc, &mut relocated(rt, alloc, 1, b"Z"), b"BB", b"Z");
+}
+
+/// The item in flight carries what was put in its place, and nothing else changed. So does one that waits, once it is picked.
 #[test]
-fn an_item_in_flight_is_relocated(rt: HostRuntime) {
-    let alloc = rt.alloc();
-    let mut machine = relocated(alloc, 0, b"ZZ").expect(&rt, "memory");
-    match machine.item(HopId(1), 2) {
-        Ok(item) => {
-            expect!(rt; item.id == 4 && item.stamp == 10);
-        }
-        Err(refusal) => panic!(rt; "{refusal}"),
-    }
-    expect_bytes(&rt, &machine, 2, b"ZZ");
-    expect!(rt; machine.item_count() == 2 && machine.byte_count() == 3);
-    expect_room(&rt, alloc, &mut machine);
-    expect_restored_pick(&rt, alloc, &mut machine);
-    expect_bytes(&rt, &machine, 3, b"C");
+fn items_are_relocated(rt: HostRuntime) {
+    expect_relocated(&rt, rt.alloc());
 }
 
-/// So does one that waits, once it is picked.
-#[test]
-fn an_item_that_waits_is_relocated(rt: HostRuntime) {
-    let alloc = rt.alloc();
-    let mut machine = relocated(alloc, 1, b"Z").expect(&rt, "memory");
-    expect_bytes(&rt, &machine, 2, b"BB");
-    expect_room(&rt, alloc, &mut machine);
-    expect_restored_pick(&rt, alloc, &mut machine);
-    expect_bytes(&rt, &machine, 3, b"Z");
-}
+/// The largest datagram that fits is taken.
+const BEGINS: [(Act<'static>, Told); 1] = [(
+    Act::Take {
+        number: 1,
+        stamp: 900,
+        bytes: b"ABCDE",
+    },
+    Told::Taken(1),
+)];
 
-/// What is in flight under a number has these bytes.
-fn expect_bytes(rt: &impl Abort, machine: &Machine<Payload>, number: u64, bytes: &[u8]) {
-    match machine.item(HopId(1), number) {
-        Ok(item) => {
-            expect!(rt; item.payload.as_slice() == bytes);
-        }
-        Err(refusal) => panic!(rt; "{refusal}"),
-    }
+/// Checks that a spool is as new.
+fn expect_begun<R: Abort>(rt: &R, alloc: Global, machine: &mut Machine<Payload>) {
+    machine.law_sound();
+    expect!(rt; machine.seq() == 0 && machine.last(PeerId(1)) == 0);
+    expect_told(rt, alloc, machine, &BEGINS);
 }
 
 /// An empty one takes its first datagram.
 #[test]
 fn an_empty_restored_spool_begins(rt: HostRuntime) {
-    let alloc = rt.alloc();
-    let mut machine = restored_empty(alloc).expect(&rt, "memory");
-    expect!(rt; machine.seq() == 0 && machine.last(PeerId(1)) == 0);
-    let first = reply_to_take(alloc, &mut machine, 1, 1, 900, b"ABCDE").expect(&rt, "memory");
-    expect!(rt; matches!(&first, Reply::Taken(1)));
+    expect_begun(&rt, rt.alloc(), &mut restored_empty(&rt, rt.alloc()));
 }

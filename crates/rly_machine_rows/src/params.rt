@@ -1,10 +1,7 @@
 //! The limits of a spool's parameters, and the texts of refusals.
 use rly_core::{Params, Refusal};
-
-#[test]
-fn default_params_are_within_the_limits(rt: HostRuntime) {
-    expect!(rt; Params::default().check() == Ok(()));
-}
+use std::alloc::Global;
+use std::process::Abort;
 
 /// Each parameter as small as it may be.
 const LEAST: Params = Params {
@@ -83,8 +80,9 @@ const BEYOND: [Params; 14] = [
     },
 ];
 
-#[test]
-fn each_limit_is_met_and_not_passed(rt: HostRuntime) {
+/// Each limit is met and not passed, and the default is within them.
+fn expect_limits<R: Abort>(rt: &R) {
+    expect!(rt; Params::default().check() == Ok(()));
     expect!(rt; LEAST.check().is_ok() && GREATEST.check().is_ok());
     for params in &BEYOND {
         assert!(rt; params.check() == Err(Refusal::BadGeometry), "{params:?}");
@@ -92,15 +90,28 @@ fn each_limit_is_met_and_not_passed(rt: HostRuntime) {
 }
 
 #[test]
+fn each_limit_is_met_and_not_passed(rt: HostRuntime) {
+    expect_limits(&rt);
+}
+
+/// Refusals, and what is printed of each: its number, its text and its value.
+const PRINTED: [(Refusal, &str); 5] = [
+    (Refusal::Gap(2), "refused 4 gap 2"),
+    (Refusal::Line, "refused 16 line"),
+    (Refusal::Damaged(82_972), "refused 22 damaged 82972"),
+    (Refusal::OutOfMemory, "refused 14 memory"),
+    (Refusal::Overlap, "refused 52 plan"),
+];
+
+/// Checks what is printed of a refusal.
+fn expect_printed<R: Abort>(rt: &R, alloc: Global, refusal: Refusal, line: &str) {
+    let printed = refusal.to_string(alloc).expect(rt, "memory");
+    expect!(rt; printed.as_str() == line);
+}
+
+#[test]
 fn refusals_print_their_number_text_and_value(rt: HostRuntime) {
-    for (refusal, line) in [
-        (Refusal::Gap(2), "refused 4 gap 2"),
-        (Refusal::Line, "refused 16 line"),
-        (Refusal::Damaged(82_972), "refused 22 damaged 82972"),
-        (Refusal::OutOfMemory, "refused 14 memory"),
-        (Refusal::Overlap, "refused 52 plan"),
-    ] {
-        let printed = refusal.to_string(rt.alloc()).expect(&rt, "memory");
-        expect!(rt; printed.as_str() == line);
+    for (refusal, line) in &PRINTED {
+        expect_printed(&rt, rt.alloc(), *refusal, *line);
     }
 }

@@ -1,8 +1,8 @@
 //! A payload that no line of the program can give, since a line has at most 20,480 bytes.
 
-use crate::commands::{run, take};
+use crate::commands::{Act, Told, new_machine, tell};
 use rly_core::{Params, Refusal};
-use rly_machine::{Machine, Payload, Reply};
+use std::alloc::Global;
 use std::process::Abort;
 
 /// One hop and one peer, and room for two of the longest payloads.
@@ -14,14 +14,20 @@ const LONG: Params = Params {
     ..Params::DEFAULT
 };
 
+/// Checks that so many bytes are too long.
+fn expect_too_long<R: Abort>(rt: &R, alloc: Global, size: usize) {
+    let bytes = vec![in alloc; 7u8; size].expect(rt, "memory");
+    let act = Act::Take {
+        number: 1,
+        stamp: 0,
+        bytes: &bytes,
+    };
+    let told = tell(rt, alloc, &mut new_machine(rt, alloc, LONG), act);
+    expect!(rt; told == Told::Refused(Refusal::TooLong));
+}
+
 /// In 16 bits its length would be 8,192, which is the most.
 #[test]
 fn a_payload_of_73728_bytes_is_too_long(rt: HostRuntime) {
-    assert!(rt; LONG.check().is_ok());
-    let alloc = rt.alloc();
-    let bytes = vec![in alloc; 7u8; 65_536 + 8_192].expect(&rt, "memory");
-    let command = take(alloc, 1, 1, 0, &bytes).expect(&rt, "memory");
-    let mut machine: Machine<Payload> = Machine::new(alloc, LONG).expect(&rt, "memory");
-    let reply = run(alloc, &mut machine, command).expect(&rt, "memory");
-    expect!(rt; matches!(&reply, Reply::Refused(Refusal::TooLong)));
+    expect_too_long(&rt, rt.alloc(), 65_536 + 8_192);
 }

@@ -1,5 +1,5 @@
-//! Records and bodies of records, byte by byte.
-ghost use Rattle.std.specs.Prelude.{◌≤◌, length, IfOk};
+//! Records and bodies of records, byte by byte, without a limit and with one.
+ghost use Rattle.std.specs.Prelude.{◌≤◌, length};
 ghost use Rattle.rly_record.specs.Spelling.{IsRecordable};
 
 use rly_core::limits::MAX_PAYLOAD;
@@ -20,30 +20,78 @@ const TAKE_BODY: [u8; 26] = [
     0x01, 0x41,
 ];
 
+/// A byte behind the last record of a body.
+const TAKE_BODY_AND_MORE: [u8; 27] = [
+    0x00, 0x01, 0x01, 0x00, 0x01, 0, 0, 0, 0, 0, 0, 0, 1, 0x00, 0x01, 0, 0, 0, 0, 0, 0, 0, 0, 0x00,
+    0x01, 0x41, 0x00,
+];
+
 /// The record of a Pick of hop 1 at 10,000.
-const PICK: [u8; 11] = [0x02, 0x00, 0x01, 0, 0, 0, 0, 0, 0, 0x27, 0x10];
+pub(crate) const PICK: [u8; 11] = [0x02, 0x00, 0x01, 0, 0, 0, 0, 0, 0, 0x27, 0x10];
+
+/// Its body.
+const PICK_BODY: [u8; 13] = [0x00, 0x01, 0x02, 0x00, 0x01, 0, 0, 0, 0, 0, 0, 0x27, 0x10];
 
 /// The record of a Release of hop 1 up to 3.
 const RELEASE: [u8; 11] = [0x03, 0x00, 0x01, 0, 0, 0, 0, 0, 0, 0, 0x03];
 
-/// The body of that Pick and that Release.
+/// The records of that Pick and that Release.
+const BOTH: [u8; 22] = [
+    0x02, 0x00, 0x01, 0, 0, 0, 0, 0, 0, 0x27, 0x10, 0x03, 0x00, 0x01, 0, 0, 0, 0, 0, 0, 0, 0x03,
+];
+
+/// Their body.
 const TWO: [u8; 24] = [
     0x00, 0x02, 0x02, 0x00, 0x01, 0, 0, 0, 0, 0, 0, 0x27, 0x10, 0x03, 0x00, 0x01, 0, 0, 0, 0, 0, 0,
     0, 0x03,
 ];
 
-fn take(alloc: Global, payload: &[u8]) -> Result<Command<Payload>, AllocError>
+/// The same behind two other bytes.
+const BEHIND: [u8; 26] = [
+    0xa5, 0xee, 0x00, 0x02, 0x02, 0x00, 0x01, 0, 0, 0, 0, 0, 0, 0x27, 0x10, 0x03, 0x00, 0x01, 0, 0,
+    0, 0, 0, 0, 0, 0x03,
+];
+
+/// The record of `take 1 2 1 0 42 5000`.
+const LIMITED: [u8; 24] = [
+    0x05, 0x01, 0, 0, 0, 0, 0, 2, 0x01, 0, 0, 0, 0, 0, 0, 0, 0, 0, 0, 0x13, 0x88, 0x00, 0x01, 0x42,
+];
+
+/// The same with the least limit.
+const LEAST_LIMITED: [u8; 24] = [
+    0x05, 0x01, 0, 0, 0, 0, 0, 2, 0x01, 0, 0, 0, 0, 0, 0, 0, 0, 0, 0, 0, 1, 0x00, 0x01, 0x42,
+];
+
+/// A limit of 0, which has no record of this kind.
+const LIMIT_OF_NONE: [u8; 24] = [
+    0x05, 0x01, 0, 0, 0, 0, 0, 2, 0x01, 0, 0, 0, 0, 0, 0, 0, 0, 0, 0, 0, 0, 0x00, 0x01, 0x42,
+];
+
+/// The record of the greatest numbers that may be written: peer and hop 64, number 2^48 - 1, stamp 2^52 - 1, limit 2^40 - 1, and no
+/// payload.
+const GREATEST: [u8; 23] = [
+    0x05, 0x40, 0xff, 0xff, 0xff, 0xff, 0xff, 0xff, 0x40, 0x0f, 0xff, 0xff, 0xff, 0xff, 0xff, 0xff,
+    0xff, 0xff, 0xff, 0xff, 0xff, 0x00, 0x00,
+];
+
+/// What no spool accepts is a record all the same where it fits its fields: peer 0 and hop 255, and a stamp of 2^56 - 1.
+const FITTING: [u8; 23] = [
+    0x05, 0x00, 0xff, 0xff, 0xff, 0xff, 0xff, 0xff, 0xff, 0xff, 0xff, 0xff, 0xff, 0xff, 0xff, 0xff,
+    0xff, 0xff, 0xff, 0xff, 0xff, 0x00, 0x00,
+];
+
+fn take<R: Abort>(rt: &R, alloc: Global, payload: &[u8]) -> Command<Payload>
     requires { length payload.now ≤ 8192 }
-    ensures { IfOk result (IsRecordable MAX_PAYLOAD) }
+    ensures { IsRecordable MAX_PAYLOAD result }
 {
-    Ok(Command::Take {
+    Command::Take {
         peer: PeerId(1),
         number: 1,
         hop: HopId(1),
         stamp: 0,
         limit: 0,
-        payload: Payload::new(Vec::from_slice(alloc, payload)?),
-    })
+        payload: Payload::copy_of(alloc, payload).expect(rt, "memory"),
+    }
 }
 
 fn pick() -> Command<Payload>
@@ -64,6 +112,58 @@ fn release() -> Command<Payload>
     }
 }
 
+/// A Take of the numbers of `LIMITED`.
+fn limited<R: Abort>(rt: &R, alloc: Global) -> Command<Payload>
+    ensures { IsRecordable MAX_PAYLOAD result }
+{
+    Command::Take {
+        peer: PeerId(1),
+        number: 2,
+        hop: HopId(1),
+        stamp: 0,
+        limit: 5_000,
+        payload: Payload::copy_of(alloc, &[0x42]).expect(rt, "memory"),
+    }
+}
+
+/// A Take of the greatest numbers.
+fn greatest(alloc: Global) -> Command<Payload>
+    ensures { IsRecordable MAX_PAYLOAD result }
+{
+    Command::Take {
+        peer: PeerId(64),
+        number: 281_474_976_710_655,
+        hop: HopId(64),
+        stamp: 4_503_599_627_370_495,
+        limit: 1_099_511_627_775,
+        payload: Payload::new(Vec::new(alloc)),
+    }
+}
+
+/// Writes a record, for which no more is reserved than twice its length.
+fn expect_record<R: Abort>(rt: &R, alloc: Global, command: Command<Payload>, want: &[u8])
+    requires { IsRecordable MAX_PAYLOAD command }
+{
+    assert!(rt; record_len(&command) == want.len());
+    let mut out = Vec::new(alloc);
+    write_command(&command, &mut out).expect(rt, "memory");
+    expect!(rt; out.as_slice() == want && out.capacity() / 2 <= want.len());
+}
+
+/// Writes the worked records.
+fn expect_records<R: Abort>(rt: &R, alloc: Global) {
+    expect_record(rt, alloc, take(rt, alloc, &[0x41]), &TAKE);
+    expect_record(rt, alloc, pick(), &PICK);
+    expect_record(rt, alloc, release(), &RELEASE);
+    expect_record(rt, alloc, limited(rt, alloc), &LIMITED);
+    expect_record(rt, alloc, greatest(alloc), &GREATEST);
+}
+
+#[test]
+fn the_worked_records_are_written(rt: HostRuntime) {
+    expect_records(&rt, rt.alloc());
+}
+
 fn write_one(command: Command<Payload>, out: &mut Vec<u8>) -> Result<(), AllocError>
     requires { IsRecordable MAX_PAYLOAD command }
 {
@@ -81,317 +181,257 @@ fn write_two(
     write_body(&[first, second], out)
 }
 
-/// Whether the bytes are refused as no body.
-pub(crate) fn is_malformed(alloc: Global, bytes: &[u8]) -> bool {
-    matches!(read_body(alloc, bytes), Err(DecodeFault::Malformed))
-}
-
-/// Whether the bytes are refused as no record.
-pub(crate) fn is_no_record(alloc: Global, bytes: &[u8]) -> bool {
-    matches!(read_command(alloc, bytes), Err(DecodeFault::Malformed))
-}
-
-/// Writes a record, for which no more is reserved than twice its length.
-fn expect_record(
-    rt: &impl Abort,
-    alloc: Global,
-    command: &Command<Payload>,
-    want: &[u8],
-) -> Result<(), AllocError>
-    requires { IsRecordable MAX_PAYLOAD command.now }
-{
-    assert!(rt; record_len(command) == want.len());
-    let mut out = Vec::new(alloc);
-    write_command(command, &mut out).expect(rt, "memory");
-    expect!(rt; out.as_slice() == want);
-    expect!(rt; out.capacity() / 2 <= want.len());
-    Ok(())
-}
-
-#[test]
-fn the_worked_records_are_written(rt: HostRuntime) {
-    let alloc = rt.alloc();
-    expect_record(
-        &rt,
-        alloc,
-        &take(alloc, &[0x41]).expect(&rt, "memory"),
-        &TAKE,
-    )
-    .expect(&rt, "memory");
-    expect_record(&rt, alloc, &pick(), &PICK).expect(&rt, "memory");
-    expect_record(&rt, alloc, &release(), &RELEASE).expect(&rt, "memory");
-}
-
-#[test]
-fn a_record_is_written_behind_another(rt: HostRuntime) {
-    let mut out = Vec::new(rt.alloc());
-    write_command(&pick(), &mut out).expect(&rt, "memory");
-    write_command(&release(), &mut out).expect(&rt, "memory");
-    expect!(rt; out.as_slice() == &TWO[2..]);
-}
-
 /// Writes two bodies, the second over the first.
-fn expect_bodies(rt: &impl Abort, alloc: Global, out: &mut Vec<u8>) {
-    write_one(take(alloc, &[0x41]).expect(rt, "memory"), out).expect(rt, "memory");
+fn expect_bodies<R: Abort>(rt: &R, alloc: Global) {
+    let mut out = Vec::with_capacity(alloc, 50).expect(rt, "memory");
+    write_one(take(rt, alloc, &[0x41]), &mut out).expect(rt, "memory");
     expect!(rt; out.as_slice() == TAKE_BODY.as_slice());
     out.clear();
-    write_two(pick(), release(), out).expect(rt, "memory");
-    expect!(rt; out.as_slice() == TWO.as_slice());
-    expect!(rt; out.capacity() == 50);
+    write_two(pick(), release(), &mut out).expect(rt, "memory");
+    expect!(rt; out.as_slice() == TWO.as_slice() && out.capacity() == 50);
 }
 
 #[test]
 fn the_worked_bodies_are_written(rt: HostRuntime) {
-    let alloc = rt.alloc();
-    let mut out = Vec::with_capacity(alloc, 50).expect(&rt, "memory");
-    expect_bodies(&rt, alloc, &mut out);
+    expect_bodies(&rt, rt.alloc());
+}
+
+/// Writes a record behind another, and a body behind two bytes.
+fn expect_behind<R: Abort>(rt: &R, alloc: Global) {
+    let mut records = Vec::new(alloc);
+    write_command(&pick(), &mut records).expect(rt, "memory");
+    write_command(&release(), &mut records).expect(rt, "memory");
+    expect!(rt; records.as_slice() == BOTH.as_slice());
+    let mut body = Vec::from_slice(alloc, &[0xa5, 0xee]).expect(rt, "memory");
+    write_two(pick(), release(), &mut body).expect(rt, "memory");
+    expect!(rt; body.as_slice() == BEHIND.as_slice());
 }
 
 #[test]
-fn a_body_is_written_behind_what_is_there(rt: HostRuntime) {
-    let alloc = rt.alloc();
-    let mut out = Vec::from_slice(alloc, &[0xa5, 0xee]).expect(&rt, "memory");
-    write_two(pick(), release(), &mut out).expect(&rt, "memory");
-    assert!(rt; out.len() == 26);
-    expect!(rt; &out.as_slice()[..2] == [0xa5, 0xee].as_slice());
-    expect!(rt; &out.as_slice()[2..] == TWO.as_slice());
+fn records_and_bodies_are_written_behind_what_is_there(rt: HostRuntime) {
+    expect_behind(&rt, rt.alloc());
 }
 
-fn is_worked_take(command: &Command<Payload>) -> bool {
-    match command {
-        Command::Take {
-            peer,
-            number,
-            hop,
-            stamp,
-            limit,
-            payload,
-        } => {
-            *peer == PeerId(1)
-                && *number == 1
-                && *hop == HopId(1)
-                && *stamp == 0
-                && *limit == 0
-                && payload.as_slice() == [0x41].as_slice()
+/// The numbers of a Take.
+#[derive(Clone, Copy, PartialEq, Eq)]
+pub(crate) struct Numbers {
+    pub(crate) peer: PeerId,
+    pub(crate) number: u64,
+    pub(crate) hop: HopId,
+    pub(crate) stamp: u64,
+    pub(crate) limit: u64,
+}
+
+/// What a record says: a Take's numbers and payload, a Pick's hop and moment, or a Release's hop and number.
+#[derive(Clone, Copy)]
+pub(crate) enum Said<'a> {
+    Take(Numbers, &'a [u8]),
+    Pick(HopId, u64),
+    Release(HopId, u64),
+}
+
+/// Whether this is the command that a record says.
+fn says(command: &Command<Payload>, said: Said<'_>) -> bool {
+    match (command, said) {
+        (
+            Command::Take {
+                peer,
+                number,
+                hop,
+                stamp,
+                limit,
+                payload,
+            },
+            Said::Take(numbers, bytes),
+        ) => {
+            let found = Numbers {
+                peer: *peer,
+                number: *number,
+                hop: *hop,
+                stamp: *stamp,
+                limit: *limit,
+            };
+            found == numbers && payload.as_slice() == bytes
         }
+        (Command::Pick { hop, now }, Said::Pick(at, moment)) => (*hop, *now) == (at, moment),
+        (Command::Release { hop, number }, Said::Release(at, last)) => (*hop, *number)
+            == (at, last),
         _ => false,
     }
 }
 
-fn is_worked_pick(command: &Command<Payload>) -> bool {
-    match command {
-        Command::Pick { hop, now } => *hop == HopId(1) && *now == 10_000,
-        _ => false,
-    }
+/// Reads a record of so many bytes, behind which others may stand.
+pub(crate) fn expect_read<R: Abort>(
+    rt: &R,
+    alloc: Global,
+    bytes: &[u8],
+    (length, said): (usize, Said<'_>),
+) {
+    let (command, read) = read_command(alloc, bytes).expect(rt, "no fault");
+    expect!(rt; read == length && says(&command, said));
 }
 
-fn is_worked_release(command: &Command<Payload>) -> bool {
-    match command {
-        Command::Release { hop, number } => *hop == HopId(1) && *number == 3,
-        _ => false,
-    }
-}
+const TAKE_SAID: Said<'static> = Said::Take(
+    Numbers {
+        peer: PeerId(1),
+        number: 1,
+        hop: HopId(1),
+        stamp: 0,
+        limit: 0,
+    },
+    &[0x41],
+);
 
-/// Reads the worked Take before what may follow.
-fn expect_take(rt: &impl Abort, alloc: Global, bytes: &[u8]) -> Result<(), DecodeFault> {
-    let (command, length) = read_command(alloc, bytes)?;
-    expect!(rt; is_worked_take(&command) && length == 24);
-    Ok(())
-}
+const PICK_SAID: Said<'static> = Said::Pick(HopId(1), 10_000);
 
-/// Reads the worked Pick.
-fn expect_pick(rt: &impl Abort, alloc: Global, bytes: &[u8]) -> Result<(), DecodeFault> {
-    let (command, length) = read_command(alloc, bytes)?;
-    expect!(rt; is_worked_pick(&command) && length == 11);
-    Ok(())
-}
+const RELEASE_SAID: Said<'static> = Said::Release(HopId(1), 3);
 
-/// Reads the worked Release.
-fn expect_release(rt: &impl Abort, alloc: Global, bytes: &[u8]) -> Result<(), DecodeFault> {
-    let (command, length) = read_command(alloc, bytes)?;
-    expect!(rt; is_worked_release(&command) && length == 11);
-    Ok(())
-}
+pub(crate) const LIMITED_NUMBERS: Numbers = Numbers {
+    peer: PeerId(1),
+    number: 2,
+    hop: HopId(1),
+    stamp: 0,
+    limit: 5_000,
+};
+
+const GREATEST_NUMBERS: Numbers = Numbers {
+    peer: PeerId(64),
+    number: 281_474_976_710_655,
+    hop: HopId(64),
+    stamp: 4_503_599_627_370_495,
+    limit: 1_099_511_627_775,
+};
+
+/// Bytes, how many of them a record has, and what it says.
+const READ: [(&[u8], (usize, Said<'static>)); 8] = [
+    (&TAKE, (24, TAKE_SAID)),
+    (&PICK, (11, PICK_SAID)),
+    (&RELEASE, (11, RELEASE_SAID)),
+    // other bytes may follow a record
+    (&BOTH, (11, PICK_SAID)),
+    (&LIMITED, (24, Said::Take(LIMITED_NUMBERS, &[0x42]))),
+    (
+        &LEAST_LIMITED,
+        (
+            24,
+            Said::Take(
+                Numbers {
+                    limit: 1,
+                    ..LIMITED_NUMBERS
+                },
+                &[0x42],
+            ),
+        ),
+    ),
+    (&GREATEST, (23, Said::Take(GREATEST_NUMBERS, &[]))),
+    (
+        &FITTING,
+        (
+            23,
+            Said::Take(
+                Numbers {
+                    peer: PeerId(0),
+                    hop: HopId(255),
+                    stamp: 72_057_594_037_927_935,
+                    ..GREATEST_NUMBERS
+                },
+                &[],
+            ),
+        ),
+    ),
+];
 
 #[test]
 fn the_worked_records_are_read(rt: HostRuntime) {
-    let alloc = rt.alloc();
-    expect_take(&rt, alloc, &TAKE).expect(&rt, "no fault");
-    expect_pick(&rt, alloc, &PICK).expect(&rt, "no fault");
-    expect_release(&rt, alloc, &RELEASE).expect(&rt, "no fault");
-    // other bytes may follow a record
-    expect_pick(&rt, alloc, &TWO[2..]).expect(&rt, "no fault");
+    for (bytes, said) in &READ {
+        expect_read(&rt, rt.alloc(), *bytes, *said);
+    }
 }
 
-/// Whether a body has the worked Take alone.
-fn has_take(alloc: Global, bytes: &[u8]) -> Result<bool, DecodeFault> {
-    let commands = read_body(alloc, bytes)?;
-    Ok(commands.len() == 1 && is_worked_take(&commands[0]))
+/// Reads a body.
+fn expect_body<R: Abort>(rt: &R, alloc: Global, bytes: &[u8], said: &[Said<'static>]) {
+    let commands = read_body(alloc, bytes).expect(rt, "no fault");
+    expect!(rt; commands.len() == said.len());
+    for (command, said) in commands.iter().zip(said) {
+        expect!(rt; says(command, *said));
+    }
 }
 
-/// Whether a body has the worked Pick and Release.
-fn has_two(alloc: Global, bytes: &[u8]) -> Result<bool, DecodeFault> {
-    let commands = read_body(alloc, bytes)?;
-    Ok(commands.len() == 2 && is_worked_pick(&commands[0]) && is_worked_release(&commands[1]))
-}
+/// Bodies, and what they say.
+const BODIES: [(&[u8], &[Said<'static>]); 2] = [
+    (&TAKE_BODY, &[TAKE_SAID]),
+    (&TWO, &[PICK_SAID, RELEASE_SAID]),
+];
 
 #[test]
 fn the_worked_bodies_are_read(rt: HostRuntime) {
-    expect!(rt; has_take(rt.alloc(), &TAKE_BODY).expect(&rt, "no fault"));
-    expect!(rt; has_two(rt.alloc(), &TWO).expect(&rt, "no fault"));
+    for (bytes, said) in &BODIES {
+        expect_body(&rt, rt.alloc(), *bytes, *said);
+    }
 }
+
+/// What bytes are read as.
+#[derive(Clone, Copy)]
+pub(crate) enum Kind {
+    Record,
+    Body,
+}
+
+/// Whether the bytes are refused as no record, or as no body.
+pub(crate) fn is_refused(alloc: Global, kind: Kind, bytes: &[u8]) -> bool {
+    match kind {
+        Kind::Record => matches!(read_command(alloc, bytes), Err(DecodeFault::Malformed)),
+        Kind::Body => matches!(read_body(alloc, bytes), Err(DecodeFault::Malformed)),
+    }
+}
+
+/// Checks that bytes are refused wherever they are cut.
+fn expect_cuts<R: Abort>(rt: &R, alloc: Global, kind: Kind, bytes: &[u8]) {
+    for length in 0..bytes.len() {
+        assert!(rt; is_refused(alloc, kind, &bytes[..length]), "{length}");
+    }
+}
+
+/// Good bodies and records.
+const CUT: [(Kind, &[u8]); 4] = [
+    (Kind::Body, &TAKE_BODY),
+    (Kind::Body, &TWO),
+    (Kind::Record, &TAKE),
+    (Kind::Record, &LIMITED),
+];
 
 #[test]
-fn each_cut_of_a_good_body_is_refused(rt: HostRuntime) {
-    for length in 0..TAKE_BODY.len() {
-        assert!(rt; is_malformed(rt.alloc(), &TAKE_BODY[..length]), "{length}");
-    }
-    for length in 0..TWO.len() {
-        assert!(rt; is_malformed(rt.alloc(), &TWO[..length]), "{length}");
-    }
-    for length in 0..TAKE.len() {
-        assert!(rt; is_no_record(rt.alloc(), &TAKE[..length]), "{length}");
+fn each_cut_is_refused(rt: HostRuntime) {
+    for (kind, bytes) in &CUT {
+        expect_cuts(&rt, rt.alloc(), *kind, *bytes);
     }
 }
+
+/// What is no record, and what is no body.
+const REFUSED: [(Kind, &[u8]); 2] = [
+    (Kind::Record, &LIMIT_OF_NONE),
+    (Kind::Body, &TAKE_BODY_AND_MORE),
+];
 
 #[test]
-fn a_byte_behind_the_last_record_is_refused(rt: HostRuntime) {
-    let alloc = rt.alloc();
-    let mut bytes = Vec::from_slice(alloc, &TAKE_BODY).expect(&rt, "memory");
-    bytes.push(0x00).expect(&rt, "memory");
-    expect!(rt; is_malformed(alloc, &bytes));
-}
-
-/// The bytes of a body of so many of the worked Picks.
-fn picks(alloc: Global, count: u8) -> Result<Vec<u8>, AllocError> {
-    let mut bytes = vec![in alloc; 0, count]?;
-    for _ in 0..count {
-        bytes.extend_from_slice(&PICK)?;
+fn other_bytes_are_refused(rt: HostRuntime) {
+    for (kind, bytes) in &REFUSED {
+        expect!(rt; is_refused(rt.alloc(), *kind, *bytes));
     }
-    Ok(bytes)
-}
-
-/// How many commands are read of a body of so many of the worked Picks, `None` where it is refused as no body.
-fn picks_read(alloc: Global, count: u8) -> Result<Option<usize>, DecodeFault> {
-    let bytes = picks(alloc, count)?;
-    match read_body(alloc, &bytes) {
-        Ok(commands) => Ok(Some(commands.len())),
-        Err(DecodeFault::Malformed) => Ok(None),
-        Err(fault) => Err(fault),
-    }
-}
-
-#[test]
-fn a_body_has_1_to_64_records(rt: HostRuntime) {
-    for (count, want) in [(0, None), (1, Some(1)), (64, Some(64)), (65, None)] {
-        expect!(rt; picks_read(rt.alloc(), count).expect(&rt, "no fault") == want);
-    }
-}
-
-/// Whether a command is a Take of 8,192 bytes.
-pub(crate) fn has_longest_payload(command: &Command<Payload>) -> bool {
-    matches!(command, Command::Take { payload, .. } if payload.as_slice().len() == 8_192)
-}
-
-/// The longest body: 64 Takes of the longest payload.
-#[test]
-fn the_longest_body_is_read(rt: HostRuntime) {
-    let alloc = rt.alloc();
-    let mut bytes = vec![in alloc; 0, 64].expect(&rt, "memory");
-    for _ in 0..64 {
-        bytes
-            .extend_from_slice(&long_take(alloc, 8_192).expect(&rt, "memory"))
-            .expect(&rt, "memory");
-    }
-    expect!(rt; bytes.len() == 525_762);
-    let commands = read_body(alloc, &bytes).expect(&rt, "no fault");
-    expect!(rt; commands.len() == 64 && commands.capacity() == 64);
-    expect!(rt; commands.iter().all(has_longest_payload));
 }
 
 /// Reads a Pick's bytes under another kind, as a record and as a body.
-fn expect_no_kind(rt: &impl Abort, alloc: Global, kind: u8) {
-    let mut body = vec![in alloc; 0, 1, kind].expect(rt, "memory");
-    body.extend_from_slice(&PICK[1..]).expect(rt, "memory");
-    expect!(rt; is_no_record(alloc, &body.as_slice()[2..]));
-    expect!(rt; is_malformed(alloc, &body));
+fn expect_no_kind<R: Abort>(rt: &R, alloc: Global, kind: u8) {
+    let mut body = PICK_BODY;
+    body[2] = kind;
+    expect!(rt; is_refused(alloc, Kind::Record, &body[2..]));
+    expect!(rt; is_refused(alloc, Kind::Body, &body));
 }
 
 #[test]
 fn no_other_kind_is_read(rt: HostRuntime) {
     for kind in [0x00, 0x04, 0xff] {
         expect_no_kind(&rt, rt.alloc(), kind);
-    }
-}
-
-/// The bytes of a Take of peer 0xfffe, number 2^64 - 1, hop 0xfffd and stamp 2^64 - 2 with a payload of so many bytes 07.
-fn long_take(alloc: Global, size: u16) -> Result<Vec<u8>, AllocError> {
-    let mut bytes = vec![in alloc;
-        0x01, 0xff, 0xfe, 0xff, 0xff, 0xff, 0xff, 0xff, 0xff, 0xff, 0xff, 0xff, 0xfd, 0xff, 0xff,
-        0xff, 0xff, 0xff, 0xff, 0xff, 0xfe,
-    ]?;
-    bytes.extend_from_slice(&size.to_be_bytes())?;
-    for _ in 0..size {
-        bytes.push(0x07)?;
-    }
-    Ok(bytes)
-}
-
-/// Reads a Take of such numbers, whose bytes these are. So many of them are its payload.
-fn expect_long_take(
-    rt: &impl Abort,
-    alloc: Global,
-    bytes: &[u8],
-    size: usize,
-) -> Result<(), DecodeFault> {
-    let (command, length) = read_command(alloc, bytes)?;
-    expect!(rt; length == bytes.len());
-    let Command::Take {
-        peer,
-        number,
-        hop,
-        stamp,
-        limit,
-        payload,
-    } = &command
-    else {
-        panic!(rt; "the record is a Take's");
-    };
-    expect!(rt; *peer == PeerId(0xfffe) && *number == u64::MAX);
-    expect!(rt; *hop == HopId(0xfffd) && *stamp == u64::MAX - 1 && *limit == 0);
-    expect!(rt; payload.as_slice().len() == size);
-    expect!(rt; payload.as_slice().iter().eq(bytes.iter().skip(23)));
-    Ok(())
-}
-
-/// A record is read whatever the longest payload of a spool is.
-#[test]
-fn a_payload_has_at_most_8192_bytes(rt: HostRuntime) {
-    let alloc = rt.alloc();
-    for size in [1_200, 1_201, 8_192u16] {
-        expect_long_take(
-            &rt,
-            alloc,
-            &long_take(alloc, size).expect(&rt, "memory"),
-            usize::from(size),
-        )
-        .expect(&rt, "memory");
-    }
-    for size in [8_193, 65_535] {
-        assert!(rt;
-            is_no_record(alloc, &long_take(alloc, size).expect(&rt, "memory")),
-            "{size}"
-        );
-    }
-}
-
-/// Cut before its length, within it, behind it, and before the last byte of its payload.
-#[test]
-fn each_cut_of_a_long_record_is_refused(rt: HostRuntime) {
-    let bytes = long_take(rt.alloc(), 8_192).expect(&rt, "memory");
-    assert!(rt; bytes.len() == 8_215);
-    for length in [21, 22, 23, 24, 1_223, 8_214] {
-        assert!(rt; is_no_record(rt.alloc(), &bytes[..length]), "{length}");
     }
 }
 
@@ -409,8 +449,8 @@ impl rly_machine::Content for Length {
     }
 }
 
-#[test]
-fn lengths_of_records_over_another_content(rt: HostRuntime) {
+/// Checks how long the record of such a Take is, and that of a Pick.
+fn expect_lengths<R: Abort>(rt: &R) {
     let command = Command::Take {
         peer: PeerId(1),
         number: 1,
@@ -425,4 +465,9 @@ fn lengths_of_records_over_another_content(rt: HostRuntime) {
         now: 0,
     };
     expect!(rt; record_len(&command) == 11);
+}
+
+#[test]
+fn lengths_of_records_over_another_content(rt: HostRuntime) {
+    expect_lengths(&rt);
 }

@@ -5,12 +5,11 @@ ghost use Rattle.rly_checkpoint.specs.Forms.{HaveForms};
 ghost use Rattle.rly_checkpoint.specs.Stored.{IsStorable};
 
 use rly_checkpoint::{
-    DecodeFault, HeadForm, Place, Stored, append_state, law_inline, law_one_spelling, most_len,
-    read_state,
+    DecodeFault, HeadForm, Stored, append_state, law_inline, law_one_spelling, most_len, read_state,
 };
 use rly_core::{HopId, Params};
 use rly_machine::{Machine, Reply};
-use std::alloc::{AllocError, Global};
+use std::alloc::Global;
 use std::process::Abort;
 
 const PARAMS: Params = Params {
@@ -72,53 +71,82 @@ const FIRST_LENGTH: usize = 99;
 /// Where the form of the third one stands.
 const THIRD_FORM: usize = 148;
 
-/// A spool is spelled in the room that it has at most.
-fn spelled(alloc: Global, machine: &Machine<Stored>) -> Result<Vec<u8>, AllocError>
-    requires { All (HaveForms (IsStorable HeadForm.Second)) machine.now.state.hops }
-{
-    let mut out = Vec::with_capacity(alloc, most_len(machine) as usize)?;
-    append_state(machine, &mut out);
-    Ok(out)
+/// What a spool has: the limit and the place of what is in flight, how much is live, and what was taken and has expired.
+#[derive(Clone, Copy, PartialEq, Eq)]
+struct Seen {
+    limit: u64,
+    place: (u64, u64),
+    items: u64,
+    bytes: u64,
+    taken: u64,
+    expired: u64,
+}
+
+/// The limit and the place of what is in flight, where it stands by place.
+fn flight_of(machine: &Machine<Stored>) -> (u64, (u64, u64)) {
+    match machine.item(HopId(1), 2) {
+        Ok(item) => match &item.payload {
+            Stored::Placed(place) => (item.limit, (place.start, place.length as u64)),
+            Stored::Inline(_) => (item.limit, (0, 0)),
+        },
+        Err(_refusal) => (0, (0, 0)),
+    }
+}
+
+/// How many were taken, and how many have expired.
+fn counts_of(reply: &Reply) -> (u64, u64) {
+    match reply {
+        Reply::Shown(status) => (status.taken, status.expired),
+        _ => (0, 0),
+    }
+}
+
+fn seen_of(machine: &Machine<Stored>) -> Seen {
+    let (limit, place) = flight_of(machine);
+    let (taken, expired) = counts_of(&machine.ask_show(HopId(1)));
+    Seen {
+        limit,
+        place,
+        items: machine.item_count(),
+        bytes: machine.byte_count(),
+        taken,
+        expired,
+    }
 }
 
 /// What is in flight lies at its place, and as many bytes are live as are inline and lie elsewhere.
-fn expect_places(rt: &impl Abort, machine: &Machine<Stored>) {
-    match machine.item(HopId(1), 2) {
-        Ok(item) => {
-            expect!(rt; matches!(
-                    &item.payload,
-                    Stored::Placed(Place {
-                        start: 300,
-                        length: 2,
-                    })
-                ));
-        }
-        Err(refusal) => panic!(rt; "{refusal}"),
-    }
-    expect!(rt; machine.item_count() == 3 && machine.byte_count() == 3);
+const SEEN: Seen = Seen {
+    limit: 0,
+    place: (300, 2),
+    items: 3,
+    bytes: 3,
+    taken: 4,
+    expired: 0,
+};
+
+/// A spool is spelled in the room that it has at most.
+fn spelled<R: Abort>(rt: &R, alloc: Global, machine: &Machine<Stored>) -> Vec<u8>
+    requires { All (HaveForms (IsStorable HeadForm.Second)) machine.now.state.hops }
+{
+    let mut out = Vec::with_capacity(alloc, most_len(machine) as usize).expect(rt, "memory");
+    append_state(machine, &mut out);
+    out
+}
+
+/// Reads a state of the second form, and spells it.
+fn expect_spelled<R: Abort>(rt: &R, alloc: Global, bytes: &[u8], seen: Seen) {
+    let machine: Machine<Stored> = read_state(alloc, HeadForm::Second, PARAMS, bytes).expect(
+        rt, "no fault",
+    );
+    expect!(rt; seen_of(&machine) == seen);
+    expect!(rt; spelled(rt, alloc, &machine).as_slice() == bytes);
 }
 
 #[test]
 fn a_state_with_places_is_read_and_spelled(rt: HostRuntime) {
-    let alloc = rt.alloc();
     law_inline();
     law_one_spelling::<Stored>();
-    let machine: Machine<Stored> = read_state(alloc, HeadForm::Second, PARAMS, &SPELLED).expect(
-        &rt, "no fault",
-    );
-    expect_places(&rt, &machine);
-    expect!(rt; spelled(alloc, &machine).expect(&rt, "memory").as_slice() == SPELLED.as_slice());
-}
-
-#[test]
-fn a_state_of_the_first_form_is_read(rt: HostRuntime) {
-    let machine: Machine<Stored> = read_state(
-        rt.alloc(),
-        HeadForm::First,
-        PARAMS,
-        &OLD_SPELLED,
-    ).expect(&rt, "no fault");
-    expect_places(&rt, &machine);
+    expect_spelled(&rt, rt.alloc(), &SPELLED, SEEN);
 }
 
 /// The state after one more was taken, which has expired. What is in flight has the greatest limit, and the greatest place.
@@ -136,79 +164,72 @@ fn limited() -> [u8; 149] {
     bytes
 }
 
-/// What is in flight has the greatest limit, and one has expired.
-fn expect_limited(rt: &impl Abort, machine: &Machine<Stored>) {
-    match machine.item(HopId(1), 2) {
-        Ok(item) => expect!(rt; item.limit == 1_099_511_627_775),
-        Err(refusal) => panic!(rt; "{refusal}"),
-    }
-    match machine.ask_show(HopId(1)) {
-        Reply::Shown(status) => expect!(rt; status.taken == 5 && status.expired == 1),
-        _ => panic!(rt; "no such hop"),
-    }
-}
+const LIMITED_SEEN: Seen = Seen {
+    limit: 1_099_511_627_775,
+    place: (1_099_511_627_775, 2),
+    items: 3,
+    bytes: 3,
+    taken: 5,
+    expired: 1,
+};
 
 #[test]
 fn a_state_with_limits_is_read_and_spelled(rt: HostRuntime) {
-    let (alloc, bytes) = (rt.alloc(), limited());
-    let machine: Machine<Stored> = read_state(alloc, HeadForm::Second, PARAMS, &bytes).expect(
-        &rt, "no fault",
-    );
-    expect_limited(&rt, &machine);
-    expect!(rt; spelled(alloc, &machine).expect(&rt, "memory").as_slice() == bytes.as_slice());
+    expect_spelled(&rt, rt.alloc(), &limited(), LIMITED_SEEN);
 }
 
-/// Whether bytes are read as no state, of the second form.
-fn is_malformed(alloc: Global, bytes: &[u8]) -> bool {
-    let read: Result<Machine<Stored>, DecodeFault> = read_state(
-        alloc,
-        HeadForm::Second,
-        PARAMS,
-        bytes,
-    );
-    matches!(&read, Err(DecodeFault::Malformed))
-}
-
-/// A place of no bytes, another form, and the spelling without its last byte are no state.
-#[test]
-fn only_spellings_of_places_are_read(rt: HostRuntime) {
-    let alloc = rt.alloc();
-    let mut bytes = SPELLED;
-    bytes[FIRST_LENGTH] = 0;
-    expect!(rt; is_malformed(alloc, &bytes));
-    let mut bytes = SPELLED;
-    bytes[THIRD_FORM] = 2;
-    expect!(rt; is_malformed(alloc, &bytes));
-    expect!(rt; is_malformed(alloc, &SPELLED[..THIRD_FORM]));
-}
-
-/// Whether the worked state is read for a spool of so long payloads.
-fn is_read(
-    rt: &impl Abort,
+/// What a state has that is read of a form for a spool of so long payloads. Where it is none, nothing is read.
+fn seen_in<R: Abort>(
+    rt: &R,
     alloc: Global,
     form: HeadForm,
     payload: u64,
-) -> Result<bool, AllocError> {
+    bytes: &[u8],
+) -> Option<Seen> {
     let params = Params { payload, ..PARAMS };
     assert!(rt; params.check().is_ok());
-    let bytes: &[u8] = match form {
-        HeadForm::First => &OLD_SPELLED,
-        HeadForm::Second => &SPELLED,
-    };
     let read: Result<Machine<Stored>, DecodeFault> = read_state(alloc, form, params, bytes);
-    match read {
-        Ok(machine) => Ok(machine.item_count() == 3),
-        Err(DecodeFault::Malformed) => Ok(false),
-        Err(DecodeFault::OutOfMemory) => Err(AllocError),
+    match &read {
+        Ok(machine) => Some(seen_of(machine)),
+        Err(DecodeFault::Malformed) => None,
+        Err(DecodeFault::OutOfMemory) => panic!(rt; "memory"),
     }
 }
 
-/// The payload that stands by place has two bytes: more than the spool's longest where that has one.
-#[test]
-fn a_longer_payload_by_place_is_malformed(rt: HostRuntime) {
-    let alloc = rt.alloc();
-    for form in [HeadForm::First, HeadForm::Second] {
-        expect!(rt; is_read(&rt, alloc, form, 2).expect(&rt, "memory"));
-        expect!(rt; !is_read(&rt, alloc, form, 1).expect(&rt, "memory"));
+/// A form, the worked state of it, the longest payload of a spool, and what is read for it. The payload that stands by place has two
+/// bytes: more than the spool's longest where that has one.
+const STATES: [(HeadForm, &[u8], u64, Option<Seen>); 6] = [
+    (HeadForm::First, &OLD_SPELLED, 1_200, Some(SEEN)),
+    (HeadForm::First, &OLD_SPELLED, 2, Some(SEEN)),
+    (HeadForm::First, &OLD_SPELLED, 1, None),
+    (HeadForm::Second, &SPELLED, 1_200, Some(SEEN)),
+    (HeadForm::Second, &SPELLED, 2, Some(SEEN)),
+    (HeadForm::Second, &SPELLED, 1, None),
+];
+
+/// Reads them.
+fn expect_states<R: Abort>(rt: &R, alloc: Global) {
+    for (form, bytes, payload, want) in &STATES {
+        expect!(rt; seen_in(rt, alloc, *form, *payload, *bytes) == *want);
     }
+}
+
+#[test]
+fn states_of_both_forms_are_read_for_payloads_so_long(rt: HostRuntime) {
+    expect_states(&rt, rt.alloc());
+}
+
+/// A place of no bytes, another form, and the spelling without its last byte are no state.
+fn expect_only_spellings<R: Abort>(rt: &R, alloc: Global) {
+    for (index, byte) in [(FIRST_LENGTH, 0), (THIRD_FORM, 2)] {
+        let mut bytes = SPELLED;
+        bytes[index] = byte;
+        expect!(rt; seen_in(rt, alloc, HeadForm::Second, 1_200, &bytes) == None);
+    }
+    expect!(rt; seen_in(rt, alloc, HeadForm::Second, 1_200, &SPELLED[..THIRD_FORM]) == None);
+}
+
+#[test]
+fn only_spellings_of_places_are_read(rt: HostRuntime) {
+    expect_only_spellings(&rt, rt.alloc());
 }

@@ -1,13 +1,13 @@
 //! The victim's payloads are read into a copy of the spool.
-ghost use Rattle.std.specs.Prelude.{◌≡◌, IfOk, IsTrue};
+ghost use Rattle.std.specs.Prelude.{◌≡◌, IsTrue};
 ghost use Rattle.rly_core.specs.Limits.{IsWithinLimits};
 ghost use Rattle.rly_segment.specs.Device.{IsLayout};
 
-use rly_checkpoint::{DecodeFault, HeadForm, Place, Stored, read_state};
+use rly_checkpoint::{HeadForm, Place, Stored, read_state};
 use rly_core::limits::{MAX_SEGMENTS, SEGMENT_LENGTH_LIMIT};
 use rly_core::{Geometry, Params};
 use rly_disk::{Disk, DiskCall, MemDisk, ToldCall, Watched};
-use rly_drawing::{DrawingFault, draw};
+use rly_drawing::draw;
 use rly_machine::Machine;
 use rly_places::is_placed;
 use rly_reclaim::fits;
@@ -78,14 +78,13 @@ pub(crate) fn spool_of(
     alloc: Global,
     geometry: &Geometry,
     body: &[u8],
-) -> Result<Machine<Stored>, AllocError>
+) -> Machine<Stored>
     requires { IsWithinLimits geometry.now.params }
-    ensures { IfOk result (λ spool. spool.state.params ≡ geometry.now.params) }
+    ensures { result.state.params ≡ geometry.now.params }
 {
     match read_state(alloc, HeadForm::First, geometry.params, body) {
-        Ok(spool) => Ok(spool),
-        Err(DecodeFault::OutOfMemory) => Err(AllocError),
-        Err(DecodeFault::Malformed) => panic!(rt; "no state"),
+        Ok(spool) => spool,
+        Err(_) => panic!(rt; "no state"),
     }
 }
 
@@ -97,13 +96,14 @@ fn drawn_of(
     geometry: &Geometry,
     body: &[u8],
     victim: u64,
-) -> Result<Machine<Stored>, DrawingFault> {
+) -> Machine<Stored> {
     assert!(rt; may_have(geometry, disk.size()));
-    let Ok(spool) = spool_of(rt, alloc, geometry, body) else {
-        return Err(DrawingFault::OutOfMemory);
-    };
+    let spool = spool_of(rt, alloc, geometry, body);
     assert!(rt; is_placed(geometry, 0, &spool));
-    draw(alloc, disk, geometry, victim, &spool)
+    match draw(alloc, disk, geometry, victim, &spool) {
+        Ok(copy) => copy,
+        Err(_) => panic!(rt; "not drawn"),
+    }
 }
 
 /// What is told of a read.
@@ -122,36 +122,50 @@ fn is_inline(payload: &Stored, bytes: &[u8]) -> bool {
     }
 }
 
+/// Whether one datagram is in flight and three wait, with these payloads.
+fn is_drawn(copy: &Machine<Stored>) -> bool {
+    let [hop] = copy.hops() else {
+        return false;
+    };
+    hop.flight.len() == 1
+        && hop.queue.len() == 3
+        && is_inline(&hop.flight[0].payload, &[0xac, 0xad, 0xae])
+        && matches!(
+            &hop.queue.item(0).payload,
+            Stored::Placed(Place {
+                start: 211_600,
+                length: 2
+            })
+        )
+        && is_inline(&hop.queue.item(1).payload, &[0xf8, 0xf9, 0xfa, 0xfb])
+        && is_inline(&hop.queue.item(2).payload, &[])
+}
+
+fn expect_drawn(rt: &impl Abort, disk: &Watched<MemDisk>, copy: &Machine<Stored>) {
+    let reads = [read_of(105_900, 3), read_of(107_000, 4)];
+    expect!(*rt; disk.told() == reads.as_slice());
+    expect!(*rt; copy.item_count() == 4 && copy.byte_count() == 9);
+    expect!(*rt; is_drawn(copy));
+}
+
 #[test]
 fn the_victims_payloads_are_read(rt: HostRuntime) {
-    let alloc = rt.alloc();
-    let mut disk = disk_of(alloc).expect(&rt, "memory");
-    let Ok(copy) = drawn_of(&rt, alloc, &mut disk, &FOUR, &BODY, 1) else {
-        panic!(rt; "not drawn");
-    };
-    let reads = [read_of(105_900, 3), read_of(107_000, 4)];
-    expect!(rt; disk.told() == reads.as_slice());
-    expect!(rt; copy.item_count() == 4 && copy.byte_count() == 9);
-    let [hop] = copy.hops() else {
-        panic!(rt; "not one hop");
-    };
-    assert!(rt; hop.flight.len() == 1 && hop.queue.len() == 3);
-    expect!(rt; is_inline(&hop.flight[0].payload, &[0xac, 0xad, 0xae]));
-    expect!(rt; matches!(&hop.queue.item(0).payload, Stored::Placed(Place { start: 211_600, length: 2 })));
-    expect!(rt; is_inline(&hop.queue.item(1).payload, &[0xf8, 0xf9, 0xfa, 0xfb]));
-    expect!(rt; is_inline(&hop.queue.item(2).payload, &[]));
+    let mut disk = disk_of(rt.alloc()).expect(&rt, "memory");
+    let copy = drawn_of(&rt, rt.alloc(), &mut disk, &FOUR, &BODY, 1);
+    expect_drawn(&rt, &disk, &copy);
+}
+
+fn expect_unread(rt: &impl Abort, disk: &Watched<MemDisk>, copy: &Machine<Stored>) {
+    expect!(*rt; disk.told().is_empty());
+    expect!(*rt; is_placed(&FOUR, 0, copy));
 }
 
 /// A segment in which no payload lies is drawn by no call.
 #[test]
 fn nothing_is_read_of_an_empty_segment(rt: HostRuntime) {
-    let alloc = rt.alloc();
-    let mut disk = disk_of(alloc).expect(&rt, "memory");
-    let Ok(copy) = drawn_of(&rt, alloc, &mut disk, &FOUR, &BODY, 3) else {
-        panic!(rt; "not drawn");
-    };
-    expect!(rt; disk.told().is_empty());
-    expect!(rt; is_placed(&FOUR, 0, &copy));
+    let mut disk = disk_of(rt.alloc()).expect(&rt, "memory");
+    let copy = drawn_of(&rt, rt.alloc(), &mut disk, &FOUR, &BODY, 3);
+    expect_unread(&rt, &disk, &copy);
 }
 
 /// As many hops and peers as may be, and a window as wide, on 128 segments of the least length: 21 bytes, 8 for each peer, 71 for
@@ -216,39 +230,51 @@ fn put_inline(body: &mut Vec<u8>, id: u64, length: u16) -> Result<(), AllocError
     Ok(())
 }
 
-/// The body of a head of form 1. 2^40 commands were accepted. Of each of the hops 1 to 63 one datagram is in flight, whose 1,200 bytes
-/// lie in the last segment. Of hop 64 there are 40 in flight, the first two inline, and 50 that wait; the others have 100 bytes each
-/// there. Peer 1 gave all.
-fn broad_body(alloc: Global) -> Result<Vec<u8>, AllocError> {
-    let mut body = Vec::new(alloc);
-    put_numbers(&mut body, &[1_099_511_627_776, 64 * DROPPED + 153])?;
-    for _peer in 2..=64 {
-        put_numbers(&mut body, &[0])?;
-    }
+/// What a head of form 1 has of the hops. Of each of the hops 1 to 63 one datagram is in flight, whose 1,200 bytes lie in the last
+/// segment.
+fn put_63_hops(body: &mut Vec<u8>) -> Result<(), AllocError> {
     for hop in 1..=63u64 {
-        put_hop(&mut body, DROPPED + 1, 1, 0)?;
-        put_placed(&mut body, 1, 1_200, LAST_SEGMENT + 1_200 * hop - 1_200)?;
+        put_hop(body, DROPPED + 1, 1, 0)?;
+        put_placed(body, 1, 1_200, LAST_SEGMENT + 1_200 * hop - 1_200)?;
     }
-    put_hop(&mut body, DROPPED + 90, 40, 50)?;
-    put_inline(&mut body, 1, 1_200)?;
-    put_inline(&mut body, 2, 0)?;
+    Ok(())
+}
+
+/// Of hop 64 there are 40 in flight, the first two inline, and 50 that wait; the others have 100 bytes each there.
+fn put_hop_64(body: &mut Vec<u8>) -> Result<(), AllocError> {
+    put_hop(body, DROPPED + 90, 40, 50)?;
+    put_inline(body, 1, 1_200)?;
+    put_inline(body, 2, 0)?;
     for id in 3..=90u64 {
-        put_placed(&mut body, id, 100, LAST_SEGMENT + 75_300 + 100 * id)?;
+        put_placed(body, id, 100, LAST_SEGMENT + 75_300 + 100 * id)?;
     }
-    Ok(body)
+    Ok(())
+}
+
+/// The body of a head of form 1 with these hops. 2^40 commands were accepted. Peer 1 gave all.
+fn put_body(body: &mut Vec<u8>) -> Result<(), AllocError> {
+    put_numbers(body, &[1_099_511_627_776, 64 * DROPPED + 153])?;
+    for _peer in 2..=64 {
+        put_numbers(body, &[0])?;
+    }
+    put_63_hops(body)?;
+    put_hop_64(body)
+}
+
+fn expect_broad(rt: &impl Abort, alloc: Global, disk: &mut Watched<MemDisk>, body: &[u8]) {
+    let copy = drawn_of(rt, alloc, disk, &BROAD, body, 127);
+    expect!(*rt; disk.told().len() == 63 + 88);
+    expect!(*rt; copy.item_count() == 153 && copy.byte_count() == 63 * 1_200 + 1_200 + 88 * 100);
 }
 
 /// At these limits a copy is drawn: 63 payloads of the last segment are read, and 88, and no memory is refused.
 #[test]
 fn the_broadest_spool_is_drawn(rt: HostRuntime) {
     let alloc = rt.alloc();
-    let body = broad_body(alloc).expect(&rt, "memory");
+    let mut body = Vec::new(alloc);
+    put_body(&mut body).expect(&rt, "memory");
     let bytes = vec![in alloc; 0u8; BROAD_SIZE].expect(&rt, "memory");
     let told = Vec::with_capacity(alloc, 256).expect(&rt, "memory");
     let mut disk = Watched::new(MemDisk::new(alloc, bytes), told);
-    let Ok(copy) = drawn_of(&rt, alloc, &mut disk, &BROAD, &body, 127) else {
-        panic!(rt; "not drawn");
-    };
-    expect!(rt; disk.told().len() == 63 + 88);
-    expect!(rt; copy.item_count() == 153 && copy.byte_count() == 63 * 1_200 + 1_200 + 88 * 100);
+    expect_broad(&rt, alloc, &mut disk, &body);
 }

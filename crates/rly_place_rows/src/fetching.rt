@@ -9,6 +9,7 @@ use rly_disk::{After, Disk, DiskCall, FaultDisk, MemDisk, ToldCall, Watched};
 use rly_fetching::{Outcome, answer_all, place_of, read_payload, refuse_all};
 use rly_machine::{Answer, Payload, Reply, SeatId};
 use std::alloc::{AllocError, Global};
+use std::process::Abort;
 
 /// A disk in memory of 256 bytes, each the number of its place, of which the second call fails.
 fn disk_of(alloc: Global) -> Result<Watched<FaultDisk<MemDisk>>, AllocError> {
@@ -85,38 +86,69 @@ pub(crate) fn gives(reply: &Reply, number: u64, bytes: &[u8]) -> bool {
     }
 }
 
-/// The second of three reads fails: its call alone is answered 13. A payload without bytes isn't read.
-#[test]
-fn a_failed_read_refuses_its_call_alone(rt: HostRuntime) {
-    let alloc = rt.alloc();
-    let mut disk = disk_of(alloc).expect(&rt, "memory");
-    let mut outcomes = vec![in alloc;
+/// The answers to these calls.
+fn answers_to<D: Disk>(
+    rt: &impl Abort,
+    alloc: Global,
+    disk: &mut D,
+    outcomes: &mut Vec<Outcome>,
+) -> Vec<Answer> {
+    assert!(rt; are_there(outcomes, disk.size()));
+    let mut answers = Vec::with_capacity(alloc, outcomes.len()).expect(rt, "memory");
+    answer_all(alloc, disk, outcomes, &mut answers);
+    expect!(*rt; outcomes.is_empty());
+    answers
+}
+
+/// Three reads of five calls.
+fn outcomes_of(alloc: Global) -> Result<Vec<Outcome>, AllocError> {
+    Ok(vec![in alloc;
         wanted(1, 41, place(10, 3)),
         answered(2),
         wanted(3, 43, None),
         wanted(4, 44, place(20, 2)),
         wanted(5, 45, place(255, 1)),
-    ]
-    .expect(&rt, "memory");
-    assert!(rt; are_there(&outcomes, disk.size()));
-    let mut answers = Vec::with_capacity(alloc, 5).expect(&rt, "memory");
-    answer_all(alloc, &mut disk, &mut outcomes, &mut answers);
+    ]?)
+}
+
+fn expect_one_failed(rt: &impl Abort, answers: &[Answer]) {
+    let [first, second, third, fourth, fifth] = answers else {
+        panic!(rt; "not five answers");
+    };
+    expect!(*rt; gives(&first.reply, 1, &[10, 11, 12]));
+    expect!(*rt; first.seat == SeatId(7) && first.number == 1 && first.position == 41);
+    expect!(*rt; matches!(second.reply, Reply::Taken(2)) && second.seat == SeatId(8) && second.position == 50);
+    expect!(*rt; gives(&third.reply, 3, &[]));
+    expect!(*rt; matches!(fourth.reply, Reply::Refused(Refusal::DeviceRead)) && fourth.number == 4 && fourth.position == 44);
+    expect!(*rt; gives(&fifth.reply, 5, &[255]));
+}
+
+fn expect_read(rt: &impl Abort, disk: &Watched<FaultDisk<MemDisk>>) {
     let reads = [
         read_of(10, 3, false),
         read_of(20, 2, true),
         read_of(255, 1, false),
     ];
-    expect!(rt; disk.told() == reads.as_slice());
-    let [first, second, third, fourth, fifth] = answers.as_slice() else {
-        panic!(rt; "not five answers");
+    expect!(*rt; disk.told() == reads.as_slice());
+}
+
+/// The second of three reads fails: its call alone is answered 13. A payload without bytes isn't read.
+#[test]
+fn a_failed_read_refuses_its_call_alone(rt: HostRuntime) {
+    let mut disk = disk_of(rt.alloc()).expect(&rt, "memory");
+    let mut outcomes = outcomes_of(rt.alloc()).expect(&rt, "memory");
+    let answers = answers_to(&rt, rt.alloc(), &mut disk, &mut outcomes);
+    expect_read(&rt, &disk);
+    expect_one_failed(&rt, &answers);
+}
+
+/// Both answers are that the call is unsure.
+fn expect_unsure(rt: &impl Abort, answers: &[Answer]) {
+    let [first, second] = answers else {
+        panic!(rt; "not two answers");
     };
-    expect!(rt; gives(&first.reply, 1, &[10, 11, 12]));
-    expect!(rt; first.seat == SeatId(7) && first.number == 1 && first.position == 41);
-    expect!(rt; matches!(second.reply, Reply::Taken(2)) && second.seat == SeatId(8) && second.position == 50);
-    expect!(rt; gives(&third.reply, 3, &[]));
-    expect!(rt; matches!(fourth.reply, Reply::Refused(Refusal::DeviceRead)) && fourth.number == 4 && fourth.position == 44);
-    expect!(rt; gives(&fifth.reply, 5, &[255]));
-    expect!(rt; outcomes.is_empty());
+    expect!(*rt; matches!(first.reply, Reply::Refused(Refusal::Unsure)) && first.number == 1 && first.position == 30);
+    expect!(*rt; matches!(second.reply, Reply::Refused(Refusal::Unsure)) && second.number == 2 && second.position == 30);
 }
 
 /// Where the round's commands may not be durable, each of its calls is refused and nothing is read.
@@ -126,19 +158,18 @@ fn an_unsure_round_reads_nothing(rt: HostRuntime) {
     let mut outcomes = vec![in alloc; wanted(1, 20, None), answered(2)].expect(&rt, "memory");
     let mut answers = Vec::with_capacity(alloc, 2).expect(&rt, "memory");
     refuse_all(&mut outcomes, &mut answers, Refusal::Unsure, 30);
-    let [first, second] = answers.as_slice() else {
-        panic!(rt; "not two answers");
-    };
-    expect!(rt; matches!(first.reply, Reply::Refused(Refusal::Unsure)) && first.number == 1 && first.position == 30);
-    expect!(rt; matches!(second.reply, Reply::Refused(Refusal::Unsure)) && second.number == 2 && second.position == 30);
+    expect_unsure(&rt, &answers);
     expect!(rt; outcomes.is_empty());
 }
 
 /// One payload alone.
 #[test]
 fn a_payload_is_read(rt: HostRuntime) {
-    let alloc = rt.alloc();
-    let mut disk = disk_of(alloc).expect(&rt, "memory");
+    let mut disk = disk_of(rt.alloc()).expect(&rt, "memory");
+    expect_payload(&rt, rt.alloc(), &mut disk);
+}
+
+fn expect_payload(rt: &impl Abort, alloc: Global, disk: &mut Watched<FaultDisk<MemDisk>>) {
     assert!(rt; disk.size() == 256);
     let place = Place {
         start: 1,
@@ -146,13 +177,13 @@ fn a_payload_is_read(rt: HostRuntime) {
     };
     let there = place_of(&Stored::Placed(place));
     assert!(rt; there == Some(place));
-    let found = read_payload(alloc, &mut disk, Some(place));
-    expect!(rt; matches!(&found, Ok(payload) if payload.as_slice() == [1, 2, 3, 4].as_slice()));
+    let found = read_payload(alloc, disk, Some(place));
+    expect!(*rt; matches!(&found, Ok(payload) if payload.as_slice() == [1, 2, 3, 4].as_slice()));
     assert!(rt; disk.size() == 256);
-    let failed = read_payload(alloc, &mut disk, Some(place));
-    expect!(rt; matches!(failed, Err(Refusal::DeviceRead)));
+    let failed = read_payload(alloc, disk, Some(place));
+    expect!(*rt; matches!(failed, Err(Refusal::DeviceRead)));
     let empty = Stored::Inline(Payload::new(Vec::new(alloc)));
-    expect!(rt; place_of(&empty).is_none());
+    expect!(*rt; place_of(&empty).is_none());
 }
 
 /// The bytes of the longest device: its header's 64, and 256 segments.
@@ -194,12 +225,9 @@ fn gives_low(reply: &Reply, place: Place) -> bool {
     bytes.len() == usize::from(place.length)
 }
 
-/// 64 Fetches of a round, of payloads of up to 8,192 bytes all over the longest device, under great numbers and positions.
-#[test]
-fn payloads_of_a_round_are_read_far_away(rt: HostRuntime) {
-    let alloc = rt.alloc();
-    let mut disk = FarDisk::new(LONGEST);
-    let mut outcomes = Vec::with_capacity(alloc, 64).expect(&rt, "memory");
+/// 64 Fetches of a round.
+fn far_outcomes(rt: &impl Abort, alloc: Global) -> Vec<Outcome> {
+    let mut outcomes = Vec::with_capacity(alloc, 64).expect(rt, "memory");
     for index in 0..64u16 {
         outcomes
             .push(Outcome::Wanted {
@@ -209,16 +237,26 @@ fn payloads_of_a_round_are_read_far_away(rt: HostRuntime) {
                 limit: 0,
                 place: Some(far_place(index)),
             })
-            .expect(&rt, "memory");
+            .expect(rt, "memory");
     }
-    assert!(rt; are_there(&outcomes, disk.size()));
-    let mut answers = Vec::with_capacity(alloc, outcomes.len()).expect(&rt, "memory");
-    answer_all(alloc, &mut disk, &mut outcomes, &mut answers);
+    outcomes
+}
+
+fn expect_far(rt: &impl Abort, answers: &[Answer]) {
     assert!(rt; answers.len() == 64);
     for index in 0..64u16 {
         let answer = &answers[usize::from(index)];
-        expect!(rt; gives_low(&answer.reply, far_place(index)));
-        expect!(rt; answer.number == far_number(index));
+        expect!(*rt; gives_low(&answer.reply, far_place(index)));
+        expect!(*rt; answer.number == far_number(index));
     }
+}
+
+/// They are of payloads of up to 8,192 bytes all over the longest device, under great numbers and positions.
+#[test]
+fn payloads_of_a_round_are_read_far_away(rt: HostRuntime) {
+    let mut disk = FarDisk::new(LONGEST);
+    let mut outcomes = far_outcomes(&rt, rt.alloc());
+    let answers = answers_to(&rt, rt.alloc(), &mut disk, &mut outcomes);
+    expect_far(&rt, &answers);
     expect!(rt; disk.calls() == 64 && disk.failures() == 0);
 }

@@ -19,9 +19,7 @@ fn a_copy_of_a_spool(rt: HostRuntime) -> Result<(), Fail> {
     let alloc = rt.alloc();
     let mut disk = disk_of(alloc)?;
     assert!(rt; may_have(&FOUR, disk.size()));
-    let Ok(spool) = spool_of(&rt, alloc, &FOUR, &BODY) else {
-        panic!(rt; "no memory");
-    };
+    let spool = spool_of(&rt, alloc, &FOUR, &BODY);
     assert!(rt; is_placed(&FOUR, 0, &spool));
     before(alloc)?;
     let told = draw(alloc, &mut disk, &FOUR, 1, &spool);

@@ -64,18 +64,23 @@ fn micros(rt: &(impl Abort + Clock)) -> u128 {
     rt.since_1970().ok().expect(rt, "a clock").as_micros()
 }
 
+/// Checks what is counted of a new link before it is used, and then.
+fn expect_counted<R: Abort + Clock, C: Clock + Drop>(rt: &R, link: &mut CountedLink<MemLink, C>) {
+    expect!(rt; link.counts() == PeerCounts::new());
+    let before = micros(rt);
+    use_link(rt, link);
+    let heard = expect_counts(rt, link.counts());
+    expect!(rt; before <= heard && heard <= micros(rt));
+    expect!(rt; link.link().delivered().len() == 2);
+}
+
 /// Each packet that the link below gives counts, by either receive, and each that is sent, also one that fails. A receive that
 /// gives nothing or fails doesn't count.
 #[test]
 fn packets_of_a_link_are_counted(rt: HostRuntime) {
     let link = link_below(&rt, rt.alloc());
     let mut link = CountedLink::new(link, StationId(7), StationId(3), &rt);
-    expect!(rt; link.counts() == PeerCounts::new());
-    let before = micros(&rt);
-    use_link(&rt, &mut link);
-    let heard = expect_counts(&rt, link.counts());
-    expect!(rt; before <= heard && heard <= micros(&rt));
-    expect!(rt; link.link().delivered().len() == 2);
+    expect_counted(&rt, &mut link);
 }
 
 /// Two peers and two hops.
@@ -132,19 +137,29 @@ fn expect_peers(rt: &impl Abort, peers: &[PeerReport]) {
     expect!(rt; matches!(peers.get(2), Some(peer) if peer.counts == PeerCounts::new()));
 }
 
-/// A reporter sees what was set, of the neighbour of which it was set, and nothing of others. There is no peer 3 and no hop 0.
-#[test]
-fn what_was_set_is_seen(rt: HostRuntime) {
-    let tally = tally_of(&rt, rt.alloc(), PLAN);
+/// Sets counts of one neighbour of each kind, of one of each kind that there isn't, and of the device.
+fn set_some(tally: &Tally) {
     tally.set_peer(&HEARD);
     tally.set_peer(&UNKNOWN);
     tally.set_wrong(HopId(1), 47);
     tally.set_wrong(HopId(0), 9);
     tally.set_rounds(52, 53);
-    let counted = seen(&rt, rt.alloc(), tally);
-    expect_peers(&rt, &counted.peers);
+}
+
+/// Checks what is seen then.
+fn expect_some<R: Abort>(rt: &R, alloc: Global) {
+    let tally = tally_of(rt, alloc, PLAN);
+    set_some(&tally);
+    let counted = seen(rt, alloc, tally);
+    expect_peers(rt, &counted.peers);
     expect!(rt; counted.wrong[0] == 47 && counted.wrong[1] == 0);
     expect!(rt; counted.rounds == 52 && counted.segments == 53);
+}
+
+/// A reporter sees what was set, of the neighbour of which it was set, and nothing of others. There is no peer 3 and no hop 0.
+#[test]
+fn what_was_set_is_seen(rt: HostRuntime) {
+    expect_some(&rt, rt.alloc());
 }
 
 /// The greatest numbers that may be counted of a peer.
@@ -162,20 +177,30 @@ fn greatest(id: u16) -> PeerReport {
     }
 }
 
-/// Of each of 64 peers and 64 hops the greatest numbers are seen.
-#[test]
-fn the_greatest_counts_are_seen(rt: HostRuntime) {
-    let text = greatest_text(rt.alloc()).ok().expect(&rt, "memory");
-    let tally = tally_of(&rt, rt.alloc(), text.as_str());
+/// Sets them of 64 peers and 64 hops, and of the device.
+fn set_greatest(tally: &Tally) {
     for id in 1..=64 {
         tally.set_peer(&greatest(id));
         tally.set_wrong(HopId(id), u64::MAX);
     }
     tally.set_rounds(u64::MAX, u64::MAX);
-    let counted = seen(&rt, rt.alloc(), tally);
+}
+
+/// Checks what is seen then.
+fn expect_greatest<R: Abort>(rt: &R, alloc: Global) {
+    let text = greatest_text(alloc).expect(rt, "memory");
+    let tally = tally_of(rt, alloc, text.as_str());
+    set_greatest(&tally);
+    let counted = seen(rt, alloc, tally);
     for (peer, id) in counted.peers.iter().zip(1..=64) {
         expect!(rt; *peer == greatest(id));
     }
     expect!(rt; counted.wrong.iter().all(|wrong| *wrong == u64::MAX));
     expect!(rt; counted.rounds == u64::MAX && counted.segments == u64::MAX);
+}
+
+/// Of each of 64 peers and 64 hops the greatest numbers are seen.
+#[test]
+fn the_greatest_counts_are_seen(rt: HostRuntime) {
+    expect_greatest(&rt, rt.alloc());
 }

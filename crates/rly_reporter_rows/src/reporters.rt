@@ -129,47 +129,56 @@ pub(super) fn plan_of<R: Abort>(rt: &R, alloc: Global, text: &str) -> Plan
     }
 }
 
-/// The reporter of that plan runs at this desk with this writer.
-fn run<R: Abort + Wait, K: Desk + Drop, W: Write>(
-    rt: &R,
-    alloc: Global,
-    desk: K,
-    writer: &mut W,
-) -> (ReporterEnd, Reporter<K, Moments, Rising>) {
-    run_of(rt, alloc, &plan_of(rt, alloc, PLAN), desk, writer)
-}
-
-/// The same of any plan.
-fn run_of<R: Abort + Wait, K: Desk + Drop, W: Write>(
-    rt: &R,
-    alloc: Global,
-    plan: &Plan,
-    desk: K,
-    writer: &mut W,
-) -> (ReporterEnd, Reporter<K, Moments, Rising>)
-    requires { IsSoundPlan plan.now }
-{
-    let mut reporter = Reporter {
+/// A reporter at this desk.
+fn reporter_at<K: Desk>(desk: K) -> Reporter<K, Moments, Rising> {
+    Reporter {
         desk,
         pace: Moments { told: 0 },
         counters: Rising::new(),
-    };
-    let end = reporter_run(rt, alloc, plan, &mut reporter, writer);
-    (end, reporter)
+    }
+}
+
+/// It runs by a plan with this writer.
+fn run<R: Abort + Wait, K: Desk, W: Write>(
+    rt: &R,
+    alloc: Global,
+    text: &str,
+    reporter: &mut Reporter<K, Moments, Rising>,
+    writer: &mut W,
+) -> ReporterEnd {
+    let plan = plan_of(rt, alloc, text);
+    reporter_run(rt, alloc, &plan, reporter, writer)
+}
+
+/// What a reporter writes of a spool by a plan. It has one look at the counts for each report and so many calls of its desk, and ends
+/// with the moments.
+fn written_of<R: Abort + Wait>(
+    rt: &R,
+    alloc: Global,
+    text: &str,
+    machine: Machine<Payload>,
+    calls: u64,
+) -> Vec<u8> {
+    let mut reporter = reporter_at(MemDesk::new(alloc, machine));
+    let mut written = Vec::new(alloc);
+    let end = run(rt, alloc, text, &mut reporter, &mut written);
+    expect!(rt; end == ReporterEnd::Paced);
+    expect!(rt; reporter.desk.calls() == calls);
+    expect!(rt; reporter.counters.looks == 3);
+    expect!(rt; reporter.pace.told == 4);
+    written
+}
+
+/// Checks the reports of that spool by that plan.
+fn expect_told<R: Abort + Wait>(rt: &R, alloc: Global) {
+    let written = written_of(rt, alloc, PLAN, spool(rt, alloc), 6);
+    expect!(rt; written.as_slice() == TOLD.as_bytes());
 }
 
 /// A report is written at each moment, by one look at the counts each, and the reporter ends with the moments.
 #[test]
 fn a_report_is_written_at_each_moment(rt: HostRuntime) {
-    let alloc = rt.alloc();
-    let desk = MemDesk::new(alloc, spool(&rt, alloc));
-    let mut written = Vec::new(alloc);
-    let (end, reporter) = run(&rt, alloc, desk, &mut written);
-    expect!(rt; end == ReporterEnd::Paced);
-    expect!(rt; written.as_slice() == TOLD.as_bytes());
-    expect!(rt; reporter.desk.calls() == 6);
-    expect!(rt; reporter.counters.looks == 3);
-    expect!(rt; reporter.pace.told == 4);
+    expect_told(&rt, rt.alloc());
 }
 
 /// A desk whose line is closed.
@@ -199,16 +208,21 @@ impl Desk for Shut {
     }
 }
 
-/// Where the line is closed the reporter ends at its first report, and writes nothing.
-#[test]
-fn a_closed_line_ends_the_reporter(rt: HostRuntime) {
-    let alloc = rt.alloc();
+/// A reporter runs at such a desk.
+fn expect_closed<R: Abort + Wait>(rt: &R, alloc: Global) {
     let mut written = Vec::new(alloc);
-    let (end, reporter) = run(&rt, alloc, Shut { asked: 0 }, &mut written);
+    let mut reporter = reporter_at(Shut { asked: 0 });
+    let end = run(rt, alloc, PLAN, &mut reporter, &mut written);
     expect!(rt; end == ReporterEnd::Closed);
     expect!(rt; written.is_empty());
     expect!(rt; reporter.desk.asked == 1);
     expect!(rt; reporter.counters.looks == 0);
+}
+
+/// Where the line is closed the reporter ends at its first report, and writes nothing.
+#[test]
+fn a_closed_line_ends_the_reporter(rt: HostRuntime) {
+    expect_closed(&rt, rt.alloc());
 }
 
 /// A writer that takes so many bytes and then fails.
@@ -233,20 +247,24 @@ impl Write for Narrow {
     }
 }
 
+/// A reporter runs with a writer that has so much room.
+fn expect_prefix<R: Abort + Wait>(rt: &R, alloc: Global, room: usize) {
+    let mut reporter = reporter_at(MemDesk::new(alloc, spool(rt, alloc)));
+    let mut narrow = Narrow {
+        taken: Vec::new(alloc),
+        room,
+    };
+    let end = run(rt, alloc, PLAN, &mut reporter, &mut narrow);
+    expect!(rt; end == ReporterEnd::Output);
+    expect!(rt; narrow.taken.len() == room);
+    expect!(rt; TOLD.as_bytes().starts_with(narrow.taken.as_slice()));
+}
+
 /// Where the writer fails the reporter ends, and a prefix of its reports was written.
 #[test]
 fn a_failed_writer_ends_the_reporter(rt: HostRuntime) {
-    let alloc = rt.alloc();
     for room in &[0usize, 40, 500, 640] {
-        let desk = MemDesk::new(alloc, spool(&rt, alloc));
-        let mut narrow = Narrow {
-            taken: Vec::new(alloc),
-            room: *room,
-        };
-        let (end, _reporter) = run(&rt, alloc, desk, &mut narrow);
-        expect!(rt; end == ReporterEnd::Output);
-        expect!(rt; narrow.taken.len() == *room);
-        expect!(rt; TOLD.as_bytes().starts_with(narrow.taken.as_slice()));
+        expect_prefix(&rt, rt.alloc(), *room);
     }
 }
 
@@ -262,31 +280,25 @@ pub(crate) fn greatest_text(alloc: Global) -> Result<String, AllocError> {
     format!(in alloc; "station = 7\npeer = [{peers}]\nhop = [{hops}]\n")
 }
 
-/// That plan.
-fn greatest_plan<R: Abort>(rt: &R, alloc: Global) -> Plan
-    ensures { IsSoundPlan result }
-{
+/// A spool's greatest parameters of hops and peers.
+const GREATEST: Params = Params {
+    hops: 64,
+    peers: 64,
+    ..Params::DEFAULT
+};
+
+/// Checks the reports of such a spool by that plan.
+fn expect_greatest<R: Abort + Wait>(rt: &R, alloc: Global) {
     let text = greatest_text(alloc).expect(rt, "memory");
-    plan_of(rt, alloc, text.as_str())
+    let machine = Machine::new(alloc, GREATEST).expect(rt, "memory");
+    let written = written_of(rt, alloc, text.as_str(), machine, 192);
+    let lines = written.iter().filter(|byte| **byte == b'\n').count();
+    expect!(rt; lines == 3 * (64 + 64 + 2));
+    expect!(rt; written.as_slice().ends_with(b"\ndevice seq 0 rounds 3 segments 0\n"));
 }
 
 /// A report of 64 hops and 64 peers is written whole at each moment: a line for each of them, and two more.
 #[test]
 fn the_greatest_report_is_written(rt: HostRuntime) {
-    let alloc = rt.alloc();
-    let params = Params {
-        hops: 64,
-        peers: 64,
-        ..Params::DEFAULT
-    };
-    let machine = Machine::new(alloc, params).expect(&rt, "memory");
-    let desk = MemDesk::new(alloc, machine);
-    let mut written = Vec::new(alloc);
-    let plan = greatest_plan(&rt, alloc);
-    let (end, reporter) = run_of(&rt, alloc, &plan, desk, &mut written);
-    expect!(rt; end == ReporterEnd::Paced);
-    expect!(rt; reporter.desk.calls() == 192);
-    let lines = written.iter().filter(|byte| **byte == b'\n').count();
-    expect!(rt; lines == 3 * (64 + 64 + 2));
-    expect!(rt; written.as_slice().ends_with(b"\ndevice seq 0 rounds 3 segments 0\n"));
+    expect_greatest(&rt, rt.alloc());
 }

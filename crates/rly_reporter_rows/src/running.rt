@@ -56,12 +56,16 @@ fn device<R: Abort>(rt: &R, alloc: Global) -> MemDisk {
     disk
 }
 
-/// The same, whose first call after those that open it fails.
+/// The journal of a device.
+fn opened<R: Abort, D: Disk + Drop>(rt: &R, alloc: Global, disk: D) -> Journal<D> {
+    Journal::open(alloc, disk).ok().expect(rt, "a journal")
+}
+
+/// The same device, whose first call after those that open it fails.
 fn failing<R: Abort>(rt: &R, alloc: Global) -> FaultDisk<MemDisk> {
     let disk = device(rt, alloc);
     let before = disk.calls();
-    let journal = Journal::open(alloc, disk).ok().expect(rt, "a journal");
-    let disk = journal.into_disk();
+    let disk = opened(rt, alloc, disk).into_disk();
     let opening = disk.calls().wrapping_sub(before);
     FaultDisk::new(disk, opening.wrapping_add(1), 0, After::GoesOn)
 }
@@ -165,42 +169,31 @@ struct Ended {
     broken: bool,
     is_cut: bool,
     end: ReporterEnd,
-    /// The word of the relay.
+}
+
+/// What they left: how they ended, the word of the relay, and what was written.
+#[derive(Drop)]
+struct Left {
+    ended: Ended,
     word: Option<bool>,
     written: Vec<u8>,
 }
 
-/// Runs a relay over this journal. Its reporter waits for so many answers to the receiver.
-fn run_over<R: Abort + Threads + Wait + Clock + Sync + Copy + Send + Drop, D: Disk + Drop>(
+/// A relay runs over this journal, with a reporter of this pace.
+fn relay<'a, R: Abort + Threads + Wait + Clock + Sync + Copy + Send + Drop, D: Disk + Drop>(
     rt: &R,
     alloc: Global,
     journal: Journal<D>,
-    wanted: u64,
+    pace: Once<'a, R>,
+    written: &mut Vec<u8>,
 ) -> Ended {
     let plan = plan_of(rt, alloc, PLAN);
-    let answered = AtomicU64::new(0);
-    let posts = posts(rt, alloc, &answered);
+    let posts = posts(rt, alloc, pace.answered);
     assert!(rt; posts.len() == 2);
-    let word = OnceLock::new();
-    let pace = Once {
-        clock: *rt,
-        answered: &answered,
-        word: &word,
-        wanted,
-        told: 0,
-    };
+    let word = pace.word;
     let counters = Rising::new();
-    let mut written = Vec::new(alloc);
     let ran = run_reported(
-        rt,
-        alloc,
-        journal,
-        &plan,
-        posts,
-        pace,
-        counters,
-        &mut written,
-        &word,
+        rt, alloc, journal, &plan, posts, pace, counters, written, word,
     );
     let Ok(reported) = ran else {
         panic!(rt; "no relay");
@@ -211,30 +204,64 @@ fn run_over<R: Abort + Threads + Wait + Clock + Sync + Copy + Send + Drop, D: Di
         broken: reported.relayed.finished.broken,
         is_cut: reported.relayed.is_cut,
         end: reported.watched.end,
-        word: word.get().copied(),
+    }
+}
+
+/// The same, where the reporter waits for so many answers to the receiver.
+fn run_over<R: Abort + Threads + Wait + Clock + Sync + Copy + Send + Drop, D: Disk + Drop>(
+    rt: &R,
+    alloc: Global,
+    journal: Journal<D>,
+    wanted: u64,
+) -> Left {
+    let answered = AtomicU64::new(0);
+    let word = OnceLock::new();
+    let pace = Once {
+        clock: *rt,
+        answered: &answered,
+        word: &word,
+        wanted,
+        told: 0,
+    };
+    let mut written = Vec::new(alloc);
+    let ended = relay(rt, alloc, journal, pace, &mut written);
+    let word = word.get().copied();
+    Left {
+        ended,
+        word,
         written,
     }
+}
+
+/// Checks what a relay leaves whose journal didn't break.
+fn expect_reported<R: Abort>(rt: &R, left: &Left) {
+    let ended = &left.ended;
+    expect!(rt; ended.had_thread && ended.complete && !ended.broken);
+    expect!(rt; ended.end == ReporterEnd::Paced && left.word == Some(false));
+    expect!(rt; left.written.as_slice() == TOLD.as_bytes());
 }
 
 /// The reporter's Show is answered beside the calls of the workers, also where these have ended: the relay waits until the reporter
 /// has left its seat.
 #[test]
 fn a_running_relay_reports(rt: HostRuntime) {
-    let opened = Journal::open(rt.alloc(), device(&rt, rt.alloc()));
-    let journal = opened.ok().expect(&rt, "a journal");
-    let ended = run_over(&rt, rt.alloc(), journal, 1);
-    expect!(rt; ended.had_thread && ended.complete && !ended.broken);
-    expect!(rt; ended.end == ReporterEnd::Paced && ended.word == Some(false));
-    expect!(rt; ended.written.as_slice() == TOLD.as_bytes());
+    let journal = opened(&rt, rt.alloc(), device(&rt, rt.alloc()));
+    let left = run_over(&rt, rt.alloc(), journal, 1);
+    expect_reported(&rt, &left);
+}
+
+/// Checks what a relay leaves whose journal broke.
+fn expect_broken<R: Abort>(rt: &R, left: &Left) {
+    let ended = &left.ended;
+    expect!(rt; ended.broken && ended.is_cut);
+    expect!(rt; ended.end == ReporterEnd::Closed && left.word.is_some());
+    expect!(rt; left.written.is_empty());
 }
 
 /// Where the journal breaks the relay doesn't wait for the reporter, whose word is said, and whose line is closed.
 #[test]
 fn a_relay_that_breaks_ends_its_reporter(rt: HostRuntime) {
-    let opened = Journal::open(rt.alloc(), failing(&rt, rt.alloc()));
-    let journal = opened.ok().expect(&rt, "a journal");
-    let ended = run_over(&rt, rt.alloc(), journal, 1_000);
-    expect!(rt; ended.broken && ended.is_cut);
-    expect!(rt; ended.end == ReporterEnd::Closed && ended.word.is_some());
-    expect!(rt; ended.written.is_empty());
+    let journal = opened(&rt, rt.alloc(), failing(&rt, rt.alloc()));
+    let left = run_over(&rt, rt.alloc(), journal, 1_000);
+    expect_broken(&rt, &left);
 }

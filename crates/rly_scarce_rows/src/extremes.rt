@@ -1,22 +1,23 @@
 //! The greatest line, and a window of the longest datagrams: a bound of the code's own would hide there, as a refusal of memory.
-use crate::growths::workers::PLAN;
+use crate::growths::workers::{MemEnds, ends_of, run};
 use rly_core::{HopId, Params, PeerId};
 use rly_line::make;
 use rly_machine::Machine;
-use rly_plan::Plan;
-use rly_post::{MemLink, MemTurn};
-use rly_workers::{Ends, MemDesk, receiver_run, sender_run};
-use std::alloc::{AllocError, Global};
+use rly_post::{MemLink, MemTurn, Worker};
+use std::alloc::Global;
 use std::process::Abort;
 use std::sync::Wait;
-use std::test::Fail;
 
-#[test]
-fn the_greatest_line(rt: HostRuntime) -> Result<(), Fail> {
-    let (seats, _line) = make(rt.alloc(), 256, 256)?;
+/// Makes a line of 256 seats.
+fn expect_greatest_line<R: Abort>(rt: &R, alloc: Global) {
+    let (seats, _line) = make(alloc, 256, 256).expect(rt, "a line");
     expect!(rt; seats.len() == 256);
     expect!(rt; seats.last().map(|seat| seat.id().0) == Some(255));
-    Ok(())
+}
+
+#[test]
+fn the_greatest_line(rt: HostRuntime) {
+    expect_greatest_line(&rt, rt.alloc());
 }
 
 /// A spool for the longest payloads, of which 64 may be in flight.
@@ -39,49 +40,50 @@ fn longest(number: u8, from: u8, to: u8) -> [u8; 8_215] {
 }
 
 /// 64 of them come in one turn.
-fn window_of_them(alloc: Global) -> Result<MemLink, AllocError> {
+fn window_of_them<R: Abort>(rt: &R, alloc: Global) -> Vec<Option<Vec<u8>>> {
     let mut coming = Vec::new(alloc);
     for number in 1..=64 {
-        coming.push(Some(longest(number, 3, 7).to_vec(alloc)?))?;
+        let packet = longest(number, 3, 7).to_vec(alloc).expect(rt, "memory");
+        coming.push(Some(packet)).expect(rt, "memory");
     }
-    coming.push(None)?;
-    Ok(MemLink::new(alloc, coming, 0))
+    coming.push(None).expect(rt, "memory");
+    coming
 }
 
-/// The desk of a receiver that took all of them in that turn.
-fn taken<R: Abort + Wait>(rt: &R, alloc: Global, plan: &Plan) -> Result<MemDesk, AllocError> {
-    let mut ends = Ends {
-        link: window_of_them(alloc)?,
-        desk: MemDesk::new(alloc, Machine::new(alloc, LONG)?),
-        turn: MemTurn::new(1_000, 1, 1),
-    };
-    receiver_run(rt, alloc, plan, PeerId(1), &mut ends);
+/// A receiver takes all of them in that turn.
+fn take_window<R: Abort + Wait>(rt: &R, alloc: Global, ends: &mut MemEnds) {
+    run(rt, alloc, Worker::Receiver(PeerId(1)), &LONG, ends);
     expect!(rt; ends.link.delivered().len() == 1);
     expect!(rt; ends.desk.machine().byte_count() == 524_288);
-    Ok(ends.desk)
 }
 
-/// The link of a sender over that desk, in silence.
-fn sent<R: Wait>(rt: &R, alloc: Global, plan: &Plan, desk: MemDesk) -> MemLink {
-    let mut ends = Ends {
-        link: MemLink::new(alloc, Vec::new(alloc), 0),
-        desk,
-        turn: MemTurn::new(1_010, 1, 20),
-    };
-    sender_run(rt, alloc, plan, HopId(1), &LONG, &mut ends);
-    ends.link
+/// A sender at the same desk sends, in silence.
+fn send_window<R: Abort + Wait>(rt: &R, alloc: Global, ends: &mut MemEnds) {
+    ends.link = MemLink::new(alloc, Vec::new(alloc), 0);
+    ends.turn = MemTurn::new(1_010, 1, 20);
+    run(rt, alloc, Worker::Sender(HopId(1)), &LONG, ends);
 }
 
-/// A window of the longest datagrams is taken in one turn. Ten of them go out at first, since none is acknowledged, each with its limit.
-#[test]
-fn a_window_of_the_longest_datagrams(rt: HostRuntime) -> Result<(), Fail> {
-    let alloc = rt.alloc();
-    let plan = Plan::from_toml(alloc, PLAN)?;
-    let desk = taken(&rt, alloc, &plan)?;
-    let link = sent(&rt, alloc, &plan, desk);
+/// Checks what it sent.
+fn expect_ten<R: Abort>(rt: &R, link: &MemLink) {
     expect!(rt; link.delivered().len() == 10);
     for (packet, number) in link.delivered().iter().zip(1..=10) {
         expect!(rt; packet.as_slice() == longest(number, 7, 9).as_slice());
     }
-    Ok(())
+}
+
+/// A window of the longest datagrams is handed over.
+fn hand_over_window<R: Abort + Wait>(rt: &R, alloc: Global) {
+    let machine = Machine::new(alloc, LONG).expect(rt, "memory");
+    let coming = window_of_them(rt, alloc);
+    let mut ends = ends_of(alloc, coming, machine, MemTurn::new(1_000, 1, 1));
+    take_window(rt, alloc, &mut ends);
+    send_window(rt, alloc, &mut ends);
+    expect_ten(rt, &ends.link);
+}
+
+/// A window of the longest datagrams is taken in one turn. Ten of them go out at first, since none is acknowledged, each with its limit.
+#[test]
+fn a_window_of_the_longest_datagrams(rt: HostRuntime) {
+    hand_over_window(&rt, rt.alloc());
 }

@@ -26,102 +26,106 @@ pub(crate) const TAG: [u8; 16] = [
 ];
 
 /// The text is that of a key which gives the custody this tag, or another one.
-fn expect_tag<R: Abort>(rt: &R, text: &str, is_worked: bool) {
+fn expect_tag<R: Abort>(rt: &R, what: &str, text: &str, is_worked: bool) {
     let tag = Key::read(text.as_bytes()).map(|key| key.tag(&CUSTODY));
-    expect!(rt; tag.is_some());
-    expect!(rt; (tag == Some(TAG)) == is_worked);
+    let is_so = tag.is_some() && (tag == Some(TAG)) == is_worked;
+    crate::expect::expect(rt, is_so, what);
 }
 
-#[test]
-fn a_line_is_a_key(rt: HostRuntime) {
-    expect_tag(&rt, LINE, true);
-    expect_tag(&rt, OTHER, false);
-}
-
-#[test]
-fn the_end_of_the_last_line_may_be_missing(rt: HostRuntime) {
+fn expect_keys<R: Abort>(rt: &R) {
+    expect_tag(rt, "a line is a key", LINE, true);
+    expect_tag(rt, "a line is a key", OTHER, false);
     expect_tag(
-        &rt,
+        rt,
+        "the end of the last line may be missing",
         "000102030405060708090a0b0c0d0e0f101112131415161718191a1b1c1d1e1f",
         true,
     );
-    expect_tag(&rt, BOTH.trim_end(), true);
-}
-
-#[test]
-fn capital_digits_are_the_same(rt: HostRuntime) {
     expect_tag(
-        &rt,
+        rt,
+        "the end of the last line may be missing",
+        BOTH.trim_end(),
+        true,
+    );
+    expect_tag(
+        rt,
+        "capital digits are the same",
         "000102030405060708090A0B0C0D0E0F101112131415161718191A1B1C1D1E1F\n",
         true,
     );
+    expect_tag(rt, "the first line is used to send", BOTH, true);
+    expect_tag(rt, "the first line is used to send", TURNED, false);
 }
 
 #[test]
-fn the_first_line_is_used_to_send(rt: HostRuntime) {
-    expect_tag(&rt, BOTH, true);
-    expect_tag(&rt, TURNED, false);
+fn texts_that_are_keys(rt: HostRuntime) {
+    expect_keys(&rt);
 }
 
 /// The text is no key.
 fn expect_none<R: Abort>(rt: &R, text: &str, row: u64) {
-    expect!(rt; Key::read(text.as_bytes()).is_none(), row);
+    expect!(*rt; Key::read(text.as_bytes()).is_none(), row);
 }
 
-#[test]
-fn texts_that_are_no_keys(rt: HostRuntime) {
-    expect_none(&rt, "", 0);
-    expect_none(&rt, "\n", 1);
-    expect_none(&rt, "00", 2);
+fn expect_no_keys<R: Abort>(rt: &R) {
+    expect_none(rt, "", 0);
+    expect_none(rt, "\n", 1);
+    expect_none(rt, "00", 2);
     expect_none(
-        &rt,
+        rt,
         "000102030405060708090a0b0c0d0e0f101112131415161718191a1b1c1d1e1\n",
         3,
     );
     expect_none(
-        &rt,
+        rt,
         "000102030405060708090a0b0c0d0e0f101112131415161718191a1b1c1d1e1f0\n",
         4,
     );
     expect_none(
-        &rt,
+        rt,
         "000102030405060708090a0b0c0d0e0f101112131415161718191a1b1c1d1e1g\n",
         5,
     );
     expect_none(
-        &rt,
+        rt,
         "000102030405060708090a0b0c0d0e0f101112131415161718191a1b1c1d1e1f\r\n",
         6,
     );
     expect_none(
-        &rt,
+        rt,
         "000102030405060708090a0b0c0d0e0f101112131415161718191a1b1c1d1e1f\n\n",
         7,
     );
     expect_none(
-        &rt,
+        rt,
         " 000102030405060708090a0b0c0d0e0f101112131415161718191a1b1c1d1e1f",
         8,
     );
 }
 
-#[test]
-fn a_second_line_is_a_whole_key(rt: HostRuntime) {
+/// A second line is a whole key.
+fn expect_no_second_keys<R: Abort>(rt: &R) {
     expect_none(
-        &rt,
+        rt,
         "000102030405060708090a0b0c0d0e0f101112131415161718191a1b1c1d1e1f\n00\n",
-        0,
+        9,
     );
     expect_none(
-        &rt,
+        rt,
         "000102030405060708090a0b0c0d0e0f101112131415161718191a1b1c1d1e1f f0e1d2c3b4a5968778695a4b3c2d1e0ff0e1d2c3b4a5968778695a4b3c2d1e0f\n",
-        1,
+        10,
     );
     expect_none(
-        &rt,
+        rt,
         "000102030405060708090a0b0c0d0e0f101112131415161718191a1b1c1d1e1f\nf0e1d2c3b4a5968778695a4b3c2d1e0ff0e1d2c3b4a5968778695a4b3c2d1e0z\n",
-        2,
+        11,
     );
+}
+
+#[test]
+fn texts_that_are_no_keys(rt: HostRuntime) {
+    expect_no_keys(&rt);
+    expect_no_second_keys(&rt);
 }
 
 #[test]

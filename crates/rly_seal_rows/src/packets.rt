@@ -2,7 +2,6 @@
 use crate::keys::{BOTH, CUSTODY, LINE, OTHER, TAG, TURNED};
 use rly_tag::Key;
 use std::process::Abort;
-use std::test::Fail;
 
 /// A custody and a tag after it.
 pub(crate) fn with_tag(tag: &[u8; 16]) -> [u8; 32] {
@@ -13,8 +12,8 @@ pub(crate) fn with_tag(tag: &[u8; 16]) -> [u8; 32] {
 }
 
 /// The key of a text.
-fn key_of(text: &str) -> Result<Key, Fail> {
-    Ok(Key::read(text.as_bytes()).ok_or("a key")?)
+pub(crate) fn key_of<R: Abort>(rt: &R, text: &str) -> Key {
+    Key::read(text.as_bytes()).expect(rt, "a key")
 }
 
 /// Whether what is heard in these bytes is this packet.
@@ -25,19 +24,15 @@ fn is_heard(key: &Key, bytes: &[u8], packet: &[u8]) -> bool {
     }
 }
 
-#[test]
-fn the_worked_custody(rt: HostRuntime) -> Result<(), Fail> {
-    let key = key_of(LINE)?;
+fn expect_custody<R: Abort>(rt: &R, key: &Key) {
     let mut sealed = [0xee; 40];
-    expect!(rt; key.seal(&CUSTODY, &mut sealed) == 32);
-    expect!(rt; sealed.starts_with(&with_tag(&TAG)));
-    expect!(rt; sealed.get(32) == Some(&0xee));
-    expect!(rt; is_heard(&key, &with_tag(&TAG), &CUSTODY));
-    Ok(())
+    expect!(*rt; key.seal(&CUSTODY, &mut sealed) == 32);
+    expect!(*rt; sealed.starts_with(&with_tag(&TAG)));
+    expect!(*rt; sealed.get(32) == Some(&0xee));
+    expect!(*rt; is_heard(key, &with_tag(&TAG), &CUSTODY));
 }
 
-#[test]
-fn the_worked_data(rt: HostRuntime) -> Result<(), Fail> {
+fn expect_data<R: Abort>(rt: &R, key: &Key) {
     let packet = [
         0x52, 0x4c, 0x01, 0x01, 0x00, 0x03, 0x00, 0x07, 0, 0, 0, 0, 0, 0, 0, 1, 0x00, 0x03, 0x00,
         0x0c, 0x41,
@@ -46,66 +41,77 @@ fn the_worked_data(rt: HostRuntime) -> Result<(), Fail> {
         0xb5, 0x74, 0xd7, 0x13, 0x1b, 0x0e, 0xcc, 0x86, 0x7c, 0x48, 0x1f, 0xa1, 0xd6, 0xbb, 0x0f,
         0x53,
     ];
-    expect!(rt; key_of(LINE)?.tag(&packet) == tag);
-    Ok(())
+    expect!(*rt; key.tag(&packet) == tag);
 }
 
 #[test]
-fn each_bit_is_under_the_tag(rt: HostRuntime) -> Result<(), Fail> {
-    let key = key_of(LINE)?;
-    for place in 0..32usize {
-        for bit in [1, 2, 4, 8, 16, 32, 64, 128] {
-            let mut sealed = with_tag(&TAG);
-            sealed[place] ^= bit;
-            expect!(rt; key.unseal(&sealed).is_none(), place as u64);
+fn the_worked_custody_and_data(rt: HostRuntime) {
+    let key = key_of(&rt, LINE);
+    expect_custody(&rt, &key);
+    expect_data(&rt, &key);
+}
+
+/// The worked custody, a byte of which was changed by these bits.
+fn changed(place: usize, bits: u8) -> [u8; 32] {
+    let mut sealed = with_tag(&TAG);
+    for (at, byte) in sealed.iter_mut().enumerate() {
+        if at == place {
+            *byte ^= bits;
         }
     }
-    Ok(())
+    sealed
+}
+
+/// Each bit is under the tag.
+fn expect_each_bit<R: Abort>(rt: &R, key: &Key) {
+    for place in 0..32usize {
+        for bit in [1, 2, 4, 8, 16, 32, 64, 128] {
+            expect!(*rt; key.unseal(&changed(place, bit)).is_none(), place as u64);
+        }
+    }
 }
 
 #[test]
-fn a_packet_that_is_cut_is_not_heard(rt: HostRuntime) -> Result<(), Fail> {
-    let key = key_of(BOTH)?;
+fn each_bit_is_under_the_tag(rt: HostRuntime) {
+    expect_each_bit(&rt, &key_of(&rt, LINE));
+}
+
+fn expect_whole<R: Abort>(rt: &R, key: &Key) {
     let sealed = with_tag(&TAG);
     for length in 0..32usize {
-        expect!(rt; key.unseal(&sealed[..length]).is_none(), length as u64);
+        expect!(*rt; key.unseal(&sealed[..length]).is_none(), length as u64);
     }
-    Ok(())
 }
 
 #[test]
-fn a_packet_without_a_tag_is_not_heard(rt: HostRuntime) -> Result<(), Fail> {
-    let key = key_of(LINE)?;
-    expect!(rt; key.unseal(&CUSTODY).is_none());
-    expect!(rt; key.unseal(&[]).is_none());
-    expect!(rt; key.unseal(&[0; 8_300]).is_none());
-    Ok(())
+fn a_packet_that_is_cut_is_not_heard(rt: HostRuntime) {
+    expect_whole(&rt, &key_of(&rt, BOTH));
+}
+
+/// A packet without a tag isn't heard, and the tag of another message or of another key is wrong.
+fn expect_tags<R: Abort>(rt: &R, key: &Key, other: &Key) {
+    expect!(*rt; key.unseal(&CUSTODY).is_none());
+    expect!(*rt; key.unseal(&[]).is_none());
+    expect!(*rt; key.unseal(&[0; 8_300]).is_none());
+    expect!(*rt; key.unseal(&with_tag(&key.tag(b"another message"))).is_none());
+    expect!(*rt; key.unseal(&with_tag(&other.tag(&CUSTODY))).is_none());
+    expect!(*rt; other.unseal(&with_tag(&TAG)).is_none());
 }
 
 #[test]
-fn the_tag_of_another_message_is_wrong(rt: HostRuntime) -> Result<(), Fail> {
-    let key = key_of(LINE)?;
-    let tag = key.tag(b"another message");
-    expect!(rt; key.unseal(&with_tag(&tag)).is_none());
-    Ok(())
-}
-
-#[test]
-fn the_tag_of_another_key_is_wrong(rt: HostRuntime) -> Result<(), Fail> {
-    let tag = key_of(OTHER)?.tag(&CUSTODY);
-    expect!(rt; key_of(LINE)?.unseal(&with_tag(&tag)).is_none());
-    expect!(rt; key_of(OTHER)?.unseal(&with_tag(&TAG)).is_none());
-    Ok(())
+fn a_packet_without_a_right_tag_is_not_heard(rt: HostRuntime) {
+    expect_tags(&rt, &key_of(&rt, LINE), &key_of(&rt, OTHER));
 }
 
 /// Both keys are heard, whichever line they stand in, and the first is used to send.
+fn expect_both<R: Abort>(rt: &R, both: &Key, turned: &Key) {
+    expect!(*rt; is_heard(turned, &with_tag(&both.tag(&CUSTODY)), &CUSTODY));
+    expect!(*rt; is_heard(both, &with_tag(&turned.tag(&CUSTODY)), &CUSTODY));
+    expect!(*rt; both.tag(&CUSTODY) == TAG);
+    expect!(*rt; turned.tag(&CUSTODY) != TAG);
+}
+
 #[test]
-fn the_second_key_is_heard(rt: HostRuntime) -> Result<(), Fail> {
-    let both = key_of(BOTH)?;
-    let turned = key_of(TURNED)?;
-    expect!(rt; is_heard(&turned, &with_tag(&both.tag(&CUSTODY)), &CUSTODY));
-    expect!(rt; is_heard(&both, &with_tag(&turned.tag(&CUSTODY)), &CUSTODY));
-    expect!(rt; both.tag(&CUSTODY) == TAG);
-    expect!(rt; turned.tag(&CUSTODY) != TAG);
-    Ok(())
+fn the_second_key_is_heard(rt: HostRuntime) {
+    expect_both(&rt, &key_of(&rt, BOTH), &key_of(&rt, TURNED));
 }

@@ -37,17 +37,7 @@ pub(super) fn take_at<R: Abort + Wait>(
     seat.call(rt, ask).expect(rt, "an answer").reply
 }
 
-/// The reply to the take of number 1 from peer 1 at the first of two seats, which is let go then, and the second seat.
-pub(super) fn take_first<R: Abort + Wait>(
-    rt: &R,
-    alloc: Global,
-    mut first: Seat,
-    second: Seat,
-) -> (Reply, Seat) {
-    (take_at(rt, alloc, &mut first, 1, 1), second)
-}
-
-/// The reply to the same take at the second seat, which is let go then.
-pub(super) fn take_again<R: Abort + Wait>(rt: &R, alloc: Global, mut second: Seat) -> Reply {
-    take_at(rt, alloc, &mut second, 1, 1)
+/// The reply to the take of number 1 from peer 1 at a seat, which is let go then.
+pub(super) fn take_once<R: Abort + Wait>(rt: &R, alloc: Global, mut seat: Seat) -> Reply {
+    take_at(rt, alloc, &mut seat, 1, 1)
 }

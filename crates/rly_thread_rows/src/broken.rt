@@ -3,13 +3,12 @@
 ghost use Rattle.std.specs.Prelude.{None, false};
 
 use crate::devices::{device, journal_on};
-use crate::overlap::{DATA, PLAN, WORKERS};
+use crate::overlap::{DATA, WORKERS, relayed};
 use crate::workers::link_with;
 use rly_core::PeerId;
 use rly_disk::{After, Disk, FaultDisk, MemDisk};
-use rly_plan::Plan;
 use rly_post::{Go, MemLink, Point, Post, Turn, Worker};
-use rly_threads::{Relayed, run_relay};
+use rly_threads::Relayed;
 use std::alloc::Global;
 use std::process::Abort;
 use std::sync::Wait;
@@ -38,7 +37,7 @@ impl<C: Clock + Drop> Turn for Long<C> {
         let _ = rt;
         let _ = worker;
         let on = self.left > 0;
-        if point == Point::Start {
+        if matches!(point, Point::Start) {
             thread::sleep(&self.clock, Duration::from_millis(1));
             self.left = self.left.saturating_sub(1);
         }
@@ -76,31 +75,18 @@ fn posts<R: Abort>(rt: &R, clock: HostRuntime) -> Vec<Post<MemLink, Long<HostRun
 
 /// Checks that the journal is broken, that each worker was cut, and that none sent anything.
 fn expect_cut<R: Abort>(rt: &R, relayed: &Relayed<FaultDisk<MemDisk>, MemLink, Long<HostRuntime>>) {
-    expect!(rt; relayed.finished.broken);
-    expect!(rt; relayed.is_cut);
-    expect!(rt; !relayed.complete);
-    expect!(rt; relayed.ended.len() == 3);
+    expect!(*rt; relayed.finished.broken && relayed.is_cut && !relayed.complete);
+    expect!(*rt; relayed.ended.len() == 3);
     for ended in &relayed.ended {
-        expect!(rt; matches!(ended, Some(worker) if worker.was_cut));
-        expect!(rt; matches!(ended, Some(worker) if worker.post.link.delivered().is_empty()));
+        expect!(*rt; matches!(ended, Some(worker) if worker.was_cut && worker.post.link.delivered().is_empty()));
     }
 }
 
-/// Runs a relay of three posts to its end, on a device whose call of this number fails.
-fn relayed<R: Abort + Threads + Wait + Sync>(
-    rt: &R,
-    alloc: Global,
-    call: u64,
-    posts: Vec<Post<MemLink, Long<HostRuntime>>>,
-) -> Relayed<FaultDisk<MemDisk>, MemLink, Long<HostRuntime>> {
-    let plan = Plan::from_toml(alloc, PLAN).ok().expect(rt, "a plan");
+/// Checks that a relay of three posts on a device whose call of this number fails ends.
+fn expect_end<R: Abort + Threads + Wait + Sync>(rt: &R, clock: HostRuntime, call: u64) {
+    let alloc = clock.alloc();
     let journal = journal_on(rt, alloc, failing(rt, alloc, call));
-    if posts.len() != 3 {
-        panic!(rt; "three posts");
-    }
-    run_relay(rt, alloc, journal, &plan, posts)
-        .ok()
-        .expect(rt, "a relay")
+    expect_cut(rt, &relayed(rt, alloc, journal, posts(rt, clock)));
 }
 
 /// A round has four calls of its device: the body and the gate are written, each with a sync. Whichever of them fails, each
@@ -108,7 +94,6 @@ fn relayed<R: Abort + Threads + Wait + Sync>(
 #[test]
 fn a_relay_ends_once_its_journal_broke(rt: HostRuntime) {
     for call in 1..=4 {
-        let relayed = relayed(&rt, rt.alloc(), call, posts(&rt, rt));
-        expect_cut(&rt, &relayed);
+        expect_end(&rt, rt, call);
     }
 }

@@ -273,6 +273,14 @@ fn measured_waits<R: Abort + Wait>(
     ends.link.waits
 }
 
+/// Checks that they go out so over this way, and that this is so and as many receives wait where a stray packet comes in each turn.
+fn expect_measured<R: Abort + Wait>(rt: &R, alloc: Global, way: &Way) {
+    let waits = measured_waits(rt, alloc, way, None);
+    for stray in &STRAYS {
+        expect!(*rt; measured_waits(rt, alloc, way, Some(*stray)) == waits);
+    }
+}
+
 /// Where the way there and back is a second and a half, one datagram goes out twice, whatever else comes.
 #[test]
 fn a_long_way_is_measured(rt: HostRuntime) {
@@ -282,15 +290,18 @@ fn a_long_way_is_measured(rt: HostRuntime) {
         datagrams: 5,
         window: 1,
     };
-    let waits = measured_waits(&rt, rt.alloc(), &way, None);
-    for stray in &STRAYS {
-        expect!(rt; measured_waits(&rt, rt.alloc(), &way, Some(*stray)) == waits);
-    }
+    expect_measured(&rt, rt.alloc(), &way);
 }
 
 /// The fourth Data that goes out is lost. The three that are on their way go out again, once, one after the other: station 9 takes in
 /// order alone.
 const AFTER_A_LOSS: [u64; 11] = [1, 2, 3, 4, 5, 6, 4, 5, 6, 7, 8];
+
+/// Checks that they go out so over this way.
+fn expect_again<R: Abort + Wait>(rt: &R, alloc: Global, way: &Way) {
+    let ends = hand_over(rt, alloc, way, 4, None);
+    expect!(*rt; ends.link.numbers.as_slice() == AFTER_A_LOSS.as_slice());
+}
 
 /// After a loss what was on its way goes out again, once.
 #[test]
@@ -301,6 +312,5 @@ fn a_loss_brings_the_window_again(rt: HostRuntime) {
         datagrams: 8,
         window: 3,
     };
-    let ends = hand_over(&rt, rt.alloc(), &way, 4, None);
-    expect!(rt; ends.link.numbers.as_slice() == AFTER_A_LOSS.as_slice());
+    expect_again(&rt, rt.alloc(), &way);
 }

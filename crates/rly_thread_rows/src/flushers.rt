@@ -1,6 +1,6 @@
 //! The flusher: it answers seats in threads of their own, out of a journal in memory.
 
-use crate::asks::{take, take_again, take_at, take_first};
+use crate::asks::{take, take_at, take_once};
 use crate::devices::{device, journal_on, new_journal};
 use crate::served::{flusher_on, flusher_over, round, served, spawned, two_seats};
 use rly_core::{HopId, PeerId};
@@ -92,42 +92,31 @@ fn expect_served<R: Abort + Wait>(rt: &R, flusher: Flusher<MemDisk>, position: u
     expect!(*rt; finished.journal.position() == position);
 }
 
-/// Checks that a round takes what the first of two seats asks. The second seat.
-fn expect_taken<R: Abort + Threads + Wait + Copy + Send + 'static>(
+/// What a round answers to the take of number 1 from peer 1 at a seat in a thread of its own.
+fn answered<R: Abort + Threads + Wait + Copy + Send + 'static>(
     rt: R,
     alloc: Global,
     flusher: &mut Flusher<MemDisk>,
-    first: Seat,
-    second: Seat,
-) -> Seat {
-    let asking = spawned(&rt, move || take_first(&rt, alloc, first, second));
+    seat: Seat,
+) -> Reply {
+    let asking = spawned(&rt, move || take_once(&rt, alloc, seat));
     expect!(rt; round(&rt, flusher));
-    let (reply, second) = asking.join(&rt);
-    expect!(rt; matches!(&reply, Reply::Taken(1)));
-    second
+    asking.join(&rt)
 }
 
-/// Checks that a round answers the same take at the second seat, which was taken before.
-fn expect_already<R: Abort + Threads + Wait + Copy + Send + 'static>(
-    rt: R,
-    alloc: Global,
-    flusher: &mut Flusher<MemDisk>,
-    second: Seat,
-) {
-    let asking = spawned(&rt, move || take_again(&rt, alloc, second));
-    expect!(rt; round(&rt, flusher));
-    expect!(rt; matches!(&asking.join(&rt), Reply::Already(1)));
+/// Checks two seats, of which the second asks for the same after the first was answered: it was taken before.
+fn expect_row_2<R: Abort + Threads + Wait + Copy + Send + 'static>(rt: R, alloc: Global) {
+    let (first, second, mut flusher) = two_seats(&rt, alloc, new_journal(&rt, alloc), 256);
+    expect!(rt; matches!(&answered(rt, alloc, &mut flusher, first), Reply::Taken(1)));
+    expect!(rt; matches!(&answered(rt, alloc, &mut flusher, second), Reply::Already(1)));
+    expect!(rt; !round(&rt, &mut flusher));
+    expect_served(&rt, flusher, 1);
 }
 
 /// Two seats, each in a thread of its own. The second asks after the first was answered.
 #[test]
 fn line_row_2(rt: HostRuntime) {
-    let alloc = rt.alloc();
-    let (first, second, mut flusher) = two_seats(&rt, alloc, new_journal(&rt, alloc), 256);
-    let second = expect_taken(rt, alloc, &mut flusher, first, second);
-    expect_already(rt, alloc, &mut flusher, second);
-    expect!(rt; !round(&rt, &mut flusher));
-    expect_served(&rt, flusher, 1);
+    expect_row_2(rt, rt.alloc());
 }
 
 /// What is left of seats that were left.
@@ -139,14 +128,18 @@ fn all_left<R: Abort + Wait>(rt: &R, alloc: Global, seats: Vec<Seat>) -> Vec<Lef
     left
 }
 
+/// Leaves each of 200 seats, and checks that their flusher ends.
+fn expect_all_left<R: Abort + Wait>(rt: &R, alloc: Global) {
+    let (seats, flusher) = flusher_on(rt, alloc, device(rt, alloc), 256, 200);
+    let left = all_left(rt, alloc, seats);
+    expect_served(rt, flusher, 0);
+    expect!(*rt; left.len() == 200);
+}
+
 /// A flusher ends once each of 200 seats was left, though what is left of them is still there.
 #[test]
 fn seats_that_are_left_end_the_flusher(rt: HostRuntime) {
-    let alloc = rt.alloc();
-    let (seats, flusher) = flusher_on(&rt, alloc, device(&rt, alloc), 256, 200);
-    let left = all_left(&rt, alloc, seats);
-    expect_served(&rt, flusher, 0);
-    expect!(rt; left.len() == 200);
+    expect_all_left(&rt, rt.alloc());
 }
 
 /// Whether a take at a seat, which is left then, was taken, and what is left of the seat.
@@ -164,16 +157,19 @@ fn seat_left_over<R: Abort>(rt: &R, alloc: Global) -> (Seat, Flusher<MemDisk>) {
     (seat, flusher)
 }
 
+/// Checks that a seat is served whose flusher was told that the others are gone.
+fn expect_forgotten<R: Abort + Threads + Wait + Copy + Send + 'static>(rt: R, alloc: Global) {
+    let (seat, flusher) = seat_left_over(&rt, alloc);
+    let asking = spawned(&rt, move || take_and_leave(&rt, alloc, seat));
+    expect_served(&rt, flusher, 1);
+    let (is_taken, _left) = asking.join(&rt);
+    expect!(rt; is_taken);
+}
+
 /// It waits for 199 seats less where it was told that so many are gone.
 #[test]
 fn seats_that_are_gone_are_forgotten(rt: HostRuntime) {
-    let alloc = rt.alloc();
-    let (seat, flusher) = seat_left_over(&rt, alloc);
-    let asking = spawned(&rt, move || take_and_leave(&rt, alloc, seat));
-    let finished = served(&rt, flusher);
-    let (is_taken, _left) = asking.join(&rt);
-    expect!(rt; is_taken);
-    expect!(rt; finished.journal.position() == 1);
+    expect_forgotten(rt, rt.alloc());
 }
 
 /// Checks that each seat's takes were all taken, and that the journal has them.
@@ -187,11 +183,16 @@ fn expect_all_taken<R: Abort>(rt: &R, taken: u64, finished: &Finished<MemDisk>) 
     }
 }
 
+/// Checks it of four seats in threads.
+fn expect_four_seats<R: Abort + Threads + Wait + Copy + Send + 'static>(rt: R, alloc: Global) {
+    let (taken, finished) = four_seats(rt, alloc, device(&rt, alloc));
+    expect_all_taken(&rt, taken, &finished);
+}
+
 /// Each seat's takes are all taken.
 #[test]
 fn four_seats_are_served(rt: HostRuntime) {
-    let (taken, finished) = four_seats(rt, rt.alloc(), device(&rt, rt.alloc()));
-    expect_all_taken(&rt, taken, &finished);
+    expect_four_seats(rt, rt.alloc());
 }
 
 /// Whether a run on a device that stops at its call 1,500 met that failure; where it didn't, all was taken.
@@ -299,13 +300,17 @@ fn expect_batches<R: Abort + Threads>(rt: &R, asking: Vec<JoinHandle<u64>>) {
     }
 }
 
-/// Four seats in threads of their own, each with two batches that don't fit into one round with another's: all takes
-/// are taken, and each answer is at its ask's place.
-#[test]
-fn batches_are_answered_in_order(rt: HostRuntime) {
-    let alloc = rt.alloc();
+/// Checks it of four seats in threads.
+fn expect_four_batches<R: Abort + Threads + Wait + Copy + Send + 'static>(rt: R, alloc: Global) {
     let (seats, flusher) = flusher_on(&rt, alloc, device(&rt, alloc), 256, 4);
     let asking = asking_batches(rt, alloc, seats);
     expect_served(&rt, flusher, 2 * (31 + 32 + 33 + 34));
     expect_batches(&rt, asking);
+}
+
+/// Four seats in threads of their own, each with two batches that don't fit into one round with another's: all takes
+/// are taken, and each answer is at its ask's place.
+#[test]
+fn batches_are_answered_in_order(rt: HostRuntime) {
+    expect_four_batches(rt, rt.alloc());
 }

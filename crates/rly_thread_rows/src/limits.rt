@@ -78,8 +78,13 @@ fn longest(from: u8, to: u8) -> [u8; 8_215] {
     packet
 }
 
+/// Checks that it goes on.
+fn expect_longest<R: Abort + Wait>(rt: &R, alloc: Global) {
+    expect_handed_on(rt, alloc, &longest(3, 7), &longest(7, 9));
+}
+
 /// The longest datagram has room in the buffers of both workers.
 #[test]
 fn the_longest_datagram_is_handed_on(rt: HostRuntime) {
-    expect_handed_on(&rt, rt.alloc(), &longest(3, 7), &longest(7, 9));
+    expect_longest(&rt, rt.alloc());
 }

@@ -5,7 +5,7 @@ ghost use Rattle.rly_machine.specs.Ask.{ask_step};
 ghost use Rattle.rly_machine.specs.History.{IsAnswered, harm, next_state, without_bytes};
 ghost use Rattle.rly_thread_rows.specs.InStep.{IsInStep};
 
-use crate::asks::{take_again, take_first, window};
+use crate::asks::{take_once, window};
 use crate::served::spawned;
 use rly_core::{HopId, Params, Refusal};
 use rly_line::{CallError, LineEnd, Responder, Seat, make};
@@ -14,8 +14,7 @@ use std::alloc::Global;
 use std::process::Abort;
 use std::snapshot::Snapshot;
 use std::sync::Wait;
-use std::thread;
-use std::thread::Threads;
+use std::thread::{JoinHandle, Threads};
 
 /// How many asks each of four seats makes.
 const ASKS: u64 = 50;
@@ -108,49 +107,36 @@ impl Answering {
     }
 }
 
-/// Checks that what the first of two seats asks is taken. The second seat.
-fn expect_taken<R: Abort + Threads + Wait + Copy + Send + 'static>(
+/// What is answered to the take of number 1 from peer 1 at a seat in a thread of its own.
+fn answered<R: Abort + Threads + Wait + Copy + Send + 'static>(
     rt: R,
     alloc: Global,
     answering: &mut Answering,
-    first: Seat,
-    second: Seat,
-) -> Seat
+    seat: Seat,
+) -> Reply
     requires { IsInStep answering.old.machine.state answering.old.calls }
     ensures { IsInStep answering.new.machine.state answering.new.calls }
 {
-    let asking = spawned(&rt, move || take_first(&rt, alloc, first, second));
+    let asking = spawned(&rt, move || take_once(&rt, alloc, seat));
     expect!(rt; answering.answer(&rt));
-    let (reply, second) = asking.join(&rt);
-    expect!(rt; matches!(&reply, Reply::Taken(1)));
-    second
+    asking.join(&rt)
 }
 
-/// Checks the answer to the same take at the second seat, which was taken before.
-fn expect_already<R: Abort + Threads + Wait + Copy + Send + 'static>(
-    rt: R,
-    alloc: Global,
-    answering: &mut Answering,
-    second: Seat,
-)
-    requires { IsInStep answering.old.machine.state answering.old.calls }
-    ensures { IsInStep answering.new.machine.state answering.new.calls }
-{
-    let asking = spawned(&rt, move || take_again(&rt, alloc, second));
-    expect!(rt; answering.answer(&rt));
-    expect!(rt; matches!(&asking.join(&rt), Reply::Already(1)));
+/// Checks two seats, of which the second asks for the same after the first was answered: it was taken before.
+fn expect_row_2<R: Abort + Threads + Wait + Copy + Send + 'static>(rt: R, alloc: Global) {
+    let (mut seats, mut answering) = Answering::new(&rt, alloc, 4, 2);
+    let second = seats.pop().expect(&rt, "two seats");
+    let first = seats.pop().expect(&rt, "two seats");
+    expect!(rt; (first.id().0, second.id().0) == (0, 1));
+    expect!(rt; matches!(&answered(rt, alloc, &mut answering, first), Reply::Taken(1)));
+    expect!(rt; matches!(&answered(rt, alloc, &mut answering, second), Reply::Already(1)));
+    expect!(rt; !answering.answer(&rt));
 }
 
 /// Two seats, each in a thread of its own. The second asks after the first was answered.
 #[test]
 fn line_row_2(rt: HostRuntime) {
-    let (mut seats, mut answering) = Answering::new(&rt, rt.alloc(), 4, 2);
-    let second = seats.pop().expect(&rt, "two seats");
-    let first = seats.pop().expect(&rt, "two seats");
-    expect!(rt; (first.id().0, second.id().0) == (0, 1));
-    let second = expect_taken(rt, rt.alloc(), &mut answering, first, second);
-    expect_already(rt, rt.alloc(), &mut answering, second);
-    expect!(rt; !answering.answer(&rt));
+    expect_row_2(rt, rt.alloc());
 }
 
 /// So many asks at a seat, one after the other, which are all answered.
@@ -160,21 +146,34 @@ fn ask_at<R: Abort + Wait>(rt: &R, mut seat: Seat) {
     }
 }
 
-/// Four seats in threads of their own share a line that holds one call: each waits for its place in it.
-#[test]
-fn a_full_line_is_waited_for(rt: HostRuntime) {
-    let (seats, mut answering) = Answering::new(&rt, rt.alloc(), 1, 4);
-    let mut asking = Vec::new(rt.alloc());
+/// Seats in threads of their own, each with its asks.
+fn asking_all<R: Abort + Threads + Wait + Copy + Send + 'static>(
+    rt: R,
+    alloc: Global,
+    seats: Vec<Seat>,
+) -> Vec<JoinHandle<()>> {
+    let mut asking = Vec::new(alloc);
     for seat in seats {
-        let asked = thread::spawn(&rt, move || ask_at(&rt, seat))
-            .ok()
-            .expect(&rt, "a thread");
+        let asked = spawned(&rt, move || ask_at(&rt, seat));
         asking.push(asked).expect(&rt, "memory");
     }
+    asking
+}
+
+/// Answers four seats in threads, and waits for their ends.
+fn answer_four<R: Abort + Threads + Wait + Copy + Send + 'static>(rt: R, alloc: Global) {
+    let (seats, mut answering) = Answering::new(&rt, alloc, 1, 4);
+    let asking = asking_all(rt, alloc, seats);
     answering.answer_all(&rt, 4 * ASKS + 1);
     for asked in asking {
         asked.join(&rt);
     }
+}
+
+/// Four seats in threads of their own share a line that holds one call: each waits for its place in it.
+#[test]
+fn a_full_line_is_waited_for(rt: HostRuntime) {
+    answer_four(rt, rt.alloc());
 }
 
 /// The last of so many seats, and the other end of their line, which holds one call.
@@ -185,15 +184,18 @@ fn last_of<R: Abort>(rt: &R, alloc: Global, count: u16) -> (Seat, LineEnd)
     (seats.pop().expect(rt, "a seat"), line)
 }
 
+/// Checks that a call is handed back where the other end is gone.
+fn expect_handed_back<R: Abort + Wait>(rt: &R, alloc: Global) {
+    let (mut seat, line) = last_of(rt, alloc, 1);
+    drop(line);
+    let call = seat.call(rt, window());
+    expect!(*rt; matches!(&call, Err(CallError::Closed(Ask::Query(Query::Window { hop: HopId(1) })))));
+}
+
 /// Where the other end is gone, a call is handed back.
 #[test]
 fn nobody_answers(rt: HostRuntime) {
-    let (mut seat, line) = last_of(&rt, rt.alloc(), 1);
-    drop(line);
-    let Err(CallError::Closed(Ask::Query(query))) = seat.call(&rt, window()) else {
-        panic!(rt; "the call is not handed back");
-    };
-    expect!(rt; query == Query::Window { hop: HopId(1) });
+    expect_handed_back(&rt, rt.alloc());
 }
 
 /// Whether a first call at a seat is lost, and the second handed back.
@@ -202,29 +204,37 @@ fn is_lost<R: Wait>(rt: &R, mut seat: Seat) -> bool {
     is_lost && matches!(&seat.call(rt, window()), Err(CallError::Closed(_)))
 }
 
+/// Checks that a call which a line's end takes and never answers is lost, once that end is gone or, where so told, was closed.
+fn expect_lost<R: Abort + Threads + Wait + Copy + Send + 'static>(
+    rt: R,
+    alloc: Global,
+    count: u16,
+    is_closed: bool,
+)
+    requires { (1 ≤ count) × (count ≤ 256) }
+{
+    let (seat, mut line) = last_of(&rt, alloc, count);
+    let asking = spawned(&rt, move || is_lost(&rt, seat));
+    let batch = line.wait(&rt).expect(&rt, "a batch");
+    expect!(rt; batch.len() == 1);
+    if is_closed {
+        let _closed = line.close(&rt);
+        expect!(rt; asking.join(&rt));
+    } else {
+        expect!(rt; line.more(&rt).is_none());
+        drop(line);
+        expect!(rt; asking.join(&rt));
+    }
+}
+
 /// A call that is taken and never answered is lost, and the seat is shut from then on.
 #[test]
 fn an_answer_is_lost(rt: HostRuntime) {
-    let (seat, mut line) = last_of(&rt, rt.alloc(), 1);
-    let asking = thread::spawn(&rt, move || is_lost(&rt, seat))
-        .ok()
-        .expect(&rt, "a thread");
-    let batch = line.wait(&rt).expect(&rt, "a batch");
-    expect!(rt; batch.len() == 1);
-    expect!(rt; line.more(&rt).is_none());
-    drop(line);
-    expect!(rt; asking.join(&rt));
+    expect_lost(rt, rt.alloc(), 1, false);
 }
 
 /// A line that is closed says so to the last of 200 seats, though its end is still there: the call that was taken is lost.
 #[test]
 fn a_closed_line_tells_each_seat(rt: HostRuntime) {
-    let (seat, mut line) = last_of(&rt, rt.alloc(), 200);
-    let asking = thread::spawn(&rt, move || is_lost(&rt, seat))
-        .ok()
-        .expect(&rt, "a thread");
-    let batch = line.wait(&rt).expect(&rt, "a batch");
-    expect!(rt; batch.len() == 1);
-    let _closed = line.close(&rt);
-    expect!(rt; asking.join(&rt));
+    expect_lost(rt, rt.alloc(), 200, true);
 }

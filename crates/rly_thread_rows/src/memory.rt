@@ -8,6 +8,7 @@ use rly_post::{Link, MAX_PACKET, MemLink};
 use rly_workers::{Desk, MemDesk};
 use std::alloc::Global;
 use std::process::Abort;
+use std::sync::Wait;
 
 /// More calls than a bound of 1,000 or 1,024 would let through.
 const MANY: u64 = 1_100;
@@ -41,32 +42,55 @@ fn expect_longest<R: Abort>(rt: &R, link: &mut MemLink, longest: &[u8]) {
     expect!(*rt; link.try_recv(&mut buffer) == Ok(None));
 }
 
+/// Checks that a link gave all packets and kept each that was sent.
+fn expect_kept<R: Abort>(rt: &R, link: &MemLink) {
+    let delivered = link.delivered();
+    expect!(*rt; link.failures() == 0);
+    expect!(*rt; delivered.len() as u64 == MANY + 1);
+    expect!(*rt; delivered.iter().take(1_000).all(|sent| sent.as_slice() == b"abc".as_slice()));
+}
+
+/// Checks that a link gives many short packets and a long one, and keeps each that is sent.
+fn expect_carried<R: Abort>(rt: &R, link: &mut MemLink, longest: &[u8]) {
+    for _packet in 0..MANY {
+        expect_short(rt, link);
+    }
+    expect_longest(rt, link, longest);
+    expect_kept(rt, link);
+}
+
+/// Checks it of a link in memory.
+fn expect_link<R: Abort>(rt: &R, alloc: Global) {
+    let longest = [7u8; MAX_PACKET];
+    let mut link = MemLink::new(alloc, coming(rt, alloc, &longest), 0);
+    expect_carried(rt, &mut link, &longest);
+}
+
 /// A link gives each packet, and keeps each that is sent: many short ones, and then one that fills a worker's buffer.
 #[test]
 fn a_link_carries_many_packets(rt: HostRuntime) {
-    let longest = [7u8; MAX_PACKET];
-    let coming = coming(&rt, rt.alloc(), &longest);
-    let mut link = MemLink::new(rt.alloc(), coming, 0);
-    for _packet in 0..MANY {
-        expect_short(&rt, &mut link);
+    expect_link(&rt, rt.alloc());
+}
+
+/// Checks that a desk answers many questions, and then another.
+fn expect_answers<R: Abort + Wait>(rt: &R, desk: &mut MemDesk) {
+    for number in 1..=MANY {
+        let answer = desk.call(rt, window()).expect(rt, "an answer");
+        expect!(*rt; answer.number == number && matches!(&answer.reply, Reply::WindowIs { .. }));
     }
-    expect_longest(&rt, &mut link, &longest);
-    expect!(rt; link.failures() == 0);
-    expect!(rt; link.delivered().len() as u64 == MANY + 1);
-    expect!(rt; link.delivered().iter().take(1_000).all(|sent| sent.as_slice() == b"abc".as_slice()));
+    let ask = Ask::Query(Query::Show { hop: HopId(4) });
+    let answer = desk.call(rt, ask).expect(rt, "an answer");
+    expect!(*rt; matches!(&answer.reply, Reply::Shown(_)));
+}
+
+/// Checks it of a desk in memory.
+fn expect_desk<R: Abort + Wait>(rt: &R, alloc: Global) {
+    let mut desk = MemDesk::new(alloc, empty(rt, alloc));
+    expect_answers(rt, &mut desk);
 }
 
 /// Each of many questions is answered, one after the other.
 #[test]
 fn a_desk_answers_many_questions(rt: HostRuntime) {
-    let alloc = rt.alloc();
-    let mut desk = MemDesk::new(alloc, empty(&rt, alloc));
-    for number in 1..=MANY {
-        let answer = desk.call(&rt, window()).expect(&rt, "an answer");
-        expect!(rt; answer.number == number);
-        expect!(rt; matches!(&answer.reply, Reply::WindowIs { .. }));
-    }
-    let ask = Ask::Query(Query::Show { hop: HopId(4) });
-    let answer = desk.call(&rt, ask).expect(&rt, "an answer");
-    expect!(rt; matches!(&answer.reply, Reply::Shown(_)));
+    expect_desk(&rt, rt.alloc());
 }

@@ -5,7 +5,8 @@ ghost use Rattle.std.specs.Prelude.{None, false};
 use crate::devices::new_journal;
 use crate::workers::link_with;
 use rly_core::{HopId, PeerId};
-use rly_disk::MemDisk;
+use rly_disk::{Disk, MemDisk};
+use rly_journal::Journal;
 use rly_plan::Plan;
 use rly_post::{Go, MemLink, Point, Post, Turn, Worker};
 use rly_threads::{Relayed, run_relay};
@@ -155,17 +156,18 @@ fn expect_taken<R: Abort>(rt: &R, relayed: &Relayed<MemDisk, MemLink, Held<'_, H
     }
 }
 
-/// Runs a relay of three posts to its end.
-fn relayed<'a, R: Abort + Threads + Wait + Sync>(
+/// Runs a relay of these posts to its end.
+pub(super) fn relayed<R: Abort + Threads + Wait + Sync, D: Disk + Drop, T: Turn + Drop + Send>(
     rt: &R,
     alloc: Global,
-    posts: Vec<Post<MemLink, Held<'a, HostRuntime>>>,
-) -> Relayed<MemDisk, MemLink, Held<'a, HostRuntime>> {
+    journal: Journal<D>,
+    posts: Vec<Post<MemLink, T>>,
+) -> Relayed<D, MemLink, T> {
     let plan = Plan::from_toml(alloc, PLAN).ok().expect(rt, "a plan");
-    if posts.len() != 3 {
-        panic!(rt; "three posts");
+    if posts.is_empty() || posts.len() > 256 {
+        panic!(rt; "1 to 256 posts");
     }
-    run_relay(rt, alloc, new_journal(rt, alloc), &plan, posts)
+    run_relay(rt, alloc, journal, &plan, posts)
         .ok()
         .expect(rt, "a relay")
 }
@@ -174,8 +176,9 @@ fn relayed<'a, R: Abort + Threads + Wait + Sync>(
 fn expect_overlap<R: Abort + Threads + Wait + Sync>(rt: &R, clock: HostRuntime, held: Worker) {
     let answered = AtomicU64::new(0);
     let gave_up = AtomicU64::new(0);
+    let alloc = clock.alloc();
     let posts = posts(rt, clock, held, &answered, &gave_up);
-    let relayed = relayed(rt, clock.alloc(), posts);
+    let relayed = relayed(rt, alloc, new_journal(rt, alloc), posts);
     expect_taken(rt, &relayed);
     expect!(*rt; gave_up.load(Ordering::SeqCst) == 0);
     expect!(*rt; answered.load(Ordering::SeqCst) == 3);

@@ -76,21 +76,33 @@ const RATED: [(u64, u64, usize); 10] = [
     (12, 9, 4),
 ];
 
+/// Checks how many calls were made, how many packets were sent, and that the rest waits.
+fn expect_paced<R: Abort>(rt: &R, ends: &MemEnds, calls: u64, sent: usize) {
+    expect!(*rt; (ends.desk.calls(), ends.link.delivered().len()) == (calls, sent));
+    let flight = calls.saturating_sub(1).saturating_sub(sent as u64);
+    expect_counts(rt, ends, 8u64.saturating_sub(flight), flight, 0);
+}
+
+/// Checks it after so many turns of the hop with a rate.
+fn expect_rated<R: Abort + Wait>(rt: &R, alloc: Global, turns: u64, calls: u64, sent: usize) {
+    expect_paced(rt, &send(rt, alloc, HopId(1), turns), calls, sent);
+}
+
 /// What a rate holds back stays in the spool: a datagram is picked only where it may go out at once.
 #[test]
 fn a_rate_is_kept(rt: HostRuntime) {
     for (turns, calls, sent) in &RATED {
-        let ends = send(&rt, rt.alloc(), HopId(1), *turns);
-        expect!(rt; ends.desk.calls() == *calls);
-        expect!(rt; ends.link.delivered().len() == *sent);
-        let flight = (*calls).saturating_sub(1).saturating_sub(*sent as u64);
-        expect_counts(&rt, &ends, 8u64.saturating_sub(flight), flight, 0);
+        expect_rated(&rt, rt.alloc(), *turns, *calls, *sent);
     }
+}
+
+/// How many packets the hop without a rate sends in so many turns.
+fn sent_without_a_rate<R: Abort + Wait>(rt: &R, alloc: Global, turns: u64) -> usize {
+    send(rt, alloc, HopId(2), turns).link.delivered().len()
 }
 
 /// The hop without a rate sends all eight by turn 9: 1, 2, 4 and 1.
 #[test]
 fn another_hop_has_no_rate(rt: HostRuntime) {
-    let ends = send(&rt, rt.alloc(), HopId(2), 9);
-    expect!(rt; ends.link.delivered().len() == 8);
+    expect!(rt; sent_without_a_rate(&rt, rt.alloc(), 9) == 8);
 }

@@ -94,27 +94,44 @@ fn expect_numbers<R: Abort>(rt: &R, link: &MemLink, numbers: &[u64]) {
     }
 }
 
+/// The ask whose answer is lost, and as which refusal it is told; after so many turns, how many asks were made, and which datagrams
+/// went out.
+type Row = (u64, Refusal, u64, u64, &'static [u64]);
+
+/// Checks what came of a row's sender.
+fn expect_row<R: Abort>(rt: &R, ends: &Ends<MemLink, Refusing, MemTurn>, row: &Row) {
+    let (_, _, _, asks, numbers) = *row;
+    expect!(*rt; ends.desk.desk.calls() == asks);
+    expect_numbers(rt, &ends.link, numbers);
+}
+
+/// Checks these rows.
+fn expect_rows<R: Abort + Wait>(rt: &R, alloc: Global, rows: &[Row]) {
+    for row in rows {
+        let (at, refusal, turns, _, _) = *row;
+        expect_row(rt, &send(rt, alloc, at, refusal, turns), row);
+    }
+}
+
+const FETCHES: [Row; 2] = [
+    (13, Refusal::OutOfMemory, 7, 15, &[1, 2, 3, 4]),
+    (13, Refusal::OutOfMemory, 64, 18, &[1, 2, 3, 4, 5, 6, 7]),
+];
+
 /// Fetch 5 of four is refused. What was fetched after it doesn't go out, and is fetched again with it in the next turn.
 #[test]
 fn a_refused_fetch_sends_nothing(rt: HostRuntime) {
-    let alloc = rt.alloc();
-    let short = send(&rt, alloc, 13, Refusal::OutOfMemory, 7);
-    expect!(rt; short.desk.desk.calls() == 15);
-    expect_numbers(&rt, &short.link, &[1, 2, 3, 4]);
-    let ends = send(&rt, alloc, 13, Refusal::OutOfMemory, 64);
-    expect!(rt; ends.desk.desk.calls() == 18);
-    expect_numbers(&rt, &ends.link, &[1, 2, 3, 4, 5, 6, 7]);
+    expect_rows(&rt, rt.alloc(), &FETCHES);
 }
+
+const PICKS: [Row; 2] = [
+    (9, Refusal::Unsure, 7, 12, &[1, 2, 3]),
+    (9, Refusal::Unsure, 64, 19, &[1, 2, 3, 1, 2, 3, 4, 5, 6, 7]),
+];
 
 /// Of four Picks the second is answered that it may stand or not. So the window is asked for, which has what all four picked, and all
 /// that is in flight goes out.
 #[test]
 fn a_pick_that_is_unsure_is_found(rt: HostRuntime) {
-    let alloc = rt.alloc();
-    let short = send(&rt, alloc, 9, Refusal::Unsure, 7);
-    expect!(rt; short.desk.desk.calls() == 12);
-    expect_numbers(&rt, &short.link, &[1, 2, 3]);
-    let ends = send(&rt, alloc, 9, Refusal::Unsure, 64);
-    expect!(rt; ends.desk.desk.calls() == 19);
-    expect_numbers(&rt, &ends.link, &[1, 2, 3, 1, 2, 3, 4, 5, 6, 7]);
+    expect_rows(&rt, rt.alloc(), &PICKS);
 }

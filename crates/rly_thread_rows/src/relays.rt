@@ -122,12 +122,17 @@ fn expect_71<R: Abort>(rt: &R, left: &Relayed<MemDisk, MemLink, Turns>) {
     expect!(*rt; matches!(left.finished.journal.last(PeerId(1)), Ok(71)));
 }
 
+/// Runs a relay that takes 70 datagrams, and one over its journal that takes the next.
+fn take_71<R: Abort + Threads + Wait + Sync>(rt: &R, alloc: Global) {
+    let journal = journal_of_70(rt, alloc);
+    expect_71(rt, &alone(rt, alloc, journal, 71, 71));
+}
+
 /// One worker takes 70 datagrams in two turns, of which the first has 64. A relay over the journal that this one leaves takes the
 /// next.
 #[test]
 fn a_worker_alone_takes_full_batches(rt: HostRuntime) {
-    let journal = journal_of_70(&rt, rt.alloc());
-    expect_71(&rt, &alone(&rt, rt.alloc(), journal, 71, 71));
+    take_71(&rt, rt.alloc());
 }
 
 /// The posts of 256 workers, of which the first hears a datagram.
@@ -148,16 +153,20 @@ fn expect_wide<R: Abort>(rt: &R, left: &Relayed<MemDisk, MemLink, Turns>) {
     expect!(*rt; matches!(left.finished.journal.last(PeerId(1)), Ok(1)));
 }
 
+/// Runs a relay of 256 workers.
+fn run_wide<R: Abort + Threads + Wait + Sync>(rt: &R, alloc: Global) {
+    let posts = many_posts(rt, alloc);
+    if posts.is_empty() || posts.len() > 256 {
+        panic!(*rt; "256 posts");
+    }
+    let journal = journal_on(rt, alloc, wide_device(rt, alloc));
+    expect_wide(rt, &relayed(rt, alloc, journal, posts));
+}
+
 /// A relay may have 256 workers, over a journal of 64 hops and peers. Those whose peer isn't in the plan end at once.
 #[test]
 fn as_many_workers_as_a_line_has_seats(rt: HostRuntime) {
-    let alloc = rt.alloc();
-    let posts = many_posts(&rt, alloc);
-    if posts.is_empty() || posts.len() > 256 {
-        panic!(rt; "256 posts");
-    }
-    let journal = journal_on(&rt, alloc, wide_device(&rt, alloc));
-    expect_wide(&rt, &relayed(&rt, alloc, journal, posts));
+    run_wide(&rt, rt.alloc());
 }
 
 /// Checks that a relay said that its journal is broken, and that no worker sent anything.
@@ -168,9 +177,14 @@ fn expect_nothing_taken<R: Abort, D: Disk>(rt: &R, left: &Relayed<D, MemLink, Tu
     }
 }
 
+/// Runs a relay over a broken journal.
+fn run_broken<R: Abort + Threads + Wait + Copy + Send + Sync + 'static>(rt: R, alloc: Global) {
+    let journal = broken_journal(rt, alloc);
+    expect_nothing_taken(&rt, &alone(&rt, alloc, journal, 1, 1));
+}
+
 /// A relay over a journal that is broken begins, takes nothing, and says so.
 #[test]
 fn a_relay_of_a_broken_journal_ends(rt: HostRuntime) {
-    let journal = broken_journal(rt, rt.alloc());
-    expect_nothing_taken(&rt, &alone(&rt, rt.alloc(), journal, 1, 1));
+    run_broken(rt, rt.alloc());
 }

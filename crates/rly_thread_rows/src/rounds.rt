@@ -34,15 +34,23 @@ fn questions_at<R: Abort + Wait, K: Desk + Drop>(rt: &R, mut desk: K, count: u64
     last
 }
 
+/// The number of the last answer to so many questions at the one seat of a flusher, which doesn't break.
+fn answered<R: Abort + Threads + Wait + Copy + Send + 'static>(
+    rt: R,
+    alloc: Global,
+    count: u64,
+) -> u64 {
+    let (seat, flusher) = one_seat(&rt, alloc, new_journal(&rt, alloc));
+    let asking = spawned(&rt, move || questions_at(&rt, seat, count));
+    let broken = served(&rt, flusher).broken;
+    expect!(rt; !broken);
+    asking.join(&rt)
+}
+
 /// A seat asks 2,100 times, and each call is put and answered under its number.
 #[test]
 fn a_seat_is_answered_on_and_on(rt: HostRuntime) {
-    let alloc = rt.alloc();
-    let (seat, flusher) = one_seat(&rt, alloc, new_journal(&rt, alloc));
-    let asking = spawned(&rt, move || questions_at(&rt, seat, MANY));
-    let finished = served(&rt, flusher);
-    expect!(rt; asking.join(&rt) == MANY);
-    expect!(rt; !finished.broken);
+    expect!(rt; answered(rt, rt.alloc(), MANY) == MANY);
 }
 
 /// So many questions, to be asked together.
@@ -166,17 +174,25 @@ fn a_round_takes_64_asks(rt: HostRuntime) {
     expect_one_round(rt, rt.alloc(), &[64]);
 }
 
+/// Lets all seats go.
+fn leave<R: Wait>(rt: &R, seats: Vec<Seat>) {
+    for seat in seats {
+        let _left = seat.leave(rt);
+    }
+}
+
+/// Whether a flusher of the widest journal broke, and the window of the journal that it leaves, once its 256 seats are let go.
+fn left_by_256<R: Abort + Wait>(rt: &R, alloc: Global) -> (bool, u64) {
+    let (seats, flusher) = flusher_on(rt, alloc, wide_device(rt, alloc), 256, 256);
+    leave(rt, seats);
+    let finished = served(rt, flusher);
+    (finished.broken, finished.journal.params().window)
+}
+
 /// A flusher is made of a journal of any size and a line of any length, and ends where no seat is left.
 #[test]
 fn a_flusher_of_the_widest_journal(rt: HostRuntime) {
-    let alloc = rt.alloc();
-    let (seats, flusher) = flusher_on(&rt, alloc, wide_device(&rt, alloc), 256, 256);
-    for seat in seats {
-        let _left = seat.leave(&rt);
-    }
-    let finished = served(&rt, flusher);
-    expect!(rt; !finished.broken);
-    expect!(rt; finished.journal.params().window == 64);
+    expect!(rt; left_by_256(&rt, rt.alloc()) == (false, 64));
 }
 
 /// How a seat's two takes were refused, if they were.
@@ -234,27 +250,29 @@ fn told_at<R: Abort + Threads + Wait + Copy + Send + 'static>(
     Some(told_in_rounds(rt, alloc, seat, &mut flusher))
 }
 
-/// A round takes a call and answers it also where the journal broke in the round before: 12 of the round that broke it, and
-/// 11 of the next. Then one more finds that no seat is left. A round has four calls of its device, and the first round is met
-/// by four of the runs.
-#[test]
-fn a_round_of_a_broken_journal_answers(rt: HostRuntime) {
+/// In how many runs the first round broke the journal, before one in which it didn't.
+fn broken_rounds<R: Abort + Threads + Wait + Copy + Send + 'static>(rt: R, alloc: Global) -> u64 {
     let mut broken = 0u64;
     for fails_at in 1..100 {
-        match told_at(rt, rt.alloc(), fails_at) {
+        match told_at(rt, alloc, fails_at) {
             None => {}
             Some((Some(first), second)) => {
                 expect!(rt; first == Refusal::Unsure);
                 expect!(rt; second == Some(Refusal::Broken));
                 broken = broken.saturating_add(1);
             }
-            Some((None, _)) => {
-                expect!(rt; broken == 4);
-                return;
-            }
+            Some((None, _)) => return broken,
         }
     }
     panic!(rt; "each run failed")
+}
+
+/// A round takes a call and answers it also where the journal broke in the round before: 12 of the round that broke it, and
+/// 11 of the next. Then one more finds that no seat is left. A round has four calls of its device, and the first round is met
+/// by four of the runs.
+#[test]
+fn a_round_of_a_broken_journal_answers(rt: HostRuntime) {
+    expect!(rt; broken_rounds(rt, rt.alloc()) == 4);
 }
 
 /// Asks for a take, whatever becomes of it.
@@ -344,16 +362,24 @@ fn told_of_the_end<R: Abort + Threads + Wait + Clock + Copy + Send + 'static>(
     told
 }
 
-/// Of two questions that wait for a flusher over a broken journal one is answered, and the other is left in the line. Its seat
-/// is told that no answers come, though the lines are kept. The flusher begins later each time, until both wait.
-#[test]
-fn a_seat_that_waits_is_told_of_the_end(rt: HostRuntime) {
+/// Begins the flusher later each time, until both wait.
+fn expect_one_lost<R: Abort + Threads + Wait + Clock + Copy + Send + 'static>(
+    rt: R,
+    alloc: Global,
+) {
     for begins_after in &[10, 20, 40, 80, 160, 320, 640, 1_280, 2_560, 5_120] {
-        match told_of_the_end(rt, rt.alloc(), *begins_after) {
+        match told_of_the_end(rt, alloc, *begins_after) {
             (Told::Broken, Told::Lost) | (Told::Lost, Told::Broken) => return,
             (Told::Broken, Told::Closed) | (Told::Closed, Told::Broken) => {}
             _ => panic!(rt; "one is answered, and the other told of the end"),
         }
     }
     panic!(rt; "in each run the second came too late")
+}
+
+/// Of two questions that wait for a flusher over a broken journal one is answered, and the other is left in the line. Its seat
+/// is told that no answers come, though the lines are kept.
+#[test]
+fn a_seat_that_waits_is_told_of_the_end(rt: HostRuntime) {
+    expect_one_lost(rt, rt.alloc());
 }

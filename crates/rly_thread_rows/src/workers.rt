@@ -3,7 +3,7 @@
 ghost use Rattle.std.specs.Prelude.{◌≤◌};
 
 use rly_core::{HopId, Params, PeerId};
-use rly_machine::{Command, Machine, Payload, Reply};
+use rly_machine::{Ask, Command, Machine, Payload, Reply};
 use rly_plan::Plan;
 use rly_post::{Link, MemLink, MemTurn};
 use rly_workers::{Ends, MemDesk};
@@ -97,18 +97,16 @@ pub(super) fn take_for<R: Abort>(
     hop: HopId,
     payload: &[u8],
 ) {
-    let command = Command::Take {
+    let take = Ask::Command(Command::Take {
         peer,
         number,
         hop,
         stamp: 0,
         limit: 0,
         payload: Payload::new(payload.to_vec(alloc).expect(rt, "memory")),
-    };
-    let Ok(room) = machine.reserve_for(alloc, &command) else {
-        panic!(rt; "memory");
-    };
-    expect!(rt; matches!(&machine.apply(command, room), Reply::Taken(_)));
+    });
+    let reply = machine.evaluate(alloc, take);
+    expect!(*rt; matches!(&reply, Ok(Reply::Taken(_))));
 }
 
 /// A link that gives a packet in those of so many receives that have these numbers, counted from 0, and nothing else. Of its
@@ -135,10 +133,8 @@ pub(super) fn link_with<R: Abort>(
 /// Checks that so many packets were sent, and that each is this one.
 pub(super) fn expect_sent<R: Abort>(rt: &R, ends: &MemEnds, count: usize, packet: &[u8]) {
     let delivered = ends.link.delivered();
-    expect!(rt; delivered.len() == count);
-    for sent in delivered {
-        expect!(rt; sent.as_slice() == packet);
-    }
+    expect!(*rt; delivered.len() == count);
+    expect!(*rt; delivered.iter().all(|sent| sent.as_slice() == packet));
 }
 
 /// Checks how many datagrams hop 1 has that wait, are in flight and were released.
@@ -159,8 +155,6 @@ pub(super) fn expect_counts_of<R: Abort>(
     hop: HopId,
     counts: (u64, u64, u64),
 ) {
-    let Reply::Shown(status) = desk.machine().ask_show(hop) else {
-        panic!(rt; "the hop is not shown");
-    };
-    expect!(rt; (status.queued, status.flight, status.released) == counts);
+    let shown = desk.machine().ask_show(hop);
+    expect!(*rt; matches!(&shown, Reply::Shown(status) if (status.queued, status.flight, status.released) == counts));
 }

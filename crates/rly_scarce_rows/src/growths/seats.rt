@@ -45,16 +45,20 @@ fn opened<R: Abort>(rt: &R, alloc: Global, disk: MemDisk) -> Journal<MemDisk> {
     Journal::open(alloc, disk).ok().expect(rt, "a journal")
 }
 
-#[test]
-fn making_a_line(rt: HostRuntime) {
-    let alloc = rt.alloc();
-    before(alloc).expect(&rt, "memory");
+/// Makes a line of two seats.
+fn expect_line<R: Abort>(rt: &R, alloc: Global) {
+    before(alloc).expect(rt, "memory");
     let made = make(alloc, 4, 2);
     let refused = was_refused(alloc);
     match made {
         Ok((seats, _line)) => expect!(rt; seats.len() == 2),
         Err(_) => expect!(rt; refused),
     }
+}
+
+#[test]
+fn making_a_line(rt: HostRuntime) {
+    expect_line(&rt, rt.alloc());
 }
 
 /// A journal takes one datagram.
@@ -92,16 +96,19 @@ fn flusher_of<R: Abort>(
     (seats, flusher)
 }
 
-/// It serves what the journal took.
+/// A flusher serves what its journal took.
+fn serve_one<R: Abort + Wait>(rt: &R, alloc: Global) {
+    let mut journal = new_journal(rt, alloc);
+    take_one(rt, alloc, &mut journal);
+    let (seats, flusher) = flusher_of(rt, alloc, journal);
+    drop(seats);
+    let finished = flusher.serve(rt);
+    expect!(rt; !finished.broken && finished.journal.position() == 1);
+}
+
 #[test]
 fn a_new_flusher(rt: HostRuntime) {
-    let alloc = rt.alloc();
-    let mut journal = new_journal(&rt, alloc);
-    take_one(&rt, alloc, &mut journal);
-    let (seats, flusher) = flusher_of(&rt, alloc, journal);
-    drop(seats);
-    let finished = flusher.serve(&rt);
-    expect!(rt; !finished.broken && finished.journal.position() == 1);
+    serve_one(&rt, rt.alloc());
 }
 
 /// What a seat was told of its takes, up to the first that had no answer.
@@ -127,11 +134,38 @@ fn take<R: Abort>(rt: &R, alloc: Global, peer: u16) -> Ask {
     })
 }
 
+/// The takes of three peers.
+fn three_takes<R: Abort>(rt: &R, alloc: Global) -> Vec<Ask> {
+    let mut asks = Vec::new(alloc);
+    for peer in 1..=3 {
+        asks.push(take(rt, alloc, peer)).expect(rt, "memory");
+    }
+    asks
+}
+
+/// Asks, and counts the answer. Says whether there was one.
+fn is_answered<R: Abort + Wait>(rt: &R, seat: &mut Seat, heard: &mut Heard, ask: Ask) -> bool {
+    match seat.call(rt, ask) {
+        Ok(answer) => {
+            hear(rt, heard, &answer.reply);
+            true
+        }
+        Err(_) => false,
+    }
+}
+
+/// Asks these one after the other, up to the first that has no answer.
+fn ask_all<R: Abort + Wait>(rt: &R, seat: &mut Seat, heard: &mut Heard, asks: Vec<Ask>) {
+    for ask in asks {
+        if !is_answered(rt, seat, heard, ask) {
+            break;
+        }
+    }
+}
+
 /// Asks for a take of each of three peers, between the marks.
 fn ask_three<R: Abort + Wait>(rt: &R, alloc: Global, mut seat: Seat) -> Heard {
-    let asks = vec![in alloc; take(rt, alloc, 1), take(rt, alloc, 2), take(rt, alloc, 3)]
-        .ok()
-        .expect(rt, "memory");
+    let asks = three_takes(rt, alloc);
     let mut heard = Heard {
         taken: 0,
         starved: 0,
@@ -139,12 +173,7 @@ fn ask_three<R: Abort + Wait>(rt: &R, alloc: Global, mut seat: Seat) -> Heard {
         refused: false,
     };
     before(alloc).expect(rt, "memory");
-    for ask in asks {
-        match seat.call(rt, ask) {
-            Ok(answer) => hear(rt, &mut heard, &answer.reply),
-            Err(_) => break,
-        }
-    }
+    ask_all(rt, &mut seat, &mut heard, asks);
     heard.refused = was_refused(alloc);
     heard
 }
@@ -174,16 +203,22 @@ fn expect_heard<R: Abort>(rt: &R, alloc: Global, heard: &Heard, journal: Journal
     expect!(rt; more == 0 || broken && more == 1);
 }
 
+/// A seat, and the flusher of a new journal that answers it.
+fn seat_of_flusher<R: Abort>(rt: &R, alloc: Global) -> (Seat, Flusher<MemDisk>) {
+    let (mut seats, line) = make(alloc, 4, 1).expect(rt, "a line");
+    let seat = seats.pop().expect(rt, "a seat");
+    let flusher = Flusher::new(alloc, new_journal(rt, alloc), line)
+        .ok()
+        .expect(rt, "a flusher");
+    (seat, flusher)
+}
+
 /// A seat in a thread of its own is told of each take that it was taken, or that memory was refused, and these weren't. Where
 /// the disk in memory couldn't grow it is told unsure, and nothing after that: that take stands or not.
 #[test]
 fn calls_of_a_seat(rt: HostRuntime) {
     let alloc = rt.alloc();
-    let (mut seats, line) = make(alloc, 4, 1).expect(&rt, "a line");
-    let seat = seats.pop().expect(&rt, "a seat");
-    let flusher = Flusher::new(alloc, new_journal(&rt, alloc), line)
-        .ok()
-        .expect(&rt, "a flusher");
+    let (seat, flusher) = seat_of_flusher(&rt, alloc);
     let asking = thread::spawn(&rt, move || ask_three(&rt, alloc, seat))
         .ok()
         .expect(&rt, "a thread");
