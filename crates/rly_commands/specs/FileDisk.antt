@@ -1,6 +1,7 @@
 -- What contracts see of a disk over a file.
-use Rattle.std.specs.Prelude.{◌≤◌, [], Option, Some, None}
+use Rattle.std.specs.Prelude.{◌≤◌, ℕ, [], Option, Some, None, Result, Ok, Err}
 use Rattle.std.specs.IoError.{error_kind}
+use Rattle.std.specs.declared.io.Error.{Error}
 use Rattle.rly_disk.specs.DiskModel.{Consistent, DiskState}
 use Rattle.rly_station.specs.Faults.{part_of}
 use Rattle.rly_station.specs.declared.file_fault.FileFault.{FileFault}
@@ -30,6 +31,17 @@ fault_of (Some word) = Some (record { part = part_of (error_kind word.0); word =
 -- the fault of the first of its calls that failed
 abbrev pub first_fault : FileDisk → Option FileFault
 first_fault disk = fault_of disk.word
+
+-- the word that is kept after a call: the system's for the first that failed
+abbrev pub kept_word : {A : Type 0} → Option SystemWord → Result A Error → Option SystemWord
+kept_word (Some word) outcome = Some word
+kept_word None (Err error) = Some (record { 0 = error })
+kept_word None (Ok done) = None
+
+-- how many of one call failed
+abbrev pub one_if_failed : {A : Type 0} → Result A Error → ℕ
+one_if_failed (Ok done) = 0
+one_if_failed (Err error) = 1
 
 pub file_consistent : (disk : FileDisk) → ⊥ → Consistent (file_state disk)
 file_consistent disk honest = absurd honest

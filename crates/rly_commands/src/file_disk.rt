@@ -1,5 +1,4 @@
-ghost use Rattle.std.specs.Prelude.{◌≡◌, ◌≤◌, IfOk, OnOk};
-ghost use Rattle.rly_commands.specs.FileDisk.{file_state, first_fault};
+ghost use Rattle.std.specs.Prelude.{◌≡◌, ◌≤◌, ◌+◌, ◌↔◌, None, IfOk, OnOk};
 
 use rly_disk::{Counts, Disk, DiskFault};
 use rly_station::{FileFault, SystemWord};
@@ -22,9 +21,12 @@ pub struct FileDisk {
     counts: Counts,
     /// What the system said of the first call that failed.
     word: Option<SystemWord>,
+    ghost word_is_told: { (word ≡ None) ↔ (counts.failures ≡ 0) },
 }
 
 impl FileDisk {
+    ghost use Rattle.rly_commands.specs.FileDisk.{file_state, first_fault, kept_word, one_if_failed};
+
     /// Opens the device in a file. What an earlier process wrote is made durable first, or the answer is an error; and what
     /// is read from then on is what the disk has, not what the system kept in memory.
     pub fn open<H: Files<File = File>>(files: &H, path: &str) -> Result<FileDisk, FileFault>
@@ -60,15 +62,20 @@ impl FileDisk {
 
     /// What the system said of the first of its calls that failed.
     pub fn fault(&self) -> Option<FileFault>
-        ensures { result ≡ first_fault self.now }
+        ensures first { result ≡ first_fault self.now }
+        ensures told { (result ≡ None) ↔ ((file_state self.now).failures ≡ 0) }
     {
         Some(FileFault::from(self.word?.0))
     }
 
-    /// Keeps what the system says of the first call that fails.
-    fn note<T>(&mut self, outcome: &io::Result<T>)
-        ensures { self.new ≡ record self.old { word = self.new.word } }
+    /// Keeps the counts after a call, and what the system says of it if it is the first that failed.
+    fn note(&mut self, counts: Counts, outcome: &io::Result<()>)
+        requires { counts.failures ≡ self.old.counts.failures + one_if_failed outcome.now }
+        ensures word { self.new.word ≡ kept_word self.old.word outcome.now }
+        ensures counts { self.new.counts ≡ counts }
+        ensures size { self.new.size ≡ self.old.size }
     {
+        self.counts = counts;
         if let (None, Err(error)) = (&self.word, outcome) {
             self.word = Some(SystemWord(*error));
         }
@@ -77,7 +84,7 @@ impl FileDisk {
 
 /// Makes a file, so that it is there after a crash.
 fn created<H: Files<File = File>>(files: &H, path: &str) -> Result<FileDisk, FileFault>
-    ensures calls { IfOk result (λ disk. (file_state disk).calls ≡ 0) }
+    ensures calls { IfOk result (λ disk. disk.counts.calls ≡ 0) }
 {
     let file = OpenOptions::new()
         .read(true)
@@ -101,7 +108,7 @@ fn folder_of(path: &str) -> &str {
 /// Locks an open file, makes its bytes durable, has the system forget what it keeps of them in memory, and finds its size. After
 /// a sync that failed the system may show bytes that the disk doesn't have, and a later sync may succeed over them.
 fn settled(file: File) -> Result<FileDisk, FileFault>
-    ensures calls { IfOk result (λ disk. (file_state disk).calls ≡ 0) }
+    ensures calls { IfOk result (λ disk. disk.counts.calls ≡ 0) }
 {
     // Where a standard stream is closed, the file was opened under its number, and what is meant for that stream would go into
     // the device. A clone never has such a number.
@@ -156,8 +163,9 @@ impl Disk for FileDisk {
             return Err(DiskFault);
         }
         let outcome = self.file.read_exact_at(buffer, place);
-        self.note(&outcome);
-        self.counts.count_read(outcome.is_err());
+        let mut counts = self.counts;
+        counts.count_read(outcome.is_err());
+        self.note(counts, &outcome);
         outcome.map_err(|_| DiskFault)
     }
 
@@ -166,8 +174,9 @@ impl Disk for FileDisk {
             return Err(DiskFault);
         }
         let outcome = self.file.write_all_at(bytes, place);
-        self.note(&outcome);
-        self.counts.count_write(outcome.is_err());
+        let mut counts = self.counts;
+        counts.count_write(outcome.is_err());
+        self.note(counts, &outcome);
         outcome.map_err(|_| DiskFault)
     }
 
@@ -176,8 +185,9 @@ impl Disk for FileDisk {
             return Err(DiskFault);
         }
         let outcome = self.file.sync_data();
-        self.note(&outcome);
-        self.counts.count_sync(outcome.is_err());
+        let mut counts = self.counts;
+        counts.count_sync(outcome.is_err());
+        self.note(counts, &outcome);
         outcome.map_err(|_| DiskFault)
     }
 

@@ -3,8 +3,8 @@
 //!
 //! Nothing is proved of what a real socket or clock does. What a run shows is tested by runs, in
 //! the repository's folder `tests`. The crate has no code but tests, so no crate may call it.
-//! With these tests the functions of `rly_daemon` would be proved a second time, so they stand
-//! here.
+//! With these tests the functions of `rly_station` and `rly_commands` would be proved a second
+//! time, so they stand here.
 #![tactic(auto)]
 
 /// As `assert!`, by one call: the prover then sees one way on where `assert!` has two. `assert!` stands where a later call needs

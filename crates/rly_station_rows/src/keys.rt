@@ -1,6 +1,6 @@
 //! New keys of a given source.
 
-use rly_daemon::{NewKeyFault, write_key};
+use rly_commands::{NewKeyFault, write_key};
 use std::io;
 use std::io::{Error, ErrorKind};
 use std::process::Abort;

@@ -1,13 +1,18 @@
 //! A link over loopback, and the wall clock.
 
 use rly_core::PeerId;
-use rly_daemon::{End, Host, UdpLink, WallClock};
 use rly_plan::Plan;
 use rly_post::{Link, MAX_PACKET, Point, Turn, Worker};
-use std::net::UdpSocket;
+use rly_station::{End, UdpLink, WallClock};
+use std::net::{Net, UdpSocket};
 use std::process::Abort;
 use std::sync::Wait;
 use std::time::{Clock, Duration};
+
+/// What these tests need of the runtime, beside that they end the process where one fails.
+trait Host: AllocGlobal + Net + Clock + Wait {}
+
+impl<H: AllocGlobal + Net + Clock + Wait> Host for H {}
 
 /// A plan whose links have these addresses.
 fn plan_of(rt: &(impl Abort + AllocGlobal), listen: &str, remote: &str) -> Plan {
@@ -250,7 +255,7 @@ fn is_from(first: u128, moment: u64, last: u128) -> bool {
 
 /// The moments at a point are the system's, in microseconds. At the next point they are the same, if it reads no clock.
 fn expect_moments(
-    rt: &(impl Abort + Host + Wait),
+    rt: &(impl Abort + Host),
     turn: &mut WallClock<HostRuntime>,
     point: Point,
     next: Point,
@@ -266,7 +271,7 @@ fn expect_moments(
 }
 
 /// Checks the turns of a clock that ends its worker, and the moments that it hands out.
-fn expect_ended(rt: &(impl Abort + Host + Wait), clock: HostRuntime) {
+fn expect_ended(rt: &(impl Abort + Host), clock: HostRuntime) {
     let worker = Worker::Receiver(PeerId(1));
     let mut turn = WallClock::new(clock, 3);
     for on in [true, true, true, false, false] {
@@ -283,7 +288,7 @@ fn a_wall_clock_ends_its_worker(rt: HostRuntime) {
 }
 
 /// Checks that a clock without a number of turns goes on.
-fn expect_endless(rt: &(impl Abort + Host + Wait), clock: HostRuntime) {
+fn expect_endless(rt: &(impl Abort + Host), clock: HostRuntime) {
     let worker = Worker::Receiver(PeerId(1));
     let mut endless = WallClock::new(clock, 0);
     for _turn in 0..100 {

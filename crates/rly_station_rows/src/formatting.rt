@@ -1,11 +1,12 @@
 //! When a disk in memory is free to be formatted.
 
+use rly_commands::{UseFault, unused};
 use rly_core::{Geometry, Params};
-use rly_daemon::{UseFault, play, unused};
 use rly_disk::MemDisk;
 use rly_journal::Journal;
 use rly_reclaim::least_length;
 use rly_segment::format;
+use rly_text::play;
 use std::process::Abort;
 
 /// One hop and one peer, 16 items and 4,096 bytes on two segments.
