@@ -5,3 +5,4 @@ pub mod PassLemmas
 pub mod DraftLemmas
 pub mod BlankTexts
 pub mod SoundPlans
+pub mod PlaceTests

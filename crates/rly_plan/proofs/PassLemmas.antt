@@ -1,24 +1,22 @@
 -- The passes over the numbers of a plan, and what they leave for the plan to be made of.
-use Rattle.std.proofs.Common.{◌≡◌, ℕ, zero, suc, ◌+◌, ◌-◌, ◌<◌, ◌≤◌, ◌==◌, nat_le, ℤ, pos, negsuc, Bool, true, false, ◌&&◌, ◌||◌, List, [], ◌∷◌, map, length, drop, take, get_or, set, Some, None, cond, inl, inr, get_or-set_same, get_or-set_other, refl, ◌∙◌, sym, arith, leb-true, le-leb, eq-eqb}
+use Rattle.std.proofs.Common.{◌≡◌, ℕ, zero, suc, ◌+◌, ◌-◌, ◌<◌, ◌≤◌, ◌==◌, nat_le, ℤ, pos, negsuc, Bool, true, false, ◌&&◌, ◌||◌, List, [], ◌∷◌, map, length, drop, take, get_or, set, Option, Some, None, Result, Ok, Err, option_map, cond, not, if◌then◌else◌, inl, inr, get_or-set_same, get_or-set_other, refl, ◌∙◌, sym, ap, arith, leb-true, eq-eqb}
 use Rattle.std.specs.List.{list_all, list_any}
+use Rattle.std.specs.Option.{option_or}
 use Rattle.std.proofs.lemmas.Bool.{and_parts, cases_eq, ne_eqb, false≢true}
-use Rattle.std.proofs.lemmas.List.{drop_more}
+use Rattle.std.proofs.lemmas.List.{drop_all, drop_more}
 use Rattle.rly_core.specs.declared.limits.TheConstants.{MAX_CONTACTS, MAX_HOPS, MAX_PEERS, MOMENT_LIMIT}
 use Rattle.rly_plan.specs.declared.draft.ContactDraft.{ContactDraft}
+use Rattle.rly_plan.specs.declared.place.Place.{Place}
+use Rattle.rly_plan.specs.declared.place.Place.TheVariants.{In}
+use Rattle.rly_plan.specs.declared.place.Row.{Row}
+use Rattle.rly_plan.specs.declared.place.Spot.{Spot}
+use Rattle.rly_plan.specs.declared.place.Spot.TheVariants.{Contact}
+use Rattle.rly_core.specs.declared.refusal.Refusal.TheVariants.{Range}
+use Rattle.rly_plan.specs.ContactPlan.{ContactPlan}
 use Rattle.rly_plan.specs.HelpersContacts.{last_end}
 use Rattle.rly_plan.specs.Draft.{HopText, PlanText}
-use Rattle.rly_plan.specs.Places.{first_adjacent, first_repeat}
-use Rattle.rly_plan.specs.Passes.{all_numbered, hop_in_range, is_in_range, is_station, neighbour_in_range, rate_in_range, resend_in_range, route_in_range, rows_in_range, is_between, number, contact_in_range, all_adjacent, are_apart, repeats, contact_from}
-
--- two more neighbours
-pub adjacent_more : {A : Type 0} (test : A → A → Bool) (xs : List A) (i : ℕ) (d e : A) → 0 < i → i < length xs
-    → all_adjacent test (drop (i - 1) xs) ≡ (test (get_or xs (i - 1) d) (get_or xs i e) && all_adjacent test (drop i xs))
-adjacent_more test xs zero d e some within = absurd (omega arith)
-adjacent_more test xs (suc i) d e some within =
-    let less : suc i - 1 ≡ i = omega arith in
-    let first : i < length xs = omega arith in
-    let more : suc i ≡ i + 1 = omega arith in
-    rw (less, drop_more xs i d first, ← more, drop_more xs (suc i) e within)
+use Rattle.rly_plan.specs.Places.{first_adjacent, first_repeat, first_row, unless}
+use Rattle.rly_plan.specs.Passes.{all_numbered, hop_in_range, is_in_range, is_station, neighbour_in_range, plan_of_draft, rate_in_range, resend_in_range, route_in_range, rows_in_range, is_between, number, contact_in_range, all_adjacent, are_apart, repeats, contact_from}
 
 abbrev pub none_of : (A : Type 0) → List A
 none_of A = []
@@ -26,17 +24,6 @@ none_of A = []
 drop_of_none : {A : Type 0} (k : ℕ) → drop k (none_of A) ≡ []
 drop_of_none zero = refl
 drop_of_none (suc k) = refl
-
--- the last has no neighbour after it
-adjacent_end : {A : Type 0} (test : A → A → Bool) (xs : List A) (k : ℕ) → length xs ≤ k + 1 → all_adjacent test (drop k xs) ≡ true
-adjacent_end {A} test [] k past = rw (drop_of_none {A = A} k)
-adjacent_end {A} test (x ∷ []) zero past = refl
-adjacent_end {A} test (x ∷ []) (suc k) past = rw (drop_of_none {A = A} k)
-adjacent_end {A} test (x ∷ y ∷ xs) zero past = absurd (omega arith)
-adjacent_end {A} test (x ∷ y ∷ xs) (suc k) past = adjacent_end test (y ∷ xs) k (omega arith)
-
-pub adjacent_last : {A : Type 0} (test : A → A → Bool) (xs : List A) (i : ℕ) → length xs ≤ i → all_adjacent test (drop (i - 1) xs) ≡ true
-adjacent_last test xs i past = adjacent_end test xs (i - 1) (omega arith)
 
 -- the last has no neighbour after it whose place would be told
 none_adjacent : (test : ContactDraft → ContactDraft → Bool) (n : ℕ) (xs : List ContactDraft) (k : ℕ) → length xs ≤ k + 1 → first_adjacent test n (drop k xs) ≡ None
@@ -48,6 +35,58 @@ none_adjacent test n (x ∷ y ∷ xs) (suc k) past = none_adjacent test n (y ∷
 
 pub none_adjacent_last : (test : ContactDraft → ContactDraft → Bool) (n : ℕ) (xs : List ContactDraft) (i : ℕ) → length xs ≤ i → first_adjacent test n (drop (i - 1) xs) ≡ None
 none_adjacent_last test n xs i past = none_adjacent test n xs (i - 1) (omega arith)
+
+-- the rows from one on
+from_row : {A : Type 0} (fault : ℕ → A → Option Spot) (row : Row) (xs : List A) (i : ℕ) (x : A) (found : Option Spot) → i < length xs → x ≡ get_or xs i x → found ≡ fault (i + 1) x
+    → first_row fault row (i + 1) (drop i xs) ≡ option_or (option_map (In row (i + 1)) found) (first_row fault row (i + 1 + 1) (drop (i + 1) xs))
+from_row fault row xs i x found within is tells =
+    ap (first_row fault row (i + 1)) (drop_more xs i x within)
+    ∙ ap (λ y. first_row fault row (i + 1) (y ∷ drop (i + 1) xs)) (sym is)
+    ∙ ap (λ o. option_or (option_map (In row (i + 1)) o) (first_row fault row (i + 1 + 1) (drop (i + 1) xs))) (sym tells)
+
+-- a row that tells of no fault leaves the answer to those after it
+pub row_passed : {A : Type 0} (fault : ℕ → A → Option Spot) (row : Row) (xs : List A) (i : ℕ) (x : A) (found : Option Spot) (all : Option Place)
+    → i < length xs → x ≡ get_or xs i x → found ≡ fault (i + 1) x → found ≡ None
+    → first_row fault row (i + 1) (drop i xs) ≡ all → first_row fault row (i + 1 + 1) (drop (i + 1) xs) ≡ all
+row_passed fault row xs i x found all within is tells none before =
+    sym (from_row fault row xs i x found within is tells ∙ ap (λ o. option_or (option_map (In row (i + 1)) o) (first_row fault row (i + 1 + 1) (drop (i + 1) xs))) none) ∙ before
+
+-- and one that tells of a fault is the answer
+pub row_found : {A : Type 0} (fault : ℕ → A → Option Spot) (row : Row) (xs : List A) (i : ℕ) (x : A) (found : Option Spot) (spot : Spot) (all : Option Place)
+    → i < length xs → x ≡ get_or xs i x → found ≡ fault (i + 1) x → found ≡ Some spot
+    → first_row fault row (i + 1) (drop i xs) ≡ all → Some (In row (i + 1) spot) ≡ all
+row_found fault row xs i x found spot all within is tells some before =
+    sym (from_row fault row xs i x found within is tells ∙ ap (λ o. option_or (option_map (In row (i + 1)) o) (first_row fault row (i + 1 + 1) (drop (i + 1) xs))) some) ∙ before
+
+pub rows_passed : {A : Type 0} (fault : ℕ → A → Option Spot) (row : Row) (xs : List A) (i : ℕ) (all : Option Place) → length xs ≤ i
+    → first_row fault row (i + 1) (drop i xs) ≡ all → None ≡ all
+rows_passed fault row xs i all past before = sym (ap (first_row fault row (i + 1)) (drop_all i xs past)) ∙ before
+
+-- two more neighbours
+from_adjacent : (test : ContactDraft → ContactDraft → Bool) (n : ℕ) (xs : List ContactDraft) (i : ℕ) (d e : ContactDraft) → 0 < i → i < length xs
+    → first_adjacent test n (drop (i - 1) xs) ≡ option_or (unless (test (get_or xs (i - 1) d) (get_or xs i e)) (Contact (n + 1))) (first_adjacent test (n + 1) (drop i xs))
+from_adjacent test n xs zero d e some within = absurd (omega arith)
+from_adjacent test n xs (suc i) d e some within =
+    let less : suc i - 1 ≡ i = omega arith in
+    let first : i < length xs = omega arith in
+    let more : suc i ≡ i + 1 = omega arith in
+    rw (less, drop_more xs i d first, ← more, drop_more xs (suc i) e within)
+
+pub adjacent_passed : (test : ContactDraft → ContactDraft → Bool) (xs : List ContactDraft) (i : ℕ) (d e : ContactDraft) (all : Option Spot) → 0 < i → i < length xs
+    → test (get_or xs (i - 1) d) (get_or xs i e) ≡ true → first_adjacent test i (drop (i - 1) xs) ≡ all → first_adjacent test (i + 1) (drop (i + 1 - 1) xs) ≡ all
+adjacent_passed test xs i d e all some within pass same =
+    let less : i + 1 - 1 ≡ i = omega arith in
+    rw (less, ← same, from_adjacent test i xs i d e some within, pass)
+
+-- a row of another number leaves the answer to those after it
+pub other_row : {A : Type 0} (f : A → ℕ) (n : ℕ) (xs : List A) (i : ℕ) (x : A) (found : ℕ) (all : Bool) → i < length xs → x ≡ get_or xs i x → found ≡ f x → (found ≡ n → ⊥)
+    → list_any (λ m. m == n) (map f (drop i xs)) ≡ all → list_any (λ m. m == n) (map f (drop (i + 1) xs)) ≡ all
+other_row f n xs i x found all within is tells other before =
+    let rest = list_any (λ m. m == n) (map f (drop (i + 1) xs)) in
+    sym (ap (λ ys. list_any (λ m. m == n) (map f ys)) (drop_more xs i x within)
+    ∙ ap (λ y. list_any (λ m. m == n) (map f (y ∷ drop (i + 1) xs))) (sym is)
+    ∙ ap (λ m. (m == n) || rest) (sym tells) ∙ ap (λ b. b || rest) (ne_eqb found n other))
+    ∙ before
 
 -- what lies between two numbers
 pub between_bounds : (least most : ℕ) (z : ℤ) → is_between least most z ≡ true → (least ≤ number z) × (number z ≤ most)
@@ -111,20 +150,6 @@ pub marked_more : (seen : List Bool) (x : ℕ) (ys : List ℕ) → x < length se
     → (list_any (is_marked (set seen x true)) ys || repeats ys) ≡ (list_any (is_marked seen) ys || (list_any (λ y. y == x) ys || repeats ys))
 marked_more seen x ys within = rw (marked_any seen x ys within) (or_assoc (list_any (is_marked seen) ys) (list_any (λ y. y == x) ys) (repeats ys))
 
--- where two neighbours pass, the answer is that of those after the first
-adjacent_passed : {A : Type 0} (test : A → A → Bool) (xs : List A) (i : ℕ) (d e : A) → 0 < i → i < length xs → test (get_or xs (i - 1) d) (get_or xs i e) ≡ true
-    → all_adjacent test (drop (i - 1) xs) ≡ all_adjacent test xs → all_adjacent test (drop (i + 1 - 1) xs) ≡ all_adjacent test xs
-adjacent_passed test xs i d e some within pass same =
-    let less : i + 1 - 1 ≡ i = omega arith in
-    rw (less, ← same, adjacent_more test xs i d e some within, pass)
-
--- the same of contacts, each of which begins no earlier than f of the one before it
-pub contacts_passed : (f : ContactDraft → ℤ) (xs : List ContactDraft) (i a b : ℕ) (d e : ContactDraft) → 0 < i → i < length xs → a ≡ number (get_or xs i e).begin → b ≡ number (f (get_or xs (i - 1) d)) → b ≤ a
-    → all_adjacent (λ x y. nat_le (number (f x)) (number y.begin)) (drop (i - 1) xs) ≡ all_adjacent (λ x y. nat_le (number (f x)) (number y.begin)) xs
-    → all_adjacent (λ x y. nat_le (number (f x)) (number y.begin)) (drop (i + 1 - 1) xs) ≡ all_adjacent (λ x y. nat_le (number (f x)) (number y.begin)) xs
-contacts_passed f xs i a b d e some within here front order same =
-    adjacent_passed _ xs i d e some within (le-leb _ _ (omega (arith, here, front))) same
-
 -- ---- what is there twice
 
 any_unset : (seen : List Bool) (xs : List ℕ) → ((n : ℕ) → is_marked seen n ≡ false) → list_any (is_marked seen) xs ≡ false
@@ -184,3 +209,11 @@ contacts_in_range d ranged =
     let hops = and_parts (rows_in_range hop_in_range MAX_HOPS d.hops) (list_all route_in_range d.routes) peers.1 in
     let rows = and_parts (nat_le 1 (length d.hops) && nat_le (length d.hops) MAX_HOPS) (all_numbered hop_in_range 1 d.hops) hops.0 in
     numbered_contacts 1 d.hops rows.1
+
+-- what is a plan is in range
+unless_met : {A E : Type 0} (a : Bool) (fault : E) (rest : Result A E) (found : A) → (if not a then Err fault else rest) ≡ Ok found → a ≡ true
+unless_met true fault rest found is = refl
+unless_met false fault rest found is = absurd cc
+
+pub ranged_first : (d : PlanText) (plan : ContactPlan) → plan_of_draft (Some d) ≡ Ok plan → is_in_range d ≡ true
+ranged_first d plan is = unless_met (is_in_range d) Range _ plan is

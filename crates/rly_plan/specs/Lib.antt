@@ -1,6 +1,7 @@
 pub mod LinkClock
 pub mod Changes
 pub mod HelpersContacts
+pub mod HelpersDraft
 pub mod Endpoints
 pub mod ContactPlan
 pub mod Keys

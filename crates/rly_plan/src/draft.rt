@@ -1,7 +1,8 @@
 ghost use Rattle.std.specs.Prelude.{◌≡◌, ◌≢◌, None, codes, IfOk, OnErr, option_copied, option_map};
 ghost use Rattle.toml.specs.View.{array_view, table_view, view};
 ghost use Rattle.toml.specs.Data.{get_member};
-ghost use Rattle.rly_plan.specs.Draft.{contact_draft_of, draft_of, each_item, integer_at, items_at, key_at, neighbour_of, rate_at, resend_at, routes_at, text_at};
+ghost use Rattle.rly_plan.specs.Draft.{contact_draft_of, draft_of, each_item, hop_in, integer_at, items_at, key_at, neighbour_of, rate_at, resend_at, routes_at, text_at};
+ghost use Rattle.rly_plan.specs.HelpersDraft.{contact_between, link_in, link_text, neighbour_text};
 
 use crate::contacts::Contact;
 use crate::neighbour::{Addresses, KeyFile};
@@ -13,7 +14,7 @@ use toml::value::Array;
 use toml::{Table, Value};
 
 /// A `[[peer]]` table, or that part of a `[[hop]]` table.
-#[derive(Debug, Drop)]
+#[derive(Drop)]
 pub(crate) struct NeighbourDraft {
     pub id: i64,
     pub station: i64,
@@ -22,7 +23,7 @@ pub(crate) struct NeighbourDraft {
 }
 
 /// A contact as the text writes it.
-#[derive(Clone, Copy, Debug)]
+#[derive(Clone, Copy)]
 pub(crate) struct ContactDraft {
     pub begin: i64,
     pub end: i64,
@@ -44,7 +45,7 @@ impl ContactDraft {
 }
 
 /// A `[[hop]]` table.
-#[derive(Debug, Drop)]
+#[derive(Drop)]
 pub(crate) struct HopDraft {
     pub neighbour: NeighbourDraft,
     pub resend: i64,
@@ -61,7 +62,7 @@ impl Model for HopDraft {
 }
 
 /// A `[[route]]` table.
-#[derive(Clone, Copy, Debug)]
+#[derive(Clone, Copy)]
 pub(crate) struct RouteDraft {
     pub destination: i64,
     pub hop: i64,
@@ -69,7 +70,7 @@ pub(crate) struct RouteDraft {
 
 /// A plan whose keys are all there with values of their types, and whose numbers are yet to be
 /// judged.
-#[derive(Debug, Drop)]
+#[derive(Drop)]
 pub(crate) struct PlanDraft {
     pub station: i64,
     pub peers: Vec<NeighbourDraft>,
@@ -112,13 +113,26 @@ impl Item for ContactDraft {
 pub(crate) fn read_contact(value: &Value) -> Option<ContactDraft>
     ensures { result ≡ contact_draft_of (view value.now) }
 {
-    let pair = value.as_array()?;
+    let Some(pair) = value.as_array() else {
+        return None;
+    };
     if pair.len() != 2 {
         return None;
     }
-    let begin = pair[0].as_integer()?;
-    let end = pair[1].as_integer()?;
-    Some(ContactDraft { begin, end })
+    contact_between(&pair[0], &pair[1])
+}
+
+/// The contact from one value to another: `None` where one of them is no whole number.
+fn contact_between(begin: &Value, end: &Value) -> Option<ContactDraft>
+    ensures { result ≡ contact_between (view begin.now) (view end.now) }
+{
+    let Some(begin) = begin.as_integer() else {
+        return None;
+    };
+    match end.as_integer() {
+        Some(end) => Some(ContactDraft { begin, end }),
+        None => None,
+    }
 }
 
 impl Item for NeighbourDraft {
@@ -140,27 +154,61 @@ impl Item for HopDraft {
     ghost shape = { hop_draft_of };
 
     fn read(alloc: Global, value: &Value) -> Result<Option<HopDraft>, AllocError> {
-        let Some(table) = value.as_table() else {
-            return Ok(None);
-        };
-        let Some(neighbour) = read_neighbour(alloc, table)? else {
-            return Ok(None);
-        };
-        let Some(resend) = read_resend(table) else {
-            return Ok(None);
-        };
-        let Some(rate) = read_rate(table) else {
-            return Ok(None);
-        };
-        let Some(contacts) = read_items::<ContactDraft>(alloc, value_at(table, "contacts"))? else {
-            return Ok(None);
-        };
-        Ok(Some(HopDraft {
-            neighbour,
+        match value.as_table() {
+            Some(table) => read_hop(alloc, table),
+            None => Ok(None),
+        }
+    }
+}
+
+fn read_hop(alloc: Global, table: &Table) -> Result<Option<HopDraft>, AllocError>
+    ensures { IfOk result (λ found. found ≡ hop_in (table_view table.now)) }
+{
+    let Some(neighbour) = read_neighbour(alloc, table)? else {
+        return Ok(None);
+    };
+    match read_link(alloc, table)? {
+        Some(link) => {
+            let LinkDraft {
+                resend,
+                rate,
+                contacts,
+            } = link;
+            Ok(Some(HopDraft {
+                neighbour,
+                resend,
+                rate,
+                contacts,
+            }))
+        }
+        None => Ok(None),
+    }
+}
+
+/// What a `[[hop]]` table says beside its neighbour.
+#[derive(Drop)]
+struct LinkDraft {
+    resend: i64,
+    rate: Option<i64>,
+    contacts: Vec<ContactDraft>,
+}
+
+fn read_link(alloc: Global, table: &Table) -> Result<Option<LinkDraft>, AllocError>
+    ensures { IfOk result (λ found. option_map (λ l. link_text l.resend l.rate l.contacts.items) found ≡ link_in (table_view table.now)) }
+{
+    let Some(resend) = read_resend(table) else {
+        return Ok(None);
+    };
+    let Some(rate) = read_rate(table) else {
+        return Ok(None);
+    };
+    match read_items::<ContactDraft>(alloc, value_at(table, "contacts"))? {
+        Some(contacts) => Ok(Some(LinkDraft {
             resend,
             rate,
             contacts,
-        }))
+        })),
+        None => Ok(None),
     }
 }
 
@@ -252,7 +300,10 @@ pub(crate) fn read_rate(table: &Table) -> Option<Option<i64>>
     ensures { result ≡ rate_at (get_member (codes "rate") (table_view table.now)) }
 {
     match value_at(table, "rate") {
-        Some(value) => Some(Some(value.as_integer()?)),
+        Some(value) => match value.as_integer() {
+            Some(rate) => Some(Some(rate)),
+            None => None,
+        },
         None => Some(None),
     }
 }
@@ -260,29 +311,64 @@ pub(crate) fn read_rate(table: &Table) -> Option<Option<i64>>
 fn read_neighbour(alloc: Global, table: &Table) -> Result<Option<NeighbourDraft>, AllocError>
     ensures { IfOk result (λ found. found ≡ neighbour_of (table_view table.now)) }
 {
+    match read_parts(table) {
+        Some(parts) => Ok(Some(copied(alloc, parts)?)),
+        None => Ok(None),
+    }
+}
+
+/// What a table says of a neighbour.
+struct Parts<'a> {
+    id: i64,
+    station: i64,
+    listen: &'a str,
+    remote: &'a str,
+    path: Option<&'a str>,
+}
+
+fn read_parts(table: &Table) -> Option<Parts>
+    ensures { option_map (λ p. neighbour_text p.id p.station p.listen.now p.remote.now (option_copied p.path)) result ≡ neighbour_of (table_view table.now) }
+{
     let Some(id) = integer(table, "id") else {
-        return Ok(None);
+        return None;
     };
     let Some(station) = integer(table, "station") else {
-        return Ok(None);
+        return None;
     };
     let Some(listen) = text(table, "listen") else {
-        return Ok(None);
+        return None;
     };
     let Some(remote) = text(table, "remote") else {
-        return Ok(None);
+        return None;
     };
-    let Some(path) = read_key(table) else {
-        return Ok(None);
-    };
-    let addresses = Addresses::copy(alloc, listen, remote)?;
-    let key = key_file(alloc, path)?;
-    Ok(Some(NeighbourDraft {
+    match read_key(table) {
+        Some(path) => Some(Parts {
+            id,
+            station,
+            listen,
+            remote,
+            path,
+        }),
+        None => None,
+    }
+}
+
+fn copied(alloc: Global, parts: Parts) -> Result<NeighbourDraft, AllocError>
+    ensures { IfOk result (λ n. n ≡ neighbour_text parts.entry.id parts.entry.station parts.entry.listen.now parts.entry.remote.now (option_copied parts.entry.path)) }
+{
+    let Parts {
         id,
         station,
-        addresses,
-        key,
-    }))
+        listen,
+        remote,
+        path,
+    } = parts;
+    Ok(NeighbourDraft {
+        id,
+        station,
+        addresses: Addresses::copy(alloc, listen, remote)?,
+        key: key_file(alloc, path)?,
+    })
 }
 
 /// The `key` of a neighbour, which may be left out.
@@ -290,7 +376,10 @@ pub(crate) fn read_key(table: &Table) -> Option<Option<&str>>
     ensures { option_map option_copied result ≡ key_at (get_member (codes "key") (table_view table.now)) }
 {
     match value_at(table, "key") {
-        Some(value) => Some(Some(value.as_str()?)),
+        Some(value) => match value.as_str() {
+            Some(path) => Some(Some(path)),
+            None => None,
+        },
         None => Some(None),
     }
 }

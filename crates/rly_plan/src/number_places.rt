@@ -1,9 +1,9 @@
 //! Where the numbers of a draft have their first fault, pass by pass.
 
 ghost use Rattle.std.specs.Prelude.{◌≡◌, ◌==◌, map};
-ghost use Rattle.std.specs.List.{list_any};
+ghost use Rattle.std.specs.List.{list_all, list_any};
 ghost use Rattle.rly_plan.specs.Places.{first_adjacent, first_contact, first_row, lead_place, neighbour_range_fault, overlap_place, range_place, repeat_place, rows_range_fault, sorted_place};
-ghost use Rattle.rly_plan.specs.Passes.{contact_in_range};
+ghost use Rattle.rly_plan.specs.Passes.{all_adjacent, are_apart, contact_in_range};
 
 use crate::draft::{ContactDraft, HopDraft, NeighbourDraft, PlanDraft, RouteDraft};
 use crate::passes::{
@@ -226,6 +226,13 @@ impl PlanDraft {
         first_row(&InOrder, Row::Hop, &self.hops)
     }
 
+    /// Whether no contact begins before the one before it ends.
+    pub(crate) fn are_apart(&self) -> bool
+        ensures { result ≡ list_all (λ h. all_adjacent are_apart h.contacts) self.now.hops }
+    {
+        first_row(&Apart, Row::Hop, &self.hops).is_none()
+    }
+
     /// Where pass 6 has its first fault.
     pub(crate) fn overlap_place(&self) -> Option<Place>
         ensures { result ≡ overlap_place self.now }
@@ -259,7 +266,7 @@ fn rows_range_fault<T, F: Test<T>>(test: &F, row: Row, most: u64, rows: &[T]) ->
 }
 
 /// A table that has a number of its own among those of its array.
-trait Numbered {
+pub(crate) trait Numbered {
     ghost use Rattle.std.specs.Prelude.{◌≡◌, ℕ};
 
     ghost number: { Self → ℕ };

@@ -1,11 +1,12 @@
-//! Passes 4 to 7: the numbers of a plan, each pass over the whole of it.
+//! Passes 4 to 7: the numbers of a plan, each pass over the whole of it. A pass is met where it tells
+//! no place of a fault.
 
 ghost use Rattle.std.specs.Prelude.{◌≡◌, ◌<◌, ◌^◌, ℕ, false, IfOk, map, slice_index_or, vec_len};
-ghost use Rattle.std.specs.List.{list_all};
-ghost use Rattle.rly_plan.specs.Passes.{all_adjacent, are_apart, begin_in_order, contact_in_range, hop_in_range, is_between, is_in_range, is_sorted, is_station, leads_to_hops, neighbour_in_range, number, number_16, number_32, overlaps, rate_in_range, repeats, resend_in_range, route_in_range, rows_in_range};
+ghost use Rattle.rly_plan.specs.Passes.{contact_in_range, is_between, is_in_range, is_sorted, is_station, leads_to_hops, number, number_16, number_32, overlaps, rate_in_range, repeats, resend_in_range};
 
-use crate::draft::{ContactDraft, HopDraft, NeighbourDraft, PlanDraft, RouteDraft};
-use rly_core::limits::{MAX_CONTACTS, MAX_HOPS, MAX_PEERS, MAX_RESEND, MIN_RESEND, MOMENT_LIMIT};
+use crate::draft::{ContactDraft, PlanDraft};
+use crate::number_places::Numbered;
+use rly_core::limits::{MAX_RESEND, MIN_RESEND, MOMENT_LIMIT};
 use std::alloc::{AllocError, Global};
 
 /// The greatest `rate` of a hop, in bytes a second. The least is 1.
@@ -16,17 +17,14 @@ impl PlanDraft {
     pub(crate) fn is_in_range(&self) -> bool
         ensures { result ≡ is_in_range self.now }
     {
-        is_station(self.station)
-            && peers_in_range(&self.peers)
-            && hops_in_range(&self.hops)
-            && routes_in_range(&self.routes)
+        self.range_place().is_none()
     }
 
     /// Pass 5: whether no contact begins before the one before it begins.
     pub(crate) fn is_sorted(&self) -> bool
         ensures { result ≡ is_sorted self.now }
     {
-        self.hops.iter().all(|hop| begin_in_order(&hop.contacts))
+        self.sorted_place().is_none()
     }
 
     /// Pass 6: whether a contact begins before the one before it ends, or a station of the
@@ -34,10 +32,10 @@ impl PlanDraft {
     pub(crate) fn overlaps(&self, alloc: Global) -> Result<bool, AllocError>
         ensures { IfOk result (λ found. found ≡ overlaps self.now) }
     {
-        let overlaps = !all_apart(&self.hops)
-            || peers_repeat(alloc, &self.peers)?
-            || hops_repeat(alloc, &self.hops)?
-            || destinations_repeat(alloc, &self.routes)?;
+        let overlaps = !self.are_apart()
+            || rows_repeat(alloc, &self.peers)?
+            || rows_repeat(alloc, &self.hops)?
+            || rows_repeat(alloc, &self.routes)?;
         Ok(overlaps)
     }
 
@@ -45,91 +43,16 @@ impl PlanDraft {
     pub(crate) fn leads_to_hops(&self) -> bool
         ensures { result ≡ leads_to_hops self.now }
     {
-        let hops = self.hops.len() as u64;
-        self.routes
-            .iter()
-            .all(|route| is_between(route.hop, 1, hops))
+        self.lead_place().is_none()
     }
 }
 
-fn all_apart(hops: &[HopDraft]) -> bool
-    ensures { result ≡ list_all (λ h. all_adjacent are_apart h.contacts) hops.now }
+/// Whether the number of a table is there twice.
+fn rows_repeat<N: Numbered>(alloc: Global, rows: &[N]) -> Result<bool, AllocError>
+    ensures { IfOk result (λ found. found ≡ repeats (map N.number rows.now)) }
 {
-    hops.iter().all(|hop| are_apart(&hop.contacts))
-}
-
-fn peers_repeat(alloc: Global, peers: &[NeighbourDraft]) -> Result<bool, AllocError>
-    ensures { IfOk result (λ found. found ≡ repeats (map (λ p. number_16 p.station) peers.now)) }
-{
-    let stations: Vec<u16> = peers
-        .iter()
-        .map(|peer| number_16(peer.station))
-        .collect(alloc)?;
-    repeats(alloc, &stations)
-}
-
-fn hops_repeat(alloc: Global, hops: &[HopDraft]) -> Result<bool, AllocError>
-    ensures { IfOk result (λ found. found ≡ repeats (map (λ h. number_16 h.neighbour.station) hops.now)) }
-{
-    let stations: Vec<u16> = hops
-        .iter()
-        .map(|hop| number_16(hop.neighbour.station))
-        .collect(alloc)?;
-    repeats(alloc, &stations)
-}
-
-fn destinations_repeat(alloc: Global, routes: &[RouteDraft]) -> Result<bool, AllocError>
-    ensures { IfOk result (λ found. found ≡ repeats (map (λ r. number_16 r.destination) routes.now)) }
-{
-    let destinations: Vec<u16> = routes
-        .iter()
-        .map(|route| number_16(route.destination))
-        .collect(alloc)?;
-    repeats(alloc, &destinations)
-}
-
-fn peers_in_range(peers: &[NeighbourDraft]) -> bool
-    ensures { result ≡ rows_in_range neighbour_in_range MAX_PEERS peers.now }
-{
-    if peers.is_empty() || peers.len() as u64 > MAX_PEERS {
-        return false;
-    }
-    for (index, peer) in peers.iter().enumerate() {
-        if !neighbour_in_range(index as u64 + 1, peer) {
-            return false;
-        }
-    }
-    true
-}
-
-fn hops_in_range(hops: &[HopDraft]) -> bool
-    ensures { result ≡ rows_in_range hop_in_range MAX_HOPS hops.now }
-{
-    if hops.is_empty() || hops.len() as u64 > MAX_HOPS {
-        return false;
-    }
-    for (index, hop) in hops.iter().enumerate() {
-        if !hop_in_range(index as u64 + 1, hop) {
-            return false;
-        }
-    }
-    true
-}
-
-fn neighbour_in_range(id: u64, neighbour: &NeighbourDraft) -> bool
-    ensures { result ≡ neighbour_in_range id neighbour.now }
-{
-    is_between(neighbour.id, id, id) && is_station(neighbour.station)
-}
-
-fn hop_in_range(id: u64, hop: &HopDraft) -> bool
-    ensures { result ≡ hop_in_range id hop.now }
-{
-    neighbour_in_range(id, &hop.neighbour)
-        && resend_in_range(hop.resend)
-        && rate_in_range(hop.rate)
-        && hop.contacts.len() as u64 <= MAX_CONTACTS
-        && contacts_in_range(&hop.contacts)
+    let numbers: Vec<u16> = rows.iter().map(|row| row.number()).collect(alloc)?;
+    repeats(alloc, &numbers)
 }
 
 pub(crate) fn resend_in_range(resend: i64) -> bool
@@ -147,12 +70,6 @@ pub(crate) fn rate_in_range(rate: Option<i64>) -> bool
     }
 }
 
-fn contacts_in_range(contacts: &[ContactDraft]) -> bool
-    ensures { result ≡ list_all contact_in_range contacts.now }
-{
-    contacts.iter().all(|contact| contact_in_range(contact))
-}
-
 pub(crate) fn contact_in_range(contact: &ContactDraft) -> bool
     ensures { result ≡ contact_in_range contact.now }
 {
@@ -160,46 +77,10 @@ pub(crate) fn contact_in_range(contact: &ContactDraft) -> bool
         && is_between(contact.end, number(contact.begin) + 1, MOMENT_LIMIT - 1)
 }
 
-fn routes_in_range(routes: &[RouteDraft]) -> bool
-    ensures { result ≡ list_all route_in_range routes.now }
-{
-    routes.iter().all(|route| route_in_range(route))
-}
-
-fn route_in_range(route: &RouteDraft) -> bool
-    ensures { result ≡ route_in_range route.now }
-{
-    is_station(route.destination) && is_between(route.hop, 1, MAX_HOPS)
-}
-
 pub(crate) fn is_station(station: i64) -> bool
     ensures { result ≡ is_station station }
 {
     is_between(station, 1, 65_535)
-}
-
-/// Whether no contact begins before the one before it begins.
-fn begin_in_order(contacts: &[ContactDraft]) -> bool
-    ensures { result ≡ all_adjacent begin_in_order contacts.now }
-{
-    for index in 1..contacts.len() {
-        if contacts[index].settled().begin < contacts[index - 1].settled().begin {
-            return false;
-        }
-    }
-    true
-}
-
-/// Whether no contact begins before the one before it ends. They may touch.
-fn are_apart(contacts: &[ContactDraft]) -> bool
-    ensures { result ≡ all_adjacent are_apart contacts.now }
-{
-    for index in 1..contacts.len() {
-        if contacts[index].settled().begin < contacts[index - 1].settled().end {
-            return false;
-        }
-    }
-    true
 }
 
 /// Whether a number is there twice.

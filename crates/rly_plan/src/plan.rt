@@ -1,4 +1,4 @@
-ghost use Rattle.std.specs.Prelude.{◌≡◌, ◌≢◌, ◌↔◌, Err, IfErr, IfOk, map, None, Ok, option_copied, Some, true};
+ghost use Rattle.std.specs.Prelude.{◌≡◌, ◌≢◌, ◌↔◌, Err, IfErr, IfNone, IfOk, IfSome, map, None, Ok, option_copied, Some, true};
 ghost use Rattle.toml.specs.Errors.{IsMemory, IsWithin};
 ghost use Rattle.rly_plan.specs.Places.{IsFaultPlace, place_of_draft};
 ghost use Rattle.std.specs.List.{list_all};
@@ -305,20 +305,37 @@ fn judged(alloc: Global, draft: PlanDraft) -> Result<Plan, PlanFault>
     ensures memory { IfErr result (λ fault. fault.refusal ≡ Refusal.OutOfMemory → fault.place ≡ None) }
     ensures place { IfErr result (λ fault. fault.refusal ≢ Refusal.OutOfMemory → fault.place ≡ place_of_draft draft) }
 {
+    match first_fault(alloc, &draft) {
+        Some(fault) => Err(fault),
+        None => match settled(alloc, draft) {
+            Ok(plan) => Ok(plan),
+            Err(_) => Err(PlanFault::memory()),
+        },
+    }
+}
+
+/// The first fault of the passes over a draft's numbers.
+fn first_fault(alloc: Global, draft: &PlanDraft) -> Option<PlanFault>
+    ensures plan { IfNone result (plan_of_draft (Some draft.now) ≡ Ok (plan_from draft.now)) }
+    ensures fault { IfSome result (λ fault. fault.refusal ≢ Refusal.OutOfMemory → plan_of_draft (Some draft.now) ≡ Err fault.refusal) }
+    ensures memory { IfSome result (λ fault. fault.refusal ≡ Refusal.OutOfMemory → fault.place ≡ None) }
+    ensures place { IfSome result (λ fault. fault.refusal ≢ Refusal.OutOfMemory → fault.place ≡ place_of_draft draft.now) }
+{
     if !draft.is_in_range() {
-        return Err(PlanFault::at(Refusal::Range, draft.range_place()));
+        return Some(PlanFault::at(Refusal::Range, draft.range_place()));
     }
     if !draft.is_sorted() {
-        return Err(PlanFault::at(Refusal::Unsorted, draft.sorted_place()));
+        return Some(PlanFault::at(Refusal::Unsorted, draft.sorted_place()));
     }
-    let overlaps = draft.overlaps(alloc).map_err(|_| PlanFault::memory())?;
-    if overlaps {
-        return Err(PlanFault::at(Refusal::Overlap, draft.overlap_place()));
+    match draft.overlaps(alloc) {
+        Ok(true) => return Some(PlanFault::at(Refusal::Overlap, draft.overlap_place())),
+        Ok(false) => (),
+        Err(_) => return Some(PlanFault::memory()),
     }
     if !draft.leads_to_hops() {
-        return Err(PlanFault::at(Refusal::Unknown, draft.lead_place()));
+        return Some(PlanFault::at(Refusal::Unknown, draft.lead_place()));
     }
-    settled(alloc, draft).map_err(|_| PlanFault::memory())
+    None
 }
 
 /// The plan of a draft whose numbers are in range and whose contacts don't overlap.

@@ -1,6 +1,0 @@
-use Rattle.std.proofs.Common.{◌≡◌, ◌+◌, drop}
-use Rattle.rly_plan.specs.Passes.{all_numbered, neighbour_in_range}
-use Rattle.rly_plan.proofs.passes.peers_in_range.Given as goal
-
-abbrev pub invariant-loop-index : goal.invariant-loop-index
-invariant-loop-index l = all_numbered neighbour_in_range (l.index + 1) (drop l.index l.peers) ≡ all_numbered neighbour_in_range 1 l.peers
