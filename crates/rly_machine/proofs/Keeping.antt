@@ -1,8 +1,8 @@
 -- What a machine's fields stand for after a step.
-use Rattle.std.proofs.Common.{ℕ, ◌*◌, true, lit<, ◌≡◌, ◌+◌, ◌-◌, ◌<◌, ◌≤◌, List, length, get_or, set, take, drop, map, refl, arith, sym, ◌∙◌, ap, subst, None, Vec, sum, sum_by, replicate, Ok, Err, Result}
+use Rattle.std.proofs.Common.{ℕ, ◌*◌, true, lit<, ◌≡◌, ◌+◌, ◌-◌, ◌<◌, ◌≤◌, List, [], ◌∷◌, ◌++◌, length, get_or, set, take, drop, map, refl, arith, sym, ◌∙◌, ap, subst, None, Vec, sum, sum_by, replicate, Ok, Err, Result}
 use Rattle.std.specs.Result.{OnErr, OnOk}
 use Rattle.std.specs.Vec.{with_item}
-use Rattle.std.proofs.lemmas.List.{get_or-set_same, length-map, length-set, map-id, map-set, set-get_or, get_or-map, length-replicate}
+use Rattle.std.proofs.lemmas.List.{get_or-set_same, length-map, length-set, map-id, map-set, set-get_or, get_or-map, length-replicate, map-append, replicate_more}
 use Rattle.std.proofs.lemmas.List.Elements.{All-get_or, All-nil, All-replicate}
 use Rattle.std.proofs.lemmas.List.Sums.{sum-map, sum_by-take-drop}
 use Rattle.std.proofs.lemmas.List.Folds.{sum_by-replicate}
@@ -252,3 +252,29 @@ sound_new {P} len params within =
       bytes = omega (arith, sum_of_none (λ (h : HopState P). bytes_of len (live_line h)) params.hops new_hop refl, within.bytes);
       seq = omega arith;
     }
+
+-- a machine that nothing has come to keeps its counts
+pub kept_new : {P : Type 0} (len : P → ℕ) (params found : Params) (hops : List (HopState P)) (lasts : List ℕ) → IsWithinLimits params → found ≡ params
+    → hops ≡ replicate params.hops new_hop → lasts ≡ replicate params.peers 0 → KeepsCounts len (record { params = found; hops = hops; lasts = lasts; seq = 0 }) 0 0
+kept_new {P} len params found hops lasts within is made zeros =
+    let same : (let s : State P = record { params = found; hops = hops; lasts = lasts; seq = 0 } in s) ≡ new_state params =
+    λ i. record { params = is i; hops = made i; lasts = zeros i; seq = 0 } in
+    subst (λ (s : State P). KeepsCounts len s 0 0) (sym same) (record {
+      sound = sound_new len params within;
+      items = sym (sum_of_none (λ (h : HopState P). length (live_line h)) params.hops new_hop refl);
+      bytes = sym (sum_of_none (λ (h : HopState P). bytes_of len (live_line h)) params.hops new_hop refl);
+    })
+
+-- one more hop that nothing has come to
+pub one_more : {P : Type 0} (hops now : List (Hop P)) (hop : Hop P) (n : ℕ) → now ≡ hops ++ hop ∷ [] → hop_state hop ≡ new_hop → map hop_state hops ≡ replicate n new_hop
+    → map hop_state now ≡ replicate (n + 1) new_hop
+one_more hops now hop n more is made =
+    ap (map hop_state) more ∙ map-append hop_state hops (hop ∷ []) ∙ (λ i. made i ++ is i ∷ []) ∙ replicate_more n new_hop
+
+pub many_made : {P : Type 0} (hops : List (Hop P)) (n : ℕ) → map hop_state hops ≡ replicate n new_hop → length hops ≡ n
+many_made hops n made = sym (length-map hops hop_state) ∙ ap length made ∙ length-replicate n new_hop
+
+pub all_made : {P : Type 0} (hops : List (Hop P)) (n m : ℕ) → n ≤ m → m ≤ n → map hop_state hops ≡ replicate n new_hop → map hop_state hops ≡ replicate m new_hop
+all_made hops n m low high made =
+    let same : n ≡ m = omega arith in
+    made ∙ ap (λ (k : ℕ). replicate k new_hop) same

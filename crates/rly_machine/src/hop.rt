@@ -352,3 +352,20 @@ impl Gone {
         }
     }
 }
+
+impl<C: Content> Hop<C> {
+    ghost use Rattle.std.specs.Prelude.{IfOk, replicate};
+    ghost use Rattle.rly_machine.specs.Kept.{hop_state};
+    ghost use Rattle.rly_machine.specs.State.{new_hop};
+
+    /// So many hops that nothing has come to.
+    pub(crate) fn many(alloc: Global, count: u64) -> Result<Vec<Hop<C>>, AllocError>
+        ensures { IfOk result (λ hops. map hop_state hops.items ≡ replicate count new_hop) }
+    {
+        let mut hops = Vec::with_capacity(alloc, count as usize)?;
+        for _hop in 0..count {
+            hops.push_reserved(Hop::new(alloc));
+        }
+        Ok(hops)
+    }
+}

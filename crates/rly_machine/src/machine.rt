@@ -55,10 +55,7 @@ impl<C: Content> Machine<C> {
         requires { IsWithinLimits params }
         ensures { IfOk result (λ machine. machine.state ≡ new_state params) }
     {
-        let mut hops = Vec::with_capacity(alloc, params.hops as usize)?;
-        for _hop in 0..params.hops {
-            hops.push_reserved(Hop::new(alloc));
-        }
+        let hops = Hop::many(alloc, params.hops)?;
         let lasts = vec![in alloc; 0u64; params.peers as usize]?;
         Ok(Machine {
             rules: Rules::new(params),
