@@ -1,18 +1,19 @@
 //! A device with a header of version 1 and heads of the first form opens as it is and takes limits at once, and the next segment that is
 //! opened has a head of the second form.
-use crate::comparison::expect_replies;
-use crate::cycles::expect_in_flight;
-use crate::device::{THREE, bytes_of, opened};
+use crate::comparison::{ask_both, fetched};
+use crate::cycles::{Cycle, Part, expect_in_flight};
+use crate::device::{THREE, bytes_of, head_at, opened};
 use crate::old_device::{DIGEST, ITEMS, Item, SIZE};
-use crate::script::{HOP, Script, Step, ask_all, take, take_within};
-use crate::stops::{Costs, expect_costs, new_machine, walk_part};
-use crate::walks::cycle;
+use crate::script::{HOP, Script, Step};
+use crate::stops::{ALL, Costs, expect_costs, new_machine, walk_part};
+use crate::told::{Told, expect_told};
+use crate::walks::add_cycle;
 use rly_core::Refusal;
 use rly_disk::MemDisk;
 use rly_journal::Journal;
 use rly_machine::{HopStatus, Machine, Payload, Reply};
 use sha2::{Digest, Sha256};
-use std::alloc::{AllocError, Global};
+use std::alloc::Global;
 use std::process::Abort;
 
 /// What hexadecimal digits spell.
@@ -72,22 +73,6 @@ fn stored_journal(rt: &impl Abort, alloc: Global) -> Journal<MemDisk> {
     opened(rt, alloc, MemDisk::new(alloc, bytes))
 }
 
-/// The gate, the generation and the length field of a segment's head.
-fn head_at(rt: &impl Abort, bytes: &[u8], segment: usize) -> [u8; 13] {
-    assert!(rt; segment < 3 && bytes.len() == SIZE);
-    let place = 64 + segment * 118_508;
-    let mut head = [0; 13];
-    head.copy_from_slice(&bytes[place..place + 13]);
-    head
-}
-
-/// These are the bytes that the older program wrote. Bodies of 39,959 bytes and of 1,815: 87 each, 27 for each datagram by place, and 19
-/// and 1,200 for each that is inline.
-#[test]
-fn the_device_is_as_it_was_written(rt: HostRuntime) {
-    expect_written(&rt, rt.alloc());
-}
-
 /// The heads of its three segments.
 const HEADS: [[u8; 13]; 3] = [
     [0xa5, 0, 0, 0, 0, 0, 0, 0, 4, 0, 0, 0x9c, 0x17],
@@ -95,43 +80,54 @@ const HEADS: [[u8; 13]; 3] = [
     [0xa5, 0, 0, 0, 0, 0, 0, 0, 3, 0, 0, 0x9c, 0x17],
 ];
 
-fn expect_written(rt: &impl Abort, alloc: Global) {
-    let bytes = stored(rt, alloc);
-    for (segment, head) in HEADS.iter().enumerate() {
-        expect!(rt; head_at(rt, &bytes, segment) == *head, segment as u64);
-    }
-    let digest = Sha256::digest(&bytes);
-    expect!(rt; digest.as_slice() == spelled(rt, alloc, DIGEST).as_slice());
+/// These are the bytes that the older program wrote. Bodies of 39,959 bytes and of 1,815: 87 each, 27 for each datagram by place, and 19
+/// and 1,200 for each that is inline. Its payloads by place are read where a head of the first form has them, and those inline at its
+/// entries.
+#[test]
+fn the_device_is_as_it_was_written_and_all_in_flight_is_fetched(rt: HostRuntime) {
+    expect_stored(&rt, rt.alloc());
 }
 
-/// Its payloads by place are read where a head of the first form has them, and those inline at its entries.
-#[test]
-fn all_that_is_in_flight_is_fetched(rt: HostRuntime) {
-    expect_carried(&rt, rt.alloc(), &mut stored_journal(&rt, rt.alloc()));
+fn expect_stored(rt: &impl Abort, alloc: Global) {
+    expect_written(rt, alloc, &stored(rt, alloc));
+    expect_carried(rt, alloc, &mut stored_journal(rt, alloc));
+}
+
+fn expect_written(rt: &impl Abort, alloc: Global, bytes: &[u8]) {
+    for (segment, head) in (0..3).zip(HEADS) {
+        expect!(rt; head_at(rt, bytes, &THREE, segment) == head, segment);
+    }
+    let digest = Sha256::digest(bytes);
+    expect!(rt; digest.as_slice() == spelled(rt, alloc, DIGEST).as_slice());
 }
 
 fn expect_carried(rt: &impl Abort, alloc: Global, journal: &mut Journal<MemDisk>) {
     expect!(rt; journal.params() == THREE.params && journal.position() == 193);
     expect_in_flight(rt, alloc, journal, 33, 96);
-    expect!(rt; journal.fetch(alloc, HOP, 32) == Err(Refusal::NotInFlight));
-    expect!(rt; journal.fetch(alloc, HOP, 97) == Err(Refusal::NeverSent));
+    expect!(rt; fetched(alloc, journal, 32) == Err(Refusal::NotInFlight));
+    expect!(rt; fetched(alloc, journal, 97) == Err(Refusal::NeverSent));
+}
+
+/// A cycle of datagrams of 1,200 bytes from a number on.
+fn cycle(first: u64, limit: u64) -> Cycle {
+    Cycle {
+        first,
+        limit,
+        length: 1_200,
+    }
 }
 
 /// What was asked when it was written.
-fn asked(alloc: Global) -> Result<Vec<Step>, AllocError> {
+fn asked(rt: &impl Abort, alloc: Global) -> Vec<Step> {
     let mut steps = Vec::new(alloc);
-    for first in [1, 33, 65u64] {
+    for first in [1, 33, 65] {
         if first == 65 {
-            steps.push(Step::Release { number: 32 })?;
+            cycle(33, 0).add(rt, &mut steps, Part::Release);
         }
-        for number in first..first.saturating_add(32) {
-            steps.push(take(number, 0, 1_200))?;
-        }
-        for _ in 0..32 {
-            steps.push(Step::Pick { now: 0 })?;
-        }
+        cycle(first, 0).add(rt, &mut steps, Part::Takes);
+        cycle(first, 0).add(rt, &mut steps, Part::Picks);
     }
-    Ok(steps)
+    steps
 }
 
 /// The one datagram that has a limit, of one byte.
@@ -152,128 +148,60 @@ const LIMITED_GROUP: [u8; 32] = [
     0,
 ];
 
-/// A reply that is wanted.
-#[derive(Clone, Copy)]
-enum Told<'a> {
-    Refused(Refusal),
-    Taken(u64),
-    Released(u64),
-    /// Picked under a number and an id, and nothing has expired or was dropped.
-    Picked(u64, u64),
-    /// These bytes, and their limit.
-    Bytes(&'a [u8], u64),
-    /// Nothing, and these have expired.
-    Nothing(&'a [u64]),
-}
-
-/// Whether a reply is that one.
-fn is_told(reply: &Reply, told: Told) -> bool {
-    match (reply, told) {
-        (Reply::Refused(refusal), Told::Refused(want)) => *refusal == want,
-        (Reply::Taken(id), Told::Taken(want)) => *id == want,
-        (Reply::Released(count), Told::Released(want)) => *count == want,
-        (
-            Reply::Picked {
-                number,
-                id,
-                expired,
-                dropped,
-            },
-            Told::Picked(want_number, want_id),
-        ) => {
-            *number == want_number
-                && *id == want_id
-                && expired.as_slice().is_empty()
-                && dropped.as_slice().is_empty()
-        }
-        (Reply::Bytes { payload, limit }, Told::Bytes(bytes, want)) => {
-            payload.as_slice() == bytes && *limit == want
-        }
-        (Reply::Nothing { expired }, Told::Nothing(ids)) => expired.as_slice() == ids,
-        _ => false,
-    }
-}
-
-/// Asks each step in a round of its own, and expects its reply.
-fn expect_told(
-    rt: &impl Abort,
-    alloc: Global,
-    journal: &mut Journal<MemDisk>,
-    rows: &[(Step, Told)],
-) {
-    for (step, told) in rows {
-        let answers = ask_all(rt, alloc, journal, &[*step]);
-        let is_right = answers.iter().all(|answer| is_told(&answer.reply, *told));
-        expect!(rt; is_right, journal.position());
-    }
-}
-
 /// The device once the older 32 were released, and one more datagram was taken, with a limit. Before that nothing fits.
 fn limited(rt: &impl Abort, alloc: Global) -> MemDisk {
     let mut journal = stored_journal(rt, alloc);
     let rows = [
-        (LIMITED, Told::Refused(Refusal::Full)),
-        (Step::Release { number: 64 }, Told::Released(32)),
-        (LIMITED, Told::Taken(195)),
+        (LIMITED, Told::refused(Refusal::Full)),
+        (Step::Release { number: 64 }, Told::released(32)),
+        (LIMITED, Told::taken(195)),
     ];
     expect_told(rt, alloc, &mut journal, &rows);
     journal.into_disk()
 }
 
-/// A record of a limit stands behind a head of the first form.
+/// A record of a limit stands behind a head of the first form. At its limit the datagram is sent, and is fetched with its limit. A
+/// microsecond later it has expired.
 #[test]
-fn a_limit_is_recorded_at_once(rt: HostRuntime) {
-    expect_recorded(&rt, rt.alloc());
+fn a_limit_is_recorded_at_once_and_kept(rt: HostRuntime) {
+    expect_limits(&rt, rt.alloc());
 }
 
-fn expect_recorded(rt: &impl Abort, alloc: Global) {
-    let mut disk = limited(rt, alloc);
-    let bytes = bytes_of(rt, alloc, &mut disk);
+fn expect_limits(rt: &impl Abort, alloc: Global) {
+    expect_recorded(rt, alloc, &mut limited(rt, alloc));
+    expect_kept(rt, alloc, &mut opened(rt, alloc, limited(rt, alloc)));
+    expect_over(rt, alloc, opened(rt, alloc, limited(rt, alloc)));
+}
+
+fn expect_recorded(rt: &impl Abort, alloc: Global, disk: &mut MemDisk) {
+    let bytes = bytes_of(rt, alloc, disk);
     assert!(rt; bytes.len() == SIZE);
-    expect!(rt; head_at(rt, &bytes, 0) == HEADS[0]);
+    expect!(rt; head_at(rt, &bytes, &THREE, 0) == HEADS[0]);
     // the head ends at 40,036, and the Release's group has 18 bytes
     expect!(rt; &bytes[40_054..40_086] == LIMITED_GROUP.as_slice());
 }
 
-/// At its limit it is sent, and is fetched with its limit.
-#[test]
-fn a_limit_is_kept_and_not_yet_over(rt: HostRuntime) {
-    expect_kept(&rt, rt.alloc());
-}
-
-fn expect_kept(rt: &impl Abort, alloc: Global) {
-    let mut journal = opened(rt, alloc, limited(rt, alloc));
-    expect_in_flight(rt, alloc, &mut journal, 65, 96);
+fn expect_kept(rt: &impl Abort, alloc: Global, journal: &mut Journal<MemDisk>) {
+    expect_in_flight(rt, alloc, journal, 65, 96);
     let rows = [
-        (Step::Pick { now: 5_000 }, Told::Picked(97, 195)),
-        (Step::Fetch { number: 97 }, Told::Bytes(&[97], 5_000)),
+        (Step::Pick { now: 5_000 }, Told::picked(97, 195)),
+        (Step::Fetch { number: 97 }, Told::bytes(&[97], 5_000)),
     ];
+    expect_told(rt, alloc, journal, &rows);
+}
+
+fn expect_over(rt: &impl Abort, alloc: Global, journal: Journal<MemDisk>) {
+    let mut journal = journal;
+    let rows = [(Step::Pick { now: 5_001 }, Told::nothing(&[195]))];
     expect_told(rt, alloc, &mut journal, &rows);
-}
-
-/// A microsecond later it has expired.
-#[test]
-fn a_limit_is_kept_and_over(rt: HostRuntime) {
-    expect_over(&rt, rt.alloc());
-}
-
-fn expect_over(rt: &impl Abort, alloc: Global) {
-    let mut journal = opened(rt, alloc, limited(rt, alloc));
-    let rows = [(Step::Pick { now: 5_001 }, Told::Nothing(&[195]))];
-    expect_told(rt, alloc, &mut journal, &rows);
-    expect_shown(rt, &opened(rt, alloc, journal.into_disk()));
-}
-
-/// The numbers of the hop are those after that.
-fn expect_shown(rt: &impl Abort, journal: &Journal<MemDisk>) {
-    match journal.ask_show(HOP) {
-        Reply::Shown(status) => expect_expired(rt, &status),
-        _ => panic!(rt; "not shown"),
-    }
+    expect_expired(rt, &opened(rt, alloc, journal.into_disk()).ask_show(HOP));
 }
 
 /// The books of the hop say so.
-fn expect_expired(rt: &impl Abort, status: &HopStatus) {
+fn expect_expired(rt: &impl Abort, reply: &Reply) {
+    let Reply::Shown(status) = reply else {
+        panic!(rt; "not shown");
+    };
     let HopStatus {
         taken,
         queued,
@@ -288,18 +216,20 @@ fn expect_expired(rt: &impl Abort, status: &HopStatus) {
 }
 
 /// Thirteen rounds: the older 32 are released, and there are three whole cycles, of which the first and the last have limits.
-fn rounds(alloc: Global) -> Result<Vec<Vec<Step>>, AllocError> {
+fn rounds(rt: &impl Abort, alloc: Global) -> Vec<Vec<Step>> {
     let mut rounds = Vec::new(alloc);
-    rounds.push(vec![in alloc; Step::Release { number: 64 }]?)?;
-    cycle(alloc, &mut rounds, 97, 5_000, 1_200)?;
-    cycle(alloc, &mut rounds, 129, 0, 1_200)?;
-    cycle(alloc, &mut rounds, 161, 1_099_511_627_775, 1_200)?;
-    Ok(rounds)
+    let mut steps = Vec::new(alloc);
+    cycle(65, 0).add(rt, &mut steps, Part::Release);
+    rounds.push(steps).ok().expect(rt, "memory");
+    for (first, limit) in [(97, 5_000), (129, 0), (161, 1_099_511_627_775)] {
+        add_cycle(rt, alloc, &mut rounds, cycle(first, limit));
+    }
+    rounds
 }
 
 /// After so many rounds a segment's head, which was opened before the last of them. The lengths are 1,757 bytes where each datagram is by
 /// place, and 39,997 where 32 are inline, less 13.
-const OPENED: [(usize, usize, [u8; 13]); 4] = [
+const OPENED: [(usize, u64, [u8; 13]); 4] = [
     (3, 1, [0xa5, 0, 0, 0, 0, 0, 0, 0, 5, 0x80, 0, 0x06, 0xd0]),
     (7, 2, [0xa5, 0, 0, 0, 0, 0, 0, 0, 6, 0x80, 0, 0x9c, 0x30]),
     (9, 0, [0xa5, 0, 0, 0, 0, 0, 0, 0, 7, 0x80, 0, 0x9c, 0x30]),
@@ -307,84 +237,78 @@ const OPENED: [(usize, usize, [u8; 13]); 4] = [
 ];
 
 /// Asks the rounds before each of those heads, and reads it. The plain machine goes on beside.
-fn expect_opened(rt: &impl Abort, alloc: Global, script: Script, image: &[u8]) {
+fn expect_opened(rt: &impl Abort, alloc: Global, script: Script) {
     let mut machine = new_machine(rt, alloc, script);
-    let mut disk = MemDisk::new(alloc, Vec::from_slice(alloc, image).expect(rt, "memory"));
+    let mut bytes = Vec::from_slice(alloc, script.image).expect(rt, "memory");
     let mut asked = 0;
     for (count, segment, head) in OPENED {
-        disk = asked_up_to(rt, alloc, script, disk, &mut machine, (asked, count));
+        bytes = asked_up_to(rt, alloc, script, bytes, &mut machine, (asked, count));
         asked = count;
-        let bytes = bytes_of(rt, alloc, &mut disk);
-        expect!(rt; head_at(rt, &bytes, segment) == head, count as u64);
+        expect!(rt; head_at(rt, &bytes, &THREE, segment) == head, segment);
     }
 }
 
-/// A disk after further rounds of a script, which are expected to be the plain machine's.
+/// What a device holds after further rounds of a script, which are expected to be the plain machine's.
 fn asked_up_to(
     rt: &impl Abort,
     alloc: Global,
     script: Script,
-    disk: MemDisk,
+    bytes: Vec<u8>,
     machine: &mut Machine<Payload>,
     (from, count): (usize, usize),
-) -> MemDisk {
-    let mut journal = opened(rt, alloc, disk);
+) -> Vec<u8> {
+    let mut journal = opened(rt, alloc, MemDisk::new(alloc, bytes));
     for index in from..count {
-        let steps = script.round(index);
-        let answers = ask_all(rt, alloc, &mut journal, steps);
-        expect_replies(rt, alloc, machine, steps, &answers).expect(rt, "memory");
+        ask_both(rt, alloc, &mut journal, machine, script.round(index));
     }
-    journal.into_disk()
+    bytes_of(rt, alloc, &mut journal.into_disk())
 }
 
 /// What is done with the thirteen rounds.
 #[derive(Clone, Copy)]
-enum Trial<'a> {
-    /// Each head that is opened is read.
-    Heads,
-    /// They are asked without a failure.
-    Costs(Costs<'a>),
+enum Trial {
+    /// Each head that is opened is read, and they are asked without a failure.
+    Whole,
     /// They are stopped at each of these calls, and each fails.
     Part(u64, u64),
 }
 
+/// The rounds make 328 calls. Opening makes 8; each of the ten rounds with commands 4; fetches of all in flight 64, three times; and each
+/// of the four segments that are opened 6, since its gate is open, and two of them 32 reads.
+const COSTS: Costs = Costs {
+    calls: 328,
+    syncs: 33,
+    generations: &[7, 8, 6],
+};
+
 /// Tries the thirteen rounds on the device.
 fn try_rounds(rt: &impl Abort, alloc: Global, trial: Trial) {
-    let before = asked(alloc).expect(rt, "memory");
-    let rounds = rounds(alloc).expect(rt, "memory");
+    let before = asked(rt, alloc);
+    let rounds = rounds(rt, alloc);
+    let image = stored(rt, alloc);
     let script = Script {
         geometry: THREE,
+        image: &image,
         before: &before,
         rounds: &rounds,
     };
-    let image = stored(rt, alloc);
-    try_script(rt, alloc, script, &image, trial)
+    try_script(rt, alloc, script, trial)
 }
 
-fn try_script(rt: &impl Abort, alloc: Global, script: Script, image: &[u8], trial: Trial) {
+fn try_script(rt: &impl Abort, alloc: Global, script: Script, trial: Trial) {
     match trial {
-        Trial::Heads => expect_opened(rt, alloc, script, image),
-        Trial::Costs(costs) => expect_costs(rt, alloc, script, image, costs),
-        Trial::Part(first, last) => walk_part(rt, alloc, script, image, (first, last)),
+        Trial::Whole => {
+            expect_opened(rt, alloc, script);
+            expect_costs(rt, alloc, script, COSTS);
+        }
+        Trial::Part(first, last) => walk_part(rt, alloc, script, (first, last), ALL),
     }
 }
 
 /// The rounds' answers are the plain machine's, whatever the form of the head. Each head that is written is of the second form.
 #[test]
 fn the_next_segments_are_of_the_second_form(rt: HostRuntime) {
-    try_rounds(&rt, rt.alloc(), Trial::Heads);
-}
-
-/// The rounds make 328 calls. Opening makes 8; each of the ten rounds with commands 4; fetches of all in flight 64, three times; and each
-/// of the four segments that are opened 6, since its gate is open, and two of them 32 reads.
-#[test]
-fn thirteen_rounds(rt: HostRuntime) {
-    let costs = Costs {
-        calls: 328,
-        syncs: 33,
-        generations: &[7, 8, 6],
-    };
-    try_rounds(&rt, rt.alloc(), Trial::Costs(costs));
+    try_rounds(&rt, rt.alloc(), Trial::Whole);
 }
 
 /// From the opening of the device to the takes of the second cycle, with one segment opened.

@@ -1,10 +1,12 @@
 //! Runs of a script on a device that fails at a chosen call.
 use crate::comparison::{
-    expect_broken, expect_refused, expect_replies, is_answered, is_same, reply_of,
+    expect_broken, expect_refused, expect_replies, is_answered, make_all, reply_of,
 };
+use crate::device::tried;
 use crate::script::{Script, Step, ask_all};
+use crate::told::is_refused;
 use rly_core::Refusal;
-use rly_disk::{Disk, FaultDisk, MemDisk};
+use rly_disk::Disk;
 use rly_journal::Journal;
 use rly_machine::{Answer, Machine, Payload, Reply};
 use rly_standing::OpenFault;
@@ -12,12 +14,8 @@ use std::alloc::Global;
 use std::process::Abort;
 
 /// How a run ended.
-#[derive(Drop)]
+#[derive(Clone, Copy)]
 pub(crate) struct Ended {
-    /// The device.
-    pub(crate) disk: FaultDisk<MemDisk>,
-    /// The plain machine after the rounds that were answered.
-    pub(crate) machine: Machine<Payload>,
     /// How many rounds of the script were answered.
     pub(crate) answered: usize,
     /// Whether the next one may stand all the same: a write or a sync failed in it.
@@ -29,57 +27,60 @@ pub(crate) struct Ended {
 enum Came {
     /// The plain machine's answers.
     Answered,
-    /// So many reads failed. Nothing changed, and the round may be asked again.
-    Unread(u64),
+    /// Reads failed. Nothing changed, and the round may be asked again.
+    Unread,
     /// A write or a sync failed. Everything is refused from then on.
     Unsure,
 }
 
 /// Opens a device that stands for the first rounds of a script, and asks the others of it, until the device fails for good or the
-/// script ends. The plain machine after those rounds goes on beside it.
-pub(crate) fn run(
+/// script ends. The plain machine after those rounds goes on beside it. Gives the device.
+pub(crate) fn run<D: Disk>(
     rt: &impl Abort,
     alloc: Global,
-    disk: FaultDisk<MemDisk>,
+    disk: D,
     script: Script,
-    (from, machine): (usize, Machine<Payload>),
-) -> Ended {
+    from: usize,
+    machine: &mut Machine<Payload>,
+) -> (D, Ended) {
     let (failures, failed_reads) = (disk.failures(), disk.failed_reads());
-    match Journal::open(alloc, disk) {
-        Ok(journal) => ask_rounds(rt, alloc, journal, script, (from, machine), failed_reads),
+    match tried(alloc, disk) {
+        Ok(journal) => {
+            let mut journal = journal;
+            let (ended, told) = ask_rounds(rt, alloc, &mut journal, machine, script, from);
+            let disk = journal.into_disk();
+            expect!(rt; disk.failed_reads() == failed_reads.saturating_add(told));
+            (disk, ended)
+        }
         Err((fault, disk)) => {
             expect!(rt; fault == OpenFault::Device && disk.failures() > failures);
-            Ended {
-                disk,
-                machine,
+            let ended = Ended {
                 answered: from,
                 unsure: false,
-            }
+            };
+            (disk, ended)
         }
     }
 }
 
 /// Asks the rounds of a script, from one on, until the device fails for good or the script ends. A round in which a read failed is
-/// asked again. Each read that failed is told, and so many did before.
-fn ask_rounds(
+/// asked again. Answers how many reads were told to have failed too.
+fn ask_rounds<D: Disk>(
     rt: &impl Abort,
     alloc: Global,
-    journal: Journal<FaultDisk<MemDisk>>,
+    journal: &mut Journal<D>,
+    machine: &mut Machine<Payload>,
     script: Script,
-    (from, machine): (usize, Machine<Payload>),
-    failed_reads: u64,
-) -> Ended {
-    let (mut journal, mut machine) = (journal, machine);
-    let (mut answered, mut told) = (from, failed_reads);
+    from: usize,
+) -> (Ended, u64) {
+    let (mut answered, mut told) = (from, 0);
     for index in from..script.rounds.len() {
         let steps = script.round(index);
-        let mut came = ask_round(rt, alloc, &mut journal, &mut machine, steps);
-        if let Came::Unread(count) = came {
-            told = told.saturating_add(count);
-            came = ask_round(rt, alloc, &mut journal, &mut machine, steps);
-        }
-        if let Came::Unread(count) = came {
-            told = told.saturating_add(count);
+        let mut came = Came::Unread;
+        for _ in 0..2 {
+            if came == Came::Unread {
+                came = ask_round(rt, alloc, journal, machine, steps, &mut told);
+            }
         }
         if came != Came::Answered {
             break;
@@ -87,92 +88,101 @@ fn ask_rounds(
         answered = index.saturating_add(1);
     }
     let unsure = journal.is_broken();
-    let disk = journal.into_disk();
-    expect!(rt; disk.failed_reads() == told);
-    Ended {
-        disk,
-        machine,
-        answered,
-        unsure,
-    }
+    (Ended { answered, unsure }, told)
 }
 
-/// Asks a round, and says what came of it.
-fn ask_round(
+/// Asks a round, and says what came of it. Adds the reads that were told to have failed.
+fn ask_round<D: Disk>(
     rt: &impl Abort,
     alloc: Global,
-    journal: &mut Journal<FaultDisk<MemDisk>>,
+    journal: &mut Journal<D>,
     machine: &mut Machine<Payload>,
     steps: &[Step],
+    told: &mut u64,
 ) -> Came {
     let position = machine.seq();
     let answers = ask_all(rt, alloc, journal, steps);
     if journal.is_broken() {
         expect_refused(rt, &answers, Refusal::Unsure, position);
         expect_broken(rt, alloc, journal, steps, position);
-        return Came::Unsure;
+        Came::Unsure
+    } else {
+        let unread = expect_read(rt, alloc, machine, steps, &answers);
+        *told = told.saturating_add(unread);
+        expect!(rt; journal.position() == machine.seq());
+        if unread > 0 {
+            Came::Unread
+        } else {
+            Came::Answered
+        }
     }
-    if !answers.iter().any(is_unread) {
-        expect_replies(rt, alloc, machine, steps, &answers).expect(rt, "memory");
-        return Came::Answered;
-    }
-    expect!(rt; journal.position() == position);
-    if steps.iter().any(|step| matches!(step, Step::Fetch { .. })) {
-        return expect_lost(rt, alloc, machine, steps, &answers);
-    }
-    // a read of the victim failed
-    expect_refused(rt, &answers, Refusal::DeviceRead, position);
-    Came::Unread(1)
 }
 
 /// Whether a call is told that a read failed.
 fn is_unread(answer: &Answer) -> bool {
-    is_same(&answer.reply, &Reply::Refused(Refusal::DeviceRead))
+    is_refused(&answer.reply, Refusal::DeviceRead)
 }
 
-/// Expects of a round without commands that each call is told that a read failed, if it is a Fetch of bytes, or answered.
+/// Expects the plain machine's answers, or those of a round in which reads failed. Answers how many did.
+fn expect_read(
+    rt: &impl Abort,
+    alloc: Global,
+    machine: &mut Machine<Payload>,
+    steps: &[Step],
+    answers: &[Answer],
+) -> u64 {
+    if !answers.iter().any(is_unread) {
+        expect_replies(rt, alloc, machine, steps, answers);
+        0
+    } else if steps.iter().any(|step| matches!(step, Step::Fetch { .. })) {
+        expect_lost(rt, alloc, machine, steps, answers)
+    } else {
+        // a read of the victim failed
+        expect_refused(rt, answers, Refusal::DeviceRead, machine.seq());
+        1
+    }
+}
+
+/// Expects of a round without commands that each call is told that a read failed, if it is a Fetch of bytes, or answered. Answers how
+/// many are told so.
 fn expect_lost(
     rt: &impl Abort,
     alloc: Global,
     machine: &mut Machine<Payload>,
     steps: &[Step],
     answers: &[Answer],
-) -> Came {
+) -> u64 {
     let mut lost: u64 = 0;
     for (step, answer) in steps.iter().zip(answers) {
         if is_unread(answer) {
-            let reply = reply_of(alloc, machine, *step).expect(rt, "memory");
+            let reply = reply_of(rt, alloc, machine, *step);
             expect!(rt; matches!(reply, Reply::Bytes { .. }) && answer.position == machine.seq());
             lost = lost.saturating_add(1);
         } else {
-            let is_answered = is_answered(alloc, machine, *step, answer).expect(rt, "memory");
-            expect!(rt; is_answered, machine.seq());
+            let ask = step.ask(rt, alloc);
+            expect!(rt; is_answered(rt, alloc, machine, ask, answer), machine.seq());
         }
     }
-    Came::Unread(lost)
+    lost
 }
 
-/// The rounds that a journal was opened to: those that were answered, or, where the next one is unsure, that too. Answers how many
-/// stand, with the plain machine after them.
-pub(crate) fn standing<D: Disk>(
+/// The rounds that a journal at a position was opened to: those that were answered, or, where the next one is unsure, that too. Answers
+/// how many stand. The plain machine goes on to them.
+pub(crate) fn standing(
     rt: &impl Abort,
     alloc: Global,
-    journal: &Journal<D>,
+    position: u64,
     script: Script,
-    (answered, machine): (usize, Machine<Payload>),
-    unsure: bool,
-) -> (usize, Machine<Payload>) {
-    let position = journal.position();
+    ended: Ended,
+    machine: &mut Machine<Payload>,
+) -> usize {
     if position == machine.seq() {
-        return (answered, machine);
+        return ended.answered;
     }
     // else an answer was lost
-    expect!(rt; unsure);
-    let mut machine = machine;
-    for step in script.round(answered) {
-        let _ = reply_of(alloc, &mut machine, *step).expect(rt, "memory");
-    }
+    expect!(rt; ended.unsure);
+    make_all(rt, alloc, machine, script.round(ended.answered));
     // else a part of a round stands
     expect!(rt; position == machine.seq());
-    (answered.saturating_add(1), machine)
+    ended.answered.saturating_add(1)
 }

@@ -1,44 +1,52 @@
 //! Calls of a journal where one growth of memory is refused (`bench/scarce_memory`): each says so, and keeps what it promises.
-use crate::cycles::{HOP, after_cycles, before_the_picks, expect_in_flight, is_same, take};
-use crate::device::{device_with, opened};
+use crate::comparison::{are_all, fetched, is_answered};
+use crate::cycles::{after_cycles, before_the_picks, expect_in_flight};
+use crate::device::{THREE, device_with, opened, tried};
 use crate::opening::TAKEN_AND_PICKED;
+use crate::script::{Step, calls_of, take};
 use crate::stops::KINDS;
-use rly_core::{HopId, Refusal};
+use crate::told::is_refused;
+use rly_core::Refusal;
 use rly_disk::{Disk, MemDisk, Torn};
 use rly_journal::Journal;
-use rly_machine::{Answer, Ask, Call, Command, Machine, Payload, Query, Reply, SeatId};
+use rly_machine::{Answer, Machine, Payload};
 use rly_scarce::{before, was_refused};
 use rly_standing::OpenFault;
-use std::alloc::{AllocError, Global};
+use std::alloc::Global;
 use std::process::Abort;
 
 /// What is refused is handed back as it was, and is opened where there is memory.
 #[test]
 fn opening(rt: HostRuntime) {
-    let alloc = rt.alloc();
-    let disk = device_with(&rt, alloc, &TAKEN_AND_PICKED).expect(&rt, "memory");
-    before(alloc).expect(&rt, "memory");
-    let told = Journal::open(alloc, disk);
+    expect_opening(&rt, rt.alloc());
+}
+
+fn expect_opening(rt: &impl Abort, alloc: Global) {
+    let disk = device_with(rt, alloc, &TAKEN_AND_PICKED);
+    before(alloc).expect(rt, "memory");
+    let told = tried(alloc, disk);
     let refused = was_refused(alloc);
     let disk = match told {
         Ok(journal) => journal.into_disk(),
         Err((fault, disk)) => {
             let failed = disk.failures() > 0;
             expect!(rt; refused);
-            expect!(rt; fault == OpenFault::OutOfMemory && !failed || fault == OpenFault::Device && failed);
+            expect!(rt; fault == if failed { OpenFault::Device } else { OpenFault::OutOfMemory });
             disk
         }
     };
-    expect!(rt; opened(&rt, alloc, disk).position() == 2);
+    expect!(rt; opened(rt, alloc, disk).position() == 2);
 }
 
 #[test]
 fn a_fetch(rt: HostRuntime) {
-    let alloc = rt.alloc();
-    let disk = device_with(&rt, alloc, &TAKEN_AND_PICKED).expect(&rt, "memory");
-    let mut journal = opened(&rt, alloc, disk);
-    before(alloc).expect(&rt, "memory");
-    let told = journal.fetch(alloc, HopId(1), 1);
+    expect_fetch(&rt, rt.alloc());
+}
+
+fn expect_fetch(rt: &impl Abort, alloc: Global) {
+    let mut journal = opened(rt, alloc, device_with(rt, alloc, &TAKEN_AND_PICKED));
+    before(alloc).expect(rt, "memory");
+    let told = fetched(alloc, &mut journal, 1);
     let refused = was_refused(alloc);
     match told {
         Ok(bytes) => expect!(rt; bytes.as_slice() == b"abc".as_slice()),
@@ -49,49 +57,22 @@ fn a_fetch(rt: HostRuntime) {
 
 /// Two cycles: 64 datagrams were taken and picked, of which 32 are in flight, and no segment is due. Or the takes of the third too: then a
 /// segment is due.
-fn begun(
-    rt: &impl Abort,
-    alloc: Global,
-    due: bool,
-) -> Result<(Journal<MemDisk>, Machine<Payload>), AllocError> {
+fn begun(rt: &impl Abort, alloc: Global, due: bool) -> (Journal<MemDisk>, Machine<Payload>) {
     if due {
         before_the_picks(rt, alloc, 3)
     } else {
-        after_cycles(rt, alloc, 2)
+        after_cycles(rt, alloc, &THREE, 2)
     }
 }
 
 /// A round that releases a datagram, takes the next one, picks one and fetches it.
-fn calls_in_scarce_memory(alloc: Global, due: bool) -> Result<Vec<Call>, AllocError> {
-    let next = if due { 97 } else { 65 };
-    let asks = vec![in alloc;
-        Ask::Command(Command::Release {
-            hop: HOP,
-            number: 33,
-        }),
-        take(alloc, next)?,
-        Ask::Command(Command::Pick { hop: HOP, now: 0 }),
-        Ask::Query(Query::Fetch {
-            hop: HOP,
-            number: 65,
-        }),
-    ]?;
-    let mut calls = Vec::new(alloc);
-    for ask in asks {
-        calls.push(Call {
-            seat: SeatId(3),
-            number: 7,
-            ask,
-        })?;
-    }
-    Ok(calls)
-}
-
-/// Whether each answer is one refusal.
-fn are_all(answers: &[Answer], refusal: Refusal) -> bool {
-    answers
-        .iter()
-        .all(|answer| is_same(&answer.reply, &Reply::Refused(refusal)))
+fn steps_in_scarce_memory(due: bool) -> [Step; 4] {
+    [
+        Step::Release { number: 33 },
+        take(if due { 97 } else { 65 }, 0, 1_200),
+        Step::Pick { now: 0 },
+        Step::Fetch { number: 65 },
+    ]
 }
 
 /// Expects each answer to be the plain machine's, or refused memory where it may want some. The machine makes what wasn't refused.
@@ -102,44 +83,64 @@ fn expect_answers(
     machine: &mut Machine<Payload>,
     answers: &[Answer],
     due: bool,
-) -> Result<bool, AllocError> {
+) -> bool {
     let mut starved = false;
-    for (call, answer) in calls_in_scarce_memory(alloc, due)?.into_iter().zip(answers) {
-        if is_same(&answer.reply, &Reply::Refused(Refusal::OutOfMemory)) {
-            expect!(rt; !matches!(call.ask, Ask::Command(Command::Release { .. })));
+    for (step, answer) in steps_in_scarce_memory(due).into_iter().zip(answers) {
+        if is_refused(&answer.reply, Refusal::OutOfMemory) {
+            expect!(rt; !matches!(step, Step::Release { .. }) && answer.position == machine.seq());
             starved = true;
         } else {
-            let reply = machine.evaluate(alloc, call.ask)?;
-            expect!(rt; is_same(&answer.reply, &reply));
+            let ask = step.ask(rt, alloc);
+            expect!(rt; is_answered(rt, alloc, machine, ask, answer));
         }
-        expect!(rt; answer.position == machine.seq());
     }
-    Ok(starved)
+    starved
 }
 
-/// Asks a round, and expects of what it is told: the answers of the plain machine, or that memory was refused. Where the disk in memory
-/// could not grow, all are told unsure.
-fn expect_told(
-    rt: &impl Abort,
-    alloc: Global,
-    journal: &mut Journal<MemDisk>,
-    machine: &mut Machine<Payload>,
-    due: bool,
-) {
-    let mut calls = calls_in_scarce_memory(alloc, due).expect(rt, "memory");
+/// What a round was told.
+#[derive(Drop)]
+struct Round {
+    answers: Vec<Answer>,
+    /// Whether the whole round was refused for want of memory.
+    undone: bool,
+    /// Whether a growth was refused in it.
+    refused: bool,
+}
+
+/// Asks a round, in which a growth may be refused.
+fn asked(rt: &impl Abort, alloc: Global, journal: &mut Journal<MemDisk>, due: bool) -> Round {
+    let mut calls = calls_of(rt, alloc, &steps_in_scarce_memory(due));
     let mut answers = Vec::new(alloc);
     assert!(rt; calls.len() == 4);
     before(alloc).expect(rt, "memory");
     let undone = journal.round(alloc, &mut calls, &mut answers).is_err();
     let refused = was_refused(alloc);
-    expect!(rt; answers.len() == if undone { 0 } else { 4 });
-    if journal.is_broken() {
-        expect!(rt; refused && are_all(&answers, Refusal::Unsure));
-    } else if are_all(&answers, Refusal::OutOfMemory) {
-        expect!(rt; refused && (undone || due));
+    Round {
+        answers,
+        undone,
+        refused,
+    }
+}
+
+/// Expects of a round what it is told: the answers of the plain machine, or that memory was refused. Where the disk in memory could not
+/// grow, and the journal is broken, all are told unsure.
+fn expect_round_told(
+    rt: &impl Abort,
+    alloc: Global,
+    round: &Round,
+    broken: bool,
+    machine: &mut Machine<Payload>,
+    due: bool,
+) {
+    let answers = round.answers.as_slice();
+    expect!(rt; answers.len() == if round.undone { 0 } else { 4 });
+    if broken {
+        expect!(rt; round.refused && are_all(answers, Refusal::Unsure));
+    } else if are_all(answers, Refusal::OutOfMemory) {
+        expect!(rt; round.refused && (round.undone || due));
     } else {
-        let starved = expect_answers(rt, alloc, machine, &answers, due).expect(rt, "memory");
-        expect!(rt; refused || !starved);
+        let starved = expect_answers(rt, alloc, machine, answers, due);
+        expect!(rt; round.refused || !starved);
     }
 }
 
@@ -162,24 +163,28 @@ fn expect_left(
 
 /// A round, before which a segment is opened or not, and a crash.
 fn expect_round(rt: &impl Abort, alloc: Global, due: bool, kind: Torn) {
-    let (mut journal, mut machine) = begun(rt, alloc, due).expect(rt, "memory");
+    let (journal, mut machine) = begun(rt, alloc, due);
+    let mut journal = journal;
     let whole = machine.seq().saturating_add(3);
-    expect_told(rt, alloc, &mut journal, &mut machine, due);
+    let round = asked(rt, alloc, &mut journal, due);
+    expect_round_told(rt, alloc, &round, journal.is_broken(), &mut machine, due);
     expect_left(rt, alloc, journal, kind, (machine.seq(), whole));
+}
+
+fn expect_rounds(rt: &impl Abort, alloc: Global, due: bool) {
+    for kind in KINDS {
+        expect_round(rt, alloc, due, kind);
+    }
 }
 
 /// No segment is due: the round's own growths alone.
 #[test]
 fn a_round(rt: HostRuntime) {
-    for kind in KINDS {
-        expect_round(&rt, rt.alloc(), false, kind);
-    }
+    expect_rounds(&rt, rt.alloc(), false);
 }
 
 /// The payloads of 32 datagrams are moved into the head.
 #[test]
 fn a_round_that_opens_a_segment(rt: HostRuntime) {
-    for kind in KINDS {
-        expect_round(&rt, rt.alloc(), true, kind);
-    }
+    expect_rounds(&rt, rt.alloc(), true);
 }

@@ -49,4 +49,6 @@ mod script;
 #[cfg(test)]
 mod stops;
 #[cfg(test)]
+mod told;
+#[cfg(test)]
 mod walks;

@@ -1,11 +1,14 @@
 //! A device of 256 segments, each of which is opened.
-use crate::cycles::{Part, answers_to, expect_replies, expect_round, has_part};
+use crate::comparison::is_answered;
+use crate::cycles::{Part, ask_part};
 use crate::device::{bytes_of, new_device, opened};
+use crate::script::{answers_to, payload_of};
+use crate::stops::machine_of;
 use rly_core::{Geometry, HopId, Params, PeerId};
 use rly_disk::MemDisk;
 use rly_journal::Journal;
-use rly_machine::{Ask, Call, Command, Machine, Payload, SeatId};
-use std::alloc::{AllocError, Global};
+use rly_machine::{Answer, Ask, Call, Command, Machine, Payload, SeatId};
+use std::alloc::Global;
 use std::process::Abort;
 
 /// Two hops and two peers, 330 items and 10,240 bytes, on segments of the least length.
@@ -29,38 +32,50 @@ const ROUNDS: u64 = 320;
 const LAST: usize = 22_289_359;
 
 /// Takes so many bytes from the peer of a hop's number.
-fn take(alloc: Global, id: u16, number: u64, length: usize) -> Result<Ask, AllocError> {
-    Ok(Ask::Command(Command::Take {
+fn take(rt: &impl Abort, alloc: Global, id: u16, number: u64, length: usize) -> Ask {
+    Ask::Command(Command::Take {
         peer: PeerId(id),
         number,
         hop: HopId(id),
         stamp: 0,
         limit: 0,
-        payload: Payload::new(vec![in alloc; number.to_be_bytes()[7]; length]?),
-    }))
+        payload: payload_of(rt, alloc, number, length),
+    })
 }
 
-/// A round that takes a byte which stays at hop 1, while eight datagrams of 1,200 bytes pass through hop 2. Its group has 9,914 bytes,
-/// and the head before it 165 at least. So a segment is due then: 10,079 and 78,280 exceed 87,409.
-fn passing(alloc: Global, round: u64) -> Result<Vec<Call>, AllocError> {
+/// How many calls a round has.
+const CALLS: u64 = 18;
+
+/// Call `index` of a round that takes a byte which stays at hop 1, while eight datagrams of 1,200 bytes pass through hop 2. Its group has
+/// 9,914 bytes, and the head before it 165 at least. So a segment is due then: 10,079 and 78,280 exceed 87,409.
+fn passing(rt: &impl Abort, alloc: Global, round: u64, index: u64) -> Ask {
     let hop = HopId(2);
     let last = 8 * round.min(ROUNDS);
-    let mut asks = Vec::new(alloc);
-    asks.push(take(alloc, 1, round, 1)?)?;
-    for number in last.saturating_sub(7)..=last {
-        asks.push(take(alloc, 2, number, 1_200)?)?;
-        asks.push(Ask::Command(Command::Pick { hop, now: 0 }))?;
+    // the eighth is taken at 15 and picked at 16
+    let number = last.saturating_sub(7) + index.saturating_sub(1).min(CALLS) / 2;
+    if index == 0 {
+        take(rt, alloc, 1, round, 1)
+    } else if index == CALLS - 1 {
+        Ask::Command(Command::Release { hop, number: last })
+    } else if index % 2 == 1 {
+        take(rt, alloc, 2, number, 1_200)
+    } else {
+        Ask::Command(Command::Pick { hop, now: 0 })
     }
-    asks.push(Ask::Command(Command::Release { hop, number: last }))?;
+}
+
+/// The calls of a round.
+fn calls_of(rt: &impl Abort, alloc: Global, round: u64) -> Vec<Call> {
     let mut calls = Vec::new(alloc);
-    for ask in asks {
-        calls.push(Call {
+    for index in 0..CALLS {
+        let call = Call {
             seat: SeatId(3),
             number: round,
-            ask,
-        })?;
+            ask: passing(rt, alloc, round, index),
+        };
+        calls.push(call).ok().expect(rt, "memory");
     }
-    Ok(calls)
+    calls
 }
 
 /// Makes the rounds, and compares them with the plain machine's.
@@ -71,10 +86,23 @@ fn pass_all(
     machine: &mut Machine<Payload>,
 ) {
     for round in 1..=ROUNDS {
-        let calls = passing(alloc, round).expect(rt, "memory");
-        let answers = answers_to(rt, alloc, journal, calls).expect(rt, "memory");
-        let calls = passing(alloc, round).expect(rt, "memory");
-        expect_replies(rt, alloc, machine, calls, &answers).expect(rt, "memory");
+        let answers = answers_to(rt, alloc, journal, calls_of(rt, alloc, round));
+        expect_passed(rt, alloc, machine, round, &answers);
+    }
+}
+
+/// Expects the plain machine's answers to a round.
+fn expect_passed(
+    rt: &impl Abort,
+    alloc: Global,
+    machine: &mut Machine<Payload>,
+    round: u64,
+    answers: &[Answer],
+) {
+    expect!(rt; answers.len() == CALLS as usize);
+    for (index, answer) in (0..CALLS).zip(answers) {
+        let ask = passing(rt, alloc, round, index);
+        expect!(rt; is_answered(rt, alloc, machine, ask, answer), round);
     }
 }
 
@@ -94,9 +122,7 @@ fn expect_cycles(
 ) {
     for cycle in 1..=10 {
         for part in [Part::Picks, Part::Fetches, Part::Release] {
-            if has_part(cycle, part) {
-                expect_round(rt, alloc, journal, machine, cycle, part).expect(rt, "memory");
-            }
+            ask_part(rt, alloc, journal, machine, cycle, part);
         }
     }
     expect!(rt; journal.position() == 6_089);
@@ -110,9 +136,8 @@ fn two_hundred_and_fifty_six_segments(rt: HostRuntime) {
 }
 
 fn expect_segments(rt: &impl Abort, alloc: Global) {
-    let mut machine = Machine::new(alloc, MANY.params).expect(rt, "memory");
-    let disk = new_device(rt, alloc, &MANY).expect(rt, "memory");
-    let mut journal = opened(rt, alloc, disk);
+    let mut machine = machine_of(rt, alloc, MANY.params);
+    let mut journal = opened(rt, alloc, new_device(rt, alloc, &MANY));
     pass_all(rt, alloc, &mut journal, &mut machine);
     let mut disk = journal.into_disk();
     expect_generations(rt, &bytes_of(rt, alloc, &mut disk));

@@ -1,8 +1,11 @@
 //! Devices of three segments that are opened.
-use crate::cycles::{Part, before_the_picks, expect_round};
-use crate::device::{FIRST_GATE, THREE, TWO, bytes_of, device_with, opened};
+use crate::comparison::fetched;
+use crate::cycles::{Part, ask_part, before_the_picks};
+use crate::device::{
+    FIRST_GATE, THREE, TWO, bytes_of, device_with, new_device, opened, tried, zeroed,
+};
 use rly_core::{Geometry, HopId, PeerId, Refusal};
-use rly_disk::{DiskCall, MemDisk, ToldCall, Watched};
+use rly_disk::{Disk, DiskCall, ToldCall, Watched};
 use rly_journal::Journal;
 use rly_machine::Reply;
 use rly_segment::{FormatFault, format};
@@ -22,88 +25,65 @@ pub(crate) const TAKEN_AND_PICKED: [u8; 51] = [
     2, 0, 1, 0, 0, 0, 0, 0, 0, 0, 6,
 ];
 
-/// A new device of three segments holds nothing, and it is opened again where it was opened.
+/// A new device of three segments holds nothing. Where groups stand they are made again: the datagram is in flight, and is read where the
+/// group has it.
 #[test]
-fn a_new_device_of_three_segments_is_opened(rt: HostRuntime) {
-    expect_new(&rt, rt.alloc());
+fn a_device_of_three_segments_is_opened(rt: HostRuntime) {
+    expect_devices(&rt, rt.alloc());
 }
 
-fn expect_new(rt: &impl Abort, alloc: Global) {
-    let disk = device_with(rt, alloc, &[]).expect(rt, "memory");
-    let journal = match Journal::open(alloc, disk) {
-        Ok(journal) => journal,
-        Err(_) => panic!(rt; "not opened"),
-    };
+fn expect_devices(rt: &impl Abort, alloc: Global) {
+    expect_new(rt, &opened(rt, alloc, new_device(rt, alloc, &THREE)));
+    let disk = device_with(rt, alloc, &TAKEN_AND_PICKED);
+    expect_made_again(rt, alloc, &mut opened(rt, alloc, disk));
+}
+
+fn expect_new<D: Disk>(rt: &impl Abort, journal: &Journal<D>) {
     expect!(rt; journal.position() == 0 && !journal.is_broken());
     expect!(rt; journal.params() == THREE.params);
     expect!(rt; journal.last(PeerId(1)) == Ok(0));
     expect!(rt; journal.last(PeerId(2)) == Err(Refusal::NoSuchPeer));
 }
 
-/// Both groups are made again: the datagram is in flight.
-#[test]
-fn groups_are_made_again(rt: HostRuntime) {
-    expect_made_again(&rt, rt.alloc());
-}
-
-fn expect_made_again(rt: &impl Abort, alloc: Global) {
-    let disk = device_with(rt, alloc, &TAKEN_AND_PICKED).expect(rt, "memory");
-    let journal = match Journal::open(alloc, disk) {
-        Ok(journal) => journal,
-        Err(_) => panic!(rt; "not opened"),
-    };
+fn expect_made_again<D: Disk>(rt: &impl Abort, alloc: Global, journal: &mut Journal<D>) {
     expect!(rt; journal.position() == 2);
     expect!(rt; journal.last(PeerId(1)) == Ok(1));
-    match journal.ask_show(HopId(1)) {
-        Reply::Shown(status) => {
-            expect!(rt; status.taken == 1 && status.flight == 1 && status.queued == 0);
-        }
-        _ => panic!(rt; "not shown"),
+    expect!(rt; is_in_flight(&journal.ask_show(HopId(1))));
+    expect!(rt; fetched(alloc, journal, 1).expect(rt, "in flight").as_slice() == b"abc".as_slice());
+    expect!(rt; fetched(alloc, journal, 2) == Err(Refusal::NeverSent));
+}
+
+/// Whether one datagram was taken, and is in flight.
+fn is_in_flight(reply: &Reply) -> bool {
+    match reply {
+        Reply::Shown(status) => status.taken == 1 && status.flight == 1 && status.queued == 0,
+        _ => false,
     }
 }
 
-/// What is in flight is read where the group has it.
+/// Damage at the first gate: a group whose body spells no record, and one of a Pick that the state refuses, which isn't made again.
+const DAMAGED: [&[u8]; 2] = [
+    &[0xa5, 0, 0, 0, 2, 0, 0],
+    &[0xa5, 0, 0, 0, 13, 0, 1, 2, 0, 1, 0, 0, 0, 0, 0, 0, 0, 6],
+];
+
 #[test]
-fn a_payload_is_fetched_from_its_group(rt: HostRuntime) {
-    expect_fetched(&rt, rt.alloc());
+fn groups_that_are_damage(rt: HostRuntime) {
+    expect_damage(&rt, rt.alloc());
 }
 
-fn expect_fetched(rt: &impl Abort, alloc: Global) {
-    let disk = device_with(rt, alloc, &TAKEN_AND_PICKED).expect(rt, "memory");
-    let mut journal = match Journal::open(alloc, disk) {
-        Ok(journal) => journal,
-        Err(_) => panic!(rt; "not opened"),
-    };
-    match journal.fetch(alloc, HopId(1), 1) {
-        Ok(bytes) => expect!(rt; bytes.as_slice() == b"abc".as_slice()),
-        Err(refusal) => panic!(rt; "{refusal}"),
-    }
-    match journal.fetch(alloc, HopId(1), 2) {
-        Ok(_) => panic!(rt; "fetched"),
-        Err(refusal) => expect!(rt; refusal == Refusal::NeverSent),
+fn expect_damage(rt: &impl Abort, alloc: Global) {
+    for bytes in DAMAGED {
+        expect!(rt; fault_of(rt, alloc, bytes) == OpenFault::Damaged(FIRST_GATE));
     }
 }
 
-/// Expects a device with these bytes from the first gate on to be damaged there.
-fn expect_damage(rt: &impl Abort, alloc: Global, bytes: &[u8]) {
-    let disk = device_with(rt, alloc, bytes).expect(rt, "memory");
-    match Journal::open(alloc, disk) {
+/// Why a device doesn't open that has these bytes from the first gate on.
+fn fault_of(rt: &impl Abort, alloc: Global, bytes: &[u8]) -> OpenFault {
+    match tried(alloc, device_with(rt, alloc, bytes)) {
         Ok(_) => panic!(rt; "opened"),
-        Err((fault, _)) => expect!(rt; fault == OpenFault::Damaged(FIRST_GATE as u64)),
+        Err((fault, _)) => fault,
     }
-}
-
-/// A group whose body spells no record is damage, at its gate.
-#[test]
-fn a_group_without_commands_is_damage(rt: HostRuntime) {
-    expect_damage(&rt, rt.alloc(), &[0xa5, 0, 0, 0, 2, 0, 0]);
-}
-
-/// A Pick that the state refuses isn't made again: its group is damage.
-#[test]
-fn a_refused_command_is_damage(rt: HostRuntime) {
-    let group = [0xa5, 0, 0, 0, 13, 0, 1, 2, 0, 1, 0, 0, 0, 0, 0, 0, 0, 6];
-    expect_damage(&rt, rt.alloc(), &group);
 }
 
 /// Segments of one byte less than the least are refused, and nothing is written: 118,508 is the least of three, 156,908 of two.
@@ -114,7 +94,7 @@ fn segments_that_are_too_short(rt: HostRuntime) {
 
 fn expect_too_short(rt: &impl Abort, alloc: Global) {
     for (geometry, length) in [(THREE, 118_507), (TWO, 156_907)] {
-        let mut disk = MemDisk::new(alloc, vec![in alloc; 0u8; 355_588].expect(rt, "memory"));
+        let mut disk = zeroed(rt, alloc, 355_588);
         let told = format(alloc, &mut disk, &Geometry { length, ..geometry });
         expect!(rt; told == Err(FormatFault::BadGeometry));
         let bytes = bytes_of(rt, alloc, &mut disk);
@@ -145,21 +125,26 @@ fn payloads_by_place_are_not_read(rt: HostRuntime) {
 }
 
 fn expect_reads(rt: &impl Abort, alloc: Global) {
-    let (journal, mut machine) = before_the_picks(rt, alloc, 3).expect(rt, "memory");
+    let (journal, mut machine) = before_the_picks(rt, alloc, 3);
     let mut journal = journal;
-    expect_round(rt, alloc, &mut journal, &mut machine, 3, Part::Picks).expect(rt, "memory");
-    let disk = Watched::new(
-        journal.into_disk(),
-        Vec::with_capacity(alloc, 20).expect(rt, "memory"),
-    );
-    let disk = opened(rt, alloc, disk).into_disk();
-    let mut want = vec![in alloc; DiskCall::Sync].expect(rt, "memory");
-    for (place, count) in READS {
-        want.push(DiskCall::Read { place, count })
-            .expect(rt, "memory");
+    ask_part(rt, alloc, &mut journal, &mut machine, 3, Part::Picks);
+    let told = Vec::with_capacity(alloc, 20).expect(rt, "memory");
+    let disk = Watched::new(journal.into_disk(), told);
+    expect_calls(rt, opened(rt, alloc, disk).into_disk().told());
+}
+
+/// Expects a sync and those reads, and that none failed.
+fn expect_calls(rt: &impl Abort, told: &[ToldCall]) {
+    expect!(rt; told.len() == 11);
+    expect!(rt; told.first().copied() == Some(done(DiskCall::Sync)));
+    for (told, (place, count)) in told.iter().skip(1).zip(READS) {
+        expect!(rt; *told == done(DiskCall::Read { place, count }), place);
     }
-    expect!(rt; disk.told().len() == 11);
-    for (told, call) in disk.told().iter().zip(want) {
-        expect!(rt; *told == ToldCall { call, failed: false });
+}
+
+fn done(call: DiskCall) -> ToldCall {
+    ToldCall {
+        call,
+        failed: false,
     }
 }

@@ -1,124 +1,14 @@
 //! Rounds of a journal on a device of three segments.
-use crate::device::{device_with, opened};
-use rly_core::{HopId, PeerId, Refusal};
-use rly_disk::MemDisk;
+use crate::comparison::{ask_both, fetched};
+use crate::device::{THREE, new_device, opened};
+use crate::script::{Step, take};
+use crate::stops::machine_of;
+use crate::told::{Told, expect_told};
+use rly_core::Refusal;
+use rly_disk::Disk;
 use rly_journal::Journal;
-use rly_machine::{Answer, Ask, Call, Command, Payload, Query, Reply, SeatId};
 use std::alloc::Global;
 use std::process::Abort;
-
-const HOP: HopId = HopId(1);
-
-/// A call of seat 1.
-fn call(number: u64, ask: Ask) -> Call {
-    Call {
-        seat: SeatId(1),
-        number,
-        ask,
-    }
-}
-
-/// A Take of so many bytes, each the number's lowest byte.
-fn take(rt: &impl Abort, alloc: Global, number: u64, length: usize) -> Ask {
-    let bytes = vec![in alloc; (number & 0xff) as u8; length].expect(rt, "memory");
-    Ask::Command(Command::Take {
-        peer: PeerId(1),
-        number,
-        hop: HOP,
-        stamp: number,
-        limit: 0,
-        payload: Payload::new(bytes),
-    })
-}
-
-/// A Release of this number.
-fn release(number: u64) -> Ask {
-    Ask::Command(Command::Release { hop: HOP, number })
-}
-
-/// One round of one call, and its reply.
-fn reply_to(rt: &impl Abort, alloc: Global, journal: &mut Journal<MemDisk>, ask: Ask) -> Reply {
-    let mut calls = vec![in alloc; call(7, ask)].ok().expect(rt, "memory");
-    let mut answers = Vec::new(alloc);
-    assert!(rt; calls.len() == 1);
-    journal
-        .round(alloc, &mut calls, &mut answers)
-        .expect(rt, "memory");
-    match answers.pop() {
-        Some(answer) => answer.reply,
-        None => panic!(rt; "no answer"),
-    }
-}
-
-/// Checks that a command is accepted, in a round of its own.
-fn expect_accepted(rt: &impl Abort, alloc: Global, journal: &mut Journal<MemDisk>, ask: Ask) {
-    let reply = reply_to(rt, alloc, journal, ask);
-    expect!(rt; reply.is_accepted());
-}
-
-/// Takes a datagram of so many bytes, and picks one.
-fn take_and_pick(
-    rt: &impl Abort,
-    alloc: Global,
-    journal: &mut Journal<MemDisk>,
-    number: u64,
-    length: usize,
-) {
-    expect_accepted(rt, alloc, journal, take(rt, alloc, number, length));
-    let pick = Command::Pick {
-        hop: HOP,
-        now: number,
-    };
-    expect_accepted(rt, alloc, journal, Ask::Command(pick));
-}
-
-/// The reply to a Fetch of this number, in a round of its own.
-fn fetched(rt: &impl Abort, alloc: Global, journal: &mut Journal<MemDisk>, number: u64) -> Reply {
-    let fetch = Query::Fetch { hop: HOP, number };
-    reply_to(rt, alloc, journal, Ask::Query(fetch))
-}
-
-/// Checks that so many bytes are in flight under a number, each its lowest byte.
-fn expect_bytes(
-    rt: &impl Abort,
-    alloc: Global,
-    journal: &mut Journal<MemDisk>,
-    number: u64,
-    length: usize,
-) {
-    let reply = fetched(rt, alloc, journal, number);
-    expect!(rt; gives(&reply, (number & 0xff) as u8, length));
-}
-
-/// Whether a reply gives so many bytes, each of the same value.
-fn gives(reply: &Reply, value: u8, length: usize) -> bool {
-    match reply {
-        Reply::Bytes { payload, .. } => {
-            payload.as_slice().len() == length
-                && payload.as_slice().iter().all(|byte| *byte == value)
-        }
-        _ => false,
-    }
-}
-
-/// The journal of a new device of three segments.
-fn new_journal(rt: &impl Abort, alloc: Global) -> Journal<MemDisk> {
-    let disk = device_with(rt, alloc, &[]).expect(rt, "memory");
-    opened(rt, alloc, disk)
-}
-
-/// Checks that the first datagram is in flight, and no other, until it is released.
-fn expect_first_in_flight(rt: &impl Abort, alloc: Global, journal: &mut Journal<MemDisk>) {
-    expect_bytes(rt, alloc, journal, 1, 100);
-    match journal.fetch(alloc, HOP, 1) {
-        Ok(bytes) => expect!(rt; bytes.len() == 100 && bytes[0] == 1),
-        Err(_) => panic!(rt; "not fetched"),
-    }
-    expect!(rt; journal.fetch(alloc, HOP, 2) == Err(Refusal::NeverSent));
-    expect_accepted(rt, alloc, journal, release(1));
-    let reply = fetched(rt, alloc, journal, 1);
-    expect!(rt; matches!(reply, Reply::Refused(Refusal::NotInFlight)));
-}
 
 /// A datagram is taken and picked, the device is opened again, and the datagram is fetched and released.
 #[test]
@@ -127,27 +17,57 @@ fn a_datagram_is_there_again(rt: HostRuntime) {
 }
 
 fn expect_there_again(rt: &impl Abort, alloc: Global) {
-    let mut journal = new_journal(rt, alloc);
-    take_and_pick(rt, alloc, &mut journal, 1, 100);
+    let mut journal = opened(rt, alloc, new_device(rt, alloc, &THREE));
+    let rows = [
+        (take(1, 1, 100), Told::taken(1)),
+        (Step::Pick { now: 1 }, Told::picked(1, 1)),
+    ];
+    expect_told(rt, alloc, &mut journal, &rows);
     let mut again = opened(rt, alloc, journal.into_disk());
-    expect!(rt; again.position() == 2);
     expect_first_in_flight(rt, alloc, &mut again);
 }
 
-/// Takes and picks 300 datagrams of 1,000 bytes, and releases each 20 later: each segment is opened several times.
-fn pass_300(rt: &impl Abort, alloc: Global, journal: &mut Journal<MemDisk>) {
+/// Checks that the first datagram is in flight, and no other, until it is released.
+fn expect_first_in_flight<D: Disk>(rt: &impl Abort, alloc: Global, journal: &mut Journal<D>) {
+    expect!(rt; journal.position() == 2);
+    let bytes = [1; 100];
+    expect!(rt; fetched(alloc, journal, 1).expect(rt, "in flight").as_slice() == bytes.as_slice());
+    expect!(rt; fetched(alloc, journal, 2) == Err(Refusal::NeverSent));
+    let fetch = Step::Fetch { number: 1 };
+    let rows = [
+        (fetch, Told::bytes(&bytes, 0)),
+        (Step::Release { number: 1 }, Told::released(1)),
+        (fetch, Told::refused(Refusal::NotInFlight)),
+    ];
+    expect_told(rt, alloc, journal, &rows);
+}
+
+/// Takes and picks 300 datagrams of 1,000 bytes, and releases each 20 later, in rounds of one call: each segment is opened several
+/// times.
+fn pass_300<D: Disk>(rt: &impl Abort, alloc: Global, journal: &mut Journal<D>) {
+    let mut machine = machine_of(rt, alloc, THREE.params);
     for number in 1..=300u64 {
-        take_and_pick(rt, alloc, journal, number, 1_000);
-        if number > 20 {
-            expect_accepted(rt, alloc, journal, release(number - 20));
+        for step in [
+            take(number, number, 1_000),
+            Step::Pick { now: number },
+            Step::Release {
+                number: number.saturating_sub(20),
+            },
+        ] {
+            if number > 20 || !matches!(step, Step::Release { .. }) {
+                ask_both(rt, alloc, journal, &mut machine, &[step]);
+            }
         }
     }
 }
 
-/// Checks that the last 20 are in flight.
-fn expect_last_20(rt: &impl Abort, alloc: Global, journal: &mut Journal<MemDisk>) {
+/// Checks that each was accepted, and that the last 20 are in flight.
+fn expect_last_20<D: Disk>(rt: &impl Abort, alloc: Global, journal: &mut Journal<D>) {
+    expect!(rt; journal.position() == 880);
     for number in 281..=300u64 {
-        expect_bytes(rt, alloc, journal, number, 1_000);
+        let bytes = [number.to_be_bytes()[7]; 1_000];
+        let row = (Step::Fetch { number }, Told::bytes(&bytes, 0));
+        expect_told(rt, alloc, journal, &[row]);
     }
 }
 
@@ -159,10 +79,9 @@ fn payloads_stay_while_segments_are_opened(rt: HostRuntime) {
 }
 
 fn expect_stay(rt: &impl Abort, alloc: Global) {
-    let mut journal = new_journal(rt, alloc);
+    let mut journal = opened(rt, alloc, new_device(rt, alloc, &THREE));
     pass_300(rt, alloc, &mut journal);
     expect_last_20(rt, alloc, &mut journal);
     let mut again = opened(rt, alloc, journal.into_disk());
-    expect!(rt; again.position() == 880);
     expect_last_20(rt, alloc, &mut again);
 }

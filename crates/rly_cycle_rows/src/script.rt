@@ -3,7 +3,7 @@ use rly_core::{Geometry, HopId, PeerId};
 use rly_disk::Disk;
 use rly_journal::Journal;
 use rly_machine::{Answer, Ask, Call, Command, Payload, Query, SeatId};
-use std::alloc::{AllocError, Global};
+use std::alloc::Global;
 use std::process::Abort;
 
 /// The one hop.
@@ -38,8 +38,8 @@ pub(crate) enum Step {
 
 impl Step {
     /// What is asked of a spool.
-    pub(crate) fn ask(self, alloc: Global) -> Result<Ask, AllocError> {
-        Ok(match self {
+    pub(crate) fn ask(self, rt: &impl Abort, alloc: Global) -> Ask {
+        match self {
             Step::Take {
                 number,
                 stamp,
@@ -51,15 +51,20 @@ impl Step {
                 hop: HOP,
                 stamp,
                 limit,
-                payload: Payload::new(vec![in alloc; number.to_be_bytes()[7]; length]?),
+                payload: payload_of(rt, alloc, number, length),
             }),
             Step::Pick { now } => Ask::Command(Command::Pick { hop: HOP, now }),
             Step::Release { number } => Ask::Command(Command::Release { hop: HOP, number }),
             Step::Fetch { number } => Ask::Query(Query::Fetch { hop: HOP, number }),
             Step::Window => Ask::Query(Query::Window { hop: HOP }),
             Step::Show => Ask::Query(Query::Show { hop: HOP }),
-        })
+        }
     }
+}
+
+/// So many bytes, each a number's lowest.
+pub(crate) fn payload_of(rt: &impl Abort, alloc: Global, number: u64, length: usize) -> Payload {
+    Payload::new(vec![in alloc; number.to_be_bytes()[7]; length].expect(rt, "memory"))
 }
 
 /// Takes so many bytes, without a limit.
@@ -84,6 +89,8 @@ const SEAT: SeatId = SeatId(3);
 #[derive(Clone, Copy)]
 pub(crate) struct Script<'a> {
     pub(crate) geometry: Geometry,
+    /// The device's bytes.
+    pub(crate) image: &'a [u8],
     /// What was asked of the device before: nothing of a new one.
     pub(crate) before: &'a [Step],
     pub(crate) rounds: &'a [Vec<Step>],
@@ -101,28 +108,47 @@ impl<'a> Script<'a> {
 
 /// Steps in rounds of so many each, fewer in the last.
 pub(crate) fn in_rounds(
+    rt: &impl Abort,
     alloc: Global,
     steps: &[Step],
     calls: usize,
-) -> Result<Vec<Vec<Step>>, AllocError> {
+) -> Vec<Vec<Step>> {
     let mut rounds = Vec::new(alloc);
     for round in steps.chunks(calls.max(1)) {
-        rounds.push(Vec::from_slice(alloc, round)?)?;
+        let round = Vec::from_slice(alloc, round).expect(rt, "memory");
+        rounds.push(round).ok().expect(rt, "memory");
     }
-    Ok(rounds)
+    rounds
 }
 
 /// A call for each step, numbered in their order.
-fn calls_of(alloc: Global, steps: &[Step]) -> Result<Vec<Call>, AllocError> {
-    let mut calls = Vec::with_capacity(alloc, steps.len())?;
+pub(crate) fn calls_of(rt: &impl Abort, alloc: Global, steps: &[Step]) -> Vec<Call> {
+    let mut calls = Vec::new(alloc);
     for (index, step) in steps.iter().enumerate() {
-        calls.push(Call {
+        let call = Call {
             seat: SEAT,
             number: index as u64,
-            ask: step.ask(alloc)?,
-        })?;
+            ask: step.ask(rt, alloc),
+        };
+        calls.push(call).expect(rt, "memory");
     }
-    Ok(calls)
+    calls
+}
+
+/// The answers to some calls in one round.
+pub(crate) fn answers_to<D: Disk>(
+    rt: &impl Abort,
+    alloc: Global,
+    journal: &mut Journal<D>,
+    calls: Vec<Call>,
+) -> Vec<Answer> {
+    let mut calls = calls;
+    let mut answers = Vec::new(alloc);
+    let count = calls.len();
+    assert!(rt; 1 <= count && count <= 64);
+    let told = journal.round(alloc, &mut calls, &mut answers);
+    expect!(rt; told.is_ok() && calls.is_empty() && answers.len() == count);
+    answers
 }
 
 /// Asks all steps in one round. The answers come in the order of the calls, each under its seat and number.
@@ -132,16 +158,15 @@ pub(crate) fn ask_all<D: Disk>(
     journal: &mut Journal<D>,
     steps: &[Step],
 ) -> Vec<Answer> {
-    let mut calls = calls_of(alloc, steps).expect(rt, "memory");
-    let mut answers = Vec::new(alloc);
-    assert!(rt; 1 <= calls.len() && calls.len() <= 64);
-    journal
-        .round(alloc, &mut calls, &mut answers)
-        .expect(rt, "memory");
-    assert!(rt; answers.len() == steps.len());
-    expect!(rt; calls.is_empty());
+    let answers = answers_to(rt, alloc, journal, calls_of(rt, alloc, steps));
+    expect_numbered(rt, &answers, steps.len());
+    answers
+}
+
+/// Expects so many answers, each under its seat and number.
+fn expect_numbered(rt: &impl Abort, answers: &[Answer], count: usize) {
+    expect!(rt; answers.len() == count);
     for (index, answer) in answers.iter().enumerate() {
         expect!(rt; answer.seat == SEAT && answer.number == index as u64);
     }
-    answers
 }

@@ -1,13 +1,13 @@
 //! A script on a device that is stopped at each of its calls in turn, and then crashes, or goes on.
-use crate::comparison::{expect_numbers, expect_state, reply_of};
-use crate::device::{bytes_of, new_device, opened};
+use crate::comparison::{expect_numbers, expect_state, make_all};
+use crate::device::{bytes_of, opened};
 use crate::faults::{Ended, run, standing};
-use crate::script::{Script, Step};
+use crate::script::Script;
 use rly_audit::audit;
-use rly_core::Geometry;
+use rly_core::Params;
 use rly_disk::{After, Disk, FaultDisk, MemDisk, Torn};
 use rly_machine::{Machine, Payload};
-use std::alloc::{AllocError, Global};
+use std::alloc::Global;
 use std::process::Abort;
 
 /// What a crash may leave of the bytes that were written since the last sync.
@@ -19,11 +19,30 @@ pub(crate) const KINDS: [Torn; 5] = [
     Torn::Split(1),
 ];
 
-/// How many bytes a failing write puts.
-const TORN_WRITES: [u64; 3] = [0, 1, 1_000];
+/// In which ways a device fails at a call.
+#[derive(Clone, Copy)]
+pub(crate) struct Ways<'a> {
+    /// How many bytes a failing write puts.
+    torn: &'a [u64],
+    /// What is left of a device that stopped.
+    kinds: &'a [Torn],
+    /// Whether it goes on in another run.
+    goes_on: bool,
+}
 
-/// No script here makes so many device calls.
-const MOST_CALLS: u64 = 400;
+/// Each way.
+pub(crate) const ALL: Ways = Ways {
+    torn: &[0, 1, 1_000],
+    kinds: &KINDS,
+    goes_on: true,
+};
+
+/// It stops, and leaves what reads showed, or bytes `a5` in all that wasn't synced.
+pub(crate) const STOPS: Ways = Ways {
+    torn: &[1],
+    kinds: &[Torn::AsRead, Torn::Fill(0xa5)],
+    goes_on: false,
+};
 
 /// What a script without a failure asks of its device.
 #[derive(Clone, Copy)]
@@ -36,100 +55,131 @@ pub(crate) struct Costs<'a> {
     pub(crate) generations: &'a [u8],
 }
 
-/// Walks a script on a new device: without a failure, stopped at each device call, and with each call failing.
-pub(crate) fn walk(
-    rt: &impl Abort,
-    alloc: Global,
-    geometry: Geometry,
-    rounds: &[Vec<Step>],
-    costs: Costs,
-) {
-    let script = Script {
-        geometry,
-        before: &[],
-        rounds,
-    };
-    let mut disk = new_device(rt, alloc, &geometry).expect(rt, "memory");
-    let image = bytes_of(rt, alloc, &mut disk);
-    walk_image(rt, alloc, script, &image, costs)
+/// Walks a script: without a failure, stopped at each device call, and with each call failing.
+pub(crate) fn walk(rt: &impl Abort, alloc: Global, script: Script, costs: Costs) {
+    expect_costs(rt, alloc, script, costs);
+    walk_part(rt, alloc, script, (1, costs.calls), ALL);
+    expect_last(rt, alloc, script, costs.calls, ALL);
 }
 
-/// The same on a device with these bytes.
-pub(crate) fn walk_image(
-    rt: &impl Abort,
-    alloc: Global,
-    script: Script,
-    image: &[u8],
-    costs: Costs,
-) {
-    expect_costs(rt, alloc, script, image, costs);
-    expect!(rt; stop_at_each_call(rt, alloc, script, image) == costs.calls);
-    expect!(rt; go_on_at_each_call(rt, alloc, script, image) == costs.calls);
-}
-
-/// Stops a script at each of these device calls, which it makes, and has each fail, on a device that stands for what was asked before.
+/// Has each of these device calls fail, all of which the script makes.
 pub(crate) fn walk_part(
     rt: &impl Abort,
     alloc: Global,
     script: Script,
-    image: &[u8],
     (first, last): (u64, u64),
+    ways: Ways,
 ) {
-    assert!(rt; last < MOST_CALLS);
     let mut left = [false; 2];
     for at in first..=last {
-        let stopped = stop_at(rt, alloc, script, image, at, &mut left);
-        let failed = go_on_at(rt, alloc, script, image, at);
-        expect!(rt; stopped != Failed::Nothing && failed == stopped, at);
+        let failed = fail_at(rt, alloc, script, at, ways, &mut left);
+        expect!(rt; failed != Failed::Nothing, at);
     }
     // a round that was stopped stands now and then
     expect!(rt; left == [true; 2]);
 }
 
+/// Expects that a script makes no device call after this one.
+pub(crate) fn expect_last(rt: &impl Abort, alloc: Global, script: Script, last: u64, ways: Ways) {
+    let at = last.saturating_add(1);
+    let failed = fail_at(rt, alloc, script, at, ways, &mut [false; 2]);
+    expect!(rt; failed == Failed::Nothing);
+}
+
+/// A new plain machine.
+pub(crate) fn machine_of(rt: &impl Abort, alloc: Global, params: Params) -> Machine<Payload> {
+    assert!(rt; params.check().is_ok());
+    Machine::new(alloc, params).expect(rt, "memory")
+}
+
 /// The plain machine before a script.
 pub(crate) fn new_machine(rt: &impl Abort, alloc: Global, script: Script) -> Machine<Payload> {
-    assert!(rt; script.geometry.params.check().is_ok());
-    let mut machine = Machine::new(alloc, script.geometry.params).expect(rt, "memory");
-    for step in script.before {
-        let _ = reply_of(alloc, &mut machine, *step).expect(rt, "memory");
-    }
+    let mut machine = machine_of(rt, alloc, script.geometry.params);
+    make_all(rt, alloc, &mut machine, script.before);
     machine
 }
 
-/// A device with these bytes that fails at a call.
-fn failing(
-    alloc: Global,
-    image: &[u8],
-    at: u64,
-    torn: u64,
-    after: After,
-) -> Result<FaultDisk<MemDisk>, AllocError> {
-    let disk = MemDisk::new(alloc, Vec::from_slice(alloc, image)?);
-    Ok(FaultDisk::new(disk, at, torn, after))
-}
+/// A device that may fail at a call.
+type Device = FaultDisk<MemDisk>;
 
-/// Expects of a script without a failure what it asks of its device.
-pub(crate) fn expect_costs(
+/// The device of a script, which fails at a call.
+fn failing(
     rt: &impl Abort,
     alloc: Global,
     script: Script,
-    image: &[u8],
-    costs: Costs,
-) {
-    let disk = failing(alloc, image, 0, 0, After::Stops).expect(rt, "memory");
-    let machine = new_machine(rt, alloc, script);
-    let mut ended = run(rt, alloc, disk, script, (0, machine));
-    expect!(rt; ended.answered == script.rounds.len() && ended.disk.failures() == 0);
-    expect!(rt; ended.disk.calls() == costs.calls && ended.disk.syncs() == costs.syncs);
-    let bytes = bytes_of(rt, alloc, &mut ended.disk);
+    at: u64,
+    torn: u64,
+    after: After,
+) -> Device {
+    let bytes = Vec::from_slice(alloc, script.image).expect(rt, "memory");
+    FaultDisk::new(MemDisk::new(alloc, bytes), at, torn, after)
+}
+
+/// What a device counted.
+#[derive(Clone, Copy)]
+struct Counted {
+    calls: u64,
+    syncs: u64,
+    failures: u64,
+    failed_reads: u64,
+}
+
+fn counts_of(disk: &Device) -> Counted {
+    Counted {
+        calls: disk.calls(),
+        syncs: disk.syncs(),
+        failures: disk.failures(),
+        failed_reads: disk.failed_reads(),
+    }
+}
+
+impl Counted {
+    /// The call that failed, the first one at least.
+    fn failed(self) -> Failed {
+        if self.failures == 0 {
+            Failed::Nothing
+        } else if self.failed_reads > 0 {
+            Failed::Read
+        } else {
+            Failed::Settling
+        }
+    }
+}
+
+/// The bytes that a script leaves on its device, where nothing fails, and what it counted.
+fn left_by(rt: &impl Abort, alloc: Global, script: Script) -> (Vec<u8>, Counted) {
+    let mut machine = new_machine(rt, alloc, script);
+    let disk = failing(rt, alloc, script, 0, 0, After::Stops);
+    let (disk, ended) = run(rt, alloc, disk, script, 0, &mut machine);
+    expect!(rt; ended.answered == script.rounds.len());
+    let counted = counts_of(&disk);
+    let mut disk = disk;
+    (bytes_of(rt, alloc, &mut disk), counted)
+}
+
+/// The bytes that a script leaves on its device, asked beside the plain machine.
+pub(crate) fn image_after(rt: &impl Abort, alloc: Global, script: Script) -> Vec<u8> {
+    let (bytes, _) = left_by(rt, alloc, script);
+    bytes
+}
+
+/// Expects of a script without a failure what it asks of its device.
+pub(crate) fn expect_costs(rt: &impl Abort, alloc: Global, script: Script, costs: Costs) {
+    let (bytes, counted) = left_by(rt, alloc, script);
+    expect!(rt; counted.failures == 0);
+    expect!(rt; counted.calls == costs.calls && counted.syncs == costs.syncs);
     let mut gate = 64;
     for generation in costs.generations {
-        let is_open = bytes.get(gate) == Some(&0xa5);
-        expect!(rt; is_open == (*generation != 0));
-        // the lowest byte of the generation
-        expect!(rt; !is_open || bytes.get(gate.saturating_add(8)) == Some(generation));
+        expect!(rt; has_generation(&bytes, gate, *generation));
         gate = gate.saturating_add(script.geometry.length as usize);
     }
+}
+
+/// Whether a gate is open, and its generation has this lowest byte; for 0, that it is closed.
+fn has_generation(bytes: &[u8], gate: usize, generation: u8) -> bool {
+    let is_open = bytes.get(gate) == Some(&0xa5);
+    is_open == (generation != 0)
+        && (!is_open || bytes.get(gate.saturating_add(8)) == Some(&generation))
 }
 
 /// The call of a device that failed.
@@ -143,86 +193,61 @@ pub(crate) enum Failed {
     Settling,
 }
 
-/// The call that failed, the first one at least.
-fn failed_call(disk: &FaultDisk<MemDisk>) -> Failed {
-    if disk.failures() == 0 {
-        Failed::Nothing
-    } else if disk.failed_reads() > 0 {
-        Failed::Read
-    } else {
-        Failed::Settling
-    }
-}
-
-/// Stops a script at each device call in turn, with each torn write, and crashes in each way. Answers how many there are.
-fn stop_at_each_call(rt: &impl Abort, alloc: Global, script: Script, image: &[u8]) -> u64 {
-    let mut left = [false; 2];
-    for at in 1..MOST_CALLS {
-        let failed = stop_at(rt, alloc, script, image, at, &mut left);
-        if failed == Failed::Nothing {
-            // a round that was stopped stands now and then
-            expect!(rt; left == [true; 2]);
-            return at - 1;
-        }
-    }
-    panic!(rt; "no run without a failure")
-}
-
-/// Stops a script at a device call, with each torn write if it is one, and crashes in each way. Tells `left` whether a round stood that
-/// was not answered, and answers what failed.
-fn stop_at(
+/// Fails the device at a call of a script, with each torn write if it is one. Tells `left` whether a round stood that was not
+/// answered, and answers what failed.
+fn fail_at(
     rt: &impl Abort,
     alloc: Global,
     script: Script,
-    image: &[u8],
     at: u64,
+    ways: Ways,
     left: &mut [bool; 2],
 ) -> Failed {
     let mut failed = Failed::Settling;
-    for torn in TORN_WRITES {
+    for torn in ways.torn {
         if failed == Failed::Settling {
-            failed = stop_in_each_way(rt, alloc, script, image, at, torn, left);
+            failed = fail_torn(rt, alloc, script, (at, *torn), ways, left);
         }
     }
     failed
 }
 
-/// Stops the script at a call with one torn write, and crashes in each way. Tells `left` whether a round stood that was not
-/// answered, and answers what failed.
-fn stop_in_each_way(
+/// The same with one torn write: stops the script and crashes in each way, and goes on.
+fn fail_torn(
     rt: &impl Abort,
     alloc: Global,
     script: Script,
-    image: &[u8],
-    at: u64,
-    torn: u64,
+    (at, torn): (u64, u64),
+    ways: Ways,
     left: &mut [bool; 2],
 ) -> Failed {
     let mut failed = Failed::Nothing;
-    for kind in KINDS {
-        failed = stop_in_way(rt, alloc, script, image, (at, torn, kind), left);
+    for kind in ways.kinds {
+        failed = stop_in_way(rt, alloc, script, (at, torn, *kind), left);
+    }
+    if ways.goes_on {
+        expect!(rt; go_on(rt, alloc, script, at, torn) == failed, at);
     }
     failed
 }
 
-/// The same in one way.
-pub(crate) fn stop_in_way(
+/// Stops the script at a call, and crashes in one way.
+fn stop_in_way(
     rt: &impl Abort,
     alloc: Global,
     script: Script,
-    image: &[u8],
     (at, torn, kind): (u64, u64, Torn),
     left: &mut [bool; 2],
 ) -> Failed {
-    let disk = failing(alloc, image, at, torn, After::Stops).expect(rt, "memory");
-    let machine = new_machine(rt, alloc, script);
-    let ended = run(rt, alloc, disk, script, (0, machine));
-    let failed = failed_call(&ended.disk);
-    expect!(rt; (failed != Failed::Nothing) == (ended.disk.calls() >= at));
+    let mut machine = new_machine(rt, alloc, script);
+    let disk = failing(rt, alloc, script, at, torn, After::Stops);
+    let (disk, ended) = run(rt, alloc, disk, script, 0, &mut machine);
+    let counted = counts_of(&disk);
+    let failed = counted.failed();
+    expect!(rt; (failed != Failed::Nothing) == (counted.calls >= at));
     expect!(rt; failed != Failed::Nothing || ended.answered == script.rounds.len());
-    let answered = ended.answered;
-    let stand = expect_crashed(rt, alloc, script, ended, kind);
-    left[usize::from(stand > answered)] = true;
+    let stand = expect_crashed(rt, alloc, script, disk, ended, kind, &mut machine);
+    left[usize::from(stand > ended.answered)] = true;
     failed
 }
 
@@ -232,20 +257,15 @@ fn expect_crashed(
     rt: &impl Abort,
     alloc: Global,
     script: Script,
+    disk: Device,
     ended: Ended,
     kind: Torn,
+    machine: &mut Machine<Payload>,
 ) -> usize {
-    let Ended {
-        disk,
-        machine,
-        answered,
-        unsure,
-    } = ended;
     let disk = expect_balance(rt, alloc, disk.into_inner().crash(kind));
     let mut journal = opened(rt, alloc, disk);
-    let before = (answered, machine);
-    let (stand, mut machine) = standing(rt, alloc, &journal, script, before, unsure);
-    expect_state(rt, alloc, &mut journal, &mut machine);
+    let stand = standing(rt, alloc, journal.position(), script, ended, machine);
+    expect_state(rt, alloc, &mut journal, machine);
     stand
 }
 
@@ -261,59 +281,49 @@ fn expect_balance(rt: &impl Abort, alloc: Global, disk: MemDisk) -> MemDisk {
     }
 }
 
-/// Fails the device at each call of a script in turn, with each torn write, and goes on. Answers how many there are.
-fn go_on_at_each_call(rt: &impl Abort, alloc: Global, script: Script, image: &[u8]) -> u64 {
-    for at in 1..MOST_CALLS {
-        if go_on_at(rt, alloc, script, image, at) == Failed::Nothing {
-            return at - 1;
-        }
-    }
-    panic!(rt; "no run without a failure")
-}
-
-/// Fails the device at a call of a script, with each torn write if it is one, and goes on. Answers what failed.
-fn go_on_at(rt: &impl Abort, alloc: Global, script: Script, image: &[u8], at: u64) -> Failed {
-    let mut failed = Failed::Settling;
-    for torn in TORN_WRITES {
-        if failed == Failed::Settling {
-            let disk = failing(alloc, image, at, torn, After::GoesOn).expect(rt, "memory");
-            failed = go_on(rt, alloc, script, disk, at);
-        }
-    }
-    failed
-}
-
 /// Fails the device at one call, opens it again, and goes on from the state that was found to the end of the script. Answers what
 /// failed, which it does once.
-fn go_on(
+fn go_on(rt: &impl Abort, alloc: Global, script: Script, at: u64, torn: u64) -> Failed {
+    let mut machine = new_machine(rt, alloc, script);
+    let disk = failing(rt, alloc, script, at, torn, After::GoesOn);
+    let (disk, ended) = run(rt, alloc, disk, script, 0, &mut machine);
+    let counted = counts_of(&disk);
+    expect!(rt; counted.failures == u64::from(counted.calls >= at));
+    // after a read the script goes on by itself, but for one of the opening
+    expect!(rt; ended.answered == script.rounds.len() || counted.calls == at);
+    if counted.failures > 0 {
+        go_on_from(rt, alloc, script, disk, ended, &mut machine);
+    }
+    counted.failed()
+}
+
+/// Opens the device of a run that ended, and goes on to the end of the script.
+fn go_on_from(
     rt: &impl Abort,
     alloc: Global,
     script: Script,
-    disk: FaultDisk<MemDisk>,
-    at: u64,
-) -> Failed {
-    let machine = new_machine(rt, alloc, script);
-    let ended = run(rt, alloc, disk, script, (0, machine));
-    let failed = failed_call(&ended.disk);
-    expect!(rt; ended.disk.failures() == u64::from(ended.disk.calls() >= at));
-    if failed == Failed::Nothing {
-        return failed;
-    }
-    // after a read the script goes on by itself, but for one of the opening
-    expect!(rt; ended.answered == script.rounds.len() || ended.disk.calls() == at);
-    let Ended {
-        disk,
-        machine,
-        answered,
-        unsure,
-    } = ended;
-    let mut journal = opened(rt, alloc, disk);
-    let before = (answered, machine);
-    let (from, mut machine) = standing(rt, alloc, &journal, script, before, unsure);
-    expect_numbers(rt, alloc, &mut journal, &mut machine);
-    let ended = run(rt, alloc, journal.into_disk(), script, (from, machine));
-    expect!(rt; ended.answered == script.rounds.len() && ended.disk.failures() == 1);
-    let stand = expect_crashed(rt, alloc, script, ended, Torn::AsSynced);
+    disk: Device,
+    ended: Ended,
+    machine: &mut Machine<Payload>,
+) {
+    let (disk, from) = found_again(rt, alloc, script, disk, ended, machine);
+    let (disk, ended) = run(rt, alloc, disk, script, from, machine);
+    expect!(rt; ended.answered == script.rounds.len() && counts_of(&disk).failures == 1);
+    let stand = expect_crashed(rt, alloc, script, disk, ended, Torn::AsSynced, machine);
     expect!(rt; stand == script.rounds.len());
-    failed
+}
+
+/// Opens the device of a run that ended, and expects the numbers of the rounds that stand. Answers how many these are.
+fn found_again(
+    rt: &impl Abort,
+    alloc: Global,
+    script: Script,
+    disk: Device,
+    ended: Ended,
+    machine: &mut Machine<Payload>,
+) -> (Device, usize) {
+    let mut journal = opened(rt, alloc, disk);
+    let from = standing(rt, alloc, journal.position(), script, ended, machine);
+    expect_numbers(rt, alloc, &mut journal, machine);
+    (journal.into_disk(), from)
 }

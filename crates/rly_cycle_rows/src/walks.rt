@@ -1,13 +1,14 @@
 //! Scripts that are walked: without a failure, stopped at each call of the device, and with each call failing.
-use crate::device::{FOUR, SMALL, THREE, bytes_of, new_device};
+use crate::cycles::{Cycle, PARTS};
+use crate::device::{FOUR, SMALL, THREE, new_image};
 use crate::script::{Script, Step, in_rounds, take, take_within};
-use crate::stops::{Costs, walk, walk_image};
+use crate::stops::{Costs, walk};
 use rly_core::Geometry;
-use std::alloc::{AllocError, Global};
+use std::alloc::Global;
 use std::process::Abort;
 
 /// The rounds of a script.
-#[derive(Clone, Copy)]
+#[derive(Clone, Copy, PartialEq, Eq)]
 enum Rounds {
     Commands,
     Limited,
@@ -16,26 +17,18 @@ enum Rounds {
     /// 180 mixed steps of 300 bytes, 64 in each round.
     OfSixtyFour,
     Held,
-    ThreeCycles,
 }
 
 impl Rounds {
-    fn made(self, alloc: Global) -> Result<Vec<Vec<Step>>, AllocError> {
+    fn made(self, rt: &impl Abort, alloc: Global) -> Vec<Vec<Step>> {
         match self {
-            Rounds::Commands => in_rounds(alloc, &commands(), 1),
-            Rounds::Limited => in_rounds(alloc, &limited(), 1),
-            Rounds::OfSeven => many_mixed(alloc, 35, 900, 7),
-            Rounds::OfSixtyFour => many_mixed(alloc, 180, 300, 64),
-            Rounds::Held => held(alloc),
-            Rounds::ThreeCycles => three_cycles_of(alloc, 1_200),
+            Rounds::Commands => in_rounds(rt, alloc, &commands(), 1),
+            Rounds::Limited => in_rounds(rt, alloc, &limited(), 1),
+            Rounds::OfSeven => many_mixed(rt, alloc, 35, 900, 7),
+            Rounds::OfSixtyFour => many_mixed(rt, alloc, 180, 300, 64),
+            Rounds::Held => held(rt, alloc),
         }
     }
-}
-
-/// Walks rounds on a new device.
-fn walk_rounds(rt: &impl Abort, alloc: Global, rounds: Rounds, geometry: Geometry, costs: Costs) {
-    let rounds = rounds.made(alloc).expect(rt, "memory");
-    walk(rt, alloc, geometry, &rounds, costs)
 }
 
 /// Commands one by one: three datagrams are taken, CoDel begins to drop, and segments are opened. On two segments these are two,
@@ -60,22 +53,6 @@ fn commands() -> [Step; 15] {
     ]
 }
 
-#[test]
-fn rounds_of_one_call(rt: HostRuntime) {
-    let costs = Costs {
-        calls: 76,
-        syncs: 33,
-        generations: &[3, 2],
-    };
-    walk_rounds(&rt, rt.alloc(), Rounds::Commands, SMALL, costs);
-    let costs = Costs {
-        calls: 77,
-        syncs: 36,
-        generations: &[4, 2, 3, 0],
-    };
-    walk_rounds(&rt, rt.alloc(), Rounds::Commands, FOUR, costs);
-}
-
 /// Commands one by one, some with limits. The Pick at 120,000 finds one that has expired and drops the next; those at 130,000 and at
 /// 500,000 leave nothing. The heads that are opened have a limit or what has expired.
 fn limited() -> [Step; 15] {
@@ -98,26 +75,6 @@ fn limited() -> [Step; 15] {
     ]
 }
 
-#[test]
-fn limits_on_two_segments(rt: HostRuntime) {
-    let costs = Costs {
-        calls: 83,
-        syncs: 37,
-        generations: &[3, 2],
-    };
-    walk_rounds(&rt, rt.alloc(), Rounds::Limited, SMALL, costs);
-}
-
-#[test]
-fn limits_on_four_segments(rt: HostRuntime) {
-    let costs = Costs {
-        calls: 85,
-        syncs: 40,
-        generations: &[4, 2, 3, 0],
-    };
-    walk_rounds(&rt, rt.alloc(), Rounds::Limited, FOUR, costs);
-}
-
 /// Step number `index` of full rounds. Three datagrams of each ten steps are taken, picked and released.
 fn mixed(index: u8, length: usize) -> Step {
     let first = 3 * u64::from(index / 10);
@@ -135,118 +92,72 @@ fn mixed(index: u8, length: usize) -> Step {
 
 /// So many of these steps, in rounds of so many.
 fn many_mixed(
+    rt: &impl Abort,
     alloc: Global,
     count: u8,
     length: usize,
     calls: usize,
-) -> Result<Vec<Vec<Step>>, AllocError> {
+) -> Vec<Vec<Step>> {
     let mut steps = Vec::new(alloc);
     for index in 0..count {
-        steps.push(mixed(index, length))?;
+        steps.push(mixed(index, length)).expect(rt, "memory");
     }
-    in_rounds(alloc, &steps, calls)
+    in_rounds(rt, alloc, &steps, calls)
 }
 
-#[test]
-fn rounds_of_seven_calls(rt: HostRuntime) {
-    let costs = Costs {
-        calls: 43,
-        syncs: 17,
-        generations: &[3, 2],
-    };
-    walk_rounds(&rt, rt.alloc(), Rounds::OfSeven, SMALL, costs);
-    let costs = Costs {
-        calls: 51,
-        syncs: 23,
-        generations: &[4, 5, 3, 0],
-    };
-    walk_rounds(&rt, rt.alloc(), Rounds::OfSeven, FOUR, costs);
+/// Steps that each take a datagram of 250 bytes, pick one that was taken seven before, and release one that was taken 14 before: 14 or
+/// more are live once as many were taken, and lie in three segments.
+fn held_step(number: u64, index: u8) -> Step {
+    match index {
+        0 => take(number, 0, 250),
+        1 if number > 7 => Step::Pick { now: 0 },
+        1 => Step::Window,
+        _ if number > 14 => Step::Release {
+            number: number - 14,
+        },
+        _ => Step::Show,
+    }
 }
 
-#[test]
-fn rounds_of_sixty_four_calls(rt: HostRuntime) {
-    let costs = Costs {
-        calls: 34,
-        syncs: 13,
-        generations: &[3, 2],
-    };
-    walk_rounds(&rt, rt.alloc(), Rounds::OfSixtyFour, SMALL, costs);
-    let costs = Costs {
-        calls: 32,
-        syncs: 13,
-        generations: &[3, 2, 0, 0],
-    };
-    walk_rounds(&rt, rt.alloc(), Rounds::OfSixtyFour, FOUR, costs);
-}
-
-/// Rounds that each take two datagrams of 250 bytes, pick two that were taken seven before, and release two that were taken 14 before: 14
-/// or more are live once as many were taken, and lie in three segments.
-fn held(alloc: Global) -> Result<Vec<Vec<Step>>, AllocError> {
+/// Those of 30 datagrams, of two in each round.
+fn held(rt: &impl Abort, alloc: Global) -> Vec<Vec<Step>> {
     let mut steps = Vec::new(alloc);
     for number in 1..=30 {
-        steps.push(take(number, 0, 250))?;
-        steps.push(if number > 7 {
-            Step::Pick { now: 0 }
-        } else {
-            Step::Window
-        })?;
-        steps.push(if number > 14 {
-            Step::Release {
-                number: number - 14,
-            }
-        } else {
-            Step::Show
-        })?;
+        for index in 0..3 {
+            steps.push(held_step(number, index)).expect(rt, "memory");
+        }
     }
-    in_rounds(alloc, &steps, 6)
+    in_rounds(rt, alloc, &steps, 6)
 }
 
-/// Six segments are opened, four of them with payloads that are moved: two, and three times four.
-#[test]
-fn payloads_in_three_segments(rt: HostRuntime) {
-    let costs = Costs {
-        calls: 116,
-        syncs: 49,
-        generations: &[7, 6, 3, 4],
-    };
-    walk_rounds(&rt, rt.alloc(), Rounds::Held, FOUR, costs);
+/// Adds the rounds of a worked cycle: those that have steps.
+pub(crate) fn add_cycle(rt: &impl Abort, alloc: Global, rounds: &mut Vec<Vec<Step>>, cycle: Cycle) {
+    for part in PARTS {
+        let mut steps = Vec::new(alloc);
+        cycle.add(rt, &mut steps, part);
+        add_round(rt, rounds, steps);
+    }
 }
 
-/// The rounds of a worked cycle, which takes 32 datagrams of so many bytes from a number on, with a limit or without, picks them, and
-/// fetches all in flight. From the second on the older 32 are released then.
-pub(crate) fn cycle(
-    alloc: Global,
-    rounds: &mut Vec<Vec<Step>>,
-    first: u64,
-    limit: u64,
-    length: usize,
-) -> Result<(), AllocError> {
-    let after = first.saturating_add(32);
-    let mut takes = Vec::new(alloc);
-    for number in first..after {
-        takes.push(take_within(number, 0, limit, length))?;
+fn add_round(rt: &impl Abort, rounds: &mut Vec<Vec<Step>>, steps: Vec<Step>) {
+    if !steps.is_empty() {
+        rounds.push(steps).ok().expect(rt, "memory");
     }
-    rounds.push(takes)?;
-    rounds.push(vec![in alloc; Step::Pick { now: 0 }; 32]?)?;
-    let mut fetches = Vec::new(alloc);
-    for number in first.saturating_sub(32).max(1)..after {
-        fetches.push(Step::Fetch { number })?;
-    }
-    rounds.push(fetches)?;
-    if first > 1 {
-        let number = first - 1;
-        rounds.push(vec![in alloc; Step::Release { number }]?)?;
-    }
-    Ok(())
 }
 
 /// The first three of the worked cycles, in eleven rounds.
-pub(crate) fn three_cycles_of(alloc: Global, length: usize) -> Result<Vec<Vec<Step>>, AllocError> {
+pub(crate) fn three_cycles_of(rt: &impl Abort, alloc: Global, length: usize) -> Vec<Vec<Step>> {
     let mut rounds = Vec::new(alloc);
     for first in [1, 33, 65] {
-        cycle(alloc, &mut rounds, first, 0, length)?;
+        let cycle = Cycle {
+            first,
+            limit: 0,
+            length,
+        };
+        add_cycle(rt, alloc, &mut rounds, cycle);
     }
-    Ok(rounds)
+    expect!(rt; rounds.len() == 11);
+    rounds
 }
 
 /// What they ask of their device. Three segments are opened: before the picks of the second cycle, where nothing is moved, before those of
@@ -259,34 +170,114 @@ pub(crate) const THREE_CYCLES: Costs = Costs {
     generations: &[4, 2, 3],
 };
 
+/// A row of a walk on two or on four segments: its rounds, the calls, the syncs, and the generations.
+type Row = (Rounds, Geometry, u64, u64, &'static [u8]);
+
+/// Of the held rounds six segments are opened, four of them with payloads that are moved: two, and three times four.
+const ROWS: [Row; 9] = [
+    (Rounds::Commands, SMALL, 76, 33, &[3, 2]),
+    (Rounds::Commands, FOUR, 77, 36, &[4, 2, 3, 0]),
+    (Rounds::Limited, SMALL, 83, 37, &[3, 2]),
+    (Rounds::Limited, FOUR, 85, 40, &[4, 2, 3, 0]),
+    (Rounds::OfSeven, SMALL, 43, 17, &[3, 2]),
+    (Rounds::OfSeven, FOUR, 51, 23, &[4, 5, 3, 0]),
+    (Rounds::OfSixtyFour, SMALL, 34, 13, &[3, 2]),
+    (Rounds::OfSixtyFour, FOUR, 32, 13, &[3, 2, 0, 0]),
+    (Rounds::Held, FOUR, 116, 49, &[7, 6, 3, 4]),
+];
+
+fn rows() -> &'static [Row] {
+    &ROWS
+}
+
+#[test]
+fn rounds_of_one_call(rt: HostRuntime) {
+    walk_rows(&rt, rt.alloc(), Rounds::Commands);
+}
+
+#[test]
+fn limits(rt: HostRuntime) {
+    walk_rows(&rt, rt.alloc(), Rounds::Limited);
+}
+
+#[test]
+fn rounds_of_seven_calls(rt: HostRuntime) {
+    walk_rows(&rt, rt.alloc(), Rounds::OfSeven);
+}
+
+#[test]
+fn rounds_of_sixty_four_calls(rt: HostRuntime) {
+    walk_rows(&rt, rt.alloc(), Rounds::OfSixtyFour);
+}
+
+#[test]
+fn payloads_in_three_segments(rt: HostRuntime) {
+    walk_rows(&rt, rt.alloc(), Rounds::Held);
+}
+
+/// Walks the rows of some rounds.
+fn walk_rows(rt: &impl Abort, alloc: Global, of: Rounds) {
+    for (rounds, geometry, calls, syncs, generations) in rows() {
+        if *rounds == of {
+            let costs = Costs {
+                calls: *calls,
+                syncs: *syncs,
+                generations,
+            };
+            let rounds = of.made(rt, alloc);
+            walk_rounds(
+                rt,
+                alloc,
+                geometry,
+                &new_image(rt, alloc, geometry),
+                &rounds,
+                costs,
+            );
+        }
+    }
+}
+
+/// Walks rounds on a new device with these bytes.
+fn walk_rounds(
+    rt: &impl Abort,
+    alloc: Global,
+    geometry: &Geometry,
+    image: &[u8],
+    rounds: &[Vec<Step>],
+    costs: Costs,
+) {
+    let script = Script {
+        geometry: *geometry,
+        image,
+        before: &[],
+        rounds,
+    };
+    walk(rt, alloc, script, costs);
+}
+
 #[test]
 fn three_cycles(rt: HostRuntime) {
-    walk_rounds(&rt, rt.alloc(), Rounds::ThreeCycles, THREE, THREE_CYCLES);
-}
-
-/// The bytes of a new device, with a header of version 1 as programs wrote it that knew no longer payloads, and `ff` after its fields.
-fn first_version(rt: &impl Abort, alloc: Global) -> Vec<u8> {
-    let mut disk = new_device(rt, alloc, &THREE).expect(rt, "memory");
-    let mut image = bytes_of(rt, alloc, &mut disk);
-    assert!(rt; image.len() == 355_588);
-    image[10] = 1;
-    image[51..64].fill(0xff);
-    image
-}
-
-fn walk_first_version(rt: &impl Abort, alloc: Global) {
-    let rounds = three_cycles_of(alloc, 1_200).expect(rt, "memory");
-    expect!(rt; rounds.len() == 11);
-    let script = Script {
-        geometry: THREE,
-        before: &[],
-        rounds: &rounds,
-    };
-    walk_image(rt, alloc, script, &first_version(rt, alloc), THREE_CYCLES);
+    walk_cycles(&rt, rt.alloc(), false);
 }
 
 /// The same rounds on a device of version 1, whose longest payload has 1,200 bytes.
 #[test]
 fn three_cycles_on_a_device_of_version_1(rt: HostRuntime) {
-    walk_first_version(&rt, rt.alloc());
+    walk_cycles(&rt, rt.alloc(), true);
+}
+
+fn walk_cycles(rt: &impl Abort, alloc: Global, is_first_version: bool) {
+    let mut image = new_image(rt, alloc, &THREE);
+    if is_first_version {
+        put_first_version(rt, &mut image);
+    }
+    let rounds = three_cycles_of(rt, alloc, 1_200);
+    walk_rounds(rt, alloc, &THREE, &image, &rounds, THREE_CYCLES);
+}
+
+/// Puts a header of version 1 as programs wrote it that knew no longer payloads, and `ff` after its fields.
+fn put_first_version(rt: &impl Abort, image: &mut [u8]) {
+    assert!(rt; image.len() == 355_588);
+    image[10] = 1;
+    image[51..64].fill(0xff);
 }
