@@ -1,14 +1,13 @@
 //! The disks through their trait, as the crates above use them.
-ghost use Rattle.std.specs.Prelude.{◌≤◌, ◌+◌, IsTrue, IfOk};
-ghost use Rattle.rly_disk.specs.DiskModel.{Settled};
-ghost use Rattle.rly_disk.specs.MemDisk.{mem_state};
+ghost use Rattle.std.specs.Prelude.{◌≤◌, ◌+◌, IsTrue};
 
 mod client;
 mod fault_disk;
 mod mem;
 
 use rly_disk::{Disk, DiskFault, MemDisk};
-use std::alloc::{AllocError, Global};
+use std::alloc::Global;
+use std::process::Abort;
 
 // Whether a range of so many bytes lies on the disk.
 fn fits<D: Disk>(disk: &D, place: u64, len: usize) -> bool
@@ -25,19 +24,49 @@ fn put<D: Disk>(disk: &mut D, place: u64, bytes: &[u8]) -> Result<(), DiskFault>
     disk.write_at(place, bytes)
 }
 
-// Whether a read at the place gives these bytes.
-fn reads<D: Disk>(
-    alloc: Global,
+// What a read of a disk puts into a buffer, or that it fails.
+fn get<D: Disk>(
+    rt: &impl Abort,
     disk: &mut D,
     place: u64,
-    bytes: &[u8],
-) -> Result<bool, AllocError> {
-    let mut buffer = vec![in alloc; 0; bytes.len()]?;
-    if !fits(disk, place, buffer.len()) {
-        return Ok(false);
+    buffer: &mut [u8],
+) -> Result<(), DiskFault> {
+    assert!(rt; fits(disk, place, buffer.len()));
+    disk.read_at(place, buffer)
+}
+
+// A read at the place gives these bytes.
+fn expect_read<D: Disk>(rt: &impl Abort, alloc: Global, disk: &mut D, place: u64, bytes: &[u8]) {
+    let mut buffer = vec![in alloc; 0; bytes.len()].expect(rt, "memory");
+    let outcome = get(rt, disk, place, &mut buffer);
+    let is_read = outcome.is_ok() && buffer.as_slice() == bytes;
+    expect!(rt; is_read, place);
+}
+
+/// What is done to a disk.
+#[derive(Clone, Copy)]
+enum Act {
+    /// Writes these bytes at a place.
+    Put(u64, &'static [u8]),
+    Sync,
+    /// Reads these bytes at a place.
+    Read(u64, &'static [u8]),
+}
+
+/// Does it to a disk none of whose calls fails.
+fn make(rt: &impl Abort, alloc: Global, disk: &mut MemDisk, act: Act) {
+    match act {
+        Act::Put(place, bytes) => put(disk, place, bytes).expect(rt, "no fault"),
+        Act::Sync => disk.sync().expect(rt, "no fault"),
+        Act::Read(place, bytes) => expect_read(rt, alloc, disk, place, bytes),
     }
-    let outcome = disk.read_at(place, &mut buffer);
-    Ok(outcome.is_ok() && buffer.as_slice() == bytes)
+}
+
+/// Does these in turn.
+fn make_all(rt: &impl Abort, alloc: Global, disk: &mut MemDisk, acts: &[Act]) {
+    for each in acts {
+        make(rt, alloc, disk, *each);
+    }
 }
 
 // The counts: calls, failures, syncs, failed reads.
@@ -50,8 +79,6 @@ fn counts<D: Disk>(disk: &D) -> [u64; 4] {
     ]
 }
 
-fn mem_disk(alloc: Global, bytes: &[u8]) -> Result<MemDisk, AllocError>
-    ensures { IfOk result (λ disk. Settled (mem_state disk)) }
-{
-    Ok(MemDisk::new(alloc, bytes.to_vec(alloc)?))
+fn mem_disk(rt: &impl Abort, alloc: Global, bytes: &[u8]) -> MemDisk {
+    MemDisk::new(alloc, bytes.to_vec(alloc).expect(rt, "memory"))
 }

@@ -7,11 +7,14 @@
 #![tactic(auto)]
 
 /// As `assert!`, by one call: the prover then sees one way on where `assert!` has two. `assert!` stands where a later call needs
-/// what was asserted, and where the text names a row.
+/// what was asserted, and where the text shows more of a row than a number. A number after the condition names a row.
 #[cfg(test)]
 macro_rules! expect {
     ($rt:expr; $cond:expr $(,)?) => {
         crate::expect::expect(&$rt, $cond, stringify!($cond))
+    };
+    ($rt:expr; $cond:expr, $row:expr $(,)?) => {
+        crate::expect::expect_row(&$rt, $cond, stringify!($cond), $row)
     };
 }
 

@@ -8,10 +8,9 @@ use rly_core::{Geometry, Params};
 use rly_disk::{After, Disk, FaultDisk, MemDisk, Torn};
 use rly_machine::{Machine, Payload};
 use rly_reclaim::fits;
-use rly_segment::{FormatFault, HeadFault, OpeningFault, Target, format, open_segment, read_head};
-use std::alloc::{AllocError, Global};
+use rly_segment::{FormatFault, OpeningFault, Target, format, open_segment, read_head};
+use std::alloc::Global;
 use std::process::Abort;
-use std::test::Fail;
 
 const DEVICE_E: Geometry = Geometry {
     params: Params {
@@ -65,102 +64,115 @@ const KINDS: [Torn; 5] = [
     Torn::Split(1),
 ];
 
-fn disk_of(alloc: Global, byte: u8, size: usize) -> Result<MemDisk, AllocError> {
-    Ok(MemDisk::new(alloc, vec![in alloc; byte; size]?))
+/// The bytes of a device that is filled with one byte.
+fn filled(rt: &impl Abort, alloc: Global, byte: u8) -> Vec<u8> {
+    vec![in alloc; byte; SIZE].expect(rt, "memory")
 }
 
-fn bytes_of<D: Disk>(alloc: Global, disk: &mut D) -> Result<Vec<u8>, AllocError> {
-    let mut bytes = vec![in alloc; 0u8; disk.size() as usize]?;
-    let _ = disk.read_at(0, &mut bytes);
-    Ok(bytes)
+/// A device of these bytes.
+fn disk_of(rt: &impl Abort, alloc: Global, bytes: &[u8]) -> MemDisk {
+    MemDisk::new(alloc, Vec::from_slice(alloc, bytes).expect(rt, "memory"))
 }
 
-/// Whether the head of the empty state stands at a place, with a closed gate after it.
-fn is_new_head(bytes: &[u8], place: usize) -> bool {
-    bytes.iter().skip(place).take(13).eq(HEAD.iter())
-        && bytes
-            .iter()
-            .skip(place)
-            .skip(13)
-            .take(81)
-            .all(|byte| *byte == 0)
+/// What a disk reads.
+fn bytes_of<D: Disk>(rt: &impl Abort, alloc: Global, disk: &mut D) -> Vec<u8> {
+    let mut bytes = vec![in alloc; 0u8; disk.size() as usize].expect(rt, "memory");
+    expect!(rt; disk.read_at(0, &mut bytes) == Ok(()));
+    bytes
 }
 
-/// Whether the gate of the second segment is closed.
-fn is_second_closed(bytes: &[u8]) -> bool {
-    bytes.iter().skip(SECOND).take(1).all(|byte| *byte != 0xa5)
+/// A disk reads these bytes.
+fn expect_bytes<D: Disk>(rt: &impl Abort, alloc: Global, disk: &mut D, wanted: &[u8]) {
+    let bytes = bytes_of(rt, alloc, disk);
+    expect!(rt; bytes.as_slice() == wanted);
 }
 
-/// Whether these are the bytes of a new device.
-fn is_formatted(bytes: &[u8]) -> bool {
-    bytes.len() == SIZE
-        && bytes.starts_with(&HEADER)
-        && is_new_head(bytes, 64)
-        && is_second_closed(bytes)
+/// Puts bytes of a device at a place.
+fn put(rt: &impl Abort, bytes: &mut [u8], place: usize, what: &[u8]) {
+    assert!(rt; bytes.len() == SIZE && place <= 100_000 && what.len() <= 100);
+    bytes[place..place + what.len()].copy_from_slice(what);
 }
 
-/// Formats a device that is filled with one byte.
-fn expect_formatted(rt: &impl Abort, alloc: Global, byte: u8) {
-    let mut disk = disk_of(alloc, byte, SIZE).expect(rt, "memory");
-    expect!(rt; format(alloc, &mut disk, &DEVICE_E) == Ok(()));
-    let bytes = bytes_of(alloc, &mut disk).expect(rt, "memory");
-    expect_beside(rt, &bytes, byte);
+/// Puts the head of the empty state at a place, with a closed gate after it.
+fn put_head(rt: &impl Abort, bytes: &mut [u8], place: usize) {
+    put(rt, bytes, place, &HEAD);
+    put(rt, bytes, place.saturating_add(13), &[0; 81]);
 }
 
-/// These are the bytes of a new device, and beside what was written all have the byte of before.
-fn expect_beside(rt: &impl Abort, bytes: &[u8], byte: u8) {
-    expect!(rt; is_formatted(bytes));
-    expect!(rt; bytes.iter().skip(53).take(11).all(|b| *b == byte));
-    expect!(rt; bytes.get(SECOND) == Some(&0));
-    expect!(rt; bytes.iter().skip(158).filter(|b| **b != byte).count() <= 1);
+/// Puts what a format writes: the header, the head of the first segment, and the closed gate of the second.
+fn put_format(rt: &impl Abort, bytes: &mut [u8]) {
+    put(rt, bytes, 0, &HEADER);
+    put_head(rt, bytes, 64);
+    put(rt, bytes, SECOND, &[0]);
+}
+
+/// The bytes of a device that had these before it was formatted: what isn't written stays.
+fn formatted(rt: &impl Abort, alloc: Global, old: &[u8]) -> Vec<u8> {
+    let mut bytes = Vec::from_slice(alloc, old).expect(rt, "memory");
+    put_format(rt, &mut bytes);
+    bytes
+}
+
+/// Formats a disk as device E.
+fn format_e<D: Disk>(alloc: Global, disk: &mut D) -> Result<(), FormatFault> {
+    format(alloc, disk, &DEVICE_E)
+}
+
+/// Formats a device of these bytes.
+fn expect_formatted(rt: &impl Abort, alloc: Global, old: &[u8]) {
+    let mut disk = disk_of(rt, alloc, old);
+    expect!(rt; format_e(alloc, &mut disk) == Ok(()));
+    expect_bytes(rt, alloc, &mut disk, &formatted(rt, alloc, old));
 }
 
 #[test]
 fn a_device_is_formatted(rt: HostRuntime) {
     for byte in [0xa5, 0] {
-        expect_formatted(&rt, rt.alloc(), byte);
+        expect_formatted(&rt, rt.alloc(), &filled(&rt, rt.alloc(), byte));
     }
+}
+
+/// Adds bytes to others, and one byte as far as a length.
+fn add(rt: &impl Abort, bytes: &mut Vec<u8>, front: &[u8], (length, byte): (usize, u8)) {
+    bytes.extend_from_slice(front).expect(rt, "memory");
+    bytes.resize(length, byte).expect(rt, "memory");
 }
 
 /// The device as programs wrote it which knew neither limits nor longer payloads: a header of version 1, a head of the first form, and
 /// `ff` where they wrote nothing.
-fn first_device(alloc: Global) -> Result<Vec<u8>, AllocError> {
-    let mut bytes = Vec::from_slice(alloc, &FIRST_HEADER)?;
-    bytes.resize(64, 0xff)?;
-    bytes.extend_from_slice(&FIRST_HEAD)?;
-    bytes.resize(165, 0)?;
-    bytes.resize(SECOND, 0xff)?;
-    bytes.push(0)?;
-    bytes.resize(SIZE, 0xff)?;
-    Ok(bytes)
+fn first_device(rt: &impl Abort, alloc: Global) -> Vec<u8> {
+    let mut bytes = Vec::new(alloc);
+    add(rt, &mut bytes, &FIRST_HEADER, (64, 0xff));
+    add(rt, &mut bytes, &FIRST_HEAD, (165, 0));
+    add(rt, &mut bytes, &[], (SECOND, 0xff));
+    add(rt, &mut bytes, &[0], (SIZE, 0xff));
+    bytes
 }
 
 /// The header is of version 2 then, the head of the second form, and what is written to neither stays: places 53 to 63, and what was
 /// behind the gate that is closed at 157.
 #[test]
-fn a_device_of_version_1_is_formatted(rt: HostRuntime) -> Result<(), Fail> {
-    let alloc = rt.alloc();
-    let mut disk = MemDisk::new(alloc, first_device(alloc).expect(&rt, "memory"));
-    expect!(rt; format(alloc, &mut disk, &DEVICE_E) == Ok(()));
-    let bytes = bytes_of(alloc, &mut disk).expect(&rt, "memory");
-    let first = first_device(alloc).expect(&rt, "memory");
-    expect!(rt; is_formatted(&bytes));
-    expect!(rt; bytes.iter().skip(53).take(11).all(|byte| *byte == 0xff));
-    expect!(rt; bytes.iter().skip(158).eq(first.iter().skip(158)));
-    Ok(())
+fn a_device_of_version_1_is_formatted(rt: HostRuntime) {
+    expect_formatted(&rt, rt.alloc(), &first_device(&rt, rt.alloc()));
 }
 
-/// Refuses to format, and makes no call of the disk.
-fn expect_bad_geometry(rt: &impl Abort, alloc: Global, geometry: &Geometry, size: usize) {
-    let mut disk = FaultDisk::new(
-        disk_of(alloc, 0xa5, size).expect(rt, "memory"),
-        0,
-        0,
-        After::Stops,
-    );
-    expect!(rt; format(alloc, &mut disk, geometry) == Err(FormatFault::BadGeometry));
+/// Refuses to format a disk, and makes no call of it.
+fn expect_no_format(
+    rt: &impl Abort,
+    alloc: Global,
+    disk: &mut FaultDisk<MemDisk>,
+    geometry: &Geometry,
+) {
+    expect!(rt; format(alloc, disk, geometry) == Err(FormatFault::BadGeometry));
     expect!(rt; disk.calls() == 0);
-    expect!(rt; bytes_of(alloc, &mut disk).expect(rt, "memory").iter().all(|byte| *byte == 0xa5));
+}
+
+/// The same of a new disk of so many bytes, which stay.
+fn expect_bad_geometry(rt: &impl Abort, alloc: Global, geometry: &Geometry, size: usize) {
+    let bytes = vec![in alloc; 0xa5u8; size].expect(rt, "memory");
+    let mut disk = FaultDisk::new(disk_of(rt, alloc, &bytes), 0, 0, After::Stops);
+    expect_no_format(rt, alloc, &mut disk, geometry);
+    expect_bytes(rt, alloc, &mut disk, &bytes);
 }
 
 #[test]
@@ -189,33 +201,36 @@ fn a_bad_geometry_is_refused(rt: HostRuntime) {
 
 /// What is left of a format of a device with these bytes that stops at a call, after a crash.
 fn stopped_format(rt: &impl Abort, alloc: Global, old: &[u8], at: u64, kind: Torn) -> MemDisk {
-    let disk = MemDisk::new(alloc, Vec::from_slice(alloc, old).expect(rt, "memory"));
-    let mut disk = FaultDisk::new(disk, at, 1, After::Stops);
-    assert!(rt;
-        format(alloc, &mut disk, &DEVICE_E) == Err(FormatFault::Device),
-        "call {at}"
-    );
+    let mut disk = FaultDisk::new(disk_of(rt, alloc, old), at, 1, After::Stops);
+    let told = format_e(alloc, &mut disk);
+    expect!(rt; told == Err(FormatFault::Device), at);
     disk.into_inner().crash(kind)
 }
 
-/// The old bytes, no device, or the new one.
-fn expect_old_or_new(rt: &impl Abort, alloc: Global, disk: MemDisk, old: &[u8], at: u64) {
-    let mut disk = disk;
-    let bytes = bytes_of(alloc, &mut disk).expect(rt, "memory");
-    assert!(rt; bytes.len() == SIZE);
-    assert!(rt;
-        bytes.as_slice() == old || bytes.first() != Some(&0xa5) || is_formatted(&bytes),
-        "call {at}"
-    );
+/// Whether these are the bytes of before, no device, or those of the new one.
+fn is_old_or_new(bytes: &[u8], old: &[u8], new: &[u8]) -> bool {
+    bytes.len() == SIZE && (bytes == old || bytes.first() != Some(&0xa5) || bytes == new)
+}
+
+/// A format that stops at a call, and a crash.
+fn expect_old_or_new(
+    rt: &impl Abort,
+    alloc: Global,
+    (old, new): (&[u8], &[u8]),
+    (at, kind): (u64, Torn),
+) {
+    let mut disk = stopped_format(rt, alloc, old, at, kind);
+    let bytes = bytes_of(rt, alloc, &mut disk);
+    expect!(rt; is_old_or_new(&bytes, old, new), at);
 }
 
 /// A format that stops at each of its 15 calls, and a crash of each kind, leave the old bytes, no
 /// device or the new one.
 fn expect_crashes(rt: &impl Abort, alloc: Global, old: &[u8]) {
+    let new = formatted(rt, alloc, old);
     for at in 1..=15 {
         for kind in KINDS {
-            let disk = stopped_format(rt, alloc, old, at, kind);
-            expect_old_or_new(rt, alloc, disk, old, at);
+            expect_old_or_new(rt, alloc, (old, &new), (at, kind));
         }
     }
 }
@@ -223,16 +238,13 @@ fn expect_crashes(rt: &impl Abort, alloc: Global, old: &[u8]) {
 /// Over bytes that are no device, at a gate that reads open.
 #[test]
 fn a_crash_within_a_format(rt: HostRuntime) {
-    let alloc = rt.alloc();
-    let old = vec![in alloc; 0xa5u8; SIZE].expect(&rt, "memory");
-    expect_crashes(&rt, alloc, &old);
+    expect_crashes(&rt, rt.alloc(), &filled(&rt, rt.alloc(), 0xa5));
 }
 
 /// Over a device of version 1, which is left whole or is one of version 2.
 #[test]
 fn a_crash_within_a_format_of_a_device_of_version_1(rt: HostRuntime) {
-    let alloc = rt.alloc();
-    expect_crashes(&rt, alloc, &first_device(alloc).expect(&rt, "memory"));
+    expect_crashes(&rt, rt.alloc(), &first_device(&rt, rt.alloc()));
 }
 
 /// Whether a device of so many bytes may have a geometry.
@@ -261,26 +273,31 @@ fn open<D: Disk>(
     open_segment(alloc, disk, &DEVICE_E, target, 1, &machine)
 }
 
-/// The whole head stands in the second segment, and all other bytes are as before.
-fn expect_head(rt: &impl Abort, bytes: &[u8], byte: u8) {
-    assert!(rt; bytes.len() == SIZE);
-    expect!(rt; is_new_head(bytes, SECOND));
-    expect!(rt; bytes.iter().take(SECOND).all(|b| *b == byte));
-    expect!(rt; bytes.iter().skip(SECOND + 94).all(|b| *b == byte));
+/// The bytes of a device whose second segment was opened, and that is filled with one byte beside that.
+fn opened_bytes(rt: &impl Abort, alloc: Global, byte: u8) -> Vec<u8> {
+    let mut bytes = filled(rt, alloc, byte);
+    put_head(rt, &mut bytes, SECOND);
+    bytes
 }
 
-/// Opens the second segment of a device that is filled with one byte.
-fn expect_opened(rt: &impl Abort, alloc: Global, byte: u8, calls: u64) {
-    let mut disk = FaultDisk::new(
-        disk_of(alloc, byte, SIZE).expect(rt, "memory"),
-        0,
-        0,
-        After::Stops,
-    );
-    expect!(rt; open(rt, alloc, &mut disk, byte == 0) == Ok(83_065));
+/// Opens it in so many calls.
+fn expect_calls(
+    rt: &impl Abort,
+    alloc: Global,
+    disk: &mut FaultDisk<MemDisk>,
+    closed: bool,
+    calls: u64,
+) {
+    expect!(rt; open(rt, alloc, disk, closed) == Ok(83_065));
     expect!(rt; (disk.calls(), disk.syncs()) == (calls, 3));
-    let bytes = bytes_of(alloc, &mut disk).expect(rt, "memory");
-    expect_head(rt, &bytes, byte);
+}
+
+/// Opens the second segment of a device that is filled with one byte. The whole head stands there, and all other bytes are as before.
+fn expect_opened(rt: &impl Abort, alloc: Global, byte: u8, calls: u64) {
+    let old = filled(rt, alloc, byte);
+    let mut disk = FaultDisk::new(disk_of(rt, alloc, &old), 0, 0, After::Stops);
+    expect_calls(rt, alloc, &mut disk, byte == 0, calls);
+    expect_bytes(rt, alloc, &mut disk, &opened_bytes(rt, alloc, byte));
 }
 
 #[test]
@@ -290,56 +307,82 @@ fn a_segment_is_opened(rt: HostRuntime) {
     }
 }
 
-/// A segment that has a head of the first form is opened with one of the second.
+/// A device whose second segment has a head of the first form, and 7 everywhere else.
+fn old_device(rt: &impl Abort, alloc: Global) -> MemDisk {
+    let mut old = filled(rt, alloc, 7);
+    put(rt, &mut old, SECOND, &OLD_HEAD);
+    MemDisk::new(alloc, old)
+}
+
+/// Opens that segment with a head of the second form.
+fn expect_old_opened(rt: &impl Abort, alloc: Global, disk: &mut MemDisk) {
+    expect!(rt; open(rt, alloc, disk, false) == Ok(83_065));
+    expect_bytes(rt, alloc, disk, &opened_bytes(rt, alloc, 7));
+    expect_new(rt, alloc, disk);
+}
+
 #[test]
 fn a_segment_with_a_head_of_the_first_form_is_opened(rt: HostRuntime) {
-    let alloc = rt.alloc();
-    let mut old = vec![in alloc; 7u8; SIZE].expect(&rt, "memory");
-    assert!(rt; old.len() == SIZE);
-    old[SECOND..SECOND + 13].copy_from_slice(&OLD_HEAD);
-    let mut disk = MemDisk::new(alloc, old);
-    expect!(rt; open(&rt, alloc, &mut disk, false) == Ok(83_065));
-    let bytes = bytes_of(alloc, &mut disk).expect(&rt, "memory");
-    expect_head(&rt, &bytes, 7);
-    expect_new(&rt, alloc, &mut disk).expect(&rt, "memory");
+    expect_old_opened(&rt, rt.alloc(), &mut old_device(&rt, rt.alloc()));
 }
 
 /// The head of the second segment is that of the empty state, in the second form.
-fn expect_new(rt: &impl Abort, alloc: Global, disk: &mut MemDisk) -> Result<(), AllocError> {
+fn expect_new(rt: &impl Abort, alloc: Global, disk: &mut MemDisk) {
     assert!(rt; may_have(&DEVICE_E, disk.size()));
     match read_head(alloc, disk, &DEVICE_E, 1) {
         Ok(head) => {
             expect!(rt; (head.generation, head.gate, head.machine.seq()) == (1, 83_065, 0));
             expect!(rt; head.form == HeadForm::Second);
         }
-        Err(HeadFault::OutOfMemory) => return Err(AllocError),
         Err(_) => panic!(rt; "no head"),
     }
-    Ok(())
 }
 
 /// What is left of an opening that stops at a call, after a crash.
-fn stopped_opening(rt: &impl Abort, alloc: Global, byte: u8, at: u64, kind: Torn) -> MemDisk {
-    let mut disk = FaultDisk::new(
-        disk_of(alloc, byte, SIZE).expect(rt, "memory"),
-        at,
-        1,
-        After::Stops,
-    );
-    assert!(rt;
-        open(rt, alloc, &mut disk, byte == 0) == Err(OpeningFault::Device),
-        "call {at}"
-    );
+fn stopped_opening(
+    rt: &impl Abort,
+    alloc: Global,
+    (old, closed): (&[u8], bool),
+    (at, kind): (u64, Torn),
+) -> MemDisk {
+    let mut disk = FaultDisk::new(disk_of(rt, alloc, old), at, 1, After::Stops);
+    let told = open(rt, alloc, &mut disk, closed);
+    expect!(rt; told == Err(OpeningFault::Device), at);
     disk.into_inner().crash(kind)
 }
 
-/// The gate closed, the whole head, or the open gate that was there with the generation that it had.
-fn expect_closed_or_whole(rt: &impl Abort, bytes: &[u8], byte: u8, at: u64) {
-    assert!(rt; bytes.len() == SIZE);
-    assert!(rt; bytes.iter().take(SECOND).all(|b| *b == byte), "call {at}");
-    let kept = byte == 0xa5 && bytes.iter().skip(SECOND).all(|b| *b == byte);
-    let head = is_new_head(bytes, SECOND);
-    assert!(rt; is_second_closed(bytes) || kept || head, "call {at}");
+/// Whether the bytes before the second segment are as before.
+fn is_front_kept(bytes: &[u8], old: &[u8]) -> bool {
+    bytes.len() == SIZE && bytes.iter().take(SECOND).eq(old.iter().take(SECOND))
+}
+
+/// Whether the gate is closed, the open one that was there has what it had, or the whole head is there.
+fn is_closed_or_whole(bytes: &[u8], old: &[u8], new: &[u8]) -> bool {
+    bytes.get(SECOND) != Some(&0xa5) || bytes == old || bytes == new
+}
+
+/// An opening that stops at a call, and a crash.
+fn expect_stopped(
+    rt: &impl Abort,
+    alloc: Global,
+    ((old, closed), new): ((&[u8], bool), &[u8]),
+    (at, kind): (u64, Torn),
+) {
+    let mut disk = stopped_opening(rt, alloc, (old, closed), (at, kind));
+    let bytes = bytes_of(rt, alloc, &mut disk);
+    expect!(rt; is_front_kept(&bytes, old), at);
+    expect!(rt; is_closed_or_whole(&bytes, old, new), at);
+}
+
+/// An opening that stops at each of so many calls, and a crash of each kind.
+fn expect_stops(rt: &impl Abort, alloc: Global, byte: u8, calls: u64) {
+    let old = filled(rt, alloc, byte);
+    let new = opened_bytes(rt, alloc, byte);
+    for at in 1..=calls {
+        for kind in KINDS {
+            expect_stopped(rt, alloc, ((&old, byte == 0), &new), (at, kind));
+        }
+    }
 }
 
 /// An opening that stops at each of its calls, and a crash of each kind, leave the gate closed, the
@@ -347,12 +390,6 @@ fn expect_closed_or_whole(rt: &impl Abort, bytes: &[u8], byte: u8, at: u64) {
 #[test]
 fn a_crash_within_an_opening(rt: HostRuntime) {
     for (byte, calls) in [(0xa5, 6), (0, 5)] {
-        for at in 1..=calls {
-            for kind in KINDS {
-                let mut disk = stopped_opening(&rt, rt.alloc(), byte, at, kind);
-                let bytes = bytes_of(rt.alloc(), &mut disk).expect(&rt, "memory");
-                expect_closed_or_whole(&rt, &bytes, byte, at);
-            }
-        }
+        expect_stops(&rt, rt.alloc(), byte, calls);
     }
 }

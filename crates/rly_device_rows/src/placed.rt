@@ -3,19 +3,20 @@ ghost use Rattle.std.specs.Prelude.{◌^◌, IsTrue};
 ghost use Rattle.rly_core.specs.Bounds.{IsIn};
 ghost use Rattle.rly_segment.specs.Device.{IsLayout};
 
+mod cycles;
+
 use rly_checkpoint::{DecodeFault, HeadForm, Place, Stored, most_len, read_state};
 use rly_core::limits::{MAX_SEGMENTS, MIN_SEGMENTS, SEGMENT_LENGTH_LIMIT};
 use rly_core::{Geometry, HopId, Params};
 use rly_disk::{Disk, MemDisk};
 use rly_machine::Machine;
-use rly_places::{is_placed, live_by_segment};
+use rly_places::is_placed;
 use rly_reclaim::fits;
 use rly_segment::{
     Head, HeadFault, OpeningFault, Target, open_segment, read_head_of, read_placed_head,
 };
-use std::alloc::{AllocError, Global};
+use std::alloc::Global;
 use std::process::Abort;
-use std::test::Fail;
 
 /// One hop, one peer, a window of 64, 64 items and 76,800 bytes, on two segments of the least length.
 const TWO: Geometry = Geometry {
@@ -29,13 +30,6 @@ const TWO: Geometry = Geometry {
     },
     segments: 2,
     length: 156_908,
-};
-
-/// The same on three.
-const THREE: Geometry = Geometry {
-    segments: 3,
-    length: 118_508,
-    ..TWO
 };
 
 /// Three segments of the length that two want.
@@ -167,26 +161,29 @@ fn placed_head_of(
     read_placed_head(alloc, disk, &TWO, 1)
 }
 
-fn bytes_of(alloc: Global, disk: &mut MemDisk) -> Result<Vec<u8>, AllocError> {
-    let mut bytes = vec![in alloc; 0u8; disk.size() as usize]?;
-    let _ = disk.read_at(0, &mut bytes);
-    Ok(bytes)
+/// What a disk reads.
+fn bytes_of(rt: &impl Abort, alloc: Global, disk: &mut MemDisk) -> Vec<u8> {
+    let mut bytes = vec![in alloc; 0u8; disk.size() as usize].expect(rt, "memory");
+    expect!(rt; disk.read_at(0, &mut bytes) == Ok(()));
+    bytes
 }
 
-/// A device on which the head of generation 6 of the second segment was written by hand, with so short a body.
-fn device_with(
-    rt: &impl Abort,
-    alloc: Global,
-    mark: u8,
-    body: &[u8],
-) -> Result<MemDisk, AllocError> {
+/// The bytes of a device on which the head of the second segment has this start and this body, and all others are 0.
+fn bytes_with(rt: &impl Abort, alloc: Global, start: &[u8; 13], body: &[u8]) -> Vec<u8> {
     assert!(rt; body.len() < 256);
     let mut bytes = vec![in alloc; 0u8; SIZE].expect(rt, "memory");
     assert!(rt; bytes.len() == SIZE);
-    bytes[SECOND..SECOND + 10].copy_from_slice(&[0xa5, 0, 0, 0, 0, 0, 0, 0, 6, mark]);
-    bytes[SECOND + 12] = body.len() as u8;
+    bytes[SECOND..SECOND + 13].copy_from_slice(start);
     bytes[SECOND + 13..SECOND + 13 + body.len()].copy_from_slice(body);
-    Ok(MemDisk::new(alloc, bytes))
+    bytes
+}
+
+/// A device on which the head of generation 6 of the second segment was written by hand, with so short a body.
+fn device_with(rt: &impl Abort, alloc: Global, mark: u8, body: &[u8]) -> MemDisk {
+    assert!(rt; body.len() < 256);
+    let length = body.len() as u8;
+    let start = [0xa5, 0, 0, 0, 0, 0, 0, 0, 6, mark, 0, 0, length];
+    MemDisk::new(alloc, bytes_with(rt, alloc, &start, body))
 }
 
 /// What is in flight lies at 300 and has that limit; of the three live ones one has its byte inline, and one has none.
@@ -201,6 +198,14 @@ fn expect_state(rt: &impl Abort, machine: &Machine<Stored>, limit: u64) {
     expect!(rt; machine.item_count() == 3 && machine.byte_count() == 3);
 }
 
+/// What the head of the second of three segments holds, which has one.
+fn read_again(rt: &impl Abort, alloc: Global, disk: &mut MemDisk) -> Head<Stored> {
+    match head_of(rt, alloc, disk) {
+        Ok(head) => head,
+        Err(_) => panic!(rt; "no head"),
+    }
+}
+
 /// The head of the second segment is read in a form, with a gate after it, and its state has that limit in flight.
 fn expect_head(
     rt: &impl Abort,
@@ -209,173 +214,239 @@ fn expect_head(
     form: HeadForm,
     gate: u64,
     limit: u64,
-) -> Result<(), AllocError> {
-    match head_of(rt, alloc, disk) {
-        Ok(head) => {
-            expect!(rt; (head.generation, head.gate) == (6, gate));
-            expect!(rt; head.form == form);
-            expect_state(rt, &head.machine, limit);
-        }
-        Err(HeadFault::OutOfMemory) => return Err(AllocError),
-        Err(_) => panic!(rt; "no head"),
-    }
-    Ok(())
+) {
+    let head = read_again(rt, alloc, disk);
+    expect!(rt; (head.generation, head.gate) == (6, gate));
+    expect!(rt; head.form == form);
+    expect_state(rt, &head.machine, limit);
 }
 
 /// The head of the second segment is that of generation 6 with this body, and all other bytes are 0.
-fn expect_written(rt: &impl Abort, bytes: &[u8], body: &[u8; 149]) {
-    expect!(rt; bytes.iter().skip(SECOND).take(13).eq(START.iter()));
-    expect!(rt; bytes.iter().skip(SECOND + 13).take(149).eq(body.iter()));
-    expect!(rt; bytes.iter().skip(SECOND + 162).all(|byte| *byte == 0));
-    expect!(rt; bytes.iter().take(SECOND).all(|byte| *byte == 0));
+fn expect_written(rt: &impl Abort, alloc: Global, bytes: &[u8], body: &[u8; 149]) {
+    let wanted = bytes_with(rt, alloc, &START, body);
+    expect!(rt; bytes == wanted.as_slice());
+}
+
+/// Opens the second segment for a state that a body of a form spells: its head has the other body, and is read with that limit.
+fn expect_written_and_read(
+    rt: &impl Abort,
+    alloc: Global,
+    disk: &mut MemDisk,
+    (form, body): (HeadForm, &[u8]),
+    (written, limit): (&[u8; 149], u64),
+) {
+    expect!(rt; open(rt, alloc, disk, form, 6, body) == Ok(157_134));
+    let bytes = bytes_of(rt, alloc, disk);
+    expect_written(rt, alloc, &bytes, written);
+    expect_head(rt, alloc, disk, HeadForm::Second, 157_134, limit);
+}
+
+/// The same on a device of zeroes.
+fn expect_carried(
+    rt: &impl Abort,
+    alloc: Global,
+    state: (HeadForm, &[u8]),
+    wanted: (&[u8; 149], u64),
+) {
+    let mut disk = MemDisk::new(alloc, vec![in alloc; 0u8; SIZE].expect(rt, "memory"));
+    expect_written_and_read(rt, alloc, &mut disk, state, wanted);
 }
 
 #[test]
 fn a_head_with_a_place_and_limits_is_written_and_read(rt: HostRuntime) {
-    let alloc = rt.alloc();
-    let mut disk = MemDisk::new(alloc, vec![in alloc; 0u8; SIZE].expect(&rt, "memory"));
-    expect!(rt; open(&rt, alloc, &mut disk, HeadForm::Second, 6, &BODY) == Ok(157_134));
-    let bytes = bytes_of(alloc, &mut disk).expect(&rt, "memory");
-    expect_written(&rt, &bytes, &BODY);
-    expect_head(&rt, alloc, &mut disk, HeadForm::Second, 157_134, 10_000).expect(&rt, "memory");
+    expect_carried(&rt, rt.alloc(), (HeadForm::Second, &BODY), (&BODY, 10_000));
 }
 
 /// A state that a head of the first form held is written in the second, with no limit and none expired.
 #[test]
 fn a_state_of_the_first_form_is_carried_over(rt: HostRuntime) {
-    let alloc = rt.alloc();
-    let mut disk = MemDisk::new(alloc, vec![in alloc; 0u8; SIZE].expect(&rt, "memory"));
-    expect!(rt; open(&rt, alloc, &mut disk, HeadForm::First, 6, &OLD_BODY) == Ok(157_134));
-    let bytes = bytes_of(alloc, &mut disk).expect(&rt, "memory");
-    expect_written(&rt, &bytes, &CARRIED);
-    expect_head(&rt, alloc, &mut disk, HeadForm::Second, 157_134, 0).expect(&rt, "memory");
+    expect_carried(&rt, rt.alloc(), (HeadForm::First, &OLD_BODY), (&CARRIED, 0));
+}
+
+/// A head that was written by hand is read in a form, with a gate after it, and its state has that limit in flight.
+fn expect_by_hand(
+    rt: &impl Abort,
+    alloc: Global,
+    (mark, body): (u8, &[u8]),
+    (form, gate, limit): (HeadForm, u64, u64),
+) {
+    let mut disk = device_with(rt, alloc, mark, body);
+    expect_head(rt, alloc, &mut disk, form, gate, limit);
+}
+
+/// Heads of both forms, and one with a limit.
+fn expect_three_by_hand(rt: &impl Abort, alloc: Global) {
+    let first = (HeadForm::First, 157_138, 0);
+    expect_by_hand(rt, alloc, (0, &OLD_BODY), first);
+    let carried = (HeadForm::Second, 157_134, 0);
+    expect_by_hand(rt, alloc, (MARK, &CARRIED), carried);
+    let limited = (HeadForm::Second, 157_134, 10_000);
+    expect_by_hand(rt, alloc, (MARK, &BODY), limited);
 }
 
 #[test]
 fn heads_that_were_written_by_hand_are_read(rt: HostRuntime) {
-    let alloc = rt.alloc();
-    let mut old = device_with(&rt, alloc, 0, &OLD_BODY).expect(&rt, "memory");
-    expect_head(&rt, alloc, &mut old, HeadForm::First, 157_138, 0).expect(&rt, "memory");
-    let mut carried = device_with(&rt, alloc, MARK, &CARRIED).expect(&rt, "memory");
-    expect_head(&rt, alloc, &mut carried, HeadForm::Second, 157_134, 0).expect(&rt, "memory");
-    let mut limited = device_with(&rt, alloc, MARK, &BODY).expect(&rt, "memory");
-    expect_head(&rt, alloc, &mut limited, HeadForm::Second, 157_134, 10_000).expect(&rt, "memory");
+    expect_three_by_hand(&rt, rt.alloc());
 }
 
-/// Whether the second of three segments has no head, where it has this body by hand.
-fn is_no_head(rt: &impl Abort, alloc: Global, mark: u8, body: &[u8]) -> Result<bool, AllocError> {
-    let mut disk = device_with(rt, alloc, mark, body).expect(rt, "memory");
-    match head_of(rt, alloc, &mut disk) {
-        Ok(_) => Ok(false),
-        Err(HeadFault::Damaged) => Ok(true),
-        Err(HeadFault::OutOfMemory) => Err(AllocError),
-        Err(HeadFault::Device) => panic!(rt; "the device failed"),
+/// Whether a head that was read is damaged. Another fault ends the test.
+fn is_no_head(rt: &impl Abort, read: Result<Head<Stored>, HeadFault>) -> bool {
+    match read {
+        Ok(_) => false,
+        Err(fault) => {
+            expect!(rt; fault == HeadFault::Damaged);
+            true
+        }
     }
 }
 
-/// A body of one form is none of the other, and what expired counts in the balance.
-#[test]
-fn a_body_has_one_form_and_balances(rt: HostRuntime) {
-    let alloc = rt.alloc();
-    expect!(rt; is_no_head(&rt, alloc, MARK, &OLD_BODY).expect(&rt, "memory"));
-    expect!(rt; is_no_head(&rt, alloc, 0, &CARRIED).expect(&rt, "memory"));
-    let mut body = BODY;
-    body[73] = 0;
-    expect!(rt; is_no_head(&rt, alloc, MARK, &body).expect(&rt, "memory"));
-    body[73] = 2;
-    expect!(rt; is_no_head(&rt, alloc, MARK, &body).expect(&rt, "memory"));
-    body[73] = 1;
-    expect!(rt; !is_no_head(&rt, alloc, MARK, &body).expect(&rt, "memory"));
+/// Whether the second of three segments has no head, where it has this body by hand.
+fn expect_no_head(rt: &impl Abort, alloc: Global, mark: u8, body: &[u8], want: bool) {
+    let mut disk = device_with(rt, alloc, mark, body);
+    let read = head_of(rt, alloc, &mut disk);
+    expect!(rt; is_no_head(rt, read) == want);
 }
 
-/// Whether the head of the second of three segments is damaged in a spool of so long payloads, where the one by place has so many bytes.
-fn is_too_long(
+/// So many that expired, and whether a body with them is damaged.
+const EXPIRED: [(u8, bool); 3] = [(0, true), (2, true), (1, false)];
+
+/// What expired counts in the balance of a body.
+fn expect_balance(rt: &impl Abort, alloc: Global, body: &[u8; 149]) {
+    for (expired, want) in &EXPIRED {
+        let mut body = *body;
+        body[73] = *expired;
+        expect_no_head(rt, alloc, MARK, &body, *want);
+    }
+}
+
+/// A body of one form is none of the other.
+fn expect_one_form(rt: &impl Abort, alloc: Global) {
+    expect_no_head(rt, alloc, MARK, &OLD_BODY, true);
+    expect_no_head(rt, alloc, 0, &CARRIED, true);
+    expect_balance(rt, alloc, &BODY);
+}
+
+#[test]
+fn a_body_has_one_form_and_balances(rt: HostRuntime) {
+    expect_one_form(&rt, rt.alloc());
+}
+
+/// What the head of the second of three segments holds in a spool of so long payloads.
+fn head_of_spool(
     rt: &impl Abort,
     alloc: Global,
+    disk: &mut MemDisk,
     payload: u64,
-    length: [u8; 2],
-) -> Result<bool, AllocError> {
-    let mut body = BODY;
-    body[98] = length[0];
-    body[99] = length[1];
-    let mut disk = device_with(rt, alloc, MARK, &body).expect(rt, "memory");
+) -> Result<Head<Stored>, HeadFault> {
     let params = Params {
         payload,
         ..WIDE.params
     };
     let geometry = Geometry { params, ..WIDE };
     assert!(rt; may_have(&geometry, disk.size()));
-    let read: Result<Head<Stored>, HeadFault> = read_head_of(alloc, &mut disk, &geometry, 1);
-    match read {
-        Ok(_) => Ok(false),
-        Err(HeadFault::Damaged) => Ok(true),
-        Err(HeadFault::OutOfMemory) => Err(AllocError),
-        Err(HeadFault::Device) => panic!(rt; "the device failed"),
+    read_head_of(alloc, disk, &geometry, 1)
+}
+
+/// Whether the head of the second of three segments is damaged in a spool of so long payloads, where it has this body by hand.
+fn is_too_long(rt: &impl Abort, alloc: Global, payload: u64, body: &[u8]) -> bool {
+    let mut disk = device_with(rt, alloc, MARK, body);
+    let read = head_of_spool(rt, alloc, &mut disk, payload);
+    is_no_head(rt, read)
+}
+
+/// The longest payload of a spool, the length of the one that stands by place, and whether that is too long.
+const LENGTHS: [(u64, [u8; 2], bool); 5] = [
+    (7, [0, 7], false),
+    (7, [0, 8], true),
+    (1_200, [4, 0xb0], false),
+    (1_200, [4, 0xb1], true),
+    (1_201, [4, 0xb1], false),
+];
+
+/// A body whose payload by place has that length, in a spool of so long payloads.
+fn expect_length_by_place(
+    rt: &impl Abort,
+    alloc: Global,
+    body: &[u8; 149],
+    (payload, length, want): (u64, [u8; 2], bool),
+) {
+    let mut body = *body;
+    body[98] = length[0];
+    body[99] = length[1];
+    let damaged = is_too_long(rt, alloc, payload, &body);
+    assert!(rt; damaged == want, "{payload} {length:?}");
+}
+
+/// The same of each row.
+fn expect_lengths_by_place(
+    rt: &impl Abort,
+    alloc: Global,
+    body: &[u8; 149],
+    rows: &[(u64, [u8; 2], bool)],
+) {
+    for row in rows {
+        expect_length_by_place(rt, alloc, body, *row);
     }
 }
 
 /// A payload is at most as long as the spool's longest, also where it stands by place.
 #[test]
-fn a_longer_payload_is_damaged(rt: HostRuntime) -> Result<(), Fail> {
-    for (payload, length, want) in [
-        (7, [0, 7], false),
-        (7, [0, 8], true),
-        (1_200, [4, 0xb0], false),
-        (1_200, [4, 0xb1], true),
-        (1_201, [4, 0xb1], false),
-    ] {
-        let damaged = is_too_long(&rt, rt.alloc(), payload, length).expect(&rt, "memory");
-        assert!(rt; damaged == want, "{payload} {length:?}");
-    }
-    Ok(())
+fn a_longer_payload_is_damaged(rt: HostRuntime) {
+    expect_lengths_by_place(&rt, rt.alloc(), &BODY, &LENGTHS);
 }
 
 /// Whether the head of the second of two segments is damaged, where it has this body by hand.
-fn is_damaged(rt: &impl Abort, alloc: Global, mark: u8, body: &[u8]) -> Result<bool, AllocError> {
-    let mut disk = device_with(rt, alloc, mark, body).expect(rt, "memory");
-    match placed_head_of(rt, alloc, &mut disk) {
-        Ok(_) => Ok(false),
-        Err(HeadFault::Damaged) => Ok(true),
-        Err(HeadFault::OutOfMemory) => Err(AllocError),
-        Err(HeadFault::Device) => panic!(rt; "the device failed"),
-    }
+fn expect_damaged(rt: &impl Abort, alloc: Global, mark: u8, body: &[u8], want: bool) {
+    let mut disk = device_with(rt, alloc, mark, body);
+    let read = placed_head_of(rt, alloc, &mut disk);
+    expect!(rt; is_no_head(rt, read) == want);
+}
+
+/// A body with other bytes in place of some of its own.
+fn spliced(rt: &impl Abort, alloc: Global, front: &[u8], between: &[u8], behind: &[u8]) -> Vec<u8> {
+    let mut body = Vec::with_capacity(alloc, 160).expect(rt, "memory");
+    add(rt, &mut body, front);
+    add(rt, &mut body, between);
+    add(rt, &mut body, behind);
+    body
+}
+
+/// Adds bytes to a body.
+fn add(rt: &impl Abort, body: &mut Vec<u8>, bytes: &[u8]) {
+    body.extend_from_slice(bytes).expect(rt, "memory");
+}
+
+/// A body is damaged whose payload in flight lies in another segment or in its own. It isn't where the payload stands inline.
+fn expect_inline(rt: &impl Abort, alloc: Global, mark: u8, bodies: (&[u8], &[u8], &[u8])) {
+    let (placed, own, inline) = bodies;
+    expect_damaged(rt, alloc, mark, placed, true);
+    expect_damaged(rt, alloc, mark, own, true);
+    expect_damaged(rt, alloc, mark, inline, false);
+}
+
+/// The same of that state in the second form.
+fn expect_none_by_place(rt: &impl Abort, alloc: Global, body: &[u8; 149]) {
+    let own = spliced(rt, alloc, &body[..102], &[0, 2, 0x80, 0], &body[106..]);
+    let inline = spliced(rt, alloc, &body[..100], &[0, 0x41, 0x42], &body[106..]);
+    expect_inline(rt, alloc, MARK, (body, &own, &inline));
 }
 
 /// Of two segments none is left where a payload lies in the other one. A payload may lie in no head's own segment.
 #[test]
 fn with_two_segments_no_payload_stands_by_place(rt: HostRuntime) {
-    let alloc = rt.alloc();
-    expect!(rt; is_damaged(&rt, alloc, MARK, &BODY).expect(&rt, "memory"));
-    let mut own = BODY;
-    own[102..106].copy_from_slice(&[0, 2, 0x80, 0]);
-    expect!(rt; is_damaged(&rt, alloc, MARK, &own).expect(&rt, "memory"));
-    let mut inline = Vec::with_capacity(alloc, 146).expect(&rt, "memory");
-    inline.extend_from_slice(&BODY[..100]).expect(&rt, "memory");
-    inline
-        .extend_from_slice(&[0, 0x41, 0x42])
-        .expect(&rt, "memory");
-    inline.extend_from_slice(&BODY[106..]).expect(&rt, "memory");
-    expect!(rt; !is_damaged(&rt, alloc, MARK, &inline).expect(&rt, "memory"));
+    expect_none_by_place(&rt, rt.alloc(), &BODY);
+}
+
+/// The same in the first form.
+fn expect_none_by_old_place(rt: &impl Abort, alloc: Global, body: &[u8; 153]) {
+    let own = spliced(rt, alloc, &body[..110], &[0, 2, 0x80, 0], &body[114..]);
+    let inline = spliced(rt, alloc, &body[..105], &[0, 0x41, 0x42], &body[114..]);
+    expect_inline(rt, alloc, 0, (body, &own, &inline));
 }
 
 #[test]
 fn nor_does_one_in_a_head_of_the_first_form(rt: HostRuntime) {
-    let alloc = rt.alloc();
-    expect!(rt; is_damaged(&rt, alloc, 0, &OLD_BODY).expect(&rt, "memory"));
-    let mut own = OLD_BODY;
-    own[110..114].copy_from_slice(&[0, 2, 0x80, 0]);
-    expect!(rt; is_damaged(&rt, alloc, 0, &own).expect(&rt, "memory"));
-    let mut inline = Vec::with_capacity(alloc, 147).expect(&rt, "memory");
-    inline
-        .extend_from_slice(&OLD_BODY[..105])
-        .expect(&rt, "memory");
-    inline
-        .extend_from_slice(&[0, 0x41, 0x42])
-        .expect(&rt, "memory");
-    inline
-        .extend_from_slice(&OLD_BODY[114..])
-        .expect(&rt, "memory");
-    expect!(rt; !is_damaged(&rt, alloc, 0, &inline).expect(&rt, "memory"));
+    expect_none_by_old_place(&rt, rt.alloc(), &OLD_BODY);
 }
 
 /// Three segments of 1,000 bytes, or two.
@@ -390,169 +461,125 @@ fn small(segments: u64) -> Geometry
     }
 }
 
-/// Whether the head of a segment may have the two bytes in flight at a place of three segments of 1,000 bytes.
-fn may_lie(alloc: Global, segments: u64, own: u64, start: u64) -> Result<bool, DecodeFault> {
-    let mut body = CARRIED;
-    body[101..106].copy_from_slice(&start.to_be_bytes()[3..]);
-    let machine: Machine<Stored> = read_state(alloc, HeadForm::Second, TWO.params, &body)?;
-    Ok(is_placed(&small(segments), own, &machine))
+/// A state in both forms.
+#[derive(Clone, Copy)]
+struct Bodies<'a> {
+    first: &'a [u8; 153],
+    second: &'a [u8; 149],
 }
 
-/// The same in a head of the first form.
-fn might_lie(alloc: Global, segments: u64, own: u64, start: u64) -> Result<bool, DecodeFault> {
-    let mut body = OLD_BODY;
-    body[106..114].copy_from_slice(&start.to_be_bytes());
-    let machine: Machine<Stored> = read_state(alloc, HeadForm::First, TWO.params, &body)?;
-    Ok(is_placed(&small(segments), own, &machine))
+/// A place of the two bytes in flight, in the head of a segment, which is of a form. There are so many segments of 1,000 bytes.
+#[derive(Clone, Copy)]
+struct Lies {
+    form: HeadForm,
+    segments: u64,
+    own: u64,
+    start: u64,
 }
 
-/// The segments begin at 64, 1,064 and 2,064, and the device's used bytes end at 3,064.
-#[test]
-fn a_payload_lies_wholly_in_another_segment(rt: HostRuntime) {
-    let alloc = rt.alloc();
-    for start in [64, 500, 1_062, 2_064, 3_062] {
-        assert!(rt;
-            may_lie(alloc, 3, 1, start).expect(&rt, "no fault"),
-            "{start}"
-        );
-        assert!(rt;
-            might_lie(alloc, 3, 1, start).expect(&rt, "no fault"),
-            "{start}"
-        );
+/// The body of such a head.
+fn body_of(rt: &impl Abort, alloc: Global, bodies: Bodies, lies: Lies) -> Vec<u8> {
+    let start = lies.start.to_be_bytes();
+    let (first, second) = (bodies.first, bodies.second);
+    match lies.form {
+        HeadForm::First => spliced(rt, alloc, &first[..106], &start, &first[114..]),
+        HeadForm::Second => spliced(rt, alloc, &second[..101], &start[3..], &second[106..]),
     }
-    for start in [0, 63, 1_063, 1_064, 1_500, 2_062, 2_063, 3_063, 3_064] {
-        assert!(rt;
-            !may_lie(alloc, 3, 1, start).expect(&rt, "no fault"),
-            "{start}"
-        );
-        assert!(rt;
-            !might_lie(alloc, 3, 1, start).expect(&rt, "no fault"),
-            "{start}"
-        );
-    }
-    expect!(rt; !may_lie(alloc, 3, 1, 0xff_ffff_ffff).expect(&rt, "no fault"));
-    expect!(rt; !might_lie(alloc, 3, 1, u64::MAX).expect(&rt, "no fault"));
-    expect!(rt; may_lie(alloc, 3, 0, 1_064).expect(&rt, "no fault"));
-    expect!(rt; !may_lie(alloc, 2, 1, 64).expect(&rt, "no fault"));
 }
 
-/// The numbers of the hop in the worked cycles: 64 datagrams were taken, of which 32 are in flight and 32 wait.
-const CYCLE_HOP: [u8; 64] = [
-    // the last moment, and CoDel's state
-    0, 0, 0, 0, 0, 0, 0, 0, 0, 0, 0, 0, 0, 0, 0, 0, 0, 0, 0, 0, 0, 0, 0, 0, 0, 0, 0, 0, 0, 0, 0, 0,
-    0, 0,
-    // how many were taken, dropped, released, and expired
-    0, 0, 0, 0, 0, 64, 0, 0, 0, 0, 0, 0, 0, 0, 0, 0, 0, 0, 0, 0, 0, 0, 0, 0,
-    // how many are in flight, and how many wait
-    0, 32, 0, 0, 0, 32,
+/// The state that a body of a form spells.
+fn state_of(rt: &impl Abort, alloc: Global, form: HeadForm, body: &[u8]) -> Machine<Stored> {
+    read_state(alloc, form, TWO.params, body).expect(rt, "no fault")
+}
+
+/// Whether the two bytes in flight may lie there.
+fn may_lie(rt: &impl Abort, alloc: Global, bodies: Bodies, lies: Lies) -> bool {
+    let body = body_of(rt, alloc, bodies, lies);
+    let machine = state_of(rt, alloc, lies.form, &body);
+    is_placed(&small(lies.segments), lies.own, &machine)
+}
+
+/// They may, or they may not.
+fn expect_place(rt: &impl Abort, alloc: Global, bodies: Bodies, lies: Lies, want: bool) {
+    expect!(rt; may_lie(rt, alloc, bodies, lies) == want, lies.start);
+}
+
+/// Places in the head of the second of three segments, and whether the bytes may lie there. The segments begin at 64, 1,064 and 2,064,
+/// and the device's used bytes end at 3,064.
+const STARTS: [(u64, bool); 14] = [
+    (64, true),
+    (500, true),
+    (1_062, true),
+    (2_064, true),
+    (3_062, true),
+    (0, false),
+    (63, false),
+    (1_063, false),
+    (1_064, false),
+    (1_500, false),
+    (2_062, false),
+    (2_063, false),
+    (3_063, false),
+    (3_064, false),
 ];
 
-/// The same in the first form, which has no field for what expired.
-const OLD_CYCLE_HOP: [u8; 71] = [
-    0, 0, 0, 0, 0, 0, 0, 0, 0, 0, 0, 0, 0, 0, 0, 0, 0, 0, 0, 0, 0, 0, 0, 0, 0, 0, 0, 0, 0, 0, 0, 0,
-    0, 0, 0, 0, 0, 0, 0, 0, 0,
-    // how many were taken, dropped, and released
-    0, 0, 0, 0, 0, 0, 0, 64, 0, 0, 0, 0, 0, 0, 0, 0, 0, 0, 0, 0, 0, 0, 0, 0,
-    // how many are in flight, and how many wait
-    0, 32, 0, 0, 0, 32,
+/// A form, how many segments there are, whose head it is, the place, and whether the bytes may lie there.
+const OTHER_PLACES: [(HeadForm, u64, u64, u64, bool); 4] = [
+    (HeadForm::Second, 3, 1, 0xff_ffff_ffff, false),
+    (HeadForm::First, 3, 1, u64::MAX, false),
+    (HeadForm::Second, 3, 0, 1_064, true),
+    (HeadForm::Second, 2, 1, 64, false),
 ];
 
-/// Adds the numbers of an entry of 1,200 bytes: its id, its stamp 0, no limit, and its length.
-fn add_numbers(body: &mut Vec<u8>, form: HeadForm, id: u8) -> Result<(), AllocError> {
-    match form {
-        HeadForm::First => body.extend_from_slice(&[
-            0, 0, 0, 0, 0, 0, 0, id, 0, 0, 0, 0, 0, 0, 0, 0,
-        ])?,
-        HeadForm::Second => {
-            body.extend_from_slice(&[0, 0, 0, 0, 0, id, 0, 0, 0, 0, 0, 0, 0, 0, 0, 0, 0, 0])?
-        }
-    }
-    body.extend_from_slice(&[4, 0xb0])
-}
-
-/// Adds the place of a payload, after the byte of its form.
-fn add_place(body: &mut Vec<u8>, form: HeadForm, start: u64) -> Result<(), AllocError> {
-    body.extend_from_slice(&[1])?;
-    match form {
-        HeadForm::First => body.extend_from_slice(&start.to_be_bytes()),
-        HeadForm::Second => body.extend_from_slice(&start.to_be_bytes()[3..]),
-    }
-}
-
-/// A body of the worked cycles: 32 datagrams of 1,200 bytes are in flight and 32 wait. Those in flight stand inline or lie in the
-/// group of the first round, from 164 on; those that wait lie in that of the third, from 39,666 on.
-fn cycle_body(alloc: Global, form: HeadForm, inline: bool) -> Result<Vec<u8>, AllocError> {
-    let mut body = Vec::with_capacity(alloc, 40_000)?;
-    body.extend_from_slice(&[0, 0, 0, 0, 0, 0, 0, 96, 0, 0, 0, 0, 0, 0, 0, 64])?;
-    match form {
-        HeadForm::First => body.extend_from_slice(&OLD_CYCLE_HOP)?,
-        HeadForm::Second => body.extend_from_slice(&CYCLE_HOP)?,
-    }
-    for index in 0..32u8 {
-        add_numbers(&mut body, form, 1 + index)?;
-        if inline {
-            body.extend_from_slice(&[0])?;
-            body.extend_from_slice(&[index; 1_200])?;
-        } else {
-            add_place(&mut body, form, 194 + 1_223 * u64::from(index))?;
-        }
-    }
-    for index in 0..32u8 {
-        add_numbers(&mut body, form, 65 + index)?;
-        add_place(&mut body, form, 39_696 + 1_223 * u64::from(index))?;
-    }
-    Ok(body)
-}
-
-/// The live bytes of each of three segments for a body.
-fn live_of(alloc: Global, form: HeadForm, body: &[u8]) -> Result<[u64; 3], DecodeFault> {
-    let machine: Machine<Stored> = read_state(alloc, form, TWO.params, body)?;
-    let live = live_by_segment(&THREE, &machine);
-    Ok([live[0], live[1], live[2]])
-}
-
-/// So long are the heads with all payloads by place, and with those in flight inline.
-fn expect_lengths(
+/// The places of the first table, in heads of a form.
+fn expect_starts(
     rt: &impl Abort,
     alloc: Global,
+    bodies: Bodies,
     form: HeadForm,
-    by_place: usize,
-    inline: usize,
-) -> Result<(), DecodeFault> {
-    let placed = cycle_body(alloc, form, false)?;
-    let drawn = cycle_body(alloc, form, true)?;
-    expect!(rt; placed.len() + 13 == by_place);
-    expect!(rt; drawn.len() + 13 == inline);
-    expect!(rt; live_of(alloc, form, &placed)? == [76_800, 0, 0]);
-    expect!(rt; live_of(alloc, form, &drawn)? == [38_400, 0, 0]);
-    Ok(())
+    rows: &[(u64, bool)],
+) {
+    for (start, want) in rows {
+        let lies = Lies {
+            form,
+            segments: 3,
+            own: 1,
+            start: *start,
+        };
+        expect_place(rt, alloc, bodies, lies, *want);
+    }
 }
 
-/// With all of its payloads by place such a head has 1,757 bytes, and with those in flight inline 39,997. In the first form it had
-/// 1,828 and 39,972.
-#[test]
-fn the_heads_of_the_worked_cycles(rt: HostRuntime) {
-    expect_lengths(&rt, rt.alloc(), HeadForm::Second, 1_757, 39_997).expect(&rt, "no fault");
-    expect_lengths(&rt, rt.alloc(), HeadForm::First, 1_828, 39_972).expect(&rt, "no fault");
+/// Those of the second.
+fn expect_other_places(
+    rt: &impl Abort,
+    alloc: Global,
+    bodies: Bodies,
+    rows: &[(HeadForm, u64, u64, u64, bool)],
+) {
+    for (form, segments, own, start, want) in rows {
+        let lies = Lies {
+            form: *form,
+            segments: *segments,
+            own: *own,
+            start: *start,
+        };
+        expect_place(rt, alloc, bodies, lies, *want);
+    }
 }
 
-/// They are opened as long as that, whatever form their state was read in.
+/// The places of both.
+fn expect_places(rt: &impl Abort, alloc: Global, bodies: Bodies) {
+    expect_starts(rt, alloc, bodies, HeadForm::First, &STARTS);
+    expect_starts(rt, alloc, bodies, HeadForm::Second, &STARTS);
+    expect_other_places(rt, alloc, bodies, &OTHER_PLACES);
+}
+
 #[test]
-fn the_heads_of_the_worked_cycles_are_opened(rt: HostRuntime) {
-    let alloc = rt.alloc();
-    let mut disk = MemDisk::new(alloc, vec![in alloc; 0u8; SIZE].expect(&rt, "memory"));
-    for form in [HeadForm::First, HeadForm::Second] {
-        let placed = cycle_body(alloc, form, false).expect(&rt, "memory");
-        let drawn = cycle_body(alloc, form, true).expect(&rt, "memory");
-        expect!(rt; open(&rt, alloc, &mut disk, form, 2, &placed) == Ok(158_729));
-        expect!(rt; open(&rt, alloc, &mut disk, form, 3, &drawn) == Ok(196_969));
-    }
-    match head_of(&rt, alloc, &mut disk) {
-        Ok(head) => {
-            expect!(rt; (head.generation, head.gate) == (3, 196_969));
-            expect!(rt; is_placed(&THREE, 1, &head.machine));
-            expect!(rt; !is_placed(&THREE, 0, &head.machine));
-        }
-        Err(_) => panic!(rt; "no head"),
-    }
+fn a_payload_lies_wholly_in_another_segment(rt: HostRuntime) {
+    let bodies = Bodies {
+        first: &OLD_BODY,
+        second: &CARRIED,
+    };
+    expect_places(&rt, rt.alloc(), bodies);
 }

@@ -5,7 +5,6 @@ use std::alloc::Global;
 use std::io;
 use std::io::{Error, ErrorKind, Read, Write};
 use std::process::Abort;
-use std::test::Fail;
 
 /// A reader that gives its bytes one at a time, interrupted before each, and then fails.
 #[derive(Drop)]
@@ -75,8 +74,8 @@ impl Write for Shut {
     }
 }
 
-#[test]
-fn what_there_is_is_read(rt: HostRuntime) {
+/// Reads what there is, and then nothing.
+fn expect_some(rt: &impl Abort) {
     let mut reader = b"take".as_slice();
     let mut buffer = [0u8; 8];
     expect!(rt; read_some(&mut reader, &mut buffer) == Ok(4));
@@ -85,32 +84,59 @@ fn what_there_is_is_read(rt: HostRuntime) {
 }
 
 #[test]
+fn what_there_is_is_read(rt: HostRuntime) {
+    expect_some(&rt);
+}
+
+/// One byte is read, whatever interrupts it.
+fn expect_byte(rt: &impl Abort, reader: &mut Failing, byte: u8) {
+    let mut buffer = [0u8; 8];
+    expect!(rt; read_some(reader, &mut buffer) == Ok(1));
+    expect!(rt; buffer[0] == byte);
+}
+
+/// Two bytes are read, and then a fault is told.
+fn expect_two_bytes(rt: &impl Abort, reader: &mut Failing) {
+    expect_byte(rt, reader, b'o');
+    expect_byte(rt, reader, b'k');
+    expect!(rt; read_some(reader, &mut [0u8; 8]) == Err(StreamFault::Input));
+}
+
+#[test]
 fn an_interrupted_read_is_made_again(rt: HostRuntime) {
     let mut reader = Failing {
         bytes: b"ok",
         interrupted: false,
     };
-    let mut buffer = [0u8; 8];
-    expect!(rt; read_some(&mut reader, &mut buffer) == Ok(1));
-    expect!(rt; buffer[0] == b'o');
-    expect!(rt; read_some(&mut reader, &mut buffer) == Ok(1));
-    expect!(rt; buffer[0] == b'k');
-    expect!(rt; read_some(&mut reader, &mut buffer) == Err(StreamFault::Input));
+    expect_two_bytes(&rt, &mut reader);
+}
+
+/// A writer with so much room.
+fn writer(alloc: Global, room: usize) -> Full {
+    Full {
+        written: Vec::new(alloc),
+        room,
+        interrupted: false,
+        fault: ErrorKind::TimedOut,
+    }
+}
+
+/// A text is written whole.
+fn expect_whole(rt: &impl Abort, writer: &mut Full, text: &[u8]) {
+    expect!(rt; write_whole(writer, text) == Ok(()));
+}
+
+/// Three are, one of them empty.
+fn expect_all(rt: &impl Abort, writer: &mut Full) {
+    expect_whole(rt, writer, b"hop 1 taken 6");
+    expect_whole(rt, writer, b"");
+    expect_whole(rt, writer, b" end");
+    expect!(rt; writer.written.as_slice() == b"hop 1 taken 6 end".as_slice());
 }
 
 #[test]
-fn all_is_written(rt: HostRuntime) -> Result<(), Fail> {
-    let mut writer = Full {
-        written: Vec::new(rt.alloc()),
-        room: 20,
-        interrupted: false,
-        fault: ErrorKind::TimedOut,
-    };
-    expect!(rt; write_whole(&mut writer, b"hop 1 taken 6") == Ok(()));
-    expect!(rt; write_whole(&mut writer, b"") == Ok(()));
-    expect!(rt; write_whole(&mut writer, b" end") == Ok(()));
-    expect!(rt; writer.written.as_slice() == b"hop 1 taken 6 end".as_slice());
-    Ok(())
+fn all_is_written(rt: HostRuntime) {
+    expect_all(&rt, &mut writer(rt.alloc(), 20));
 }
 
 /// A stream that is interrupted so many times, and then gives or takes all.
@@ -148,14 +174,17 @@ impl Write for Interrupted {
     }
 }
 
-#[test]
-fn a_call_is_made_again_as_often_as_it_is_interrupted(rt: HostRuntime) -> Result<(), Fail> {
+/// A read and a write that are interrupted 100,000 times.
+fn expect_again(rt: &impl Abort) {
     let mut stream = Interrupted { left: 100_000 };
-    let mut buffer = [0u8; 8];
-    expect!(rt; read_some(&mut stream, &mut buffer) == Ok(8));
+    expect!(rt; read_some(&mut stream, &mut [0u8; 8]) == Ok(8));
     stream.left = 100_000;
     expect!(rt; write_whole(&mut stream, b"ok") == Ok(()));
-    Ok(())
+}
+
+#[test]
+fn a_call_is_made_again_as_often_as_it_is_interrupted(rt: HostRuntime) {
+    expect_again(&rt);
 }
 
 /// A buffer of so many bytes is filled by one read.
@@ -173,41 +202,50 @@ fn a_buffer_of_any_length_is_filled(rt: HostRuntime) {
 }
 
 /// So long a text, three bytes at a time.
-#[test]
-fn a_long_text_is_written_whole(rt: HostRuntime) -> Result<(), Fail> {
-    let alloc = rt.alloc();
-    let text = vec![in alloc; b'a'; 1_100_000].expect(&rt, "memory");
-    let mut writer = Full {
-        written: Vec::new(alloc),
-        room: 1_100_000,
-        interrupted: false,
-        fault: ErrorKind::TimedOut,
-    };
-    expect!(rt; write_whole(&mut writer, &text) == Ok(()));
+fn expect_long(rt: &impl Abort, alloc: Global, writer: &mut Full) {
+    let text = vec![in alloc; b'a'; 1_100_000].expect(rt, "memory");
+    expect_whole(rt, writer, &text);
     expect!(rt; writer.written.len() == 1_100_000);
-    Ok(())
 }
 
 #[test]
-fn a_writer_that_fails_has_a_beginning(rt: HostRuntime) {
-    let text = b"hop 1 taken 6".as_slice();
+fn a_long_text_is_written_whole(rt: HostRuntime) {
+    expect_long(&rt, rt.alloc(), &mut writer(rt.alloc(), 1_100_000));
+}
+
+/// A writer has as much of a text as it has room for.
+fn expect_beginning(rt: &impl Abort, writer: &mut Full, text: &[u8]) {
+    let room = writer.room;
+    expect!(rt; write_whole(writer, text) == Err(StreamFault::Output));
+    expect!(rt; writer.written.len() == room && text.starts_with(&writer.written));
+}
+
+/// Writers with less room than a text wants, and one that takes nothing.
+fn expect_beginnings(rt: &impl Abort, alloc: Global, text: &[u8]) {
     for room in 0..text.len() {
-        let mut writer = Full {
-            written: Vec::new(rt.alloc()),
-            room,
-            interrupted: false,
-            fault: ErrorKind::TimedOut,
-        };
-        expect!(rt; write_whole(&mut writer, text) == Err(StreamFault::Output));
-        expect!(rt; writer.written.as_slice() == &text[..room]);
+        expect_beginning(rt, &mut writer(alloc, room), text);
     }
     expect!(rt; write_whole(&mut Shut, text) == Err(StreamFault::Output));
 }
 
 #[test]
+fn a_writer_that_fails_has_a_beginning(rt: HostRuntime) {
+    expect_beginnings(&rt, rt.alloc(), b"hop 1 taken 6");
+}
+
+/// What a fault shows.
+fn expect_line(rt: &impl Abort, alloc: Global, fault: StreamFault, line: &str) {
+    let shown = format!(in alloc; "{}", fault).expect(rt, "memory");
+    expect!(rt; shown.as_str() == line);
+}
+
+/// Both.
+fn expect_lines(rt: &impl Abort, alloc: Global) {
+    expect_line(rt, alloc, StreamFault::Input, "rly: input failed");
+    expect_line(rt, alloc, StreamFault::Output, "rly: output failed");
+}
+
+#[test]
 fn faults_have_their_lines(rt: HostRuntime) {
-    let input = format!(in rt.alloc(); "{}", StreamFault::Input).expect(&rt, "memory");
-    expect!(rt; input.as_str() == "rly: input failed");
-    let output = format!(in rt.alloc(); "{}", StreamFault::Output).expect(&rt, "memory");
-    expect!(rt; output.as_str() == "rly: output failed");
+    expect_lines(&rt, rt.alloc());
 }

@@ -1,26 +1,31 @@
 //! Disks in memory, and the images that a crash may leave.
-use super::{counts, mem_disk, put, reads};
-use rly_disk::{Disk, DiskFault, MemDisk, Torn};
+use super::{Act, counts, expect_read, make, make_all, mem_disk, put};
+use rly_disk::{Disk, MemDisk, Torn};
 use std::alloc::Global;
 use std::process::Abort;
 
-/// Writes and reads a disk of eight zeroes.
-fn expect_reads(rt: &impl Abort, alloc: Global, disk: &mut MemDisk) {
-    put(disk, 2, &[1, 2, 3]).expect(rt, "memory");
-    expect!(rt; reads(alloc, disk, 0, &[0, 0, 1, 2, 3, 0, 0, 0]).expect(rt, "memory"));
-    put(disk, 4, &[9, 9]).expect(rt, "memory");
-    disk.sync().expect(rt, "no fault");
-    expect!(rt; reads(alloc, disk, 0, &[0, 0, 1, 2, 9, 9, 0, 0]).expect(rt, "memory"));
-    expect!(rt; reads(alloc, disk, 3, &[2, 9]).expect(rt, "memory"));
-    expect!(rt; reads(alloc, disk, 8, &[]).expect(rt, "memory"));
+/// What is written to a disk of eight zeroes, and what it reads.
+const WRITES: [Act; 7] = [
+    Act::Put(2, &[1, 2, 3]),
+    Act::Read(0, &[0, 0, 1, 2, 3, 0, 0, 0]),
+    Act::Put(4, &[9, 9]),
+    Act::Sync,
+    Act::Read(0, &[0, 0, 1, 2, 9, 9, 0, 0]),
+    Act::Read(3, &[2, 9]),
+    Act::Read(8, &[]),
+];
+
+/// Writes and reads it.
+fn expect_reads(rt: &impl Abort, alloc: Global) {
+    let mut disk = mem_disk(rt, alloc, &[0; 8]);
+    expect!(rt; disk.size() == 8);
+    make_all(rt, alloc, &mut disk, &WRITES);
+    expect!(rt; counts(&disk) == [7, 0, 1, 0]);
 }
 
 #[test]
 fn reads_after_writes(rt: HostRuntime) {
-    let mut disk = mem_disk(rt.alloc(), &[0; 8]).expect(&rt, "memory");
-    assert!(rt; disk.size() == 8);
-    expect_reads(&rt, rt.alloc(), &mut disk);
-    expect!(rt; counts(&disk) == [7, 0, 1, 0]);
+    expect_reads(&rt, rt.alloc());
 }
 
 // Each row: an image, and whether a crash may leave it.
@@ -72,41 +77,50 @@ const THIRD_WRITE: [([u8; 4], bool); 5] = [
 ];
 
 /// Writes and syncs a disk of 10, 11, 12, 13.
-fn expect_images_between(rt: &impl Abort, disk: &mut MemDisk) -> Result<(), DiskFault> {
-    put(disk, 1, &[7])?;
+fn expect_images_between(rt: &impl Abort, alloc: Global, disk: &mut MemDisk) {
+    make(rt, alloc, disk, Act::Put(1, &[7]));
     expect_images(rt, disk, &ONE_WRITE);
-    put(disk, 3, &[8])?;
+    make(rt, alloc, disk, Act::Put(3, &[8]));
     expect_images(rt, disk, &TWO_WRITES);
-    disk.sync()?;
+    make(rt, alloc, disk, Act::Sync);
     expect_images(rt, disk, &SYNCED);
-    put(disk, 0, &[1, 2])?;
+    make(rt, alloc, disk, Act::Put(0, &[1, 2]));
     expect_images(rt, disk, &THIRD_WRITE);
-    Ok(())
+}
+
+/// What a crash may leave of it before that.
+fn expect_new_images(rt: &impl Abort, disk: &MemDisk) {
+    expect_images(rt, disk, &NEW);
+    expect!(rt; !disk.is_image(&[10, 11, 12]));
+    expect!(rt; !disk.is_image(&[10, 11, 12, 13, 0]));
+}
+
+/// Both.
+fn expect_all_images(rt: &impl Abort, alloc: Global) {
+    let mut disk = mem_disk(rt, alloc, &[10, 11, 12, 13]);
+    expect_new_images(rt, &disk);
+    expect_images_between(rt, alloc, &mut disk);
 }
 
 #[test]
 fn images_before_between_and_after_syncs(rt: HostRuntime) {
-    let mut disk = mem_disk(rt.alloc(), &[10, 11, 12, 13]).expect(&rt, "memory");
-    expect_images(&rt, &disk, &NEW);
-    expect!(rt; !disk.is_image(&[10, 11, 12]));
-    expect!(rt; !disk.is_image(&[10, 11, 12, 13, 0]));
-    expect_images_between(&rt, &mut disk).expect(&rt, "no fault");
+    expect_all_images(&rt, rt.alloc());
 }
 
 /// Puts five bytes on a disk of six that has 3 at place 2 and was synced, one place of them twice.
-fn write_pending(disk: &mut MemDisk) -> Result<(), DiskFault> {
-    put(disk, 2, &[3])?;
-    disk.sync()?;
-    put(disk, 0, &[11, 12])?;
-    put(disk, 1, &[21, 22])?;
-    put(disk, 5, &[])?;
-    put(disk, 4, &[31])
-}
+const PENDING: [Act; 6] = [
+    Act::Put(2, &[3]),
+    Act::Sync,
+    Act::Put(0, &[11, 12]),
+    Act::Put(1, &[21, 22]),
+    Act::Put(5, &[]),
+    Act::Put(4, &[31]),
+];
 
 /// Settled as 1 to 6, with five bytes put since.
 fn pending(rt: &impl Abort, alloc: Global) -> MemDisk {
-    let mut disk = mem_disk(alloc, &[1, 2, 0, 4, 5, 6]).expect(rt, "memory");
-    write_pending(&mut disk).expect(rt, "no fault");
+    let mut disk = mem_disk(rt, alloc, &[1, 2, 0, 4, 5, 6]);
+    make_all(rt, alloc, &mut disk, &PENDING);
     disk
 }
 
@@ -130,21 +144,22 @@ fn expect_only(rt: &impl Abort, disk: &MemDisk, image: &[u8; 6]) {
     for at in 0..6 {
         let mut other = *image;
         other[at] ^= 1;
-        assert!(rt; !disk.is_image(&other), "byte {at}");
+        expect!(rt; !disk.is_image(&other), at as u64);
     }
+}
+
+/// What a crash left is settled.
+fn expect_left(rt: &impl Abort, alloc: Global, disk: &mut MemDisk, image: &[u8; 6]) {
+    expect!(rt; counts(disk) == [0, 0, 0, 0]);
+    expect_read(rt, alloc, disk, 0, image);
+    expect_only(rt, disk, image);
 }
 
 /// Crashes, and reads what is left.
 fn expect_crash(rt: &impl Abort, alloc: Global, torn: Torn, image: &[u8; 6]) {
     let before = pending(rt, alloc);
     assert!(rt; before.is_image(image), "at {torn:?}");
-    let mut disk = before.crash(torn);
-    expect!(rt; counts(&disk) == [0, 0, 0, 0]);
-    assert!(rt;
-        reads(alloc, &mut disk, 0, image).expect(rt, "memory"),
-        "at {torn:?}"
-    );
-    expect_only(rt, &disk, image);
+    expect_left(rt, alloc, &mut before.crash(torn), image);
 }
 
 #[test]
@@ -154,40 +169,86 @@ fn a_crash_leaves_the_image_that_is_named(rt: HostRuntime) {
     }
 }
 
+/// The first byte of a disk, and how many of its calls failed.
+#[derive(Clone, Copy)]
+struct Tries {
+    first: u8,
+    failures: u64,
+}
+
+/// Writes a first byte, which may fail.
+fn try_to_put(disk: &mut MemDisk, tries: Tries, byte: u8) -> Tries {
+    if put(disk, 0, &[byte]).is_ok() {
+        Tries {
+            first: byte,
+            ..tries
+        }
+    } else {
+        failed(tries)
+    }
+}
+
+/// One call more failed.
+fn failed(tries: Tries) -> Tries {
+    Tries {
+        failures: tries.failures.saturating_add(1),
+        ..tries
+    }
+}
+
+/// Syncs the disk, which has one image then. That may fail too.
+fn try_to_sync(rt: &impl Abort, disk: &mut MemDisk, tries: Tries) -> Tries {
+    if disk.sync().is_err() {
+        return failed(tries);
+    }
+    expect!(rt; disk.is_image(&[tries.first, 5, 5, 5]));
+    expect!(rt; !disk.is_image(&[tries.first ^ 1, 5, 5, 5]));
+    tries
+}
+
+/// Twenty first bytes, each of which is synced.
+fn expect_tries(rt: &impl Abort, disk: &mut MemDisk) {
+    let mut tries = Tries {
+        first: 5,
+        failures: 0,
+    };
+    for byte in 6..26 {
+        tries = try_to_put(disk, tries, byte);
+        tries = try_to_sync(rt, disk, tries);
+    }
+    expect!(rt; counts(disk) == [40, tries.failures, 20, 0]);
+}
+
 // With an allocation that fails (`rt try --test --fail-alloc N`) a write or a sync fails, and changes nothing.
 #[test]
 fn a_refused_growth_changes_nothing(rt: HostRuntime) {
-    let mut disk = mem_disk(rt.alloc(), &[5; 4]).expect(&rt, "memory");
-    let mut failures: u64 = 0;
-    let mut first = 5;
-    for byte in 6..26 {
-        if put(&mut disk, 0, &[byte]).is_ok() {
-            first = byte;
-        } else {
-            failures = failures.saturating_add(1);
-        }
-        if disk.sync().is_err() {
-            failures = failures.saturating_add(1);
-        } else {
-            expect!(rt; disk.is_image(&[first, 5, 5, 5]));
-            expect!(rt; !disk.is_image(&[first ^ 1, 5, 5, 5]));
-        }
-    }
-    expect!(rt; counts(&disk) == [40, failures, 20, 0]);
+    expect_tries(&rt, &mut mem_disk(&rt, rt.alloc(), &[5; 4]));
 }
 
 /// Two hundred bytes, each by a write of its own.
+fn put_many(rt: &impl Abort, disk: &mut MemDisk) {
+    for byte in 0..200u8 {
+        put(disk, u64::from(byte), &[byte]).expect(rt, "no fault");
+    }
+}
+
+/// What is read once they are synced.
+const MANY: [Act; 3] = [
+    Act::Sync,
+    Act::Read(0, &[0, 1, 2, 3]),
+    Act::Read(197, &[197, 198, 199, 5]),
+];
+
+/// A crash may leave none of them before the sync, and doesn't after it.
+fn expect_many(rt: &impl Abort, alloc: Global, disk: &mut MemDisk) {
+    put_many(rt, disk);
+    expect!(rt; disk.is_image(&[5; 256]));
+    expect!(rt; counts(disk) == [200, 0, 0, 0]);
+    make_all(rt, alloc, disk, &MANY);
+    expect!(rt; !disk.is_image(&[5; 256]));
+}
+
 #[test]
 fn many_writes_before_a_sync(rt: HostRuntime) {
-    let alloc = rt.alloc();
-    let mut disk = mem_disk(alloc, &[5; 256]).expect(&rt, "memory");
-    for byte in 0..200u8 {
-        put(&mut disk, u64::from(byte), &[byte]).expect(&rt, "no fault");
-    }
-    expect!(rt; disk.is_image(&[5; 256]));
-    expect!(rt; counts(&disk) == [200, 0, 0, 0]);
-    disk.sync().expect(&rt, "no fault");
-    expect!(rt; !disk.is_image(&[5; 256]));
-    expect!(rt; reads(alloc, &mut disk, 0, &[0, 1, 2, 3]).expect(&rt, "memory"));
-    expect!(rt; reads(alloc, &mut disk, 197, &[197, 198, 199, 5]).expect(&rt, "memory"));
+    expect_many(&rt, rt.alloc(), &mut mem_disk(&rt, rt.alloc(), &[5; 256]));
 }
