@@ -15,10 +15,21 @@ pub(crate) fn machine_after(
     rounds: usize,
 ) -> Result<Machine<Payload>, AllocError> {
     let mut machine = Machine::new(alloc, DEVICE_E.params)?;
-    for index in 0..rounds {
-        make_all(alloc, &mut machine, script.round(index))?;
-    }
+    make_rounds(alloc, &mut machine, script, rounds)?;
     Ok(machine)
+}
+
+/// The plain machine makes the first rounds of a script.
+fn make_rounds(
+    alloc: Global,
+    machine: &mut Machine<Payload>,
+    script: Script,
+    rounds: usize,
+) -> Result<(), AllocError> {
+    for index in 0..rounds {
+        make_all(alloc, machine, script.round(index))?;
+    }
+    Ok(())
 }
 
 /// The plain machine makes these steps, whatever it replies.
@@ -49,24 +60,24 @@ fn expect_replies(
     machine: &mut Machine<Payload>,
     steps: &[Step],
     answers: &[Answer],
-) -> Result<(), AllocError> {
+) {
     expect!(rt; answers.len() == steps.len());
     for (step, answer) in steps.iter().zip(answers) {
-        let is_answered = is_answered(alloc, machine, *step, answer)?;
-        expect!(rt; is_answered, machine.seq());
+        expect_reply(rt, alloc, machine, *step, answer);
     }
-    Ok(())
 }
 
-/// Makes a step on the plain machine, and says whether an answer has its reply and its position.
-fn is_answered(
+/// Makes a step on the plain machine, and expects its reply and its position of an answer.
+fn expect_reply(
+    rt: &impl Abort,
     alloc: Global,
     machine: &mut Machine<Payload>,
     step: Step,
     answer: &Answer,
-) -> Result<bool, AllocError> {
-    let reply = reply_of(alloc, machine, step)?;
-    Ok(is_same(&answer.reply, &reply) && answer.position == machine.seq())
+) {
+    let reply = reply_of(alloc, machine, step).expect(rt, "memory");
+    let position = machine.seq();
+    expect!(rt; is_same(&answer.reply, &reply) && answer.position == position, position);
 }
 
 /// Whether two replies are the same.
@@ -125,13 +136,13 @@ pub(crate) fn expect_state<D: Disk>(
     alloc: Global,
     journal: &mut Journal<D>,
     machine: &mut Machine<Payload>,
-) -> Result<(), AllocError> {
-    expect_numbers(rt, alloc, journal, machine)?;
+) {
+    expect_numbers(rt, alloc, journal, machine);
     for turn in 0..40 {
         if machine.item_count() == 0 {
-            return Ok(());
+            return;
         }
-        expect_turn(rt, alloc, journal, machine, turn)?;
+        expect_turn(rt, alloc, journal, machine, turn);
     }
     panic!(rt; "something is always left")
 }
@@ -151,9 +162,9 @@ fn expect_round<D: Disk>(
     journal: &mut Journal<D>,
     machine: &mut Machine<Payload>,
     steps: &[Step],
-) -> Result<(), AllocError> {
-    let answers = ask_all(rt, alloc, journal, steps)?;
-    expect_replies(rt, alloc, machine, steps, &answers)
+) {
+    let answers = ask_all(rt, alloc, journal, steps);
+    expect_replies(rt, alloc, machine, steps, &answers);
 }
 
 /// Picks, fetches and releases one datagram of both.
@@ -163,7 +174,7 @@ fn expect_turn<D: Disk>(
     journal: &mut Journal<D>,
     machine: &mut Machine<Payload>,
     turn: u64,
-) -> Result<(), AllocError> {
+) {
     let (first, _) = window_of(rt, machine);
     let steps = [
         Step::Pick {
@@ -174,7 +185,7 @@ fn expect_turn<D: Disk>(
         Step::Release { number: first },
         Step::Show,
     ];
-    expect_round(rt, alloc, journal, machine, &steps)
+    expect_round(rt, alloc, journal, machine, &steps);
 }
 
 /// Expects of a journal a machine's numbers and payloads in flight.
@@ -183,7 +194,7 @@ fn expect_numbers<D: Disk>(
     alloc: Global,
     journal: &mut Journal<D>,
     machine: &mut Machine<Payload>,
-) -> Result<(), AllocError> {
+) {
     expect!(rt; journal.position() == machine.seq());
     expect!(rt; journal.last(PEER).ok().as_ref() == machine.lasts().first());
     expect!(rt; is_same(&journal.ask_show(HOP), &machine.ask_show(HOP)));
@@ -194,11 +205,10 @@ fn expect_numbers<D: Disk>(
         Step::Fetch { number: first },
         Step::Fetch { number: next },
     ];
-    expect_round(rt, alloc, journal, machine, &steps)?;
+    expect_round(rt, alloc, journal, machine, &steps);
     for number in 0..=next {
         expect!(rt; is_fetched(alloc, journal, machine, number), number);
     }
-    Ok(())
 }
 
 /// Whether a journal gives the payload in flight that a machine has under a number, or refuses it for the same reason.
@@ -230,11 +240,10 @@ pub(crate) fn expect_broken<D: Disk>(
     journal: &mut Journal<D>,
     steps: &[Step],
     position: u64,
-) -> Result<(), AllocError> {
-    let answers = ask_all(rt, alloc, journal, steps)?;
+) {
+    let answers = ask_all(rt, alloc, journal, steps);
     expect_refused(rt, &answers, Refusal::Broken, position);
     expect_all_refused(rt, alloc, journal, position);
-    Ok(())
 }
 
 /// Every call but a round is refused.

@@ -31,16 +31,16 @@ pub(crate) const SIZE: usize = 165_880;
 pub(crate) const SECOND_GATE: usize = 82_972;
 
 /// Device E as it was formatted, on zeroed bytes.
-pub(crate) fn device_e(rt: &impl Abort, alloc: Global) -> Result<MemDisk, AllocError> {
-    let mut disk = MemDisk::new(alloc, vec![in alloc; 0u8; SIZE]?);
+pub(crate) fn device_e(rt: &impl Abort, alloc: Global) -> MemDisk {
+    let mut disk = MemDisk::new(alloc, vec![in alloc; 0u8; SIZE].expect(rt, "memory"));
     expect!(rt; format(alloc, &mut disk, &DEVICE_E) == Ok(()));
-    Ok(disk)
+    disk
 }
 
 /// Its bytes.
-pub(crate) fn formatted(rt: &impl Abort, alloc: Global) -> Result<Vec<u8>, AllocError> {
-    let mut disk = device_e(rt, alloc)?;
-    bytes_of(rt, alloc, &mut disk)
+pub(crate) fn formatted(rt: &impl Abort, alloc: Global) -> Vec<u8> {
+    let mut disk = device_e(rt, alloc);
+    bytes_of(rt, alloc, &mut disk).expect(rt, "memory")
 }
 
 /// The line `take 1 1 1 0 41`.
@@ -58,6 +58,11 @@ pub(crate) fn opened<D: Disk>(rt: &impl Abort, alloc: Global, disk: D) -> Journa
         Ok(journal) => journal,
         Err(_) => panic!(rt; "the device doesn't open"),
     }
+}
+
+/// Whether all of these are one byte.
+pub(crate) fn are(bytes: &[u8], byte: u8) -> bool {
+    bytes.iter().all(|each| *each == byte)
 }
 
 /// All bytes that a disk reads.

@@ -1,10 +1,10 @@
 //! Each call that takes memory, where one of its growths is refused (`bench/scarce_memory`): it says so, and keeps what it
 //! promises; or it is made all the same, since a list whose growth is refused may grow by less. Where none was refused, nothing
 //! is told as refused memory.
-use crate::comparison::{expect_state, is_same, machine_after, make_all, reply_of};
-use crate::device::{DEVICE_E, SIZE, bytes_of, formatted, opened};
+use crate::comparison::{expect_state, is_same, make_all, reply_of};
+use crate::device::{DEVICE_E, SIZE, are, bytes_of, formatted, opened};
 use crate::faults::KINDS;
-use crate::script::{HOP, Script, Step, ask_all, calls_of, take};
+use crate::script::{HOP, Step, ask_all, calls_of, round, take};
 use rly_checkpoint::{DecodeFault, HeadForm, read_checkpoint, write_checkpoint};
 use rly_core::Refusal;
 use rly_disk::{Disk, MemDisk, Torn};
@@ -15,7 +15,6 @@ use rly_segment::{FormatFault, format};
 use rly_standing::OpenFault;
 use std::alloc::{AllocError, Global};
 use std::process::Abort;
-use std::test::Fail;
 
 /// What stands before the round: three datagrams were taken, the last of them with a limit, two of them picked, and one of these
 /// released. It is asked in one round, so no segment is due.
@@ -72,24 +71,18 @@ const ROUND: [Step; 9] = [
 ];
 
 /// Asks the first steps, and one more round that fills the segment if one is to be due.
-fn prepare(
-    rt: &impl Abort,
-    alloc: Global,
-    journal: &mut Journal<MemDisk>,
-    due: bool,
-) -> Result<(), AllocError> {
-    let _ = ask_all(rt, alloc, journal, &FRONT)?;
+fn prepare(rt: &impl Abort, alloc: Global, journal: &mut Journal<MemDisk>, due: bool) {
+    let _ = ask_all(rt, alloc, journal, &FRONT);
     if due {
-        let _ = ask_all(rt, alloc, journal, &FILLING)?;
+        let _ = ask_all(rt, alloc, journal, &FILLING);
     }
-    Ok(())
 }
 
 /// A journal on device E after that.
-fn prepared(rt: &impl Abort, alloc: Global, due: bool) -> Result<Journal<MemDisk>, AllocError> {
-    let mut journal = opened(rt, alloc, MemDisk::new(alloc, formatted(rt, alloc)?));
-    prepare(rt, alloc, &mut journal, due)?;
-    Ok(journal)
+fn prepared(rt: &impl Abort, alloc: Global, due: bool) -> Journal<MemDisk> {
+    let mut journal = opened(rt, alloc, MemDisk::new(alloc, formatted(rt, alloc)));
+    prepare(rt, alloc, &mut journal, due);
+    journal
 }
 
 /// It takes a datagram and gives it up again, so that the segment is full: the offset is above 4,628.
@@ -102,16 +95,13 @@ const FILLING: [Step; 1] = [Step::Take {
 }];
 
 /// The plain machine after the same.
-fn prepared_machine(alloc: Global, due: bool) -> Result<Machine<Payload>, AllocError> {
-    let script = Script {
-        steps: &FRONT,
-        calls: FRONT.len(),
-    };
-    let mut machine = machine_after(alloc, script, 1)?;
+fn prepared_machine(rt: &impl Abort, alloc: Global, due: bool) -> Machine<Payload> {
+    let mut machine = Machine::new(alloc, DEVICE_E.params).expect(rt, "memory");
+    make_all(alloc, &mut machine, &FRONT).expect(rt, "memory");
     if due {
-        make_all(alloc, &mut machine, &FILLING)?;
+        make_all(alloc, &mut machine, &FILLING).expect(rt, "memory");
     }
-    Ok(machine)
+    machine
 }
 
 /// What a device reads after a format: all of it, or nothing.
@@ -124,92 +114,77 @@ fn expect_told(
 ) {
     match told {
         Ok(()) => expect!(rt; read == wanted),
-        Err(FormatFault::OutOfMemory) => expect!(rt; read.iter().all(|byte| *byte == 0)),
+        Err(FormatFault::OutOfMemory) => expect!(rt; are(read, 0)),
         Err(fault) => expect!(rt; fault == FormatFault::Device && disk.failures() == 1),
     }
 }
 
 /// Formats a disk of zeroes, which reads like this where no memory was refused.
-fn expect_formatted(
-    rt: &impl Abort,
-    alloc: Global,
-    disk: &mut MemDisk,
-    wanted: &[u8],
-) -> Result<(), AllocError> {
-    before(alloc)?;
+fn expect_formatted(rt: &impl Abort, alloc: Global, disk: &mut MemDisk, wanted: &[u8]) {
+    before(alloc).expect(rt, "memory");
     let told = format(alloc, disk, &DEVICE_E);
     let refused = was_refused(alloc);
     expect!(rt; refused || told.is_ok());
-    let read = bytes_of(rt, alloc, disk)?;
+    let read = bytes_of(rt, alloc, disk).expect(rt, "memory");
     expect_told(rt, told, disk, &read, wanted);
-    Ok(())
+}
+
+/// Formats a new one.
+fn expect_formatting(rt: &impl Abort, alloc: Global) {
+    let wanted = formatted(rt, alloc);
+    let mut disk = MemDisk::new(alloc, vec![in alloc; 0u8; SIZE].expect(rt, "memory"));
+    expect_formatted(rt, alloc, &mut disk, &wanted);
 }
 
 #[test]
-fn formatting(rt: HostRuntime) -> Result<(), Fail> {
-    let alloc = rt.alloc();
-    let wanted = formatted(&rt, alloc)?;
-    let mut disk = MemDisk::new(alloc, vec![in alloc; 0u8; SIZE]?);
-    expect_formatted(&rt, alloc, &mut disk, &wanted)?;
-    Ok(())
+fn formatting(rt: HostRuntime) {
+    expect_formatting(&rt, rt.alloc());
 }
 
 /// A device on which a segment is due opens to the state of the plain machine.
-fn expect_due_state(rt: &impl Abort, alloc: Global, disk: MemDisk) -> Result<(), AllocError> {
-    let mut machine = prepared_machine(alloc, true)?;
+fn expect_due_state(rt: &impl Abort, alloc: Global, disk: MemDisk) {
+    let mut machine = prepared_machine(rt, alloc, true);
     let mut journal = opened(rt, alloc, disk);
-    expect_state(rt, alloc, &mut journal, &mut machine)
+    expect_state(rt, alloc, &mut journal, &mut machine);
 }
 
-/// What is refused is handed back as it was, with nothing pending: a crash leaves what is read.
-fn expect_handed_back(
-    rt: &impl Abort,
-    alloc: Global,
-    disk: MemDisk,
-    bytes: &[u8],
-    kind: Torn,
-) -> Result<(), AllocError> {
-    let mut disk = disk.crash(kind);
-    let read = bytes_of(rt, alloc, &mut disk)?;
-    expect!(rt; read.as_slice() == bytes);
-    expect_due_state(rt, alloc, disk)
-}
-
-/// Opens a device that reads like this, and hands it back.
-fn expect_opening(
-    rt: &impl Abort,
-    alloc: Global,
-    disk: MemDisk,
-    bytes: &[u8],
-    kind: Torn,
-) -> Result<(), AllocError> {
+/// Opens a device, which is refused only where memory was, and hands it back.
+fn handed_back(rt: &impl Abort, alloc: Global, disk: MemDisk) -> MemDisk {
+    before(alloc).expect(rt, "memory");
     let told = Journal::open(alloc, disk);
     let refused = was_refused(alloc);
     expect!(rt; refused || told.is_ok());
     match told {
-        Ok(journal) => expect_handed_back(rt, alloc, journal.into_disk(), bytes, kind),
+        Ok(journal) => journal.into_disk(),
         Err((fault, disk)) => {
             let failed = disk.failures() > 0;
             expect!(rt; fault == OpenFault::OutOfMemory && !failed || fault == OpenFault::Device && failed);
-            expect_handed_back(rt, alloc, disk, bytes, kind)
+            disk
         }
     }
 }
 
+/// What is refused is handed back as it was, with nothing pending: a crash leaves what was read before.
+fn crashed(rt: &impl Abort, alloc: Global, disk: MemDisk, kind: Torn) -> MemDisk {
+    let mut disk = disk;
+    let bytes = bytes_of(rt, alloc, &mut disk).expect(rt, "memory");
+    let mut disk = handed_back(rt, alloc, disk).crash(kind);
+    let read = bytes_of(rt, alloc, &mut disk).expect(rt, "memory");
+    expect!(rt; read.as_slice() == bytes.as_slice());
+    disk
+}
+
 /// The same of a device on which a segment is due.
-fn expect_due_opening(rt: &impl Abort, alloc: Global, kind: Torn) -> Result<(), AllocError> {
-    let mut disk = prepared(rt, alloc, true)?.into_disk();
-    let bytes = bytes_of(rt, alloc, &mut disk)?;
-    before(alloc)?;
-    expect_opening(rt, alloc, disk, &bytes, kind)
+fn expect_due_opening(rt: &impl Abort, alloc: Global, kind: Torn) {
+    let disk = prepared(rt, alloc, true).into_disk();
+    expect_due_state(rt, alloc, crashed(rt, alloc, disk, kind));
 }
 
 #[test]
-fn opening(rt: HostRuntime) -> Result<(), Fail> {
+fn opening(rt: HostRuntime) {
     for kind in &KINDS {
-        expect_due_opening(&rt, rt.alloc(), *kind)?;
+        expect_due_opening(&rt, rt.alloc(), *kind);
     }
-    Ok(())
 }
 
 /// Whether a step may be refused memory in a state that the plain machine has: that which it would accept with bytes or with ids to list,
@@ -223,6 +198,27 @@ fn may_want(step: Step, reply: &Reply) -> bool {
     }
 }
 
+/// Expects a step to be one that may be refused memory. The machine doesn't make it: one does that reads what this one writes.
+fn expect_wanted(rt: &impl Abort, alloc: Global, machine: &Machine<Payload>, step: Step) {
+    let mut body = Vec::new(alloc);
+    write_checkpoint(machine, &mut body).expect(rt, "memory");
+    let mut same = read_again(rt, alloc, &body);
+    let reply = reply_of(alloc, &mut same, step).expect(rt, "memory");
+    expect!(rt; may_want(step, &reply));
+}
+
+/// The machine makes a step, and its reply is that of an answer.
+fn expect_reply(
+    rt: &impl Abort,
+    alloc: Global,
+    machine: &mut Machine<Payload>,
+    step: Step,
+    answer: &Answer,
+) {
+    let reply = reply_of(alloc, machine, step).expect(rt, "memory");
+    expect!(rt; is_same(&answer.reply, &reply), machine.seq());
+}
+
 /// Expects an answer to be the plain machine's, or, of an ask that may want memory, the refusal of memory. The machine makes a
 /// step that wasn't refused. Says whether it was.
 fn expect_answer(
@@ -231,19 +227,15 @@ fn expect_answer(
     machine: &mut Machine<Payload>,
     step: Step,
     answer: &Answer,
-) -> Result<bool, AllocError> {
+) -> bool {
     let is_starved = is_same(&answer.reply, &Reply::Refused(Refusal::OutOfMemory));
-    let mut body = Vec::new(alloc);
-    write_checkpoint(machine, &mut body)?;
-    let reply = reply_of(alloc, machine, step)?;
     if is_starved {
-        expect!(rt; may_want(step, &reply));
-        *machine = read_again(rt, alloc, &body);
+        expect_wanted(rt, alloc, machine, step);
     } else {
-        expect!(rt; is_same(&answer.reply, &reply), machine.seq());
+        expect_reply(rt, alloc, machine, step, answer);
     }
     expect!(rt; answer.position == machine.seq());
-    Ok(is_starved)
+    is_starved
 }
 
 /// Expects the answers to the round. Says whether a step was refused.
@@ -251,15 +243,16 @@ fn expect_answers(
     rt: &impl Abort,
     alloc: Global,
     machine: &mut Machine<Payload>,
+    steps: &[Step],
     answers: &[Answer],
-) -> Result<bool, AllocError> {
+) -> bool {
     let mut starved = false;
-    for (step, answer) in ROUND.iter().zip(answers) {
-        if expect_answer(rt, alloc, machine, *step, answer)? {
+    for (step, answer) in steps.iter().zip(answers) {
+        if expect_answer(rt, alloc, machine, *step, answer) {
             starved = true;
         }
     }
-    Ok(starved)
+    starved
 }
 
 /// A machine as it was written.
@@ -276,12 +269,12 @@ fn expect_standing(
     alloc: Global,
     disk: MemDisk,
     (first, other): (&mut Machine<Payload>, &mut Machine<Payload>),
-) -> Result<(), AllocError> {
+) {
     let mut journal = opened(rt, alloc, disk);
     if journal.position() == first.seq() {
         return expect_state(rt, alloc, &mut journal, first);
     }
-    expect_state(rt, alloc, &mut journal, other)
+    expect_state(rt, alloc, &mut journal, other);
 }
 
 /// What became of a round.
@@ -291,14 +284,8 @@ struct Outcome {
     refused: bool,
     /// Whether that was the one for the answers, so that nothing was done.
     undone: bool,
-}
-
-/// A round that was asked while a growth might be refused.
-#[derive(Drop)]
-struct Asked {
-    journal: Journal<MemDisk>,
-    answers: Vec<Answer>,
-    outcome: Outcome,
+    /// Whether the journal is broken then.
+    broken: bool,
 }
 
 /// Asks the round of a journal.
@@ -307,28 +294,19 @@ fn ask(
     alloc: Global,
     journal: &mut Journal<MemDisk>,
     answers: &mut Vec<Answer>,
-) -> Result<Outcome, AllocError> {
-    let mut calls = calls_of(alloc, &ROUND)?;
-    assert!(rt; 1 <= calls.len() && calls.len() <= 64);
-    before(alloc)?;
-    let told = journal.round(alloc, &mut calls, answers);
+) -> Outcome {
+    let mut calls = calls_of(alloc, &ROUND).expect(rt, "memory");
+    before(alloc).expect(rt, "memory");
+    let told = round(rt, alloc, journal, &mut calls, answers);
     let refused = was_refused(alloc);
     let undone = told.is_err();
     expect!(rt; calls.is_empty() != undone);
     expect!(rt; answers.len() == if undone { 0 } else { ROUND.len() });
-    Ok(Outcome { refused, undone })
-}
-
-/// Asks the round of a new journal.
-fn ask_in_scarce_memory(rt: &impl Abort, alloc: Global, due: bool) -> Result<Asked, AllocError> {
-    let mut journal = prepared(rt, alloc, due)?;
-    let mut answers = Vec::new(alloc);
-    let outcome = ask(rt, alloc, &mut journal, &mut answers)?;
-    Ok(Asked {
-        journal,
-        answers,
-        outcome,
-    })
+    Outcome {
+        refused,
+        undone,
+        broken: journal.is_broken(),
+    }
 }
 
 /// Whether each answer is one refusal.
@@ -340,116 +318,127 @@ fn are_all(answers: &[Answer], refusal: Refusal) -> bool {
 
 /// Each answer is the machine's or refused memory. Where the disk in memory could not grow, all are told unsure, and the device
 /// stands for the state before or after: these are the two states then, and else both are that after the round.
+fn expect_told_answers(
+    rt: &impl Abort,
+    alloc: Global,
+    (answers, outcome): (&[Answer], Outcome),
+    due: bool,
+    (first, other): (&mut Machine<Payload>, &mut Machine<Payload>),
+) {
+    let Outcome {
+        refused,
+        undone,
+        broken,
+    } = outcome;
+    if broken {
+        expect!(rt; refused && are_all(answers, Refusal::Unsure));
+        return make_all(alloc, other, &ROUND).expect(rt, "memory");
+    }
+    if undone || are_all(answers, Refusal::OutOfMemory) {
+        expect!(rt; refused && (undone || due));
+        return;
+    }
+    let starved = expect_answers(rt, alloc, first, &ROUND, answers);
+    expect!(rt; refused || !starved);
+    let _ = expect_answers(rt, alloc, other, &ROUND, answers);
+}
+
+/// Asks the round of a journal, and expects its answers.
 fn expect_asked(
     rt: &impl Abort,
     alloc: Global,
-    asked: &Asked,
+    journal: &mut Journal<MemDisk>,
     due: bool,
-    (first, other): (&mut Machine<Payload>, &mut Machine<Payload>),
-) -> Result<(), AllocError> {
-    let Outcome { refused, undone } = asked.outcome;
-    if asked.journal.is_broken() {
-        expect!(rt; refused && are_all(&asked.answers, Refusal::Unsure));
-        return make_all(alloc, other, &ROUND);
-    }
-    if undone || are_all(&asked.answers, Refusal::OutOfMemory) {
-        expect!(rt; refused && (undone || due));
-        return Ok(());
-    }
-    let starved = expect_answers(rt, alloc, first, &asked.answers)?;
-    expect!(rt; refused || !starved);
-    let _ = expect_answers(rt, alloc, other, &asked.answers)?;
-    Ok(())
+    machines: (&mut Machine<Payload>, &mut Machine<Payload>),
+) {
+    let mut answers = Vec::new(alloc);
+    let outcome = ask(rt, alloc, journal, &mut answers);
+    expect_told_answers(rt, alloc, (&answers, outcome), due, machines);
 }
 
-/// What a crash leaves of the device of a journal stands for one of two states.
-fn expect_left(
+/// The device of a new journal that was asked the round.
+fn asked(
     rt: &impl Abort,
     alloc: Global,
-    journal: Journal<MemDisk>,
-    kind: Torn,
-    (first, other): (&mut Machine<Payload>, &mut Machine<Payload>),
-) -> Result<(), AllocError> {
+    due: bool,
+    machines: (&mut Machine<Payload>, &mut Machine<Payload>),
+) -> MemDisk {
+    let mut journal = prepared(rt, alloc, due);
+    expect_asked(rt, alloc, &mut journal, due, machines);
     let broken = journal.is_broken();
     let disk = journal.into_disk();
     expect!(rt; broken == (disk.failures() > 0));
-    expect_standing(rt, alloc, disk.crash(kind), (first, other))
+    disk
 }
 
-/// A round that was asked, and what a crash leaves then.
+/// A round of a new journal, and what a crash leaves then.
 fn expect_round_and_crash(
     rt: &impl Abort,
     alloc: Global,
-    asked: Asked,
     (due, kind): (bool, Torn),
     (first, other): (&mut Machine<Payload>, &mut Machine<Payload>),
-) -> Result<(), AllocError> {
-    expect_asked(rt, alloc, &asked, due, (&mut *first, &mut *other))?;
-    let Asked { journal, .. } = asked;
-    expect_left(rt, alloc, journal, kind, (first, other))
+) {
+    let disk = asked(rt, alloc, due, (&mut *first, &mut *other));
+    expect_standing(rt, alloc, disk.crash(kind), (first, other));
 }
 
 /// A round whose growths are refused in turn. The device stands for what was accepted, whatever a crash leaves.
-fn expect_round(rt: &impl Abort, alloc: Global, due: bool, kind: Torn) -> Result<(), AllocError> {
-    let mut first = prepared_machine(alloc, due)?;
-    let mut other = prepared_machine(alloc, due)?;
-    let asked = ask_in_scarce_memory(rt, alloc, due)?;
-    expect_round_and_crash(rt, alloc, asked, (due, kind), (&mut first, &mut other))
+fn expect_round(rt: &impl Abort, alloc: Global, due: bool, kind: Torn) {
+    let mut first = prepared_machine(rt, alloc, due);
+    let mut other = prepared_machine(rt, alloc, due);
+    expect_round_and_crash(rt, alloc, (due, kind), (&mut first, &mut other));
 }
 
 #[test]
-fn a_round(rt: HostRuntime) -> Result<(), Fail> {
+fn a_round(rt: HostRuntime) {
     for kind in &KINDS {
-        expect_round(&rt, rt.alloc(), false, *kind)?;
+        expect_round(&rt, rt.alloc(), false, *kind);
     }
-    Ok(())
 }
 
 #[test]
-fn a_round_that_opens_a_segment(rt: HostRuntime) -> Result<(), Fail> {
+fn a_round_that_opens_a_segment(rt: HostRuntime) {
     for kind in &KINDS {
-        expect_round(&rt, rt.alloc(), true, *kind)?;
+        expect_round(&rt, rt.alloc(), true, *kind);
     }
-    Ok(())
 }
 
 /// A payload that is fetched, or memory was refused for it.
-fn expect_fetch(
-    rt: &impl Abort,
-    alloc: Global,
-    journal: &mut Journal<MemDisk>,
-) -> Result<(), AllocError> {
-    before(alloc)?;
+fn expect_fetch(rt: &impl Abort, alloc: Global, journal: &mut Journal<MemDisk>) {
+    before(alloc).expect(rt, "memory");
     let told = journal.fetch(alloc, HOP, 2);
     let refused = was_refused(alloc);
     match told {
         Ok(bytes) => {
             expect!(rt; bytes.len() == 1_200);
-            expect!(rt; bytes.iter().all(|byte| *byte == 2));
+            expect!(rt; are(&bytes, 2));
         }
         Err(refusal) => expect!(rt; refused && refusal == Refusal::OutOfMemory),
     }
-    Ok(())
+}
+
+/// The same, and the journal's state then.
+fn expect_fetch_and_state(rt: &impl Abort, alloc: Global, journal: &mut Journal<MemDisk>) {
+    expect_fetch(rt, alloc, journal);
+    expect_state(rt, alloc, journal, &mut prepared_machine(rt, alloc, false));
 }
 
 #[test]
-fn a_fetch(rt: HostRuntime) -> Result<(), Fail> {
-    let alloc = rt.alloc();
-    let mut machine = prepared_machine(alloc, false)?;
-    let mut journal = prepared(&rt, alloc, false)?;
-    expect_fetch(&rt, alloc, &mut journal)?;
-    expect_state(&rt, alloc, &mut journal, &mut machine)?;
-    Ok(())
+fn a_fetch(rt: HostRuntime) {
+    expect_fetch_and_state(&rt, rt.alloc(), &mut prepared(&rt, rt.alloc(), false));
 }
 
-#[test]
-fn a_new_machine(rt: HostRuntime) -> Result<(), Fail> {
-    let alloc = rt.alloc();
-    before(alloc)?;
+/// Makes a machine.
+fn expect_new(rt: &impl Abort, alloc: Global) {
+    before(alloc).expect(rt, "memory");
     let told: Result<Machine<Payload>, AllocError> = Machine::new(alloc, DEVICE_E.params);
     let refused = was_refused(alloc);
     expect!(rt; refused || told.is_ok());
-    Ok(())
+}
+
+#[test]
+fn a_new_machine(rt: HostRuntime) {
+    expect_new(&rt, rt.alloc());
 }
 
 /// The plain machine's reply to a step. What is refused leaves it as it was, and is answered when it is asked again.
@@ -458,19 +447,18 @@ fn expect_evaluated(
     alloc: Global,
     machine: &mut Machine<Payload>,
     step: Step,
-) -> Result<Reply, AllocError> {
+) -> Reply {
     let seq = machine.seq();
-    let ask = step.ask(alloc)?;
-    let again = step.ask(alloc)?;
-    before(alloc)?;
+    let ask = step.ask(alloc).expect(rt, "memory");
+    before(alloc).expect(rt, "memory");
     let told = machine.evaluate(alloc, ask);
     let refused = was_refused(alloc);
     expect!(rt; refused || told.is_ok());
     match told {
-        Ok(reply) => Ok(reply),
+        Ok(reply) => reply,
         Err(_) => {
             expect!(rt; machine.seq() == seq);
-            machine.evaluate(alloc, again)
+            reply_of(alloc, machine, step).expect(rt, "memory")
         }
     }
 }
@@ -482,23 +470,36 @@ fn expect_step(
     machine: &mut Machine<Payload>,
     same: &mut Machine<Payload>,
     step: Step,
-) -> Result<(), AllocError> {
+) {
     let seq = machine.seq();
-    let reply = expect_evaluated(rt, alloc, machine, step)?;
-    let wanted = reply_of(alloc, same, step)?;
+    let reply = expect_evaluated(rt, alloc, machine, step);
+    let wanted = reply_of(alloc, same, step).expect(rt, "memory");
     expect!(rt; is_same(&reply, &wanted), seq);
-    Ok(())
+}
+
+/// Each of some steps.
+fn expect_each(
+    rt: &impl Abort,
+    alloc: Global,
+    machine: &mut Machine<Payload>,
+    same: &mut Machine<Payload>,
+    steps: &[Step],
+) {
+    for step in steps {
+        expect_step(rt, alloc, machine, same, *step);
+    }
+}
+
+/// Those of the round.
+fn expect_steps(rt: &impl Abort, alloc: Global) {
+    let mut machine = prepared_machine(rt, alloc, false);
+    let mut same = prepared_machine(rt, alloc, false);
+    expect_each(rt, alloc, &mut machine, &mut same, &ROUND);
 }
 
 #[test]
-fn steps_of_a_machine(rt: HostRuntime) -> Result<(), Fail> {
-    let alloc = rt.alloc();
-    let mut machine = prepared_machine(alloc, false)?;
-    let mut same = prepared_machine(alloc, false)?;
-    for step in &ROUND {
-        expect_step(&rt, alloc, &mut machine, &mut same, *step)?;
-    }
-    Ok(())
+fn steps_of_a_machine(rt: HostRuntime) {
+    expect_steps(&rt, rt.alloc());
 }
 
 /// Five datagrams, the second of them with a limit, and a Pick that arms CoDel.
@@ -519,48 +520,68 @@ fn armed() -> [Step; 6] {
     ]
 }
 
+/// A machine after these.
+fn armed_machine(rt: &impl Abort, alloc: Global) -> Machine<Payload> {
+    let mut machine = Machine::new(alloc, DEVICE_E.params).expect(rt, "memory");
+    make_all(alloc, &mut machine, &armed()).expect(rt, "memory");
+    machine
+}
+
 /// An interval later the second has expired, and the third is dropped: the Pick's memory has a list for each.
-#[test]
-fn a_pick_that_lists_both(rt: HostRuntime) -> Result<(), Fail> {
-    let alloc = rt.alloc();
-    let mut machine = Machine::new(alloc, DEVICE_E.params)?;
-    make_all(alloc, &mut machine, &armed())?;
-    let mut same = Machine::new(alloc, DEVICE_E.params)?;
-    make_all(alloc, &mut same, &armed())?;
-    let pick = Step::Pick { now: 120_000 };
-    expect_step(&rt, alloc, &mut machine, &mut same, pick)?;
+fn expect_both_lists(
+    rt: &impl Abort,
+    alloc: Global,
+    machine: &mut Machine<Payload>,
+    same: &mut Machine<Payload>,
+) {
+    expect_step(rt, alloc, machine, same, Step::Pick { now: 120_000 });
     match machine.ask_show(HOP) {
         Reply::Shown(status) => expect!(rt; status.expired == 1 && status.dropped == 1),
         _ => panic!(rt; "no such hop"),
     }
-    Ok(())
+}
+
+/// The same of new machines.
+fn expect_pick(rt: &impl Abort, alloc: Global) {
+    let mut machine = armed_machine(rt, alloc);
+    let mut same = armed_machine(rt, alloc);
+    expect_both_lists(rt, alloc, &mut machine, &mut same);
 }
 
 #[test]
-fn writing_a_checkpoint(rt: HostRuntime) -> Result<(), Fail> {
-    let alloc = rt.alloc();
-    let machine = prepared_machine(alloc, false)?;
+fn a_pick_that_lists_both(rt: HostRuntime) {
+    expect_pick(&rt, rt.alloc());
+}
+
+/// Writes a machine, or nothing.
+fn expect_writing(rt: &impl Abort, alloc: Global, machine: &Machine<Payload>) {
     let mut out = Vec::new(alloc);
-    before(alloc)?;
-    let told = write_checkpoint(&machine, &mut out);
+    before(alloc).expect(rt, "memory");
+    let told = write_checkpoint(machine, &mut out);
     let refused = was_refused(alloc);
     expect!(rt; refused || told.is_ok());
     expect!(rt; told.is_err() == out.is_empty());
-    Ok(())
 }
 
 #[test]
-fn reading_a_checkpoint(rt: HostRuntime) -> Result<(), Fail> {
-    let alloc = rt.alloc();
-    let machine = prepared_machine(alloc, false)?;
+fn writing_a_checkpoint(rt: HostRuntime) {
+    expect_writing(&rt, rt.alloc(), &prepared_machine(&rt, rt.alloc(), false));
+}
+
+/// Reads a machine that was written.
+fn expect_reading(rt: &impl Abort, alloc: Global, machine: &Machine<Payload>) {
     let mut out = Vec::new(alloc);
-    write_checkpoint(&machine, &mut out)?;
-    before(alloc)?;
+    write_checkpoint(machine, &mut out).expect(rt, "memory");
+    before(alloc).expect(rt, "memory");
     let told = read_checkpoint(alloc, HeadForm::Second, DEVICE_E.params, &out);
     let refused = was_refused(alloc);
     match told {
         Ok(found) => expect!(rt; is_same(&found.ask_show(HOP), &machine.ask_show(HOP))),
         Err(fault) => expect!(rt; refused && fault == DecodeFault::OutOfMemory),
     }
-    Ok(())
+}
+
+#[test]
+fn reading_a_checkpoint(rt: HostRuntime) {
+    expect_reading(&rt, rt.alloc(), &prepared_machine(&rt, rt.alloc(), false));
 }

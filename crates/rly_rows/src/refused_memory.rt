@@ -2,8 +2,8 @@
 //! each succeeds; `rt try --test --fail-alloc N` refuses the Nth growth of each test. A growth of the test's own is then asked
 //! for again, and one of the disk in memory is a failure of the device.
 use crate::comparison::{expect_broken, expect_refused, is_same, machine_after, reply_of};
-use crate::device::{DEVICE_E, SIZE, bytes_of, opened};
-use crate::script::{HOP, Script, Step, calls_of, take};
+use crate::device::{DEVICE_E, SIZE, are, bytes_of, opened};
+use crate::script::{HOP, Script, Step, calls_of, round, take};
 use rly_checkpoint::{DecodeFault, HeadForm, read_checkpoint, write_checkpoint};
 use rly_core::Refusal;
 use rly_disk::{Disk, MemDisk};
@@ -13,7 +13,6 @@ use rly_segment::{FormatFault, format};
 use rly_standing::OpenFault;
 use std::alloc::{AllocError, Global};
 use std::process::Abort;
-use std::test::Fail;
 
 /// Five datagrams are taken, of which the second is in flight in the end, and a segment is opened before the last.
 fn steps() -> [Step; 10] {
@@ -37,62 +36,54 @@ fn zeroed(alloc: Global) -> Result<MemDisk, AllocError> {
 }
 
 /// The same, in scarce memory.
-fn expect_zeroed(alloc: Global) -> Result<MemDisk, AllocError> {
+fn expect_zeroed(rt: &impl Abort, alloc: Global) -> MemDisk {
     match zeroed(alloc) {
-        Ok(disk) => Ok(disk),
-        Err(_) => zeroed(alloc),
+        Ok(disk) => disk,
+        Err(_) => zeroed(alloc).expect(rt, "memory"),
     }
 }
 
 /// All that a disk reads.
-fn read(rt: &impl Abort, alloc: Global, disk: &mut MemDisk) -> Result<Vec<u8>, AllocError> {
+fn read(rt: &impl Abort, alloc: Global, disk: &mut MemDisk) -> Vec<u8> {
     match bytes_of(rt, alloc, disk) {
-        Ok(bytes) => Ok(bytes),
-        Err(_) => bytes_of(rt, alloc, disk),
+        Ok(bytes) => bytes,
+        Err(_) => bytes_of(rt, alloc, disk).expect(rt, "memory"),
     }
 }
 
 /// Formats a disk of zeroes. Where that was refused, the next try succeeds.
-fn expect_format(rt: &impl Abort, alloc: Global) -> Result<MemDisk, AllocError> {
-    let mut disk = expect_zeroed(alloc)?;
-    if !is_formatted(rt, alloc, &mut disk)? {
+fn expect_format(rt: &impl Abort, alloc: Global) -> MemDisk {
+    let mut disk = expect_zeroed(rt, alloc);
+    if !is_formatted(rt, alloc, &mut disk) {
         expect!(rt; format(alloc, &mut disk, &DEVICE_E) == Ok(()));
     }
-    Ok(disk)
+    disk
 }
 
 /// Whether a disk of zeroes could be formatted. Where memory was refused, no call of it was made.
-fn is_formatted(rt: &impl Abort, alloc: Global, disk: &mut MemDisk) -> Result<bool, AllocError> {
+fn is_formatted(rt: &impl Abort, alloc: Global, disk: &mut MemDisk) -> bool {
     match format(alloc, disk, &DEVICE_E) {
-        Ok(()) => return Ok(true),
-        Err(FormatFault::OutOfMemory) => expect_untouched(rt, alloc, disk)?,
-        Err(fault) => {
-            expect!(rt; fault == FormatFault::Device);
-            expect!(rt; disk.failures() > 0);
-        }
+        Ok(()) => return true,
+        Err(FormatFault::OutOfMemory) => expect_untouched(rt, alloc, disk),
+        Err(fault) => expect!(rt; fault == FormatFault::Device && disk.failures() > 0),
     }
-    Ok(false)
+    false
 }
 
 /// A disk of zeroes that no call was made of.
-fn expect_untouched(rt: &impl Abort, alloc: Global, disk: &mut MemDisk) -> Result<(), AllocError> {
+fn expect_untouched(rt: &impl Abort, alloc: Global, disk: &mut MemDisk) {
     expect!(rt; disk.calls() == 0);
-    let bytes = read(rt, alloc, disk)?;
-    expect!(rt; bytes.iter().all(|byte| *byte == 0));
-    Ok(())
+    let bytes = read(rt, alloc, disk);
+    expect!(rt; are(&bytes, 0));
 }
 
 /// Opens a device. Where memory is refused, the disk that is handed back reads as before, and the next try succeeds.
-fn expect_opening(
-    rt: &impl Abort,
-    alloc: Global,
-    disk: MemDisk,
-) -> Result<Journal<MemDisk>, AllocError> {
+fn expect_opening(rt: &impl Abort, alloc: Global, disk: MemDisk) -> Journal<MemDisk> {
     let mut disk = disk;
-    let bytes = read(rt, alloc, &mut disk)?;
+    let bytes = read(rt, alloc, &mut disk);
     let failures = disk.failures();
     match Journal::open(alloc, disk) {
-        Ok(journal) => Ok(journal),
+        Ok(journal) => journal,
         Err((fault, disk)) => {
             let failed = disk.failures() > failures;
             expect!(rt; fault == OpenFault::OutOfMemory || fault == OpenFault::Device && failed);
@@ -102,16 +93,11 @@ fn expect_opening(
 }
 
 /// Opens a device that reads as it did before it was refused.
-fn open_again(
-    rt: &impl Abort,
-    alloc: Global,
-    disk: MemDisk,
-    bytes: &[u8],
-) -> Result<Journal<MemDisk>, AllocError> {
+fn open_again(rt: &impl Abort, alloc: Global, disk: MemDisk, bytes: &[u8]) -> Journal<MemDisk> {
     let mut disk = disk;
-    let same = read(rt, alloc, &mut disk)?;
+    let same = read(rt, alloc, &mut disk);
     expect!(rt; same.as_slice() == bytes);
-    Ok(opened(rt, alloc, disk))
+    opened(rt, alloc, disk)
 }
 
 /// Asks a round. Where memory is refused for the answers, nothing changed, and the next try succeeds.
@@ -120,19 +106,19 @@ fn expect_round(
     alloc: Global,
     journal: &mut Journal<MemDisk>,
     steps: &[Step],
-) -> Result<Vec<Answer>, AllocError> {
-    let mut calls = expect_calls(alloc, steps)?;
+) -> Vec<Answer> {
+    let mut calls = expect_calls(rt, alloc, steps);
     let mut answers = Vec::new(alloc);
-    ask_round(rt, alloc, journal, &mut calls, &mut answers)?;
+    ask_round(rt, alloc, journal, &mut calls, &mut answers);
     expect!(rt; calls.is_empty() && answers.len() == steps.len());
-    Ok(answers)
+    answers
 }
 
 /// A call for each step.
-fn expect_calls(alloc: Global, steps: &[Step]) -> Result<Vec<Call>, AllocError> {
+fn expect_calls(rt: &impl Abort, alloc: Global, steps: &[Step]) -> Vec<Call> {
     match calls_of(alloc, steps) {
-        Ok(calls) => Ok(calls),
-        Err(_) => calls_of(alloc, steps),
+        Ok(calls) => calls,
+        Err(_) => calls_of(alloc, steps).expect(rt, "memory"),
     }
 }
 
@@ -143,37 +129,21 @@ fn ask_round(
     journal: &mut Journal<MemDisk>,
     calls: &mut Vec<Call>,
     answers: &mut Vec<Answer>,
-) -> Result<(), AllocError> {
+) {
     let (position, count) = (journal.position(), calls.len());
     if round(rt, alloc, journal, calls, answers).is_ok() {
-        return Ok(());
+        return;
     }
     expect!(rt; calls.len() == count && answers.is_empty());
     expect!(rt; journal.position() == position);
-    round(rt, alloc, journal, calls, answers)
-}
-
-/// Asks for a round.
-fn round(
-    rt: &impl Abort,
-    alloc: Global,
-    journal: &mut Journal<MemDisk>,
-    calls: &mut Vec<Call>,
-    answers: &mut Vec<Answer>,
-) -> Result<(), AllocError> {
-    assert!(rt; 1 <= calls.len() && calls.len() <= 64);
-    journal.round(alloc, calls, answers)
+    round(rt, alloc, journal, calls, answers).expect(rt, "memory");
 }
 
 /// The plain machine's reply to a step, which it makes.
-fn expected(
-    alloc: Global,
-    machine: &mut Machine<Payload>,
-    step: Step,
-) -> Result<Reply, AllocError> {
+fn expected(rt: &impl Abort, alloc: Global, machine: &mut Machine<Payload>, step: Step) -> Reply {
     match reply_of(alloc, machine, step) {
-        Ok(reply) => Ok(reply),
-        Err(_) => reply_of(alloc, machine, step),
+        Ok(reply) => reply,
+        Err(_) => reply_of(alloc, machine, step).expect(rt, "memory"),
     }
 }
 
@@ -185,82 +155,86 @@ fn expect_answers(
     machine: &mut Machine<Payload>,
     steps: &[Step],
     answers: &[Answer],
-) -> Result<usize, AllocError> {
+) -> usize {
     let mut refused = 0usize;
     for (step, answer) in steps.iter().zip(answers) {
         if is_same(&answer.reply, &Reply::Refused(Refusal::OutOfMemory)) {
             refused = refused.saturating_add(1);
         } else {
-            let is_expected = is_expected(alloc, machine, *step, &answer.reply)?;
-            expect!(rt; is_expected, machine.seq());
+            expect_reply(rt, alloc, machine, *step, &answer.reply);
         }
         expect!(rt; answer.position == machine.seq());
     }
-    Ok(refused)
+    refused
 }
 
-/// Whether a reply is the plain machine's to a step, which it makes.
-fn is_expected(
+/// Expects of a reply that it is the plain machine's to a step, which it makes.
+fn expect_reply(
+    rt: &impl Abort,
     alloc: Global,
     machine: &mut Machine<Payload>,
     step: Step,
     reply: &Reply,
-) -> Result<bool, AllocError> {
-    let own = expected(alloc, machine, step)?;
-    Ok(is_same(reply, &own))
+) {
+    let own = expected(rt, alloc, machine, step);
+    expect!(rt; is_same(reply, &own), machine.seq());
 }
 
-/// Asks a round, and says how many of its calls were refused memory: one at most, or all where a segment is due. Where the disk
-/// in memory couldn't grow, the journal is opened again, and the round stands or not.
+/// Asks a round. Where the disk in memory couldn't grow, the journal is opened again, and the round stands or not.
 fn expect_served(
     rt: &impl Abort,
     alloc: Global,
     journal: Journal<MemDisk>,
     machine: &mut Machine<Payload>,
     steps: &[Step],
-) -> Result<Journal<MemDisk>, AllocError> {
+) -> Journal<MemDisk> {
     let mut journal = journal;
-    let answers = expect_round(rt, alloc, &mut journal, steps)?;
-    if journal.is_broken() {
-        return expect_reopening(rt, alloc, journal, machine, steps, &answers);
+    if is_served(rt, alloc, &mut journal, machine, steps) {
+        return journal;
     }
-    let refused = expect_answers(rt, alloc, machine, steps, &answers)?;
-    expect!(rt; refused <= 1 || refused == steps.len());
-    Ok(journal)
+    expect_reopening(rt, alloc, journal.into_disk(), machine, steps)
 }
 
-/// Opens a journal again whose device failed in a round, which stands or not.
+/// Asks a round, and says whether the device took it. One of its calls at most was refused memory, or all where a segment is due.
+fn is_served(
+    rt: &impl Abort,
+    alloc: Global,
+    journal: &mut Journal<MemDisk>,
+    machine: &mut Machine<Payload>,
+    steps: &[Step],
+) -> bool {
+    let answers = expect_round(rt, alloc, journal, steps);
+    if journal.is_broken() {
+        expect_refused(rt, &answers, Refusal::Unsure, machine.seq());
+        expect_broken(rt, alloc, journal, steps, machine.seq());
+        return false;
+    }
+    let refused = expect_answers(rt, alloc, machine, steps, &answers);
+    expect!(rt; refused <= 1 || refused == steps.len());
+    true
+}
+
+/// Opens a device again that failed in a round, which stands or not.
 fn expect_reopening(
     rt: &impl Abort,
     alloc: Global,
-    journal: Journal<MemDisk>,
+    disk: MemDisk,
     machine: &mut Machine<Payload>,
     steps: &[Step],
-    answers: &[Answer],
-) -> Result<Journal<MemDisk>, AllocError> {
-    let mut journal = journal;
-    let position = machine.seq();
-    expect_refused(rt, answers, Refusal::Unsure, position);
-    expect_broken(rt, alloc, &mut journal, steps, position)?;
-    let disk = journal.into_disk();
+) -> Journal<MemDisk> {
     expect!(rt; disk.failures() > 0);
-    let journal = expect_opening(rt, alloc, disk)?;
-    if journal.position() != position {
-        expect_all(alloc, machine, steps)?;
+    let journal = expect_opening(rt, alloc, disk);
+    if journal.position() != machine.seq() {
+        expect_all(rt, alloc, machine, steps);
     }
-    Ok(journal)
+    journal
 }
 
 /// The plain machine makes these steps.
-fn expect_all(
-    alloc: Global,
-    machine: &mut Machine<Payload>,
-    steps: &[Step],
-) -> Result<(), AllocError> {
+fn expect_all(rt: &impl Abort, alloc: Global, machine: &mut Machine<Payload>, steps: &[Step]) {
     for step in steps {
-        let _ = expected(alloc, machine, *step)?;
+        let _ = expected(rt, alloc, machine, *step);
     }
-    Ok(())
 }
 
 /// What a journal is asked.
@@ -277,11 +251,11 @@ fn expect_same_once(
     alloc: Global,
     journal: Journal<MemDisk>,
     machine: &mut Machine<Payload>,
-) -> Result<Journal<MemDisk>, AllocError> {
+) -> Journal<MemDisk> {
     expect!(rt; journal.position() == machine.seq());
-    let mut journal = expect_served(rt, alloc, journal, machine, &QUESTIONS)?;
+    let mut journal = expect_served(rt, alloc, journal, machine, &QUESTIONS);
     expect!(rt; is_in_flight_for_both(alloc, &mut journal, machine));
-    Ok(journal)
+    journal
 }
 
 /// The same, asked twice.
@@ -290,8 +264,8 @@ fn expect_same(
     alloc: Global,
     journal: Journal<MemDisk>,
     machine: &mut Machine<Payload>,
-) -> Result<Journal<MemDisk>, AllocError> {
-    let journal = expect_same_once(rt, alloc, journal, machine)?;
+) -> Journal<MemDisk> {
+    let journal = expect_same_once(rt, alloc, journal, machine);
     expect_same_once(rt, alloc, journal, machine)
 }
 
@@ -311,13 +285,14 @@ fn is_in_flight_for_both(
 
 /// The plain machine after the first rounds of a script.
 fn expect_machine(
+    rt: &impl Abort,
     alloc: Global,
     script: Script,
     rounds: usize,
-) -> Result<Machine<Payload>, AllocError> {
+) -> Machine<Payload> {
     match machine_after(alloc, script, rounds) {
-        Ok(machine) => Ok(machine),
-        Err(_) => machine_after(alloc, script, rounds),
+        Ok(machine) => machine,
+        Err(_) => machine_after(alloc, script, rounds).expect(rt, "memory"),
     }
 }
 
@@ -327,7 +302,7 @@ fn expect_four(
     alloc: Global,
     journal: Journal<MemDisk>,
     machine: &mut Machine<Payload>,
-) -> Result<Journal<MemDisk>, AllocError> {
+) -> Journal<MemDisk> {
     let mut journal = journal;
     let steps = steps();
     let script = Script {
@@ -335,19 +310,14 @@ fn expect_four(
         calls: 3,
     };
     for index in 0..4 {
-        journal = expect_served(rt, alloc, journal, machine, script.round(index))?;
+        journal = expect_served(rt, alloc, journal, machine, script.round(index));
     }
-    Ok(journal)
+    journal
 }
 
 /// The same of a journal on a new device.
-fn expect_new(
-    rt: &impl Abort,
-    alloc: Global,
-    machine: &mut Machine<Payload>,
-) -> Result<Journal<MemDisk>, AllocError> {
-    let disk = expect_format(rt, alloc)?;
-    let journal = expect_opening(rt, alloc, disk)?;
+fn expect_new(rt: &impl Abort, alloc: Global, machine: &mut Machine<Payload>) -> Journal<MemDisk> {
+    let journal = expect_opening(rt, alloc, expect_format(rt, alloc));
     expect_four(rt, alloc, journal, machine)
 }
 
@@ -357,62 +327,72 @@ fn expect_both(
     alloc: Global,
     journal: Journal<MemDisk>,
     machine: &mut Machine<Payload>,
-) -> Result<(), AllocError> {
-    let journal = expect_same(rt, alloc, journal, machine)?;
-    let journal = expect_opening(rt, alloc, journal.into_disk())?;
-    let _ = expect_same(rt, alloc, journal, machine)?;
-    Ok(())
+) {
+    let journal = expect_same(rt, alloc, journal, machine);
+    let journal = expect_opening(rt, alloc, journal.into_disk());
+    let _ = expect_same(rt, alloc, journal, machine);
 }
 
-#[test]
-fn a_journal_in_scarce_memory(rt: HostRuntime) -> Result<(), Fail> {
-    let alloc = rt.alloc();
+/// A journal on a new device, beside the plain machine.
+fn expect_journal(rt: &impl Abort, alloc: Global) {
     let none = Script {
         steps: &[],
         calls: 3,
     };
-    let mut machine = expect_machine(alloc, none, 0)?;
-    let journal = expect_new(&rt, alloc, &mut machine)?;
-    expect_both(&rt, alloc, journal, &mut machine)?;
-    Ok(())
+    let mut machine = expect_machine(rt, alloc, none, 0);
+    let journal = expect_new(rt, alloc, &mut machine);
+    expect_both(rt, alloc, journal, &mut machine);
+}
+
+#[test]
+fn a_journal_in_scarce_memory(rt: HostRuntime) {
+    expect_journal(&rt, rt.alloc());
 }
 
 /// Writes a machine. Where memory is refused, nothing is written, and the next try succeeds.
-fn expect_written(
-    rt: &impl Abort,
-    alloc: Global,
-    machine: &Machine<Payload>,
-) -> Result<Vec<u8>, AllocError> {
+fn expect_written(rt: &impl Abort, alloc: Global, machine: &Machine<Payload>) -> Vec<u8> {
     let mut out = Vec::new(alloc);
     if write_checkpoint(machine, &mut out).is_err() {
         expect!(rt; out.is_empty());
-        write_checkpoint(machine, &mut out)?;
+        write_checkpoint(machine, &mut out).expect(rt, "memory");
     }
-    Ok(out)
+    out
 }
 
 /// Reads a machine. Where memory is refused, the next try succeeds.
-fn expect_read(rt: &impl Abort, alloc: Global, body: &[u8]) -> Result<Machine<Payload>, Fail> {
-    match read_checkpoint(alloc, HeadForm::Second, DEVICE_E.params, body) {
-        Ok(machine) => Ok(machine),
+fn expect_read(rt: &impl Abort, alloc: Global, body: &[u8]) -> Machine<Payload> {
+    match read_once(alloc, body) {
+        Ok(machine) => machine,
         Err(fault) => {
             expect!(rt; fault == DecodeFault::OutOfMemory);
-            Ok(read_checkpoint(alloc, HeadForm::Second, DEVICE_E.params, body)?)
+            read_once(alloc, body).expect(rt, "memory")
         }
     }
 }
 
-#[test]
-fn a_checkpoint_in_scarce_memory(rt: HostRuntime) -> Result<(), Fail> {
-    let alloc = rt.alloc();
+/// The machine that a head's body says.
+fn read_once(alloc: Global, body: &[u8]) -> Result<Machine<Payload>, DecodeFault> {
+    read_checkpoint(alloc, HeadForm::Second, DEVICE_E.params, body)
+}
+
+/// A machine that is written and read is the same.
+fn expect_same_again(rt: &impl Abort, alloc: Global, machine: &Machine<Payload>) {
+    let out = expect_written(rt, alloc, machine);
+    let again = expect_read(rt, alloc, &out);
+    expect!(rt; again.seq() == machine.seq());
+    expect!(rt; is_same(&again.ask_show(HOP), &machine.ask_show(HOP)));
+}
+
+/// The plain machine after the first seven steps.
+fn machine_to_write(rt: &impl Abort, alloc: Global) -> Machine<Payload> {
     let script = Script {
         steps: &steps(),
         calls: 7,
     };
-    let machine = expect_machine(alloc, script, 1)?;
-    let out = expect_written(&rt, alloc, &machine)?;
-    let again = expect_read(&rt, alloc, &out)?;
-    expect!(rt; again.seq() == machine.seq());
-    expect!(rt; is_same(&again.ask_show(HOP), &machine.ask_show(HOP)));
-    Ok(())
+    expect_machine(rt, alloc, script, 1)
+}
+
+#[test]
+fn a_checkpoint_in_scarce_memory(rt: HostRuntime) {
+    expect_same_again(&rt, rt.alloc(), &machine_to_write(&rt, rt.alloc()));
 }

@@ -108,23 +108,33 @@ pub(crate) fn calls_of(alloc: Global, steps: &[Step]) -> Result<Vec<Call>, Alloc
     Ok(calls)
 }
 
+/// Asks for a round of 1 to 64 calls.
+pub(crate) fn round<D: Disk>(
+    rt: &impl Abort,
+    alloc: Global,
+    journal: &mut Journal<D>,
+    calls: &mut Vec<Call>,
+    answers: &mut Vec<Answer>,
+) -> Result<(), AllocError> {
+    assert!(rt; 1 <= calls.len() && calls.len() <= 64);
+    journal.round(alloc, calls, answers)
+}
+
 /// Asks all steps in one round. The answers come in the order of the calls, each under its seat and number.
 pub(crate) fn ask_all<D: Disk>(
     rt: &impl Abort,
     alloc: Global,
     journal: &mut Journal<D>,
     steps: &[Step],
-) -> Result<Vec<Answer>, AllocError> {
-    let mut calls = calls_of(alloc, steps)?;
+) -> Vec<Answer> {
+    let mut calls = calls_of(alloc, steps).expect(rt, "memory");
     let mut answers = Vec::new(alloc);
-    assert!(rt; 1 <= calls.len() && calls.len() <= 64);
-    journal.round(alloc, &mut calls, &mut answers)?;
-    assert!(rt; answers.len() == steps.len());
-    expect!(rt; calls.is_empty());
+    round(rt, alloc, journal, &mut calls, &mut answers).expect(rt, "memory");
+    expect!(rt; answers.len() == steps.len() && calls.is_empty());
     for (index, answer) in answers.iter().enumerate() {
         expect!(rt; answer.seat == SEAT && answer.number == index as u64);
     }
-    Ok(answers)
+    answers
 }
 
 /// Asks these steps, each in a round of its own.
@@ -133,9 +143,8 @@ pub(crate) fn ask_each<D: Disk>(
     alloc: Global,
     journal: &mut Journal<D>,
     steps: &[Step],
-) -> Result<(), AllocError> {
+) {
     for step in steps {
-        let _ = ask_all(rt, alloc, journal, &[*step])?;
+        let _ = ask_all(rt, alloc, journal, &[*step]);
     }
-    Ok(())
 }

@@ -4,9 +4,8 @@ use crate::script::{HOP, Step, ask_all, ask_each, take};
 use rly_disk::{After, Disk, DiskCall, FaultDisk, MemDisk, ToldCall, Watched};
 use rly_journal::Journal;
 use rly_segment::format;
-use std::alloc::{AllocError, Global};
+use std::alloc::Global;
 use std::process::Abort;
-use std::test::Fail;
 
 /// The most calls that a row has.
 const MOST: usize = 100;
@@ -33,27 +32,37 @@ impl Made {
     }
 }
 
-/// Whether a disk told exactly these calls, after so many.
-fn are_told<D: Disk>(disk: &Watched<D>, before: usize, want: &[Made]) -> bool {
+/// A disk told exactly these calls, after so many.
+fn expect_told<D: Disk>(rt: &impl Abort, disk: &Watched<D>, before: usize, want: &[Made]) {
     let told = disk.told();
-    let mut rest = told.iter().skip(before).zip(want);
-    told.len() == before.saturating_add(want.len()) && rest.all(|(call, made)| *call == made.told())
+    expect!(rt; told.len() == before.saturating_add(want.len()));
+    for (call, made) in told.iter().skip(before).zip(want) {
+        expect!(rt; *call == made.told());
+    }
 }
 
-/// The journal of a disk whose calls are told.
-fn watched<D: Disk + Drop>(
+/// A disk whose calls are told.
+fn told<D: Disk>(rt: &impl Abort, alloc: Global, disk: D) -> Watched<D> {
+    Watched::new(disk, Vec::with_capacity(alloc, MOST).expect(rt, "memory"))
+}
+
+/// A device whose calls are told after an opening and these steps, each in a round of its own, and whether one broke the journal.
+fn asked<D: Disk + Drop>(
     rt: &impl Abort,
     alloc: Global,
     disk: D,
-) -> Result<Journal<Watched<D>>, AllocError> {
-    let told = Vec::with_capacity(alloc, MOST)?;
-    Ok(opened(rt, alloc, Watched::new(disk, told)))
+    steps: &[Step],
+    broken: bool,
+) -> Watched<D> {
+    let mut journal = opened(rt, alloc, told(rt, alloc, disk));
+    ask_each(rt, alloc, &mut journal, steps);
+    expect!(rt; journal.is_broken() == broken);
+    journal.into_disk()
 }
 
-/// The same of a new device E.
-fn watched_e(rt: &impl Abort, alloc: Global) -> Result<Journal<Watched<MemDisk>>, AllocError> {
-    let disk = device_e(rt, alloc)?;
-    watched(rt, alloc, disk)
+/// The same of a new device E that doesn't fail.
+fn asked_e(rt: &impl Abort, alloc: Global, steps: &[Step]) -> Watched<MemDisk> {
+    asked(rt, alloc, device_e(rt, alloc), steps, false)
 }
 
 /// The header's gate, which reads closed; the gates of both segments; the first head; the header; and the two gates.
@@ -74,17 +83,17 @@ const FORMATTED: [Made; 14] = [
     Made::Sync,
 ];
 
-#[test]
-fn a_format(rt: HostRuntime) -> Result<(), Fail> {
-    let alloc = rt.alloc();
-    let zeroed = MemDisk::new(alloc, vec![in alloc; 0u8; SIZE].expect(&rt, "memory"));
-    let mut disk = Watched::new(
-        zeroed,
-        Vec::with_capacity(alloc, MOST).expect(&rt, "memory"),
-    );
+/// Formats a device of zeroes.
+fn expect_format(rt: &impl Abort, alloc: Global) {
+    let zeroed = MemDisk::new(alloc, vec![in alloc; 0u8; SIZE].expect(rt, "memory"));
+    let mut disk = told(rt, alloc, zeroed);
     expect!(rt; format(alloc, &mut disk, &DEVICE_E) == Ok(()));
-    expect!(rt; are_told(&disk, 0, &FORMATTED));
-    Ok(())
+    expect_told(rt, &disk, 0, &FORMATTED);
+}
+
+#[test]
+fn a_format(rt: HostRuntime) {
+    expect_format(&rt, rt.alloc());
 }
 
 /// An opening of a new device, and a round.
@@ -119,36 +128,33 @@ const OPENED: [Made; 10] = [
     Made::Read(188, 1),
 ];
 
-/// The device after the opening and the round.
-fn taken(rt: &impl Abort, alloc: Global) -> Result<Watched<MemDisk>, AllocError> {
-    let mut journal = watched_e(rt, alloc).expect(rt, "memory");
-    ask_each(rt, alloc, &mut journal, &[FIRST_TAKE]).expect(rt, "memory");
-    Ok(journal.into_disk())
+/// Opens a new device for a round.
+fn taken(rt: &impl Abort, alloc: Global) -> MemDisk {
+    let disk = asked_e(rt, alloc, &[FIRST_TAKE]);
+    expect_told(rt, &disk, 0, &OPENED_AND_TAKEN);
+    disk.into_inner()
+}
+
+/// And opens it again.
+fn expect_openings(rt: &impl Abort, alloc: Global) {
+    let disk = asked(rt, alloc, taken(rt, alloc), &[], false);
+    expect_told(rt, &disk, 0, &OPENED);
 }
 
 #[test]
 fn a_round_and_an_opening(rt: HostRuntime) {
-    let alloc = rt.alloc();
-    let disk = taken(&rt, alloc).expect(&rt, "memory");
-    expect!(rt; are_told(&disk, 0, &OPENED_AND_TAKEN));
-    let disk = watched(&rt, alloc, disk.into_inner())
-        .expect(&rt, "memory")
-        .into_disk();
-    expect!(rt; are_told(&disk, 0, &OPENED));
+    expect_openings(&rt, rt.alloc());
 }
 
 /// A device that fails at the first sync of a round, after it. The opening makes 7 calls.
-fn failed(rt: &impl Abort, alloc: Global) -> Result<Watched<FaultDisk<MemDisk>>, AllocError> {
-    let failing = FaultDisk::new(device_e(rt, alloc)?, 9, 0, After::GoesOn);
-    let mut journal = watched(rt, alloc, failing)?;
-    ask_each(rt, alloc, &mut journal, &[FIRST_TAKE])?;
-    expect!(rt; journal.is_broken());
-    Ok(journal.into_disk())
+fn failed(rt: &impl Abort, alloc: Global) -> Watched<FaultDisk<MemDisk>> {
+    let failing = FaultDisk::new(device_e(rt, alloc), 9, 0, After::GoesOn);
+    asked(rt, alloc, failing, &[FIRST_TAKE], true)
 }
 
-#[test]
-fn a_round_whose_first_sync_fails(rt: HostRuntime) {
-    let disk = failed(&rt, rt.alloc()).expect(&rt, "memory");
+/// The round writes, and then its sync fails.
+fn expect_failed(rt: &impl Abort, alloc: Global) {
+    let disk = failed(rt, alloc);
     let last = ToldCall {
         call: DiskCall::Sync,
         failed: true,
@@ -156,6 +162,11 @@ fn a_round_whose_first_sync_fails(rt: HostRuntime) {
     expect!(rt; disk.told().len() == 9);
     let want = [Made::Write(158, 31).told(), last];
     expect!(rt; disk.told().iter().skip(7).eq(want.iter()));
+}
+
+#[test]
+fn a_round_whose_first_sync_fails(rt: HostRuntime) {
+    expect_failed(&rt, rt.alloc());
 }
 
 /// Takes, picks, fetches and releases in one round: of a datagram of three bytes, and of one without any.
@@ -199,14 +210,9 @@ const FETCHED: [Made; 10] = [
 ];
 
 /// Asks two rounds.
-fn ask_fetching(
-    rt: &impl Abort,
-    alloc: Global,
-    journal: &mut Journal<Watched<MemDisk>>,
-) -> Result<(), AllocError> {
-    let _ = ask_all(rt, alloc, journal, &FETCHING)?;
-    let _ = ask_all(rt, alloc, journal, &[take(3, 0, 5), Step::Pick { now: 0 }])?;
-    Ok(())
+fn ask_fetching(rt: &impl Abort, alloc: Global, journal: &mut Journal<Watched<MemDisk>>) {
+    let _ = ask_all(rt, alloc, journal, &FETCHING);
+    let _ = ask_all(rt, alloc, journal, &[take(3, 0, 5), Step::Pick { now: 0 }]);
 }
 
 /// Fetches the third datagram, the one without bytes, and the one that was released.
@@ -218,17 +224,26 @@ fn expect_fetched(rt: &impl Abort, alloc: Global, journal: &mut Journal<Watched<
     expect!(rt; journal.fetch(alloc, HOP, 1).is_err());
 }
 
+/// The device after the rounds and the fetches.
+fn fetched(rt: &impl Abort, alloc: Global) -> Watched<MemDisk> {
+    let mut journal = opened(rt, alloc, told(rt, alloc, device_e(rt, alloc)));
+    ask_fetching(rt, alloc, &mut journal);
+    expect_fetched(rt, alloc, &mut journal);
+    journal.into_disk()
+}
+
+/// What they ask of it.
+fn expect_fetches(rt: &impl Abort, alloc: Global) {
+    let disk = fetched(rt, alloc);
+    // The opening makes 7 calls.
+    expect_told(rt, &disk, 7, &FETCHED);
+}
+
 /// A Fetch of bytes is one read of them, where the group has them, once that is durable; and so where they are released in the same
 /// round. A refused one and one of no bytes are none.
 #[test]
 fn fetches(rt: HostRuntime) {
-    let alloc = rt.alloc();
-    let mut journal = watched_e(&rt, alloc).expect(&rt, "memory");
-    ask_fetching(&rt, alloc, &mut journal).expect(&rt, "memory");
-    expect_fetched(&rt, alloc, &mut journal);
-    let disk = journal.into_disk();
-    // The opening makes 7 calls.
-    expect!(rt; are_told(&disk, 7, &FETCHED));
+    expect_fetches(&rt, rt.alloc());
 }
 
 /// Rounds of a step each. The second segment is opened before the last: the offset 5,067 of the gate and 78,280 exceed 82,908.
@@ -264,12 +279,13 @@ const MOVED: [Made; 12] = [
 ];
 
 /// A segment is opened: the victim's three payloads are read, those in flight and then the one that waits.
+fn expect_moved(rt: &impl Abort, alloc: Global) {
+    let disk = asked_e(rt, alloc, &steps());
+    // The opening makes 7 calls, and seven rounds make four each.
+    expect_told(rt, &disk, 35, &MOVED);
+}
+
 #[test]
 fn a_round_that_opens_a_segment(rt: HostRuntime) {
-    let alloc = rt.alloc();
-    let mut journal = watched_e(&rt, alloc).expect(&rt, "memory");
-    ask_each(&rt, alloc, &mut journal, &steps()).expect(&rt, "memory");
-    let disk = journal.into_disk();
-    // The opening makes 7 calls, and seven rounds make four each.
-    expect!(rt; are_told(&disk, 35, &MOVED));
+    expect_moved(&rt, rt.alloc());
 }

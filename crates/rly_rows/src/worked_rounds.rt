@@ -2,7 +2,7 @@
 use crate::comparison::{expect_broken, expect_refused, expect_state};
 use crate::device::{FIRST_TAKE, device_e, opened};
 use crate::faults::{KINDS, standing};
-use crate::script::{PEER, Script, Step, ask_all};
+use crate::script::{PEER, Step, ask_all};
 use rly_core::Refusal;
 use rly_disk::{After, Disk, FaultDisk, MemDisk, Torn};
 use rly_journal::Journal;
@@ -35,40 +35,38 @@ const THREE: [Step; 3] = [FIRST_TAKE, SECOND_TAKE, THIRD_TAKE];
 
 /// Device E, none of whose calls fails.
 fn sound_disk(rt: &impl Abort, alloc: Global) -> FaultDisk<MemDisk> {
-    FaultDisk::new(
-        device_e(rt, alloc).expect(rt, "memory"),
-        0,
-        0,
-        After::GoesOn,
-    )
+    FaultDisk::new(device_e(rt, alloc), 0, 0, After::GoesOn)
+}
+
+/// Device E after an opening.
+fn opened_disk(rt: &impl Abort, alloc: Global) -> FaultDisk<MemDisk> {
+    opened(rt, alloc, sound_disk(rt, alloc)).into_disk()
 }
 
 /// How many device calls the opening of device E makes.
 fn calls_of_opening(rt: &impl Abort, alloc: Global) -> u64 {
-    let disk = opened(rt, alloc, sound_disk(rt, alloc)).into_disk();
-    disk.calls()
+    opened_disk(rt, alloc).calls()
 }
 
-/// A journal of device E whose device fails at a sync of its first round: the round writes, syncs, writes and syncs.
-fn failing_at_the_second_sync(rt: &impl Abort, alloc: Global) -> Journal<FaultDisk<MemDisk>> {
-    let at = calls_of_opening(rt, alloc).saturating_add(4);
-    let disk = FaultDisk::new(
-        device_e(rt, alloc).expect(rt, "memory"),
-        at,
-        0,
-        After::GoesOn,
-    );
+/// A journal of device E whose device fails at one of its calls.
+fn failing_at(rt: &impl Abort, alloc: Global, at: u64) -> Journal<FaultDisk<MemDisk>> {
+    let disk = FaultDisk::new(device_e(rt, alloc), at, 0, After::GoesOn);
     opened(rt, alloc, disk)
 }
 
-/// Asks a round in which the device fails, and one more, of a device that fails once.
-fn expect_unsure(rt: &impl Abort, alloc: Global, steps: &[Step]) -> FaultDisk<MemDisk> {
-    let opening = calls_of_opening(rt, alloc);
-    let mut journal = failing_at_the_second_sync(rt, alloc);
+/// The device after a round in which it fails at a call, and one more.
+fn unsure(rt: &impl Abort, alloc: Global, at: u64, steps: &[Step]) -> FaultDisk<MemDisk> {
+    let mut journal = failing_at(rt, alloc, at);
     ask_unsure(rt, alloc, &mut journal, steps);
-    let disk = journal.into_disk();
-    expect!(rt; (disk.failures(), disk.syncs()) == (1, 3));
-    expect!(rt; disk.calls() == opening.saturating_add(4));
+    journal.into_disk()
+}
+
+/// The same of a device that fails once, at a sync of its first round: the round writes, syncs, writes and syncs.
+fn expect_unsure(rt: &impl Abort, alloc: Global, steps: &[Step]) -> FaultDisk<MemDisk> {
+    let at = calls_of_opening(rt, alloc).saturating_add(4);
+    let disk = unsure(rt, alloc, at, steps);
+    let counted = (disk.calls(), disk.failures(), disk.syncs());
+    expect!(rt; counted == (at, 1, 3));
     disk
 }
 
@@ -79,38 +77,53 @@ fn ask_unsure(
     journal: &mut Journal<FaultDisk<MemDisk>>,
     steps: &[Step],
 ) {
-    let answers = ask_all(rt, alloc, journal, steps).expect(rt, "memory");
+    let answers = ask_all(rt, alloc, journal, steps);
     expect_refused(rt, &answers, Refusal::Unsure, 0);
-    expect_broken(rt, alloc, journal, steps, 0).expect(rt, "memory");
+    expect_broken(rt, alloc, journal, steps, 0);
 }
 
-/// Expects of a journal the state before a round or after it.
-fn expect_whole<D: Disk>(rt: &impl Abort, alloc: Global, journal: &mut Journal<D>, steps: &[Step]) {
-    let script = Script { steps, calls: 64 };
-    let (_, mut machine) = standing(rt, alloc, journal, script, (0, true));
-    expect_state(rt, alloc, journal, &mut machine).expect(rt, "memory");
+/// Expects of a journal the state before a round or after it: none of its takes stands, or all up to `last` do.
+fn expect_whole<D: Disk>(
+    rt: &impl Abort,
+    alloc: Global,
+    journal: &mut Journal<D>,
+    steps: &[Step],
+    last: u64,
+) {
+    let found = journal.last(PEER);
+    expect!(rt; found == Ok(0) || found == Ok(last));
+    let mut machine = standing(rt, alloc, journal.position(), steps);
+    expect_state(rt, alloc, journal, &mut machine);
 }
 
 /// Asks for the first datagram twice in one round. It is taken once, so both answers are at position 1.
 fn expect_copies(rt: &impl Abort, alloc: Global, journal: &mut Journal<FaultDisk<MemDisk>>) {
-    let answers = ask_all(rt, alloc, journal, &TWICE).expect(rt, "memory");
-    expect!(rt; answers.iter().all(|answer| answer.position == 1));
+    let answers = ask_all(rt, alloc, journal, &TWICE);
+    for answer in &answers {
+        expect!(rt; answer.position == 1);
+    }
     expect!(rt; journal.position() == 1);
 }
 
-/// An opening makes one sync, and the round two.
-#[test]
-fn two_copies_in_one_round(rt: HostRuntime) {
-    let alloc = rt.alloc();
-    let disk = opened(&rt, alloc, sound_disk(&rt, alloc)).into_disk();
-    let syncs = disk.syncs();
-    let mut journal = opened(&rt, alloc, disk);
-    expect_copies(&rt, alloc, &mut journal);
-    let disk = journal.into_disk();
-    expect!(rt; disk.syncs() == syncs.saturating_add(1 + 2));
+/// A device that was opened, opened again, and asked that round.
+fn copied(rt: &impl Abort, alloc: Global, disk: FaultDisk<MemDisk>) -> FaultDisk<MemDisk> {
+    let mut journal = opened(rt, alloc, disk);
+    expect_copies(rt, alloc, &mut journal);
+    journal.into_disk()
 }
 
-/// Opens what is left of a round in which the device failed: none of its takes stands, or all up to `last` do.
+/// An opening makes one sync, and the round two.
+fn expect_syncs(rt: &impl Abort, alloc: Global, disk: FaultDisk<MemDisk>) {
+    let syncs = disk.syncs();
+    expect!(rt; copied(rt, alloc, disk).syncs() == syncs.saturating_add(1 + 2));
+}
+
+#[test]
+fn two_copies_in_one_round(rt: HostRuntime) {
+    expect_syncs(&rt, rt.alloc(), opened_disk(&rt, rt.alloc()));
+}
+
+/// Opens what is left of a round in which the device failed.
 fn expect_none_or_all<D: Disk + Drop>(
     rt: &impl Abort,
     alloc: Global,
@@ -118,10 +131,7 @@ fn expect_none_or_all<D: Disk + Drop>(
     steps: &[Step],
     last: u64,
 ) {
-    let mut journal = opened(rt, alloc, disk);
-    let found = journal.last(PEER);
-    expect!(rt; found == Ok(0) || found == Ok(last));
-    expect_whole(rt, alloc, &mut journal, steps)
+    expect_whole(rt, alloc, &mut opened(rt, alloc, disk), steps, last);
 }
 
 /// The same after a crash.
