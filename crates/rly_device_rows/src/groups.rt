@@ -79,7 +79,7 @@ fn appended(rt: &impl Abort, alloc: Global, frame: &[u8; 31]) -> MemDisk {
     disk.into_inner()
 }
 
-/// It is read there, and none behind it.
+/// It is read there, and none after it.
 fn expect_appended(rt: &impl Abort, alloc: Global, disk: &mut MemDisk) {
     expect_group(rt, disk, &GROUP);
     expect_body(rt, alloc, disk, 256);
