@@ -1,11 +1,9 @@
-//! What callers ask at their seats.
+//! What callers ask.
 
 use rly_core::{HopId, PeerId};
-use rly_line::Seat;
-use rly_machine::{Ask, Command, Payload, Query, Reply};
+use rly_machine::{Ask, Command, Payload, Query};
 use std::alloc::Global;
 use std::process::Abort;
-use std::sync::Wait;
 
 /// A question.
 pub(super) fn window() -> Ask {
@@ -23,21 +21,4 @@ pub(super) fn take<R: Abort>(rt: &R, alloc: Global, peer: u16, number: u64) -> A
         limit: 0,
         payload,
     })
-}
-
-/// The reply to that take, asked at a seat.
-pub(super) fn take_at<R: Abort + Wait>(
-    rt: &R,
-    alloc: Global,
-    seat: &mut Seat,
-    peer: u16,
-    number: u64,
-) -> Reply {
-    let ask = take(rt, alloc, peer, number);
-    seat.call(rt, ask).expect(rt, "an answer").reply
-}
-
-/// The reply to the take of number 1 from peer 1 at a seat, which is let go then.
-pub(super) fn take_once<R: Abort + Wait>(rt: &R, alloc: Global, mut seat: Seat) -> Reply {
-    take_at(rt, alloc, &mut seat, 1, 1)
 }

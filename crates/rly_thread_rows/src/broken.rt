@@ -2,13 +2,14 @@
 
 ghost use Rattle.std.specs.Prelude.{None, false};
 
-use crate::devices::{device, journal_on};
-use crate::overlap::{DATA, WORKERS, relayed};
+use crate::devices::{device, failing, journal_on};
+use crate::overlap::{DATA, WORKERS};
+use crate::relayed::{Left, left_by};
 use crate::workers::link_with;
 use rly_core::PeerId;
 use rly_disk::{After, Disk, FaultDisk, MemDisk};
+use rly_journal::Journal;
 use rly_post::{Go, MemLink, Point, Post, Turn, Worker};
-use rly_threads::Relayed;
 use std::alloc::Global;
 use std::process::Abort;
 use std::sync::Wait;
@@ -49,13 +50,18 @@ impl<C: Clock + Drop> Turn for Long<C> {
     }
 }
 
-/// A device whose call of this number fails, counted from 1 after those that open it.
-fn failing<R: Abort>(rt: &R, alloc: Global, call: u64) -> FaultDisk<MemDisk> {
+/// How many calls open a device.
+fn opening<R: Abort>(rt: &R, alloc: Global) -> u64 {
     let disk = device(rt, alloc);
     let before = disk.calls();
     let disk = journal_on(rt, alloc, disk).into_disk();
-    let opening = disk.calls().wrapping_sub(before);
-    FaultDisk::new(disk, opening.wrapping_add(call), 0, After::GoesOn)
+    disk.calls().wrapping_sub(before)
+}
+
+/// The journal on a device whose call of this number fails, counted from 1 after those that open it.
+fn journal_failing<R: Abort>(rt: &R, alloc: Global, call: u64) -> Journal<FaultDisk<MemDisk>> {
+    let fails_at = opening(rt, alloc).wrapping_add(call);
+    failing(rt, alloc, fails_at, After::GoesOn).expect(rt, "a journal")
 }
 
 /// The posts of two receivers and a sender. The first receiver hears a datagram, the others hear nothing.
@@ -74,26 +80,28 @@ fn posts<R: Abort>(rt: &R, clock: HostRuntime) -> Vec<Post<MemLink, Long<HostRun
 }
 
 /// Checks that the journal is broken, that each worker was cut, and that none sent anything.
-fn expect_cut<R: Abort>(rt: &R, relayed: &Relayed<FaultDisk<MemDisk>, MemLink, Long<HostRuntime>>) {
-    expect!(*rt; relayed.finished.broken && relayed.is_cut && !relayed.complete);
-    expect!(*rt; relayed.ended.len() == 3);
-    for ended in &relayed.ended {
-        expect!(*rt; matches!(ended, Some(worker) if worker.was_cut && worker.post.link.delivered().is_empty()));
-    }
+fn expect_cut<R: Abort>(rt: &R, left: &Left) {
+    expect!(*rt; left.broken && left.is_cut && !left.complete);
+    expect!(*rt; (left.workers, left.ran, left.cut, left.sent) == (3, 3, 3, 0));
 }
 
-/// Checks that a relay of three posts on a device whose call of this number fails ends.
-fn expect_end<R: Abort + Threads + Wait + Sync>(rt: &R, clock: HostRuntime, call: u64) {
+/// What a relay of three posts leaves on a device whose call of this number fails.
+fn left_at<R: Abort + Threads + Wait + Sync>(rt: &R, clock: HostRuntime, call: u64) -> Left {
     let alloc = clock.alloc();
-    let journal = journal_on(rt, alloc, failing(rt, alloc, call));
-    expect_cut(rt, &relayed(rt, alloc, journal, posts(rt, clock)));
+    let posts = posts(rt, clock);
+    left_by(rt, alloc, journal_failing(rt, alloc, call), posts)
+}
+
+/// Checks that such a relay ends.
+fn expect_ends<R: Abort + Threads + Wait + Sync>(rt: &R, clock: HostRuntime) {
+    for call in 1..=4 {
+        expect_cut(rt, &left_at(rt, clock, call));
+    }
 }
 
 /// A round has four calls of its device: the body and the gate are written, each with a sync. Whichever of them fails, each
 /// worker ends at its next turn, also those that never had anything to ask.
 #[test]
 fn a_relay_ends_once_its_journal_broke(rt: HostRuntime) {
-    for call in 1..=4 {
-        expect_end(&rt, rt, call);
-    }
+    expect_ends(&rt, rt);
 }

@@ -162,16 +162,20 @@ fn copied(packet: &[u8], buffer: &mut [u8]) -> Option<usize>
     Some(length)
 }
 
-/// What a sender of hop 1 works with there.
-type FarEnds = Ends<Far, MemDesk, MemTurn>;
-
 /// The way there and back in turns, a turn in microseconds, how many datagrams wait and how many may be in flight.
-#[derive(Clone, Copy, Debug)]
+#[derive(Clone, Copy)]
 struct Way {
     turns: u64,
     step: u64,
     datagrams: u64,
     window: u64,
+}
+
+/// How often such a sender's receives waited, and the numbers that went out, in order.
+#[derive(Drop)]
+struct Went {
+    waits: u64,
+    numbers: Vec<u64>,
 }
 
 /// The sender of hop 1, whose `resend` is 40 ms, hands over what waits, in 1,500 turns.
@@ -181,23 +185,26 @@ fn hand_over<R: Abort + Wait>(
     way: &Way,
     lost: usize,
     stray: Option<&'static [u8]>,
-) -> FarEnds {
-    let machine = queue_of(rt, alloc, way.datagrams);
+) -> Went {
     let mut ends = Ends {
         link: Far::new(alloc, way.turns, lost, stray),
-        desk: MemDesk::new(alloc, machine),
+        desk: MemDesk::new(alloc, queue_of(rt, alloc, way.datagrams)),
         turn: MemTurn::new(1_000, way.step, 1_500),
     };
+    let plan = plan(rt, alloc);
     sender_run(
         rt,
         alloc,
-        &plan(rt, alloc),
+        &plan,
         HopId(1),
         &with_window(way.window),
         &mut ends,
     );
     expect_counts_of(rt, &ends.desk, HopId(1), (0, 0, way.datagrams));
-    ends
+    Went {
+        waits: ends.link.waits,
+        numbers: ends.link.numbers,
+    }
 }
 
 /// Packets that are no message for the sender of hop 1: a byte, its own Data, and a Custody of station 10.
@@ -207,110 +214,92 @@ const STRAYS: [&[u8]; 3] = [
     b"\x52\x4c\x01\x02\x00\x0a\x00\x07\x00\x00\x00\x00\x00\x00\x00\x01",
 ];
 
-/// How many receives wait where each datagram goes out once, in order.
+/// How many receives wait where these numbers go out, in order.
 fn waits_of<R: Abort + Wait>(
     rt: &R,
     alloc: Global,
     way: &Way,
+    (lost, numbers): (usize, &[u64]),
     stray: Option<&'static [u8]>,
 ) -> u64 {
-    let ends = hand_over(rt, alloc, way, 0, stray);
-    expect!(rt; ends.link.numbers.iter().copied().eq(1..=way.datagrams));
-    ends.link.waits
+    let went = hand_over(rt, alloc, way, lost, stray);
+    expect!(*rt; went.numbers.as_slice() == numbers);
+    went.waits
 }
 
-/// Checks that each datagram goes out once, in order, and that this is so and as many receives wait where a stray packet comes in each
-/// turn.
-fn expect_once<R: Abort + Wait>(rt: &R, alloc: Global, way: &Way) {
-    let waits = waits_of(rt, alloc, way, None);
+/// Checks that these numbers go out, in order, and that this is so and as many receives wait where a stray packet comes in each turn.
+fn expect_numbers<R: Abort + Wait>(rt: &R, alloc: Global, way: &Way, numbers: &[u64]) {
+    let waits = waits_of(rt, alloc, way, (0, numbers), None);
     for stray in &STRAYS {
-        expect!(rt; waits_of(rt, alloc, way, Some(*stray)) == waits);
+        expect!(*rt; waits_of(rt, alloc, way, (0, numbers), Some(*stray)) == waits);
     }
 }
 
-/// Ways there and back of less than a second: in turns, and the microseconds of a turn. Beside them how many datagrams wait, and how
-/// many may be in flight.
-const SHORT: [(u64, u64, u64, u64); 10] = [
-    (1, 10_000, 20, 1),
-    (4, 10_000, 20, 1),
-    (3, 10_000, 20, 2),
-    (4, 10_000, 20, 8),
-    (4, 10_000, 70, 64),
-    (400, 100, 20, 8),
-    (400, 100, 70, 64),
-    (12, 10_000, 20, 1),
-    (60, 10_000, 20, 1),
-    (99, 10_000, 70, 64),
-];
+/// The numbers from 1 on.
+fn up_to<R: Abort>(rt: &R, alloc: Global, last: u64) -> Vec<u64> {
+    let mut numbers = Vec::new(alloc);
+    for number in 1..=last {
+        numbers.push(number).expect(rt, "memory");
+    }
+    numbers
+}
+
+/// A way.
+fn of_turns(turns: u64, step: u64, datagrams: u64, window: u64) -> Way {
+    Way {
+        turns,
+        step,
+        datagrams,
+        window,
+    }
+}
+
+/// Ways there and back of less than a second.
+fn short() -> [Way; 10] {
+    [
+        of_turns(1, 10_000, 20, 1),
+        of_turns(4, 10_000, 20, 1),
+        of_turns(3, 10_000, 20, 2),
+        of_turns(4, 10_000, 20, 8),
+        of_turns(4, 10_000, 70, 64),
+        of_turns(400, 100, 20, 8),
+        of_turns(400, 100, 70, 64),
+        of_turns(12, 10_000, 20, 1),
+        of_turns(60, 10_000, 20, 1),
+        of_turns(99, 10_000, 70, 64),
+    ]
+}
+
+/// Checks that each datagram goes out once over these ways.
+fn expect_once<R: Abort + Wait>(rt: &R, alloc: Global, ways: &[Way]) {
+    for way in ways {
+        expect_numbers(rt, alloc, way, up_to(rt, alloc, way.datagrams).as_slice());
+    }
+}
 
 /// Where the way there and back is less than a second and nothing is lost, each datagram goes out once, whatever else comes.
 #[test]
 fn each_goes_out_once(rt: HostRuntime) {
-    for (turns, step, datagrams, window) in &SHORT {
-        let way = Way {
-            turns: *turns,
-            step: *step,
-            datagrams: *datagrams,
-            window: *window,
-        };
-        expect_once(&rt, rt.alloc(), &way);
-    }
+    expect_once(&rt, rt.alloc(), &short());
 }
 
 /// A second after it first went out the first datagram goes out again. What it measures doesn't count, but the wait is 2 s now: the
 /// second datagram goes out once, and from then on the wait is 1.5 s + 4 * 0.75 s.
 const MEASURED: [u64; 6] = [1, 1, 2, 3, 4, 5];
 
-/// How many receives wait where they go out so.
-fn measured_waits<R: Abort + Wait>(
-    rt: &R,
-    alloc: Global,
-    way: &Way,
-    stray: Option<&'static [u8]>,
-) -> u64 {
-    let ends = hand_over(rt, alloc, way, 0, stray);
-    expect!(rt; ends.link.numbers.as_slice() == MEASURED.as_slice());
-    ends.link.waits
-}
-
-/// Checks that they go out so over this way, and that this is so and as many receives wait where a stray packet comes in each turn.
-fn expect_measured<R: Abort + Wait>(rt: &R, alloc: Global, way: &Way) {
-    let waits = measured_waits(rt, alloc, way, None);
-    for stray in &STRAYS {
-        expect!(*rt; measured_waits(rt, alloc, way, Some(*stray)) == waits);
-    }
-}
-
 /// Where the way there and back is a second and a half, one datagram goes out twice, whatever else comes.
 #[test]
 fn a_long_way_is_measured(rt: HostRuntime) {
-    let way = Way {
-        turns: 150,
-        step: 10_000,
-        datagrams: 5,
-        window: 1,
-    };
-    expect_measured(&rt, rt.alloc(), &way);
+    expect_numbers(&rt, rt.alloc(), &of_turns(150, 10_000, 5, 1), &MEASURED);
 }
 
 /// The fourth Data that goes out is lost. The three that are on their way go out again, once, one after the other: station 9 takes in
 /// order alone.
 const AFTER_A_LOSS: [u64; 11] = [1, 2, 3, 4, 5, 6, 4, 5, 6, 7, 8];
 
-/// Checks that they go out so over this way.
-fn expect_again<R: Abort + Wait>(rt: &R, alloc: Global, way: &Way) {
-    let ends = hand_over(rt, alloc, way, 4, None);
-    expect!(*rt; ends.link.numbers.as_slice() == AFTER_A_LOSS.as_slice());
-}
-
 /// After a loss what was on its way goes out again, once.
 #[test]
 fn a_loss_brings_the_window_again(rt: HostRuntime) {
-    let way = Way {
-        turns: 2,
-        step: 10_000,
-        datagrams: 8,
-        window: 3,
-    };
-    expect_again(&rt, rt.alloc(), &way);
+    let way = of_turns(2, 10_000, 8, 3);
+    let _waits = waits_of(&rt, rt.alloc(), &way, (4, &AFTER_A_LOSS), None);
 }

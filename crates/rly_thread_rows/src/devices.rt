@@ -1,7 +1,7 @@
 //! A device in memory.
 
 use rly_core::{Geometry, Params};
-use rly_disk::{Disk, MemDisk};
+use rly_disk::{After, Disk, FaultDisk, MemDisk};
 use rly_journal::Journal;
 use rly_segment::format;
 use std::alloc::Global;
@@ -69,4 +69,15 @@ pub(super) fn journal_on<R: Abort, D: Disk + Drop>(rt: &R, alloc: Global, disk: 
 /// The journal on a device that was formatted and not used.
 pub(super) fn new_journal<R: Abort>(rt: &R, alloc: Global) -> Journal<MemDisk> {
     journal_on(rt, alloc, device(rt, alloc))
+}
+
+/// The journal on such a device whose call of this number fails, if it opens.
+pub(super) fn failing<R: Abort>(
+    rt: &R,
+    alloc: Global,
+    fails_at: u64,
+    after: After,
+) -> Option<Journal<FaultDisk<MemDisk>>> {
+    let disk = FaultDisk::new(device(rt, alloc), fails_at, 0, after);
+    Journal::open(alloc, disk).ok()
 }

@@ -4,12 +4,10 @@
 //! receives. What a worker sends in a turn comes after that turn's receives. A receive that fails is as nothing heard. A packet
 //! whose send fails is lost, and the worker goes on as if it had gone out.
 
-use crate::workers::{
-    MemEnds, expect_counts_of, expect_sent, link_with, plan, spool_with, take_for, with_window,
-};
+use crate::workers::{MemEnds, link_with, plan, spool_with, take_for, with_window};
 use crate::{receivers, senders};
 use rly_core::{HopId, PeerId};
-use rly_machine::{Machine, Payload};
+use rly_machine::{Machine, Payload, Reply};
 use rly_post::{Link, MemTurn};
 use rly_workers::{Ends, MemDesk, sender_run};
 use std::alloc::Global;
@@ -32,33 +30,68 @@ struct Done {
     asked: u64,
 }
 
-/// Checks how many packets a worker sent, and that each was this one, how many calls of its link failed, and what the first and the
-/// second hop have.
+/// What a worker did, how many calls of its link failed, and what the first hop and the second have then.
+#[derive(Clone, Copy)]
+struct Outcome {
+    done: Done,
+    failures: u64,
+    first: Counts,
+    second: Counts,
+}
+
+/// What a hop has.
+fn counts_of<R: Abort>(rt: &R, ends: &MemEnds, hop: u16) -> Counts {
+    match &ends.desk.machine().ask_show(HopId(hop)) {
+        Reply::Shown(status) => (status.queued, status.flight, status.released),
+        _ => panic!(rt; "a hop"),
+    }
+}
+
+/// What a worker did that sent this packet alone.
+fn found<R: Abort>(rt: &R, ends: &MemEnds, packet: &[u8]) -> Outcome {
+    let delivered = ends.link.delivered();
+    expect!(*rt; delivered.iter().all(|sent| sent.as_slice() == packet));
+    Outcome {
+        done: Done {
+            delivered: delivered.len(),
+            calls: ends.link.calls(),
+            waits: ends.link.waits(),
+            asked: ends.desk.calls(),
+        },
+        failures: ends.link.failures(),
+        first: counts_of(rt, ends, 1),
+        second: counts_of(rt, ends, 2),
+    }
+}
+
+/// Checks how many packets went out, how many calls of the link failed, and what both hops have.
 fn expect_left<R: Abort>(
     rt: &R,
-    ends: &MemEnds,
-    packet: &[u8],
+    found: &Outcome,
     (delivered, failures): (usize, u64),
     (first, second): (Counts, Counts),
 ) {
-    expect_sent(rt, ends, delivered, packet);
-    expect!(*rt; ends.link.failures() == failures);
-    expect_counts_of(rt, &ends.desk, HopId(1), first);
-    expect_counts_of(rt, &ends.desk, HopId(2), second);
+    expect!(*rt; (found.done.delivered, found.failures) == (delivered, failures));
+    expect!(*rt; found.first == first && found.second == second);
 }
 
 /// Checks what a worker did, and all that it left. The call of this number failed if the worker made so many.
 fn expect_done<R: Abort>(
     rt: &R,
-    ends: &MemEnds,
-    packet: &[u8],
+    found: &Outcome,
     fails_at: u64,
     done: &Done,
     counts: (Counts, Counts),
 ) {
     let failures = u64::from(fails_at > 0 && fails_at <= done.calls);
-    expect_left(rt, ends, packet, (done.delivered, failures), counts);
-    expect!(*rt; (ends.link.calls(), ends.link.waits(), ends.desk.calls()) == (done.calls, done.waits, done.asked));
+    expect_left(rt, found, (done.delivered, failures), counts);
+    let Done {
+        calls,
+        waits,
+        asked,
+        ..
+    } = found.done;
+    expect!(*rt; (calls, waits, asked) == (done.calls, done.waits, done.asked));
 }
 
 /// In which of its receives, counted from 0, a receiver's neighbour sends its datagram: in those of each fourth turn.
@@ -89,35 +122,33 @@ fn received(fails_at: u64) -> Done {
     }
 }
 
-/// Checks what a receiver leaves over that link: the datagram was taken once.
-fn expect_received<R: Abort>(rt: &R, ends: &MemEnds, fails_at: u64) {
-    let counts = ((1, 0, 0), (0, 0, 0));
-    expect_done(
-        rt,
-        ends,
-        receivers::CUSTODY,
-        fails_at,
-        &received(fails_at),
-        counts,
-    );
-    let machine = ends.desk.machine();
+/// What a receiver does in 64 turns over that link. It takes the datagram once.
+fn receiver<R: Abort + Wait>(rt: &R, alloc: Global, fails_at: u64) -> Outcome {
+    let link = link_with(rt, alloc, 64, &PLACES, receivers::DATA, fails_at);
+    let ends = receivers::receive(rt, alloc, receivers::empty(rt, alloc), link, 64);
+    expect_one(rt, ends.desk.machine());
+    found(rt, &ends, receivers::CUSTODY)
+}
+
+/// Checks that a spool has one datagram, of its first peer.
+fn expect_one<R: Abort>(rt: &R, machine: &Machine<Payload>) {
     expect!(*rt; matches!(machine.lasts().first(), Some(1)) && machine.item_count() == 1);
 }
 
-/// Checks it of a receiver that runs for 64 turns.
-fn expect_receiver<R: Abort + Wait>(rt: &R, alloc: Global, fails_at: u64) {
-    let link = link_with(rt, alloc, 64, &PLACES, receivers::DATA, fails_at);
-    let ends = receivers::receive(rt, alloc, receivers::empty(rt, alloc), link, 64);
-    expect_received(rt, &ends, fails_at);
+/// Checks it, whichever of so many calls fails.
+fn expect_receivers<R: Abort + Wait>(rt: &R, alloc: Global, calls: u64) {
+    let counts = ((1, 0, 0), (0, 0, 0));
+    for fails_at in 0..=calls {
+        let found = receiver(rt, alloc, fails_at);
+        expect_done(rt, &found, fails_at, &received(fails_at), counts);
+    }
 }
 
 /// Whichever call fails, the datagram is taken once, and each copy that was heard is acknowledged, unless that send failed. There is no
 /// call 97.
 #[test]
 fn receiver_goes_on(rt: HostRuntime) {
-    for fails_at in 0..=97 {
-        expect_receiver(&rt, rt.alloc(), fails_at);
-    }
+    expect_receivers(&rt, rt.alloc(), 97);
 }
 
 /// A sender's hop, and what comes over its link: this packet in the receives of these numbers, counted from 0, and nothing else. One
@@ -149,14 +180,14 @@ fn spool_of<R: Abort>(rt: &R, alloc: Global, hop: HopId) -> Machine<Payload> {
     machine
 }
 
-/// A sender runs for so many turns of 100 ms.
+/// What a sender does in so many turns of 100 ms, which sends this packet alone.
 fn send<R: Abort + Wait>(
     rt: &R,
     alloc: Global,
     sender: &Sender,
-    fails_at: u64,
-    turns: u64,
-) -> MemEnds {
+    (fails_at, turns): (u64, u64),
+    data: &[u8],
+) -> Outcome {
     let mut ends = Ends {
         link: link_with(rt, alloc, 64, sender.places, sender.packet, fails_at),
         desk: MemDesk::new(alloc, spool_of(rt, alloc, sender.hop)),
@@ -164,7 +195,7 @@ fn send<R: Abort + Wait>(
     };
     let plan = plan(rt, alloc);
     sender_run(rt, alloc, &plan, sender.hop, &with_window(1), &mut ends);
-    ends
+    found(rt, &ends, data)
 }
 
 /// The sender of hop 1 in silence.
@@ -285,33 +316,34 @@ fn done_where(row: &Row, fails_at: u64) -> Done {
 
 /// Checks a row where this call fails.
 fn expect_row<R: Abort + Wait>(rt: &R, alloc: Global, row: &Row, fails_at: u64) {
-    let ends = send(rt, alloc, &row.sender, fails_at, 64);
+    let found = send(rt, alloc, &row.sender, (fails_at, 64), row.data);
     let done = done_where(row, fails_at);
-    expect_done(rt, &ends, row.data, fails_at, &done, row.counts);
+    expect_done(rt, &found, fails_at, &done, row.counts);
+}
+
+/// Checks a row, whichever of so many calls fails.
+fn expect_calls<R: Abort + Wait>(rt: &R, alloc: Global, row: &Row, calls: u64) {
+    for fails_at in 0..=calls {
+        expect_row(rt, alloc, row, fails_at);
+    }
 }
 
 /// In silence the datagram stays in flight, and a send that fails changes nothing but that it doesn't go out. There is no call 68.
 #[test]
 fn sender_goes_on_in_silence(rt: HostRuntime) {
-    for fails_at in 0..=68 {
-        expect_row(&rt, rt.alloc(), &UNHEARD, fails_at);
-    }
+    expect_calls(&rt, rt.alloc(), &UNHEARD, 68);
 }
 
 /// Whichever call fails, the datagram is released once its custody was heard, and doesn't go out after that. There is no call 70.
 #[test]
 fn sender_goes_on_until_it_is_acknowledged(rt: HostRuntime) {
-    for fails_at in 0..=70 {
-        expect_row(&rt, rt.alloc(), &HEARD, fails_at);
-    }
+    expect_calls(&rt, rt.alloc(), &HEARD, 70);
 }
 
 /// A second hop has a `resend`, a flight and a queue of its own. What waits for the first hop stays where it is.
 #[test]
 fn second_hop_goes_on_in_silence(rt: HostRuntime) {
-    for fails_at in 0..=66 {
-        expect_row(&rt, rt.alloc(), &UNHEARD_BY_THE_OTHER, fails_at);
-    }
+    expect_calls(&rt, rt.alloc(), &UNHEARD_BY_THE_OTHER, 66);
 }
 
 /// The call that sends the datagram, which fails, and how often it was sent after so many turns: in turn 3, and then a second, two and
@@ -329,50 +361,41 @@ const FAILED: [(u64, u64, usize); 9] = [
 ];
 
 /// Checks that one call failed, that the datagram went out so often, and that it is in flight.
-fn expect_delivered<R: Abort + Wait>(
-    rt: &R,
-    alloc: Global,
-    fails_at: u64,
-    turns: u64,
-    delivered: usize,
-) {
-    let ends = send(rt, alloc, &IN_SILENCE, fails_at, turns);
-    let counts = ((0, 1, 0), (0, 0, 0));
-    expect_left(rt, &ends, senders::DATA, (delivered, 1), counts);
+fn expect_delivered<R: Abort + Wait>(rt: &R, alloc: Global, rows: &[(u64, u64, usize)]) {
+    for (fails_at, turns, delivered) in rows {
+        let found = send(rt, alloc, &IN_SILENCE, (*fails_at, *turns), senders::DATA);
+        expect_left(rt, &found, (*delivered, 1), ((0, 1, 0), (0, 0, 0)));
+    }
 }
 
 /// A send that fails leaves its datagram in flight, and it goes out after the next timeout.
 #[test]
 fn failed_send_is_made_again(rt: HostRuntime) {
-    for (call, turns, delivered) in &FAILED {
-        expect_delivered(&rt, rt.alloc(), *call, *turns, *delivered);
-    }
+    expect_delivered(&rt, rt.alloc(), &FAILED);
 }
 
 /// What comes in receive 40 of a sender of hop 2, and what that hop has then: custody of the first hop's station releases nothing of
 /// the second hop, and custody of its own station its datagram.
-const ACKNOWLEDGED: [(&[u8], Counts); 2] = [(CUSTODY, (0, 1, 0)), (OTHER_CUSTODY, (0, 0, 1))];
+const ACKNOWLEDGED: [(&'static [u8], Counts); 2] = [
+    (CUSTODY, (0, 1, 0)),
+    (OTHER_CUSTODY, (0, 0, 1)),
+];
 
-/// Checks such a sender, which sent its datagram twice before that.
-fn expect_acknowledged<R: Abort + Wait>(
-    rt: &R,
-    alloc: Global,
-    packet: &'static [u8],
-    second: Counts,
-) {
-    let sender = Sender {
-        hop: HopId(2),
-        packet,
-        places: &[40],
-    };
-    let ends = send(rt, alloc, &sender, 0, 64);
-    expect_left(rt, &ends, OTHER_DATA, (2, 0), ((1, 0, 0), second));
+/// Checks such senders, which sent their datagram twice before that.
+fn expect_acknowledged<R: Abort + Wait>(rt: &R, alloc: Global, rows: &[(&'static [u8], Counts)]) {
+    for (packet, second) in rows {
+        let sender = Sender {
+            hop: HopId(2),
+            packet: *packet,
+            places: &[40],
+        };
+        let found = send(rt, alloc, &sender, (0, 64), OTHER_DATA);
+        expect_left(rt, &found, (2, 0), ((1, 0, 0), *second));
+    }
 }
 
 /// A second hop is acknowledged by its own station alone.
 #[test]
 fn second_hop_is_acknowledged_by_its_own_station(rt: HostRuntime) {
-    for (packet, counts) in &ACKNOWLEDGED {
-        expect_acknowledged(&rt, rt.alloc(), *packet, *counts);
-    }
+    expect_acknowledged(&rt, rt.alloc(), &ACKNOWLEDGED);
 }

@@ -21,6 +21,8 @@ mod asks;
 #[cfg(test)]
 mod broken;
 #[cfg(test)]
+mod callers;
+#[cfg(test)]
 mod copies;
 #[cfg(test)]
 mod devices;
@@ -44,6 +46,8 @@ mod paces;
 mod receivers;
 #[cfg(test)]
 mod refusals;
+#[cfg(test)]
+mod relayed;
 #[cfg(test)]
 mod relays;
 #[cfg(test)]

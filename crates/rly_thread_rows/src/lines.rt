@@ -5,19 +5,19 @@ ghost use Rattle.rly_machine.specs.Ask.{ask_step};
 ghost use Rattle.rly_machine.specs.History.{IsAnswered, harm, next_state, without_bytes};
 ghost use Rattle.rly_thread_rows.specs.InStep.{IsInStep};
 
-use crate::asks::{take_once, window};
-use crate::served::spawned;
-use rly_core::{HopId, Params, Refusal};
-use rly_line::{CallError, LineEnd, Responder, Seat, make};
-use rly_machine::{Answer, Ask, Call, Machine, Payload, Query, Reply};
+use crate::callers::{
+    Asks, Caller, Heard, QUESTION, TAKE, Told, all_asking, asking, calls_at, expect_answered,
+    told_all,
+};
+use rly_core::{Params, Refusal};
+use rly_line::{LineEnd, Responder, Seat, make};
+use rly_machine::{Answer, Ask, Call, Machine, Payload, Reply};
+use rly_workers::Desk;
 use std::alloc::Global;
 use std::process::Abort;
 use std::snapshot::Snapshot;
 use std::sync::Wait;
 use std::thread::{JoinHandle, Threads};
-
-/// How many asks each of four seats makes.
-const ASKS: u64 = 50;
 
 /// The machine's reply, unless memory is refused.
 fn reply_to(alloc: Global, machine: &mut Machine<Payload>, ask: Ask) -> Reply
@@ -107,30 +107,51 @@ impl Answering {
     }
 }
 
-/// What is answered to the take of number 1 from peer 1 at a seat in a thread of its own.
-fn answered<R: Abort + Threads + Wait + Copy + Send + 'static>(
+/// What a caller is told of the take of number 1 from peer 1 at a seat in a thread of its own.
+fn answered<R: Abort + Threads + Wait + Copy + Send + 'static, K: Desk + Send + Drop + 'static>(
     rt: R,
     alloc: Global,
     answering: &mut Answering,
-    seat: Seat,
-) -> Reply
+    seat: K,
+) -> Told
     requires { IsInStep answering.old.machine.state answering.old.calls }
     ensures { IsInStep answering.new.machine.state answering.new.calls }
 {
-    let asking = spawned(&rt, move || take_once(&rt, alloc, seat));
+    let asked = asking(rt, alloc, seat, TAKE);
     expect!(rt; answering.answer(&rt));
-    asking.join(&rt)
+    asked.join(&rt).first
+}
+
+/// What two callers are told, of whom the second asks for the same after the first was answered. Then no seat is left.
+fn told_in_turn<R: Abort + Threads + Wait + Copy + Send + 'static, K: Desk + Send + Drop + 'static>(
+    rt: R,
+    alloc: Global,
+    answering: &mut Answering,
+    mut seats: Vec<K>,
+) -> (Told, Told)
+    requires { IsInStep answering.old.machine.state answering.old.calls }
+{
+    let second = seats.pop().expect(&rt, "two seats");
+    let first = seats.pop().expect(&rt, "two seats");
+    let one = answered(rt, alloc, answering, first);
+    let other = answered(rt, alloc, answering, second);
+    expect!(rt; !answering.answer(&rt));
+    (one, other)
+}
+
+/// Checks the names of two seats.
+fn expect_names<R: Abort>(rt: &R, seats: &[Seat]) {
+    expect!(*rt; seats.len() == 2);
+    expect!(*rt; seats.first().expect(rt, "two seats").id().0 == 0);
+    expect!(*rt; seats.last().expect(rt, "two seats").id().0 == 1);
 }
 
 /// Checks two seats, of which the second asks for the same after the first was answered: it was taken before.
 fn expect_row_2<R: Abort + Threads + Wait + Copy + Send + 'static>(rt: R, alloc: Global) {
-    let (mut seats, mut answering) = Answering::new(&rt, alloc, 4, 2);
-    let second = seats.pop().expect(&rt, "two seats");
-    let first = seats.pop().expect(&rt, "two seats");
-    expect!(rt; (first.id().0, second.id().0) == (0, 1));
-    expect!(rt; matches!(&answered(rt, alloc, &mut answering, first), Reply::Taken(1)));
-    expect!(rt; matches!(&answered(rt, alloc, &mut answering, second), Reply::Already(1)));
-    expect!(rt; !answering.answer(&rt));
+    let (seats, mut answering) = Answering::new(&rt, alloc, 4, 2);
+    expect_names(&rt, seats.as_slice());
+    let told = told_in_turn(rt, alloc, &mut answering, seats);
+    expect!(rt; matches!(told, (Told::Taken(1), Told::Already(1))));
 }
 
 /// Two seats, each in a thread of its own. The second asks after the first was answered.
@@ -139,35 +160,15 @@ fn line_row_2(rt: HostRuntime) {
     expect_row_2(rt, rt.alloc());
 }
 
-/// So many asks at a seat, one after the other, which are all answered.
-fn ask_at<R: Abort + Wait>(rt: &R, mut seat: Seat) {
-    for _ask in 0..ASKS {
-        let _answer = seat.call(rt, window()).expect(rt, "an answer");
-    }
-}
-
-/// Seats in threads of their own, each with its asks.
-fn asking_all<R: Abort + Threads + Wait + Copy + Send + 'static>(
-    rt: R,
-    alloc: Global,
-    seats: Vec<Seat>,
-) -> Vec<JoinHandle<()>> {
-    let mut asking = Vec::new(alloc);
-    for seat in seats {
-        let asked = spawned(&rt, move || ask_at(&rt, seat));
-        asking.push(asked).expect(&rt, "memory");
-    }
-    asking
-}
+/// Four callers, each with 50 questions.
+const FOUR: [Caller; 4] = [Caller::Alone(Asks::Windows, 50); 4];
 
 /// Answers four seats in threads, and waits for their ends.
 fn answer_four<R: Abort + Threads + Wait + Copy + Send + 'static>(rt: R, alloc: Global) {
     let (seats, mut answering) = Answering::new(&rt, alloc, 1, 4);
-    let asking = asking_all(rt, alloc, seats);
-    answering.answer_all(&rt, 4 * ASKS + 1);
-    for asked in asking {
-        asked.join(&rt);
-    }
+    let all = all_asking(rt, alloc, seats, &FOUR);
+    answering.answer_all(&rt, 4 * 50 + 1);
+    expect_answered(&rt, &FOUR, told_all(&rt, alloc, all).as_slice());
 }
 
 /// Four seats in threads of their own share a line that holds one call: each waits for its place in it.
@@ -184,12 +185,20 @@ fn last_of<R: Abort>(rt: &R, alloc: Global, count: u16) -> (Seat, LineEnd)
     (seats.pop().expect(rt, "a seat"), line)
 }
 
+/// What a caller is told once the other end is gone.
+fn told_without<R: Abort + Wait, K: Desk + Drop, L: Drop>(
+    rt: &R,
+    alloc: Global,
+    (seat, line): (K, L),
+) -> Told {
+    drop(line);
+    calls_at(rt, alloc, seat, QUESTION).first
+}
+
 /// Checks that a call is handed back where the other end is gone.
 fn expect_handed_back<R: Abort + Wait>(rt: &R, alloc: Global) {
-    let (mut seat, line) = last_of(rt, alloc, 1);
-    drop(line);
-    let call = seat.call(rt, window());
-    expect!(*rt; matches!(&call, Err(CallError::Closed(Ask::Query(Query::Window { hop: HopId(1) })))));
+    let told = told_without(rt, alloc, last_of(rt, alloc, 1));
+    expect!(*rt; matches!(told, Told::HandedBack));
 }
 
 /// Where the other end is gone, a call is handed back.
@@ -198,13 +207,30 @@ fn nobody_answers(rt: HostRuntime) {
     expect_handed_back(&rt, rt.alloc());
 }
 
-/// Whether a first call at a seat is lost, and the second handed back.
-fn is_lost<R: Wait>(rt: &R, mut seat: Seat) -> bool {
-    let is_lost = matches!(&seat.call(rt, window()), Err(CallError::Lost));
-    is_lost && matches!(&seat.call(rt, window()), Err(CallError::Closed(_)))
+/// Two questions, one after the other.
+const TWO_QUESTIONS: Caller = Caller::Alone(Asks::Windows, 2);
+
+/// Takes a call and never answers it. The line's end is gone then or, where so told, closed and still there while the caller ends. What
+/// it was told.
+fn told_nothing<R: Abort + Threads + Wait>(
+    rt: &R,
+    mut line: LineEnd,
+    asked: JoinHandle<Heard>,
+    is_closed: bool,
+) -> Heard {
+    let batch = line.wait(rt).expect(rt, "a batch");
+    expect!(*rt; batch.len() == 1);
+    if is_closed {
+        let _closed = line.close(rt);
+        asked.join(rt)
+    } else {
+        expect!(*rt; line.more(rt).is_none());
+        drop(line);
+        asked.join(rt)
+    }
 }
 
-/// Checks that a call which a line's end takes and never answers is lost, once that end is gone or, where so told, was closed.
+/// Checks that a first call is lost, and the second handed back, at the last of so many seats.
 fn expect_lost<R: Abort + Threads + Wait + Copy + Send + 'static>(
     rt: R,
     alloc: Global,
@@ -213,18 +239,10 @@ fn expect_lost<R: Abort + Threads + Wait + Copy + Send + 'static>(
 )
     requires { (1 ≤ count) × (count ≤ 256) }
 {
-    let (seat, mut line) = last_of(&rt, alloc, count);
-    let asking = spawned(&rt, move || is_lost(&rt, seat));
-    let batch = line.wait(&rt).expect(&rt, "a batch");
-    expect!(rt; batch.len() == 1);
-    if is_closed {
-        let _closed = line.close(&rt);
-        expect!(rt; asking.join(&rt));
-    } else {
-        expect!(rt; line.more(&rt).is_none());
-        drop(line);
-        expect!(rt; asking.join(&rt));
-    }
+    let (seat, line) = last_of(&rt, alloc, count);
+    let asked = asking(rt, alloc, seat, TWO_QUESTIONS);
+    let heard = told_nothing(&rt, line, asked, is_closed);
+    expect!(rt; matches!((heard.first, heard.last), (Told::Lost, Told::HandedBack)));
 }
 
 /// A call that is taken and never answered is lost, and the seat is shut from then on.

@@ -2,6 +2,7 @@
 
 use crate::asks::window;
 use crate::receivers::empty;
+use crate::workers::give;
 use rly_core::HopId;
 use rly_machine::{Ask, Query, Reply};
 use rly_post::{Link, MAX_PACKET, MemLink};
@@ -17,16 +18,14 @@ const MANY: u64 = 1_100;
 fn coming<R: Abort>(rt: &R, alloc: Global, longest: &[u8]) -> Vec<Option<Vec<u8>>> {
     let mut coming = Vec::new(alloc);
     for _packet in 0..MANY {
-        let given = Some(b"abc".to_vec(alloc).expect(rt, "memory"));
-        coming.push(given).expect(rt, "memory");
+        give(rt, alloc, &mut coming, b"abc");
     }
-    let given = Some(longest.to_vec(alloc).expect(rt, "memory"));
-    coming.push(given).expect(rt, "memory");
+    give(rt, alloc, &mut coming, longest);
     coming
 }
 
 /// Checks that a link gives a short packet, and sends one.
-fn expect_short<R: Abort>(rt: &R, link: &mut MemLink) {
+fn expect_short<R: Abort, L: Link>(rt: &R, link: &mut L) {
     let mut buffer = [0; 8];
     expect!(*rt; link.try_recv(&mut buffer) == Ok(Some(3)));
     expect!(*rt; buffer.starts_with(b"abc"));
@@ -34,7 +33,7 @@ fn expect_short<R: Abort>(rt: &R, link: &mut MemLink) {
 }
 
 /// Checks that a link gives the longest packet and sends it, and gives nothing after that.
-fn expect_longest<R: Abort>(rt: &R, link: &mut MemLink, longest: &[u8]) {
+fn expect_longest<R: Abort, L: Link>(rt: &R, link: &mut L, longest: &[u8]) {
     let mut buffer = [0; MAX_PACKET];
     expect!(*rt; link.try_recv(&mut buffer) == Ok(Some(MAX_PACKET)));
     expect!(*rt; buffer.as_slice() == longest);
@@ -73,7 +72,7 @@ fn a_link_carries_many_packets(rt: HostRuntime) {
 }
 
 /// Checks that a desk answers many questions, and then another.
-fn expect_answers<R: Abort + Wait>(rt: &R, desk: &mut MemDesk) {
+fn expect_answers<R: Abort + Wait, K: Desk>(rt: &R, desk: &mut K) {
     for number in 1..=MANY {
         let answer = desk.call(rt, window()).expect(rt, "an answer");
         expect!(*rt; answer.number == number && matches!(&answer.reply, Reply::WindowIs { .. }));

@@ -3,13 +3,10 @@
 ghost use Rattle.std.specs.Prelude.{None, false};
 
 use crate::devices::new_journal;
+use crate::relayed::{Left, left_by};
 use crate::workers::link_with;
 use rly_core::{HopId, PeerId};
-use rly_disk::{Disk, MemDisk};
-use rly_journal::Journal;
-use rly_plan::Plan;
 use rly_post::{Go, MemLink, Point, Post, Turn, Worker};
-use rly_threads::{Relayed, run_relay};
 use std::alloc::Global;
 use std::process::Abort;
 use std::sync::Wait;
@@ -17,30 +14,6 @@ use std::sync::atomic::{AtomicU64, Ordering};
 use std::thread;
 use std::thread::Threads;
 use std::time::{Clock, Duration};
-
-/// Station 7, with stations 3 and 4 upstream and station 9 as the next hop.
-pub(super) const PLAN: &str = r#"
-station = 7
-[[peer]]
-id = 1
-station = 3
-listen = "127.0.0.1:4001"
-remote = "127.0.0.1:4002"
-[[peer]]
-id = 2
-station = 4
-listen = "127.0.0.1:4005"
-remote = "127.0.0.1:4006"
-[[hop]]
-id = 1
-station = 9
-listen = "127.0.0.1:4003"
-remote = "127.0.0.1:4004"
-contacts = [[100, 200]]
-[[route]]
-destination = 12
-hop = 1
-"#;
 
 pub(super) const WORKERS: [Worker; 3] = [
     Worker::Receiver(PeerId(1)),
@@ -148,47 +121,43 @@ fn posts<'a, R: Abort>(
 }
 
 /// Checks that each worker ran, and that both datagrams were taken.
-fn expect_taken<R: Abort>(rt: &R, relayed: &Relayed<MemDisk, MemLink, Held<'_, HostRuntime>>) {
-    expect!(rt; relayed.complete);
-    expect!(rt; !relayed.finished.broken);
-    for peer in [PeerId(1), PeerId(2)] {
-        expect!(rt; matches!(relayed.finished.journal.last(peer), Ok(1)));
-    }
+fn expect_taken<R: Abort>(rt: &R, left: &Left) {
+    expect!(*rt; left.complete && !left.broken);
+    expect!(*rt; left.lasts == (Some(1), Some(1)));
 }
 
-/// Runs a relay of these posts to its end.
-pub(super) fn relayed<R: Abort + Threads + Wait + Sync, D: Disk + Drop, T: Turn + Drop + Send>(
+/// What a relay leaves of whose workers this one is held.
+fn left_of<'a, R: Abort + Threads + Wait + Sync>(
     rt: &R,
-    alloc: Global,
-    journal: Journal<D>,
-    posts: Vec<Post<MemLink, T>>,
-) -> Relayed<D, MemLink, T> {
-    let plan = Plan::from_toml(alloc, PLAN).ok().expect(rt, "a plan");
-    if posts.is_empty() || posts.len() > 256 {
-        panic!(rt; "1 to 256 posts");
-    }
-    run_relay(rt, alloc, journal, &plan, posts)
-        .ok()
-        .expect(rt, "a relay")
+    clock: HostRuntime,
+    held: Worker,
+    answered: &'a AtomicU64,
+    gave_up: &'a AtomicU64,
+) -> Left {
+    let alloc = clock.alloc();
+    let posts = posts(rt, clock, held, answered, gave_up);
+    left_by(rt, alloc, new_journal(rt, alloc), posts)
 }
 
 /// Checks that the other two are answered while this worker is held.
 fn expect_overlap<R: Abort + Threads + Wait + Sync>(rt: &R, clock: HostRuntime, held: Worker) {
     let answered = AtomicU64::new(0);
     let gave_up = AtomicU64::new(0);
-    let alloc = clock.alloc();
-    let posts = posts(rt, clock, held, &answered, &gave_up);
-    let relayed = relayed(rt, alloc, new_journal(rt, alloc), posts);
-    expect_taken(rt, &relayed);
+    expect_taken(rt, &left_of(rt, clock, held, &answered, &gave_up));
     expect!(*rt; gave_up.load(Ordering::SeqCst) == 0);
     expect!(*rt; answered.load(Ordering::SeqCst) == 3);
+}
+
+/// Checks it of each worker.
+fn expect_overlaps<R: Abort + Threads + Wait + Sync>(rt: &R, clock: HostRuntime) {
+    for held in WORKERS {
+        expect_overlap(rt, clock, held);
+    }
 }
 
 /// Two receivers and a sender run side by side: whichever is held before its first call, the other two are answered
 /// meanwhile, and then it is.
 #[test]
 fn receivers_overlap(rt: HostRuntime) {
-    for held in WORKERS {
-        expect_overlap(&rt, rt, held);
-    }
+    expect_overlaps(&rt, rt);
 }

@@ -3,7 +3,7 @@
 ghost use Rattle.std.specs.Prelude.{None, false};
 
 use crate::expect::expect;
-use crate::workers::{MemEnds, link_with, plan, spool_with};
+use crate::workers::{MemEnds, give, link_with, plan, spool_with};
 use rly_core::{HopId, Params, PeerId};
 use rly_machine::{Machine, Payload};
 use rly_post::{Go, MemLink, MemTurn, Point, Turn, Worker};
@@ -106,9 +106,7 @@ pub(super) fn numbered(number: u8, destination: u8) -> [u8; 21] {
 fn link_of<R: Abort>(rt: &R, alloc: Global, several: &[(u8, u8)]) -> MemLink {
     let mut coming = Vec::new(alloc);
     for (number, destination) in several {
-        let packet = numbered(*number, *destination);
-        let given = Some(packet.to_vec(alloc).expect(rt, "memory"));
-        coming.push(given).expect(rt, "memory");
+        give(rt, alloc, &mut coming, &numbered(*number, *destination));
     }
     MemLink::new(alloc, coming, 0)
 }

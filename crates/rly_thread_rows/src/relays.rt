@@ -1,17 +1,16 @@
 //! Relays in threads: of many workers and of one, with full batches, over journals that were used, are wide, or broke.
 
-ghost use Rattle.std.specs.Prelude.{◌≤◌, None, false, length};
+ghost use Rattle.std.specs.Prelude.{None, false};
 
 use crate::devices::{journal_on, new_journal, wide_device};
-use crate::overlap::PLAN;
 use crate::receivers::numbered;
+use crate::relayed::{Left, left_by, run};
 use crate::rounds::broken_journal;
+use crate::workers::give;
 use rly_core::PeerId;
-use rly_disk::{Disk, MemDisk};
+use rly_disk::MemDisk;
 use rly_journal::Journal;
-use rly_plan::Plan;
 use rly_post::{Go, MemLink, Point, Post, Turn, Worker};
-use rly_threads::{Relayed, run_relay};
 use std::alloc::Global;
 use std::process::Abort;
 use std::sync::Wait;
@@ -56,9 +55,7 @@ fn post<R: Abort>(
 ) -> Post<MemLink, Turns> {
     let mut coming = Vec::new(alloc);
     for number in first..=last {
-        let packet = numbered(number, 12);
-        let given = Some(packet.to_vec(alloc).expect(rt, "memory"));
-        coming.push(given).expect(rt, "memory");
+        give(rt, alloc, &mut coming, &numbered(number, 12));
     }
     Post {
         worker: Worker::Receiver(PeerId(peer)),
@@ -67,65 +64,38 @@ fn post<R: Abort>(
     }
 }
 
-/// Runs a relay of these posts to its end.
-fn relayed<R: Abort + Threads + Wait + Sync, D: Disk + Drop>(
+/// The posts of this many workers, of which the first hears Data under these numbers, and the others nothing. Each has two turns.
+fn posts<R: Abort>(
     rt: &R,
     alloc: Global,
-    journal: Journal<D>,
-    posts: Vec<Post<MemLink, Turns>>,
-) -> Relayed<D, MemLink, Turns>
-    requires { (1 ≤ length posts.items) × (length posts.items ≤ 256) }
-{
-    let plan = Plan::from_toml(alloc, PLAN).ok().expect(rt, "a plan");
-    run_relay(rt, alloc, journal, &plan, posts)
-        .ok()
-        .expect(rt, "a relay")
-}
-
-/// A relay of one worker, which hears Data under these numbers from the first peer and has two turns.
-fn alone<R: Abort + Threads + Wait + Sync, D: Disk + Drop>(
-    rt: &R,
-    alloc: Global,
-    journal: Journal<D>,
-    first: u8,
-    last: u8,
-) -> Relayed<D, MemLink, Turns> {
+    count: u16,
+    (first, last): (u8, u8),
+) -> Vec<Post<MemLink, Turns>> {
     let mut posts = Vec::new(alloc);
-    posts
-        .push(post(rt, alloc, 1, first, last, 2))
-        .expect(rt, "memory");
-    if posts.len() != 1 {
-        panic!(rt; "one post");
+    for peer in 1..=count {
+        let last = if peer == 1 { last } else { 0 };
+        let post = post(rt, alloc, peer, first, last, 2);
+        posts.push(post).expect(rt, "memory");
     }
-    relayed(rt, alloc, journal, posts)
+    posts
 }
 
 /// The journal of a relay of one worker, which took 70 datagrams in two turns.
 fn journal_of_70<R: Abort + Threads + Wait + Sync>(rt: &R, alloc: Global) -> Journal<MemDisk> {
-    let Relayed {
-        finished,
-        ended,
-        is_cut,
-        complete,
-    } = alone(rt, alloc, new_journal(rt, alloc), 1, 70);
-    expect!(*rt; complete && !is_cut);
-    expect!(*rt; matches!(finished.journal.last(PeerId(1)), Ok(70)));
-    for worker in &ended {
-        expect!(*rt; matches!(worker, Some(worker) if worker.post.link.delivered().len() == 2));
-    }
-    finished.journal
-}
-
-/// Checks that a relay took the 71st datagram.
-fn expect_71<R: Abort>(rt: &R, left: &Relayed<MemDisk, MemLink, Turns>) {
-    expect!(*rt; left.complete && !left.finished.broken);
-    expect!(*rt; matches!(left.finished.journal.last(PeerId(1)), Ok(71)));
+    let posts = posts(rt, alloc, 1, (1, 70));
+    let (left, journal) = run(rt, alloc, new_journal(rt, alloc), posts);
+    expect!(*rt; left.complete && !left.is_cut);
+    expect!(*rt; left.lasts.0 == Some(70));
+    expect!(*rt; (left.ran, left.sent) == (1, 2));
+    journal
 }
 
 /// Runs a relay that takes 70 datagrams, and one over its journal that takes the next.
 fn take_71<R: Abort + Threads + Wait + Sync>(rt: &R, alloc: Global) {
-    let journal = journal_of_70(rt, alloc);
-    expect_71(rt, &alone(rt, alloc, journal, 71, 71));
+    let posts = posts(rt, alloc, 1, (71, 71));
+    let left = left_by(rt, alloc, journal_of_70(rt, alloc), posts);
+    expect!(*rt; left.complete && !left.broken);
+    expect!(*rt; left.lasts.0 == Some(71));
 }
 
 /// One worker takes 70 datagrams in two turns, of which the first has 64. A relay over the journal that this one leaves takes the
@@ -135,32 +105,18 @@ fn a_worker_alone_takes_full_batches(rt: HostRuntime) {
     take_71(&rt, rt.alloc());
 }
 
-/// The posts of 256 workers, of which the first hears a datagram.
-fn many_posts<R: Abort>(rt: &R, alloc: Global) -> Vec<Post<MemLink, Turns>> {
-    let mut posts = Vec::new(alloc);
-    for peer in 1..=256 {
-        let last = if peer == 1 { 1 } else { 0 };
-        let post = post(rt, alloc, peer, 1, last, 2);
-        posts.push(post).expect(rt, "memory");
-    }
-    posts
-}
-
-/// Checks that 256 workers ended, and that a datagram was taken.
-fn expect_wide<R: Abort>(rt: &R, left: &Relayed<MemDisk, MemLink, Turns>) {
-    expect!(*rt; left.complete && !left.is_cut);
-    expect!(*rt; left.ended.len() == 256);
-    expect!(*rt; matches!(left.finished.journal.last(PeerId(1)), Ok(1)));
-}
-
-/// Runs a relay of 256 workers.
+/// Runs a relay of 256 workers, of which the first hears a datagram.
 fn run_wide<R: Abort + Threads + Wait + Sync>(rt: &R, alloc: Global) {
-    let posts = many_posts(rt, alloc);
-    if posts.is_empty() || posts.len() > 256 {
-        panic!(*rt; "256 posts");
-    }
-    let journal = journal_on(rt, alloc, wide_device(rt, alloc));
-    expect_wide(rt, &relayed(rt, alloc, journal, posts));
+    let posts = posts(rt, alloc, 256, (1, 1));
+    let left = left_by(
+        rt,
+        alloc,
+        journal_on(rt, alloc, wide_device(rt, alloc)),
+        posts,
+    );
+    expect!(*rt; left.complete && !left.is_cut);
+    expect!(*rt; left.workers == 256);
+    expect!(*rt; left.lasts.0 == Some(1));
 }
 
 /// A relay may have 256 workers, over a journal of 64 hops and peers. Those whose peer isn't in the plan end at once.
@@ -169,18 +125,12 @@ fn as_many_workers_as_a_line_has_seats(rt: HostRuntime) {
     run_wide(&rt, rt.alloc());
 }
 
-/// Checks that a relay said that its journal is broken, and that no worker sent anything.
-fn expect_nothing_taken<R: Abort, D: Disk>(rt: &R, left: &Relayed<D, MemLink, Turns>) {
-    expect!(*rt; left.finished.broken && left.is_cut);
-    for ended in &left.ended {
-        expect!(*rt; matches!(ended, Some(worker) if worker.post.link.delivered().is_empty()));
-    }
-}
-
-/// Runs a relay over a broken journal.
+/// Runs a relay over a broken journal. It says so, and its worker sends nothing.
 fn run_broken<R: Abort + Threads + Wait + Copy + Send + Sync + 'static>(rt: R, alloc: Global) {
-    let journal = broken_journal(rt, alloc);
-    expect_nothing_taken(&rt, &alone(&rt, alloc, journal, 1, 1));
+    let posts = posts(&rt, alloc, 1, (1, 1));
+    let left = left_by(&rt, alloc, broken_journal(rt, alloc), posts);
+    expect!(rt; left.broken && left.is_cut);
+    expect!(rt; (left.ran, left.sent) == (1, 0));
 }
 
 /// A relay over a journal that is broken begins, takes nothing, and says so.

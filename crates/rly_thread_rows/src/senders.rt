@@ -1,7 +1,8 @@
 //! A sending worker.
 
 use crate::workers::{
-    MemEnds, expect_counts, expect_sent, link_with, plan, spool_with, take, with_window,
+    MemEnds, expect_counts, expect_sent, give, give_nothing, link_with, plan, spool_with, take,
+    with_window,
 };
 use rly_core::{HopId, Params};
 use rly_machine::{Machine, Payload};
@@ -122,11 +123,10 @@ const SILENCE: Heard = (CUSTODY, 0, 0);
 fn link_of<R: Abort>(rt: &R, alloc: Global, (custody, first, end): Heard) -> MemLink {
     let mut coming = Vec::new(alloc);
     for place in 0..end {
-        let given = match place >= first {
-            true => Some(custody.to_vec(alloc).expect(rt, "memory")),
-            false => None,
-        };
-        coming.push(given).expect(rt, "memory");
+        match place >= first {
+            true => give(rt, alloc, &mut coming, custody),
+            false => give_nothing(rt, &mut coming),
+        }
     }
     MemLink::new(alloc, coming, 0)
 }
@@ -507,9 +507,8 @@ const TURNS_AT_MOST: usize = 403;
 fn flood<R: Abort>(rt: &R, alloc: Global, packet: &[u8]) -> MemLink {
     let mut coming = Vec::new(alloc);
     for _turn in 0..TURNS_AT_MOST {
-        let given = Some(packet.to_vec(alloc).expect(rt, "memory"));
-        coming.push(given).expect(rt, "memory");
-        coming.push(None).expect(rt, "memory");
+        give(rt, alloc, &mut coming, packet);
+        give_nothing(rt, &mut coming);
     }
     MemLink::new(alloc, coming, 0)
 }

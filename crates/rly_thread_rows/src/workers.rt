@@ -109,6 +109,22 @@ pub(super) fn take_for<R: Abort>(
     expect!(*rt; matches!(&reply, Ok(Reply::Taken(_))));
 }
 
+/// Lets a packet come next.
+pub(super) fn give<R: Abort>(
+    rt: &R,
+    alloc: Global,
+    coming: &mut Vec<Option<Vec<u8>>>,
+    packet: &[u8],
+) {
+    let given = Some(packet.to_vec(alloc).expect(rt, "memory"));
+    coming.push(given).expect(rt, "memory");
+}
+
+/// Lets nothing come next.
+pub(super) fn give_nothing<R: Abort>(rt: &R, coming: &mut Vec<Option<Vec<u8>>>) {
+    coming.push(None).expect(rt, "memory");
+}
+
 /// A link that gives a packet in those of so many receives that have these numbers, counted from 0, and nothing else. Of its
 /// calls that of number `fails_at` fails.
 pub(super) fn link_with<R: Abort>(
@@ -121,11 +137,10 @@ pub(super) fn link_with<R: Abort>(
 ) -> MemLink {
     let mut coming = Vec::new(alloc);
     for place in 0..receives {
-        let given = match places.contains(&place) {
-            true => Some(packet.to_vec(alloc).expect(rt, "memory")),
-            false => None,
-        };
-        coming.push(given).expect(rt, "memory");
+        match places.contains(&place) {
+            true => give(rt, alloc, &mut coming, packet),
+            false => give_nothing(rt, &mut coming),
+        }
     }
     MemLink::new(alloc, coming, fails_at)
 }
