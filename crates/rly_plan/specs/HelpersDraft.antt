@@ -1,4 +1,5 @@
--- Nothing is claimed here: the parts in which a neighbour, a hop and a contact are read, of which only private functions speak.
+-- Nothing is claimed here: the parts in which a neighbour, a hop and a contact are read, of which only private
+-- functions speak.
 use Rattle.std.specs.Prelude.{ℕ, ℤ, List, codes, Option, Some, option_and_then}
 use Rattle.toml.specs.Data.{Data, as_integer, Members, get_member}
 use Rattle.rly_plan.specs.declared.draft.ContactDraft.{ContactDraft}

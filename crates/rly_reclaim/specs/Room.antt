@@ -2,7 +2,8 @@
 use Rattle.std.specs.Prelude.{ℕ, ◌+◌, ◌*◌, ◌/◌, ◌-◌, ◌<◌, ◌≤◌}
 use Rattle.rly_core.specs.declared.params.Geometry.{Geometry}
 
--- the bytes of the largest group where payloads have at most so many: 64 Takes of the longest with its gate, and one gate
+-- the bytes of the largest group where payloads have at most so many: 64 Takes of the longest with its gate, and one
+-- gate
 -- more
 abbrev pub group_room : ℕ → ℕ
 group_room payload = 64 * (23 + payload) + 8

@@ -20,7 +20,8 @@ part_of kind.QuotaExceeded = Room
 part_of kind.FileTooLarge = Room
 part_of _ = Device
 
--- what was refused where a device was opened, or where a call of it failed, by the fault of the first of its calls that did
+-- what was refused where a device was opened, or where a call of it failed, by the fault of the first of its calls
+-- that did
 abbrev pub device_cause : Refusal → Option FileFault → Cause
 device_cause refusal.BadGeometry first = Header
 device_cause refusal.Device (Some fault) = System fault
