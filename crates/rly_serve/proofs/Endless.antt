@@ -1,19 +1,27 @@
 -- A wall clock whose turns are without end hands out no end, so its worker never ends.
-use Rattle.std.proofs.Common.{◌≡◌, ◌∙◌, ℕ, zero, suc, ◌≤◌, List, [], ◌∷◌, ◌++◌, true, false, true≢false, Bool, not, ◌&&◌, ◌||◌, ap, arith, get_or, length, map, refl, sym}
+use Rattle.std.proofs.Common.{◌≡◌, ◌∙◌, ℕ, zero, suc, ◌+◌, ◌≤◌, List, [], ◌∷◌, ◌++◌, true, false, true≢false, Bool, not, ◌&&◌, ◌||◌, ap, arith, get_or, length, map, refl, sym}
 use Rattle.std.proofs.lemmas.Bool.{and_parts}
 use Rattle.std.proofs.lemmas.List.Folds.{list_all-append}
 use Rattle.std.proofs.lemmas.Option.{IfSome_then, none-some}
 use Rattle.std.specs.List.{AllZip, list_all, zip}
 use Rattle.std.specs.Option.{is_none, option_map, unwrap_or}
-use Rattle.std.specs.Prelude.{IfSome, None, Option, Some}
+use Rattle.std.specs.Prelude.{Err, IfOk, IfSome, None, Ok, OnOk, Option, Result, Some}
 use Rattle.rly_core.specs.declared.params.Params.{Params}
 use Rattle.rly_station.specs.declared.plan_keys.KeyedWorker.{KeyedWorker}
-use Rattle.rly_serve.specs.Serving.{clock_endless, clock_told}
+use Rattle.rly_hop.specs.Spelling.{longest_message}
+use Rattle.rly_line.proofs.Closing.{as_many_names}
+use Rattle.rly_line.proofs.Making.{names_again}
+use Rattle.rly_line.specs.EndViews.{names_of, new_tellers}
+use Rattle.rly_line.specs.Responding.{Responding}
+use Rattle.rly_serve.specs.Serving.{HasRunOver, clock_endless, clock_told}
+use Rattle.rly_station.proofs.CountedWorkers.{posts_count}
+use Rattle.rly_station.specs.Keys.{AreKeysOf}
 use Rattle.rly_station.specs.Duties.{Duty, PostOver, addresses_of, duties, duty_of, duty_over}
-use Rattle.rly_line.specs.Replies.{ReplyId}
+use Rattle.rly_line.specs.Replies.{ReplyId, Teller}
 use Rattle.rly_line.specs.Seats.{new_callers}
 use Rattle.rly_line.specs.Submission.{LineId}
 use Rattle.rly_plan.specs.ContactPlan.{ContactPlan, next_hop_at, peer_at}
+use Rattle.rly_plan.specs.Sound.{IsSoundPlan}
 use Rattle.rly_plan.specs.Endpoints.{Endpoints}
 use Rattle.rly_station.specs.Neighbour.{neighbour_heard, neighbour_sent}
 use Rattle.rly_station.specs.declared.neighbour_link.NeighbourLink.{NeighbourLink}
@@ -26,7 +34,7 @@ use Rattle.rly_post.specs.declared.turn.Worker.{Worker}
 use Rattle.rly_post.specs.declared.turn.Worker.TheVariants as worker
 use Rattle.rly_threads.specs.Cut.{Look, all_on, handed_at, was_cut}
 use Rattle.rly_post.specs.Telling.{Handed, TellsMore}
-use Rattle.rly_threads.specs.Relay.{HaveEnded, has_run_out, seated}
+use Rattle.rly_threads.specs.Relay.{AreAnsweredBy, HaveEnded, has_run_out, seated}
 use Rattle.rly_workers.specs.Working.{HasWorked}
 use Rattle.rly_workers.specs.Runs.{Ran, EndsView}
 use Rattle.rly_workers.specs.Turns.{Done}
@@ -115,3 +123,58 @@ pub turns_end : {L C : Type 0} (below : L → NeighbourLink C) (plan : ContactPl
     → list_all has_run_out ended ≡ true → 1 ≤ turns
 turns_end below plan links params longest zero line names posts ended e some count worked all = absurd (endless_goes_on below plan links params longest line names 0 posts ended e some count worked all)
 turns_end below plan links params longest (suc n) line names posts ended e some count worked all = omega arith
+
+-- as many lines at the end of a flusher as names at its beginning
+pub lines_count : (lines : List Teller) (names : List (Option ReplyId)) (n : ℕ) → names_of lines ≡ names_of (new_tellers 0 names) → length names ≡ n → length lines ≡ n
+lines_count lines names n same count = sym (as_many_names lines) ∙ ap length (same ∙ names_again 0 names) ∙ count
+
+-- what the workers did, where each is told to have run until its turns were ended
+pub has_run : {L C : Type 0} (below : L → NeighbourLink C) (others : ℕ) (plan : ContactPlan) (links : List KeyedWorker) (params : Params) (turns : ℕ) (r : Responding) (posts : List (PostOver L C)) (ended : List (Option (Ended L (WallClock C))))
+    → map (duty_over below) posts ≡ duties plan links (longest_message params.payload) turns
+    → AllZip (HaveEnded (λ l. neighbour_heard (below l)) (λ l. neighbour_sent (below l)) clock_told clock_endless plan params) (seated r.of (names_of r.lines) posts) ended
+    → length r.lines ≡ length posts + others → AreAnsweredBy r ended → list_all has_run_out ended ≡ true
+    → HasRunOver below others plan links params turns r ended
+has_run below others plan links params turns r posts ended planned worked seats answered whole =
+    record { posts = posts; planned = planned; worked = worked; seats = seats; answered = answered; complete = whole }
+
+-- then the turns have an end
+pub run_ends : {L C : Type 0} (below : L → NeighbourLink C) (others : ℕ) (plan : ContactPlan) (links : List KeyedWorker) (params : Params) (turns : ℕ) (r : Responding) (ended : List (Option (Ended L (WallClock C)))) → AreKeysOf plan links → 1 ≤ length plan.peers → HasRunOver below others plan links params turns r ended → 1 ≤ turns
+run_ends below others plan links params turns r ended keys some run =
+    let count = posts_count (duty_over below) run.posts plan links (longest_message params.payload) turns keys run.planned in
+    let first : 1 ≤ length run.posts = omega (arith, count, some) in
+    let many : length run.posts ≤ length (names_of r.lines) = omega (arith, as_many_names r.lines, run.seats) in
+    turns_end below plan links params (longest_message params.payload) turns r.of (names_of r.lines) run.posts ended run.planned first many run.worked run.complete
+
+-- a plan has 1 to 64 peers and 1 to 64 hops
+pub posts_between : {A : Type 0} (f : A → Duty) (posts : List A) (plan : ContactPlan) (links : List KeyedWorker) (longest turns most : ℕ) → AreKeysOf plan links → IsSoundPlan plan → map f posts ≡ duties plan links longest turns → 128 ≤ most
+    → (1 ≤ length posts) × (length posts ≤ most)
+posts_between f posts plan links longest turns most keys sound planned room =
+    let count = posts_count f posts plan links longest turns keys planned in
+    let peers = sound.peer_count in
+    let hops = sound.hop_count in
+    (omega (arith, count, peers.0, hops.0), omega (arith, count, peers.1, hops.1, room))
+
+pub below_255 : 128 ≤ 255
+below_255 = omega arith
+
+pub below_256 : 128 ≤ 256
+below_256 = omega arith
+
+-- counts, apart from all that is known where they are used
+pub and_none : (m n : ℕ) → m ≡ n → m ≡ n + 0
+and_none m n same = omega (arith, same)
+
+pub same_count : (names posts n workers : ℕ) → names ≡ posts → posts ≡ n → workers ≡ n → names ≡ workers
+same_count names posts n workers a b c = a ∙ b ∙ sym c
+
+pub one_count_more : (names posts n workers : ℕ) → names ≡ posts + 1 → posts ≡ n → workers ≡ n → names ≡ workers + 1
+one_count_more names posts n workers a b c = omega (arith, a, b, c)
+
+-- what holds of a good outcome, from what is told of it
+pub ok_then : {A E : Type 0} {P Q : A → Type 0} (r : Result A E) → IfOk r P → ((x : A) → P x → Q x) → IfOk r Q
+ok_then (Ok a) p f = f a p
+ok_then (Err e) p f = tt
+
+pub on_ok : {A E X : Type 0} (r : Result A E) → X → OnOk r X
+on_ok (Ok a) x = x
+on_ok (Err e) x = tt

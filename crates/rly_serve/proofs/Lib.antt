@@ -1,3 +1,4 @@
 pub mod Endless
 pub mod Tallied
 pub mod PaceBegun
+pub mod Below

@@ -1,3 +1,4 @@
 pub mod Serving
 pub mod WallPace
 pub mod Reporting
+pub mod Helpers

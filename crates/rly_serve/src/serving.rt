@@ -12,7 +12,9 @@ ghost use Rattle.rly_station.specs.Duties.{duties, duty_at, workers_of};
 ghost use Rattle.rly_station.specs.Keys.{AreKeysOf};
 ghost use Rattle.rly_station.specs.declared.file_fault.Cause.TheVariants as cause;
 ghost use Rattle.rly_station.specs.declared.serve_fault.ServeFault.TheVariants as fault;
-ghost use Rattle.rly_threads.specs.Relay.{new_end};
+ghost use Rattle.rly_threads.specs.Relay.{AreAnsweredBy, HaveEnded, has_run_out, new_end, seated};
+ghost use Rattle.rly_line.specs.EndViews.{names_of};
+ghost use Rattle.std.specs.List.{AllZip, list_all};
 
 use rly_audit::live_items;
 use rly_core::{Params, Refusal};
@@ -20,11 +22,12 @@ use rly_disk::Disk;
 use rly_hop::longest_message;
 use rly_journal::Journal;
 use rly_plan::Plan;
+use rly_post::{Link, Post, Turn};
 use rly_station::{
     Cause, NeighbourLink, PlanKeys, ServeFault, UdpPost, WallClock, WorkerName, posts_of,
 };
 use rly_threads::{Relayed, run_relay};
-use std::alloc::AllocError;
+use std::alloc::{AllocError, Global};
 use std::io;
 use std::io::Write;
 use std::net::Net;
@@ -69,9 +72,38 @@ pub fn serve<'a, H: AllocGlobal + Net + Threads + Wait + Clock + Sync, D: Disk +
         Ok(posts) => posts,
         Err(fault) => return Err((fault, journal.into_disk())),
     };
-    let told = tell_start(&journal, plan, size, &posts, errors);
-    match run_relay(rt, rt.alloc(), journal, plan, posts) {
-        Ok(relayed) => match outcome_of(relayed.finished.broken, relayed.complete, told) {
+    let is_told = tell_start(&journal, plan, size, &posts, errors).is_ok();
+    run_posts(rt, rt.alloc(), journal, plan, posts, is_told)
+}
+
+/// Runs a relay whose workers have these posts, and answers what it leaves where it ended well.
+fn run_posts<
+    R: Threads + Wait + Sync,
+    D: Disk + Drop,
+    L: Link + Drop + Send,
+    T: Turn + Drop + Send,
+>(
+    rt: &R,
+    alloc: Global,
+    journal: Journal<D>,
+    plan: &Plan,
+    posts: Vec<Post<L, T>>,
+    is_told: bool,
+) -> Result<Relayed<D, L, T>, (ServeFault, D)>
+    requires count { (1 ≤ length posts.items) × (length posts.items ≤ 256) }
+    requires sound { IsSoundPlan plan.now }
+    ensures worked { IfOk result (λ relayed. AllZip (HaveEnded L.heard L.sent T.told T.endless plan.now journal.state.params)
+        (seated relayed.finished.last.value.line.of (names_of relayed.finished.last.value.line.lines) posts.items) relayed.ended.items
+        × (length relayed.finished.last.value.line.lines ≡ length posts.items)
+        × AreAnsweredBy relayed.finished.last.value.line relayed.ended.items
+        × (list_all has_run_out relayed.ended.items ≡ true)) }
+    ensures served { IfOk result (λ relayed. (line : LineId) × (names : List (Option ReplyId)) × (length names ≡ length posts.items)
+        × IsServed D.state (new_flusher journal (new_end line names)) relayed.finished.last.value) }
+    ensures left { IfOk result (λ relayed. relayed.finished.last.value.journal ≡ relayed.finished.journal) }
+    ensures whole { IfOk result (λ relayed. relayed.finished.journal.broken ≡ false) }
+{
+    match run_relay(rt, alloc, journal, plan, posts) {
+        Ok(relayed) => match outcome_of(relayed.finished.broken, relayed.complete, is_told) {
             Ok(()) => Ok(relayed),
             Err(fault) => Err((fault, disk_of(relayed))),
         },
@@ -80,7 +112,9 @@ pub fn serve<'a, H: AllocGlobal + Net + Threads + Wait + Clock + Sync, D: Disk +
 }
 
 /// The disk of a relay that has ended.
-fn disk_of<'a, H: Clock, D: Disk + Drop>(relayed: UdpRelayed<'a, D, H>) -> D {
+pub(crate) fn disk_of<D: Disk + Drop, L: Link + Drop, T: Turn + Drop>(
+    relayed: Relayed<D, L, T>,
+) -> D {
     relayed.finished.journal.into_disk()
 }
 
@@ -99,12 +133,23 @@ pub(crate) fn ready_posts<'a, H: AllocGlobal + Net + Clock, D: Disk>(
     ensures posts { IfOk result (λ posts. map duty_at posts.items
         ≡ duties plan.now keys.entry (longest_message journal.now.state.params.payload) turns) }
 {
+    let longest = longest_served(journal, plan)?;
+    posts_of(rt, plan, keys, longest, turns)
+}
+
+/// The longest message of a journal that has room for a plan's neighbours and isn't broken.
+fn longest_served<D: Disk>(journal: &Journal<D>, plan: &Plan) -> Result<usize, ServeFault>
+    ensures room { OnOk result (HasRoom plan.now journal.now.state.params) }
+    ensures lacks { LacksRoom plan.now journal.now.state.params → result ≡ Err (fault.Refused refusal.BadGeometry cause.Plan) }
+    ensures whole { OnOk result (journal.now.broken ≡ false) }
+    ensures longest { IfOk result (λ longest. longest ≡ longest_message journal.now.state.params.payload) }
+{
     let params = journal.params();
     check_room(plan, params)?;
     if journal.is_broken() {
         return Err(ServeFault::Refused(Refusal::Broken, Cause::Told));
     }
-    posts_of(rt, plan, keys, longest_message(params.payload), turns)
+    Ok(longest_message(params.payload))
 }
 
 /// Says what is served: the station, its neighbours, how much of the device is taken, and whose links anyone can speak on.
@@ -114,7 +159,7 @@ pub(crate) fn tell_start<'a, H: Clock, D: Disk, E: Write>(
     size: u64,
     posts: &[UdpPost<'a, H>],
     errors: &mut E,
-) -> Result<(), ServeFault>
+) -> io::Result<()>
     requires { journal.now.broken ≡ false }
 {
     let station = plan.station();
@@ -122,12 +167,11 @@ pub(crate) fn tell_start<'a, H: Clock, D: Disk, E: Write>(
     let hops = plan.hop_count();
     let live = live_items(journal);
     let items = journal.params().items;
-    let told = writeln!(
+    writeln!(
         errors,
         "rly: serving station {station}, {peers} peers, {hops} hops, device {size} bytes, {live} of {items} live"
-    );
-    told.map_err(|_| ServeFault::Untold)?;
-    tell_open(posts, errors).map_err(|_| ServeFault::Untold)
+    )?;
+    tell_open(posts, errors)
 }
 
 /// Says whose links have no key, if any have none.
@@ -160,15 +204,16 @@ fn check_room(plan: &Plan, params: Params) -> Result<(), ServeFault>
     Ok(())
 }
 
-/// How a relay ended that was started. `told` is whether what it serves could be told.
+/// How a relay ended that was started. `is_told` is whether what it serves could be told.
 pub(crate) fn outcome_of(
     is_broken: bool,
     is_complete: bool,
-    told: Result<(), ServeFault>,
+    is_told: bool,
 ) -> Result<(), ServeFault>
     ensures broken { is_broken ≡ true → result ≡ Err (fault.Refused refusal.Broken cause.Told) }
     ensures worker { is_broken ≡ false → is_complete ≡ false → result ≡ Err fault.Worker }
-    ensures ok { is_broken ≡ false → is_complete ≡ true → result ≡ told }
+    ensures untold { is_broken ≡ false → is_complete ≡ true → is_told ≡ false → result ≡ Err fault.Untold }
+    ensures ok { OnOk result ((is_broken ≡ false) × (is_complete ≡ true) × (is_told ≡ true)) }
 {
     if is_broken {
         return Err(ServeFault::Refused(Refusal::Broken, Cause::Told));
@@ -176,5 +221,8 @@ pub(crate) fn outcome_of(
     if !is_complete {
         return Err(ServeFault::Worker);
     }
-    told
+    if !is_told {
+        return Err(ServeFault::Untold);
+    }
+    Ok(())
 }
