@@ -1,5 +1,7 @@
 -- What holds of a good outcome.
+use Rattle.std.proofs.Common.{◌≡◌, ◌∙◌, ℕ, ◌+◌, ap, arith, false}
 use Rattle.std.specs.Prelude.{Err, Ok, OnOk, Result}
+use Rattle.rly_journal.specs.Journal.{JournalState}
 
 pub then_ok : {A E X Y : Type 0} (r : Result A E) → OnOk r X → (X → Y) → OnOk r Y
 then_ok (Ok a) x f = f x
@@ -9,3 +11,10 @@ then_ok (Err e) x f = tt
 pub then_both : {A E X Y Z : Type 0} (r : Result A E) → OnOk r X → OnOk r Y → (X → Y → Z) → OnOk r Z
 then_both (Ok a) x y f = f x y
 then_both (Err e) x y f = tt
+
+-- a journal that is left whole, and a count, apart from all that is known where they are used
+pub left_whole : {D : Type 0} (left journal : JournalState D) → left ≡ journal → journal.broken ≡ false → left.broken ≡ false
+left_whole {D} left journal same whole = ap (λ (j : JournalState D). j.broken) same ∙ whole
+
+pub and_none : (m n : ℕ) → m ≡ n → m ≡ n + 0
+and_none m n same = omega (arith, same)

@@ -1,3 +1,4 @@
 pub mod Gates
 pub mod CountedDisk
 pub mod Program
+pub mod Helpers

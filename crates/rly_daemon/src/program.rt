@@ -3,6 +3,7 @@
 ghost use Rattle.std.specs.Prelude.{◌≡◌, ◌≤◌, ◌⊎◌, [], Err, OnOk, map};
 ghost use Rattle.rly_settings.specs.CommandLine.{AsksHelp, IsSettings, asked_of, kinds_at};
 ghost use Rattle.rly_settings.specs.declared.given.Settings.{Settings as ASettings};
+ghost use Rattle.rly_daemon.specs.Helpers.{WasAsked};
 ghost use Rattle.rly_daemon.specs.Program.{IsDone, IsOutOfLimits};
 
 use crate::serving::run_serving;
@@ -59,9 +60,20 @@ pub fn run<H: Host, S: AsStr, R: Read, W: Write + Send, E: Write>(
             Ok(()) => 0,
             Err(fault) => fail(&fault, errors),
         },
-        Err(SettingsFault::Asked(text)) => show(&text, writer, errors),
-        Err(SettingsFault::CommandLine(text)) => complain(&text, errors),
-        Err(fault) => fail(&fault, errors),
+        Err(fault) => tell_unsettled(&fault, writer, errors),
+    }
+}
+
+/// Says why a command line gives no settings, or what it asks, and answers the status.
+fn tell_unsettled<W: Write, E: Write>(fault: &SettingsFault, writer: &mut W, errors: &mut E) -> u8
+    ensures status { result ≤ 2 }
+    ensures bad { result ≡ 2 → writer.new ≡ writer.old }
+    ensures asked { result ≡ 0 → WasAsked fault.now }
+{
+    match fault {
+        SettingsFault::Asked(text) => show(text, writer, errors),
+        SettingsFault::CommandLine(text) => complain(text, errors),
+        SettingsFault::OutOfMemory => fail(fault, errors),
     }
 }
 

@@ -79,8 +79,7 @@ fn report_plan<H: Host, W: Write + Send, E: Write>(
     ensures served { OnOk result (HasServedReporting turns (W.contents writer.old) (W.contents writer.new) (E.contents errors.new)) }
 {
     let keys = read_keys(rt, plan, path)?;
-    let tally = tally_of(rt.alloc(), plan)?;
-    let (journal, size) = open_counted(rt, file, &tally)?;
+    let (journal, size, tally) = open_told(rt, file, plan)?;
     let word = OnceLock::new();
     let reports = Reports {
         seconds,
@@ -118,11 +117,15 @@ fn reports_ended<E: Write>(turns: u64, end: ReporterEnd, errors: &mut E) -> Resu
 
 /// Where the workers of a plan count.
 fn tally_of(alloc: Global, plan: &Plan) -> Result<Arc<Tally, Global>, ServeFault> {
-    let tally = Tally::new(alloc, plan)?;
-    match Arc::new(alloc, tally) {
+    match new_tally(alloc, plan) {
         Ok(tally) => Ok(tally),
-        Err(_) => Err(AllocError.into()),
+        Err(refused) => Err(refused.into()),
     }
+}
+
+fn new_tally(alloc: Global, plan: &Plan) -> Result<Arc<Tally, Global>, AllocError> {
+    let tally = Tally::new(alloc, plan)?;
+    Ok(Arc::new(alloc, tally)?)
 }
 
 /// The same disk, whose gates are counted where it has a header.
@@ -131,12 +134,22 @@ fn watched(
     tally: &Arc<Tally, Global>,
 ) -> Result<CountedDisk<FileDisk>, ServeFault> {
     let mut disk = disk;
-    let Ok(geometry) = read_header(&mut disk) else {
-        return Ok(CountedDisk::new(disk, None));
+    match gates_of(&mut disk, tally) {
+        Ok(gates) => Ok(CountedDisk::new(disk, gates)),
+        Err(refused) => Err(refused.into()),
+    }
+}
+
+/// Where the gates of a disk are counted, if it has a header.
+fn gates_of(
+    disk: &mut FileDisk,
+    tally: &Arc<Tally, Global>,
+) -> Result<Option<GateTally>, AllocError> {
+    let Ok(geometry) = read_header(disk) else {
+        return Ok(None);
     };
     let tally = Arc::try_clone(tally)?;
-    let gates = GateTally::new(&geometry, tally);
-    Ok(CountedDisk::new(disk, Some(gates)))
+    Ok(Some(GateTally::new(&geometry, tally)))
 }
 
 /// Says what ended a relay.
@@ -160,7 +173,20 @@ fn open_file<H: AllocGlobal + Files<File = File>>(
     Ok((journal, size))
 }
 
-/// The same, and the gates of the device are counted.
+/// The same for a plan whose workers count, and the gates of the device are counted there too.
+fn open_told<H: AllocGlobal + Files<File = File>>(
+    rt: &H,
+    file: &str,
+    plan: &Plan,
+) -> Result<(Journal<CountedDisk<FileDisk>>, u64, Arc<Tally, Global>), CommandFault>
+    ensures whole { IfOk result (λ opened. opened.0.broken ≡ false) }
+{
+    let tally = tally_of(rt.alloc(), plan)?;
+    let (journal, size) = open_counted(rt, file, &tally)?;
+    Ok((journal, size, tally))
+}
+
+/// The journal on the device in a file, whose gates are counted.
 fn open_counted<H: AllocGlobal + Files<File = File>>(
     rt: &H,
     file: &str,

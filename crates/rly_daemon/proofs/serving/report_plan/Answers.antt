@@ -1,16 +1,14 @@
-use Rattle.std.proofs.Common.{◌≡◌, ◌⊎◌, ◌∙◌, ap, subst}
-use Rattle.rly_daemon.proofs.Outcomes.{then_both}
-use Rattle.rly_journal.specs.Journal.{JournalState}
-use Rattle.rly_commands.specs.declared.file_disk.FileDisk.{FileDisk}
-use Rattle.rly_daemon.specs.declared.counted_disk.CountedDisk.{CountedDisk}
+use Rattle.std.proofs.Common.{◌≡◌, ◌⊎◌, subst}
+use Rattle.rly_daemon.proofs.Outcomes.{left_whole, then_both}
 use Rattle.rly_reporter.specs.declared.reporter.ReporterEnd.TheVariants.{Closed, Paced}
+use Rattle.rly_daemon.specs.Program.{HasServedReporting}
 use Rattle.rly_daemon.proofs.serving.report_plan.Goals as goal
 
 pub returns-in-Ok : goal.returns-in-Ok
 returns-in-Ok g c =
     let relay = c.in-Ok in
     record {
-      served = then_both c.reports_ended.result c.reports_ended.ensures.told c.reports_ended.ensures.end (λ told end. record {
+      served = then_both {Z = HasServedReporting c.args.turns (g.W.Write.contents c.args.writer.now) (g.W.Write.contents c.serve_reporting.new.writer) (g.E.Write.contents c.reports_ended.new.errors)} c.reports_ended.result c.reports_ended.ensures.told c.reports_ended.ensures.end (λ told end. record {
         plan = c.args.plan.now;
         left = relay.reported.relayed.finished.last.value;
         served = record {
@@ -18,7 +16,7 @@ returns-in-Ok g c =
           room = relay.ensures.room;
           ends = relay.ensures.ends;
           begun = c.in_ok-journal.ensures.whole;
-          whole = ap (λ (j : JournalState (CountedDisk FileDisk)). j.broken) relay.ensures.left ∙ relay.ensures.whole;
+          whole = left_whole relay.reported.relayed.finished.last.value.journal relay.reported.relayed.finished.journal relay.ensures.left relay.ensures.whole;
           line = relay.ensures.served.0;
           names = relay.ensures.served.1;
           seats = relay.ensures.served.2;

@@ -1,14 +1,15 @@
-use Rattle.std.proofs.Common.{◌∙◌, ap, arith}
-use Rattle.rly_daemon.proofs.Outcomes.{then_ok}
-use Rattle.rly_journal.specs.Journal.{JournalState}
-use Rattle.rly_commands.specs.declared.file_disk.FileDisk.{FileDisk}
+use Rattle.std.proofs.Common.{length}
+use Rattle.std.specs.Io.KnownBytes.{Appends}
+use Rattle.rly_daemon.proofs.Outcomes.{and_none, left_whole, then_ok}
+use Rattle.rly_station.specs.Duties.{workers_of}
+use Rattle.rly_daemon.specs.Program.{HasServed, ended_line}
 use Rattle.rly_daemon.proofs.serving.serve_plan.Goals as goal
 
 pub returns-in-Ok : goal.returns-in-Ok
 returns-in-Ok g c =
     let relay = c.in-Ok in
     record {
-      served = then_ok c.tell_end.result c.tell_end.ensures (λ told. (
+      served = then_ok {X = Appends (g.E.Write.contents c.serve.new.errors) (g.E.Write.contents c.tell_end.new.errors) (ended_line c.args.turns)} {Y = HasServed c.args.turns (g.E.Write.contents c.tell_end.new.errors)} c.tell_end.result c.tell_end.ensures (λ told. (
         c.args.plan.now,
         relay._relayed.finished.last.value,
         record {
@@ -16,10 +17,10 @@ returns-in-Ok g c =
           room = relay.ensures.room;
           ends = relay.ensures.ends;
           begun = c.in_ok-journal.ensures.whole;
-          whole = ap (λ (j : JournalState FileDisk). j.broken) relay.ensures.left ∙ relay.ensures.whole;
+          whole = left_whole relay._relayed.finished.last.value.journal relay._relayed.finished.journal relay.ensures.left relay.ensures.whole;
           line = relay.ensures.served.0;
           names = relay.ensures.served.1;
-          seats = omega (arith, relay.ensures.served.2);
+          seats = and_none (length relay.ensures.served.1) (length (workers_of c.args.plan.now)) relay.ensures.served.2;
           served = relay.ensures.served.3;
           begins = g.E.Write.contents c.serve.new.errors;
           told = told;
