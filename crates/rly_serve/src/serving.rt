@@ -1,6 +1,6 @@
 //! The running relay: what it needs of its device, its workers, and how it ends.
 
-ghost use Rattle.std.specs.Prelude.{◌≡◌, ◌≤◌, Err, IfErr, IfOk, List, OnOk, Option, false, length, map, true};
+ghost use Rattle.std.specs.Prelude.{◌≡◌, ◌≤◌, Err, IfErr, IfOk, IsOk, List, OnOk, Option, false, length, map, true};
 ghost use Rattle.rly_core.specs.declared.refusal.Refusal.TheVariants as refusal;
 ghost use Rattle.rly_flush.specs.Flushing.{IsServed, new_flusher};
 ghost use Rattle.rly_hop.specs.Spelling.{longest_message};
@@ -213,6 +213,7 @@ pub(crate) fn outcome_of(
     ensures broken { is_broken ≡ true → result ≡ Err (fault.Refused refusal.Broken cause.Told) }
     ensures worker { is_broken ≡ false → is_complete ≡ false → result ≡ Err fault.Worker }
     ensures untold { is_broken ≡ false → is_complete ≡ true → is_told ≡ false → result ≡ Err fault.Untold }
+    ensures well { is_broken ≡ false → is_complete ≡ true → is_told ≡ true → IsOk result }
     ensures ok { OnOk result ((is_broken ≡ false) × (is_complete ≡ true) × (is_told ≡ true)) }
 {
     if is_broken {
