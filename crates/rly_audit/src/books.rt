@@ -13,7 +13,7 @@ use std::fmt;
 use std::marker::Model;
 
 /// The numbers that a report tells of a spool.
-#[derive(Debug, Drop)]
+#[derive(Drop)]
 pub(crate) struct Books {
     hops: Vec<HopStatus>,
     lasts: Vec<u64>,

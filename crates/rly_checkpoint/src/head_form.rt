@@ -3,7 +3,7 @@ ghost use Rattle.rly_checkpoint.specs.Widths.{count_width, entry_width, expired_
 
 /// The form of a head (`docs/FORMATS.md`, "Heads"). Heads of the second form are written; those of the first, which programs
 /// before age limits wrote, are read.
-#[derive(Clone, Copy, Debug, PartialEq, Eq)]
+#[derive(Clone, Copy, PartialEq, Eq)]
 pub enum HeadForm {
     /// That of programs before age limits.
     First,

@@ -22,7 +22,7 @@ pub struct Place {
 }
 
 /// What a head has for a payload. One without bytes is always inline.
-#[derive(Debug, Drop)]
+#[derive(Drop)]
 pub enum Stored {
     /// Its bytes.
     Inline(Payload),

@@ -1,6 +1,6 @@
 /// The state of CoDel for one lane, with the RFC's names (RFC 8289 section 5). A new one has every
 /// number 0 and isn't dropping. Moments are microseconds.
-#[derive(Clone, Copy, Debug, PartialEq, Eq)]
+#[derive(Clone, Copy, PartialEq, Eq)]
 pub struct CodelState {
     /// When items will have been over for an interval; 0 where the last candidate wasn't over.
     pub first_above_time: u64,
@@ -37,7 +37,7 @@ impl Default for CodelState {
 }
 
 /// What a dequeue decided.
-#[derive(Clone, Copy, Debug, PartialEq, Eq)]
+#[derive(Clone, Copy, PartialEq, Eq)]
 pub struct Verdict {
     /// How many items at the front are dropped.
     pub dropped: usize,

@@ -14,7 +14,7 @@ use std::os::unix::fs::FileExt;
 /// Of a real file nothing can be proved, so this disk is never honest: it promises its size, its
 /// ranges and its counts. What the disk model says of bytes and of crashes holds of it as far as the
 /// system keeps what `pread`, `pwrite` and `fdatasync` promise.
-#[derive(Debug, Drop)]
+#[derive(Drop)]
 pub struct FileDisk {
     file: File,
     size: u64,

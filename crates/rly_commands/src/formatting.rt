@@ -12,7 +12,7 @@ use rly_standing::OpenFault;
 use std::alloc::Global;
 
 /// Why a device isn't free to be formatted.
-#[derive(Clone, Copy, Debug, PartialEq, Eq)]
+#[derive(Clone, Copy, PartialEq, Eq)]
 pub enum UseFault {
     /// So many datagrams live on it.
     Live(u64),

@@ -87,7 +87,7 @@ fn in_range(value: u64, least: u64, greatest: u64) -> bool
 }
 
 /// The shape of a device: the parameters of its spool, and the segments that it is divided into.
-#[derive(Clone, Copy, Debug, PartialEq, Eq)]
+#[derive(Clone, Copy, PartialEq, Eq)]
 pub struct Geometry {
     /// The parameters of the spool.
     pub params: Params,

@@ -6,7 +6,7 @@ use crate::gate_tally::GateTally;
 use rly_disk::{Disk, DiskFault};
 
 /// A disk that does what the disk in it does, and counts the gates that are opened on it.
-#[derive(Debug, Drop)]
+#[derive(Drop)]
 pub struct CountedDisk<D> {
     inner: D,
     /// Where they are counted, if they are.

@@ -13,7 +13,7 @@ use std::alloc::Global;
 use std::sync::Arc;
 
 /// Counts the gates that are opened on a device: a segment's, or that of a group, which a round wrote.
-#[derive(Debug, Drop)]
+#[derive(Drop)]
 pub(crate) struct GateTally {
     /// Where the first segment begins, and the length of each.
     first: u64,

@@ -6,14 +6,14 @@ ghost use Rattle.rly_disk.specs.Trace.{Makes, Read, Sync, Write};
 use crate::{Counts, Disk, DiskFault};
 
 /// What a disk does after the call that was chosen to fail.
-#[derive(Clone, Copy, Debug, PartialEq, Eq, Drop)]
+#[derive(Clone, Copy, PartialEq, Eq, Drop)]
 pub enum After {
     GoesOn,
     Stops,
 }
 
 /// A disk that fails at a chosen call, and otherwise does what the disk in it does.
-#[derive(Debug, Drop)]
+#[derive(Drop)]
 pub struct FaultDisk<D> {
     inner: D,
     at: u64,

@@ -24,7 +24,7 @@ pub enum Torn {
 }
 
 /// A disk in memory, which keeps to the disk model.
-#[derive(Debug, Drop)]
+#[derive(Drop)]
 pub struct MemDisk {
     alloc: Global,
     bytes: Vec<u8>,

@@ -9,7 +9,7 @@ ghost use Rattle.rly_disk.specs.declared.record.Event.TheVariants.{Written, Sync
 use std::alloc::{AllocError, Global};
 
 /// What was done to a disk in memory.
-#[derive(Debug, Drop)]
+#[derive(Drop)]
 pub enum Event {
     /// These bytes stood at the place before the write.
     Written { place: usize, replaced: Vec<u8> },

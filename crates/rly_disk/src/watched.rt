@@ -5,7 +5,7 @@ ghost use Rattle.rly_disk.specs.Trace.{Makes, Read, Sync, Write};
 use crate::{Disk, DiskFault};
 
 /// A call of a disk. Places and counts are in bytes.
-#[derive(Clone, Copy, Debug, PartialEq, Eq, Drop)]
+#[derive(Clone, Copy, PartialEq, Eq, Drop)]
 pub enum DiskCall {
     Read { place: u64, count: u64 },
     Write { place: u64, count: u64 },
@@ -13,14 +13,14 @@ pub enum DiskCall {
 }
 
 /// A call that a disk counted, and whether it failed.
-#[derive(Clone, Copy, Debug, PartialEq, Eq, Drop)]
+#[derive(Clone, Copy, PartialEq, Eq, Drop)]
 pub struct ToldCall {
     pub call: DiskCall,
     pub failed: bool,
 }
 
 /// A disk that does what the disk in it does, and keeps a list of the calls that this counted.
-#[derive(Debug, Drop)]
+#[derive(Drop)]
 pub struct Watched<D> {
     inner: D,
     told: Vec<ToldCall>,

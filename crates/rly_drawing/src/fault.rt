@@ -6,7 +6,7 @@ use rly_gate::ReadFault;
 use std::alloc::AllocError;
 
 /// Why a spool was not drawn. The disk reads as before.
-#[derive(Clone, Copy, Debug, PartialEq, Eq, Drop)]
+#[derive(Clone, Copy, PartialEq, Eq, Drop)]
 pub enum DrawingFault {
     /// The memory for the copy was refused.
     OutOfMemory,

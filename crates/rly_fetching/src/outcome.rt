@@ -5,7 +5,7 @@ use rly_checkpoint::{Place, Stored};
 use rly_machine::{Answer, SeatId};
 
 /// What came of a call of a round, before the payloads are read that its Fetches ask for.
-#[derive(Debug, Drop)]
+#[derive(Drop)]
 pub enum Outcome {
     /// It is answered.
     Answered(Answer),

@@ -12,7 +12,7 @@ use rly_disk::{Disk, DiskFault};
 use std::alloc::{AllocError, Global};
 
 /// Why bytes were not read. The disk reads as before.
-#[derive(Clone, Copy, Debug, PartialEq, Eq)]
+#[derive(Clone, Copy, PartialEq, Eq)]
 pub enum ReadFault {
     /// The memory for them was refused.
     OutOfMemory,
@@ -21,7 +21,7 @@ pub enum ReadFault {
 }
 
 /// Why a group was not read. The disk reads as before.
-#[derive(Clone, Copy, Debug, PartialEq, Eq)]
+#[derive(Clone, Copy, PartialEq, Eq)]
 pub enum GroupFault {
     /// The memory for the body was refused.
     OutOfMemory,

@@ -3,7 +3,7 @@ ghost use Rattle.rly_hop.specs.HelpersKinds.{message_kind_byte};
 ghost use Rattle.rly_hop.specs.Reading.{fixed_length};
 
 /// The kinds of message.
-#[derive(Clone, Copy, Debug, PartialEq, Eq)]
+#[derive(Clone, Copy, PartialEq, Eq)]
 pub(crate) enum Kind {
     Data = 1,
     Custody = 2,

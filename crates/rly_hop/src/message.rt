@@ -7,12 +7,12 @@ use rly_core::limits::MAX_PAYLOAD;
 
 /// The number of a station, 1 to 65,535. A `StationId` of 0 names no station: no message that is from or to it is
 /// written or read.
-#[derive(Clone, Copy, Debug, PartialEq, Eq)]
+#[derive(Clone, Copy, PartialEq, Eq)]
 pub struct StationId(pub u16);
 
 /// One message, which is one datagram. `P` is what is held of a payload: the bytes borrowed from the datagram where a
 /// message is read, and any other form where one is kept.
-#[derive(Clone, Copy, Debug, PartialEq, Eq)]
+#[derive(Clone, Copy, PartialEq, Eq)]
 pub enum Message<P> {
     /// Kind 1, or kind 4 where it has a limit: hands a datagram to the next station, under the custody number that the
     /// sender gave it.

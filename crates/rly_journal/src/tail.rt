@@ -29,7 +29,7 @@ use rly_standing::Tail;
 use std::alloc::Global;
 
 /// Why the next segment was not opened.
-#[derive(Clone, Copy, Debug, PartialEq, Eq)]
+#[derive(Clone, Copy, PartialEq, Eq)]
 pub(crate) enum RenewFault {
     /// The memory for the copy of the spool, or for its head, was refused. Nothing was written.
     OutOfMemory,

@@ -2,11 +2,11 @@ use crate::command::Ask;
 use crate::reply::Reply;
 
 /// The number of a caller of a spool: 0 is the first.
-#[derive(Clone, Copy, Debug, PartialEq, Eq)]
+#[derive(Clone, Copy, PartialEq, Eq)]
 pub struct SeatId(pub u16);
 
 /// What a caller asks, under a number of its own.
-#[derive(Debug, Drop)]
+#[derive(Drop)]
 pub struct Call {
     /// Who asks.
     pub seat: SeatId,
@@ -17,7 +17,7 @@ pub struct Call {
 }
 
 /// What a caller is answered.
-#[derive(Debug, Drop)]
+#[derive(Drop)]
 pub struct Answer {
     /// Who asked.
     pub seat: SeatId,

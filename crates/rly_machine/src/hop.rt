@@ -15,7 +15,7 @@ use std::alloc::{AllocError, Global};
 use std::collections::VecDeque;
 
 /// A datagram in custody.
-#[derive(Debug, Drop)]
+#[derive(Drop)]
 pub struct Item<C> {
     /// The sequence number of the command that took it.
     pub id: u64,
@@ -28,7 +28,7 @@ pub struct Item<C> {
 }
 
 /// What a spool keeps for one next hop.
-#[derive(Debug, Drop)]
+#[derive(Drop)]
 pub struct Hop<C: Content> {
     /// The datagrams that wait, in order of taking.
     pub queue: Queue<C>,
@@ -333,7 +333,7 @@ fn payload_bytes<C: Content>(items: &VecDeque<Item<C>>) -> u64
 }
 
 /// What left a queue at one pick without being sent.
-#[derive(Clone, Copy, Debug, PartialEq, Eq)]
+#[derive(Clone, Copy, PartialEq, Eq)]
 pub(crate) struct Gone {
     pub(crate) items: u64,
     pub(crate) bytes: u64,

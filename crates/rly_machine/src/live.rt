@@ -6,7 +6,7 @@ use crate::content::Content;
 use crate::hop::Hop;
 
 /// What hops keep, in flight and waiting.
-#[derive(Clone, Copy, Debug, PartialEq, Eq)]
+#[derive(Clone, Copy, PartialEq, Eq)]
 pub(crate) struct Live {
     /// How many datagrams.
     pub(crate) items: u64,

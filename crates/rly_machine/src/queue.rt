@@ -11,7 +11,7 @@ use std::marker::Model;
 
 /// The datagrams that wait for a hop, in order of taking. Contracts see them, and how many more it holds without memory. How
 /// many payload bytes wait after one of them is told without a look at those.
-#[derive(Debug, Drop)]
+#[derive(Drop)]
 pub struct Queue<C: Content> {
     queued: VecDeque<Queued<C>>,
     /// The payload bytes ever put into it, modulo 2^64.
@@ -19,7 +19,7 @@ pub struct Queue<C: Content> {
 }
 
 /// A datagram that waits.
-#[derive(Debug, Drop)]
+#[derive(Drop)]
 struct Queued<C> {
     item: Item<C>,
     /// The payload bytes put into the queue up to and with this item, modulo 2^64.

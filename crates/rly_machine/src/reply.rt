@@ -6,7 +6,7 @@ use rly_core::Refusal;
 use std::marker::Model;
 
 /// The answer to a command or a query.
-#[derive(Debug, Drop)]
+#[derive(Drop)]
 pub enum Reply {
     /// The datagram was taken, under this id.
     Taken(u64),
@@ -68,7 +68,7 @@ impl Reply {
 }
 
 /// All numbers of a hop.
-#[derive(Clone, Copy, Debug, PartialEq, Eq)]
+#[derive(Clone, Copy, PartialEq, Eq)]
 pub struct HopStatus {
     /// Datagrams ever taken.
     pub taken: u64,
@@ -89,7 +89,7 @@ pub struct HopStatus {
 }
 
 /// Ids of datagrams, in order.
-#[derive(Debug, Drop)]
+#[derive(Drop)]
 pub struct Ids {
     ids: Vec<u64>,
 }

@@ -21,7 +21,7 @@ pub(crate) enum Spool {
 }
 
 /// Which call of a device fails once it was opened again, and how: `FaultDisk::new` says what each number means.
-#[derive(Clone, Copy, Debug, PartialEq, Eq)]
+#[derive(Clone, Copy, PartialEq, Eq)]
 pub struct Fault {
     /// The number of the call that fails, counted from the opening's first, which is 1; 0 is none.
     pub at: u64,

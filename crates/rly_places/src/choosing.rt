@@ -4,7 +4,7 @@ ghost use Rattle.rly_reclaim.specs.Reclaiming.{IsFree, IsVictim, NoneIsFree};
 use rly_reclaim::{free_segment, victim};
 
 /// The segment that is opened next, and the one whose live payloads move into its head.
-#[derive(Clone, Copy, Debug, PartialEq, Eq)]
+#[derive(Clone, Copy, PartialEq, Eq)]
 pub struct Choice {
     /// The segment that is opened: it holds no live payload byte.
     pub target: usize,

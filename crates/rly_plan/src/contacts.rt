@@ -9,7 +9,7 @@ use std::marker::Model;
 
 /// A time in which a link is open: the moments u with `begin <= u < end`, in microseconds since the
 /// Unix epoch.
-#[derive(Clone, Copy, Debug, PartialEq, Eq)]
+#[derive(Clone, Copy, PartialEq, Eq)]
 pub(crate) struct Contact {
     /// The first moment of the contact.
     pub begin: u64,
@@ -18,14 +18,14 @@ pub(crate) struct Contact {
 }
 
 /// A contact, and how long the link was open in the contacts before it.
-#[derive(Clone, Copy, Debug)]
+#[derive(Clone, Copy)]
 struct Summed {
     contact: Contact,
     before: u64,
 }
 
 /// The contacts of one hop, in order. None begins before the one before it ends.
-#[derive(Debug, Drop)]
+#[derive(Drop)]
 pub(crate) struct Contacts {
     entries: Vec<Summed>,
     /// How long the link is open in all of them.

@@ -3,7 +3,7 @@ use std::marker::Model;
 
 /// Where the link with a neighbour receives and sends, as the plan writes it. Only the socket judges
 /// the texts.
-#[derive(Debug, Drop)]
+#[derive(Drop)]
 pub struct Addresses {
     listen: String,
     remote: String,
@@ -47,7 +47,7 @@ impl Addresses {
 
 /// The file that holds the key of a link, as the plan names it: a path that begins at the plan's folder, unless it is
 /// absolute. Only the system judges the text.
-#[derive(Debug, Drop)]
+#[derive(Drop)]
 pub struct KeyFile {
     path: String,
 }
@@ -81,7 +81,7 @@ impl KeyFile {
 
 /// A neighbour: its station number, 1 to 65,535, the addresses of the link with it, and the file of its key, if it
 /// has one.
-#[derive(Debug, Drop)]
+#[derive(Drop)]
 pub struct Neighbour {
     /// The neighbour's station number.
     pub station: u16,

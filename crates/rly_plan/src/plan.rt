@@ -20,7 +20,7 @@ use std::marker::Model;
 use toml::de::Error;
 
 /// A next hop: the neighbour, how long what is in flight to it waits, and when its link is open.
-#[derive(Debug, Drop)]
+#[derive(Drop)]
 pub struct Hop {
     /// The neighbour that the hop leads to.
     pub neighbour: Neighbour,
@@ -68,7 +68,7 @@ impl Hop {
 }
 
 /// Where the datagrams for a destination go.
-#[derive(Clone, Copy, Debug, PartialEq, Eq)]
+#[derive(Clone, Copy, PartialEq, Eq)]
 pub struct Route {
     /// The destination's station number.
     pub destination: u16,
@@ -78,7 +78,7 @@ pub struct Route {
 
 /// A contact plan: this station, its neighbours on both sides, when the link with each next hop is
 /// open, and which hop each destination goes to.
-#[derive(Debug, Drop)]
+#[derive(Drop)]
 pub struct Plan {
     station: u16,
     peers: Vec<Neighbour>,

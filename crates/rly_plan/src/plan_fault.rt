@@ -5,7 +5,7 @@ use crate::place::{Place, Position};
 use rly_core::Refusal;
 
 /// Why a text is no plan, and where.
-#[derive(Clone, Copy, Debug, PartialEq, Eq)]
+#[derive(Clone, Copy, PartialEq, Eq)]
 pub struct PlanFault {
     /// 50 to 54, or 14 where memory was refused.
     pub refusal: Refusal,

@@ -10,7 +10,7 @@ use rly_core::limits::MOMENT_LIMIT;
 use std::fmt;
 
 /// A moment in microseconds since the Unix epoch. It displays as its date and time of day in UTC, as RFC 3339 writes them.
-#[derive(Clone, Copy, Debug, PartialEq, Eq)]
+#[derive(Clone, Copy, PartialEq, Eq)]
 pub struct Utc {
     moment: u64,
     ghost in_range: { moment < THE_LIMIT },

@@ -3,7 +3,7 @@ ghost use Rattle.std.specs.Prelude.{◌≡◌, ◌≤◌, ◌∷◌, [], false, 
 ghost use Rattle.rly_post.specs.Telling.{FailuresRose, Hearing, TellsMore, hearing, packet_of};
 
 /// A call of a link failed.
-#[derive(Clone, Copy, Debug, PartialEq, Eq, Drop)]
+#[derive(Clone, Copy, PartialEq, Eq, Drop)]
 pub struct LinkFault;
 
 /// A link to one neighbour, which carries packets, each whole or not at all, in any order.

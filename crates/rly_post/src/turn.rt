@@ -18,7 +18,7 @@ pub enum Worker {
 }
 
 /// Where a worker stands.
-#[derive(Clone, Copy, Debug, PartialEq, Eq)]
+#[derive(Clone, Copy, PartialEq, Eq)]
 pub enum Point {
     /// Before a turn.
     Start,
@@ -33,7 +33,7 @@ pub enum Point {
 }
 
 /// What a worker is handed.
-#[derive(Clone, Copy, Debug, PartialEq, Eq)]
+#[derive(Clone, Copy, PartialEq, Eq)]
 pub struct Go {
     /// The moment, in microseconds since the Unix epoch. Contacts, stamps and picks go by it. It falls where the
     /// clock is set back.

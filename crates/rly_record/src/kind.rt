@@ -2,7 +2,7 @@ ghost use Rattle.std.specs.Prelude.{◌≡◌, ◌==◌, ◌||◌, false, IfNone
 ghost use Rattle.rly_record.specs.HelpersKinds.{record_kind_byte};
 
 /// The kinds of record, each under the byte that a record of it begins with.
-#[derive(Clone, Copy, Debug, PartialEq, Eq)]
+#[derive(Clone, Copy, PartialEq, Eq)]
 pub(crate) enum Kind {
     Take = 1,
     Pick = 2,

@@ -7,7 +7,7 @@ use rly_machine::{Ask, Command, Ids, Payload, Query, Reply};
 use std::fmt;
 
 /// What of an ask its reply line repeats.
-#[derive(Clone, Copy, Debug, PartialEq, Eq)]
+#[derive(Clone, Copy, PartialEq, Eq)]
 pub struct Subject {
     /// The peer of a Take; 0 in any other ask.
     pub peer: PeerId,
@@ -55,7 +55,7 @@ impl Subject {
 
 /// A reply with what its line repeats of the ask. It displays as that line, without a newline
 /// (`docs/COMMANDS.md`, "Replies").
-#[derive(Debug, Drop)]
+#[derive(Drop)]
 pub struct ReplyLine<'a> {
     /// What the line repeats.
     pub subject: Subject,

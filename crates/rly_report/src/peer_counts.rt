@@ -6,7 +6,7 @@ ghost use Rattle.rly_report.specs.Counts.{after_heard, after_sent, counted_if, i
 use rly_hop::{Message, StationId, read_message};
 
 /// What a station counts of the link with a peer, since it was started. Each count stops at its last value of 64 bits.
-#[derive(Clone, Copy, Debug, PartialEq, Eq)]
+#[derive(Clone, Copy, PartialEq, Eq)]
 pub struct PeerCounts {
     /// Packets that were heard.
     pub heard: u64,

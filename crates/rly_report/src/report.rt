@@ -4,7 +4,7 @@ use rly_machine::HopStatus;
 use rly_plan::Plan;
 
 /// What a station tells of a hop.
-#[derive(Clone, Copy, Debug, PartialEq, Eq)]
+#[derive(Clone, Copy, PartialEq, Eq)]
 pub struct HopReport {
     /// Which hop it is.
     pub hop: HopId,
@@ -43,7 +43,7 @@ impl HopReport {
 }
 
 /// What a station tells of a peer.
-#[derive(Clone, Copy, Debug, PartialEq, Eq)]
+#[derive(Clone, Copy, PartialEq, Eq)]
 pub struct PeerReport {
     /// Which peer it is.
     pub peer: PeerId,
@@ -54,7 +54,7 @@ pub struct PeerReport {
 }
 
 /// What a station tells of its device.
-#[derive(Clone, Copy, Debug, PartialEq, Eq)]
+#[derive(Clone, Copy, PartialEq, Eq)]
 pub struct DeviceReport {
     /// How many commands were ever accepted.
     pub seq: u64,
@@ -65,7 +65,7 @@ pub struct DeviceReport {
 }
 
 /// What a station tells at a moment.
-#[derive(Debug, Drop)]
+#[derive(Drop)]
 pub struct Report<'a> {
     /// The moment, in microseconds since the Unix epoch.
     pub moment: u64,

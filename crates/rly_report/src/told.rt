@@ -18,7 +18,7 @@ const MAX_PEERS: usize = limits::MAX_PEERS as usize;
 const MAX_HOPS: usize = limits::MAX_HOPS as usize;
 
 /// What a station counted since its start, with a place for each peer and each hop that a plan may have.
-#[derive(Clone, Copy, Debug, PartialEq, Eq)]
+#[derive(Clone, Copy, PartialEq, Eq)]
 pub struct Counted {
     /// What it tells of each peer, in the order of their ids.
     pub peers: [PeerReport; MAX_PEERS],

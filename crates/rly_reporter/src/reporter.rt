@@ -22,7 +22,7 @@ use std::marker::Model;
 use std::sync::Wait;
 
 /// Why a reporter ended.
-#[derive(Clone, Copy, Debug, PartialEq, Eq)]
+#[derive(Clone, Copy, PartialEq, Eq)]
 pub enum ReporterEnd {
     /// No more reports are due.
     Paced,

@@ -10,7 +10,7 @@ use std::sync::atomic::{AtomicU64, Ordering};
 
 /// What the workers of a station count. Each word is written by one worker alone, and what is read of several at once may be of
 /// different moments: contracts say nothing of what another thread reads.
-#[derive(Debug, Drop)]
+#[derive(Drop)]
 pub struct Tally {
     peers: Vec<PeerTally>,
     wrong: Vec<AtomicU64>,
@@ -19,7 +19,7 @@ pub struct Tally {
 }
 
 /// What is counted of a peer's link.
-#[derive(Debug, Drop)]
+#[derive(Drop)]
 struct PeerTally {
     heard: AtomicU64,
     custody: AtomicU64,

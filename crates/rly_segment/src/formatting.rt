@@ -31,7 +31,7 @@ const SHAPE_LENGTH: usize = 22;
 const LIMITS_LENGTH: usize = 30;
 
 /// Why a device was not formatted.
-#[derive(Clone, Copy, Debug, PartialEq, Eq)]
+#[derive(Clone, Copy, PartialEq, Eq)]
 pub enum FormatFault {
     /// The memory for the first head was refused. The disk is as it was.
     OutOfMemory,

@@ -17,7 +17,7 @@ use rly_gate::{OPEN_GATE, fill};
 const GENERATION_END: usize = 9;
 
 /// The newest head, and which segments' gates read closed.
-#[derive(Clone, Copy, Debug)]
+#[derive(Clone, Copy)]
 pub struct NewestHead {
     /// The segment whose head is the newest.
     pub segment: u64,
@@ -26,7 +26,7 @@ pub struct NewestHead {
 }
 
 /// Why no head is the newest.
-#[derive(Clone, Copy, Debug, PartialEq, Eq)]
+#[derive(Clone, Copy, PartialEq, Eq)]
 pub enum NewestFault {
     /// No head is open, or several share the greatest generation: the place of the first segment, or
     /// that of the last of these heads.

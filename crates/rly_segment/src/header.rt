@@ -26,7 +26,7 @@ pub(crate) const VERSION: u16 = 2;
 const FIRST_PAYLOAD: u64 = 1_200;
 
 /// Why a device's header was not read.
-#[derive(Clone, Copy, Debug, PartialEq, Eq)]
+#[derive(Clone, Copy, PartialEq, Eq)]
 pub enum HeaderFault {
     /// It is shorter than a header, its gate is closed, or another text or version stands after the gate.
     NotADevice,

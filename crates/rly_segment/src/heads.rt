@@ -40,7 +40,7 @@ pub struct Head<C: Content> {
 }
 
 /// Why a head was not read. The disk reads as before.
-#[derive(Clone, Copy, Debug, PartialEq, Eq)]
+#[derive(Clone, Copy, PartialEq, Eq)]
 pub enum HeadFault {
     /// The memory for the head was refused.
     OutOfMemory,

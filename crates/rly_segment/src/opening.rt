@@ -17,7 +17,7 @@ use rly_machine::Machine;
 use std::alloc::Global;
 
 /// A segment that is to be opened.
-#[derive(Clone, Copy, Debug, PartialEq, Eq)]
+#[derive(Clone, Copy, PartialEq, Eq)]
 pub struct Target {
     /// Its number.
     pub segment: u64,
@@ -26,7 +26,7 @@ pub struct Target {
 }
 
 /// Why a segment was not opened.
-#[derive(Clone, Copy, Debug, PartialEq, Eq)]
+#[derive(Clone, Copy, PartialEq, Eq)]
 pub enum OpeningFault {
     /// The memory for the head was refused. The disk is as it was.
     OutOfMemory,

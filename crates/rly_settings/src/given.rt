@@ -5,7 +5,7 @@ use thiserror::Error;
 
 /// What the words of a command line ask for. Numbers are as they were given: whether they are
 /// within the limits is still to be checked.
-#[derive(Clone, Copy, Debug, PartialEq, Eq)]
+#[derive(Clone, Copy, PartialEq, Eq)]
 pub enum Settings<'a> {
     /// Commands from the standard input on a machine in memory.
     Sim {

@@ -1,7 +1,7 @@
 use rly_core::Refusal;
 
 /// Why a device was not opened. The device reads as before.
-#[derive(Clone, Copy, Debug, PartialEq, Eq)]
+#[derive(Clone, Copy, PartialEq, Eq)]
 pub enum OpenFault {
     /// A growth of memory was refused.
     OutOfMemory,

@@ -2,7 +2,7 @@ use rly_core::Geometry;
 use rly_core::limits::MAX_SEGMENTS;
 
 /// Where the journal ends on its device.
-#[derive(Clone, Copy, Debug)]
+#[derive(Clone, Copy)]
 pub struct Tail {
     /// The shape of the device.
     pub geometry: Geometry,

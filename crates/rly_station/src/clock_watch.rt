@@ -5,7 +5,7 @@ use crate::teller::Teller;
 use crate::warning::{Step, Warning};
 
 /// What two clocks showed at once, in microseconds.
-#[derive(Clone, Copy, Debug, PartialEq, Eq)]
+#[derive(Clone, Copy, PartialEq, Eq)]
 pub(crate) struct Reading {
     /// The wall clock.
     pub(crate) wall: u64,

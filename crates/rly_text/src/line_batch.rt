@@ -20,7 +20,7 @@ use std::alloc::{AllocError, Global};
 use std::io::{Read, Write};
 
 /// The lines of one round, and its answers. Its memory is kept from round to round.
-#[derive(Debug, Drop)]
+#[derive(Drop)]
 pub(crate) struct Batch {
     most: u64,
     slots: Vec<Option<Subject>>,

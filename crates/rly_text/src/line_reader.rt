@@ -17,7 +17,7 @@ const KEPT: usize = limits::MAX_LINE as usize + 1;
 
 /// Reads lines from any reader in the memory that it is made with, however long they are. Contracts
 /// see the bytes that it has read ahead, what it keeps of the last line, and how many bytes it took.
-#[derive(Debug, Drop)]
+#[derive(Drop)]
 pub struct LineReader {
     chunk: Vec<u8>,
     at: usize,

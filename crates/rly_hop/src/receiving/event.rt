@@ -2,7 +2,7 @@ use crate::message::Message;
 use rly_core::Refusal;
 
 /// What a Take was answered.
-#[derive(Clone, Copy, Debug, PartialEq, Eq)]
+#[derive(Clone, Copy, PartialEq, Eq)]
 pub enum TakeAnswer {
     /// The datagram is kept.
     Taken,
@@ -15,7 +15,7 @@ pub enum TakeAnswer {
 }
 
 /// What may come to a receiving core.
-#[derive(Clone, Copy, Debug, PartialEq, Eq)]
+#[derive(Clone, Copy, PartialEq, Eq)]
 pub enum InEvent<P> {
     /// A message arrived.
     Heard(Message<P>),
@@ -26,7 +26,7 @@ pub enum InEvent<P> {
 }
 
 /// What a receiving core may name.
-#[derive(Clone, Copy, Debug, PartialEq, Eq)]
+#[derive(Clone, Copy, PartialEq, Eq)]
 pub enum InAction<P> {
     /// Take the datagram that arrived under this number with this limit, and give the core the answer.
     Take { number: u64, limit: u64, payload: P },

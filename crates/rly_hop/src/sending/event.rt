@@ -2,7 +2,7 @@ use crate::message::Message;
 use rly_core::Refusal;
 
 /// What may come to a sending core: an event of its own, or the answer to a call that it named.
-#[derive(Clone, Copy, Debug, PartialEq, Eq)]
+#[derive(Clone, Copy, PartialEq, Eq)]
 pub enum OutEvent<P> {
     /// It is the core's turn to name a call; `is_open` says whether a contact of its hop is open.
     Turn { is_open: bool },
@@ -30,7 +30,7 @@ pub enum OutEvent<P> {
 }
 
 /// What a sending core may name.
-#[derive(Clone, Copy, Debug, PartialEq, Eq)]
+#[derive(Clone, Copy, PartialEq, Eq)]
 pub enum OutAction<P> {
     /// Ask for the window of the hop.
     AskWindow,
