@@ -1,5 +1,5 @@
 -- What a crash of a disk in memory leaves.
-use Rattle.std.proofs.Common.{◌≡◌, ◌∙◌, ℕ, List, Vec, Global, length, arith, sym, ap, subst}
+use Rattle.std.proofs.Common.{◌≡◌, ◌∙◌, ℕ, List, Vec, Global, length, arith, ap}
 use Rattle.std.specs.Vec.{with_items}
 use Rattle.std.proofs.lemmas.List.{with_items_is}
 use Rattle.rly_disk.specs.Record.{pending, before_but, IsImage, IsFilled}
@@ -21,13 +21,10 @@ module _ (events part : List Event) (bytes then : Vec ℕ Global) (items now new
       seen ∙ ap (λ (v : Vec ℕ Global). v.items) is ∙ with_items_is bytes new (omega (arith, same, len, long))
 
   pub restored : (kept : ℕ) → new ≡ before_but kept part now → items ≡ before_but kept (pending events) bytes.items
-  restored kept does =
-      new_items ∙ does ∙ ap (λ es. before_but kept es now) pending_is ∙ ap (λ (bs : List ℕ). before_but kept (pending events) bs) was
+  restored kept does = rw (new_items, does, pending_is, was)
 
   pub filled : (byte : ℕ) → IsFilled part byte now new → IsFilled (pending events) byte bytes.items items
-  filled byte does =
-      subst (λ (bs : List ℕ). IsFilled (pending events) byte bytes.items bs) (sym new_items)
-      (subst (λ es. IsFilled es byte bytes.items new) pending_is (subst (λ (bs : List ℕ). IsFilled part byte bs new) was does))
+  filled byte does = rw (new_items, ← pending_is, ← was) does
 
 module _ (disk : MemDisk) where
   but_image : (kept : ℕ) → IsImage disk.events.items disk.bytes.items (before_but kept (pending disk.events.items) disk.bytes.items)
@@ -37,8 +34,7 @@ module _ (disk : MemDisk) where
 
 -- it is an image
 pub left_image : (torn : Torn) (disk : MemDisk) (c : List ℕ) → IsLeft torn disk c → IsImage disk.events.items disk.bytes.items c
-left_image AsRead disk c left = subst (λ (d : List ℕ). IsImage disk.events.items disk.bytes.items d) (sym left) (seen_is_image disk.events.items disk.bytes.items)
-left_image AsSynced disk c left =
-    subst (λ (d : List ℕ). IsImage disk.events.items disk.bytes.items d) (before_but_none (pending disk.events.items) disk.bytes.items ∙ sym left) (but_image disk 0)
+left_image AsRead disk c left = rw left (seen_is_image disk.events.items disk.bytes.items)
+left_image AsSynced disk c left = rw (left, ← before_but_none (pending disk.events.items) disk.bytes.items) (but_image disk 0)
 left_image (Fill byte) disk c left = record { same_length = left.same_length; each = left.others }
-left_image (Split kept) disk c left = subst (λ (d : List ℕ). IsImage disk.events.items disk.bytes.items d) (sym left) (but_image disk kept)
+left_image (Split kept) disk c left = rw left (but_image disk kept)

@@ -1,7 +1,7 @@
 -- What a disk that fails at a chosen call makes of the calls of the disk in it.
 use Rattle.std.proofs.Common.{◌≡◌, ◌≤◌, ◌+◌, ◌∷◌, [], ℕ, Bool, false, List, length, arith, refl, inl, inr, ⊎_elim}
-use Rattle.std.specs.Prelude.{Result, Ok, Err, IsErr, is_ok, if◌then◌else◌}
-use Rattle.rly_disk.specs.DiskModel.{DiskState, Consistent, Counted, IsSpent, IsWritten, Later, NothingNew}
+use Rattle.std.specs.Prelude.{Result, Ok, Err, IsErr, OnOk, is_ok, if◌then◌else◌}
+use Rattle.rly_disk.specs.DiskModel.{DiskState, Consistent, Counted, IsSpent, IsWritten, Later, NothingNew, overwritten}
 use Rattle.rly_disk.specs.FaultDisk.{fault_state}
 use Rattle.rly_disk.specs.HelpersFaultDisk.{fault_consistent}
 use Rattle.rly_disk.specs.Trace.{Makes, Read, Sync, Write}
@@ -52,14 +52,15 @@ module _ {D : Type 0} (state : D → DiskState) (facts : (disk : D) → (state d
       → (¬ IsSpent (fault_state state old) → Counted (if is_ok result then 0 else 1) 0 0 (fault_state state old) (fault_state state new))
       → (IsSpent (fault_state state old) → IsErr result × (new ≡ old)) → Later (fault_state state old) (fault_state state new)
       → Makes (fault_state state) (Write place bytes ∷ []) (is_ok result) old new
-  fault_write {E} place bytes (Ok done) fits made counted spent later =
-      write_makes (fault_state state) {E = E} place bytes (Ok done) fits counted spent later (λ honest. fault_consistent state old (facts old.inner honest))
+  fault_write place bytes result fits made counted spent later =
+      write_makes (fault_state state) place bytes result fits counted spent later (λ honest. fault_consistent state old (facts old.inner honest))
       (λ honest. same_written state old new place (length bytes) (length bytes) (omega arith) (write_written state place bytes made honest (facts old.inner honest) fits))
-      (λ honest. makes_seen state made honest)
-  fault_write {E} place bytes (Err fault) fits made counted spent later =
-      write_makes (fault_state state) {E = E} place bytes (Err fault) fits counted spent later (λ honest. fault_consistent state old (facts old.inner honest))
-      (λ honest. same_written state old new place (length bytes) (length bytes) (omega arith) (write_written state place bytes made honest (facts old.inner honest) fits))
-      (λ honest. tt)
+      (seen result made)
+    where
+      seen : {E : Type 0} (result : Result (Unit {0}) E) → Makes state (Write place bytes ∷ []) (is_ok result) old.inner new.inner → (state old.inner).honest
+          → OnOk result ((state new.inner).seen ≡ overwritten place bytes (state old.inner).seen)
+      seen (Ok done) made honest = makes_seen state made honest
+      seen (Err fault) made honest = tt
 
   -- the write that was chosen, of which the first bytes were put
   pub fault_torn : (place : ℕ) (bytes put : List ℕ) (done : Bool) → place + length bytes ≤ (state old.inner).size → length put ≤ length bytes

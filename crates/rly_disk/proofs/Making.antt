@@ -1,92 +1,109 @@
 -- What follows where a row of calls was made.
-use Rattle.std.proofs.Common.{◌≡◌, ◌⊎◌, ◌≤◌, ◌<◌, ◌+◌, ◌++◌, ◌∷◌, [], ◌∙◌, ℕ, zero, suc, Bool, true, false, List, length, append_assoc, take, arith, sym, ap, subst, inl, inr, ⊎_elim, refl, length-append, length-take}
-use Rattle.std.specs.Prelude.{Result, Ok, Err, IsErr, is_ok, if◌then◌else◌}
+use Rattle.std.proofs.Common.{◌≡◌, ◌⊎◌, ◌≤◌, ◌<◌, ◌+◌, ◌++◌, ◌∷◌, [], ◌∙◌, ℕ, zero, suc, Bool, true, false, List, length, append_assoc, take, arith, sym, ap, subst, inl, inr, ⊎_elim, refl, length-take}
+use Rattle.std.specs.Prelude.{Result, Ok, Err, IsErr, is_ok}
 use Rattle.std.proofs.lemmas.Bool.{cases_lt, false≢true}
 use Rattle.std.proofs.lemmas.List.{append-nil}
 use Rattle.std.proofs.lemmas.Bool.Decides.{nat_tests}
 use Rattle.rly_disk.specs.DiskModel.{DiskState, SameOutside, LeavesOnly, IsTorn, IsWritten, NothingNew, Settled, SettlesNothing, Consistent, Later, HasFailed, overwritten}
-use Rattle.rly_disk.specs.Trace.{DeviceEvent, Read, FailedRead, Write, FailedWrite, Sync, FailedSync, Makes, IsMade, IsCut, EndsAtFailure, EndsUncounted, IsFailed, is_spent, count_of, is_failed_call, is_sync_call, seen_after, images_after, is_still, seen_at_end, images_at_end, images_within, are_quiet, are_reads, each_below, OnlyReads}
+use Rattle.rly_disk.specs.Trace.{DeviceEvent, Read, FailedRead, Write, Sync, Makes, IsMade, IsCut, EndsAtFailure, EndsUncounted, IsFailed, is_spent, count_of, is_failed_call, is_sync_call, seen_after, images_after, is_still, seen_at_end, images_at_end, images_within, are_quiet, are_reads, each_below, OnlyReads}
 use Rattle.rly_disk.proofs.Ranges.{wider}
 use Rattle.rly_disk.proofs.Overwritten.{overwritten_outside}
-use Rattle.rly_disk.proofs.Traces.{within_start, within_first, within_grows, seen_joined, count_joined, makes_front, makes_joined}
+use Rattle.rly_disk.proofs.Traces.{one_if, within_start, within_grows, seen_joined, makes_front, makes_joined}
 
 -- ---- the events of a row against its calls
 
--- the images of the moments of a row that was cut are among those of the whole row
-within_failed : (done : List DeviceEvent) (call last : DeviceEvent) (rest : List DeviceEvent) → IsFailed call last → (seen : List ℕ) (I : List ℕ → Type 0) (c : List ℕ)
-    → images_within (done ++ last ∷ []) seen I c → images_within (done ++ call ∷ rest) seen I c
-within_failed [] (Read place n) last rest failed seen I c image = inl (⊎_elim (λ now. now) (λ now. now) (subst (λ e. images_within (e ∷ []) seen I c) failed image))
-within_failed [] (Write place bytes) last rest failed seen I c image =
-    ⊎_elim (λ now. inl now) (λ torn. inr (within_start rest (overwritten place bytes seen) (IsTorn place (length bytes) I) c torn)) (subst (λ e. images_within (e ∷ []) seen I c) failed.1 image)
-within_failed [] Sync last rest failed seen I c image = inl (⊎_elim (λ now. now) (λ now. now) (subst (λ e. images_within (e ∷ []) seen I c) failed image))
-within_failed [] (FailedRead place n) last rest failed seen I c image = absurd failed
-within_failed [] (FailedWrite place bytes left) last rest failed seen I c image = absurd failed
-within_failed [] FailedSync last rest failed seen I c image = absurd failed
-within_failed (event ∷ done) call last rest failed seen I c image =
-    ⊎_elim (λ now. inl now) (λ later. inr (within_failed done call last rest failed (seen_after event seen) (images_after event seen I) c later)) image
+-- call by call: each was done, up to one that failed or wasn't counted
+pub data Row : (whole spent : Bool) → (calls events : List DeviceEvent) → Type 0 where
+  Whole : {spent : Bool} → Row true spent [] []
+  Done : {whole spent : Bool} {call : DeviceEvent} {calls events : List DeviceEvent} → Row whole spent calls events
+      → Row whole spent (call ∷ calls) (call ∷ events)
+  Failed : {spent : Bool} {call last : DeviceEvent} {rest : List DeviceEvent} → IsFailed call last → Row false spent (call ∷ rest) (last ∷ [])
+  Uncounted : {call : DeviceEvent} {rest : List DeviceEvent} → Row false true (call ∷ rest) []
 
-pub within_row : (whole spent : Bool) (calls events : List DeviceEvent) → IsMade whole spent calls events → (seen : List ℕ) (I : List ℕ → Type 0) (c : List ℕ)
-    → images_within events seen I c → images_within calls seen I c
-within_row true spent calls events made seen I c image = subst (λ es. images_within es seen I c) made image
-within_row false spent calls events made seen I c image = ⊎_elim
-    (λ (f : EndsAtFailure calls events). subst (λ es. images_within es seen I c) (sym f.calls_are)
-    (within_failed f.done f.call f.last f.rest f.failed seen I c (subst (λ es. images_within es seen I c) f.events_are image)))
-    (λ (s : (spent ≡ true) × EndsUncounted calls events). subst (λ es. images_within es seen I c) (sym s.1.calls_are) (within_first events (s.1.call ∷ s.1.rest) seen I c image))
+whole_row : (spent : Bool) (calls : List DeviceEvent) → Row true spent calls calls
+whole_row spent [] = Whole
+whole_row spent (call ∷ calls) = Done (whole_row spent calls)
+
+failed_row : (spent : Bool) (done : List DeviceEvent) (call last : DeviceEvent) (rest : List DeviceEvent) → IsFailed call last
+    → Row false spent (done ++ call ∷ rest) (done ++ last ∷ [])
+failed_row spent [] call last rest failed = Failed failed
+failed_row spent (event ∷ done) call last rest failed = Done (failed_row spent done call last rest failed)
+
+uncounted_row : (events : List DeviceEvent) (call : DeviceEvent) (rest : List DeviceEvent) → Row false true (events ++ call ∷ rest) events
+uncounted_row [] call rest = Uncounted
+uncounted_row (event ∷ events) call rest = Done (uncounted_row events call rest)
+
+row_of : (whole spent : Bool) (calls events : List DeviceEvent) → IsMade whole spent calls events → Row whole spent calls events
+row_of true spent calls events made = rw made (whole_row spent calls)
+row_of false spent calls events made = ⊎_elim
+    (λ (f : EndsAtFailure calls events). rw (f.calls_are, f.events_are) (failed_row spent f.done f.call f.last f.rest f.failed))
+    (λ (s : (spent ≡ true) × EndsUncounted calls events). rw (s.0, s.1.calls_are) (uncounted_row events s.1.call s.1.rest))
     made
+
+pub made_row : {D : Type 0} {state : D → DiskState} {a b : D} {calls : List DeviceEvent} {whole : Bool} (made : Makes state calls whole a b)
+    → Row whole (is_spent (state b)) calls made.events
+made_row {state = state} {b = b} {calls} {whole} made = row_of whole (is_spent (state b)) calls made.events made.made
+
+-- the images of the moments of a row that was cut are among those of the whole row
+within_failed : (call last : DeviceEvent) (rest : List DeviceEvent) → IsFailed call last → (seen : List ℕ) (I : List ℕ → Type 0) (c : List ℕ)
+    → images_within (last ∷ []) seen I c → images_within (call ∷ rest) seen I c
+within_failed (Read place n) last rest failed seen I c image =
+    inl (⊎_elim (λ now. now) (λ now. now) (subst (λ e. images_within (e ∷ []) seen I c) failed image))
+within_failed (Write place bytes) last rest failed seen I c image = ⊎_elim
+    (λ now. inl now)
+    (λ torn. inr (within_start rest (overwritten place bytes seen) (IsTorn place (length bytes) I) c torn))
+    (subst (λ e. images_within (e ∷ []) seen I c) failed.1 image)
+within_failed Sync last rest failed seen I c image = inl (⊎_elim (λ now. now) (λ now. now) (subst (λ e. images_within (e ∷ []) seen I c) failed image))
+within_failed call last rest failed seen I c image = absurd failed
+
+within_row : {whole spent : Bool} {calls events : List DeviceEvent} → Row whole spent calls events → (seen : List ℕ) (I : List ℕ → Type 0) (c : List ℕ)
+    → images_within events seen I c → images_within calls seen I c
+within_row Whole seen I c image = image
+within_row (Done {call = call} row) seen I c image =
+    ⊎_elim (λ now. inl now) (λ later. inr (within_row row (seen_after call seen) (images_after call seen I) c later)) image
+within_row (Failed {call = call} {last} {rest} failed) seen I c image = within_failed call last rest failed seen I c image
+within_row Uncounted seen I c image = inl image
 
 -- a call that failed is of its kind, and failed
-failed_call : (call last : DeviceEvent) → IsFailed call last → is_failed_call last ≡ true
-failed_call (Read place n) last failed = ap is_failed_call failed
-failed_call (Write place bytes) last failed = ap is_failed_call failed.1
-failed_call Sync last failed = ap is_failed_call failed
-failed_call (FailedRead place n) last failed = absurd failed
-failed_call (FailedWrite place bytes left) last failed = absurd failed
-failed_call FailedSync last failed = absurd failed
+failed_call : (call last : DeviceEvent) → IsFailed call last → (is_failed_call last ≡ true) × (is_sync_call last ≡ is_sync_call call)
+failed_call (Read place n) last failed = (ap is_failed_call failed, ap is_sync_call failed)
+failed_call (Write place bytes) last failed = (ap is_failed_call failed.1, ap is_sync_call failed.1)
+failed_call Sync last failed = (ap is_failed_call failed, ap is_sync_call failed)
+failed_call call last failed = absurd failed
 
-abbrev one_if : Bool → ℕ
-one_if b = if b then 1 else 0
-
-same_kind : (call last : DeviceEvent) → IsFailed call last → is_sync_call last ≡ is_sync_call call
-same_kind (Read place n) last failed = ap is_sync_call failed
-same_kind (Write place bytes) last failed = ap is_sync_call failed.1
-same_kind Sync last failed = ap is_sync_call failed
-same_kind (FailedRead place n) last failed = absurd failed
-same_kind (FailedWrite place bytes left) last failed = absurd failed
-same_kind FailedSync last failed = absurd failed
-
-no_more_syncs : (whole spent : Bool) (calls events : List DeviceEvent) → IsMade whole spent calls events → count_of is_sync_call events ≤ count_of is_sync_call calls
-no_more_syncs true spent calls events made = omega (arith, ap (count_of is_sync_call) made)
-no_more_syncs false spent calls events made = ⊎_elim
-    (λ (f : EndsAtFailure calls events).
-    let same = ap one_if (same_kind f.call f.last f.failed) in
-    omega (
-      arith,
-      same,
-      ap (count_of is_sync_call) f.calls_are,
-      ap (count_of is_sync_call) f.events_are,
-      count_joined is_sync_call f.done (f.call ∷ f.rest),
-      count_joined is_sync_call f.done (f.last ∷ []),
-    ))
-    (λ (s : (spent ≡ true) × EndsUncounted calls events).
-    omega (arith, ap (count_of is_sync_call) s.1.calls_are, count_joined is_sync_call events (s.1.call ∷ s.1.rest)))
-    made
+no_more_syncs : {whole spent : Bool} {calls events : List DeviceEvent} → Row whole spent calls events
+    → count_of is_sync_call events ≤ count_of is_sync_call calls
+no_more_syncs Whole = omega arith
+no_more_syncs (Done row) = omega (arith, no_more_syncs row)
+no_more_syncs (Failed {call = call} {last} failed) = omega (arith, ap one_if (failed_call call last failed).1)
+no_more_syncs Uncounted = omega arith
 
 -- no read failed where none was to be made
 abbrev pub is_read_call : DeviceEvent → Bool
 is_read_call (Read place count) = true
 is_read_call (FailedRead place count) = true
-is_read_call (Write place bytes) = false
-is_read_call (FailedWrite place bytes left) = false
-is_read_call Sync = false
-is_read_call FailedSync = false
+is_read_call call = false
 
-one_failed : (spent : Bool) (calls events : List DeviceEvent) → IsCut spent calls events → (1 ≤ count_of is_failed_call events) ⊎ (spent ≡ true)
-one_failed spent calls events cut = ⊎_elim
-    (λ (f : EndsAtFailure calls events).
-    let one = ap one_if (failed_call f.call f.last f.failed) in
-    inl (omega (arith, one, ap (count_of is_failed_call) f.events_are, count_joined is_failed_call f.done (f.last ∷ []))))
-    (λ (s : (spent ≡ true) × EndsUncounted calls events). inr s.0)
-    cut
+one_failed : {spent : Bool} {calls events : List DeviceEvent} → Row false spent calls events → (1 ≤ count_of is_failed_call events) ⊎ (spent ≡ true)
+one_failed (Done row) = ⊎_elim (λ some. inl (omega (arith, some))) (λ spent. inr spent) (one_failed row)
+one_failed (Failed {call = call} {last} failed) = inl (omega (arith, ap one_if (failed_call call last failed).0))
+one_failed Uncounted = inr refl
+
+-- one call that fails, or none
+most_one : (b : Bool) → one_if b ≤ 1
+most_one true = omega arith
+most_one false = omega arith
+
+at_most_one : {whole spent : Bool} {calls events : List DeviceEvent} → Row whole spent calls events → count_of is_failed_call calls ≡ 0
+    → count_of is_failed_call events ≤ 1
+at_most_one Whole sound = omega arith
+at_most_one (Done row) sound = omega (arith, sound, at_most_one row (omega (arith, sound)))
+at_most_one (Failed {last = last} failed) sound = omega (arith, most_one (is_failed_call last))
+at_most_one Uncounted sound = omega arith
+
+pub failures_cut : (calls events : List DeviceEvent) (spent : Bool) → count_of is_failed_call calls ≡ 0 → IsCut spent calls events
+    → count_of is_failed_call events ≤ 1
+failures_cut calls events spent sound cut = at_most_one (row_of false spent calls events cut) sound
 
 -- ---- a row of calls that was made
 
@@ -102,13 +119,13 @@ module _ {D : Type 0} (state : D → DiskState) {a b : D} where
   }
 
   pub makes_failed : {calls : List DeviceEvent} → Makes state calls false a b → HasFailed (state a) (state b)
-  makes_failed {calls} made = ⊎_elim
+  makes_failed made = ⊎_elim
       (λ (some : 1 ≤ count_of is_failed_call made.events). inl (omega (arith, some, made.leads.failures)))
       (λ spent. inr (grind (arith, nat_tests)))
-      (one_failed (is_spent (state b)) calls made.events made.made)
+      (one_failed (made_row made))
 
   pub makes_syncs : {calls : List DeviceEvent} {whole : Bool} → Makes state calls whole a b → (state b).syncs ≤ (state a).syncs + count_of is_sync_call calls
-  makes_syncs {calls} {whole} made = omega (arith, made.leads.syncs, no_more_syncs whole (is_spent (state b)) calls made.events made.made)
+  makes_syncs made = omega (arith, made.leads.syncs, no_more_syncs (made_row made))
 
   -- where an error is handed on
   pub cut_short : {A E : Type 0} {calls : List DeviceEvent} (result : Result A E) → IsErr result → Makes state calls false a b → Makes state calls (is_ok result) a b
@@ -122,10 +139,10 @@ module _ {D : Type 0} (state : D → DiskState) {a b : D} where
   -- what a crash at any moment leaves, whether all were made or not
   pub makes_leaves : {calls : List DeviceEvent} {whole : Bool} (P : List ℕ → Type 0) → Makes state calls whole a b → Settled (state a)
       → ((c : List ℕ) → images_within calls (state a).seen (λ d. d ≡ (state a).seen) c → P c) → LeavesOnly (state a) (state b) P
-  makes_leaves {calls} {whole} P made settled here =
+  makes_leaves P made settled here =
       let follows = made.leads.follows settled.honest in
       let kept : (c : List ℕ) → images_within made.events (state a).seen (state a).images c → P c =
-      λ c image. here c (within_row whole (is_spent (state b)) calls made.events made.made (state a).seen (λ d. d ≡ (state a).seen) c
+      λ c image. here c (within_row (made_row made) (state a).seen (λ d. d ≡ (state a).seen) c
       (within_grows made.events (state a).seen (state a).images (λ d. d ≡ (state a).seen) settled.only c image)) in
       record {
         later = follows.later;
@@ -175,37 +192,16 @@ quiet_front (Read place n ∷ done) rest quiet = quiet_front done rest quiet
 quiet_front (Sync ∷ done) rest quiet = quiet_front done rest quiet
 quiet_front (event ∷ done) rest quiet = absurd (false≢true quiet)
 
-quiet_call : (done rest : List DeviceEvent) (call : DeviceEvent) → are_quiet (done ++ call ∷ rest) ≡ true → are_quiet (call ∷ []) ≡ true
-quiet_call [] rest (Read place n) quiet = refl
-quiet_call [] rest Sync quiet = refl
-quiet_call [] rest call quiet = absurd (false≢true quiet)
-quiet_call (Read place n ∷ done) rest call quiet = quiet_call done rest call quiet
-quiet_call (Sync ∷ done) rest call quiet = quiet_call done rest call quiet
-quiet_call (event ∷ done) rest call quiet = absurd (false≢true quiet)
-
 -- they leave what is read
-quiet_seen : (calls : List DeviceEvent) → are_quiet calls ≡ true → (seen : List ℕ) → seen_at_end calls seen ≡ seen
-quiet_seen [] quiet seen = refl
-quiet_seen (Read place n ∷ calls) quiet seen = quiet_seen calls quiet seen
-quiet_seen (Sync ∷ calls) quiet seen = quiet_seen calls quiet seen
-quiet_seen (event ∷ calls) quiet seen = absurd (false≢true quiet)
-
-quiet_last : (call last : DeviceEvent) → IsFailed call last → are_quiet (call ∷ []) ≡ true → (seen : List ℕ) → seen_after last seen ≡ seen
-quiet_last (Read place n) last failed quiet seen = ap (λ e. seen_after e seen) failed
-quiet_last Sync last failed quiet seen = ap (λ e. seen_after e seen) failed
-quiet_last call last failed quiet seen = absurd (false≢true quiet)
-
-quiet_row : (whole spent : Bool) (calls events : List DeviceEvent) → IsMade whole spent calls events → are_quiet calls ≡ true → (seen : List ℕ) → seen_at_end events seen ≡ seen
-quiet_row true spent calls events made quiet seen = ap (λ es. seen_at_end es seen) made ∙ quiet_seen calls quiet seen
-quiet_row false spent calls events made quiet seen = ⊎_elim
-    (λ (f : EndsAtFailure calls events).
-    let whole : are_quiet (f.done ++ f.call ∷ f.rest) ≡ true = ap are_quiet (sym f.calls_are) ∙ quiet in
-    ap (λ es. seen_at_end es seen) f.events_are ∙ seen_joined f.done (f.last ∷ []) seen
-    ∙ quiet_last f.call f.last f.failed (quiet_call f.done f.rest f.call whole) (seen_at_end f.done seen)
-    ∙ quiet_seen f.done (quiet_front f.done (f.call ∷ f.rest) whole) seen)
-    (λ (s : (spent ≡ true) × EndsUncounted calls events).
-    quiet_seen events (quiet_front events (s.1.call ∷ s.1.rest) (ap are_quiet (sym s.1.calls_are) ∙ quiet)) seen)
-    made
+quiet_seen : {whole spent : Bool} {calls events : List DeviceEvent} → Row whole spent calls events → are_quiet calls ≡ true → (seen : List ℕ)
+    → seen_at_end events seen ≡ seen
+quiet_seen Whole quiet seen = refl
+quiet_seen (Done {call = Read place n} row) quiet seen = quiet_seen row quiet seen
+quiet_seen (Done {call = Sync} row) quiet seen = quiet_seen row quiet seen
+quiet_seen (Failed {call = Read place n} failed) quiet seen = ap (λ e. seen_after e seen) failed
+quiet_seen (Failed {call = Sync} failed) quiet seen = ap (λ e. seen_after e seen) failed
+quiet_seen Uncounted quiet seen = refl
+quiet_seen row quiet seen = absurd (false≢true quiet)
 
 -- they leave no new image
 quiet_within : (calls : List DeviceEvent) → are_quiet calls ≡ true → (seen : List ℕ) (I : List ℕ → Type 0) → I seen → (c : List ℕ) → images_within calls seen I c → I c
@@ -220,32 +216,12 @@ end_within [] seen I c image = image
 end_within (event ∷ events) seen I c image = inr (end_within events (seen_after event seen) (images_after event seen I) c image)
 
 -- reads settle nothing
-reads_parts : (done rest : List DeviceEvent) → are_reads (done ++ rest) ≡ true → (is_still done ≡ true) × (are_reads rest ≡ true)
-reads_parts [] rest reads = (refl, reads)
-reads_parts (Read place n ∷ done) rest reads = reads_parts done rest reads
-reads_parts (event ∷ done) rest reads = absurd (false≢true reads)
-
-still_then : (done : List DeviceEvent) (call last : DeviceEvent) (rest : List DeviceEvent) → IsFailed call last → are_reads (call ∷ rest) ≡ true → is_still done ≡ true → is_still (done ++ last ∷ []) ≡ true
-still_then [] (Read place n) last rest failed reads still = ap (λ e. is_still (e ∷ [])) failed
-still_then [] call last rest failed reads still = absurd (false≢true reads)
-still_then (Read place n ∷ done) call last rest failed reads still = still_then done call last rest failed reads still
-still_then (FailedRead place n ∷ done) call last rest failed reads still = still_then done call last rest failed reads still
-still_then (FailedSync ∷ done) call last rest failed reads still = still_then done call last rest failed reads still
-still_then (event ∷ done) call last rest failed reads still = absurd (false≢true still)
-
-still_whole : (calls : List DeviceEvent) → are_reads calls ≡ true → is_still calls ≡ true
-still_whole [] reads = refl
-still_whole (Read place n ∷ calls) reads = still_whole calls reads
-still_whole (event ∷ calls) reads = absurd (false≢true reads)
-
-still_row : (whole spent : Bool) (calls events : List DeviceEvent) → IsMade whole spent calls events → are_reads calls ≡ true → is_still events ≡ true
-still_row true spent calls events made reads = ap is_still made ∙ still_whole calls reads
-still_row false spent calls events made reads = ⊎_elim
-    (λ (f : EndsAtFailure calls events).
-    let parts = reads_parts f.done (f.call ∷ f.rest) (ap are_reads (sym f.calls_are) ∙ reads) in
-    ap is_still f.events_are ∙ still_then f.done f.call f.last f.rest f.failed parts.1 parts.0)
-    (λ (s : (spent ≡ true) × EndsUncounted calls events). (reads_parts events (s.1.call ∷ s.1.rest) (ap are_reads (sym s.1.calls_are) ∙ reads)).0)
-    made
+reads_still : {whole spent : Bool} {calls events : List DeviceEvent} → Row whole spent calls events → are_reads calls ≡ true → is_still events ≡ true
+reads_still Whole reads = refl
+reads_still (Done {call = Read place n} row) reads = reads_still row reads
+reads_still (Failed {call = Read place n} failed) reads = ap (λ e. is_still (e ∷ [])) failed
+reads_still Uncounted reads = refl
+reads_still row reads = absurd (false≢true reads)
 
 pub reads_sound : (calls : List DeviceEvent) → are_reads calls ≡ true → count_of is_failed_call calls ≡ 0
 reads_sound [] reads = refl
@@ -262,32 +238,16 @@ reads_quiet [] reads = refl
 reads_quiet (Read place n ∷ calls) reads = reads_quiet calls reads
 reads_quiet (event ∷ calls) reads = absurd (false≢true reads)
 
--- a row of one call that was cut
-abbrev head_or : DeviceEvent → List DeviceEvent → DeviceEvent
-head_or event [] = event
-head_or event (first ∷ events) = first
-
-pub failed_alone : (call : DeviceEvent) (events : List DeviceEvent) → EndsAtFailure (call ∷ []) events → (last : DeviceEvent) × IsFailed call last × (events ≡ last ∷ [])
-failed_alone call events f = one f.done f.calls_are f.events_are
-  where
-    one : (done : List DeviceEvent) → call ∷ [] ≡ done ++ f.call ∷ f.rest → events ≡ done ++ f.last ∷ [] → (last : DeviceEvent) × IsFailed call last × (events ≡ last ∷ [])
-    one [] calls_are events_are = (f.last, subst (λ e. IsFailed e f.last) (sym (ap (head_or call) calls_are)) f.failed, events_are)
-    one (event ∷ done) calls_are events_are = absurd (omega (arith, ap length calls_are, length-append done (f.call ∷ f.rest)))
-
-pub uncounted_alone : (call : DeviceEvent) (events : List DeviceEvent) → EndsUncounted (call ∷ []) events → events ≡ []
-uncounted_alone call [] s = refl
-uncounted_alone call (event ∷ events) s = absurd (omega (arith, ap length s.calls_are, length-append events (s.call ∷ s.rest)))
-
 module _ {D : Type 0} (state : D → DiskState) {a b : D} where
   pub quiet_new : {calls : List DeviceEvent} {whole : Bool} → Makes state calls whole a b → are_quiet calls ≡ true → (state a).honest → Consistent (state a) → NothingNew (state a) (state b)
-  quiet_new {calls} {whole} made quiet honest facts =
+  quiet_new {calls} made quiet honest facts =
       let follows = made.leads.follows honest in
       let kept : (c : List ℕ) → images_within made.events (state a).seen (state a).images c → (state a).images c =
       λ c image. quiet_within calls quiet (state a).seen (state a).images facts.seen_is_image c
-      (within_row whole (is_spent (state b)) calls made.events made.made (state a).seen (state a).images c image) in
+      (within_row (made_row made) (state a).seen (state a).images c image) in
       record {
         honest = made.leads.honest.1 honest;
-        seen = follows.seen ∙ quiet_row whole (is_spent (state b)) calls made.events made.made quiet (state a).seen;
+        seen = follows.seen ∙ quiet_seen (made_row made) quiet (state a).seen;
         images = λ c image. kept c (end_within made.events (state a).seen (state a).images c (follows.images c image));
         later = follows.later;
         since = λ t c le left. ⊎_elim (λ earlier. earlier) (λ now. facts.counts_now t c le (kept c now)) (follows.since t c le left);
@@ -300,50 +260,47 @@ module _ {D : Type 0} (state : D → DiskState) {a b : D} where
       record { honest = new.honest; consistent = facts new.honest; only = λ c image. settled.only c (new.images c image) ∙ sym new.seen }
 
   pub reads_settle_nothing : {calls : List DeviceEvent} {whole : Bool} → Makes state calls whole a b → are_reads calls ≡ true → (state a).honest → SettlesNothing (state a) (state b)
-  reads_settle_nothing {calls} {whole} made reads honest =
-      (made.leads.follows honest).still (still_row whole (is_spent (state b)) calls made.events made.made reads)
+  reads_settle_nothing made reads honest = (made.leads.follows honest).still (reads_still (made_row made) reads)
 
   -- a sync that failed settles nothing either
   pub still_sync : Makes state (Sync ∷ []) false a b → (state a).honest → SettlesNothing (state a) (state b)
-  still_sync made honest = (made.leads.follows honest).still (⊎_elim
-      (λ (f : EndsAtFailure (Sync ∷ []) made.events).
-      let alone = failed_alone Sync made.events f in ap is_still (alone.2 ∙ ap (λ e. e ∷ []) alone.1))
-      (λ (s : (is_spent (state b) ≡ true) × EndsUncounted (Sync ∷ []) made.events). ap is_still (uncounted_alone Sync made.events s.1))
-      made.made)
+  still_sync made honest = (made.leads.follows honest).still (still (made_row made))
+    where
+      still : {spent : Bool} {events : List DeviceEvent} → Row false spent (Sync ∷ []) events → is_still events ≡ true
+      still (Failed failed) = ap (λ e. is_still (e ∷ [])) failed
+      still Uncounted = refl
+      still (Done row) = elim row [ ]
 
 -- ---- one write
 
-write_outside : (whole spent : Bool) (place : ℕ) (bytes seen : List ℕ) (events : List DeviceEvent) → place + length bytes ≤ length seen → IsMade whole spent (Write place bytes ∷ []) events
+write_outside : {whole spent : Bool} {place : ℕ} {bytes seen : List ℕ} {events : List DeviceEvent} → Row whole spent (Write place bytes ∷ []) events
+    → place + length bytes ≤ length seen
     → SameOutside place (length bytes) seen (seen_at_end events seen)
-write_outside true spent place bytes seen events room made = subst (λ es. SameOutside place (length bytes) seen (seen_at_end es seen)) (sym made) (overwritten_outside place bytes seen room)
-write_outside false spent place bytes seen events room made = ⊎_elim
-    (λ (f : EndsAtFailure (Write place bytes ∷ []) events).
-    let alone = failed_alone (Write place bytes) events f in
-    let left : List ℕ = take (length bytes) alone.1.0 in
-    let short : place + length left ≤ place + length bytes = omega (arith, length-take (length bytes) alone.1.0) in
-    subst (λ es. SameOutside place (length bytes) seen (seen_at_end es seen)) (sym (alone.2 ∙ ap (λ e. e ∷ []) alone.1.1))
-    (wider place (length bytes) place (length left) (omega arith) short (overwritten_outside place left seen (omega (arith, short, room)))))
-    (λ (s : (spent ≡ true) × EndsUncounted (Write place bytes ∷ []) events).
-    subst (λ es. SameOutside place (length bytes) seen (seen_at_end es seen)) (sym (uncounted_alone (Write place bytes) events s.1)) (record { same_length = refl; each = λ i out. refl }))
-    made
+write_outside {place = place} {bytes} {seen} (Done Whole) room = overwritten_outside place bytes seen room
+write_outside {place = place} {bytes} {seen} (Failed failed) room =
+    let left : List ℕ = take (length bytes) failed.0 in
+    let short : place + length left ≤ place + length bytes = omega (arith, length-take (length bytes) failed.0) in
+    subst (λ e. SameOutside place (length bytes) seen (seen_after e seen)) (sym failed.1)
+    (wider place (length bytes) place (length left) (omega arith) short (overwritten_outside place left seen (omega (arith, short, room))))
+write_outside Uncounted room = record { same_length = refl; each = λ i out. refl }
 
 module _ {D : Type 0} (state : D → DiskState) {a b : D} where
   -- a write that may have failed, of which all bytes outside its range are as they were
   pub write_written : {whole : Bool} (place : ℕ) (bytes : List ℕ) → Makes state (Write place bytes ∷ []) whole a b → (state a).honest → Consistent (state a)
       → place + length bytes ≤ (state a).size → IsWritten place (length bytes) (state a) (state b)
-  write_written {whole} place bytes made honest facts fits =
+  write_written place bytes made honest facts fits =
       let follows = made.leads.follows honest in
       let room : place + length bytes ≤ length (state a).seen = omega (arith, facts.seen_size, fits) in
+      let left = within_row (made_row made) (state a).seen (state a).images in
       record {
         honest = made.leads.honest.1 honest;
-        outside = subst (SameOutside place (length bytes) (state a).seen) (sym follows.seen) (write_outside whole (is_spent (state b)) place bytes (state a).seen made.events room made.made);
+        outside = subst (SameOutside place (length bytes) (state a).seen) (sym follows.seen) (write_outside (made_row made) room);
         images = λ c image. ⊎_elim (λ before. (c, before, record { same_length = refl; each = λ i out. refl })) (λ torn. torn)
-            (within_row whole (is_spent (state b)) (Write place bytes ∷ []) made.events made.made (state a).seen (state a).images c (end_within made.events (state a).seen (state a).images c (follows.images c image)));
+            (left c (end_within made.events (state a).seen (state a).images c (follows.images c image)));
         later = follows.later;
-        since = λ t c le left. ⊎_elim (λ earlier. inl earlier)
-            (λ now. ⊎_elim (λ before. inl (facts.counts_now t c le before)) (λ torn. inr torn)
-            (within_row whole (is_spent (state b)) (Write place bytes ∷ []) made.events made.made (state a).seen (state a).images c now))
-            (follows.since t c le left);
+        since = λ t c le earlier. ⊎_elim (λ earlier. inl earlier)
+            (λ now. ⊎_elim (λ before. inl (facts.counts_now t c le before)) (λ torn. inr torn) (left c now))
+            (follows.since t c le earlier);
         keeps = follows.keeps;
       }
 
@@ -355,12 +312,6 @@ module _ {D : Type 0} (state : D → DiskState) where
 
   pub reads_new : {a b : D} {whole : Bool} → OnlyReads state whole a b → (state a).honest → Consistent (state a) → NothingNew (state a) (state b)
   reads_new only honest facts = quiet_new state only.makes (reads_quiet only.calls only.reads) honest facts
-
-  pub reads_later : {a b : D} {whole : Bool} → OnlyReads state whole a b → Later (state a) (state b)
-  reads_later only = makes_later state only.makes
-
-  pub reads_settled : {a b : D} {whole : Bool} → OnlyReads state whole a b → Settled (state a) → ((state b).honest → Consistent (state b)) → Settled (state b)
-  reads_settled only settled facts = quiet_settled state only.makes (reads_quiet only.calls only.reads) settled facts
 
 -- ---- the calls for each number below another
 
@@ -383,10 +334,11 @@ module _ {D : Type 0} (state : D → DiskState) (calls : ℕ → List DeviceEven
   each_next {e} {whole} k first second =
       subst (λ n. Makes state (each_below calls n) whole a e) (let one : suc k ≡ k + 1 = omega arith in one) (makes_joined state (each_below calls k) (calls k) whole first second)
 
-  pub each_cut : (k n : ℕ) → k ≤ n → Makes state (each_below calls k) false a b → Makes state (each_below calls n) false a b
-  each_cut k n le made =
-      let front = each_front calls k n le in
-      subst (λ l. Makes state l false a b) (sym front.1) (makes_front state (each_below calls k) front.0 made)
+  pub each_failed : {e : D} (k n : ℕ) → k < n → Makes state (each_below calls k) true a b → Makes state (calls k) false b e
+      → Makes state (each_below calls n) false a e
+  each_failed k n below first second =
+      let front = each_front calls (k + 1) n (omega (arith, below)) in
+      rw front.1 (makes_front state (each_below calls (k + 1)) front.0 (each_next k first second))
 
 -- ---- what a crash leaves of two rows, the first of which leaves nothing pending
 

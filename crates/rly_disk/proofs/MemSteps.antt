@@ -1,5 +1,5 @@
 -- What the calls of a disk in memory make of its fields.
-use Rattle.std.proofs.Common.{◌≡◌, ◌≤◌, ◌+◌, ◌++◌, ◌∷◌, [], ◌∙◌, ℕ, true, List, Vec, Global, length, slice_range, arith, sym, ap, subst, refl, le-leb}
+use Rattle.std.proofs.Common.{◌≡◌, ◌≤◌, ◌+◌, ◌++◌, ◌∷◌, [], ◌∙◌, ℕ, true, List, Vec, Global, length, slice_range, arith, sym, ap, refl, le-leb}
 use Rattle.std.proofs.lemmas.List.{length_push}
 use Rattle.std.specs.List.{list_all}
 use Rattle.rly_disk.specs.DiskModel.{overwritten, IsTorn, IsWritten, NothingNew, Settled}
@@ -19,44 +19,35 @@ module _ (events then_events : List Event) (place : ℕ) (new old then_bytes : L
     (made : then_bytes ≡ overwritten place new old) where
   pub write_within : list_all (is_event_within (length old)) events ≡ true → list_all (is_event_within (length then_bytes)) then_events ≡ true
   write_within all =
-      let replaced_len = long events place new old recorded.0 fits recorded.1 in
-      let same_length : length then_bytes ≡ length old = ap length made ∙ length-overwritten place new old fits in
-      ap (λ es. list_all (is_event_within (length then_bytes)) es) recorded.2
-      ∙ ap (λ n. list_all (is_event_within n) (events ++ Written place recorded.0 ∷ [])) same_length
-      ∙ within-push (length old) events (Written place recorded.0) all (le-leb _ _ (omega (arith, replaced_len)))
+      rw (recorded.2, made, length-overwritten place new old fits)
+      (within-push (length old) events (Written place recorded.0) all (le-leb _ _ (omega (arith, long events place new old recorded.0 fits recorded.1))))
 
   pub write_synced : synced_events then_events ≡ synced_events events
   write_synced = ap synced_events recorded.2 ∙ synced_events-write events (Written place recorded.0) refl
 
   pub write_leaves : (now then : Counts) → IsWritten place (length new) (recorded_state events old now) (recorded_state then_events then_bytes then)
-  write_leaves now then =
-      subst (λ es. IsWritten place (length new) (recorded_state events old now) (recorded_state es then_bytes then)) (sym recorded.2)
-      (subst (λ (bytes : List ℕ). IsWritten place (length new) (recorded_state events old now) (recorded_state (events ++ Written place recorded.0 ∷ []) bytes then)) (sym made)
-      (written events place new old recorded.0 fits recorded.1 now then))
+  write_leaves now then = rw (recorded.2, made) (written events place new old recorded.0 fits recorded.1 now then)
 
   pub write_exact : (c : List ℕ) → IsTorn place (length new) (IsImage events old) c → IsImage then_events then_bytes c
-  write_exact c torn =
-      subst (λ es. IsImage es then_bytes c) (sym recorded.2)
-      (subst (λ (bytes : List ℕ). IsImage (events ++ Written place recorded.0 ∷ []) bytes c) (sym made) (exact events place new old recorded.0 fits recorded.1 c torn))
+  write_exact c torn = rw (recorded.2, made) (exact events place new old recorded.0 fits recorded.1 c torn)
 
   pub write_as_synced : before (pending then_events) then_bytes ≡ before (pending events) old
   write_as_synced =
-      ap (λ es. before (pending es) then_bytes) recorded.2
-      ∙ ap (λ (bytes : List ℕ). before (pending (events ++ Written place recorded.0 ∷ [])) bytes) made
-      ∙ ap (λ es. before es (overwritten place new old)) (pending-write events (Written place recorded.0) refl)
+      rw (recorded.2, made)
+      (ap (λ es. before es (overwritten place new old)) (pending-write events (Written place recorded.0) refl)
       ∙ before-append (pending events) (Written place recorded.0 ∷ []) (overwritten place new old)
-      ∙ ap (λ (bytes : List ℕ). before (pending events) bytes) (undone events place new old recorded.0 fits recorded.1)
+      ∙ ap (λ (bytes : List ℕ). before (pending events) bytes) (undone events place new old recorded.0 fits recorded.1))
 
 -- a sync that was recorded
 module _ (events then_events : List Event) (bytes : List ℕ) (recorded : then_events ≡ events ++ Synced ∷ []) where
   pub sync_within : list_all (is_event_within (length bytes)) events ≡ true → list_all (is_event_within (length bytes)) then_events ≡ true
-  sync_within all = ap (λ es. list_all (is_event_within (length bytes)) es) recorded ∙ within-push (length bytes) events Synced all refl
+  sync_within all = rw recorded (within-push (length bytes) events Synced all refl)
 
   pub sync_synced : length then_events ≡ synced_events then_events
   sync_synced = ap length recorded ∙ length_push events Synced ∙ sym (ap synced_events recorded ∙ synced_events-sync events ∙ omega arith)
 
   pub sync_settled : (now : Counts) → Settled (recorded_state then_events bytes now)
-  sync_settled now = subst (λ es. Settled (recorded_state es bytes now)) (sym recorded) (settled events bytes now)
+  sync_settled now = rw recorded (settled events bytes now)
 
   pub sync_leaves : (now then : Counts) → NothingNew (recorded_state events bytes now) (recorded_state then_events bytes then)
-  sync_leaves now then = subst (λ es. NothingNew (recorded_state events bytes now) (recorded_state es bytes then)) (sym recorded) (synced events bytes now then)
+  sync_leaves now then = rw recorded (synced events bytes now then)

@@ -1,8 +1,8 @@
 -- A list with bytes written over it.
-use Rattle.std.proofs.Common.{◌≡◌, ◌≤◌, ◌<◌, ◌+◌, ◌-◌, ◌∙◌, ℕ, List, length, get_or, slice_range, arith, ⊎_elim, length-append, length-take, length-drop}
-use Rattle.std.proofs.lemmas.List.{ext_get_or, places}
-use Rattle.std.proofs.lemmas.Bool.{cases_lt}
+use Rattle.std.proofs.Common.{◌≡◌, ◌≤◌, ◌<◌, ◌+◌, ◌-◌, ◌∙◌, ℕ, List, length, get_or, slice_range, arith, sym, ⊎_elim, length-append, length-take, length-drop}
+use Rattle.std.proofs.lemmas.List.{places}
 use Rattle.rly_disk.specs.DiskModel.{SameOutside, overwritten}
+use Rattle.rly_disk.proofs.Ranges.{same_range, wider}
 
 module _ (place : ℕ) (bytes old : List ℕ) (fits : place + length bytes ≤ length old) where
   pub length-overwritten : length (overwritten place bytes old) ≡ length old
@@ -26,26 +26,12 @@ module _ (place : ℕ) (bytes old : List ℕ) (fits : place + length bytes ≤ l
 -- what was written over, written back
 pub overwritten_back : (place : ℕ) (bytes old : List ℕ) → place + length bytes ≤ length old → overwritten place (slice_range old place (place + length bytes)) (overwritten place bytes old) ≡ old
 overwritten_back place bytes old fits =
-    ext_get_or 0 _ _ (length-overwritten place replaced new fits_back ∙ length-overwritten place bytes old fits)
-    (λ i h. ⊎_elim
-    (λ (low : i < place). overwritten_before place replaced new fits_back i low ∙ overwritten_before place bytes old fits i low)
-    (λ (high : place ≤ i). ⊎_elim
-    (λ (inside : i < place + length bytes). overwritten_in place replaced new fits_back i high (omega (arith, long)) ∙ at i high inside)
-    (λ (behind : place + length bytes ≤ i). overwritten_behind place replaced new fits_back i (omega (arith, long)) ∙ overwritten_behind place bytes old fits i behind)
-    (cases_lt i (place + length bytes)))
-    (cases_lt i place))
-  where
-    replaced : List ℕ
-    replaced = slice_range old place (place + length bytes)
-
-    new : List ℕ
-    new = overwritten place bytes old
-
-    long : length (slice_range old place (place + length bytes)) ≡ length bytes
-    long = simp (length-take, length-drop) (omega arith)
-
-    fits_back : place + length (slice_range old place (place + length bytes)) ≤ length (overwritten place bytes old)
-    fits_back = omega (arith, long, length-overwritten place bytes old fits)
-
-    at : (i : ℕ) → place ≤ i → i < place + length bytes → get_or (slice_range old place (place + length bytes)) (i - place) 0 ≡ get_or old i 0
-    at i low high = grind (arith, places)
+    let new : List ℕ = overwritten place bytes old in
+    let replaced : List ℕ = slice_range old place (place + length bytes) in
+    let long : length replaced ≡ length bytes = simp (length-take, length-drop) (omega arith) in
+    let same = overwritten_outside place bytes old fits in
+    let back : place + length replaced ≤ length new = omega (arith, long, same.same_length) in
+    same_range place (length bytes)
+    (wider place (length bytes) place (length replaced) (omega arith) (omega (arith, long)) (overwritten_outside place replaced new back))
+    (record { same_length = sym same.same_length; each = λ i out. sym (same.each i out) })
+    (λ i low high. overwritten_in place replaced new back i low (omega (arith, long)) ∙ grind (arith, places))

@@ -1,5 +1,6 @@
 -- What stays outside a range, and what a write leaves inside it.
-use Rattle.std.proofs.Common.{◌≡◌, ◌⊎◌, ◌≤◌, ◌<◌, ◌+◌, ◌++◌, ◌∙◌, ℕ, List, length, take, drop, arith, sym, ap, refl, inl, inr, ⊎_elim, length-take, length-drop, append_assoc}
+use Rattle.std.proofs.Common.{◌≡◌, ◌⊎◌, ◌≤◌, ◌<◌, ◌+◌, ◌++◌, ◌∙◌, ℕ, List, length, get_or, take, drop, arith, sym, ap, refl, inl, inr, ⊎_elim, length-take, length-drop, append_assoc}
+use Rattle.std.proofs.lemmas.Bool.{cases_lt}
 use Rattle.std.proofs.lemmas.List.{ext_get_or, get_or-take, get_or-drop, drop_at, take_at}
 use Rattle.rly_disk.specs.DiskModel.{SameOutside, overwritten}
 
@@ -12,6 +13,16 @@ wider from m place n begins ends same = record {
   same_length = same.same_length;
   each = λ i out. same.each i (⊎_elim (λ low. inl (omega (arith, begins, low))) (λ high. inr (omega (arith, ends, high))) out);
 }
+
+-- two lists are one that are the same in a range, and outside it as a third
+pub same_range : (place n : ℕ) {old a b : List ℕ} → SameOutside place n old a → SameOutside place n old b
+    → ((i : ℕ) → place ≤ i → i < place + n → get_or a i 0 ≡ get_or b i 0) → a ≡ b
+same_range place n {a = a} {b} first second inside =
+    ext_get_or 0 a b (first.same_length ∙ sym second.same_length)
+    (λ i h. ⊎_elim
+    (λ (low : i < place). first.each i (inl low) ∙ sym (second.each i (inl low)))
+    (λ (high : place ≤ i). ⊎_elim (inside i high) (λ past. first.each i (inr past) ∙ sym (second.each i (inr past))) (cases_lt i (place + n)))
+    (cases_lt i place))
 
 module _ {old new : List ℕ} (place n : ℕ) (same : SameOutside place n old new) where
   -- the bytes before the range

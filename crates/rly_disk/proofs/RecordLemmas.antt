@@ -91,15 +91,9 @@ before_but-outside kept (Written place replaced ∷ events) bytes within =
 
 -- the rest of the record from the synced events on
 pub pending_part : (events part : List Event) (synced : ℕ) → part ≡ events → synced ≡ synced_events events → take (length part - synced) (drop synced part) ≡ pending events
-pending_part events part synced same is =
-    ap (λ es. take (length es - synced) (drop synced es)) same
-    ∙ ap (λ n. take (length events - n) (drop n events)) is
-    ∙ take_rest events (synced_events events)
+pending_part events part synced same is = rw (same, is) (take_rest events (synced_events events))
 
 -- it lies within what all lies within
 pub part-within : (events part : List Event) (synced : ℕ) (bytes now : List ℕ) → part ≡ events → synced ≡ synced_events events → now ≡ bytes
     → list_all (is_event_within (length bytes)) events ≡ true → list_all (is_event_within (length now)) (take (length part - synced) (drop synced part)) ≡ true
-part-within events part synced bytes now same is kept all =
-    ap (λ (bs : List ℕ). list_all (is_event_within (length bs)) (take (length part - synced) (drop synced part))) kept
-    ∙ ap (λ es. list_all (is_event_within (length bytes)) es) (pending_part events part synced same is)
-    ∙ pending-within (length bytes) events all
+part-within events part synced bytes now same is kept all = rw (kept, pending_part events part synced same is) (pending-within (length bytes) events all)

@@ -1,5 +1,5 @@
 -- What one event more makes of the images that a record tells of.
-use Rattle.std.proofs.Common.{◌≡◌, ◌⊎◌, ◌≤◌, ◌<◌, ◌+◌, ◌-◌, ◌++◌, ◌∷◌, [], ◌∙◌, ℕ, false, List, Vec, Global, length, get_or, take, drop, slice_range, arith, sym, ap, subst, inl, inr, ⊎_elim, refl, length-take, length-drop}
+use Rattle.std.proofs.Common.{◌≡◌, ◌⊎◌, ◌↔◌, ◌≤◌, ◌<◌, ◌+◌, ◌-◌, ◌++◌, ◌∷◌, [], ◌∙◌, ℕ, false, List, Vec, Global, length, get_or, take, drop, slice_range, arith, sym, ap, subst, inl, inr, ⊎_elim, refl, length-take, length-drop}
 use Rattle.std.specs.Prelude.{◌||◌}
 use Rattle.std.proofs.lemmas.List.{ext_get_or, take-append-le, drop-append-le, length_push, places}
 use Rattle.std.proofs.lemmas.List.Folds.{list_any-append}
@@ -28,11 +28,10 @@ module _ (events : List Event) (event : Event) (old new : List ℕ) (undone : be
       ∙ ap (λ bytes. before (drop k events) bytes) undone
 
   earlier : (c : List ℕ) → IsImage (take k (events ++ event ∷ [])) (before (drop k (events ++ event ∷ [])) new) c → IsImage (take k events) (before (drop k events) old) c
-  earlier c image = subst (λ es. IsImage es (before (drop k events) old) c) same_front (subst (λ bytes. IsImage (take k (events ++ event ∷ [])) bytes c) same_bytes image)
+  earlier c image = rw (same_front, same_bytes) at image
 
   as_earlier : (c : List ℕ) → IsImage (take k events) (before (drop k events) old) c → IsImage (take k (events ++ event ∷ [])) (before (drop k (events ++ event ∷ [])) new) c
-  as_earlier c image =
-      subst (λ es. IsImage es (before (drop k (events ++ event ∷ [])) new) c) (sym same_front) (subst (λ bytes. IsImage (take k events) bytes c) (sym same_bytes) image)
+  as_earlier c image = rw (same_front, same_bytes) image
 
 module _ (events : List Event) (event : Event) (old new : List ℕ) (undone : before (event ∷ []) new ≡ old) (t : ℕ) (c : List ℕ) where
   -- an image of a moment since t is one of before the event, or of this moment
@@ -54,22 +53,23 @@ module _ (events : List Event) (place : ℕ) (new old : List ℕ) (replaced : Ve
   pub undone : before (Written place replaced ∷ []) (overwritten place new old) ≡ old
   undone = ap (λ (bytes : List ℕ). overwritten place bytes (overwritten place new old)) kept ∙ overwritten_back place new old fits
 
-  covered_now : (i : ℕ) → is_covered (pending (events ++ Written place replaced ∷ [])) i ≡ (is_covered (pending events) i || is_covered (Written place replaced ∷ []) i)
-  covered_now i =
-      ap (λ es. is_covered es i) (pending-write events (Written place replaced) refl)
-      ∙ list_any-append (λ event. covers event i) (pending events) (Written place replaced ∷ [])
-
   not_in_range : (i : ℕ) → (i < place) ⊎ (place + length new ≤ i) → is_covered (Written place replaced ∷ []) i ≡ false
   not_in_range i out = grind (arith, nat_tests, long)
 
   out_of_range : (i : ℕ) → is_covered (Written place replaced ∷ []) i ≡ false → (i < place) ⊎ (place + length new ≤ i)
   out_of_range i free = grind (arith, nat_tests, long)
 
-  still_free : (i : ℕ) → is_covered (pending events) i ≡ false → is_covered (Written place replaced ∷ []) i ≡ false → is_covered (pending (events ++ Written place replaced ∷ [])) i ≡ false
-  still_free i before_it by_it = covered_now i ∙ or_from _ _ before_it by_it
-
-  was_free : (i : ℕ) → is_covered (pending (events ++ Written place replaced ∷ [])) i ≡ false → (is_covered (pending events) i ≡ false) × (is_covered (Written place replaced ∷ []) i ≡ false)
-  was_free i free = or_parts _ _ (sym (covered_now i) ∙ free)
+  -- no write that is pending now wrote a byte that none wrote before, and that lies outside the range
+  free_now : (i : ℕ)
+      → (is_covered (pending (events ++ Written place replaced ∷ [])) i ≡ false)
+      ↔ ((is_covered (pending events) i ≡ false) × ((i < place) ⊎ (place + length new ≤ i)))
+  free_now i =
+      let now : is_covered (pending (events ++ Written place replaced ∷ [])) i ≡ (is_covered (pending events) i || is_covered (Written place replaced ∷ []) i) =
+      ap (λ es. is_covered es i) (pending-write events (Written place replaced) refl)
+      ∙ list_any-append (λ event. covers event i) (pending events) (Written place replaced ∷ []) in (
+        λ free. let parts = or_parts _ _ (sym now ∙ free) in (parts.0, out_of_range i parts.1),
+        λ apart. now ∙ or_from _ _ apart.0 (not_in_range i apart.1),
+      )
 
   written_outside : (i : ℕ) → (i < place) ⊎ (place + length new ≤ i) → get_or (overwritten place new old) i 0 ≡ get_or old i 0
   written_outside i out = (overwritten_outside place new old fits).each i out
@@ -89,7 +89,7 @@ module _ (events : List Event) (place : ℕ) (new old : List ℕ) (replaced : Ve
         ∙ grind (arith, places)
 
     back_free : (i : ℕ) → is_covered (pending events) i ≡ false → (i < place) ⊎ (place + length new ≤ i) → get_or (overwritten place replaced.items c) i 0 ≡ get_or old i 0
-    back_free i free out = back_outside i out ∙ image.each i (still_free i free (not_in_range i out)) ∙ written_outside i out
+    back_free i free out = back_outside i out ∙ image.each i ((free_now i).1 (free, out)) ∙ written_outside i out
 
     torn : IsTorn place (length new) (IsImage events old) c
     torn =
@@ -109,12 +109,12 @@ module _ (events : List Event) (place : ℕ) (new old : List ℕ) (replaced : Ve
         )
 
   -- and each such is an image
-  whole_range : (c : List ℕ) → IsTorn place (length new) (IsImage events old) c → IsImage (events ++ Written place replaced ∷ []) (overwritten place new old) c
-  whole_range c torn = record {
+  pub exact : (c : List ℕ) → IsTorn place (length new) (IsImage events old) c → IsImage (events ++ Written place replaced ∷ []) (overwritten place new old) c
+  exact c torn = record {
     same_length = torn.2.same_length ∙ torn.1.same_length ∙ sym (length-overwritten place new old fits);
     each = λ i free.
-        let out = out_of_range i (was_free i free).1 in
-        torn.2.each i out ∙ torn.1.each i (was_free i free).0 ∙ sym (written_outside i out);
+        let apart = (free_now i).0 free in
+        torn.2.each i apart.1 ∙ torn.1.each i apart.0 ∙ sym (written_outside i apart.1);
   }
 
   pub written : (now then : Counts) → IsWritten place (length new) (recorded_state events old now) (recorded_state (events ++ Written place replaced ∷ []) (overwritten place new old) then)
@@ -126,9 +126,6 @@ module _ (events : List Event) (place : ℕ) (new old : List ℕ) (replaced : Ve
     since = λ t c le image. ⊎_elim (λ earlier. inl earlier) (λ now. inr (torn c now)) (was events (Written place replaced) old (overwritten place new old) undone t c le image);
     keeps = λ t c le image. keeps events (Written place replaced) old (overwritten place new old) undone t c image;
   }
-
-  pub exact : (c : List ℕ) → IsTorn place (length new) (IsImage events old) c → IsImage (events ++ Written place replaced ∷ []) (overwritten place new old) c
-  exact = whole_range
 
 module _ (events : List Event) (bytes : List ℕ) where
   -- after a sync there is one image

@@ -1,7 +1,7 @@
 -- What a row of calls leaves whose writes keep what is said of an image.
 use Rattle.std.proofs.Common.{◌≤◌, ◌<◌, ◌+◌, ◌++◌, ◌∷◌, [], ◌≡◌, ℕ, zero, suc, Bool, List, length, take, arith, refl, sym, subst, ⊎_elim, length-take}
 use Rattle.rly_disk.specs.DiskModel.{DiskState, IsTorn, SameOutside, LeavesOnly, Settled, overwritten}
-use Rattle.rly_disk.specs.Trace.{DeviceEvent, Read, FailedRead, Write, FailedWrite, Sync, FailedSync, Makes, AllWrites, each_below, images_within, WritesWithin}
+use Rattle.rly_disk.specs.Trace.{DeviceEvent, Write, FailedWrite, Sync, Makes, AllWrites, each_below, images_within, WritesWithin}
 use Rattle.rly_disk.proofs.Making.{makes_leaves}
 use Rattle.rly_disk.proofs.Overwritten.{overwritten_outside}
 use Rattle.rly_disk.proofs.Ranges.{same_outside_again, wider}
@@ -20,8 +20,6 @@ module _ (R : List ℕ → Type 0) (IsRange : ℕ → ℕ → Type 0) (fits : (p
   pub kept : (calls : List DeviceEvent) (seen : List ℕ) (I : List ℕ → Type 0) → AllWrites IsRange calls → R seen → ((c : List ℕ) → I c → R c)
       → (c : List ℕ) → images_within calls seen I c → R c
   kept [] seen I all here images c image = images c image
-  kept (Read place n ∷ calls) seen I all here images c image = ⊎_elim (images c) (kept calls seen I all here images c) image
-  kept (FailedRead place n ∷ calls) seen I all here images c image = ⊎_elim (images c) (kept calls seen I all here images c) image
   kept (Write place bytes ∷ calls) seen I all here images c image =
       ⊎_elim (images c)
       (kept calls (overwritten place bytes seen) (IsTorn place (length bytes) I) all.1 (over_kept place bytes (length bytes) seen (omega arith) all.0 here)
@@ -34,7 +32,7 @@ module _ (R : List ℕ → Type 0) (IsRange : ℕ → ℕ → Type 0) (fits : (p
       (torn_kept place (length bytes) I all.0 images) c)
       image
   kept (Sync ∷ calls) seen I all here images c image = ⊎_elim (images c) (kept calls seen (λ d. d ≡ seen) all here (λ d is. subst R (sym is) here) c) image
-  kept (FailedSync ∷ calls) seen I all here images c image = ⊎_elim (images c) (kept calls seen I all here images c) image
+  kept (event ∷ calls) seen I all here images c image = ⊎_elim (images c) (kept calls seen I all here images c) image
 
   -- a crash at any moment of the row
   pub leaves_kept : {D : Type 0} (state : D → DiskState) {a b : D} {calls : List DeviceEvent} {whole : Bool} → Makes state calls whole a b → Settled (state a)
@@ -54,12 +52,9 @@ leaves_range state {a} place n made inside fits settled =
 -- two rows
 pub all_joined : (IsRange : ℕ → ℕ → Type 0) (first second : List DeviceEvent) → AllWrites IsRange first → AllWrites IsRange second → AllWrites IsRange (first ++ second)
 all_joined IsRange [] second one two = two
-all_joined IsRange (Read place n ∷ first) second one two = all_joined IsRange first second one two
-all_joined IsRange (FailedRead place n ∷ first) second one two = all_joined IsRange first second one two
 all_joined IsRange (Write place bytes ∷ first) second one two = (one.0, all_joined IsRange first second one.1 two)
 all_joined IsRange (FailedWrite place bytes left ∷ first) second one two = (one.0, all_joined IsRange first second one.1 two)
-all_joined IsRange (Sync ∷ first) second one two = all_joined IsRange first second one two
-all_joined IsRange (FailedSync ∷ first) second one two = all_joined IsRange first second one two
+all_joined IsRange (event ∷ first) second one two = all_joined IsRange first second one two
 
 -- the calls for each number below another
 pub each_all : (IsRange : ℕ → ℕ → Type 0) (calls : ℕ → List DeviceEvent) (n : ℕ) → ((t : ℕ) → t < n → AllWrites IsRange (calls t)) → AllWrites IsRange (each_below calls n)

@@ -1,21 +1,23 @@
 -- Lists of events: one call, and one list after the other.
-use Rattle.std.proofs.Common.{◌≡◌, ◌⊎◌, ◌≤◌, ◌<◌, ◌+◌, ◌-◌, ◌^◌, ◌++◌, ◌∷◌, [], ◌∙◌, ℕ, Bool, true, false, List, length, suc, slice_range, take, arith, sym, ap, subst, inl, inr, ⊎_elim, refl, append_assoc, length-append, length-take, length-drop}
+use Rattle.std.proofs.Common.{◌≡◌, ◌⊎◌, ◌≤◌, ◌<◌, ◌+◌, ◌-◌, ◌^◌, ◌++◌, ◌∷◌, [], ◌∙◌, ℕ, Bool, true, false, List, length, slice_range, take, arith, sym, ap, subst, inl, inr, ⊎_elim, refl, append_assoc, length-append, length-take, length-drop}
 use Rattle.std.specs.Prelude.{Result, Ok, Err, IsErr, OnOk, OnErr, is_ok, if◌then◌else◌}
-use Rattle.std.proofs.lemmas.List.{ext_get_or, places, take_all}
+use Rattle.std.proofs.lemmas.List.{places, take_all}
 use Rattle.std.proofs.lemmas.Bool.{cases_lt, false≢true}
 use Rattle.std.proofs.lemmas.Bool.Decides.{nat_tests}
 use Rattle.rly_disk.specs.DiskModel.{DiskState, SameOutside, overwritten, IsTorn, IsWritten, NothingNew, Settled, SettlesNothing, Consistent, Counted, Later, IsSpent}
-use Rattle.rly_disk.specs.Trace.{DeviceEvent, Read, FailedRead, Write, FailedWrite, Sync, FailedSync, Follows, Leads, Makes, IsCut, EndsAtFailure, EndsUncounted, is_spent, IsFailed, count_of, is_failed_call, is_sync_call, is_failed_read, seen_after, images_after, is_still, seen_at_end, images_at_end, images_within}
-use Rattle.rly_disk.proofs.Overwritten.{length-overwritten, overwritten_before, overwritten_in, overwritten_behind}
+use Rattle.rly_disk.specs.Trace.{DeviceEvent, Read, FailedRead, Write, FailedWrite, Sync, FailedSync, Follows, Leads, Makes, IsCut, IsMade, EndsAtFailure, EndsUncounted, is_spent, IsFailed, count_of, is_failed_call, is_sync_call, is_failed_read, seen_after, images_after, is_still, seen_at_end, images_at_end, images_within}
+use Rattle.rly_disk.proofs.Overwritten.{overwritten_in, overwritten_outside}
+use Rattle.rly_disk.proofs.Ranges.{same_range, wider}
+
+abbrev pub one_if : Bool → ℕ
+one_if b = if b then 1 else 0
 
 -- more images before an event leave more after it
 images_grow : (event : DeviceEvent) (seen : List ℕ) (I K : List ℕ → Type 0) → ((c : List ℕ) → I c → K c) → (c : List ℕ) → images_after event seen I c → images_after event seen K c
-images_grow (Read place count) seen I K more c image = more c image
-images_grow (FailedRead place count) seen I K more c image = more c image
 images_grow (Write place bytes) seen I K more c image = (image.0, more image.0 image.1, image.2)
 images_grow (FailedWrite place bytes left) seen I K more c image = (image.0, more image.0 image.1, image.2)
 images_grow Sync seen I K more c image = image
-images_grow FailedSync seen I K more c image = more c image
+images_grow event seen I K more c image = more c image
 
 pub end_grows : (events : List DeviceEvent) (seen : List ℕ) (I K : List ℕ → Type 0) → ((c : List ℕ) → I c → K c) → (c : List ℕ) → images_at_end events seen I c → images_at_end events seen K c
 end_grows [] seen I K more c image = more c image
@@ -60,10 +62,8 @@ still_parts : (first second : List DeviceEvent) → is_still (first ++ second) �
 still_parts [] second still = (refl, still)
 still_parts (Read place count ∷ first) second still = still_parts first second still
 still_parts (FailedRead place count ∷ first) second still = still_parts first second still
-still_parts (Write place bytes ∷ first) second still = absurd (false≢true still)
-still_parts (FailedWrite place bytes left ∷ first) second still = absurd (false≢true still)
-still_parts (Sync ∷ first) second still = absurd (false≢true still)
 still_parts (FailedSync ∷ first) second still = still_parts first second still
+still_parts (event ∷ first) second still = absurd (false≢true still)
 
 follows_joined : {a b e : DiskState} (first second : List DeviceEvent) → Follows first a b → Follows second b e → Follows (first ++ second) a e
 follows_joined {a} {b} {e} first second one two = record {
@@ -151,7 +151,7 @@ cut_behind spent calls more events cut = ⊎_elim
 -- a list that is empty has empty parts
 parts_empty : (first second : List DeviceEvent) → first ++ second ≡ [] → (first ≡ []) × (second ≡ [])
 parts_empty [] second none = (refl, none)
-parts_empty (event ∷ first) second none = let long : suc (length (first ++ second)) ≡ 0 = ap length none in absurd (omega (arith, long))
+parts_empty (event ∷ first) second none = absurd cc
 
 module _ {D : Type 0} (state : D → DiskState) where
   pub makes_nothing : (a : D) → Makes state [] true a a
@@ -166,32 +166,25 @@ module _ {D : Type 0} (state : D → DiskState) where
   }
 
   pub makes_joined : {a b e : D} (calls more : List DeviceEvent) (whole : Bool) → Makes state calls true a b → Makes state more whole b e → Makes state (calls ++ more) whole a e
-  makes_joined calls more true one two = record {
+  makes_joined {a} {b} {e} calls more whole one two = record {
     events = one.events ++ two.events;
     leads = leads_joined one.events two.events one.leads two.leads;
-    made = ap (λ es. es ++ two.events) one.made ∙ ap (λ es. calls ++ es) two.made;
+    made = subst (λ es. IsMade whole (is_spent (state e)) (calls ++ more) (es ++ two.events)) (sym one.made) (by whole two.made);
     untouched = λ none. let parts = parts_empty one.events two.events none in two.untouched parts.1 ∙ one.untouched parts.0;
   }
-  makes_joined {a} {b} {e} calls more false one two = record {
-    events = one.events ++ two.events;
-    leads = leads_joined one.events two.events one.leads two.leads;
-    made = subst (λ es. IsCut (is_spent (state e)) (calls ++ more) (es ++ two.events)) (sym one.made) (cut_behind (is_spent (state e)) calls more two.events two.made);
-    untouched = λ none. let parts = parts_empty one.events two.events none in two.untouched parts.1 ∙ one.untouched parts.0;
-  }
+    where
+      by : (whole : Bool) → IsMade whole (is_spent (state e)) more two.events → IsMade whole (is_spent (state e)) (calls ++ more) (calls ++ two.events)
+      by true made = ap (λ es. calls ++ es) made
+      by false made = cut_behind (is_spent (state e)) calls more two.events made
 
 -- what lies in a range, written over the list from before
 pub written_over : (place n : ℕ) (old new : List ℕ) → place + n ≤ length old → SameOutside place n old new → new ≡ overwritten place (slice_range new place (place + n)) old
 written_over place n old new fits same =
-    let long : length (slice_range new place (place + n)) ≡ n = simp (length-take, length-drop) (omega (arith, same.same_length)) in
-    let room : place + length (slice_range new place (place + n)) ≤ length old = omega (arith, long) in
-    ext_get_or 0 new (overwritten place (slice_range new place (place + n)) old) (same.same_length ∙ sym (length-overwritten place (slice_range new place (place + n)) old room))
-    (λ i h. ⊎_elim
-    (λ (low : i < place). same.each i (inl low) ∙ sym (overwritten_before place (slice_range new place (place + n)) old room i low))
-    (λ (high : place ≤ i). ⊎_elim
-    (λ (inside : i < place + n). grind (arith, places, overwritten_in place (slice_range new place (place + n)) old room i high (omega (arith, long))))
-    (λ (past : place + n ≤ i). same.each i (inr past) ∙ sym (overwritten_behind place (slice_range new place (place + n)) old room i (omega (arith, long))))
-    (cases_lt i (place + n)))
-    (cases_lt i place))
+    let left : List ℕ = slice_range new place (place + n) in
+    let long : length left ≡ n = simp (length-take, length-drop) (omega (arith, same.same_length)) in
+    let room : place + length left ≤ length old = omega (arith, long) in
+    same_range place n same (wider place n place (length left) (omega arith) (omega (arith, long)) (overwritten_outside place left old room))
+    (λ i low high. grind (arith, places, overwritten_in place left old room i low (omega (arith, long))))
 
 -- one call that changes nothing
 quiet : {a b : DiskState} (event : DeviceEvent) → seen_after event a.seen ≡ a.seen → ((c : List ℕ) → b.images c → images_after event a.seen a.images c)
@@ -205,50 +198,18 @@ quiet {a} {b} event same images still new = record {
   keeps = new.keeps;
 }
 
--- one read, done or failed
-pub read_leads : {a b : DiskState} (place n : ℕ) → Counted 0 0 0 a b → Later a b → (a.honest → NothingNew a b) → (a.honest → SettlesNothing a b) → Leads (Read place n ∷ []) a b
-read_leads place n counted later new still = record {
+-- one event
+leads_once : {a b : DiskState} (event : DeviceEvent) → Counted (one_if (is_failed_call event)) (one_if (is_sync_call event)) (one_if (is_failed_read event)) a b
+    → Later a b
+    → (a.honest → Follows (event ∷ []) a b) → Leads (event ∷ []) a b
+leads_once event counted later follows = record {
   calls = counted.calls;
-  failures = counted.failures_more;
-  syncs = counted.syncs_more;
-  failed_reads = counted.failed_reads_more;
+  failures = omega (arith, counted.failures_more);
+  syncs = omega (arith, counted.syncs_more);
+  failed_reads = omega (arith, counted.failed_reads_more);
   size = later.size;
   honest = later.honest;
-  follows = λ h. quiet (Read place n) refl (new h).images (λ none. still h) (new h);
-}
-
-pub failed_read_leads : {a b : DiskState} (place n : ℕ) → Counted 1 0 1 a b → Later a b → (a.honest → NothingNew a b) → (a.honest → SettlesNothing a b) → Leads (FailedRead place n ∷ []) a b
-failed_read_leads place n counted later new still = record {
-  calls = counted.calls;
-  failures = counted.failures_more;
-  syncs = counted.syncs_more;
-  failed_reads = counted.failed_reads_more;
-  size = later.size;
-  honest = later.honest;
-  follows = λ h. quiet (FailedRead place n) refl (new h).images (λ none. still h) (new h);
-}
-
--- one sync
-pub sync_leads : {a b : DiskState} → Counted 0 1 0 a b → Later a b → (a.honest → NothingNew a b) → (a.honest → Settled b) → Leads (Sync ∷ []) a b
-sync_leads {a} {b} counted later new settled = record {
-  calls = counted.calls;
-  failures = counted.failures_more;
-  syncs = counted.syncs_more;
-  failed_reads = counted.failed_reads_more;
-  size = later.size;
-  honest = later.honest;
-  follows = λ h. quiet Sync refl (λ c image. (settled h).only c image ∙ (new h).seen) (λ none. absurd (false≢true none)) (new h);
-}
-
-pub failed_sync_leads : {a b : DiskState} → Counted 1 1 0 a b → Later a b → (a.honest → NothingNew a b) → (a.honest → SettlesNothing a b) → Leads (FailedSync ∷ []) a b
-failed_sync_leads {a} {b} counted later new still = record {
-  calls = counted.calls;
-  failures = counted.failures_more;
-  syncs = counted.syncs_more;
-  failed_reads = counted.failed_reads_more;
-  size = later.size;
-  honest = later.honest;
-  follows = λ h. quiet FailedSync refl (new h).images (λ none. still h) (new h);
+  follows = follows;
 }
 
 -- one write
@@ -262,46 +223,17 @@ write_follows {a} {b} event place n moves torn seen written = record {
   keeps = written.keeps;
 }
 
-pub write_leads : {a b : DiskState} (place : ℕ) (bytes : List ℕ) → Counted 0 0 0 a b → Later a b
-    → (a.honest → IsWritten place (length bytes) a b) → (a.honest → b.seen ≡ overwritten place bytes a.seen) → Leads (Write place bytes ∷ []) a b
-write_leads {a} {b} place bytes counted later written seen = record {
-  calls = counted.calls;
-  failures = counted.failures_more;
-  syncs = counted.syncs_more;
-  failed_reads = counted.failed_reads_more;
-  size = later.size;
-  honest = later.honest;
-  follows = λ h. write_follows (Write place bytes) place (length bytes) refl refl (seen h) (written h);
-}
-
--- a write that failed: what a read gives in its range since is part of the event
-pub failed_write_leads : {a b : DiskState} (place : ℕ) (bytes : List ℕ) → place + length bytes ≤ a.size → Counted 1 0 0 a b → Later a b → (a.honest → Consistent a)
-    → (a.honest → IsWritten place (length bytes) a b) → Leads (FailedWrite place bytes (slice_range b.seen place (place + length bytes)) ∷ []) a b
-failed_write_leads {a} {b} place bytes fits counted later facts written = record {
-  calls = counted.calls;
-  failures = counted.failures_more;
-  syncs = counted.syncs_more;
-  failed_reads = counted.failed_reads_more;
-  size = later.size;
-  honest = later.honest;
-  follows = λ h.
-      let left : List ℕ = slice_range b.seen place (place + length bytes) in
-      let room : place + length bytes ≤ length a.seen = omega (arith, (facts h).seen_size) in
-      let over : b.seen ≡ overwritten place left a.seen = written_over place (length bytes) a.seen b.seen room (written h).outside in
-      let whole : take (length bytes) left ≡ left = take_all (length bytes) left (simp (length-take, length-drop) (omega arith)) in
-      write_follows (FailedWrite place bytes left) place (length bytes) refl refl (over ∙ ap (λ l. overwritten place l a.seen) (sym whole)) (written h);
-}
+pub failed_write_follows : {a b : DiskState} (place : ℕ) (bytes : List ℕ) → place + length bytes ≤ a.size → Consistent a → IsWritten place (length bytes) a b
+    → Follows (FailedWrite place bytes (slice_range b.seen place (place + length bytes)) ∷ []) a b
+failed_write_follows {a} {b} place bytes fits facts written =
+    let left : List ℕ = slice_range b.seen place (place + length bytes) in
+    let over : b.seen ≡ overwritten place left a.seen = written_over place (length bytes) a.seen b.seen (omega (arith, facts.seen_size)) written.outside in
+    let whole : take (length bytes) left ≡ left = take_all (length bytes) left (simp (length-take, length-drop) (omega arith)) in
+    write_follows (FailedWrite place bytes left) place (length bytes) refl refl (over ∙ ap (λ l. overwritten place l a.seen) (sym whole)) written
 
 -- one call, whatever came of it
-failed_at : {call : DeviceEvent} (last : DeviceEvent) → IsFailed call last → EndsAtFailure (call ∷ []) (last ∷ [])
-failed_at {call} last failed = record { done = []; call = call; rest = []; last = last; calls_are = refl; failed = failed; events_are = refl }
-
 spent_or_not : (a : DiskState) → IsSpent a ⊎ ¬ IsSpent a
 spent_or_not a = ⊎_elim (λ (below : a.calls < 2 ^ 64 - 1). inr (λ spent. omega (arith, below, spent))) (λ spent. inl spent) (cases_lt a.calls (2 ^ 64 - 1))
-
--- a list with an event isn't empty
-not_empty : {event : DeviceEvent} {events : List DeviceEvent} → event ∷ events ≡ [] → ⊥
-not_empty {event} {events} none = let long : suc (length events) ≡ 0 = ap length none in omega (arith, long)
 
 module _ {D : Type 0} (state : D → DiskState) where
   not_made : {a b : D} (call : DeviceEvent) (calls : List DeviceEvent) → IsSpent (state a) → b ≡ a → Makes state (call ∷ calls) false a b
@@ -316,63 +248,62 @@ module _ {D : Type 0} (state : D → DiskState) where
   pub not_counted : {a : D} (call : DeviceEvent) (calls : List DeviceEvent) → IsSpent (state a) → Makes state (call ∷ calls) false a a
   not_counted {a} call calls spent = not_made call calls spent refl
 
-  done_once : {a b : D} (call : DeviceEvent) → Leads (call ∷ []) (state a) (state b) → Makes state (call ∷ []) true a b
-  done_once call leads = record { events = call ∷ []; leads = leads; made = refl; untouched = λ none. absurd (not_empty none) }
-
-  failed_once : {a b : D} (call last : DeviceEvent) → IsFailed call last → Leads (last ∷ []) (state a) (state b) → Makes state (call ∷ []) false a b
-  failed_once call last failed leads = record { events = last ∷ []; leads = leads; made = inl (failed_at last failed); untouched = λ none. absurd (not_empty none) }
+  call_makes : {E : Type 0} {a b : D} (call last : DeviceEvent) (result : Result (Unit {0}) E) → IsFailed call last
+      → (IsSpent (state a) → IsErr result × (b ≡ a))
+      → (¬ IsSpent (state a) → Leads ((if is_ok result then call else last) ∷ []) (state a) (state b)) → Makes state (call ∷ []) (is_ok result) a b
+  call_makes {a = a} call last (Ok done) failed spent leads = ⊎_elim
+      (λ (yes : IsSpent (state a)). absurd (false≢true (spent yes).0))
+      (λ (no : ¬ IsSpent (state a)). record { events = call ∷ []; leads = leads no; made = refl; untouched = λ none. cc })
+      (spent_or_not (state a))
+  call_makes {a = a} call last (Err fault) failed spent leads = ⊎_elim
+      (λ (yes : IsSpent (state a)). not_made call [] yes (spent yes).1)
+      (λ (no : ¬ IsSpent (state a)). record {
+        events = last ∷ [];
+        leads = leads no;
+        made = inl (record { done = []; call = call; rest = []; last = last; calls_are = refl; failed = failed; events_are = refl });
+        untouched = λ none. cc;
+      })
+      (spent_or_not (state a))
 
   pub read_makes : {E : Type 0} {a b : D} (place n : ℕ) (result : Result (Unit {0}) E)
       → (¬ IsSpent (state a) → Counted (if is_ok result then 0 else 1) 0 (if is_ok result then 0 else 1) (state a) (state b)) → (IsSpent (state a) → IsErr result × (b ≡ a)) → Later (state a) (state b)
       → ((state a).honest → NothingNew (state a) (state b)) → ((state a).honest → SettlesNothing (state a) (state b)) → Makes state (Read place n ∷ []) (is_ok result) a b
-  read_makes {E} {a} {b} place n (Ok done) counted spent later new still = ⊎_elim
-      (λ (yes : IsSpent (state a)). absurd (false≢true (spent yes).0))
-      (λ (no : ¬ IsSpent (state a)). done_once (Read place n) (read_leads place n (counted no) later new still))
-      (spent_or_not (state a))
-  read_makes {E} {a} {b} place n (Err fault) counted spent later new still = ⊎_elim
-      (λ (yes : IsSpent (state a)). not_made (Read place n) [] yes (spent yes).1)
-      (λ (no : ¬ IsSpent (state a)). failed_once (Read place n) (FailedRead place n) refl (failed_read_leads place n (counted no) later new still))
-      (spent_or_not (state a))
+  read_makes {a = a} {b} place n result counted spent later new still =
+      call_makes (Read place n) (FailedRead place n) result refl spent (λ no. by result (counted no))
+    where
+      by : {E : Type 0} (result : Result (Unit {0}) E) → Counted (if is_ok result then 0 else 1) 0 (if is_ok result then 0 else 1) (state a) (state b)
+          → Leads ((if is_ok result then Read place n else FailedRead place n) ∷ []) (state a) (state b)
+      by (Ok done) counts = leads_once (Read place n) counts later (λ h. quiet (Read place n) refl (new h).images (λ none. still h) (new h))
+      by (Err fault) counts = leads_once (FailedRead place n) counts later (λ h. quiet (FailedRead place n) refl (new h).images (λ none. still h) (new h))
 
   pub write_makes : {E : Type 0} {a b : D} (place : ℕ) (bytes : List ℕ) (result : Result (Unit {0}) E) → place + length bytes ≤ (state a).size
       → (¬ IsSpent (state a) → Counted (if is_ok result then 0 else 1) 0 0 (state a) (state b)) → (IsSpent (state a) → IsErr result × (b ≡ a)) → Later (state a) (state b)
       → ((state a).honest → Consistent (state a)) → ((state a).honest → IsWritten place (length bytes) (state a) (state b))
       → ((state a).honest → OnOk result ((state b).seen ≡ overwritten place bytes (state a).seen)) → Makes state (Write place bytes ∷ []) (is_ok result) a b
-  write_makes {E} {a} {b} place bytes (Ok done) fits counted spent later facts written seen = ⊎_elim
-      (λ (yes : IsSpent (state a)). absurd (false≢true (spent yes).0))
-      (λ (no : ¬ IsSpent (state a)). done_once (Write place bytes) (write_leads place bytes (counted no) later written seen))
-      (spent_or_not (state a))
-  write_makes {E} {a} {b} place bytes (Err fault) fits counted spent later facts written seen = ⊎_elim
-      (λ (yes : IsSpent (state a)). not_made (Write place bytes) [] yes (spent yes).1)
-      (λ (no : ¬ IsSpent (state a)).
-      let left : List ℕ = slice_range (state b).seen place (place + length bytes) in
-      failed_once (Write place bytes) (FailedWrite place bytes left) (left, refl) (failed_write_leads place bytes fits (counted no) later facts written))
-      (spent_or_not (state a))
+  write_makes {a = a} {b} place bytes result fits counted spent later facts written seen =
+      call_makes (Write place bytes) (FailedWrite place bytes left) result (left, refl) spent (λ no. by result (counted no) seen)
+    where
+      left : List ℕ
+      left = slice_range (state b).seen place (place + length bytes)
+
+      by : {E : Type 0} (result : Result (Unit {0}) E) → Counted (if is_ok result then 0 else 1) 0 0 (state a) (state b)
+          → ((state a).honest → OnOk result ((state b).seen ≡ overwritten place bytes (state a).seen))
+          → Leads ((if is_ok result then Write place bytes else FailedWrite place bytes left) ∷ []) (state a) (state b)
+      by (Ok done) counts seen =
+          leads_once (Write place bytes) counts later (λ h. write_follows (Write place bytes) place (length bytes) refl refl (seen h) (written h))
+      by (Err fault) counts seen = leads_once (FailedWrite place bytes left) counts later (λ h. failed_write_follows place bytes fits (facts h) (written h))
 
   pub sync_makes : {E : Type 0} {a b : D} (result : Result (Unit {0}) E)
       → (¬ IsSpent (state a) → Counted (if is_ok result then 0 else 1) 1 0 (state a) (state b)) → (IsSpent (state a) → IsErr result × (b ≡ a)) → Later (state a) (state b)
       → ((state a).honest → NothingNew (state a) (state b)) → ((state a).honest → OnOk result (Settled (state b))) → ((state a).honest → OnErr result (SettlesNothing (state a) (state b)))
       → Makes state (Sync ∷ []) (is_ok result) a b
-  sync_makes {E} {a} {b} (Ok done) counted spent later new settled still = ⊎_elim
-      (λ (yes : IsSpent (state a)). absurd (false≢true (spent yes).0))
-      (λ (no : ¬ IsSpent (state a)). done_once Sync (sync_leads (counted no) later new settled))
-      (spent_or_not (state a))
-  sync_makes {E} {a} {b} (Err fault) counted spent later new settled still = ⊎_elim
-      (λ (yes : IsSpent (state a)). not_made Sync [] yes (spent yes).1)
-      (λ (no : ¬ IsSpent (state a)). failed_once Sync FailedSync refl (failed_sync_leads (counted no) later new still))
-      (spent_or_not (state a))
-
--- one call that fails, or none
-module _ (calls events : List DeviceEvent) (sound : count_of is_failed_call calls ≡ 0) where
-  pub failures_cut : (spent : Bool) → IsCut spent calls events → count_of is_failed_call events ≤ 1
-  failures_cut spent cut = ⊎_elim
-      (λ (failed : EndsAtFailure calls events).
-      let one : count_of is_failed_call (failed.last ∷ []) ≤ 1 = single failed.last in
-      let parts : count_of is_failed_call failed.done ≡ 0 = omega (arith, sound, ap (count_of is_failed_call) failed.calls_are, count_joined is_failed_call failed.done (failed.call ∷ failed.rest)) in
-      omega (arith, one, parts, ap (count_of is_failed_call) failed.events_are, count_joined is_failed_call failed.done (failed.last ∷ [])))
-      (λ (short : (spent ≡ true) × EndsUncounted calls events).
-      omega (arith, sound, ap (count_of is_failed_call) short.1.calls_are, count_joined is_failed_call events (short.1.call ∷ short.1.rest)))
-      cut
+  sync_makes {a = a} {b} result counted spent later new settled still =
+      call_makes Sync FailedSync result refl spent (λ no. by result (counted no) settled still)
     where
-      single : (event : DeviceEvent) → count_of is_failed_call (event ∷ []) ≤ 1
-      single event = elim (is_failed_call event) as (λ b. (if b then 1 else 0) + 0 ≤ 1) [ true ↦ omega arith | false ↦ omega arith ]
+      by : {E : Type 0} (result : Result (Unit {0}) E) → Counted (if is_ok result then 0 else 1) 1 0 (state a) (state b)
+          → ((state a).honest → OnOk result (Settled (state b)))
+          → ((state a).honest → OnErr result (SettlesNothing (state a) (state b)))
+          → Leads ((if is_ok result then Sync else FailedSync) ∷ []) (state a) (state b)
+      by (Ok done) counts settled still =
+          leads_once Sync counts later (λ h. quiet Sync refl (λ c image. (settled h).only c image ∙ (new h).seen) (λ none. absurd (false≢true none)) (new h))
+      by (Err fault) counts settled still = leads_once FailedSync counts later (λ h. quiet FailedSync refl (new h).images (λ none. still h) (new h))

@@ -5,7 +5,7 @@ use Rattle.rly_disk.specs.DiskModel.{DiskState, IsTorn, SameOutside, overwritten
 use Rattle.rly_disk.specs.Trace.{DeviceEvent, Makes, Sync, Write, AllWrites, count_of, images_within, is_failed_call, is_sync_call, seen_at_end}
 use Rattle.rly_disk.proofs.Making.{AreSynced, is_read_call}
 use Rattle.rly_disk.proofs.Overwritten.{overwritten_outside}
-use Rattle.rly_disk.proofs.Traces.{count_joined, makes_front, makes_joined}
+use Rattle.rly_disk.proofs.Traces.{count_joined, makes_front, makes_joined, seen_joined}
 use Rattle.rly_gate.specs.Calls.{settling}
 
 -- ---- what was made
@@ -31,8 +31,8 @@ pub record AreWrites (calls : List DeviceEvent) (most syncs : ℕ) : Type 0 wher
   pub sound : count_of is_failed_call calls ≡ 0
   pub no_read : count_of is_read_call calls ≡ 0
 
-pub writes_joined : (first second : List DeviceEvent) (n m k l : ℕ) → AreWrites first n k → AreWrites second m l → AreWrites (first ++ second) (n + m) (k + l)
-writes_joined first second n m k l one two = record {
+pub writes_joined : {first second : List DeviceEvent} {n m k l : ℕ} → AreWrites first n k → AreWrites second m l → AreWrites (first ++ second) (n + m) (k + l)
+writes_joined {first} {second} one two = record {
   most_calls = omega (arith, one.most_calls, two.most_calls, length-append first second);
   all_syncs = omega (arith, one.all_syncs, two.all_syncs, count_joined is_sync_call first second);
   sound = omega (arith, one.sound, two.sound, count_joined is_failed_call first second);
@@ -56,6 +56,10 @@ pub settling_seen : (at : ℕ) (bytes seen : List ℕ) → seen_at_end (settling
 settling_seen at [] seen = sym (overwritten_nothing at seen)
 settling_seen at (byte ∷ bytes) seen = refl
 
+pub settling_on : (at : ℕ) (bytes : List ℕ) (rest : List DeviceEvent) (seen : List ℕ)
+    → seen_at_end (settling at bytes ++ rest) seen ≡ seen_at_end rest (overwritten at bytes seen)
+settling_on at bytes rest seen = seen_joined (settling at bytes) rest seen ∙ ap (seen_at_end rest) (settling_seen at bytes seen)
+
 pub settling_synced : (at : ℕ) (bytes : List ℕ) → AreSynced (settling at bytes)
 settling_synced at [] seen I c image = image
 settling_synced at (byte ∷ bytes) seen I c image = image
@@ -64,7 +68,7 @@ pub settling_all : (IsRange : ℕ → ℕ → Type 0) (at : ℕ) (bytes : List �
 settling_all IsRange at [] range = tt
 settling_all IsRange at (byte ∷ bytes) range = (range, tt)
 
-same_bytes : (at n : ℕ) (seen c : List ℕ) → c ≡ seen → SameOutside at n seen c
+pub same_bytes : (at n : ℕ) (seen c : List ℕ) → c ≡ seen → SameOutside at n seen c
 same_bytes at n seen c is = subst (SameOutside at n seen) (sym is) (record { same_length = refl; each = λ i out. refl })
 
 torn_once : (at n : ℕ) (seen c : List ℕ) → IsTorn at n (λ d. d ≡ seen) c → SameOutside at n seen c

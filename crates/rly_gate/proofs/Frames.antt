@@ -1,9 +1,9 @@
 -- A frame and a group as bytes.
-use Rattle.std.proofs.Common.{ℕ, suc, ◌≡◌, ◌+◌, ◌-◌, ◌<◌, ◌≤◌, List, [], ◌∷◌, ◌++◌, length, get_or, take, drop, set, refl, arith, sym, ◌∙◌, ap, append_assoc, length-append}
+use Rattle.std.proofs.Common.{ℕ, suc, ◌≡◌, ◌+◌, ◌-◌, ◌<◌, ◌≤◌, List, [], ◌∷◌, ◌++◌, length, take, drop, set, refl, arith, sym, ◌∙◌, ap, append_assoc, length-append}
 use Rattle.std.proofs.lemmas.List.{drop-drop, drop-take, drop_all, drop_at, drop_more, length-drop, length-take, set-append_right, set_split, take-append-drop, take-append-le, take-take, take_at}
 use Rattle.byteorder.specs.Endian.{big_bytes}
 use Rattle.rly_disk.specs.DiskModel.{overwritten}
-use Rattle.rly_gate.specs.Group.{body_in, frame_of, open_gate}
+use Rattle.rly_gate.specs.Group.{IsOpen, StandsAt, body_in, frame_of, open_gate}
 
 -- the body in a frame is 5 bytes shorter
 pub length-body : (frame : List ℕ) → 5 ≤ length frame → length (body_in frame) ≡ length frame - 5
@@ -35,11 +35,8 @@ gate_and_frame at gate frame old within =
     ∙ take-take at (at + 1) old (omega arith) in
     let second : drop (at + 1) (overwritten (at + 1) frame old) ≡ frame ++ drop (at + 1 + length frame) old =
     ap (drop (at + 1)) parts ∙ drop_at (take (at + 1) old) (frame ++ drop (at + 1 + length frame) old) (at + 1) size in
-    ap (λ l. (l ++ gate ∷ []) ++ drop (at + 1) (overwritten (at + 1) frame old)) first
-    ∙ ap (λ l. (take at old ++ gate ∷ []) ++ l) second
-    ∙ append_assoc (take at old) (gate ∷ []) (frame ++ drop (at + 1 + length frame) old)
-    ∙ ap (λ k. take at old ++ (gate ∷ (frame ++ drop k old))) (let e : at + 1 + length frame ≡ at + suc (length frame) = omega arith in e)
-    ∙ sym (append_assoc (take at old) (gate ∷ frame) (drop (at + suc (length frame)) old))
+    let place : at + suc (length frame) ≡ at + 1 + length frame = omega arith in
+    rw (first, second, place) (simp append_assoc)
 
 -- a frame whose length and last byte were filled in
 pub frame_filled : (frame buf : List ℕ) (last n : ℕ) → 5 ≤ length frame → last + 1 ≡ length frame → n + 5 ≡ length frame → buf ≡ big_bytes 4 n ++ drop 4 frame
@@ -50,21 +47,6 @@ frame_filled frame buf last n long is_last count is_buf =
     ∙ filled (big_bytes 4 n) frame last refl long (omega arith)
     ∙ ap (λ k. (big_bytes 4 k ++ body_in frame) ++ 0 ∷ []) same
 
--- the length that stands in a group
-pub group_length : (image : List ℕ) (at n : ℕ) (rest : List ℕ) → take (length (open_gate ∷ (big_bytes 4 n ++ rest))) (drop at image) ≡ open_gate ∷ (big_bytes 4 n ++ rest)
-    → take 4 (drop (at + 1) image) ≡ big_bytes 4 n
-group_length image at n rest stands =
-    let m : ℕ = length (big_bytes 4 n ++ rest) in
-    let long : 4 ≤ length (big_bytes 4 n ++ rest) = omega (arith, length-append (big_bytes 4 n) rest) in
-    let inner : take (length (big_bytes 4 n ++ rest)) (drop (at + 1) image) ≡ big_bytes 4 n ++ rest =
-    ap (take (length (big_bytes 4 n ++ rest))) (sym (drop-drop 1 at image))
-    ∙ sym (drop-take 1 (length (big_bytes 4 n ++ rest)) (drop at image))
-    ∙ ap (λ k. drop 1 (take k (drop at image))) (let e : 1 + length (big_bytes 4 n ++ rest) ≡ suc (length (big_bytes 4 n ++ rest)) = omega arith in e)
-    ∙ ap (drop 1) stands in
-    sym (take-take 4 (length (big_bytes 4 n ++ rest)) (drop (at + 1) image) long)
-    ∙ ap (take 4) inner
-    ∙ take_at (big_bytes 4 n) rest 4 refl
-
 -- so many bytes and so many after them
 pub take_both : (n m : ℕ) (xs : List ℕ) → take (n + m) xs ≡ take n xs ++ take m (drop n xs)
 take_both n m xs =
@@ -72,22 +54,45 @@ take_both n m xs =
     ∙ ap (λ l. l ++ drop n (take (n + m) xs)) (take-take n (n + m) xs (omega arith))
     ∙ ap (λ l. take n xs ++ l) (drop-take n m xs)
 
+-- two rows of bytes, one after the other
+pub stands_both : (image : List ℕ) (at : ℕ) (a b : List ℕ) → StandsAt image at a → StandsAt image (at + length a) b → StandsAt image at (a ++ b)
+stands_both image at a b first second =
+    ap (λ k. take k (drop at image)) (length-append a b)
+    ∙ take_both (length a) (length b) (drop at image)
+    ∙ ap (λ l. l ++ take (length b) (drop (length a) (drop at image))) first
+    ∙ ap (λ l. a ++ take (length b) l) (drop-drop (length a) at image)
+    ∙ ap (λ l. a ++ l) second
+
+-- the first of two
+pub stands_front : (image : List ℕ) (at : ℕ) (a b : List ℕ) → StandsAt image at (a ++ b) → StandsAt image at a
+stands_front image at a b both =
+    sym (take-take (length a) (length (a ++ b)) (drop at image) (omega (arith, length-append a b)))
+    ∙ ap (take (length a)) both
+    ∙ take_at a b (length a) refl
+
+-- the second of two
+pub stands_back : (image : List ℕ) (at : ℕ) (a b : List ℕ) → StandsAt image at (a ++ b) → StandsAt image (at + length a) b
+stands_back image at a b both =
+    ap (take (length b)) (sym (drop-drop (length a) at image))
+    ∙ sym (drop-take (length a) (length b) (drop at image))
+    ∙ ap (λ k. drop (length a) (take k (drop at image))) (sym (length-append a b))
+    ∙ ap (drop (length a)) both
+    ∙ drop_at a b (length a) refl
+
+-- the length that stands in a group
+pub group_length : (image : List ℕ) (at n : ℕ) (rest : List ℕ) → take (length (open_gate ∷ (big_bytes 4 n ++ rest))) (drop at image) ≡ open_gate ∷ (big_bytes 4 n ++ rest)
+    → take 4 (drop (at + 1) image) ≡ big_bytes 4 n
+group_length image at n rest stands = stands_front image (at + 1) (big_bytes 4 n) rest (stands_back image at (open_gate ∷ []) (big_bytes 4 n ++ rest) stands)
+
 -- an open gate, a length and a body, one after the other
-pub group_parts : (image : List ℕ) (at n : ℕ) (body : List ℕ) → at + 1 ≤ length image → get_or image at 0 ≡ open_gate
-    → take 4 (drop (at + 1) image) ≡ big_bytes 4 n → length body ≡ n → body ≡ take n (drop (at + 5) image)
-    → take (length (open_gate ∷ (big_bytes 4 (length body) ++ body))) (drop at image) ≡ open_gate ∷ (big_bytes 4 (length body) ++ body)
+pub group_parts : (image : List ℕ) (at n : ℕ) (body : List ℕ) → at + 1 ≤ length image → IsOpen image at → StandsAt image (at + 1) (big_bytes 4 n)
+    → length body ≡ n → body ≡ take n (drop (at + 5) image) → StandsAt image at (open_gate ∷ (big_bytes 4 (length body) ++ body))
 group_parts image at n body within opened field count is_body =
-    let below : at < length image = omega arith in
-    let size : length (big_bytes 4 (length body) ++ body) ≡ 4 + n = omega (arith, length-append (big_bytes 4 (length body)) body, count) in
-    let behind : drop 4 (drop (at + 1) image) ≡ drop (at + 5) image = drop-drop 4 (at + 1) image ∙ ap (λ k. drop k image) (let e : at + 1 + 4 ≡ at + 5 = omega arith in e) in
-    let inner : take (length (big_bytes 4 (length body) ++ body)) (drop (at + 1) image) ≡ big_bytes 4 (length body) ++ body =
-    ap (λ k. take k (drop (at + 1) image)) size
-    ∙ take_both 4 n (drop (at + 1) image)
-    ∙ ap (λ l. l ++ take n (drop 4 (drop (at + 1) image))) (field ∙ ap (big_bytes 4) (sym count))
-    ∙ ap (λ l. big_bytes 4 (length body) ++ l) (ap (take n) behind ∙ sym is_body) in
-    ap (take (length (open_gate ∷ (big_bytes 4 (length body) ++ body)))) (drop_more image at 0 below)
-    ∙ ap (λ b. b ∷ take (length (big_bytes 4 (length body) ++ body)) (drop (at + 1) image)) opened
-    ∙ ap (λ l. open_gate ∷ l) inner
+    let gate : StandsAt image at (open_gate ∷ []) = ap (take 1) (drop_more image at 0 (omega arith)) ∙ ap (λ b. b ∷ []) opened in
+    let place : at + 5 ≡ at + 1 + 4 = omega arith in
+    let behind : StandsAt image (at + 1 + 4) body = rw (count, ← place) (sym is_body) in
+    stands_both image at (open_gate ∷ []) (big_bytes 4 (length body) ++ body) gate
+    (stands_both image (at + 1) (big_bytes 4 (length body)) body (rw count field) behind)
 
 -- how long a frame is
 pub length-frame : (body : List ℕ) → length (frame_of body) ≡ length body + 5

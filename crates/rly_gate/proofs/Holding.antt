@@ -19,10 +19,10 @@ too_long image at end n fits field past body holds =
     omega (arith, holds.room, length-frame body, same)
 
 -- what was read piece by piece is a group
-pub holds : (image : List ℕ) (at end n : ℕ) (body : List ℕ) → IsOpen image at → StandsAt image (at + 1) (big_bytes 4 n) → n < 2 ^ 32
+pub holds : {image : List ℕ} {at end : ℕ} (n : ℕ) {body : List ℕ} → IsOpen image at → StandsAt image (at + 1) (big_bytes 4 n) → n < 2 ^ 32
     → at + 6 + n ≤ end → end ≤ length image → body ≡ take n (drop (at + 5) image) → HoldsGroup image at end body
-holds image at end n body opened field fits room within is_body =
-    let count : length body ≡ n = ap length is_body ∙ (let e : length (take n (drop (at + 5) image)) ≡ n = omega (arith, length-take n (drop (at + 5) image), length-drop (at + 5) image) in e) in
+holds {image} {at} n {body} opened field fits room within is_body =
+    let count : length body ≡ n = ap length is_body ∙ simp (length-take, length-drop) (omega arith) in
     record {
       bytes = group_parts image at n body (omega arith) opened field count is_body;
       fits = omega (arith, count);

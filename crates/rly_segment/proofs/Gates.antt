@@ -5,8 +5,9 @@ use Rattle.rly_disk.proofs.Overwritten.{overwritten_in}
 use Rattle.rly_gate.specs.Group.{IsClosed, open_gate}
 
 -- a gate that a write doesn't meet stays closed
-pub stays_closed : (place at n : ℕ) (old image : List ℕ) → (place < at) ⊎ (at + n ≤ place) → SameOutside at n old image → IsClosed old place → IsClosed image place
-stays_closed place at n old image apart same closed opened = closed (sym (same.each place apart) ∙ opened)
+pub stays_closed : (place : ℕ) {at n : ℕ} {old image : List ℕ} → SameOutside at n old image → (place < at) ⊎ (at + n ≤ place) → IsClosed old place
+    → IsClosed image place
+stays_closed place same apart closed opened = closed (sym (same.each place apart) ∙ opened)
 
 -- a 0 closes one
 pub zero_closes : (place : ℕ) (old : List ℕ) → place + 1 ≤ length old → IsClosed (overwritten place (0 ∷ []) old) place

@@ -1,5 +1,5 @@
 -- A head as bytes.
-use Rattle.std.proofs.Common.{◌≡◌, ◌≤◌, ◌+◌, ◌*◌, ◌++◌, ◌∙◌, ℕ, zero, suc, List, [], ◌∷◌, length, replicate, arith, ap, refl, length-append}
+use Rattle.std.proofs.Common.{◌≡◌, ◌≤◌, ◌+◌, ◌*◌, ◌++◌, ℕ, zero, suc, List, [], ◌∷◌, length, replicate, arith, refl, length-append}
 use Rattle.std.specs.List.{flat_map}
 use Rattle.byteorder.specs.Endian.{big_bytes}
 use Rattle.rly_core.specs.declared.params.Params.{Params}
@@ -8,7 +8,8 @@ use Rattle.rly_checkpoint.specs.Checkpoint.{Spelled, checkpoint_of, codel_of, ho
 use Rattle.rly_checkpoint.specs.Widths.{mark_of}
 use Rattle.rly_core.specs.declared.params.Geometry.{Geometry}
 use Rattle.rly_segment.specs.Device.{IsLayout}
-use Rattle.rly_segment.specs.Heads.{IsHeadOf, head_of, head_spelled}
+use Rattle.rly_segment.specs.Calls.{new_head}
+use Rattle.rly_segment.specs.Heads.{IsHeadOf, head_spelled}
 
 -- how long a head is
 pub length-head : {P : Type 0} (len : P → ℕ) (form : Spelled P) (generation : ℕ) (s : State P) → length (head_spelled len form generation s ++ 0 ∷ []) ≡ 13 + length (state_spelled len form s)
@@ -21,14 +22,11 @@ length-head len form generation s =
       length-append (big_bytes 8 generation) (big_bytes 4 (mark_of form.which + length (state_spelled len form s))),
     )
 
--- a head from its parts
-pub head_parts : {P : Type 0} (len : P → ℕ) (form : Spelled P) (generation n : ℕ) (s : State P) (body fields : List ℕ) → body ≡ state_spelled len form s → n ≡ mark_of form.which + length body → fields ≡ big_bytes 8 generation ++ big_bytes 4 n
-    → (fields ++ body) ++ 0 ∷ [] ≡ head_spelled len form generation s ++ 0 ∷ []
+-- a head from its length and its body
+pub head_from : {P : Type 0} (len : P → ℕ) (form : Spelled P) (generation n : ℕ) (s : State P) → n ≡ mark_of form.which + length (state_spelled len form s)
+    → (big_bytes 8 generation ++ big_bytes 4 n) ++ state_spelled len form s ≡ head_spelled len form generation s
 unfolding head_spelled
-head_parts len form generation n s body fields is_body count is_fields =
-    ap (λ l. (l ++ body) ++ 0 ∷ []) is_fields
-    ∙ ap (λ k. ((big_bytes 8 generation ++ big_bytes 4 k) ++ body) ++ 0 ∷ []) count
-    ∙ ap (λ l. ((big_bytes 8 generation ++ big_bytes 4 (mark_of form.which + length l)) ++ l) ++ 0 ∷ []) is_body
+head_from len form generation n s count = rw count
 
 -- the bytes of numbers that are all 0
 length-lasts : (n : ℕ) → length (flat_map (big_bytes 8) (replicate n 0)) ≡ 8 * n
@@ -59,10 +57,10 @@ length-new p =
     )
 
 -- a head with the gates around it is no longer than its segment
-pub head_room : {P : Type 0} (len : P → ℕ) (form : Spelled P) (g : Geometry) (segment generation : ℕ) (s : State P) (bytes : List ℕ) → IsHeadOf len form g segment generation s
-    → bytes ≡ head_spelled len form generation s ++ 0 ∷ [] → 1 + length bytes ≤ g.length
-head_room len form g segment generation s bytes head is = omega (arith, head.room, ap length is, length-head len form generation s)
+pub head_room : {P : Type 0} {len : P → ℕ} {form : Spelled P} {g : Geometry} {segment generation : ℕ} {s : State P} → IsHeadOf len form g segment generation s
+    → 1 + length (head_spelled len form generation s ++ 0 ∷ []) ≤ g.length
+head_room {len = len} {form} {generation = generation} {s} head = omega (arith, head.room, length-head len form generation s)
 
 -- nor is the first one
-pub new_head_room : (g : Geometry) (size : ℕ) (bytes : List ℕ) → IsLayout g size → bytes ≡ head_of 1 (new_state g.params) ++ 0 ∷ [] → 1 + length bytes ≤ g.length
-new_head_room g size bytes geometry is = omega (arith, geometry.fits, ap length is, length-head length inline_form 1 (new_state g.params), length-new g.params)
+pub new_head_room : {g : Geometry} {size : ℕ} → IsLayout g size → 1 + length (new_head g) ≤ g.length
+new_head_room {g} geometry = omega (arith, geometry.fits, length-head length inline_form 1 (new_state g.params), length-new g.params)

@@ -1,145 +1,109 @@
 -- A header as bytes, and the geometry that it names.
-use Rattle.std.proofs.Common.{◌≡◌, ◌≤◌, ◌<◌, ◌+◌, ◌-◌, ◌^◌, ◌==◌, ◌∙◌, ℕ, List, [], length, take, drop, arith, ap, sym, refl}
+use Rattle.std.proofs.Common.{◌≡◌, ◌≤◌, ◌<◌, ◌+◌, ◌^◌, ◌==◌, ◌∙◌, ℕ, List, [], length, get_or, take, drop, arith, ap, sym, subst, refl}
 use Rattle.std.specs.Prelude.{if◌then◌else◌}
-use Rattle.std.proofs.lemmas.List.{drop-drop, drop-take, take-take}
+use Rattle.std.proofs.lemmas.List.{append-nil, get_or-drop, get_or-take}
 use Rattle.byteorder.specs.Endian.{big_bytes, big_number}
 use Rattle.byteorder.specs.Numbers.{big_number-reads_back}
-use Rattle.rly_core.specs.Limits.{IsWithinLimits}
+use Rattle.rly_core.specs.Bounds.{IsIn}
 use Rattle.rly_core.specs.declared.params.Geometry.{Geometry}
-use Rattle.rly_gate.specs.Group.{StandsAt}
-use Rattle.rly_segment.specs.Device.{device_text, geometry_in, header_of, longest_in, number_in, version_in}
-
--- a part of what stands after the gate
-pub field : (image header : List ℕ) (k w : ℕ) → StandsAt image 1 header → k + w ≤ length header → take w (drop (1 + k) image) ≡ take w (drop k header)
-field image header k w stands within =
-    let rest : ℕ = length header - k in
-    let all : k + rest ≡ length header = omega arith in
-    ap (take w) (sym (drop-drop k 1 image))
-    ∙ sym (take-take w rest (drop k (drop 1 image)) (omega arith))
-    ∙ ap (take w) (sym (drop-take k rest (drop 1 image)))
-    ∙ ap (λ n. take w (drop k (take n (drop 1 image)))) all
-    ∙ ap (λ l. take w (drop k l)) stands
+use Rattle.rly_gate.specs.Group.{IsOpen, StandsAt}
+use Rattle.rly_segment.specs.Device.{IsDevice, IsLayout, device_text, geometry_in, header_of, longest_in, number_in, version_in}
+use Rattle.rly_segment.proofs.Standing.{part_of_front}
 
 pub length-header : (g : Geometry) → length (header_of g) ≡ 52
 unfolding header_of
 length-header g = refl
 
-mark : (g : Geometry) → take 8 (drop 0 (header_of g)) ≡ device_text
-unfolding header_of
-mark g = refl
+-- what stands after the gate is the header of a geometry
+module _ (g : Geometry) (image : List ℕ) (stands : StandsAt image 1 (header_of g)) where
+  field : (k w : ℕ) → k + w ≤ 52 → take w (drop (1 + k) image) ≡ take w (drop k (header_of g))
+  field k w within = sym (part_of_front image (header_of g) 1 (length (header_of g)) k w (sym stands) (omega (arith, length-header g)))
 
--- the text
-pub mark_read : (g : Geometry) (image : List ℕ) → StandsAt image 1 (header_of g) → StandsAt image 1 device_text
-mark_read g image stands = field image (header_of g) 0 8 stands (omega (arith, length-header g)) ∙ mark g
+  -- the text
+  pub mark_read : StandsAt image 1 device_text
+  unfolding header_of
+  mark_read = field 0 8 (omega arith)
 
--- a number
-number_read : (g : Geometry) (image : List ℕ) (k w n : ℕ) → StandsAt image 1 (header_of g) → k + w ≤ 52 → take w (drop k (header_of g)) ≡ big_bytes w n
-    → big_number w (big_bytes w n) ≡ n → number_in image (1 + k) w ≡ n
-number_read g image k w n stands within there back =
-    ap (big_number w) (field image (header_of g) k w stands (omega (arith, length-header g)) ∙ there) ∙ back
+  -- a number
+  number_read : (k w n : ℕ) → k + w ≤ 52 → take w (drop k (header_of g)) ≡ big_bytes w n → n < 256 ^ w → number_in image (1 + k) w ≡ n
+  number_read k w n within there fits =
+      ap (big_number w) (field k w within ∙ there ∙ sym (append-nil (big_bytes w n))) ∙ big_number-reads_back w n [] fits
 
--- the version, and the longest payload, for which version 2 has a field
-at_version : (g : Geometry) → take 2 (drop 8 (header_of g)) ≡ big_bytes 2 2
-unfolding header_of
-at_version g = refl
+  -- the version, and the longest payload, for which version 2 has a field
+  pub version_read : version_in image ≡ 2
+  unfolding header_of
+  version_read = number_read 8 2 2 (omega arith) refl (omega arith)
 
-at_payload : (g : Geometry) → take 2 (drop 50 (header_of g)) ≡ big_bytes 2 g.params.payload
-unfolding header_of
-at_payload g = refl
+  longest_read : g.params.payload < 2 ^ 16 → longest_in image ≡ g.params.payload
+  unfolding header_of
+  longest_read fits =
+      ap (λ version. if version == 2 then number_in image 51 2 else 1200) version_read
+      ∙ number_read 50 2 g.params.payload (omega arith) refl (omega (arith, fits))
 
-pub version_read : (g : Geometry) (image : List ℕ) → StandsAt image 1 (header_of g) → version_in image ≡ 2
-version_read g image stands = number_read g image 8 2 2 stands (omega arith) (at_version g) (big_number-reads_back 2 2 [] (omega arith))
+  -- the geometry
+  pub geometry_read : {size : ℕ} → IsLayout g size → geometry_in image ≡ g
+  unfolding header_of geometry_in
+  geometry_read geometry =
+      let limits = geometry.params in
+      rw (
+        number_read 10 2 g.params.hops (omega arith) refl (omega (arith, limits.hops)),
+        number_read 12 2 g.params.peers (omega arith) refl (omega (arith, limits.peers)),
+        number_read 14 2 g.params.window (omega arith) refl (omega (arith, limits.window)),
+        number_read 16 2 g.segments (omega arith) refl (omega (arith, geometry.segments.1)),
+        number_read 18 4 g.length (omega arith) refl (omega (arith, geometry.length)),
+        number_read 22 4 g.params.items (omega arith) refl (omega (arith, limits.items)),
+        number_read 26 4 g.params.bytes (omega arith) refl (omega (arith, limits.bytes)),
+        number_read 30 4 g.params.maxpacket (omega arith) refl (omega (arith, limits.maxpacket)),
+        number_read 34 8 g.params.target (omega arith) refl (omega (arith, limits.target, limits.interval)),
+        number_read 42 8 g.params.interval (omega arith) refl (omega (arith, limits.interval)),
+        longest_read (omega (arith, limits.payload)),
+      ) refl
 
-longest_read : (g : Geometry) (image : List ℕ) → g.params.payload < 2 ^ 16 → StandsAt image 1 (header_of g) → longest_in image ≡ g.params.payload
-longest_read g image fits stands =
-    ap (λ version. if version == 2 then number_in image 51 2 else 1200) (version_read g image stands)
-    ∙ number_read g image 50 2 g.params.payload stands (omega arith) (at_payload g) (big_number-reads_back 2 g.params.payload [] (omega (arith, fits)))
+-- ---- the first bytes of a device, which were read
 
-made : ℕ → ℕ → ℕ → ℕ → ℕ → ℕ → ℕ → ℕ → ℕ → ℕ → ℕ → Geometry
-made hops peers window segments size items bytes maxpacket target interval payload = record {
-  params = record {
-    hops = hops;
-    peers = peers;
-    window = window;
-    items = items;
-    bytes = bytes;
-    maxpacket = maxpacket;
-    target = target;
-    interval = interval;
-    payload = payload;
-  };
-  segments = segments;
-  length = size;
-}
+module _ (image front : List ℕ) (at n : ℕ) (is : front ≡ take n (drop at image)) where
+  -- the gate
+  pub gate_at_front : 0 < n → get_or front 0 0 ≡ get_or image at 0
+  gate_at_front some =
+      ap (λ l. get_or l 0 0) is ∙ get_or-take n (drop at image) 0 0 some ∙ get_or-drop at image 0 0
+      ∙ ap (λ k. get_or image k 0) (let e : at + 0 ≡ at = omega arith in e)
 
-all_of : (image : List ℕ) → geometry_in image
-    ≡ made (number_in image 11 2) (number_in image 13 2) (number_in image 15 2) (number_in image 17 2) (number_in image 19 4)
-    (number_in image 23 4) (number_in image 27 4) (number_in image 31 4) (number_in image 35 8) (number_in image 43 8) (longest_in image)
-unfolding geometry_in made
-all_of image = refl
+  -- a number
+  pub number_in_front : (place width : ℕ) → place + width ≤ n → number_in front place width ≡ number_in image (at + place) width
+  number_in_front place width within = ap (big_number width) (part_of_front image front at n place width is within)
 
-whole : (g : Geometry) → made g.params.hops g.params.peers g.params.window g.segments g.length g.params.items g.params.bytes g.params.maxpacket g.params.target g.params.interval g.params.payload ≡ g
-unfolding made
-whole g = refl
+module _ (image front : List ℕ) (is : front ≡ take 53 image) where
+  number : (place width : ℕ) → place + width ≤ 53 → number_in front place width ≡ number_in image (0 + place) width
+  number place width within = number_in_front image front 0 53 is place width within
 
-same_made : {a b c d e f h i j k l a' b' c' d' e' f' h' i' j' k' l' : ℕ} → a ≡ a' → b ≡ b' → c ≡ c' → d ≡ d' → e ≡ e' → f ≡ f' → h ≡ h' → i ≡ i' → j ≡ j' → k ≡ k'
-    → l ≡ l' → made a b c d e f h i j k l ≡ made a' b' c' d' e' f' h' i' j' k' l'
-same_made p q r s t u v w x y z = cc
+  -- the geometry
+  geometry_in_front : geometry_in front ≡ geometry_in image
+  unfolding geometry_in
+  geometry_in_front =
+      rw (
+        number 9 2 (omega arith),
+        number 11 2 (omega arith),
+        number 13 2 (omega arith),
+        number 15 2 (omega arith),
+        number 17 2 (omega arith),
+        number 19 4 (omega arith),
+        number 23 4 (omega arith),
+        number 27 4 (omega arith),
+        number 31 4 (omega arith),
+        number 35 8 (omega arith),
+        number 43 8 (omega arith),
+        number 51 2 (omega arith),
+      ) refl
 
-at_hops : (g : Geometry) → take 2 (drop 10 (header_of g)) ≡ big_bytes 2 g.params.hops
-unfolding header_of
-at_hops g = refl
-
-at_peers : (g : Geometry) → take 2 (drop 12 (header_of g)) ≡ big_bytes 2 g.params.peers
-unfolding header_of
-at_peers g = refl
-
-at_window : (g : Geometry) → take 2 (drop 14 (header_of g)) ≡ big_bytes 2 g.params.window
-unfolding header_of
-at_window g = refl
-
-at_segments : (g : Geometry) → take 2 (drop 16 (header_of g)) ≡ big_bytes 2 g.segments
-unfolding header_of
-at_segments g = refl
-
-at_length : (g : Geometry) → take 4 (drop 18 (header_of g)) ≡ big_bytes 4 g.length
-unfolding header_of
-at_length g = refl
-
-at_items : (g : Geometry) → take 4 (drop 22 (header_of g)) ≡ big_bytes 4 g.params.items
-unfolding header_of
-at_items g = refl
-
-at_bytes : (g : Geometry) → take 4 (drop 26 (header_of g)) ≡ big_bytes 4 g.params.bytes
-unfolding header_of
-at_bytes g = refl
-
-at_maxpacket : (g : Geometry) → take 4 (drop 30 (header_of g)) ≡ big_bytes 4 g.params.maxpacket
-unfolding header_of
-at_maxpacket g = refl
-
-at_target : (g : Geometry) → take 8 (drop 34 (header_of g)) ≡ big_bytes 8 g.params.target
-unfolding header_of
-at_target g = refl
-
-at_interval : (g : Geometry) → take 8 (drop 42 (header_of g)) ≡ big_bytes 8 g.params.interval
-unfolding header_of
-at_interval g = refl
-
--- the geometry
-pub geometry_read : (g : Geometry) (image : List ℕ) → IsWithinLimits g.params → g.segments < 2 ^ 16 → g.length < 2 ^ 32 → StandsAt image 1 (header_of g) → geometry_in image ≡ g
-geometry_read g image limits segments size stands =
-    all_of image
-    ∙ same_made
-    (number_read g image 10 2 g.params.hops stands (omega arith) (at_hops g) (big_number-reads_back 2 g.params.hops [] (omega (arith, limits.hops))))
-    (number_read g image 12 2 g.params.peers stands (omega arith) (at_peers g) (big_number-reads_back 2 g.params.peers [] (omega (arith, limits.peers))))
-    (number_read g image 14 2 g.params.window stands (omega arith) (at_window g) (big_number-reads_back 2 g.params.window [] (omega (arith, limits.window))))
-    (number_read g image 16 2 g.segments stands (omega arith) (at_segments g) (big_number-reads_back 2 g.segments [] (omega (arith, segments))))
-    (number_read g image 18 4 g.length stands (omega arith) (at_length g) (big_number-reads_back 4 g.length [] (omega (arith, size))))
-    (number_read g image 22 4 g.params.items stands (omega arith) (at_items g) (big_number-reads_back 4 g.params.items [] (omega (arith, limits.items))))
-    (number_read g image 26 4 g.params.bytes stands (omega arith) (at_bytes g) (big_number-reads_back 4 g.params.bytes [] (omega (arith, limits.bytes))))
-    (number_read g image 30 4 g.params.maxpacket stands (omega arith) (at_maxpacket g) (big_number-reads_back 4 g.params.maxpacket [] (omega (arith, limits.maxpacket))))
-    (number_read g image 34 8 g.params.target stands (omega arith) (at_target g) (big_number-reads_back 8 g.params.target [] (omega (arith, limits.target, limits.interval))))
-    (number_read g image 42 8 g.params.interval stands (omega arith) (at_interval g) (big_number-reads_back 8 g.params.interval [] (omega (arith, limits.interval))))
-    (longest_read g image (omega (arith, limits.payload)) stands)
-    ∙ whole g
+  -- a device has an open gate, the text and a version
+  pub device_read : 64 ≤ length image → IsOpen front 0 × StandsAt front 1 device_text × IsIn 1 2 (version_in front)
+      → IsDevice image × (geometry_in front ≡ geometry_in image)
+  device_read long found = (
+    record {
+      long = long;
+      gate = sym (gate_at_front image front 0 53 is (omega arith)) ∙ found.0;
+      mark = sym (part_of_front image front 0 53 1 8 is (omega arith)) ∙ found.1;
+      version = subst (IsIn 1 2) (number 9 2 (omega arith)) found.2;
+    },
+    geometry_in_front,
+  )

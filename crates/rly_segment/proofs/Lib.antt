@@ -1,6 +1,4 @@
-pub mod Beside
 pub mod Devices
-pub mod Fields
 pub mod Filling
 pub mod Gates
 pub mod Greater

@@ -25,21 +25,22 @@ module _ {D : Type 0} (state : D → DiskState) {a b : D} {whole : Bool} where
   pub header_read : (size : ℕ) → 64 ≤ size → Makes state (Read 0 53 ∷ []) whole a b → Makes state (header_reads size) whole a b
   header_read size long made = subst (λ t. Makes state (if t then Read 0 53 ∷ [] else []) whole a b) (sym (le-leb 64 size long)) made
 
-  -- a head with its body
-  pub head_made : {e : D} (p place n : ℕ) → p ≡ place → Makes state (Read (p + 1) 12 ∷ []) true e a → Makes state (Read (p + 13) n ∷ []) whole a b
-      → Makes state (head_reads place (Some n)) whole e b
-  head_made {e} p place n is first second =
-      subst (λ k. Makes state (Read (k + 1) 12 ∷ Read (k + 13) n ∷ []) whole e b) is (makes_joined state (Read (p + 1) 12 ∷ []) (Read (p + 13) n ∷ []) whole first second)
-
-  pub head_read : {e : D} (p place n : ℕ) → p ≡ place → Makes state (Read (p + 1) 12 ∷ []) true e a → Makes state (Read (p + 13) n ∷ []) whole a b
-      → (body : Option ℕ) × Unit {0} × Makes state (head_reads place body) whole e b
-  head_read p place n is first second = (Some n, tt, head_made p place n is first second)
-
-  pub start_read : (p place : ℕ) → p ≡ place → Makes state (Read (p + 1) 12 ∷ []) whole a b → (body : Option ℕ) × Unit {0} × Makes state (head_reads place body) whole a b
-  start_read p place is made = (None, tt, subst (λ k. Makes state (Read (k + 1) 12 ∷ []) whole a b) is made)
-
 -- and of one that isn't
 pub header_unread : {D : Type 0} (state : D → DiskState) (a : D) (size : ℕ) → size < 64 → Makes state (header_reads size) true a a
 header_unread state a size short =
     let no : nat_le 64 size ≡ false = grind (arith, nat_tests) in
     subst (λ t. Makes state (if t then Read 0 53 ∷ [] else []) true a a) (sym no) (makes_nothing state a)
+
+module _ {D : Type 0} {state : D → DiskState} {a b : D} {whole : Bool} {p place : ℕ} (is : p ≡ place) where
+  -- a head's generation and length
+  pub only_start : Makes state (Read (p + 1) 12 ∷ []) whole a b → (body : Option ℕ) × Unit {0} × Makes state (head_reads place body) whole a b
+  only_start made = (None, tt, rw is at made)
+
+  -- and with its body
+  pub head_made : {e : D} {n : ℕ} → Makes state (Read (p + 1) 12 ∷ []) true e a → Makes state (Read (p + 13) n ∷ []) whole a b
+      → Makes state (head_reads place (Some n)) whole e b
+  head_made first second = rw is at (makes_joined state _ _ whole first second)
+
+  pub head_read : {e : D} {n : ℕ} → Makes state (Read (p + 1) 12 ∷ []) true e a → Makes state (Read (p + 13) n ∷ []) whole a b
+      → (body : Option ℕ) × Unit {0} × Makes state (head_reads place body) whole e b
+  head_read {n = n} first second = (Some n, tt, head_made first second)

@@ -1,5 +1,5 @@
 -- Heads of which payloads stand by place.
-use Rattle.std.proofs.Common.{ℕ, ◌≡◌, ◌+◌, ◌<◌, ◌≤◌, ◌^◌, List, length, get_or, take, drop, arith, sym, ap, subst, ◌∙◌}
+use Rattle.std.proofs.Common.{ℕ, ◌≡◌, ◌<◌, ◌≤◌, ◌^◌, List, length, get_or, arith, sym, ap, subst, ◌∙◌}
 use Rattle.std.specs.Prelude.{All, Err}
 use Rattle.std.proofs.Math.Nat.{mul-le-mul_right}
 use Rattle.rly_core.specs.declared.params.Geometry.{Geometry}
@@ -9,7 +9,6 @@ use Rattle.rly_machine.specs.State.{State}
 use Rattle.rly_checkpoint.specs.Checkpoint.{IsOfForm, state_spelled}
 use Rattle.rly_checkpoint.specs.Forms.{HaveForms}
 use Rattle.rly_checkpoint.specs.Stored.{IsStorable, state_in, stored_form_of, stored_length, stored_spelled}
-use Rattle.rly_checkpoint.specs.Widths.{mark_of}
 use Rattle.rly_checkpoint.specs.declared.head_form.HeadForm.{HeadForm}
 use Rattle.rly_checkpoint.specs.declared.head_form.HeadForm.TheVariants.{First, Second}
 use Rattle.rly_checkpoint.specs.declared.stored.Place.{Place}
@@ -19,12 +18,12 @@ use Rattle.rly_places.specs.Placed.{IsPlaced, LiesElsewhere}
 use Rattle.rly_places.specs.Places.{LiesIn}
 use Rattle.rly_places.proofs.Placing.{of_items}
 use Rattle.rly_segment.specs.Device.{IsLayout}
-use Rattle.rly_segment.specs.Heads.{HoldsHeadOf, segment_place}
+use Rattle.rly_segment.specs.Heads.{HoldsHeadOf}
 use Rattle.rly_segment.specs.declared.heads.HeadFault.{HeadFault}
 use Rattle.rly_segment.specs.declared.heads.HeadFault.TheVariants as head
-use Rattle.rly_segment.specs.Answers.{HoldsNoHeadOf, IsReadHeadOf}
+use Rattle.rly_segment.specs.Answers.{IsReadHeadOf}
 use Rattle.rly_segment.specs.PlacedHeads.{HeadStandsFor, HoldsNonePlaced, IsReadPlaced}
-use Rattle.rly_segment.proofs.HeadBytes.{body_short, head_begins, head_body, mark_fits, mark_once, start_once}
+use Rattle.rly_segment.proofs.HeadBytes.{head_parts, its_start, read_as, start_is}
 
 -- where a payload that lies in a segment begins fits 5 bytes
 pub lies_storable : (g : Geometry) (size segment : ℕ) (place : Place) → IsLayout g size → LiesIn g segment place → place.start < 2 ^ 40
@@ -56,49 +55,34 @@ pub stored_once : OneSpelling → (image : List ℕ) (g : Geometry) (segment : �
     → HoldsHeadOf stored_length (stored_spelled w) image g segment n a → HoldsHeadOf stored_length (stored_spelled v) image g segment m b
     → All (HaveForms (IsStorable w)) a.hops → All (HaveForms (IsStorable v)) b.hops → (w ≡ v) × (n ≡ m) × (a ≡ b)
 stored_once one image g segment w v n m a b short first second forms_a forms_b =
-    let place : ℕ = segment_place g segment in
-    let spelled : HeadForm → State Stored → List ℕ = λ which s. state_spelled stored_length (stored_spelled which) s in
-    let fits_a : length (spelled w a) < 2 ^ 31 = body_short stored_length (stored_spelled w) g segment n a short first.head in
-    let fits_b : length (spelled v b) < 2 ^ 31 = body_short stored_length (stored_spelled v) g segment m b short second.head in
-    let starts : (n ≡ m) × (mark_of w + length (spelled w a) ≡ mark_of v + length (spelled v b)) =
-    start_once image (place + 1) n (mark_of w + length (spelled w a)) m (mark_of v + length (spelled v b))
-    (omega (arith, first.head.most, first.sound.seq)) (omega (arith, second.head.most, second.sound.seq)) (mark_fits w (length (spelled w a)) fits_a) (mark_fits v (length (spelled v b)) fits_b)
-    (head_begins stored_length (stored_spelled w) image (place + 1) n a first.bytes) (head_begins stored_length (stored_spelled v) image (place + 1) m b second.bytes) in
-    let marks : (w ≡ v) × (length (spelled w a) ≡ length (spelled v b)) = mark_once w v (length (spelled w a)) (length (spelled v b)) fits_a fits_b starts.1 in
-    let same : spelled w a ≡ spelled v b =
-    sym (head_body stored_length (stored_spelled w) image place n a first.bytes)
-    ∙ ap (λ (k : ℕ). take k (drop (place + 13) image)) marks.1
-    ∙ head_body stored_length (stored_spelled v) image place m b second.bytes in
-    let forms : All (HaveForms (IsStorable v)) a.hops = subst (λ (x : HeadForm). All (HaveForms (IsStorable x)) a.hops) marks.0 forms_a in
-    let plain : IsOfForm v a = subst (λ (x : HeadForm). IsOfForm x a) marks.0 first.plain in (
-      marks.0,
-      starts.0,
-      one v a b first.sound second.sound forms forms_b plain second.plain (first.head.params ∙ sym second.head.params)
-          (ap (λ (x : HeadForm). spelled x a) (sym marks.0) ∙ same),
+    let start = its_start stored_form_of IsStorable w short first in
+    let its = start_is stored_form_of IsStorable start v second in (
+      its.1,
+      its.0,
+      read_as stored_form_of IsStorable start (sym (head_parts first).1) (λ t. a ≡ t)
+          (λ t sound has plain params same. one w a t first.sound sound forms_a has first.plain plain (first.head.params ∙ sym params) same) v forms_b second,
     )
 
 pub one_head : OneSpelling → (image : List ℕ) (g : Geometry) (segment n m : ℕ) (a b : State (List ℕ)) → IsLayout g (length image)
     → HeadStandsFor image g segment n a → HeadStandsFor image g segment m b → (n ≡ m) × (a ≡ b)
 one_head one image g segment n m a b geometry first second =
+    let forms = λ (h : HeadForm) (s : State Stored). forms_of h g (length image) segment s geometry in
     let once = stored_once one image g segment first.form second.form n m first.stored second.stored geometry.length first.holds.head second.holds.head
-    (forms_of first.form g (length image) segment first.stored geometry first.holds.placed) (forms_of second.form g (length image) segment second.stored geometry second.holds.placed) in
+    (forms first.form first.stored first.holds.placed) (forms second.form second.stored second.holds.placed) in
     (once.1, sym first.bytes ∙ ap (state_in image) once.2 ∙ second.bytes)
 
 -- a head that was read holds no other state
-pub not_placed : OneSpelling → (image : List ℕ) (g : Geometry) (size segment : ℕ) (which : HeadForm) (n : ℕ) (found : State Stored) → IsLayout g size
+pub not_placed : OneSpelling → {image : List ℕ} {g : Geometry} {size segment n : ℕ} {which : HeadForm} {found : State Stored} → IsLayout g size
     → HoldsHeadOf stored_length (stored_spelled which) image g segment n found → All (HaveForms (IsStorable which)) found.hops → (IsPlaced g segment found → ⊥)
     → HoldsNonePlaced image g segment
-not_placed one image g size segment which n found geometry holds forms astray v m s other =
-    let same : s ≡ found = (stored_once one image g segment v which m n s found geometry.length other.head holds (forms_of v g size segment s geometry other.placed) forms).2 in
+not_placed one {image} {g} {size} {segment} {n} {which} {found} geometry holds forms astray v m s other =
+    let same =
+    (stored_once one image g segment v which m n s found geometry.length other.head holds (forms_of v g size segment s geometry other.placed) forms).2 in
     astray (subst (IsPlaced g segment) same other.placed)
 
 -- where no state is held, none is held that is placed
-pub none_placed : (image : List ℕ) (g : Geometry) (size segment : ℕ) → IsLayout g size → HoldsNoHeadOf stored_length stored_form_of IsStorable image g segment
-    → HoldsNonePlaced image g segment
-none_placed image g size segment geometry none v m s other = none v m s (forms_of v g size segment s geometry other.placed) other.head
-
-pub fault_placed : (image : List ℕ) (g : Geometry) (size segment : ℕ) (fault : HeadFault) → IsLayout g size
+pub fault_placed : (image : List ℕ) {g : Geometry} {size : ℕ} (segment : ℕ) (fault : HeadFault) → IsLayout g size
     → IsReadHeadOf stored_length stored_form_of IsStorable image g segment (Err fault) → IsReadPlaced image g segment (Err fault)
-fault_placed image g size segment head.Damaged geometry none = none_placed image g size segment geometry none
-fault_placed image g size segment head.OutOfMemory geometry none = tt
-fault_placed image g size segment head.Device geometry none = tt
+fault_placed image {g} {size} segment head.Damaged geometry none = λ v m s other. none v m s (forms_of v g size segment s geometry other.placed) other.head
+fault_placed image segment head.OutOfMemory geometry none = tt
+fault_placed image segment head.Device geometry none = tt

@@ -1,33 +1,18 @@
 -- Bytes that stand at a place, and their parts.
-use Rattle.std.proofs.Common.{ℕ, ◌≡◌, ◌+◌, ◌-◌, ◌≤◌, List, ◌++◌, length, take, drop, arith, refl, sym, ◌∙◌, ap, length-append}
-use Rattle.std.proofs.lemmas.List.{drop-drop, drop-take, drop_at, take-take, take_at}
-use Rattle.rly_gate.proofs.Frames.{take_both}
+use Rattle.std.proofs.Common.{ℕ, ◌≡◌, ◌+◌, ◌-◌, ◌≤◌, List, ◌++◌, length, take, drop, arith, ◌∙◌, ap}
+use Rattle.std.proofs.lemmas.List.{drop-drop, drop-take, take-take}
+use Rattle.rly_gate.proofs.Frames as gate
 use Rattle.rly_gate.specs.Group.{StandsAt}
 
--- two rows of bytes, one after the other
+-- two rows of bytes, one after the other, are the first of the two and the second
 pub stands_both : (image : List ℕ) (at : ℕ) (a b : List ℕ) → StandsAt image at a → StandsAt image (at + length a) b → StandsAt image at (a ++ b)
-stands_both image at a b first second =
-    ap (λ k. take k (drop at image)) (length-append a b)
-    ∙ take_both (length a) (length b) (drop at image)
-    ∙ ap (λ l. l ++ take (length b) (drop (length a) (drop at image))) first
-    ∙ ap (λ l. a ++ take (length b) l) (drop-drop (length a) at image)
-    ∙ ap (λ l. a ++ l) second
+stands_both = gate.stands_both
 
--- the first of two
 pub stands_front : (image : List ℕ) (at : ℕ) (a b : List ℕ) → StandsAt image at (a ++ b) → StandsAt image at a
-stands_front image at a b both =
-    sym (take-take (length a) (length (a ++ b)) (drop at image) (omega (arith, length-append a b)))
-    ∙ ap (take (length a)) both
-    ∙ take_at a b (length a) refl
+stands_front = gate.stands_front
 
--- the second of two
 pub stands_back : (image : List ℕ) (at : ℕ) (a b : List ℕ) → StandsAt image at (a ++ b) → StandsAt image (at + length a) b
-stands_back image at a b both =
-    ap (take (length b)) (sym (drop-drop (length a) at image))
-    ∙ sym (drop-take (length a) (length b) (drop at image))
-    ∙ ap (λ k. drop (length a) (take k (drop at image))) (sym (length-append a b))
-    ∙ ap (drop (length a)) both
-    ∙ drop_at a b (length a) refl
+stands_back = gate.stands_back
 
 -- a part of the first so many bytes after a place
 pub part_of_front : (image front : List ℕ) (at n place width : ℕ) → front ≡ take n (drop at image) → place + width ≤ n

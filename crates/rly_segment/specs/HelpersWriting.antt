@@ -1,11 +1,13 @@
 -- Helpers: what a crash may leave within the private steps of an opening and of a format. Nothing here is claimed: what
 -- it may leave within the whole calls is said by `Heads` and `Formatted`.
-use Rattle.std.specs.Prelude.{◌≡◌, ◌⊎◌, ℕ, ◌<◌, List, ◌∷◌, ◌++◌, length}
+use Rattle.std.specs.Prelude.{◌≡◌, ◌⊎◌, ◌↔◌, ℕ, ◌<◌, Bool, IsTrue, List, ◌∷◌, ◌++◌, length}
 use Rattle.byteorder.specs.Endian.{big_bytes}
 use Rattle.rly_core.specs.declared.params.Geometry.{Geometry}
 use Rattle.rly_core.specs.declared.params.Params.{Params}
-use Rattle.rly_disk.specs.DiskModel.{SameOutside}
+use Rattle.rly_disk.specs.DiskModel.{DiskState, SameOutside}
+use Rattle.rly_disk.specs.Trace.{Makes}
 use Rattle.rly_gate.specs.Group.{IsClosed, IsOpen, StandsAt, open_gate}
+use Rattle.rly_segment.specs.Calls.{formatting}
 use Rattle.rly_segment.specs.Device.{device_text, header_of}
 use Rattle.rly_segment.specs.Heads.{segment_place}
 
@@ -25,6 +27,13 @@ pub record IsUnopened (g : Geometry) (behind image : List ℕ) : Type 0 where
   pub header : StandsAt image 1 (header_of g)
   pub head : StandsAt image (segment_place g 0) (open_gate ∷ behind)
   pub others : (t : ℕ) → 0 < t → t < g.segments → IsClosed image (segment_place g t)
+
+-- the calls of a format were made, all or those up to the first that failed: its first tells whether the gate was closed
+pub record Formats {D : Type 0} (state : D → DiskState) (g : Geometry) (head : List ℕ) (whole : Bool) (old new : D)
+    : Type 0 where
+  pub closed : Bool
+  pub told : (state old).honest → (IsTrue closed ↔ IsClosed (state old).seen 0)
+  pub row : Makes state (formatting g closed head) whole old new
 
 -- the first fields of a header: the text, the version, the counts and the segments' length
 abbrev pub shape_of : Geometry → List ℕ

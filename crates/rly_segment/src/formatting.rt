@@ -8,7 +8,7 @@ ghost use Rattle.rly_segment.specs.Calls.{closing_gates, filling, format_calls, 
 ghost use Rattle.rly_segment.specs.Device.{IsLayout, header_of};
 ghost use Rattle.rly_segment.specs.Formatted.{IsFormatted, IsFormatting, IsSameBeside};
 ghost use Rattle.rly_segment.specs.Heads.{head_of};
-ghost use Rattle.rly_segment.specs.HelpersWriting.{limits_of, shape_of};
+ghost use Rattle.rly_segment.specs.HelpersWriting.{Formats, limits_of, shape_of};
 
 use crate::head_bytes::head_bytes;
 use crate::header::{DEVICE_TEXT, VERSION, is_layout};
@@ -78,8 +78,7 @@ fn new_head(alloc: Global, geometry: &Geometry) -> Result<Vec<u8>, AllocError>
 fn write_device<D: Disk>(disk: &mut D, geometry: &Geometry, head: &[u8]) -> Result<(), DiskFault>
     requires geometry { IsLayout geometry.now (D.state disk.old).size }
     requires head { head.now ≡ head_of 1 (new_state geometry.now.params) ++ 0 ∷ [] }
-    ensures { (closed : Bool) × ((D.state disk.old).honest → (IsTrue closed ↔ IsClosed (D.state disk.old).seen 0))
-        × Makes D.state (formatting geometry.now closed head.now) (is_ok result) disk.old disk.new }
+    ensures { Formats D.state geometry.now head.now (is_ok result) disk.old disk.new }
 {
     let opened = is_open(disk, 0)?;
     close_gate(disk, 0, !opened)?;

@@ -4,5 +4,4 @@ use Rattle.rly_segment.proofs.Replacing.{opening_leaves}
 use Rattle.rly_segment.proofs.laws.law_opening.Goals as goal
 
 pub returns : goal.returns
-returns g c geometry segment generation s closed whole fits there head told settled made =
-    opening_leaves g.C.Content.length_of (spelled_by g.C.Form.form Second) g.D.Disk.state geometry segment generation s closed fits there head told settled made
+returns g c = opening_leaves g.C.Content.length_of (spelled_by g.C.Form.form Second) g.D.Disk.state
