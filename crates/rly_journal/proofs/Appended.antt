@@ -24,7 +24,7 @@ use Rattle.rly_standing.proofs.Appending.{append_image, append_logged, appended_
 use Rattle.rly_journal.specs.HelpersJournal.{IsTaggedIn}
 use Rattle.rly_journal.proofs.Tagging.{tagged_appended}
 
-module _ {D : Type 0} (state : D → DiskState) {a : D} (tail : Tail) (group : GroupState) (commands : Commands) (s : State (List ℕ))
+module _ {D : Type 0} (state : D → DiskState) {a : D} {tail : Tail} {group : GroupState} {commands : Commands} {s : State (List ℕ)}
     (durable : IsDurable (state a) tail s) (holds : Holds commands group) (count : IsIn 1 64 group.count) (accepted : AllAccepted length s commands)
     (room : tail.gate + 6 + length (group_body group) ≤ segment_end tail.geometry tail.segment) where
   same : group_body group ≡ body_of commands
@@ -46,12 +46,12 @@ module _ {D : Type 0} (state : D → DiskState) {a : D} (tail : Tail) (group : G
   pub append_leaves : {b : D} {whole : Bool} → Makes state (appending tail.gate (group_body group)) whole a b
       → LeavesOnly (state a) (state b) (λ image. Stands image s ⊎ Stands image (fold length s commands))
   append_leaves {b} {whole} made =
+      let shut : IsClosed (state a).seen tail.gate = rw durable.logged.ends.gate durable.logged.stands.closed in
       makes_leaves state (λ image. Stands image s ⊎ Stands image (fold length s commands))
       (subst (λ (bytes : List ℕ). Makes state (appending tail.gate bytes) whole a b) same made) durable.settled
       (λ c image.
       append_image tail commands s have accepted few fits (state a).seen c durable.logged
-      (appending_image tail.gate (body_of commands) (state a).seen c
-      (subst (IsClosed (state a).seen) (sym durable.logged.ends.gate) durable.logged.stands.closed) within image))
+      (appending_image tail.gate (body_of commands) (state a).seen c shut within image))
 
   module _ {b : D} (made : Makes state (appending tail.gate (group_body group)) true a b) where
     written : (state b).seen ≡ overwritten tail.gate (group_of (body_of commands)) (state a).seen
@@ -68,5 +68,4 @@ module _ {D : Type 0} (state : D → DiskState) {a : D} (tail : Tail) (group : G
 
     pub append_tagged : (places : State Stored) → IsTaggedIn (state a).seen places
         → IsTaggedIn (state b).seen (fold stored_length places (placed_group tail.gate commands))
-    append_tagged places before =
-        tagged_appended (state a).seen (state b).seen tail commands s places durable.logged have accepted few fits written before
+    append_tagged places before = tagged_appended commands places durable.logged have accepted few fits written before

@@ -3,7 +3,8 @@ use Rattle.std.proofs.Common.{◌≡◌, ◌≤◌, ◌+◌, ◌++◌, ◌∷◌
 use Rattle.std.specs.Prelude.{slice_index_or}
 use Rattle.std.proofs.lemmas.Bool.{false≢true}
 use Rattle.rly_disk.specs.DiskModel.{DiskState}
-use Rattle.rly_disk.specs.Trace.{DeviceEvent, EndsAtFailure, EndsUncounted, FailedRead, FailedSync, FailedWrite, IsFailed, IsMade, Makes, MakesFront, Read, Sync, Write, are_reads, count_of, is_failed_call, is_failed_read, is_spent}
+use Rattle.rly_disk.specs.Trace.{DeviceEvent, EndsAtFailure, EndsUncounted, FailedRead, FailedSync, FailedWrite, IsFailed, IsMade, Makes, MakesFront, Read}
+use Rattle.rly_disk.specs.Trace.{Sync, Write, are_reads, count_of, is_failed_call, is_failed_read, is_spent}
 use Rattle.rly_disk.proofs.Making.{reads_sound}
 use Rattle.rly_disk.proofs.Traces.{count_joined}
 use Rattle.rly_gate.proofs.Appending.{appending_writes}

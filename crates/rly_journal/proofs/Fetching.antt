@@ -1,5 +1,6 @@
 -- The payload that is fetched is one that the spool holds.
-use Rattle.std.proofs.Common.{◌≡◌, ◌+◌, ◌-◌, ◌≤◌, ◌<◌, ◌∷◌, ◌++◌, [], ◌∙◌, ℕ, zero, suc, Bool, true, false, List, length, map, arith, ap, refl, sym, subst, cond, get_or, length-append}
+use Rattle.std.proofs.Common.{◌≡◌, ◌+◌, ◌-◌, ◌≤◌, ◌<◌, ◌∷◌, ◌++◌, [], ◌∙◌, ℕ, zero, suc, Bool, true, false, List, length, map}
+use Rattle.std.proofs.Common.{arith, ap, refl, sym, subst, cond, get_or, length-append}
 use Rattle.std.specs.Prelude.{All, Ok, Err, Option, Some, None, nat_le, not, slice_get}
 use Rattle.std.specs.List.{flat_map}
 use Rattle.std.specs.Option.{ok_or}
@@ -27,12 +28,14 @@ use Rattle.rly_places.proofs.Emptying.{none_each, payloads_sum}
 use Rattle.rly_segment.specs.Device.{IsLayout}
 use Rattle.rly_segment.proofs.Segments.{segment_within}
 use Rattle.rly_moving.specs.Moving.{LiesThere}
-use Rattle.rly_index.specs.Index.{HoldsIndex}
+use Rattle.rly_index.specs.Index.{HoldsIndex, IndexState}
 use Rattle.rly_keeping.specs.Keeping.{IsAlike, IsKept}
 use Rattle.rly_keeping.proofs.Fetched.{found_alike, found_bytes}
 use Rattle.rly_fetching.specs.Fetching.{IsFetched, IsLean, IsThere, lying, row_for}
 use Rattle.rly_fetching.specs.Trials.{Try}
 use Rattle.rly_journal.specs.Fetches.{AreFetching, IsFetchedAs, IsLostRead}
+use Rattle.rly_journal.specs.Journal.{JournalState}
+use Rattle.rly_journal.proofs.Reading.{IsGoing}
 
 -- the payloads of a hop
 abbrev of_hop : {P : Type 0} → HopState P → List P
@@ -52,7 +55,8 @@ module _ {P : Type 0} (T : P → Type 0) where
   at_hop (h ∷ hops) (suc i) d lt all =
       at_hop hops i d (omega (arith, lt)) (all_right T (of_hop h) (flat_map of_hop hops) (subst (All T) (flat_map-cons of_hop h hops) all))
 
-  at_item : (items more : List (Item P)) (i : ℕ) (item : Item P) → slice_get items i ≡ Some item → All T (map (λ (x : Item P). x.payload) (items ++ more)) → T item.payload
+  at_item : (items more : List (Item P)) (i : ℕ) (item : Item P) → slice_get items i ≡ Some item
+      → All T (map (λ (x : Item P). x.payload) (items ++ more)) → T item.payload
   at_item [] more i item is all = absurd (let e : None ≡ Some item = is in cc)
   at_item (x ∷ items) more zero item is all =
       let same : x ≡ item = cc in
@@ -69,7 +73,8 @@ checked true false true found x is = absurd cc
 checked true false false None x is = absurd cc
 checked true false false (Some y) x is = (refl, let e : y ≡ x = cc in ap Some e)
 
-pub item_held : {P : Type 0} (T : P → Type 0) (s : State P) (hop : HopId) (number : ℕ) (item : Item P) → All T (payloads_of s) → item_of s hop number ≡ Ok item → T item.payload
+pub item_held : {P : Type 0} (T : P → Type 0) (s : State P) (hop : HopId) (number : ℕ) (item : Item P) → All T (payloads_of s)
+    → item_of s hop number ≡ Ok item → T item.payload
 item_held {P} T s hop number item all is =
     let h : HopState P = hop_at s hop in
     let found = checked (has_hop s hop) (nat_le (next_number h) number) (nat_le number h.released) (slice_get h.flight (number - h.released - 1)) item is in
@@ -107,29 +112,35 @@ module _ (g : Geometry) (segment used size : ℕ) (s : State Stored) (holds : Ho
 
 -- ---- what is read there
 
--- the payload that was read is the machine's
-pub fetched_as : (disk : DiskState) (s : State Stored) (t : State (List ℕ)) (hop : HopId) (number : ℕ) (item : Item Stored) (at : Option Place) (limit : ℕ) (payload bytes : List ℕ)
-    → IsKept disk s t → item_of s hop number ≡ Ok item → lying at ≡ item.payload → IsFetched disk at limit (Bytes payload limit) → bytes ≡ payload
-    → IsFetchedAs disk (fetch_reply (item_of t hop number)) bytes
-fetched_as disk s t hop number item at limit payload bytes kept is lies fetched same =
-    let found = found_alike s t hop number item kept.alike is in
-    let size : length bytes ≡ length found.0 = ap length same ∙ fetched.0 ∙ ap stored_length lies ∙ sym found.2 in
-    subst (λ r. IsFetchedAs disk r bytes) (sym found.1) (
-      size,
-      λ honest.
-          let told : Bytes found.0 item.limit ≡ Bytes (payload_in disk.seen item.payload) item.limit = sym found.1 ∙ found_bytes disk.seen s t hop number item (kept.bytes honest) is in
-          same ∙ fetched.1 honest ∙ ap (payload_in disk.seen) lies ∙ sym (bytes_once item.limit found.0 (payload_in disk.seen item.payload) told),
-    )
-  where
-    bytes_of : Reply → List ℕ
-    bytes_of (Bytes p limit) = p
-    bytes_of _ = []
+-- an item in flight of a journal that isn't broken, and the place of its payload
+pub record IsInFlight (disk : DiskState) (s : State Stored) (t : State (List ℕ)) (hop : HopId) (number : ℕ) (item : Item Stored) (at : Option Place)
+    : Type 0 where
+  pub kept : IsKept disk s t
+  pub found : item_of s hop number ≡ Ok item
+  pub lies : lying at ≡ item.payload
+  pub g : Geometry
+  pub there : LiesThere g item.payload
+  pub within : IsThere disk.size at
 
-    bytes_once : (limit : ℕ) (a b : List ℕ) → Bytes a limit ≡ Bytes b limit → a ≡ b
-    bytes_once limit a b told = ap bytes_of told
+pub in_flight : {D : Type 0} {state : D → DiskState} {j : JournalState D} {x : IndexState} (hop : HopId) (number : ℕ) {item : Item Stored} {at : Option Place}
+    → IsGoing state j x → HoldsIndex x.geometry x.segment x.used x.spool.state → item_of x.spool.state hop number ≡ Ok item
+    → (IsLean item.payload → lying at ≡ item.payload) → IsInFlight (state j.disk) x.spool.state j.state hop number item at
+in_flight {D} {state} {j} {x} hop number {item} {at} here holds found lies =
+    let layout : IsLayout x.geometry (state j.disk).size =
+    subst (λ h. IsLayout h (state j.disk).size) (sym here.ends.geometry) here.sound.shaped.geometry in
+    let same = lies (item_lean x.geometry x.segment x.used (state j.disk).size x.spool.state holds layout hop number item found) in
+    record {
+      kept = here.kept;
+      found = found;
+      lies = same;
+      g = x.geometry;
+      there = item_lies x.geometry x.segment x.used (state j.disk).size x.spool.state holds layout hop number item found;
+      within = item_there x.geometry x.segment x.used (state j.disk).size x.spool.state holds layout hop number item found at same;
+    }
 
 -- a refusal tells of a payload that has bytes
-pub lost_as : (disk : DiskState) (g : Geometry) (s : State Stored) (t : State (List ℕ)) (hop : HopId) (number : ℕ) (item : Item Stored) (at : Option Place) (limit : ℕ) (refusal : Refusal)
+pub lost_as : (disk : DiskState) (g : Geometry) (s : State Stored) (t : State (List ℕ)) (hop : HopId) (number : ℕ) (item : Item Stored)
+    (at : Option Place) (limit : ℕ) (refusal : Refusal)
     → IsAlike s t → item_of s hop number ≡ Ok item → lying at ≡ item.payload → LiesThere g item.payload → IsFetched disk at limit (Refused refusal)
     → IsLostRead refusal × HasBytes (fetch_reply (item_of t hop number))
 lost_as disk g s t hop number item at limit refusal alike is lies there fetched =
@@ -157,3 +168,24 @@ pub fetching_rows : (s : State Stored) (t : State (List ℕ)) (hop : HopId) (num
 fetching_rows s t hop number item at told rows alike is lies same =
     let found = found_alike s t hop number item alike is in
     subst (λ r. AreFetching r told rows) (sym found.1) (at, ap stored_length lies ∙ sym found.2, same)
+
+module _ {disk : DiskState} {s : State Stored} {t : State (List ℕ)} {hop : HopId} {number : ℕ} {item : Item Stored} {at : Option Place}
+    (f : IsInFlight disk s t hop number item at) where
+  -- the payload that was read is the machine's
+  pub fetched_as : {limit : ℕ} {payload bytes : List ℕ} → IsFetched disk at limit (Bytes payload limit) → bytes ≡ payload
+      → IsFetchedAs disk (fetch_reply (item_of t hop number)) bytes
+  fetched_as {payload} {bytes} fetched same =
+      let found = found_alike s t hop number item f.kept.alike f.found in
+      let size : length bytes ≡ length found.0 = ap length same ∙ fetched.0 ∙ ap stored_length f.lies ∙ sym found.2 in
+      rw found.1 (
+        size,
+        λ honest.
+            let told : Bytes found.0 item.limit ≡ Bytes (payload_in disk.seen item.payload) item.limit =
+            sym found.1 ∙ found_bytes disk.seen s t hop number item (f.kept.bytes honest) f.found in
+            let once : found.0 ≡ payload_in disk.seen item.payload = cc in
+            same ∙ fetched.1 honest ∙ ap (payload_in disk.seen) f.lies ∙ sym once,
+      )
+
+  -- the calls of the read
+  pub fetching_as : (told : Reply) → AreFetching (fetch_reply (item_of t hop number)) told (row_for at told ∷ [])
+  fetching_as told = fetching_rows s t hop number item at told (row_for at told ∷ []) f.kept.alike f.found f.lies refl

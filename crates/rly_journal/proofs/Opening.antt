@@ -28,12 +28,13 @@ use Rattle.rly_journal.proofs.Recovering.{index_there}
 pub shown_length : (image : List ℕ) (p : Stored) → length (shown_in image p) ≡ stored_length p
 shown_length image p =
     let zeros : List ℕ = replicate (stored_length p) 0 in
-    omega (arith, length-take (stored_length p) (payload_in image p ++ zeros), length-append (payload_in image p) zeros, length-replicate {A = ℕ} (stored_length p) 0)
+    omega (arith, length-take {A = ℕ}, length-append {A = ℕ}, length-replicate {A = ℕ})
 
 -- where the image has all of it, it is shown as it is
 pub shown_whole : (image : List ℕ) (p : Stored) → length (payload_in image p) ≡ stored_length p → shown_in image p ≡ payload_in image p
 shown_whole image p all =
-    ap (λ (n : ℕ). take n (payload_in image p ++ replicate (stored_length p) 0)) (sym all) ∙ take_at (payload_in image p) (replicate (stored_length p) 0) (length (payload_in image p)) refl
+    let zeros : List ℕ = replicate (stored_length p) 0 in
+    ap (λ (n : ℕ). take n (payload_in image p ++ zeros)) (sym all) ∙ take_at (payload_in image p) zeros (length (payload_in image p)) refl
 
 pub shown_alike : (image : List ℕ) (s : State Stored) → IsAlike s (map_state (shown_in image) s)
 shown_alike image s =
@@ -44,41 +45,39 @@ pub shown_over : (image : List ℕ) (g : Geometry) (s : State Stored) → device
     → state_in image s ≡ map_state (shown_in image) s
 shown_over image g s long lies =
     maps_held (payload_in image) (shown_in image) s
-    (All-weaker (LiesThere g) (λ p. payload_in image p ≡ shown_in image p) (λ p there. sym (shown_whole image p (whole image g long p there))) (payloads_of s) lies)
+    (All-weaker (LiesThere g) (λ p. payload_in image p ≡ shown_in image p) (λ p there. sym (shown_whole image p (whole image g long p there)))
+    (payloads_of s) lies)
 
--- the state of a journal that accepted nothing yet, from what only proofs read
-module _ (tail : Tail) (x : IndexState) (image : List ℕ) (s : State Stored) (commands : Commands) (same : s ≡ x.spool.state) (none : commands ≡ []) where
-  first_state : (seen : List ℕ) → image ≡ seen → shown_state image s commands ≡ map_state (shown_in seen) x.spool.state
-  first_state seen is = ap (λ (i : List ℕ). shown_state i s commands) is ∙ ap (λ (t : State Stored). shown_state seen t commands) same ∙ ap (shown_state seen x.spool.state) none
+-- a journal that accepted nothing yet: its state from what only proofs read
+module _ {tail : Tail} {x : IndexState} {image : List ℕ} {s : State Stored} {commands : Commands} {disk : DiskState} (facts : disk.honest → Consistent disk)
+    (shaped : IsShaped disk.size tail x) (ends : IsAtEnd tail x) (holds : HoldsIndex x.geometry x.segment x.used x.spool.state) (is : image ≡ disk.seen)
+    (same : s ≡ x.spool.state) (none : commands ≡ []) where
+  first_state : shown_state image s commands ≡ map_state (shown_in disk.seen) x.spool.state
+  first_state = rw (is, same, none)
 
-  pub first_seq : (shown_state image s commands).seq ≡ x.spool.state.seq
-  first_seq = ap (λ (t : State (List ℕ)). t.seq) (first_state image refl)
+  shown_there : disk.honest → state_in disk.seen x.spool.state ≡ shown_state image s commands
+  shown_there honest =
+      let long : device_length tail.geometry ≤ length disk.seen = omega (arith, shaped.geometry.room, (facts honest).seen_size) in
+      shown_over disk.seen tail.geometry x.spool.state long (index_there tail x ends holds).index.there ∙ sym first_state
 
-  module _ (disk : DiskState) (facts : disk.honest → Consistent disk) (shaped : IsShaped disk.size tail x) (ends : IsAtEnd tail x)
-      (holds : HoldsIndex x.geometry x.segment x.used x.spool.state) (is : image ≡ disk.seen) where
-    shown_there : disk.honest → state_in disk.seen x.spool.state ≡ shown_state image s commands
-    shown_there honest =
-        let long : device_length tail.geometry ≤ length disk.seen = omega (arith, shaped.geometry.room, (facts honest).seen_size) in
-        shown_over disk.seen tail.geometry x.spool.state long (index_there tail x ends holds).index.there ∙ sym (first_state disk.seen is)
+  alike_there : IsAlike x.spool.state (shown_state image s commands)
+  alike_there = subst (IsAlike x.spool.state) (sym first_state) (shown_alike disk.seen x.spool.state)
 
-    alike_there : IsAlike x.spool.state (shown_state image s commands)
-    alike_there = subst (IsAlike x.spool.state) (sym (first_state disk.seen is)) (shown_alike disk.seen x.spool.state)
+  pub opened_sound : {position : ℕ} → (disk.honest → Settled disk) → (disk.honest → IsLoggedFor disk.seen tail x) → position ≡ x.spool.state.seq
+      → IsSoundJournal disk tail x (shown_state image s commands) position false
+  opened_sound settled logged counted = record {
+    shaped = shaped;
+    alike = alike_there;
+    ends = λ whole. ends;
+    kept = λ whole. record { alike = alike_there; bytes = shown_there };
+    durable = λ whole honest. record { settled = settled honest; logged = subst (IsLogged disk.seen tail) (shown_there honest) (logged honest).read };
+    tagged = λ whole honest. (logged honest).tagged;
+    counted = λ whole. counted ∙ ap (λ (t : State (List ℕ)). t.seq) (sym first_state);
+  }
 
-    pub opened_sound : (position : ℕ) → (disk.honest → Settled disk) → (disk.honest → IsLoggedFor disk.seen tail x) → position ≡ x.spool.state.seq
-        → IsSoundJournal disk tail x (shown_state image s commands) position false
-    opened_sound position settled logged counted = record {
-      shaped = shaped;
-      alike = alike_there;
-      ends = λ whole. ends;
-      kept = λ whole. record { alike = alike_there; bytes = shown_there };
-      durable = λ whole honest. record { settled = settled honest; logged = subst (IsLogged disk.seen tail) (shown_there honest) (logged honest).read };
-      tagged = λ whole honest. (logged honest).tagged;
-      counted = λ whole. counted ∙ sym first_seq;
-    }
-
-    -- and so the device that was opened stands for it
-    pub opened_stands : (old : DiskState) → OnlyRead old disk → old.honest → IsLoggedFor old.seen tail x → Stands old.seen (shown_state image s commands)
-    opened_stands old only honest logged =
-        let again = only.crash honest in
-        let read = logged.read in
-        (read.x, read.stands, sym (shown_there again.honest) ∙ ap (λ (i : List ℕ). state_in i x.spool.state) again.seen ∙ read.state)
+  -- and so the device that was opened stands for it
+  pub opened_stands : {old : DiskState} → OnlyRead old disk → old.honest → IsLoggedFor old.seen tail x → Stands old.seen (shown_state image s commands)
+  opened_stands only honest logged =
+      let again = only.crash honest in
+      let read = logged.read in
+      (read.x, read.stands, sym (shown_there again.honest) ∙ ap (λ (i : List ℕ). state_in i x.spool.state) again.seen ∙ read.state)

@@ -1,5 +1,6 @@
 -- What came of one call, in a spool of places and in the one with bytes.
-use Rattle.std.proofs.Common.{◌≡◌, ◌⊎◌, ◌+◌, ◌-◌, ◌<◌, ◌≤◌, ◌^◌, ◌∷◌, ◌++◌, [], ◌∙◌, ℕ, suc, Bool, true, false, cond, List, length, map, arith, ap, refl, sym, subst, inl, inr}
+use Rattle.std.proofs.Common.{◌≡◌, ◌⊎◌, ◌+◌, ◌-◌, ◌<◌, ◌≤◌, ◌^◌, ◌∷◌, ◌++◌, [], ◌∙◌, ℕ, suc, Bool, true, false, cond, List, length, map, arith, ap, refl, sym}
+use Rattle.std.proofs.Common.{subst, inl, inr}
 use Rattle.std.specs.Prelude.{Option, Ok, Err, if◌then◌else◌}
 use Rattle.std.proofs.Math.Nat.{mul-le-mul_left, mul-le-mul_right}
 use Rattle.std.proofs.lemmas.Bool.{false≢true}
@@ -65,7 +66,8 @@ long_refused s command sound long =
     ∙ long_leaves t command (sound_alike stored_length length s t alike sound) long
 
 -- the step of such a command
-pub long_told : (s r u : State Stored) (command : Command (List ℕ)) (placed : Command Stored) (told : Reply) → IsSound stored_length s → (IsRecordable s.params.payload command → ⊥)
+pub long_told : (s r u : State Stored) (command : Command (List ℕ)) (placed : Command Stored) (told : Reply) → IsSound stored_length s
+    → (IsRecordable s.params.payload command → ⊥)
     → placed ≡ map_command Inline command → r ≡ s → u ≡ (step stored_length r placed).0 → told ≡ (step stored_length r placed).1
     → (is_accepted told ≡ false) × (u ≡ s) × ((t : State (List ℕ)) → IsAlike s t → IsToldOf command told t)
 long_told s r u command placed told sound long is same state says =
@@ -73,7 +75,8 @@ long_told s r u command placed told sound long is same state says =
     let by_step : told ≡ (step stored_length s (map_command Inline command)).1 =
     says ∙ ap (λ m. (step stored_length m placed).1) same ∙ ap (λ c. (step stored_length s c).1) is in (
       ap is_accepted by_step ∙ refused,
-      state ∙ ap (λ m. (step stored_length m placed).0) same ∙ ap (λ c. (step stored_length s c).0) is ∙ unaccepted stored_length s (map_command Inline command) refused,
+      state ∙ ap (λ m. (step stored_length m placed).0) same ∙ ap (λ c. (step stored_length s c).0) is
+          ∙ unaccepted stored_length s (map_command Inline command) refused,
       λ t alike. inl (by_step ∙ same_reply s t (map_command Inline command) command alike (inline_alike command)),
     )
 
@@ -81,7 +84,8 @@ long_told s r u command placed told sound long is same state says =
 
 -- what the spool may record may be part of the group, which is of payloads as long as the spool's
 pub recordable_here : (gate : ℕ) (x : IndexState) (group : GroupState) (params : Params) (command : Command (List ℕ)) → IsGrouping gate x group
-    → HoldsIndex x.geometry x.segment x.used x.spool.state → params ≡ x.spool.state.params → IsRecordable params.payload command → IsRecordable group.most command
+    → HoldsIndex x.geometry x.segment x.used x.spool.state → params ≡ x.spool.state.params → IsRecordable params.payload command
+    → IsRecordable group.most command
 recordable_here gate x group params command grouping holds is recordable =
     subst (λ (n : ℕ). IsRecordable n command) (ap (λ (p : Params). p.payload) (is ∙ holds.params) ∙ sym grouping.longest) recordable
 
@@ -114,15 +118,12 @@ module _ (gate : ℕ) (x : IndexState) (group : GroupState) (grouping : IsGroupi
       )
 
   -- the same, told of the calls that made it
-  pub brought_at : (r : IndexState) (command : Command (List ℕ)) (next : ℕ) (placed : Command Stored) → HasRecord command → IsShort group.most command → IsAt x.geometry x.segment x.used r
-      → next ≡ record_place gate group + record_length length command → placed ≡ placed_at (record_place gate group) command → IsBrought r.geometry r.segment r.used next placed
+  pub brought_at : (r : IndexState) (command : Command (List ℕ)) (next : ℕ) (placed : Command Stored) → HasRecord command → IsShort group.most command
+      → IsAt x.geometry x.segment x.used r
+      → next ≡ record_place gate group + record_length length command → placed ≡ placed_at (record_place gate group) command
+      → IsBrought r.geometry r.segment r.used next placed
   brought_at r command next placed has short before ends is =
-      subst (IsBrought r.geometry r.segment r.used next) (sym is)
-      (subst (λ n. IsBrought r.geometry r.segment r.used n (placed_at (record_place gate group) command)) (sym ends)
-      (subst (λ g. IsBrought g r.segment r.used (record_place gate group + record_length length command) (placed_at (record_place gate group) command)) (sym before.geometry)
-      (subst (λ t. IsBrought x.geometry t r.used (record_place gate group + record_length length command) (placed_at (record_place gate group) command)) (sym before.segment)
-      (subst (λ u. IsBrought x.geometry x.segment u (record_place gate group + record_length length command) (placed_at (record_place gate group) command)) (sym before.used)
-      (staged_brought command has short)))))
+      rw (is, ends, before.geometry, before.segment, before.used) (staged_brought command has short)
 
 -- ---- a question
 
@@ -132,7 +133,8 @@ same_both true s = refl
 same_both false s = refl
 
 query_known : (seat : SeatId) (number position : ℕ) (query : Query) (reply : Reply) (t : State (List ℕ)) → reply ≡ query_reply t query → position ≡ t.seq
-    → AreReadsOf t (ask.Query query) reply [] → IsKnown (record { seat = seat; number = number; ask = ask.Query query }) (record { seat = seat; number = number; reply = reply; position = position }) t
+    → AreReadsOf t (ask.Query query) reply []
+    → IsKnown (record { seat = seat; number = number; ask = ask.Query query }) (record { seat = seat; number = number; reply = reply; position = position }) t
 query_known seat number position query reply t told counts unread =
     let real : is_failure reply ≡ false = ap is_failure told ∙ real_query t query in
     record {
@@ -153,15 +155,18 @@ module _ (seat : SeatId) (number position : ℕ) (reply : Reply) (s : State Stor
   seq_there = counts ∙ ap (λ (m : State ℕ). m.seq) alike
 
   pub window_known : (hop : HopId) → reply ≡ window_reply s hop
-      → IsKnown (record { seat = seat; number = number; ask = ask.Query (Window hop) }) (record { seat = seat; number = number; reply = reply; position = position }) t
+      → IsKnown (record { seat = seat; number = number; ask = ask.Query (Window hop) })
+      (record { seat = seat; number = number; reply = reply; position = position }) t
   window_known hop told = query_known seat number position (Window hop) reply t (told ∙ window_alike s t hop alike) seq_there refl
 
   pub show_known : (hop : HopId) → reply ≡ show_reply s hop
-      → IsKnown (record { seat = seat; number = number; ask = ask.Query (Show hop) }) (record { seat = seat; number = number; reply = reply; position = position }) t
+      → IsKnown (record { seat = seat; number = number; ask = ask.Query (Show hop) })
+      (record { seat = seat; number = number; reply = reply; position = position }) t
   show_known hop told = query_known seat number position (Show hop) reply t (told ∙ show_alike s t hop alike) seq_there refl
 
   pub refused_known : (hop : HopId) (custody : ℕ) (refusal : Refusal) → item_of s hop custody ≡ Err refusal → reply ≡ Refused refusal
-      → IsKnown (record { seat = seat; number = number; ask = ask.Query (Fetch hop custody) }) (record { seat = seat; number = number; reply = reply; position = position }) t
+      → IsKnown (record { seat = seat; number = number; ask = ask.Query (Fetch hop custody) })
+      (record { seat = seat; number = number; reply = reply; position = position }) t
   refused_known hop custody refusal none told =
       let refused : fetch_reply (item_of t hop custody) ≡ Refused refusal = refused_alike s t hop custody refusal alike none in
       query_known seat number position (Fetch hop custody) reply t (told ∙ sym refused) seq_there (by_refusal (fetch_reply (item_of t hop custody)) refused)
@@ -170,8 +175,10 @@ module _ (seat : SeatId) (number position : ℕ) (reply : Reply) (s : State Stor
       by_refusal r is = subst (λ r. AreFetching r reply []) (sym is) refl
 
 -- a payload in flight is wanted
-pub wanted_there : (seat : SeatId) (number position : ℕ) (hop : HopId) (custody : ℕ) (item : Item Stored) (limit : ℕ) (place : Option Place) (x : IndexState) (t : State (List ℕ))
-    → HoldsIndex x.geometry x.segment x.used x.spool.state → IsAlike x.spool.state t → position ≡ x.spool.state.seq → item_of x.spool.state hop custody ≡ Ok item
+pub wanted_there : (seat : SeatId) (number position : ℕ) (hop : HopId) (custody : ℕ) (item : Item Stored) (limit : ℕ) (place : Option Place)
+    (x : IndexState) (t : State (List ℕ))
+    → HoldsIndex x.geometry x.segment x.used x.spool.state → IsAlike x.spool.state t → position ≡ x.spool.state.seq
+    → item_of x.spool.state hop custody ≡ Ok item
     → limit ≡ item.limit → lying place ≡ item.payload
     → IsWanted x.geometry (record { seat = seat; number = number; ask = ask.Query (Fetch hop custody) }) seat number position limit place x.spool.state t
 wanted_there seat number position hop custody item limit place x t holds alike counts found same lies = record {
@@ -191,20 +198,24 @@ wanted_there seat number position hop custody item limit place x t holds alike c
 -- ---- a command that was answered
 
 -- where it stands, in the spool with bytes
-seq_after : (gate : ℕ) (command : Command (List ℕ)) (told : Reply) (x y : IndexState) (old new : GroupState) (before after : Commands) (position : ℕ) (t : State (List ℕ))
+seq_after : (gate : ℕ) (command : Command (List ℕ)) (told : Reply) (x y : IndexState) (old new : GroupState) (before after : Commands) (position : ℕ)
+    (t : State (List ℕ))
     → IsAlike x.spool.state t → position ≡ y.spool.state.seq
     → ((is_accepted told ≡ true) × IsTaken gate command x y old new before after) ⊎ ((is_accepted told ≡ false) × IsLeft x y old new before after)
     → ((is_accepted told ≡ true) × (position ≡ t.seq + 1)) ⊎ ((is_accepted told ≡ false) × (position ≡ t.seq))
 seq_after gate command told x y old new before after position t alike counts outcome =
     let same : x.spool.state.seq ≡ t.seq = ap (λ (m : State ℕ). m.seq) alike in
     elim outcome [
-      | inl taken ↦ inl (taken.0, omega (arith, counts, same, ap (λ m. m.seq) taken.1.state, counted stored_length x.spool.state (placed_at (record_place gate old) command) taken.1.accepted))
+      | inl taken ↦
+          let one = counted stored_length x.spool.state (placed_at (record_place gate old) command) taken.1.accepted in
+          inl (taken.0, omega (arith, counts, same, ap (λ m. m.seq) taken.1.state, one))
       | inr left ↦ inr (left.0, omega (arith, counts, same, ap (λ m. m.seq) left.1.state))
     ]
 
 command_known : (seat : SeatId) (number position : ℕ) (command : Command (List ℕ)) (reply : Reply) (t : State (List ℕ)) → IsToldOf command reply t
     → ((is_accepted reply ≡ true) × (position ≡ t.seq + 1)) ⊎ ((is_accepted reply ≡ false) × (position ≡ t.seq))
-    → IsKnown (record { seat = seat; number = number; ask = ask.Command command }) (record { seat = seat; number = number; reply = reply; position = position }) t
+    → IsKnown (record { seat = seat; number = number; ask = ask.Command command })
+    (record { seat = seat; number = number; reply = reply; position = position }) t
 command_known seat number position command reply t told counts = elim told [
   | inl is ↦
       let real : is_failure reply ≡ false = ap is_failure is ∙ real_step length t command in
@@ -240,12 +251,6 @@ command_known seat number position command reply t told counts = elim told [
       }
 ]
 
--- a call by its ask
-by_ask : (T : Call → Type 0) (call : Call) (an : Ask) → call.ask ≡ an → T (record { seat = call.seat; number = call.number; ask = an }) → T call
-by_ask T call an asks one =
-    let is : call ≡ record { seat = call.seat; number = call.number; ask = an } = ap (λ (a : Ask). let c : Call = record { seat = call.seat; number = call.number; ask = a } in c) asks in
-    subst T (sym is) one
-
 module _ (gate : ℕ) (call : Call) (command : Command (List ℕ)) (told : Reply) (position : ℕ) (x y : IndexState) (old new : GroupState) (before after : Commands)
     (asks : call.ask ≡ ask.Command command)
     (done : ((is_accepted told ≡ true) × IsTaken gate command x y old new before after) ⊎ ((is_accepted told ≡ false) × IsLeft x y old new before after)) where
@@ -255,8 +260,9 @@ module _ (gate : ℕ) (call : Call) (command : Command (List ℕ)) (told : Reply
   pub command_outcome : position ≡ y.spool.state.seq → ((t : State (List ℕ)) → IsAlike x.spool.state t → IsToldOf command told t)
       → (t : State (List ℕ)) → IsAlike x.spool.state t → IsKnown call answer t
   command_outcome counts tells t alike =
-      by_ask (λ c. IsKnown c answer t) call (ask.Command command) asks
-      (command_known call.seat call.number position command told t (tells t alike) (seq_after gate command told x y old new before after position t alike counts done))
+      subst (λ (a : Ask). IsKnown (record call { ask = a }) answer t) (sym asks)
+      (command_known call.seat call.number position command told t (tells t alike)
+      (seq_after gate command told x y old new before after position t alike counts done))
 
 -- ---- the calls that answer a command
 
@@ -287,7 +293,8 @@ module _ (gate : ℕ) (x r y : IndexState) (old : GroupState) (command : Command
   staged_told t alike =
       inl (by_step ∙ same_reply x.spool.state t (placed_at (record_place gate old) command) command alike (placed_alike (record_place gate old) command))
 
-  pub staged_taken : (mid new : GroupState) (log now : Commands) → is_accepted told ≡ true → HasRecord command → IsShort old.most command → next ≡ record_place gate old + record_length length command
+  pub staged_taken : (mid new : GroupState) (log now : Commands) → is_accepted told ≡ true → HasRecord command → IsShort old.most command
+      → next ≡ record_place gate old + record_length length command
       → mid ≡ record old { staged = record_of command } → new ≡ record mid { records = mid.records ++ mid.staged; count = mid.count + 1; staged = [] }
       → now ≡ log ++ command ∷ [] → IsTaken gate command x y old new log now
   staged_taken mid new log now accepts has short ends staged kept said =
@@ -301,7 +308,8 @@ module _ (gate : ℕ) (x r y : IndexState) (old : GroupState) (command : Command
         at = record {
           geometry = at.geometry ∙ before.geometry;
           segment = at.segment ∙ before.segment;
-          used = at.used ∙ ap (λ (b : Bool). if b then next else r.used) accepts ∙ ends ∙ sym (next_place gate command old) ∙ ap (record_place gate) (sym group);
+          used = at.used ∙ ap (λ (b : Bool). if b then next else r.used) accepts ∙ ends ∙ sym (next_place gate command old)
+              ∙ ap (record_place gate) (sym group);
         };
         log = said;
       }

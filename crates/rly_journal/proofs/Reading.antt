@@ -1,5 +1,5 @@
 -- What a journal keeps while payloads are read.
-use Rattle.std.proofs.Common.{◌≡◌, ◌∙◌, [], ◌∷◌, ℕ, List, Bool, true, ap, arith, refl, sym, subst, inl, inr, ⊎_elim}
+use Rattle.std.proofs.Common.{◌≡◌, ◌∙◌, [], ◌∷◌, ℕ, List, Bool, true, ap, arith, refl, sym, subst, inl, false}
 use Rattle.std.specs.Prelude.{None, Option, Some}
 use Rattle.rly_core.specs.declared.refusal.Refusal.TheVariants.{DeviceRead, OutOfMemory}
 use Rattle.rly_disk.specs.DiskModel.{Consistent, DiskState, LeavesOnly, Settled}
@@ -16,8 +16,10 @@ use Rattle.rly_fetching.specs.Trials.{AreReads, Tries, Try}
 use Rattle.rly_fetching.proofs.TriedReads.{tried_new, tried_settled}
 use Rattle.rly_fetching.proofs.TriedRows.{tries_later}
 use Rattle.rly_standing.specs.declared.tail.Tail.{Tail}
-use Rattle.rly_standing.specs.Log.{IsLogged}
-use Rattle.rly_journal.specs.HelpersJournal.{IsShaped, IsSoundJournal, IsTaggedIn}
+use Rattle.rly_standing.specs.Log.{IsLogged, IsDurable}
+use Rattle.rly_journal.specs.HelpersJournal.{IsShaped, IsSoundJournal, IsTaggedIn, IsAtEnd}
+use Rattle.rly_journal.specs.Journal.{JournalState}
+use Rattle.rly_keeping.specs.Keeping.{IsAlike, IsKept}
 
 -- the calls of one payload are a read
 one_read : (at : Option Place) → are_reads (reading at) ≡ true
@@ -29,11 +31,8 @@ row_read at (Refused DeviceRead) = one_read at
 row_read at (Refused OutOfMemory) = refl
 row_read at told = one_read at
 
-pub row_reads : (at : Option Place) (told : Reply) → AreReads (row_for at told ∷ [])
-row_reads at told = (row_read at told, tt)
-
 -- tries of reads leave all but counts
-pub only_tried : {D : Type 0} (state : D → DiskState) (facts : (disk : D) → (state disk).honest → Consistent (state disk)) {a b : D} (rows : List Try)
+only_tried : {D : Type 0} (state : D → DiskState) (facts : (disk : D) → (state disk).honest → Consistent (state disk)) {a b : D} (rows : List Try)
     → Tries state rows a b → AreReads rows → OnlyRead (state a) (state b)
 only_tried state facts {a} {b} rows tries reads = record {
   crash = λ honest. tried_new state rows tries reads honest (facts a honest);
@@ -41,10 +40,15 @@ only_tried state facts {a} {b} rows tries reads = record {
   later = tries_later state rows tries;
 }
 
+-- so does the read of one payload
+pub payload_read : {D : Type 0} (state : D → DiskState) (facts : (disk : D) → (state disk).honest → Consistent (state disk)) {a b : D}
+    (at : Option Place) (told : Reply) → Tries state (row_for at told ∷ []) a b → OnlyRead (state a) (state b)
+payload_read state facts at told tries = only_tried state facts (row_for at told ∷ []) tries (row_read at told, tt)
+
 -- a journal goes on over a disk that was only read
-pub sound_read : (old new : DiskState) (tail : Tail) (x : IndexState) (s : State (List ℕ)) (position : ℕ) (broken : Bool) → OnlyRead old new
+pub sound_read : {old new : DiskState} {tail : Tail} {x : IndexState} {s : State (List ℕ)} {position : ℕ} {broken : Bool} → OnlyRead old new
     → IsSoundJournal old tail x s position broken → IsSoundJournal new tail x s position broken
-sound_read old new tail x s position broken only sound = record {
+sound_read {new} {tail} {x} {s} only sound = record {
   shaped = subst (λ size. IsShaped size tail x) (sym only.later.size) sound.shaped;
   alike = sound.alike;
   ends = sound.ends;
@@ -67,6 +71,53 @@ sound_read old new tail x s position broken only sound = record {
   counted = sound.counted;
 }
 
+-- a journal that isn't broken, by the index that only its proofs see
+pub record IsGoing {D : Type 0} (state : D → DiskState) (j : JournalState D) (x : IndexState) : Type 0 where
+  pub whole : j.broken ≡ false
+  pub sound : IsSoundJournal (state j.disk) j.tail x j.state j.position j.broken
+  pub ends : IsAtEnd j.tail x
+  pub kept : IsKept (state j.disk) x.spool.state j.state
+  pub durable : (state j.disk).honest → IsDurable (state j.disk) j.tail j.state
+  pub tagged : (state j.disk).honest → IsTaggedIn (state j.disk).seen x.spool.state
+  pub counted : j.position ≡ j.state.seq
+  -- on an honest disk, what it is and has there
+  pub found : (state j.disk).honest → IsDurable (state j.disk) j.tail j.state × IsTaggedIn (state j.disk).seen x.spool.state
+
+-- so it is, by what its callers see of it
+pub going : {D : Type 0} (state : D → DiskState) {j there : JournalState D} {x : IndexState} → j ≡ there → there.broken ≡ false
+    → IsSoundJournal (state j.disk) j.tail x j.state j.position j.broken → IsGoing state j x
+going {D} state {j} is whole sound =
+    let here : j.broken ≡ false = ap (λ (k : JournalState D). k.broken) is ∙ whole in
+    record {
+      whole = here;
+      sound = sound;
+      ends = sound.ends here;
+      kept = sound.kept here;
+      durable = sound.durable here;
+      tagged = sound.tagged here;
+      counted = sound.counted here;
+      found = λ honest. (sound.durable here honest, sound.tagged here honest);
+    }
+
+pub whole_sound : {D : Type 0} {state : D → DiskState} {j : JournalState D} {x : IndexState} → IsGoing state j x
+    → IsSoundJournal (state j.disk) j.tail x j.state j.position false
+whole_sound {state} {j} {x} here = subst (IsSoundJournal (state j.disk) j.tail x j.state j.position) here.whole here.sound
+
+-- where a write or a sync failed only its shape is known
+pub broken_sound : {disk : DiskState} {tail : Tail} {x : IndexState} {s : State (List ℕ)} {position : ℕ} → IsShaped disk.size tail x → IsAlike x.spool.state s
+    → IsSoundJournal disk tail x s position true
+broken_sound shaped alike =
+    let never : true ≡ false → ⊥ = λ whole. cc in
+    record {
+      shaped = shaped;
+      alike = alike;
+      ends = λ whole. absurd (never whole);
+      kept = λ whole. absurd (never whole);
+      durable = λ whole. absurd (never whole);
+      tagged = λ whole. absurd (never whole);
+      counted = λ whole. absurd (never whole);
+    }
+
 -- ---- crashes
 
 -- what a crash leaves while payloads are read is what it might have left before
@@ -88,14 +139,3 @@ leaves_still a d P settled here only =
       each = λ c left. subst P (sym (settled.only c (settled.consistent.only_now c (none.since a.moment c (omega arith) left)))) here;
       before = λ t c le left. inl (none.since t c le left);
     }
-
--- one row of calls after another
-pub leaves_joined : (a b d : DiskState) (P Q : List ℕ → Type 0) → LeavesOnly a b P → LeavesOnly b d Q → ((image : List ℕ) → P image → Q image) → LeavesOnly a d Q
-leaves_joined a b d P Q first second wider = record {
-  later = omega (arith, first.later, second.later);
-  each = λ c left. ⊎_elim (λ earlier. wider c (first.each c earlier)) (λ now. now) (second.before a.moment c first.later left);
-  before = λ t c le left. ⊎_elim
-      (λ earlier. ⊎_elim (λ old. inl old) (λ now. inr (wider c now)) (first.before t c le earlier))
-      (λ now. inr now)
-      (second.before t c (omega (arith, le, first.later)) left);
-}

@@ -1,18 +1,17 @@
 -- What making room for a round came to, from the opening of a segment.
-use Rattle.std.proofs.Common.{◌≡◌, ◌⊎◌, ◌+◌, ◌≤◌, ◌∷◌, ◌++◌, [], ◌∙◌, ℕ, Bool, true, false, List, arith, ap, refl, sym, subst, inl, inr, ⊎_elim}
-use Rattle.std.specs.Prelude.{slice_index_or}
+use Rattle.std.proofs.Common.{◌≡◌, ◌⊎◌, ◌+◌, ◌≤◌, ◌∷◌, ◌++◌, [], ◌∙◌, ℕ, Bool, true, false, List, arith, ap, refl, sym, subst, inl, inr}
+use Rattle.std.specs.Prelude.{Err, Ok, slice_index_or}
 use Rattle.std.proofs.lemmas.Bool.{false≢true}
 use Rattle.rly_core.specs.declared.refusal.Refusal.{Refusal}
 use Rattle.rly_core.specs.declared.refusal.Refusal.TheVariants.{DeviceRead, OutOfMemory, Unsure}
 use Rattle.rly_disk.specs.DiskModel.{DiskState, Later, LeavesOnly}
 use Rattle.rly_disk.specs.Trace.{DeviceEvent, Makes, MakesFront, Read, are_reads, count_of, is_sync_call}
 use Rattle.rly_disk.proofs.Composition.{started_settled}
-use Rattle.rly_disk.proofs.Making.{makes_syncs}
-use Rattle.rly_disk.proofs.Traces.{count_joined}
+use Rattle.rly_disk.proofs.Making.{makes_later, makes_syncs}
+use Rattle.rly_disk.proofs.Traces.{count_joined, makes_nothing}
 use Rattle.rly_gate.specs.Reading.{OnlyRead}
 use Rattle.rly_machine.specs.Map.{payloads_of}
 use Rattle.rly_machine.specs.declared.call.Call.{Call}
-use Rattle.rly_machine.specs.State.{State}
 use Rattle.rly_checkpoint.specs.Stored.{stored_form, stored_length}
 use Rattle.rly_segment.specs.Calls.{replacing}
 use Rattle.rly_segment.specs.Heads.{head_spelled, segment_place}
@@ -22,15 +21,16 @@ use Rattle.rly_keeping.specs.Keeping.{IsAlike, IsKept}
 use Rattle.rly_index.specs.Index.{IndexState}
 use Rattle.rly_fetching.specs.Trials.{Tries}
 use Rattle.rly_standing.specs.declared.tail.Tail.{Tail}
-use Rattle.rly_journal.specs.Journal.{IsDueFor, JournalState}
-use Rattle.rly_standing.specs.Log.{IsDurable}
+use Rattle.rly_journal.specs.Journal.{IsDueFor, JournalState, MakesShut}
+use Rattle.rly_standing.specs.Log.{IsDurable, IsFull}
 use Rattle.rly_standing.specs.Standing.{Stands}
 use Rattle.rly_journal.specs.Calls.{IsRenewal, Renewal, drawing_for, renewed, renewing, unheaded}
 use Rattle.rly_journal.specs.HelpersJournal.{IsAtEnd, IsShaped, IsSoundJournal, IsTaggedIn}
-use Rattle.rly_journal.specs.HelpersReady.{IsOpenedFor, IsReady, IsUnready}
-use Rattle.rly_journal.proofs.Ending.{journal_of}
-use Rattle.rly_journal.proofs.Reading.{sound_read}
+use Rattle.rly_journal.specs.HelpersReady.{IsReadied}
+use Rattle.rly_journal.proofs.Reading.{IsGoing, broken_sound, sound_read}
 use Rattle.rly_journal.proofs.Renewed.{durable_stands}
+use Rattle.rly_journal.proofs.Rows.{unheaded_made}
+use Rattle.rly_standing.proofs.Following.{front_all}
 
 -- reads make no sync
 reads_sync : (calls : List DeviceEvent) → are_reads calls ≡ true → count_of is_sync_call calls ≡ 0
@@ -61,116 +61,101 @@ module _ {D : Type 0} (state : D → DiskState) (tail : Tail) (r : Renewal) {a b
         (replacing_writes (segment_place tail.geometry r.target) (slice_index_or tail.closed r.target false) head).all_syncs,
       )
 
-module _ {D : Type 0} (state : D → DiskState) (old new : JournalState D) (calls : List Call) (due : IsDueFor old calls) (r : Renewal)
-    (renewal : IsRenewal (state old.disk) old.tail old.state r) where
-  -- it was opened
-  pub opened_for : new.tail ≡ renewed old.tail r → Makes state (renewing old.tail r) true old.disk new.disk → IsOpenedFor state old new calls
-  opened_for tail made = record { due = due; r = r; renewal = renewal; tail = tail; makes = made }
+module _ {D : Type 0} {state : D → DiskState} {old : JournalState D} {x : IndexState} (j : IsGoing state old x) where
+  -- ---- what the journal keeps
 
-  -- it was not, and only reads were made
-  pub unready_shut : (refusal : Refusal) → new.broken ≡ false → new ≡ record old { disk = new.disk }
-      → ((refusal ≡ OutOfMemory) × MakesFront state (drawing_for old.tail r) true old.disk new.disk)
-      ⊎ ((refusal ≡ DeviceRead) × Makes state (drawing_for old.tail r) false old.disk new.disk) → IsUnready state old new calls refusal
-  unready_shut refusal going same told = (
-    record {
-      due = due;
-      r = r;
-      renewal = renewal;
-      makes = ⊎_elim (λ memory. inl (memory.0, going, memory.1)) (λ read. inr (inl (read.0, going, read.1))) told;
-    },
-    λ _. record { due = due; same = same },
-  )
-
-  -- a write or a sync failed
-  pub unready_broken : new.broken ≡ true → Tries state (unheaded old.tail r) old.disk new.disk → IsUnready state old new calls Unsure
-  unready_broken broken made = (
-    record { due = due; r = r; renewal = renewal; makes = inr (inr (refl, broken, made)) },
-    λ going. absurd (false≢true (sym going ∙ broken)),
-  )
-
--- what a journal keeps, by what the opening of a segment leaves of it
-module _ {D : Type 0} (state : D → DiskState) (tail end : Tail) (x y : IndexState) (s : State (List ℕ)) (position : ℕ) {a b : D}
-    (sound : IsSoundJournal (state a) tail x s position false) where
-  -- it was opened
-  pub opened_sound : IsShaped (state b).size end y → IsAtEnd end y
-      → (IsKept (state a) x.spool.state s → IsKept (state b) y.spool.state s)
-      → (IsDurable (state a) tail s → IsKept (state a) x.spool.state s → IsDurable (state b) end s)
-      → (IsDurable (state a) tail s → IsKept (state a) x.spool.state s → IsTaggedIn (state b).seen y.spool.state)
-      → Later (state a) (state b) → IsSoundJournal (state b) end y s position false
-  opened_sound shaped ends kept durable tagged later =
-      let before = sound.kept refl in
-      record {
-        shaped = shaped;
-        alike = (kept before).alike;
-        ends = λ _. ends;
-        kept = λ _. kept before;
-        durable = λ _ honest. durable (sound.durable refl (later.honest.0 honest)) before;
-        tagged = λ _ honest. tagged (sound.durable refl (later.honest.0 honest)) before;
-        counted = sound.counted;
-      }
-
-  -- it was not, and nothing was written
-  pub unopened_sound : OnlyRead (state a) (state b) → end ≡ tail → y ≡ x → IsSoundJournal (state b) end y s position false
-  unopened_sound only ends index =
-      subst (λ t. IsSoundJournal (state b) t y s position false) (sym ends)
-      (subst (λ z. IsSoundJournal (state b) tail z s position false) (sym index)
-      (sound_read (state a) (state b) tail x s position false only sound))
-
-  -- a write or a sync failed
-  pub failed_sound : IsShaped (state b).size end y → y ≡ x → IsSoundJournal (state b) end y s position true
-  failed_sound shaped index = record {
+  -- a segment was opened
+  pub opened_sound : {end : Tail} {y : IndexState} {b : D} → IsShaped (state b).size end y → IsAtEnd end y
+      → (IsKept (state old.disk) x.spool.state old.state → IsKept (state b) y.spool.state old.state)
+      → (IsDurable (state old.disk) old.tail old.state → IsKept (state old.disk) x.spool.state old.state → IsDurable (state b) end old.state)
+      → (IsDurable (state old.disk) old.tail old.state → IsKept (state old.disk) x.spool.state old.state → IsTaggedIn (state b).seen y.spool.state)
+      → Later (state old.disk) (state b) → IsSoundJournal (state b) end y old.state old.position old.broken
+  opened_sound shaped ends kept durable tagged later = record {
     shaped = shaped;
-    alike = subst (λ z. IsAlike z.spool.state s) (sym index) sound.alike;
-    ends = λ whole. absurd (false≢true (sym whole));
-    kept = λ whole. absurd (false≢true (sym whole));
-    durable = λ whole. absurd (false≢true (sym whole));
-    tagged = λ whole. absurd (false≢true (sym whole));
-    counted = λ whole. absurd (false≢true (sym whole));
+    alike = (kept j.kept).alike;
+    ends = λ _. ends;
+    kept = λ _. kept j.kept;
+    durable = λ _ honest. durable (j.durable (later.honest.0 honest)) j.kept;
+    tagged = λ _ honest. tagged (j.durable (later.honest.0 honest)) j.kept;
+    counted = j.sound.counted;
   }
 
-  -- a crash meanwhile
-  pub turned_leaves : (IsDurable (state a) tail s → IsKept (state a) x.spool.state s → IsTaggedIn (state a).seen x.spool.state
-      → LeavesOnly (state a) (state b) (λ image. Stands image s)) → (state a).honest → LeavesOnly (state a) (state b) (λ image. Stands image s)
-  turned_leaves leaves honest = leaves (sound.durable refl honest) (sound.kept refl) (sound.tagged refl honest)
+  -- none was, and nothing was written
+  pub unopened_sound : {end : Tail} {y : IndexState} {b : D} → OnlyRead (state old.disk) (state b) → end ≡ old.tail → y ≡ x
+      → IsSoundJournal (state b) end y old.state old.position old.broken
+  unopened_sound only ends index = rw (ends, index) (sound_read only j.sound)
 
--- nothing was due: no call was made
-pub later_same : (a : DiskState) → Later a a
-later_same a = record {
-  size = refl;
-  honest = (λ h. h, λ h. h);
-  calls = omega arith;
-  failures = omega arith;
-  syncs = omega arith;
-  failed_reads = omega arith;
-}
+  -- a write or a sync failed
+  pub failed_sound : {end : Tail} {y : IndexState} {b : D} → IsShaped (state b).size end y → y ≡ x
+      → IsSoundJournal (state b) end y old.state old.position true
+  failed_sound shaped index = broken_sound shaped (subst (λ z. IsAlike z.spool.state old.state) (sym index) j.sound.alike)
 
-pub still_leaves : (a : DiskState) (tail : Tail) (x : IndexState) (s : State (List ℕ)) (position : ℕ) → IsSoundJournal a tail x s position false → a.honest
-    → LeavesOnly a a (λ image. Stands image s)
-still_leaves a tail x s position sound honest =
-    let durable = sound.durable refl honest in
-    started_settled a (λ image. Stands image s) durable.settled (durable_stands a tail s durable)
+  -- ---- what it is told to have done
 
--- how each ending is told of the journal that was there
-module _ {D : Type 0} (state : D → DiskState) (a b : D) (tail end : Tail) (s : State (List ℕ)) (position : ℕ) (broken : Bool) (there : JournalState D)
-    (calls : List Call) (is : journal_of a tail s position broken ≡ there) (due : IsDueFor (journal_of a tail s position broken) calls) (r : Renewal)
-    (renewal : IsRenewal (state a) tail s r) where
-  pub ready_as : broken ≡ false → end ≡ renewed tail r → Makes state (renewing tail r) true a b
-      → (broken ≡ false) × IsReady state there (journal_of b end s position broken) calls
-  ready_as whole ends made = (
-    whole,
-    subst (λ j. IsReady state j (journal_of b end s position broken) calls) is
-        (inr (opened_for state (journal_of a tail s position broken) (journal_of b end s position broken) calls due r renewal ends made)),
-  )
+  -- nothing was due
+  pub calm_ready : {A : Type 0} {done : A} {calls : List Call} → (IsDueFor old calls → ⊥) → IsReadied state old old calls (Ok done)
+  calm_ready none = record {
+    same = refl;
+    position = refl;
+    came = (j.whole, none, inl (none, refl));
+    any_moment = λ honest.
+        let durable = j.durable honest in
+        started_settled (state old.disk) (λ image. Stands image old.state) durable.settled (durable_stands (state old.disk) old.tail old.state durable);
+    syncs = omega arith;
+    later = makes_later state (makes_nothing state old.disk);
+  }
 
-  pub shut_as : (refusal : Refusal) → broken ≡ false → end ≡ tail
-      → ((refusal ≡ OutOfMemory) × MakesFront state (drawing_for tail r) true a b) ⊎ ((refusal ≡ DeviceRead) × Makes state (drawing_for tail r) false a b)
-      → IsUnready state there (journal_of b end s position broken) calls refusal
-  shut_as refusal going ends told =
-      subst (λ j. IsUnready state j (journal_of b end s position broken) calls refusal) is
-      (unready_shut state (journal_of a tail s position broken) (journal_of b end s position broken) calls due r renewal refusal going
-      (ap (λ (t : Tail). journal_of b t s position broken) ends) told)
+  -- a segment was due
+  module _ {calls : List Call} (due : IsDueFor old calls) {b : D} {r : Renewal} (renewal : IsRenewal (state old.disk) old.tail old.state r)
+      (leaves : IsDurable (state old.disk) old.tail old.state → IsKept (state old.disk) x.spool.state old.state
+      → IsTaggedIn (state old.disk).seen x.spool.state → LeavesOnly (state old.disk) (state b) (λ image. Stands image old.state)) where
+    pub opened_ready : {A : Type 0} {done : A} {end : Tail} → (IsFull end → ⊥) → end ≡ renewed old.tail r → Makes state (renewing old.tail r) true old.disk b
+        → IsReadied state old (record old { disk = b; tail = end }) calls (Ok done)
+    opened_ready room ends made = record {
+      same = refl;
+      position = refl;
+      came = (j.whole, λ again. room again.1, inr (record { due = due; r = r; renewal = renewal; tail = ends; makes = made }));
+      any_moment = λ honest. leaves (j.durable honest) j.kept (j.tagged honest);
+      syncs = renewing_syncs state old.tail r made;
+      later = makes_later state made;
+    }
 
-  pub broken_as : Tries state (unheaded tail r) a b → IsUnready state there (journal_of b end s position true) calls Unsure
-  broken_as made =
-      subst (λ j. IsUnready state j (journal_of b end s position true) calls Unsure) is
-      (unready_broken state (journal_of a tail s position broken) (journal_of b end s position true) calls due r renewal refl made)
+    -- it was not opened
+    shut : {new : JournalState D} {told : Refusal}
+        → ((told ≡ OutOfMemory) × (new.broken ≡ false) × MakesFront state (drawing_for old.tail r) true old.disk new.disk)
+        ⊎ ((told ≡ DeviceRead) × (new.broken ≡ false) × Makes state (drawing_for old.tail r) false old.disk new.disk)
+        ⊎ ((told ≡ Unsure) × (new.broken ≡ true) × Tries state (unheaded old.tail r) old.disk new.disk) → MakesShut state old new calls told
+    shut makes = record { due = due; r = r; renewal = renewal; makes = makes }
+
+    unopened : {A : Type 0} {end : Tail} {told : Refusal} {whole : Bool} → end ≡ old.tail → MakesFront state (drawing_for old.tail r) whole old.disk b
+        → MakesShut state old (record old { disk = b; tail = end }) calls told
+        → IsReadied {A = A} state old (record old { disk = b; tail = end }) calls (Err told)
+    unopened ends made makes = record {
+      same = refl;
+      position = refl;
+      came = (makes, λ _. record { due = due; same = ap (λ (t : Tail). record old { disk = b; tail = t }) ends });
+      any_moment = λ honest. leaves (j.durable honest) j.kept (j.tagged honest);
+      syncs = drawn_syncs state old.tail r made;
+      later = makes_later state made.makes;
+    }
+
+    pub starved_ready : {A : Type 0} {end : Tail} → end ≡ old.tail → MakesFront state (drawing_for old.tail r) true old.disk b
+        → IsReadied {A = A} state old (record old { disk = b; tail = end }) calls (Err OutOfMemory)
+    starved_ready ends made = unopened ends made (shut (inl (refl, j.whole, made)))
+
+    pub unread_ready : {A : Type 0} {end : Tail} → end ≡ old.tail → Makes state (drawing_for old.tail r) false old.disk b
+        → IsReadied {A = A} state old (record old { disk = b; tail = end }) calls (Err DeviceRead)
+    unread_ready ends made = unopened ends (front_all state made) (shut (inr (inl (refl, j.whole, made))))
+
+    pub failed_ready : {A : Type 0} {end : Tail} → Tries state (unheaded old.tail r) old.disk b
+        → IsReadied {A = A} state old (record old { disk = b; tail = end; broken = true }) calls (Err Unsure)
+    failed_ready tried =
+        let made = unheaded_made state old.tail r tried in
+        record {
+          same = refl;
+          position = refl;
+          came = (shut (inr (inr (refl, refl, tried))), λ whole. absurd (false≢true (sym whole)));
+          any_moment = λ honest. leaves (j.durable honest) j.kept (j.tagged honest);
+          syncs = renewing_syncs state old.tail r made;
+          later = makes_later state made;
+        }

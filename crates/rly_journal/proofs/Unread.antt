@@ -124,7 +124,8 @@ module _ (spent : Bool) where
   ask_unread s (ask.Query (Window hop)) rows events may reads tried = absurd (never_has (has_hop s hop) _ _ (λ has. has) (λ has. has) may)
   ask_unread s (ask.Query (Show hop)) rows events may reads tried = absurd (never_has (has_hop s hop) _ _ (λ has. has) (λ has. has) may)
 
-  entries_unread : (s : State (List ℕ)) (entries : List Entry) (rows : List Try) (events : List DeviceEvent) → AreLostWhereWanted s entries → AreFetches s entries rows
+  entries_unread : (s : State (List ℕ)) (entries : List Entry) (rows : List Try) (events : List DeviceEvent) → AreLostWhereWanted s entries
+      → AreFetches s entries rows
       → AreTried spent rows events → AreUnreadWhere (IsUnread spent events) entries
   entries_unread s [] rows events wanted fetches tried = tt
   entries_unread s (entry ∷ entries) rows events wanted fetches tried =
@@ -151,7 +152,8 @@ module _ {D : Type 0} (state : D → DiskState) (old new : JournalState D) (call
   served_unread : (given : List Answer) → new.broken ≡ false → MakesRound state old new calls [] given → AreUnreadWhere Unread (zip calls given)
   served_unread given whole made =
       let events =
-      tried_parts (is_spent (state new.disk)) (rounding old.tail made.opened (accepted_of (zip calls made.given)) (not new.broken)) made.fetches made.makes.events made.makes.tried in
+      tried_parts (is_spent (state new.disk)) (rounding old.tail made.opened (accepted_of (zip calls made.given)) (not new.broken))
+      made.fetches made.makes.events made.makes.tried in
       unread_weaker (IsUnread (is_spent (state new.disk)) events.1) Unread (zip calls given)
       (λ unread.
       rose_by (state old.disk) (state new.disk) made.makes.events made.makes.leads
@@ -166,18 +168,21 @@ module _ {D : Type 0} (state : D → DiskState) (old new : JournalState D) (call
       (λ rest. ⊎_elim
       (λ read.
       rose_by (state old.disk) (state new.disk) read.2.events read.2.leads
-      (cut_unread (is_spent (state new.disk)) (drawing_for old.tail made.r) read.2.events (all_are_reads old.tail.geometry made.r.victim (payloads_of made.r.places)) read.2.made))
+      (cut_unread (is_spent (state new.disk)) (drawing_for old.tail made.r) read.2.events
+      (all_are_reads old.tail.geometry made.r.victim (payloads_of made.r.places)) read.2.made))
       (λ failed. absurd (let h : Refused Unsure ≡ Refused DeviceRead = ap Refused (sym failed.0) ∙ same in cc))
       rest)
       made.makes)
 
   traced_unread : (given : List Answer) → new.broken ≡ false
-      → MakesRound state old new calls [] given ⊎ ((new.state ≡ old.state) × (told : Refusal) × (given ≡ refusals told old.position calls) × MakesShut state old new calls told)
+      → MakesRound state old new calls [] given
+      ⊎ ((new.state ≡ old.state) × (told : Refusal) × (given ≡ refusals told old.position calls) × MakesShut state old new calls told)
       → AreUnreadWhere Unread (zip calls given)
   traced_unread given whole trace =
       ⊎_elim (served_unread given whole) (λ shut. subst (λ l. AreUnreadWhere Unread (zip calls l)) (sym shut.2) (shut_unread shut.1 old.position shut.3)) trace
 
-  refused_unread : (given : List Answer) (refusal : Refusal) → given ≡ refusals refusal old.position calls → (Refused refusal ≡ Refused DeviceRead → ⊥) → AreUnreadWhere Unread (zip calls given)
+  refused_unread : (given : List Answer) (refusal : Refusal) → given ≡ refusals refusal old.position calls → (Refused refusal ≡ Refused DeviceRead → ⊥)
+      → AreUnreadWhere Unread (zip calls given)
   refused_unread given refusal told other =
       subst (λ l. AreUnreadWhere Unread (zip calls l)) (sym told)
       (refused_where Unread refusal old.position calls (λ same. absurd (other same)))
@@ -185,8 +190,10 @@ module _ {D : Type 0} (state : D → DiskState) (old new : JournalState D) (call
   -- the calls of a round
   pub round_unread : (given : List Answer) → IsRound state old new calls given
       → (old.broken ≡ false → MakesRound state old new calls [] given
-      ⊎ ((new.state ≡ old.state) × (told : Refusal) × (given ≡ refusals told old.position calls) × MakesShut state old new calls told)) → AreUnreadWhere Unread (zip calls given)
+      ⊎ ((new.state ≡ old.state) × (told : Refusal) × (given ≡ refusals told old.position calls) × MakesShut state old new calls told))
+      → AreUnreadWhere Unread (zip calls given)
   round_unread given (inl was) trace = refused_unread given Broken was.1 (λ same. let h : Refused Broken ≡ Refused DeviceRead = same in cc)
   round_unread given (inr (inl shut)) trace = traced_unread given (ap (λ (j : JournalState D). j.broken) shut.1.0.same ∙ shut.0) (trace shut.0)
   round_unread given (inr (inr (inl went))) trace = traced_unread given went.1.broken (trace went.0)
-  round_unread given (inr (inr (inr breaks))) trace = refused_unread given Unsure breaks.1.unsure (λ same. let h : Refused Unsure ≡ Refused DeviceRead = same in cc)
+  round_unread given (inr (inr (inr breaks))) trace =
+      refused_unread given Unsure breaks.1.unsure (λ same. let h : Refused Unsure ≡ Refused DeviceRead = same in cc)

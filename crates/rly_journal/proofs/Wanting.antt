@@ -37,7 +37,8 @@ unless_none None s after none accepts = accepts
 unless_none (Some reply) s after none accepts = absurd (let e : Some reply ≡ None = none in cc)
 
 -- a command for which memory is wanted would be accepted
-pub needs_accepts : (spool : Spool Stored) (placed : Command Stored) → NeedsRoom stored_length spool placed → is_accepted (step stored_length spool.state placed).1 ≡ true
+pub needs_accepts : (spool : Spool Stored) (placed : Command Stored) → NeedsRoom stored_length spool placed
+    → is_accepted (step stored_length spool.state placed).1 ≡ true
 needs_accepts spool (Take peer number hop stamp limit payload) needs =
     unless_none (take_refusal stored_length spool.state peer number hop stamp limit (stored_length payload)) spool.state _ needs.0 refl
 needs_accepts spool (Pick hop now) needs =
@@ -65,7 +66,8 @@ wants t (Take peer number hop stamp limit payload) other accepts =
 wants t (Pick hop now) other accepts = none_refused (pick_refusal t hop now) t _ (counted length t (Pick hop now)) accepts
 wants t (Release hop number) other accepts = absurd (other tt)
 
-placed_release : (place : ℕ) (command : Command (List ℕ)) (spool : Spool Stored) → NeedsRoom stored_length spool (placed_at place command) → IsRelease command → ⊥
+placed_release : (place : ℕ) (command : Command (List ℕ)) (spool : Spool Stored) → NeedsRoom stored_length spool (placed_at place command) → IsRelease command
+    → ⊥
 placed_release place (Take peer number hop stamp limit payload) spool needs release = release
 placed_release place (Pick hop now) spool needs release = release
 placed_release place (Release hop number) spool needs release = needs
@@ -73,4 +75,5 @@ placed_release place (Release hop number) spool needs release = needs
 module _ (command : Command (List ℕ)) (spool : Spool Stored) (t : State (List ℕ)) (alike : IsAlike spool.state t) where
   pub placed_wants : (place : ℕ) → NeedsRoom stored_length spool (placed_at place command) → MayWantRoom t command
   placed_wants place needs = wants t command (placed_release place command spool needs)
-      (ap is_accepted (sym (same_reply spool.state t (placed_at place command) command alike (placed_alike place command))) ∙ needs_accepts spool (placed_at place command) needs)
+      (ap is_accepted (sym (same_reply spool.state t (placed_at place command) command alike (placed_alike place command)))
+      ∙ needs_accepts spool (placed_at place command) needs)

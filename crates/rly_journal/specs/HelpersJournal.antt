@@ -1,6 +1,6 @@
 -- Helpers: what each journal keeps, and what opening one has read so far. Nothing here is claimed: what holds of each
 -- journal is said by its laws, and what opening gives by `Standing` of rly_standing and by `Faults`.
-use Rattle.std.specs.Prelude.{◌≡◌, ◌≢◌, ℕ, ◌+◌, ◌<◌, ◌≤◌, List, Bool, false}
+use Rattle.std.specs.Prelude.{◌≡◌, ◌≢◌, ℕ, ◌+◌, ◌<◌, ◌≤◌, List, [], Bool, false}
 use Rattle.rly_core.specs.declared.params.Geometry.{Geometry}
 use Rattle.rly_disk.specs.DiskModel.{DiskState}
 use Rattle.rly_machine.specs.Map.{map_state}
@@ -12,6 +12,7 @@ use Rattle.rly_segment.specs.Device.{IsLayout}
 use Rattle.rly_segment.specs.Heads.{segment_end, segment_place}
 use Rattle.rly_keeping.specs.Keeping.{IsAlike, IsKept}
 use Rattle.rly_index.specs.Index.{IndexState, IsAt}
+use Rattle.rly_grouping.specs.Groups.{GroupState, empty_group}
 use Rattle.rly_standing.specs.declared.tail.Tail.{Tail}
 use Rattle.rly_standing.specs.HelpersJournal.{IsReplayed}
 use Rattle.rly_standing.specs.Log.{IsDurable, IsFull, IsLogged}
@@ -67,3 +68,9 @@ pub record IsSoundJournal (disk : DiskState) (tail : Tail) (x : IndexState) (s :
   -- and it has its payloads in the segments that what the device reads has them in
   pub tagged : broken ≡ false → disk.honest → IsTaggedIn disk.seen x.spool.state
   pub counted : broken ≡ false → position ≡ s.seq
+
+-- between its rounds its group is empty, and there is memory for what comes of the calls of one
+pub record IsIdle {A : Type 0} (payload : ℕ) (group : GroupState) (outcomes : List A) (capacity : ℕ) : Type 0 where
+  pub empty : group ≡ empty_group payload
+  pub none : outcomes ≡ []
+  pub room : 64 ≤ capacity

@@ -3,7 +3,7 @@
 use Rattle.std.specs.Prelude.{◌≡◌, ◌⊎◌, ◌+◌, ◌≤◌, ◌++◌, [], true, false, not, Result, Ok, Err, List}
 use Rattle.std.specs.List.{AllByRecursion, zip}
 use Rattle.rly_core.specs.declared.refusal.Refusal.{Refusal}
-use Rattle.rly_disk.specs.DiskModel.{DiskState, HasFailed, Later}
+use Rattle.rly_disk.specs.DiskModel.{DiskState, HasFailed, Later, LeavesOnly}
 use Rattle.rly_disk.specs.Trace.{Makes}
 use Rattle.rly_machine.specs.declared.call.Answer.{Answer}
 use Rattle.rly_machine.specs.declared.call.Call.{Call}
@@ -13,6 +13,7 @@ use Rattle.rly_fetching.specs.Trials.{AreReads, Tries, Try}
 use Rattle.rly_standing.specs.Calls.{logging}
 use Rattle.rly_journal.specs.Journal.{Breaks, Goes, IsDueFor, IsSafe, JournalState, MakesShut, StaysShut}
 use Rattle.rly_standing.specs.Log.{IsSameHead}
+use Rattle.rly_standing.specs.Standing.{Stands}
 use Rattle.rly_journal.specs.Calls.{IsRenewal, Renewal, renewed, renewing}
 use Rattle.rly_journal.specs.Rounds.{AreFetches, AreLostWhereWanted, AreServed}
 
@@ -34,10 +35,23 @@ abbrev pub IsUnready : {D : Type 0} → (D → DiskState) → JournalState D →
 IsUnready state old new calls refusal =
     MakesShut state old new calls refusal × (new.broken ≡ false → StaysShut old new calls)
 
-abbrev pub IsReadied : {A D : Type 0} → (D → DiskState) → JournalState D → JournalState D → List Call
+-- what making room for a round came to
+abbrev pub IsRoom : {A D : Type 0} → (D → DiskState) → JournalState D → JournalState D → List Call
     → Result A Refusal → Type 0
-IsReadied state old new calls (Ok done) = (new.broken ≡ false) × IsReady state old new calls
-IsReadied state old new calls (Err refusal) = IsUnready state old new calls refusal
+IsRoom state old new calls (Ok done) =
+    (new.broken ≡ false) × (IsDueFor new calls → ⊥) × IsReady state old new calls
+IsRoom state old new calls (Err refusal) = IsUnready state old new calls refusal
+
+-- all that making room did
+pub record IsReadied {A D : Type 0} (state : D → DiskState) (old new : JournalState D) (calls : List Call)
+    (result : Result A Refusal) : Type 0 where
+  pub same : new.state ≡ old.state
+  pub position : new.position ≡ old.position
+  pub came : IsRoom state old new calls result
+  pub any_moment : (state old.disk).honest
+      → LeavesOnly (state old.disk) (state new.disk) (λ image. Stands image old.state)
+  pub syncs : (state new.disk).syncs ≤ (state old.disk).syncs + 3
+  pub later : Later (state old.disk) (state new.disk)
 
 -- calls were served, where no segment was due: their accepted commands were logged, and where all
 -- went well their Fetches were read

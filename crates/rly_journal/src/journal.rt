@@ -3,7 +3,7 @@ ghost use Rattle.rly_core.specs.declared.refusal.Refusal.{Refusal as ARefusal};
 ghost use Rattle.rly_core.specs.declared.refusal.Refusal.TheVariants as refusal;
 ghost use Rattle.std.specs.List.{zip};
 ghost use Rattle.rly_core.specs.Bounds.{IsIn};
-ghost use Rattle.rly_disk.specs.DiskModel.{Later, LeavesOnly, Settled};
+ghost use Rattle.rly_disk.specs.DiskModel.{Later, Settled};
 ghost use Rattle.rly_machine.specs.declared.call.Answer.{Answer as AnAnswer};
 ghost use Rattle.rly_journal.specs.Journal.{holds_command, IsDueFor, IsRound, IsSafe, IsShut, MakesRound, MakesShut};
 ghost use Rattle.rly_journal.specs.HelpersReady.{IsReadied, IsServed};
@@ -58,10 +58,9 @@ pub struct Journal<D: Disk> {
 }
 
 impl<D: Disk> Model for Journal<D> {
-    ghost use Rattle.std.specs.Prelude.{◌≡◌, ◌≤◌, [], map, vec_capacity};
-    ghost use Rattle.rly_grouping.specs.Groups.{empty_group};
+    ghost use Rattle.std.specs.Prelude.{map, vec_capacity};
     ghost use Rattle.rly_journal.specs.Journal.{JournalState};
-    ghost use Rattle.rly_journal.specs.HelpersJournal.{IsSoundJournal};
+    ghost use Rattle.rly_journal.specs.HelpersJournal.{IsIdle, IsSoundJournal};
     ghost use Rattle.rly_journal.specs.Showing.{shown_state};
 
     ghost Value = { JournalState D };
@@ -76,7 +75,7 @@ impl<D: Disk> Model for Journal<D> {
 
     ghost invariant = { λ j. IsSoundJournal (D.state j.disk) j.tail j.index
         (shown_state (D.state j.first_disk.value).seen j.first_index.value.spool.state (map (λ e. e.0.value) j.accepted.items)) j.position j.broken
-        × (j.group ≡ empty_group j.tail.geometry.params.payload) × (j.outcomes.items ≡ []) × (64 ≤ vec_capacity j.outcomes) };
+        × IsIdle j.tail.geometry.params.payload j.group j.outcomes.items (vec_capacity j.outcomes) };
 }
 
 /// What opening a device made.
@@ -187,14 +186,7 @@ impl<D: Disk> Journal<D> {
     /// Opens a segment where one is due, or says how all calls are refused.
     fn make_ready(&mut self, alloc: Global, calls: &[Call]) -> Result<(), Refusal>
         requires { self.old.broken ≡ false }
-        ensures state { self.new.state ≡ self.old.state }
-        ensures position { self.new.position ≡ self.old.position }
-        ensures ready { OnOk result (IsDueFor self.new calls.now → ⊥) }
-        ensures made { IsReadied D.state self.old self.new calls.now result }
-        ensures any_moment { (D.state self.old.disk).honest
-            → LeavesOnly (D.state self.old.disk) (D.state self.new.disk) (λ image. Stands image self.old.state) }
-        ensures syncs { (D.state self.new.disk).syncs ≤ (D.state self.old.disk).syncs + 3 }
-        ensures later { Later (D.state self.old.disk) (D.state self.new.disk) }
+        ensures { IsReadied D.state self.old self.new calls.now result }
     {
         if !holds_command(calls) || !is_full(&self.tail) {
             return Ok(());

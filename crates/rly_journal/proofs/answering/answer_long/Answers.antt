@@ -1,4 +1,4 @@
-use Rattle.std.proofs.Common.{◌≡◌, ◌∙◌, false, subst, sym}
+use Rattle.std.proofs.Common.{◌≡◌, ◌∙◌, false, rules, subst, sym}
 use Rattle.std.proofs.lemmas.Bool.{false≢true}
 use Rattle.rly_machine.specs.Accepted.{is_accepted}
 use Rattle.rly_machine.specs.Sound.{IsSound}
@@ -22,20 +22,11 @@ apply-requires-clause-brought c = λ accepts.
     (subst (λ (s : State Stored). IsRecordable s.params.payload c.args.command → ⊥) (sym c.in-Ok.ensures.state) c.requires.long)) in
     absurd (false≢true (sym refused ∙ accepts))
 
-pub returns-in-Ok-clause-told : goal.returns-in-Ok-clause-told
-returns-in-Ok-clause-told c =
-    (long_told c.args.index.now.spool.state c.reserve_for.new.self.spool.state c.apply.new.self.spool.state c.args.command c.inlined-placed.result c.apply.result c.law_index.ensures.sound c.requires.long
-    c.inlined-placed.ensures c.in-Ok.ensures.state c.apply.ensures.state c.apply.ensures.reply).2
-
-pub returns-in-Ok-clause-refused : goal.returns-in-Ok-clause-refused
-returns-in-Ok-clause-refused c =
-    (long_told c.args.index.now.spool.state c.reserve_for.new.self.spool.state c.apply.new.self.spool.state c.args.command c.inlined-placed.result c.apply.result c.law_index.ensures.sound c.requires.long
-    c.inlined-placed.ensures c.in-Ok.ensures.state c.apply.ensures.state c.apply.ensures.reply).0
-
-pub returns-in-Ok-clause-state : goal.returns-in-Ok-clause-state
-returns-in-Ok-clause-state c =
-    (long_told c.args.index.now.spool.state c.reserve_for.new.self.spool.state c.apply.new.self.spool.state c.args.command c.inlined-placed.result c.apply.result c.law_index.ensures.sound c.requires.long
-    c.inlined-placed.ensures c.in-Ok.ensures.state c.apply.ensures.state c.apply.ensures.reply).1
+pub returns-in-Ok : goal.returns-in-Ok
+returns-in-Ok c =
+    let told = long_told c.args.index.now.spool.state c.reserve_for.new.self.spool.state c.apply.new.self.spool.state c.args.command c.inlined-placed.result
+    c.apply.result c.law_index.ensures.sound c.requires.long c.inlined-placed.ensures c.in-Ok.ensures.state c.apply.ensures.state c.apply.ensures.reply in
+    record { told = told.2; refused = told.0; state = told.1; geometry = search rules; segment = search rules; used = search rules }
 
 -- memory is wanted only for a command that would be accepted
 pub returns-in-Err-clause-told : goal.returns-in-Err-clause-told

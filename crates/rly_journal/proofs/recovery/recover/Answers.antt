@@ -1,10 +1,24 @@
 use Rattle.std.proofs.Common.{◌∙◌, Ok, ap, subst, sym}
 use Rattle.std.proofs.lemmas.Result.{err_from_is_err_and}
 use Rattle.rly_disk.proofs.Making.{makes_later}
+use Rattle.rly_gate.specs.Reading.{OnlyRead}
 use Rattle.rly_standing.specs.Calls.{EndsScan}
 use Rattle.rly_standing.proofs.Following.{before_quiet, head_broken, head_scanned, only_made, scan_broken, scanned_all, scanned_group}
-use Rattle.rly_journal.specs.HelpersJournal.{IsLoggedFor, IsReplayedFor, IsShaped}
+use Rattle.rly_journal.specs.HelpersJournal.{IsReplayedFor, IsShaped}
+use Rattle.rly_journal.proofs.recovery.recover.Given.{Over}
+use Rattle.rly_journal.proofs.recovery.recover.Goals.{After-replay_group}
 use Rattle.rly_journal.proofs.recovery.recover.Goals as goal
+
+-- ---- what is known before a group is read
+
+only_before : (g : Over) (c : After-replay_group g) → OnlyRead (g.D.Disk.state c.args.disk.now) (g.D.Disk.state c.groups.disk)
+only_before g c = only_made g.D.Disk.state g.met.D.Disk.consistent (before_quiet c.groups.invariant.scanned.0) c.groups.invariant.scanned.2
+
+replayed_before : (g : Over) (c : After-replay_group g) → (g.D.Disk.state c.args.disk.now).honest
+    → IsReplayedFor (g.D.Disk.state c.groups.disk).seen c.groups.found.tail c.groups.found.index
+replayed_before g c honest = rw ((only_before g c).crash honest).seen (c.groups.invariant.replayed honest)
+
+-- ---- the loop
 
 pub groups-init : goal.groups-init
 groups-init g c = record {
@@ -16,7 +30,8 @@ groups-init g c = record {
 
 pub replay_group-requires : goal.replay_group-requires
 replay_group-requires g c = record {
-  shaped = subst (λ size. IsShaped size c.groups.found.tail c.groups.found.index) (sym (makes_later g.D.Disk.state c.groups.invariant.scanned.2).size) c.groups.invariant.shaped;
+  shaped = subst (λ size. IsShaped size c.groups.found.tail c.groups.found.index) (sym (makes_later g.D.Disk.state c.groups.invariant.scanned.2).size)
+      c.groups.invariant.shaped;
   ends = c.groups.invariant.ends;
 }
 
@@ -28,10 +43,9 @@ returns-in_err-found-clause-trace g c =
 
 pub returns-in_err-replay_group-clause-refused : goal.returns-in_err-replay_group-clause-refused
 returns-in_err-replay_group-clause-refused g c honest =
-    let scanned = c.groups.invariant.scanned in
-    let same = (only_made g.D.Disk.state g.met.D.Disk.consistent (before_quiet scanned.0) scanned.2).crash honest in
-    let before = subst (λ image. IsReplayedFor image c.groups.found.tail c.groups.found.index) (sym same.seen) (c.groups.invariant.replayed honest) in
-    let refused = c.in_err-replay_group.ensures.refused same.honest before in
+    let at = (goal.at.returns-in_err-replay_group-clause-refused g c).After-replay_group in
+    let same = (only_before g at).crash honest in
+    let refused = c.in_err-replay_group.ensures.refused same.honest (replayed_before g at honest) in
     let told = err_from_is_err_and c.from_residual-in_err-replay_group.result c.from_residual-in_err-replay_group.ensures.1 in
     rw (told.1, told.2) (rw same.seen at refused)
 
@@ -44,39 +58,34 @@ returns-in_err-replay_group-clause-trace g c =
 
 pub groups-preserved : goal.groups-preserved
 groups-preserved g c =
+    let at = (goal.at.groups-preserved g c).After-replay_group in
     let scanned = c.groups.invariant.scanned in
-    let only = only_made g.D.Disk.state g.met.D.Disk.consistent (before_quiet scanned.0) scanned.2 in
     let read = rw c.if-branch.true at c.in_ok-replay_group.ensures.trace in
     let next = scanned_group g.D.Disk.state c.groups.found.tail scanned.0 scanned.1 scanned.2 read.0 read.2 in
     record {
-      shaped = subst (λ size. IsShaped size c.replay_group.new.found.tail c.replay_group.new.found.index) (makes_later g.D.Disk.state next.2).size c.in_ok-replay_group.ensures.shaped;
+      shaped = subst (λ size. IsShaped size c.replay_group.new.found.tail c.replay_group.new.found.index) (makes_later g.D.Disk.state next.2).size
+          c.in_ok-replay_group.ensures.shaped;
       ends = c.in_ok-replay_group.ensures.ends;
       replayed = λ honest.
-          let same = only.crash honest in
-          let before = subst (λ image. IsReplayedFor image c.groups.found.tail c.groups.found.index) (sym same.seen) (c.groups.invariant.replayed honest) in
-          let after = c.in_ok-replay_group.ensures.replayed same.honest before in
-          subst (λ image. IsReplayedFor image c.replay_group.new.found.tail c.replay_group.new.found.index) same.seen after;
+          let same = (only_before g at).crash honest in
+          rw same.seen at (c.in_ok-replay_group.ensures.replayed same.honest (replayed_before g at honest));
       scanned = (next.0, subst (λ tail. EndsScan tail next.0) (sym read.1) next.1, next.2);
     }
 
-pub returns-clause-shaped : goal.returns-clause-shaped
-returns-clause-shaped g c =
+pub returns : goal.returns
+returns g c =
+    let at = (goal.at.returns g c).After-replay_group in
+    let by = c.in_ok-replay_group.ensures in
     let scanned = c.groups.invariant.scanned in
-    let read = rw c.if-branch.false at c.in_ok-replay_group.ensures.trace in
-    subst (λ size. IsShaped size c.replay_group.new.found.tail c.replay_group.new.found.index)
-    ((makes_later g.D.Disk.state read.1).size ∙ (makes_later g.D.Disk.state scanned.2).size) c.in_ok-replay_group.ensures.shaped
-
-pub returns-clause-logged : goal.returns-clause-logged
-returns-clause-logged g c honest =
-    let scanned = c.groups.invariant.scanned in
-    let same = (only_made g.D.Disk.state g.met.D.Disk.consistent (before_quiet scanned.0) scanned.2).crash honest in
-    let before = subst (λ image. IsReplayedFor image c.groups.found.tail c.groups.found.index) (sym same.seen) (c.groups.invariant.replayed honest) in
-    subst (λ image. IsLoggedFor image c.replay_group.new.found.tail c.replay_group.new.found.index) same.seen
-    (c.in_ok-replay_group.ensures.last same.honest before (ap Ok c.if-branch.false))
-
-pub returns-clause-trace : goal.returns-clause-trace
-returns-clause-trace g c =
-    let scanned = c.groups.invariant.scanned in
-    let read = rw c.if-branch.false at c.in_ok-replay_group.ensures.trace in
+    let read = rw c.if-branch.false at by.trace in
     let all = scanned_all g.D.Disk.state c.groups.found.tail scanned.0 scanned.1 scanned.2 read.1 in
-    (all.0, subst (λ tail. EndsScan tail all.0) (sym read.0) all.1, all.2)
+    record {
+      shaped = subst (λ size. IsShaped size c.replay_group.new.found.tail c.replay_group.new.found.index)
+          ((makes_later g.D.Disk.state read.1).size ∙ (makes_later g.D.Disk.state scanned.2).size) by.shaped;
+      ends = by.ends;
+      logged = λ honest.
+          let same = (only_before g at).crash honest in
+          rw same.seen at (by.last same.honest (replayed_before g at honest) (ap Ok c.if-branch.false));
+      refused = λ honest. tt;
+      trace = (all.0, subst (λ tail. EndsScan tail all.0) (sym read.0) all.1, all.2);
+    }

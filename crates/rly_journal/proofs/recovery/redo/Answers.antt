@@ -1,39 +1,50 @@
-use Rattle.std.proofs.Common.{◌≡◌, ◌+◌, ap, false, rules, subst, true}
-use Rattle.std_alloc.specs.Vec.Iter.{into_iter_items}
+use Rattle.std.proofs.Common.{◌≡◌, ◌+◌, ◌∙◌, Bool, ap, false, rules, sym, true}
+use Rattle.std.specs.Prelude.{if◌then◌else◌}
 use Rattle.rly_machine.specs.Accepted.{is_accepted}
 use Rattle.rly_machine.specs.Step.{step}
 use Rattle.rly_checkpoint.specs.Stored.{stored_length}
-use Rattle.rly_journal.proofs.Redone.{at_after, brought_there, made_step, redoing_next, redoing_refused}
+use Rattle.rly_grouping.specs.Lying.{placed_at}
+use Rattle.rly_journal.proofs.Redone.{redoing_brought, redoing_next, redoing_refused}
+use Rattle.rly_journal.proofs.recovery.redo.Goals.{After-apply}
 use Rattle.rly_journal.proofs.recovery.redo.Goals as goal
+
+-- what became of the next command
+stepped : (c : After-apply)
+    → (c.apply.new.self.spool.state ≡ (step stored_length c.loop-command.index.spool.state (placed_at c.loop-command.place c.in-Some.command)).0)
+    × (c.apply.result ≡ (step stored_length c.loop-command.index.spool.state (placed_at c.loop-command.place c.in-Some.command)).1)
+stepped c =
+    let same : c.reserve_for.new.self.spool.state ≡ c.loop-command.index.spool.state = c.in-Ok.ensures.state in
+    let placed : c.placed_at-placed.result ≡ placed_at c.loop-command.place c.in-Some.command = c.placed_at-placed.ensures in (
+      c.apply.ensures.state ∙ (λ i. (step stored_length (same i) (placed i)).0),
+      c.apply.ensures.reply ∙ (λ i. (step stored_length (same i) (placed i)).1),
+    )
 
 pub apply-requires-clause-brought : goal.apply-requires-clause-brought
 apply-requires-clause-brought c = λ _.
-    brought_there c.args.index.now c.loop-command.index c.reserve_for.new.self c.args.gate c.loop-command.place c.record_len.result
-    c.args.commands.items (into_iter_items c.loop-command.command-iterator) (into_iter_items c.next.new.self) c.in-Some.command c.placed_at-placed.result
-    c.loop-command.invariant.2 c.in-Some.ensures.steps.0 c.law_index-in-loop-command.ensures.holds c.in-Ok.ensures.at c.record_len.ensures c.placed_at-placed.ensures
+    let at = c.in-Ok.ensures.at in
+    rw (at.geometry, at.segment, at.used, c.record_len.ensures, c.placed_at-placed.ensures)
+    (redoing_brought c.loop-command.invariant.2 c.in-Some.ensures.steps.0 c.law_index-in-loop-command.ensures.holds)
 
 pub returns-then-not-is_accepted-clause-refused : goal.returns-then-not-is_accepted-clause-refused
 returns-then-not-is_accepted-clause-refused c = λ _.
-    let one = made_step c.placed_at-placed.result c.loop-command.index.spool.state c.reserve_for.new.self.spool.state c.apply.new.self.spool.state c.apply.result
-    c.is_accepted.result false c.in-Ok.ensures.state c.apply.ensures.state c.apply.ensures.reply c.is_accepted.ensures (search rules) in
-    redoing_refused c.args.index.now c.loop-command.index c.args.gate c.loop-command.place
-    c.args.commands.items (into_iter_items c.loop-command.command-iterator) (into_iter_items c.next.new.self) c.in-Some.command
-    c.loop-command.invariant.2 c.in-Some.ensures.steps.0
-    (subst (λ p. is_accepted (step stored_length c.loop-command.index.spool.state p).1 ≡ false) c.placed_at-placed.ensures one.1)
+    let told : c.is_accepted.result ≡ false = search rules in
+    let reply = (stepped (goal.at.returns-then-not-is_accepted-clause-refused c).After-apply).1 in
+    redoing_refused c.loop-command.invariant.2 c.in-Some.ensures.steps.0 (ap is_accepted (sym reply) ∙ sym c.is_accepted.ensures ∙ told)
 
 pub loop-command-preserved : goal.loop-command-preserved
 loop-command-preserved c =
     let told : c.is_accepted.result ≡ true = search rules in
-    let one = made_step c.placed_at-placed.result c.loop-command.index.spool.state c.reserve_for.new.self.spool.state c.apply.new.self.spool.state c.apply.result
-    c.is_accepted.result true c.in-Ok.ensures.state c.apply.ensures.state c.apply.ensures.reply c.is_accepted.ensures told in (
+    let one = stepped (goal.at.loop-command-preserved c).After-apply in
+    let before = c.in-Ok.ensures.at in
+    let after = c.apply.ensures.at in (
       tt,
       tt,
-      redoing_next c.args.index.now c.loop-command.index c.apply.new.self c.args.gate c.loop-command.place (c.loop-command.place + c.record_len.result)
-          c.args.commands.items (into_iter_items c.loop-command.command-iterator) (into_iter_items c.next.new.self) c.in-Some.command
-          c.loop-command.invariant.2 c.in-Some.ensures.steps.0
-          (subst (λ p. is_accepted (step stored_length c.loop-command.index.spool.state p).1 ≡ true) c.placed_at-placed.ensures one.1)
-          (subst (λ p. c.apply.new.self.spool.state ≡ (step stored_length c.loop-command.index.spool.state p).0) c.placed_at-placed.ensures one.0)
+      redoing_next c.loop-command.invariant.2 c.in-Some.ensures.steps.0 (ap is_accepted (sym one.1) ∙ sym c.is_accepted.ensures ∙ told) one.0
           (ap (λ n. c.loop-command.place + n) c.record_len.ensures)
-          (at_after c.loop-command.index c.reserve_for.new.self c.apply.new.self (c.loop-command.place + c.record_len.result) c.apply.result c.is_accepted.result
-          c.in-Ok.ensures.at c.apply.ensures.at c.is_accepted.ensures told),
+          (record {
+            geometry = after.geometry ∙ before.geometry;
+            segment = after.segment ∙ before.segment;
+            used = after.used
+                ∙ ap (λ (b : Bool). if b then c.loop-command.place + c.record_len.result else c.reserve_for.new.self.used) (sym c.is_accepted.ensures ∙ told);
+          }),
     )

@@ -1,33 +1,28 @@
-use Rattle.std.proofs.Common.{map, ap, subst, sym, ◌∙◌}
+use Rattle.std.proofs.Common.{map, ap, subst, ◌∙◌}
 use Rattle.rly_disk.proofs.Making.{makes_later}
 use Rattle.rly_standing.specs.Calls.{BreaksOpening}
 use Rattle.rly_standing.proofs.Following.{broken_only, broken_settled, opening_only, opening_settled, told_when}
-use Rattle.rly_journal.specs.HelpersJournal.{IsLoggedFor}
 use Rattle.rly_journal.proofs.Opening.{opened_sound, opened_stands}
 use Rattle.rly_journal.proofs.journal.Journal.open.Goals as goal
 
 pub invariant_of-result : goal.invariant_of-result
 invariant_of-result g c =
-    let later = makes_later g.D.Disk.state c.in-Ok.ensures.trace.2 in
-    let only = opening_only g.D.Disk.state g.met.D.Disk.consistent c.in-Ok.ensures.trace.0 c.in-Ok.ensures.trace.2 in (
-      opened_sound c.in-Ok.begun.found.tail c.in-Ok.begun.found.index (g.D.Disk.state c.of-first_disk.result.value).seen c.of-first_index.result.value.spool.state
-          (map (λ e. e.0.value) c.new.result.items) (ap (λ x. x.spool.state) c.of-first_index.ensures) (ap (map (λ e. e.0.value)) c.new.ensures)
-          (g.D.Disk.state c.begin.new.disk) (g.met.D.Disk.consistent c.begin.new.disk) c.in-Ok.ensures.shaped c.in-Ok.ensures.ends c.law_index.ensures.holds
-          (ap (λ d. (g.D.Disk.state d).seen) c.of-first_disk.ensures) c.seq-position.result
-          (λ honest. opening_settled g.D.Disk.state g.met.D.Disk.consistent c.in-Ok.ensures.trace.0 c.in-Ok.ensures.trace.2 (later.honest.0 honest))
-          (λ honest. subst (λ image. IsLoggedFor image c.in-Ok.begun.found.tail c.in-Ok.begun.found.index) (sym (only.crash (later.honest.0 honest)).seen)
-          (c.in-Ok.ensures.logged (later.honest.0 honest))) (c.seq-position.ensures ∙ ap (λ m. m.state.seq) c.machine.ensures),
-      c.in-Ok.ensures.group,
-      c.in-Ok.ensures.outcomes,
-      c.in-Ok.ensures.room,
+    let trace = c.in-Ok.ensures.trace in
+    let later = makes_later g.D.Disk.state trace.2 in
+    let only = opening_only g.D.Disk.state g.met.D.Disk.consistent trace.0 trace.2 in (
+      opened_sound (g.met.D.Disk.consistent c.begin.new.disk) c.in-Ok.ensures.shaped c.in-Ok.ensures.ends c.law_index.ensures.holds
+          (ap (λ d. (g.D.Disk.state d).seen) c.of-first_disk.ensures) (ap (λ x. x.spool.state) c.of-first_index.ensures)
+          (ap (map (λ e. e.0.value)) c.new.ensures)
+          (λ honest. opening_settled g.D.Disk.state g.met.D.Disk.consistent trace.0 trace.2 (later.honest.0 honest))
+          (λ honest. rw (only.crash (later.honest.0 honest)).seen (c.in-Ok.ensures.logged (later.honest.0 honest)))
+          (c.seq-position.ensures ∙ ap (λ m. m.state.seq) c.machine.ensures),
+      record { empty = c.in-Ok.ensures.group; none = c.in-Ok.ensures.outcomes; room = c.in-Ok.ensures.room },
     )
 
 pub returns-in-Ok-clause-stands : goal.returns-in-Ok-clause-stands
 returns-in-Ok-clause-stands g c honest =
-    opened_stands c.in-Ok.begun.found.tail c.in-Ok.begun.found.index (g.D.Disk.state c.of-first_disk.result.value).seen c.of-first_index.result.value.spool.state
-    (map (λ e. e.0.value) c.new.result.items) (ap (λ x. x.spool.state) c.of-first_index.ensures) (ap (map (λ e. e.0.value)) c.new.ensures)
-    (g.D.Disk.state c.begin.new.disk) (g.met.D.Disk.consistent c.begin.new.disk) c.in-Ok.ensures.shaped c.in-Ok.ensures.ends c.law_index.ensures.holds
-    (ap (λ d. (g.D.Disk.state d).seen) c.of-first_disk.ensures) (g.D.Disk.state c.args.disk)
+    opened_stands (g.met.D.Disk.consistent c.begin.new.disk) c.in-Ok.ensures.shaped c.in-Ok.ensures.ends c.law_index.ensures.holds
+    (ap (λ d. (g.D.Disk.state d).seen) c.of-first_disk.ensures) (ap (λ x. x.spool.state) c.of-first_index.ensures) (ap (map (λ e. e.0.value)) c.new.ensures)
     (opening_only g.D.Disk.state g.met.D.Disk.consistent c.in-Ok.ensures.trace.0 c.in-Ok.ensures.trace.2) honest (c.in-Ok.ensures.logged honest)
 
 pub returns-in-Ok-clause-only : goal.returns-in-Ok-clause-only
