@@ -23,3 +23,5 @@ mod growths;
 mod limits;
 #[cfg(test)]
 mod reads;
+#[cfg(test)]
+mod script;

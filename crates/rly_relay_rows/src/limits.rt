@@ -1,11 +1,12 @@
 //! Datagrams with age limits, through every phase of a round: in records, in the head of a segment that is opened, over crashes and
 //! openings, until a pick finds them past their limit.
-use crate::cycles::{HOP, PEER, SEAT, open, step};
+use crate::script::{
+    Act, NONE, Row, Told, expect_alone, expect_round, new_relay, open_again, open_at, told_once,
+};
 use rly_core::{Geometry, Params, Refusal};
-use rly_disk::{After, Torn};
-use rly_machine::{Ask, Command, HopStatus, Payload, Query, Reply};
-use rly_relay::{Relay, Step};
-use std::alloc::{AllocError, Global};
+use rly_disk::Torn;
+use rly_relay::Relay;
+use std::alloc::Global;
 use std::process::Abort;
 
 /// The least device of two segments for 16 datagrams and 4,096 bytes.
@@ -35,268 +36,171 @@ const LATE: u64 = 11;
 /// from which on the largest group of 78,280 bytes has no room: a segment is due.
 const LENGTH: usize = 255;
 
-/// So many datagrams go into flight in time, and as many wait behind them.
-const HALF: u64 = 8;
-
-/// The last datagram, which has no limit.
-const LAST: u64 = 16;
-
 /// An opening and a round in which a segment is opened make fewer calls of the device than this.
 const MOST_CALLS: u64 = 64;
 
-/// The limit of a datagram: in the first half every other one has one, in the second half each but the last.
-fn limit_of(number: u64) -> u64 {
-    if number % 2 == 1 || (number > HALF && number < LAST) {
-        return LIMIT;
-    }
-    0
+/// What is done to a relay.
+#[derive(Clone, Copy)]
+enum Stage {
+    /// These are asked in one round.
+    Round(&'static [Row]),
+    /// Each of these is asked in a round of its own.
+    Alone(&'static [Row]),
+    /// It crashes between two syncs, and is opened again.
+    Crash,
 }
 
-fn take(alloc: Global, number: u64, limit: u64) -> Result<Ask, AllocError> {
-    Ok(Ask::Command(Command::Take {
-        peer: PEER,
-        number,
-        hop: HOP,
-        stamp: 0,
-        limit,
-        payload: Payload::new(vec![in alloc; number.to_le_bytes()[0]; LENGTH]?),
-    }))
-}
+/// Every other datagram of the first eight has a limit.
+const FIRST_TAKEN: [Row; 8] = [
+    (Act::Take(1, LIMIT, LENGTH), Told::Taken(1)),
+    (Act::Take(2, 0, LENGTH), Told::Taken(2)),
+    (Act::Take(3, LIMIT, LENGTH), Told::Taken(3)),
+    (Act::Take(4, 0, LENGTH), Told::Taken(4)),
+    (Act::Take(5, LIMIT, LENGTH), Told::Taken(5)),
+    (Act::Take(6, 0, LENGTH), Told::Taken(6)),
+    (Act::Take(7, LIMIT, LENGTH), Told::Taken(7)),
+    (Act::Take(8, 0, LENGTH), Told::Taken(8)),
+];
 
-fn pick(now: u64) -> Ask {
-    Ask::Command(Command::Pick { hop: HOP, now })
-}
+/// Each of the second eight but the last.
+const SECOND_TAKEN: [Row; 8] = [
+    (Act::Take(9, LIMIT, LENGTH), Told::Taken(9)),
+    (Act::Take(10, LIMIT, LENGTH), Told::Taken(10)),
+    (Act::Take(11, LIMIT, LENGTH), Told::Taken(11)),
+    (Act::Take(12, LIMIT, LENGTH), Told::Taken(12)),
+    (Act::Take(13, LIMIT, LENGTH), Told::Taken(13)),
+    (Act::Take(14, LIMIT, LENGTH), Told::Taken(14)),
+    (Act::Take(15, LIMIT, LENGTH), Told::Taken(15)),
+    (Act::Take(16, 0, LENGTH), Told::Taken(16)),
+];
 
-/// Asks in one round and hears the answers. Says how many were heard before.
-fn round(rt: &impl Abort, relay: &mut Relay, asks: Vec<Ask>) -> usize {
-    let before = relay.known(SEAT).len();
-    step(rt, relay, Step::Put(SEAT, asks));
-    step(rt, relay, Step::Round(64));
-    step(rt, relay, Step::Hear(SEAT));
-    before
-}
+/// The first eight go into flight in time, and as many wait behind them.
+const FIRST_PICKED: [Row; 8] = [
+    (Act::Pick(LIMIT), Told::Picked(1, 1, NONE, NONE)),
+    (Act::Pick(LIMIT), Told::Picked(2, 2, NONE, NONE)),
+    (Act::Pick(LIMIT), Told::Picked(3, 3, NONE, NONE)),
+    (Act::Pick(LIMIT), Told::Picked(4, 4, NONE, NONE)),
+    (Act::Pick(LIMIT), Told::Picked(5, 5, NONE, NONE)),
+    (Act::Pick(LIMIT), Told::Picked(6, 6, NONE, NONE)),
+    (Act::Pick(LIMIT), Told::Picked(7, 7, NONE, NONE)),
+    (Act::Pick(LIMIT), Told::Picked(8, 8, NONE, NONE)),
+];
 
-/// Asks once and hears the answer, if one is given: none is where the relay isn't open.
-fn ask_once<'a>(
-    rt: &impl Abort,
-    alloc: Global,
-    relay: &'a mut Relay,
-    ask: Ask,
-) -> Result<Option<&'a Reply>, AllocError> {
-    let before = round(rt, relay, vec![in alloc; ask]?);
-    Ok(relay.known(SEAT).get(before).map(|answer| &answer.reply))
-}
+const FIRST_FETCHED: [Row; 8] = [
+    (Act::Fetch(1), Told::Bytes(LIMIT, Some(1), LENGTH)),
+    (Act::Fetch(2), Told::Bytes(0, Some(2), LENGTH)),
+    (Act::Fetch(3), Told::Bytes(LIMIT, Some(3), LENGTH)),
+    (Act::Fetch(4), Told::Bytes(0, Some(4), LENGTH)),
+    (Act::Fetch(5), Told::Bytes(LIMIT, Some(5), LENGTH)),
+    (Act::Fetch(6), Told::Bytes(0, Some(6), LENGTH)),
+    (Act::Fetch(7), Told::Bytes(LIMIT, Some(7), LENGTH)),
+    (Act::Fetch(8), Told::Bytes(0, Some(8), LENGTH)),
+];
 
-/// Half of the datagrams are taken, each with its limit.
-fn takes(rt: &impl Abort, alloc: Global, relay: &mut Relay, first: u64) {
-    let mut asks = Vec::new(alloc);
-    for index in 0..HALF {
-        let number = first.saturating_add(index);
-        asks.push(take(alloc, number, limit_of(number)).expect(rt, "memory"))
-            .expect(rt, "memory");
-    }
-    let before = round(rt, relay, asks);
-    let mut number = first;
-    for answer in relay.known(SEAT).iter().skip(before) {
-        expect!(rt; matches!(answer.reply, Reply::Taken(id) if id == number));
-        number = number.saturating_add(1);
-    }
-    expect!(rt; number == first.saturating_add(HALF));
-}
+/// What is left of them once four were released.
+const REST_FETCHED: [Row; 4] = [
+    (Act::Fetch(5), Told::Bytes(LIMIT, Some(5), LENGTH)),
+    (Act::Fetch(6), Told::Bytes(0, Some(6), LENGTH)),
+    (Act::Fetch(7), Told::Bytes(LIMIT, Some(7), LENGTH)),
+    (Act::Fetch(8), Told::Bytes(0, Some(8), LENGTH)),
+];
 
-/// The first half is picked when none is past its limit.
-fn picks_in_time(rt: &impl Abort, alloc: Global, relay: &mut Relay) {
-    let mut asks = Vec::new(alloc);
-    for _index in 0..HALF {
-        asks.push(pick(LIMIT)).expect(rt, "memory");
-    }
-    let before = round(rt, relay, asks);
-    let mut next = 1u64;
-    for answer in relay.known(SEAT).iter().skip(before) {
-        expect!(rt; is_picked(&answer.reply, next, next, 0));
-        next = next.saturating_add(1);
-    }
-    expect!(rt; next == HALF.saturating_add(1));
-}
+/// A late pick.
+const PICK_LATE: Act = Act::Pick(LATE);
 
-/// Whether ids are so many, one after the other, from the datagram on that is the first of the second half.
-fn are_from_half(ids: &[u64], count: u64) -> bool {
-    let mut next = HALF;
-    for id in ids {
-        next = next.saturating_add(1);
-        if *id != next {
-            return false;
-        }
-    }
-    ids.len() as u64 == count
-}
-
-/// Whether a datagram went into flight, so many of the second half expired, and none was dropped.
-fn is_picked(reply: &Reply, picked: u64, datagram: u64, count: u64) -> bool {
-    match reply {
-        Reply::Picked {
-            number,
-            id,
-            expired,
-            dropped,
-        } => {
-            *number == picked
-                && *id == datagram
-                && are_from_half(expired.as_slice(), count)
-                && dropped.as_slice().is_empty()
-        }
-        _ => false,
-    }
-}
-
-/// The reply to a late pick: all but the last expire, and that goes into flight.
-fn is_late(reply: &Reply) -> bool {
-    is_picked(reply, HALF.saturating_add(1), LAST, HALF - 1)
-}
-
-/// Datagrams in flight are fetched, each with its bytes and its limit.
-fn fetches(rt: &impl Abort, alloc: Global, relay: &mut Relay, first: u64) {
-    for number in first..=HALF {
-        let found = ask_once(
-            rt,
-            alloc,
-            relay,
-            Ask::Query(Query::Fetch { hop: HOP, number }),
-        )
-        .expect(rt, "memory");
-        expect!(rt;
-            match found {
-                Some(Reply::Bytes { payload, limit }) => {
-                    *limit == limit_of(number)
-                        && payload.as_slice().len() == LENGTH
-                        && payload
-                            .as_slice()
-                            .iter()
-                            .all(|byte| *byte == number.to_le_bytes()[0])
-                }
-                _ => false,
-            }
-        );
-    }
-}
-
-/// How many a hop took, has waiting and in flight, dropped, expired and released.
-type Counts = (u64, u64, u64, u64, u64, u64);
-
-fn counts_of(status: &HopStatus) -> Counts {
-    (
-        status.taken,
-        status.queued,
-        status.flight,
-        status.dropped,
-        status.expired,
-        status.released,
-    )
-}
-
-/// What the relay shows of its hop.
-fn shown(rt: &impl Abort, alloc: Global, relay: &mut Relay) -> Result<Counts, AllocError> {
-    match ask_once(rt, alloc, relay, Ask::Query(Query::Show { hop: HOP }))? {
-        Some(Reply::Shown(status)) => Ok(counts_of(status)),
-        _ => panic!(rt; "the hop is not shown"),
-    }
-}
-
-/// The relay stops and is opened on what its disk has.
-fn open_again(rt: &impl Abort, relay: &mut Relay, torn: Torn) {
-    step(rt, relay, Step::Crash(torn));
-    open(rt, relay);
-}
-
-/// A relay on a new device, which is open. Whoever has one makes one call that borrows it.
-fn new_relay(rt: &impl Abort, alloc: Global) -> Relay {
-    let Ok(mut relay) = Relay::new(alloc, &SMALL, 1) else {
-        panic!(rt; "no relay");
-    };
-    open(rt, &mut relay);
-    relay
-}
+/// All but the last of the second eight expire at it, and that goes into flight.
+const PICKED_LATE: Told = Told::Picked(9, 16, Some((9, 7)), NONE);
 
 /// The relay gets 16 datagrams that have their limits, of which 8 are in flight: its segment is full. It crashes between the groups.
-fn fill(rt: &impl Abort, alloc: Global, relay: &mut Relay) {
-    takes(rt, alloc, relay, 1);
-    open_again(rt, relay, Torn::AsSynced);
-    takes(rt, alloc, relay, HALF.saturating_add(1));
-    picks_in_time(rt, alloc, relay)
-}
+const FILL: [Stage; 4] = [
+    Stage::Round(&FIRST_TAKEN),
+    Stage::Crash,
+    Stage::Round(&SECOND_TAKEN),
+    Stage::Round(&FIRST_PICKED),
+];
 
-/// The limits are in records, and from the release on, for which a segment is opened, in its head. None expires in flight.
-#[test]
-fn limits_through_a_segment_that_is_opened(rt: HostRuntime) {
-    let alloc = rt.alloc();
-    let mut relay = new_relay(&rt, alloc);
-    a_segment_is_opened(&rt, alloc, &mut relay);
-}
+/// A full relay releases four, for which a segment is opened, and later picks when most are past their limits. The limits are in records,
+/// and from the release on in the segment's head. None expires in flight.
+const RELEASE_AND_PICK: [Stage; 7] = [
+    Stage::Alone(&FIRST_FETCHED),
+    Stage::Alone(&[(Act::Release(4), Told::Released(4))]),
+    Stage::Crash,
+    Stage::Alone(&REST_FETCHED),
+    Stage::Alone(&[
+        (Act::Show, Told::Shown((16, 8, 4, 0, 0, 4))),
+        (PICK_LATE, PICKED_LATE),
+        (Act::Show, Told::Shown((16, 0, 5, 0, 7, 4))),
+    ]),
+    Stage::Crash,
+    Stage::Alone(&[
+        (Act::Fetch(5), Told::Bytes(LIMIT, Some(5), LENGTH)),
+        (Act::Fetch(6), Told::Bytes(0, Some(6), LENGTH)),
+        (Act::Fetch(7), Told::Bytes(LIMIT, Some(7), LENGTH)),
+        (Act::Fetch(8), Told::Bytes(0, Some(8), LENGTH)),
+        (Act::Show, Told::Shown((16, 0, 5, 0, 7, 4))),
+    ]),
+];
 
-/// A full relay releases four, and later picks when most are past their limits.
-fn a_segment_is_opened(rt: &impl Abort, alloc: Global, relay: &mut Relay) {
-    fill(rt, alloc, relay);
-    fetches(rt, alloc, relay, 1);
-    let released = Ask::Command(Command::Release {
-        hop: HOP,
-        number: 4,
-    });
-    let told = ask_once(rt, alloc, relay, released).expect(rt, "memory");
-    expect!(rt; matches!(told, Some(Reply::Released(4))));
-    open_again(rt, relay, Torn::AsSynced);
-    fetches(rt, alloc, relay, 5);
-    expect!(rt; shown(rt, alloc, relay).expect(rt, "memory") == (16, 8, 4, 0, 0, 4));
-    let told = ask_once(rt, alloc, relay, pick(LATE)).expect(rt, "memory");
-    expect!(rt; told.is_some_and(is_late));
-    expect!(rt; shown(rt, alloc, relay).expect(rt, "memory") == (16, 0, 5, 0, 7, 4));
-    open_again(rt, relay, Torn::AsSynced);
-    fetches(rt, alloc, relay, 5);
-    expect!(rt; shown(rt, alloc, relay).expect(rt, "memory") == (16, 0, 5, 0, 7, 4));
-}
+/// Three with the same limit wait when it has passed. A pick that all expire at leaves nothing for another one.
+const ALL_EXPIRE: [Stage; 5] = [
+    Stage::Alone(&[
+        (Act::Take(1, LIMIT, LENGTH), Told::Taken(1)),
+        (Act::Take(2, LIMIT, LENGTH), Told::Taken(2)),
+        (Act::Take(3, LIMIT, LENGTH), Told::Taken(3)),
+    ]),
+    Stage::Crash,
+    Stage::Alone(&[(PICK_LATE, Told::Nothing(Some((1, 3))))]),
+    Stage::Crash,
+    Stage::Alone(&[
+        (Act::Show, Told::Shown((3, 0, 0, 0, 3, 0))),
+        (PICK_LATE, Told::Refused(Refusal::Empty)),
+    ]),
+];
 
-/// A pick that all expire at leaves nothing for another one.
-#[test]
-fn all_expire_at_a_pick(rt: HostRuntime) {
-    let alloc = rt.alloc();
-    let mut relay = new_relay(&rt, alloc);
-    all_expire(&rt, alloc, &mut relay);
-}
-
-/// Three with the same limit wait when it has passed.
-fn all_expire(rt: &impl Abort, alloc: Global, relay: &mut Relay) {
-    for number in 1..=3 {
-        let told = ask_once(
-            rt,
-            alloc,
-            relay,
-            take(alloc, number, LIMIT).expect(rt, "memory"),
-        )
-        .expect(rt, "memory");
-        expect!(rt; matches!(told, Some(Reply::Taken(id)) if *id == number));
+/// The relay goes through these.
+fn go_through<R: Abort>(rt: &R, alloc: Global, relay: &mut Relay, stages: &[Stage]) {
+    for stage in stages {
+        match stage {
+            Stage::Round(rows) => expect_round(rt, alloc, relay, *rows),
+            Stage::Alone(rows) => expect_alone(rt, alloc, relay, *rows),
+            Stage::Crash => open_again(rt, relay, Torn::AsSynced),
+        }
     }
-    open_again(rt, relay, Torn::AsSynced);
-    match ask_once(rt, alloc, relay, pick(LATE)).expect(rt, "memory") {
-        Some(Reply::Nothing { expired }) => expect!(rt; expired.as_slice() == [1, 2, 3].as_slice()),
-        _ => panic!(rt; "something is left"),
-    }
-    open_again(rt, relay, Torn::AsSynced);
-    expect!(rt; shown(rt, alloc, relay).expect(rt, "memory") == (3, 0, 0, 0, 3, 0));
-    let told = ask_once(rt, alloc, relay, pick(LATE)).expect(rt, "memory");
-    expect!(rt; matches!(told, Some(Reply::Refused(Refusal::Empty))));
 }
+
+/// A relay is filled, releases four and picks late.
+fn fill_and_release<R: Abort>(rt: &R, alloc: Global, relay: &mut Relay) {
+    go_through(rt, alloc, relay, &FILL);
+    go_through(rt, alloc, relay, &RELEASE_AND_PICK);
+}
+
+/// New relays go through both.
+fn expect_limits<R: Abort>(rt: &R, alloc: Global) {
+    fill_and_release(rt, alloc, &mut new_relay(rt, alloc, &SMALL));
+    go_through(rt, alloc, &mut new_relay(rt, alloc, &SMALL), &ALL_EXPIRE);
+}
+
+#[test]
+fn limits_through_a_segment_that_is_opened_and_in_a_queue(rt: HostRuntime) {
+    expect_limits(&rt, rt.alloc());
+}
+
+/// What is shown after a late pick, and before it.
+const MADE: Told = Told::Shown((16, 0, 9, 0, 7, 0));
+
+const NOT_MADE: Told = Told::Shown((16, 8, 8, 0, 0, 0));
 
 /// After a late pick whose round failed at some call of the device, and a crash, it was made or it wasn't. Then it is made.
-fn expect_either(rt: &impl Abort, alloc: Global, relay: &mut Relay, torn: Torn) -> bool {
+fn expect_either<R: Abort>(rt: &R, alloc: Global, relay: &mut Relay, torn: Torn) -> bool {
     open_again(rt, relay, torn);
-    let counts = shown(rt, alloc, relay).expect(rt, "memory");
-    let made = counts == (16, 0, 9, 0, 7, 0);
-    expect!(rt; made || counts == (16, 8, 8, 0, 0, 0));
+    let told = told_once(rt, alloc, relay, Act::Show);
+    let made = told == Some(MADE);
+    expect!(rt; made || told == Some(NOT_MADE));
     if !made {
-        let told = ask_once(rt, alloc, relay, pick(LATE)).expect(rt, "memory");
-        expect!(rt; told.is_some_and(is_late));
+        expect_alone(rt, alloc, relay, &[(PICK_LATE, PICKED_LATE)]);
     }
-    expect!(rt; shown(rt, alloc, relay).expect(rt, "memory") == (16, 0, 9, 0, 7, 0));
-    fetches(rt, alloc, relay, 1);
+    expect_alone(rt, alloc, relay, &[(Act::Show, MADE)]);
+    expect_alone(rt, alloc, relay, &FIRST_FETCHED);
     made
 }
 
@@ -311,44 +215,37 @@ enum Went {
     Not,
 }
 
-/// A full relay opens, opens a segment for a late pick, and appends it, on a device whose call of this number fails.
-fn late_pick(rt: &impl Abort, alloc: Global, relay: &mut Relay, at: u64) -> Went {
-    fill(rt, alloc, relay);
-    let after = After::GoesOn;
-    step(rt, relay, Step::Opening { at, torn: 0, after });
-    let told = ask_once(rt, alloc, relay, pick(LATE)).expect(rt, "memory");
-    if told.is_some_and(is_late) {
+/// How it went, by what was told.
+fn went_by<R: Abort>(rt: &R, told: Option<Told>) -> Went {
+    if told == Some(PICKED_LATE) {
         return Went::Picked;
     }
-    if matches!(told, Some(Reply::Refused(Refusal::Unsure))) {
+    if told == Some(Told::Refused(Refusal::Unsure)) {
         return Went::Unsure;
     }
-    expect!(rt; matches!(told, None | Some(Reply::Refused(Refusal::DeviceRead))));
+    expect!(rt; told == None || told == Some(Told::Refused(Refusal::DeviceRead)));
     Went::Not
 }
 
-/// After it and a crash, what was picked is there.
-fn late_pick_and_crash(
-    rt: &impl Abort,
-    alloc: Global,
-    relay: &mut Relay,
-    torn: Torn,
-    at: u64,
-) -> Went {
-    let went = late_pick(rt, alloc, relay, at);
+/// A full relay opens, opens a segment for a late pick, and appends it, on a device whose call of this number fails. After it and a crash,
+/// what was picked is there.
+fn late_pick<R: Abort>(rt: &R, alloc: Global, relay: &mut Relay, (torn, at): (Torn, u64)) -> Went {
+    go_through(rt, alloc, relay, &FILL);
+    open_at(rt, relay, at);
+    let went = went_by(rt, told_once(rt, alloc, relay, PICK_LATE));
     let made = expect_either(rt, alloc, relay, torn);
     expect!(rt; made || went != Went::Picked);
     went
 }
 
 /// The same of a new relay.
-fn fails_at(rt: &impl Abort, alloc: Global, torn: Torn, at: u64) -> Went {
-    let mut relay = new_relay(rt, alloc);
-    late_pick_and_crash(rt, alloc, &mut relay, torn, at)
+fn fails_at<R: Abort>(rt: &R, alloc: Global, torn: Torn, at: u64) -> Went {
+    let mut relay = new_relay(rt, alloc, &SMALL);
+    late_pick(rt, alloc, &mut relay, (torn, at))
 }
 
 /// Each call of the device fails in turn. Returns how many of them were writes and syncs, each of which makes the pick unsure.
-fn fails_at_each(rt: &impl Abort, alloc: Global, torn: Torn) -> u64 {
+fn fails_at_each<R: Abort>(rt: &R, alloc: Global, torn: Torn) -> u64 {
     let mut unsure = 0u64;
     for at in 1..MOST_CALLS {
         match fails_at(rt, alloc, torn, at) {
@@ -361,10 +258,12 @@ fn fails_at_each(rt: &impl Abort, alloc: Global, torn: Torn) -> u64 {
 }
 
 /// The head, its gate, the body and its gate are written and synced: that are eight calls at least.
+fn expect_phases<R: Abort>(rt: &R, alloc: Global) {
+    expect!(rt; fails_at_each(rt, alloc, Torn::AsSynced) >= 8);
+    expect!(rt; fails_at_each(rt, alloc, Torn::AsRead) >= 8);
+}
+
 #[test]
 fn limits_through_every_phase(rt: HostRuntime) {
-    let alloc = rt.alloc();
-    for torn in [Torn::AsSynced, Torn::AsRead] {
-        expect!(rt; fails_at_each(&rt, alloc, torn) >= 8);
-    }
+    expect_phases(&rt, rt.alloc());
 }
