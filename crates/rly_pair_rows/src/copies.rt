@@ -8,7 +8,6 @@ use rly_machine::{Answer, Ask, Call, Command, Payload, Reply, SeatId};
 use rly_segment::format;
 use std::alloc::Global;
 use std::process::Abort;
-use std::test::Fail;
 
 const UPPER: StationId = StationId(1);
 
@@ -24,90 +23,86 @@ const DATA: Message<&[u8]> = Message::Data {
 };
 
 /// A journal on a new device, whose call of this number fails.
-fn opened(alloc: Global, at: u64) -> Result<Journal<FaultDisk<MemDisk>>, Fail> {
-    let mut disk = MemDisk::new(alloc, vec![in alloc; 0; 165_880]?);
-    format(alloc, &mut disk, &SMALL)
+fn opened<R: Abort>(rt: &R, alloc: Global, at: u64) -> Journal<FaultDisk<MemDisk>> {
+    let bytes = vec![in alloc; 0u8; 165_880].expect(rt, "memory");
+    let mut disk = MemDisk::new(alloc, bytes);
+    let formatted = format(alloc, &mut disk, &SMALL);
+    expect(rt, formatted.is_ok(), "a formatted device");
+    Journal::open(alloc, FaultDisk::new(disk, at, 0, After::GoesOn))
         .ok()
-        .ok_or("a formatted device")?;
-    let journal = Journal::open(alloc, FaultDisk::new(disk, at, 0, After::GoesOn)).ok();
-    Ok(journal.ok_or("an open journal")?)
+        .expect(rt, "an open journal")
 }
 
 /// The call of the Take that a core names on hearing the datagram.
-fn heard_by(alloc: Global, core: &mut Receiving, seat: u16) -> Result<Call, Fail> {
-    let taken = match core.step(InEvent::Heard(DATA)) {
+fn heard_by<R: Abort>(rt: &R, alloc: Global, core: &mut Receiving, seat: u16) -> Call {
+    let (number, limit, payload) = match core.step(InEvent::Heard(DATA)) {
         Some(
             InAction::Take {
                 number,
                 limit,
                 payload,
             },
-        ) => Some((number, limit, payload)),
-        Some(InAction::Send(_)) | None => None,
+        ) => (number, limit, payload),
+        Some(InAction::Send(_)) | None => panic!(rt; "no Take"),
     };
-    let (number, limit, payload) = taken.ok_or("a Take")?;
     let take = Command::Take {
         peer: PeerId(1),
         number,
         hop: HopId(1),
         stamp: 0,
         limit,
-        payload: Payload::copy_of(alloc, payload)?,
+        payload: Payload::copy_of(alloc, payload).expect(rt, "memory"),
     };
-    Ok(Call {
+    Call {
         seat: SeatId(seat),
         number: 0,
         ask: Ask::Command(take),
-    })
-}
-
-/// How many calls of the device an opening makes.
-fn calls_of_opening(alloc: Global) -> Result<u64, Fail> {
-    Ok(opened(alloc, 0)?.into_disk().calls())
+    }
 }
 
 /// A journal whose device fails at the first sync of its first round: the round writes, syncs, writes and syncs.
-fn failing(alloc: Global) -> Result<Journal<FaultDisk<MemDisk>>, Fail> {
-    let at = calls_of_opening(alloc)?.saturating_add(2);
-    opened(alloc, at)
+fn failing<R: Abort>(rt: &R, alloc: Global) -> Journal<FaultDisk<MemDisk>> {
+    let calls_of_opening = opened(rt, alloc, 0).into_disk().calls();
+    opened(rt, alloc, calls_of_opening.saturating_add(2))
 }
 
 /// The calls of both cores, in a round.
-fn heard_by_both(
+fn heard_by_both<R: Abort>(
+    rt: &R,
     alloc: Global,
     first: &mut Receiving,
     second: &mut Receiving,
-) -> Result<Vec<Call>, Fail> {
-    let first = heard_by(alloc, first, 1)?;
-    let second = heard_by(alloc, second, 2)?;
-    Ok(vec![in alloc; first, second]?)
+) -> Vec<Call> {
+    let calls = vec![in alloc;
+        heard_by(rt, alloc, first, 1),
+        heard_by(rt, alloc, second, 2),
+    ];
+    calls.ok().expect(rt, "memory")
 }
 
 /// The journal's answers to a round of these calls.
-fn round(
-    rt: &impl Abort,
+fn round<R: Abort>(
+    rt: &R,
     alloc: Global,
     journal: &mut Journal<FaultDisk<MemDisk>>,
     calls: &mut Vec<Call>,
-) -> Result<Vec<Answer>, Fail> {
+) -> Vec<Answer> {
     let mut answers = Vec::new(alloc);
     assert!(rt; calls.len() == 2, "two calls");
-    journal.round(alloc, calls, &mut answers)?;
-    Ok(answers)
+    journal
+        .round(alloc, calls, &mut answers)
+        .expect(rt, "memory");
+    answers
 }
 
 /// The answers to a round in which the device fails.
-fn failing_round(
-    rt: &impl Abort,
-    alloc: Global,
-    calls: &mut Vec<Call>,
-) -> Result<Vec<Answer>, Fail> {
-    let mut journal = failing(alloc)?;
-    round(rt, alloc, &mut journal, calls)
+fn failing_round<R: Abort>(rt: &R, alloc: Global, mut calls: Vec<Call>) -> Vec<Answer> {
+    let mut journal = failing(rt, alloc);
+    round(rt, alloc, &mut journal, &mut calls)
 }
 
 /// The answer is 12, and its core sends nothing on it.
-fn expect_unsure(rt: &impl Abort, core: &mut Receiving, answer: &Answer) {
+fn expect_unsure<R: Abort>(rt: &R, core: &mut Receiving, answer: &Answer) {
     let is_unsure = matches!(answer.reply, Reply::Refused(Refusal::Unsure));
     expect(rt, is_unsure, "answered 12");
     let told = InEvent::Answered(TakeAnswer::Refused(Refusal::Unsure));
@@ -115,8 +110,8 @@ fn expect_unsure(rt: &impl Abort, core: &mut Receiving, answer: &Answer) {
 }
 
 /// Both answers are.
-fn expect_both_unsure(
-    rt: &impl Abort,
+fn expect_both_unsure<R: Abort>(
+    rt: &R,
     first: &mut Receiving,
     second: &mut Receiving,
     answers: &[Answer],
@@ -126,14 +121,17 @@ fn expect_both_unsure(
     expect_unsure(rt, second, &answers[1]);
 }
 
-/// The first of a round's two syncs fails. An Already 1 for the second copy would send a custody of what isn't durable.
-#[test]
-fn copies_in_a_round_whose_sync_fails(rt: HostRuntime) -> Result<(), Fail> {
-    let alloc = rt.alloc();
+/// Checks it of two new cores.
+fn expect_copies<R: Abort>(rt: &R, alloc: Global) {
     let mut first = Receiving::new(LOWER, UPPER);
     let mut second = Receiving::new(LOWER, UPPER);
-    let mut calls = heard_by_both(alloc, &mut first, &mut second)?;
-    let answers = failing_round(&rt, alloc, &mut calls)?;
-    expect_both_unsure(&rt, &mut first, &mut second, &answers);
-    Ok(())
+    let calls = heard_by_both(rt, alloc, &mut first, &mut second);
+    let answers = failing_round(rt, alloc, calls);
+    expect_both_unsure(rt, &mut first, &mut second, &answers);
+}
+
+/// The first of a round's two syncs fails. An Already 1 for the second copy would send a custody of what isn't durable.
+#[test]
+fn copies_in_a_round_whose_sync_fails(rt: HostRuntime) {
+    expect_copies(&rt, rt.alloc());
 }

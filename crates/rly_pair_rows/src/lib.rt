@@ -16,3 +16,5 @@ mod lengths;
 mod limits;
 #[cfg(test)]
 mod pairs;
+#[cfg(test)]
+mod script;
