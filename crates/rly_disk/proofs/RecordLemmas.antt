@@ -1,17 +1,14 @@
 -- How the images that a record tells of go on from event to event.
-use Rattle.std.proofs.Common.{true, false, ◌≡◌, ◌⊎◌, ◌≤◌, ◌<◌, ◌+◌, ◌-◌, ◌++◌, ◌∷◌, [], ◌∙◌, ℕ, suc, List, length, get_or, take, drop, arith, sym, ap, inl, inr, refl}
+use Rattle.std.proofs.Common.{true, false, ◌≡◌, ◌≤◌, ◌+◌, ◌-◌, ◌++◌, ◌∷◌, [], ◌∙◌, ℕ, suc, List, length, get_or, take, drop, take-append-drop, length-drop, arith, ap, refl}
 use Rattle.std.proofs.lemmas.List.{drop-append-le, drop_all, length_push, take_rest}
-use Rattle.std.proofs.lemmas.Bool.Decides.{nat_tests}
-use Rattle.std.specs.Prelude.{if◌then◌else◌, not, ◌&&◌, ◌==◌}
-use Rattle.rly_disk.specs.DiskModel.{overwritten}
-use Rattle.std.specs.Prelude.{min}
-use Rattle.std.specs.List.{list_all}
-use Rattle.std.proofs.Common.{take-append-drop, length-drop, ⊎_elim, leb, ltb}
 use Rattle.std.proofs.lemmas.List.Folds.{list_all-append}
 use Rattle.std.proofs.lemmas.Bool.{and_parts, and_from, or_parts, leb-true}
-use Rattle.rly_disk.specs.Record.{is_sync, synced_events, pending, before, before_but, is_covered, covers}
+use Rattle.std.proofs.lemmas.Bool.Decides.{nat_tests}
+use Rattle.std.specs.Prelude.{if◌then◌else◌, min, not, ◌&&◌, ◌==◌}
+use Rattle.std.specs.List.{list_all}
+use Rattle.rly_disk.specs.Record.{is_sync, synced_events, pending, before, before_but, covers, is_covered}
 use Rattle.rly_disk.specs.HelpersRecord.{is_event_within}
-use Rattle.rly_disk.proofs.Overwritten.{overwritten_outside, length-overwritten}
+use Rattle.rly_disk.proofs.Overwritten.{overwritten_within}
 use Rattle.rly_disk.specs.declared.record.Event.{Event}
 use Rattle.rly_disk.specs.declared.record.Event.TheVariants.{Written, Synced}
 
@@ -31,23 +28,17 @@ synced_events-sync (first ∷ events) = let all = synced_events-sync events in g
 
 pub before-append : (xs ys : List Event) (bytes : List ℕ) → before (xs ++ ys) bytes ≡ before xs (before ys bytes)
 before-append [] ys bytes = refl
-before-append (Written place replaced ∷ xs) ys bytes = ap (λ (l : List ℕ). overwritten place replaced.items l) (before-append xs ys bytes)
-before-append (Synced ∷ xs) ys bytes = before-append xs ys bytes
+before-append (event ∷ xs) ys bytes = let more = before-append xs ys bytes in grind arith
 
 pub pending-write : (events : List Event) (event : Event) → is_sync event ≡ false → pending (events ++ event ∷ []) ≡ pending events ++ event ∷ []
-pending-write events event is =
-    ap (λ n. drop n (events ++ event ∷ [])) (synced_events-write events event is)
-    ∙ drop-append-le (synced_events events) events (event ∷ []) (synced_events_le events)
+pending-write events event is = rw (synced_events-write events event is) (drop-append-le (synced_events events) events (event ∷ []) (synced_events_le events))
 
 pub pending-sync : (events : List Event) → pending (events ++ Synced ∷ []) ≡ []
 pending-sync events = drop_all (synced_events (events ++ Synced ∷ [])) (events ++ Synced ∷ []) (omega (arith, synced_events-sync events, length_push events Synced))
 
 -- the pending events lie within what all lie within
 pub pending-within : (size : ℕ) (events : List Event) → list_all (is_event_within size) events ≡ true → list_all (is_event_within size) (pending events) ≡ true
-pending-within size events all =
-    let n = synced_events events in
-    (and_parts (list_all (is_event_within size) (take n events)) (list_all (is_event_within size) (drop n events))
-    (sym (list_all-append (is_event_within size) (take n events) (drop n events)) ∙ ap (λ es. list_all (is_event_within size) es) (take-append-drop n events) ∙ all)).1
+pending-within size events all = (and_parts _ _ (rw (← take-append-drop (synced_events events) events, list_all-append) at all)).1
 
 pub ruleset of_record = (synced_events_le, pending-within)
 
@@ -58,14 +49,7 @@ within-push size events event all one = list_all-append (is_event_within size) e
 -- where no byte is kept, all is undone
 pub before_but_none : (events : List Event) (bytes : List ℕ) → before_but 0 events bytes ≡ before events bytes
 before_but_none [] bytes = refl
-before_but_none (Written place replaced ∷ events) bytes =
-    let n = length replaced.items in
-    let at : place + min 0 n ≡ place = omega arith in
-    let left : 0 - n ≡ 0 = omega arith in
-    ap (λ k. overwritten k replaced.items (before_but (0 - n) events bytes)) at
-    ∙ ap (λ k. overwritten place replaced.items (before_but k events bytes)) left
-    ∙ ap (λ (l : List ℕ). overwritten place replaced.items l) (before_but_none events bytes)
-before_but_none (Synced ∷ events) bytes = before_but_none events bytes
+before_but_none (event ∷ events) bytes = let more = before_but_none events bytes in grind arith
 
 -- undoing writes changes no byte but those that they wrote
 pub before_but-outside : (kept : ℕ) (events : List Event) (bytes : List ℕ) → list_all (is_event_within (length bytes)) events ≡ true
@@ -75,19 +59,15 @@ before_but-outside kept (Synced ∷ events) bytes within = before_but-outside ke
 before_but-outside kept (Written place replaced ∷ events) bytes within =
     let n = length replaced.items in
     let parts = and_parts _ _ within in
-    let fits_old : place + n ≤ length bytes = leb-true _ _ parts.0 in
+    let fits : place + n ≤ length bytes = leb-true _ _ parts.0 in
     let rest = before_but-outside (kept - n) events bytes parts.1 in
-    let fits : (place + min kept n) + length (drop kept replaced.items) ≤ length (before_but (kept - n) events bytes) = omega (arith, rest.0, length-drop kept replaced.items) in (
-      length-overwritten (place + min kept n) (drop kept replaced.items) (before_but (kept - n) events bytes) fits ∙ rest.0,
-      λ i free.
-          let free_parts = or_parts (covers (Written place replaced) i) (is_covered events i) free in
-          let out : (i < place) ⊎ (place + n ≤ i) = not_covered place n i free_parts.0 in
-          let outside : (i < place + min kept n) ⊎ ((place + min kept n) + length (drop kept replaced.items) ≤ i) = ⊎_elim (λ low. inl (omega arith)) (λ high. inr (omega (arith, length-drop kept replaced.items))) out in
-          (overwritten_outside (place + min kept n) (drop kept replaced.items) (before_but (kept - n) events bytes) fits).each i outside ∙ rest.1 i free_parts.1,
+    let short = length-drop kept replaced.items in
+    let left = before_but (kept - n) events bytes in
+    let over = overwritten_within place n (place + min kept n) (drop kept replaced.items) left (omega arith) (omega arith) (omega (arith, rest.0)) in (
+      over.same_length ∙ rest.0,
+      λ i free. let free = or_parts (covers (Written place replaced) i) (is_covered events i) free in
+          over.each i (grind (arith, nat_tests, free.0)) ∙ rest.1 i free.1,
     )
-  where
-    not_covered : (place n i : ℕ) → (leb place i && ltb i (place + n)) ≡ false → (i < place) ⊎ (place + n ≤ i)
-    not_covered place n i free = grind (arith, nat_tests)
 
 -- the rest of the record from the synced events on
 pub pending_part : (events part : List Event) (synced : ℕ) → part ≡ events → synced ≡ synced_events events → take (length part - synced) (drop synced part) ≡ pending events

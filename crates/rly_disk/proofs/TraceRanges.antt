@@ -1,44 +1,40 @@
 -- What a row of calls leaves whose writes keep what is said of an image.
-use Rattle.std.proofs.Common.{◌≤◌, ◌<◌, ◌+◌, ◌++◌, ◌∷◌, [], ◌≡◌, ℕ, zero, suc, Bool, List, length, take, arith, refl, sym, subst, ⊎_elim, length-take}
+use Rattle.std.proofs.Common.{◌≤◌, ◌<◌, ◌+◌, ◌++◌, ◌∷◌, [], ◌≡◌, ℕ, zero, suc, Bool, List, length, take, arith, ⊎_elim, length-take}
 use Rattle.rly_disk.specs.DiskModel.{DiskState, IsTorn, SameOutside, LeavesOnly, Settled, overwritten}
 use Rattle.rly_disk.specs.Trace.{DeviceEvent, Write, FailedWrite, Sync, Makes, AllWrites, each_below, images_within, WritesWithin}
 use Rattle.rly_disk.proofs.Making.{makes_leaves}
-use Rattle.rly_disk.proofs.Overwritten.{overwritten_outside}
+use Rattle.rly_disk.proofs.Overwritten.{overwritten_within}
 use Rattle.rly_disk.proofs.Ranges.{same_outside_again, wider}
 
 module _ (R : List ℕ → Type 0) (IsRange : ℕ → ℕ → Type 0) (fits : (place n : ℕ) (c : List ℕ) → IsRange place n → R c → place + n ≤ length c)
     (keeps : (place n : ℕ) (c d : List ℕ) → IsRange place n → R c → SameOutside place n c d → R d) where
-  torn_kept : (place n : ℕ) (I : List ℕ → Type 0) → IsRange place n → ((c : List ℕ) → I c → R c) → (c : List ℕ) → IsTorn place n I c → R c
-  torn_kept place n I range images c torn = keeps place n torn.0 c range (images torn.0 torn.1) torn.2
-
-  over_kept : (place : ℕ) (bytes : List ℕ) (n : ℕ) (seen : List ℕ) → length bytes ≤ n → IsRange place n → R seen → R (overwritten place bytes seen)
-  over_kept place bytes n seen short range here =
-      let room = fits place n seen range here in
-      keeps place n seen (overwritten place bytes seen) range here
-      (wider place n place (length bytes) (omega arith) (omega (arith, short)) (overwritten_outside place bytes seen (omega (arith, short, room))))
+  -- n bytes at a place are overwritten by no more than n
+  written_kept : (place n : ℕ) (bytes : List ℕ) (seen : List ℕ) (I : List ℕ → Type 0) → length bytes ≤ n → IsRange place n → R seen → ((c : List ℕ) → I c → R c)
+      → R (overwritten place bytes seen) × ((c : List ℕ) → IsTorn place n I c → R c)
+  written_kept place n bytes seen I short range here images = (
+    keeps place n seen (overwritten place bytes seen) range here
+        (overwritten_within place n place bytes seen (omega arith) (omega arith) (fits place n seen range here)),
+    λ c torn. keeps place n torn.0 c range (images torn.0 torn.1) torn.2,
+  )
 
   pub kept : (calls : List DeviceEvent) (seen : List ℕ) (I : List ℕ → Type 0) → AllWrites IsRange calls → R seen → ((c : List ℕ) → I c → R c)
       → (c : List ℕ) → images_within calls seen I c → R c
   kept [] seen I all here images c image = images c image
   kept (Write place bytes ∷ calls) seen I all here images c image =
-      ⊎_elim (images c)
-      (kept calls (overwritten place bytes seen) (IsTorn place (length bytes) I) all.1 (over_kept place bytes (length bytes) seen (omega arith) all.0 here)
-      (torn_kept place (length bytes) I all.0 images) c)
-      image
+      let after = written_kept place (length bytes) bytes seen I (omega arith) all.0 here images in
+      ⊎_elim (images c) (kept calls (overwritten place bytes seen) (IsTorn place (length bytes) I) all.1 after.0 after.1 c) image
   kept (FailedWrite place bytes left ∷ calls) seen I all here images c image =
-      let short : length (take (length bytes) left) ≤ length bytes = omega (arith, length-take (length bytes) left) in
-      ⊎_elim (images c)
-      (kept calls (overwritten place (take (length bytes) left) seen) (IsTorn place (length bytes) I) all.1 (over_kept place (take (length bytes) left) (length bytes) seen short all.0 here)
-      (torn_kept place (length bytes) I all.0 images) c)
-      image
-  kept (Sync ∷ calls) seen I all here images c image = ⊎_elim (images c) (kept calls seen (λ d. d ≡ seen) all here (λ d is. subst R (sym is) here) c) image
+      let put = take (length bytes) left in
+      let after = written_kept place (length bytes) put seen I (omega (arith, length-take (length bytes) left)) all.0 here images in
+      ⊎_elim (images c) (kept calls (overwritten place put seen) (IsTorn place (length bytes) I) all.1 after.0 after.1 c) image
+  kept (Sync ∷ calls) seen I all here images c image = ⊎_elim (images c) (kept calls seen (λ d. d ≡ seen) all here (λ d is. rw is here) c) image
   kept (event ∷ calls) seen I all here images c image = ⊎_elim (images c) (kept calls seen I all here images c) image
 
   -- a crash at any moment of the row
   pub leaves_kept : {D : Type 0} (state : D → DiskState) {a b : D} {calls : List DeviceEvent} {whole : Bool} → Makes state calls whole a b → Settled (state a)
       → AllWrites IsRange calls → R (state a).seen → LeavesOnly (state a) (state b) R
   leaves_kept state {a} {b} {calls} made settled all here =
-      makes_leaves state R made settled (kept calls (state a).seen (λ d. d ≡ (state a).seen) all here (λ d is. subst R (sym is) here))
+      makes_leaves state R made settled (kept calls (state a).seen (λ d. d ≡ (state a).seen) all here (λ d is. rw is here))
 
 -- a row whose writes lie in a range
 pub leaves_range : {D : Type 0} (state : D → DiskState) {a b : D} (place n : ℕ) {calls : List DeviceEvent} {whole : Bool} → Makes state calls whole a b → WritesWithin place n calls
@@ -47,14 +43,12 @@ leaves_range state {a} place n made inside fits settled =
     leaves_kept (SameOutside place n (state a).seen) (λ at count. (place ≤ at) × (at + count ≤ place + n))
     (λ at count c range same. omega (arith, range.1, fits, settled.consistent.seen_size, same.same_length))
     (λ at count c d range same again. same_outside_again place n same (wider place n at count range.0 range.1 again))
-    state made settled inside (record { same_length = refl; each = λ i out. refl })
+    state made settled inside assumption
 
 -- two rows
 pub all_joined : (IsRange : ℕ → ℕ → Type 0) (first second : List DeviceEvent) → AllWrites IsRange first → AllWrites IsRange second → AllWrites IsRange (first ++ second)
 all_joined IsRange [] second one two = two
-all_joined IsRange (Write place bytes ∷ first) second one two = (one.0, all_joined IsRange first second one.1 two)
-all_joined IsRange (FailedWrite place bytes left ∷ first) second one two = (one.0, all_joined IsRange first second one.1 two)
-all_joined IsRange (event ∷ first) second one two = all_joined IsRange first second one two
+all_joined IsRange (call ∷ first) second one two = let more = all_joined IsRange first second in grind (arith, more)
 
 -- the calls for each number below another
 pub each_all : (IsRange : ℕ → ℕ → Type 0) (calls : ℕ → List DeviceEvent) (n : ℕ) → ((t : ℕ) → t < n → AllWrites IsRange (calls t)) → AllWrites IsRange (each_below calls n)

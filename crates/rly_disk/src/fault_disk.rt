@@ -31,9 +31,6 @@ impl<D: Disk> FaultDisk<D> {
         ensures inner { inner_of result ≡ inner }
         ensures plan { fault_plan result ≡ (at, torn, after) }
         ensures calls { (fault_state D.state result).calls ≡ 0 }
-        ensures failures { (fault_state D.state result).failures ≡ 0 }
-        ensures syncs { (fault_state D.state result).syncs ≡ 0 }
-        ensures failed_reads { (fault_state D.state result).failed_reads ≡ 0 }
     {
         FaultDisk {
             inner,

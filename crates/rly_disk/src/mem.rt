@@ -46,9 +46,6 @@ impl MemDisk {
         ensures settled { Settled (mem_state result) }
         ensures as_synced { synced_bytes result ≡ (mem_state result).seen }
         ensures calls { (mem_state result).calls ≡ 0 }
-        ensures failures { (mem_state result).failures ≡ 0 }
-        ensures syncs { (mem_state result).syncs ≡ 0 }
-        ensures failed_reads { (mem_state result).failed_reads ≡ 0 }
     {
         MemDisk {
             alloc,
@@ -85,9 +82,6 @@ impl MemDisk {
         ensures settled { Settled (mem_state result) }
         ensures as_synced { synced_bytes result ≡ (mem_state result).seen }
         ensures calls { (mem_state result).calls ≡ 0 }
-        ensures failures { (mem_state result).failures ≡ 0 }
-        ensures syncs { (mem_state result).syncs ≡ 0 }
-        ensures failed_reads { (mem_state result).failed_reads ≡ 0 }
     {
         let MemDisk {
             alloc,

@@ -23,8 +23,4 @@ pub holds : {image : List ℕ} {at end : ℕ} (n : ℕ) {body : List ℕ} → Is
     → at + 6 + n ≤ end → end ≤ length image → body ≡ take n (drop (at + 5) image) → HoldsGroup image at end body
 holds {image} {at} n {body} opened field fits room within is_body =
     let count : length body ≡ n = ap length is_body ∙ simp (length-take, length-drop) (omega arith) in
-    record {
-      bytes = group_parts image at n body (omega arith) opened field count is_body;
-      fits = omega (arith, count);
-      room = omega (arith, length-frame body, count);
-    }
+    let bytes = group_parts image at n body (omega arith) opened field count is_body in search (arith, length-frame body)

@@ -1,9 +1,10 @@
 -- Reads of a group, and what follows from reads alone.
-use Rattle.std.proofs.Common.{◌≡◌, ◌≤◌, ◌+◌, ◌∷◌, [], ℕ, Bool, true, false, nat_le, arith, le-leb, refl, subst}
-use Rattle.std.specs.Prelude.{Option, Err, Vec, if◌then◌else◌}
-use Rattle.rly_disk.specs.DiskModel.{Consistent, DiskState, NothingNew}
-use Rattle.rly_disk.specs.Trace.{Makes, OnlyReads, Read, are_reads}
-use Rattle.rly_disk.proofs.Making.{makes_later, quiet_settled, reads_new, reads_of, reads_quiet}
+use Rattle.std.proofs.Common.{◌≡◌, ◌≤◌, ◌+◌, ◌∷◌, [], ℕ, Bool, true, false, nat_le, arith, inl, inr, le-leb, refl}
+use Rattle.std.specs.Prelude.{Option, Err, Vec}
+use Rattle.std.proofs.lemmas.Bool.{cases_Bool}
+use Rattle.rly_disk.specs.DiskModel.{Consistent, DiskState}
+use Rattle.rly_disk.specs.Trace.{Makes, OnlyReads, Read}
+use Rattle.rly_disk.proofs.Making.{makes_later, quiet_settled, reads_new, reads_quiet}
 use Rattle.rly_disk.proofs.Traces.{makes_front, makes_joined}
 use Rattle.rly_gate.specs.Calls.{group_reads, is_told, length_reads}
 use Rattle.rly_gate.specs.Reading.{OnlyRead}
@@ -12,18 +13,8 @@ use Rattle.rly_gate.specs.declared.read.GroupFault.TheVariants.{OutOfMemory, Dam
 
 -- a disk that was only read
 pub only_read : {D : Type 0} (state : D → DiskState) {a b : D} {whole : Bool} → ((disk : D) → (state disk).honest → Consistent (state disk)) → OnlyReads state whole a b → OnlyRead (state a) (state b)
-only_read state {a} {b} facts only = record {
-  crash = λ honest. reads_new state only honest (facts a honest);
-  settled = λ settled. quiet_settled state only.makes (reads_quiet only.calls only.reads) settled (facts b);
-  later = makes_later state only.makes;
-}
-
-are_length_reads : (fits : Bool) (at : ℕ) → are_reads (if fits then Read (at + 1) 4 ∷ [] else []) ≡ true
-are_length_reads true at = refl
-are_length_reads false at = refl
-
-pub length_new : {D : Type 0} (state : D → DiskState) {a b : D} {whole : Bool} (at end : ℕ) → Makes state (length_reads at end) whole a b → (state a).honest → Consistent (state a) → NothingNew (state a) (state b)
-length_new state at end made honest facts = reads_new state (reads_of state (length_reads at end) (are_length_reads (nat_le (at + 6) end) at) made) honest facts
+only_read state {a} {b} facts only =
+    search (reads_new state only, quiet_settled state only.makes (reads_quiet only.calls only.reads), makes_later state only.makes, facts b)
 
 module _ {D : Type 0} {state : D → DiskState} {a b e : D} where
   -- the gate is open, and the length after it was not read, or leaves no place for the group
@@ -32,17 +23,18 @@ module _ {D : Type 0} {state : D → DiskState} {a b e : D} where
       → (n : ℕ) × Makes state (group_reads {A = A} at end n (Err fault)) (is_told {A = Option (Vec ℕ A)} (Err fault)) a e
   group_cut A end Damaged told first second = (0, makes_joined state _ _ true first second)
   group_cut A end OutOfMemory told first second = absurd (told refl)
-  group_cut A {at} end Device told first second = (0, cut (nat_le (at + 6) end) second)
-    where
-      cut : (fits : Bool) → Makes state (if fits then Read (at + 1) 4 ∷ [] else []) false b e → Makes state (Read at 1 ∷ Read (at + 1) 4 ∷ Read (at + 5) 0 ∷ []) false a e
-      cut true second = makes_front state (Read at 1 ∷ Read (at + 1) 4 ∷ []) _ (makes_joined state _ _ false first second)
-      cut false second = makes_front state (Read at 1 ∷ []) _ (makes_joined state _ [] false first second)
+  group_cut A {at} end Device told first second = (
+    0,
+    elim (cases_Bool (nat_le (at + 6) end)) [
+      | inl room ↦ makes_front state (Read at 1 ∷ Read (at + 1) 4 ∷ []) _ (makes_joined state _ _ false first (rw room at second))
+      | inr none ↦ makes_front state (Read at 1 ∷ []) _ (makes_joined state _ [] false first (rw none at second))
+    ],
+  )
 
   -- the gate is open, and the length after it leaves a place
   pub group_length_read : {at : ℕ} (end : ℕ) → at + 6 ≤ end → Makes state (Read at 1 ∷ []) true a b → Makes state (length_reads at end) true b e
       → Makes state (Read at 1 ∷ Read (at + 1) 4 ∷ []) true a e
-  group_length_read {at} end fits first second =
-      makes_joined state _ _ true first (subst (λ t. Makes state (if t then Read (at + 1) 4 ∷ [] else []) true b e) (le-leb (at + 6) end fits) second)
+  group_length_read {at} end fits first second = makes_joined state _ _ true first (rw (le-leb (at + 6) end fits) at second)
 
   -- and so the body was read, or not
   pub group_body_read : {whole : Bool} {at n : ℕ} → Makes state (Read at 1 ∷ Read (at + 1) 4 ∷ []) true a b → Makes state (Read (at + 1 + 4) n ∷ []) whole b e

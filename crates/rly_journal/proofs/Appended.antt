@@ -1,27 +1,13 @@
 -- A group was appended at the end of the journal.
-use Rattle.std.proofs.Common.{◌≡◌, ◌⊎◌, ◌≤◌, ◌<◌, ◌+◌, ◌^◌, ◌∙◌, ℕ, Bool, true, List, length, arith, sym, ap, subst}
-use Rattle.rly_core.specs.Bounds.{IsIn}
-use Rattle.rly_disk.specs.DiskModel.{Consistent, DiskState, LeavesOnly, overwritten}
-use Rattle.rly_disk.specs.Trace.{Makes}
-use Rattle.rly_disk.proofs.Making.{makes_leaves}
-use Rattle.rly_gate.specs.Calls.{appending}
-use Rattle.rly_gate.specs.Group.{IsClosed, group_of}
+use Rattle.std.proofs.Common.{◌≡◌, ◌⊎◌, ◌≤◌, ◌+◌, ◌∙◌, ℕ, Bool, true, List, length, arith, sym, ap, subst}
+use Rattle.rly_journal.proofs.Common.{AllAccepted, appending, body_of, Commands, Consistent, DiskState, fold, group_body, group_of, GroupState, HaveBody}
+use Rattle.rly_journal.proofs.Common.{holds_body, IsClosed, IsDurable, IsIn, IsLogged, IsTaggedIn, LeavesOnly, logged_within, Makes, makes_leaves, overwritten}
+use Rattle.rly_journal.proofs.Common.{placed_group, segment_end, Stands, State, Stored, stored_length, Tail}
 use Rattle.rly_gate.proofs.Appending.{appending_image, appending_seen, appending_settled}
-use Rattle.rly_machine.specs.Fold.{AllAccepted, fold}
-use Rattle.rly_machine.specs.State.{State}
-use Rattle.rly_record.specs.Spelling.{HaveBody, body_of}
 use Rattle.rly_record.proofs.Bodies.{body_small}
-use Rattle.rly_checkpoint.specs.Stored.{stored_length}
-use Rattle.rly_checkpoint.specs.declared.stored.Stored.{Stored}
-use Rattle.rly_segment.specs.Heads.{segment_end}
-use Rattle.rly_grouping.specs.Groups.{GroupState, Holds, group_body}
-use Rattle.rly_grouping.specs.Lying.{Commands, placed_group}
-use Rattle.rly_grouping.proofs.Records.{holds_body, holds_have}
-use Rattle.rly_standing.specs.declared.tail.Tail.{Tail}
-use Rattle.rly_standing.specs.Log.{IsDurable, IsLogged}
-use Rattle.rly_standing.specs.Standing.{Stands}
-use Rattle.rly_standing.proofs.Appending.{append_image, append_logged, appended_tail, logged_within}
-use Rattle.rly_journal.specs.HelpersJournal.{IsTaggedIn}
+use Rattle.rly_grouping.specs.Groups.{Holds}
+use Rattle.rly_grouping.proofs.Records.{holds_have}
+use Rattle.rly_standing.proofs.Appending.{append_image, append_logged, appended_tail}
 use Rattle.rly_journal.proofs.Tagging.{tagged_appended}
 
 module _ {D : Type 0} (state : D → DiskState) {a : D} {tail : Tail} {group : GroupState} {commands : Commands} {s : State (List ℕ)}
@@ -32,9 +18,6 @@ module _ {D : Type 0} (state : D → DiskState) {a : D} {tail : Tail} {group : G
 
   have : HaveBody commands
   have = holds_have commands group holds (omega (arith, holds.count, count.0), omega (arith, holds.count, count.1))
-
-  few : length (body_of commands) < 2 ^ 32
-  few = body_small commands have
 
   fits : tail.gate + 6 + length (body_of commands) ≤ segment_end tail.geometry tail.segment
   fits = omega (arith, ap length same, room)
@@ -47,10 +30,8 @@ module _ {D : Type 0} (state : D → DiskState) {a : D} {tail : Tail} {group : G
       → LeavesOnly (state a) (state b) (λ image. Stands image s ⊎ Stands image (fold length s commands))
   append_leaves {b} {whole} made =
       let shut : IsClosed (state a).seen tail.gate = rw durable.logged.ends.gate durable.logged.stands.closed in
-      makes_leaves state (λ image. Stands image s ⊎ Stands image (fold length s commands))
-      (subst (λ (bytes : List ℕ). Makes state (appending tail.gate bytes) whole a b) same made) durable.settled
-      (λ c image.
-      append_image tail commands s have accepted few fits (state a).seen c durable.logged
+      makes_leaves state _ (subst (λ (bytes : List ℕ). Makes state (appending tail.gate bytes) whole a b) same made) durable.settled
+      (λ c image. append_image tail commands s have accepted (body_small commands have) fits (state a).seen c durable.logged
       (appending_image tail.gate (body_of commands) (state a).seen c shut within image))
 
   module _ {b : D} (made : Makes state (appending tail.gate (group_body group)) true a b) where
@@ -63,9 +44,9 @@ module _ {D : Type 0} (state : D → DiskState) {a : D} {tail : Tail} {group : G
     append_durable facts = record {
       settled = appending_settled state tail.gate (group_body group) made durable.settled.honest facts;
       logged = subst (λ (bytes : List ℕ). IsLogged (state b).seen (appended_tail tail bytes) (fold length s commands)) (sym same)
-          (append_logged tail commands s have accepted few fits (state a).seen (state b).seen durable.logged written);
+          (append_logged tail commands s have accepted (body_small commands have) fits (state a).seen (state b).seen durable.logged written);
     }
 
     pub append_tagged : (places : State Stored) → IsTaggedIn (state a).seen places
         → IsTaggedIn (state b).seen (fold stored_length places (placed_group tail.gate commands))
-    append_tagged places before = tagged_appended commands places durable.logged have accepted few fits written before
+    append_tagged places before = tagged_appended commands places durable.logged have accepted (body_small commands have) fits written before

@@ -1,112 +1,96 @@
--- Of the calls of a round that goes on none fails but reads.
-use Rattle.std.proofs.Common.{◌≡◌, ◌≤◌, ◌+◌, ◌++◌, ◌∷◌, [], ◌∙◌, ℕ, Bool, true, false, List, arith, sym, ap, subst, ⊎_elim, refl}
+-- Of the calls of a round: how often they sync; that of those of one that goes on none fails but reads; and what tells that a read failed.
+use Rattle.std.proofs.Common.{◌≡◌, ◌≤◌, ◌+◌, ◌++◌, ◌∷◌, [], ℕ, Bool, true, false, List, arith, refl}
+use Rattle.rly_journal.proofs.Common.{all_are_reads, AllByRecursion, are_reads, AreReads, AreTried, Commands, count_joined, DeviceEvent, DiskState, drawing_for}
+use Rattle.rly_journal.proofs.Common.{head_spelled, is_spent, logging, Makes, makes_syncs, MakesFront, None, OnlyReadsFailed, Option, payloads_of, reads_sound}
+use Rattle.rly_journal.proofs.Common.{Renewal, renewing, rounding, segment_place, Some, stored_form, stored_length, Tail, Tries, Try}
 use Rattle.std.specs.Prelude.{slice_index_or}
-use Rattle.std.proofs.lemmas.Bool.{false≢true}
-use Rattle.rly_disk.specs.DiskModel.{DiskState}
-use Rattle.rly_disk.specs.Trace.{DeviceEvent, EndsAtFailure, EndsUncounted, FailedRead, FailedSync, FailedWrite, IsFailed, IsMade, Makes, MakesFront, Read}
-use Rattle.rly_disk.specs.Trace.{Sync, Write, are_reads, count_of, is_failed_call, is_failed_read, is_spent}
-use Rattle.rly_disk.proofs.Making.{reads_sound}
-use Rattle.rly_disk.proofs.Traces.{count_joined}
-use Rattle.rly_gate.proofs.Appending.{appending_writes}
-use Rattle.rly_machine.specs.Map.{payloads_of}
-use Rattle.rly_record.specs.Spelling.{body_of}
-use Rattle.rly_checkpoint.specs.Stored.{stored_form, stored_length}
-use Rattle.rly_segment.specs.Calls.{replacing}
-use Rattle.rly_segment.specs.Heads.{head_spelled, segment_place}
+use Rattle.rly_disk.specs.Trace.{count_of, is_failed_call, is_failed_read, is_sync_call}
+use Rattle.rly_disk.proofs.Making.{Done, Row, made_row, row_of}
+use Rattle.rly_disk.proofs.Traces.{one_if}
 use Rattle.rly_segment.proofs.Replacing.{replacing_writes}
-use Rattle.rly_drawing.proofs.Rows.{all_are_reads}
-use Rattle.rly_grouping.specs.Lying.{Commands}
-use Rattle.rly_fetching.specs.Trials.{AreReads, AreTried, Tries, Try}
-use Rattle.rly_fetching.proofs.TriedRows.{row_tried}
-use Rattle.rly_standing.specs.declared.tail.Tail.{Tail}
-use Rattle.rly_standing.specs.Calls.{logging}
-use Rattle.rly_journal.specs.Calls.{Renewal, drawing_for, renewing}
-use Rattle.rly_journal.specs.Journal.{OnlyReadsFailed}
+
+-- ---- rows of reads
 
 abbrev AreAlone : List DeviceEvent → Type 0
 AreAlone events = count_of is_failed_call events ≡ count_of is_failed_read events
 
--- ---- rows of reads
+-- a read failed among the events, or one wasn't counted
+abbrev pub IsUnread : Bool → List DeviceEvent → Type 0
+IsUnread spent events = 1 ≤ count_of is_failed_read events + one_if spent
 
-reads_alone : (calls : List DeviceEvent) → are_reads calls ≡ true → AreAlone calls
-reads_alone [] reads = refl
-reads_alone (Read place n ∷ calls) reads = omega (arith, reads_alone calls reads)
-reads_alone (event ∷ calls) reads = absurd (false≢true reads)
+abbrev IsSoundRow : Try → Type 0
+IsSoundRow row = (count_of is_failed_call row.calls ≡ 0) × (row.whole ≡ false → are_reads row.calls ≡ true)
 
-reads_front : (done rest : List DeviceEvent) → are_reads (done ++ rest) ≡ true → (are_reads done ≡ true) × (are_reads rest ≡ true)
-reads_front [] rest reads = (refl, reads)
-reads_front (Read place n ∷ done) rest reads = reads_front done rest reads
-reads_front (event ∷ done) rest reads = absurd (false≢true reads)
+-- of a row of calls that is made whole, or is of reads, only reads fail; and where it was cut, one failed or wasn't counted
+pub row_alone : {whole spent : Bool} {calls events : List DeviceEvent} → Row whole spent calls events → IsSoundRow (record { calls = calls; whole = whole })
+    → AreAlone events × (whole ≡ false → IsUnread spent events)
+row_alone (Done {call = call} row) sound = let more = row_alone row in grind (arith, more, sound.0, sound.1)
+row_alone row sound = let reads = sound.1 in grind (arith, reads)
 
-last_alone : (call last : DeviceEvent) (rest : List DeviceEvent) → IsFailed call last → are_reads (call ∷ rest) ≡ true → AreAlone (last ∷ [])
-last_alone (Read place n) last rest failed reads = subst (λ (e : DeviceEvent). AreAlone (e ∷ [])) (sym failed) refl
-last_alone call last rest failed reads = absurd (false≢true reads)
+rows_alone : (spent : Bool) (rows : List Try) (events : List DeviceEvent) → AreTried spent rows events → AllByRecursion IsSoundRow rows → AreAlone events
+rows_alone spent [] events tried sound = rw tried refl
+rows_alone spent (row ∷ rows) events tried sound =
+    let first = (row_alone (row_of row.whole spent row.calls tried.0 tried.3) sound.0).0 in
+    rw tried.2 (omega (arith, count_joined, first, rows_alone spent rows tried.1 tried.4 sound.1))
 
-joined_alone : (first second : List DeviceEvent) → AreAlone first → AreAlone second → AreAlone (first ++ second)
-joined_alone first second one two = omega (arith, one, two, count_joined is_failed_call first second, count_joined is_failed_read first second)
+reads_rows : (rows : List Try) → AreReads rows → AllByRecursion IsSoundRow rows
+reads_rows [] reads = tt
+reads_rows (row ∷ rows) reads = ((reads_sound row.calls reads.0, λ _. reads.0), reads_rows rows reads.1)
 
-row_alone : (whole spent : Bool) (calls events : List DeviceEvent) → IsMade whole spent calls events → are_reads calls ≡ true → AreAlone events
-row_alone true spent calls events made reads = subst AreAlone (sym made) (reads_alone calls reads)
-row_alone false spent calls events made reads = ⊎_elim
-    (λ (f : EndsAtFailure calls events).
-    let parts = reads_front f.done (f.call ∷ f.rest) (ap are_reads (sym f.calls_are) ∙ reads) in
-    subst AreAlone (sym f.events_are) (joined_alone f.done (f.last ∷ []) (reads_alone f.done parts.0) (last_alone f.call f.last f.rest f.failed parts.1)))
-    (λ (s : (spent ≡ true) × EndsUncounted calls events).
-    reads_alone events (reads_front events (s.1.call ∷ s.1.rest) (ap are_reads (sym s.1.calls_are) ∙ reads)).0)
-    made
+-- ---- the calls of a round
 
-rows_alone : (spent : Bool) (rows : List Try) (events : List DeviceEvent) → AreTried spent rows events → AreReads rows → AreAlone events
-rows_alone spent [] events tried reads = subst AreAlone (sym tried) refl
-rows_alone spent (row ∷ rows) events tried reads =
-    subst AreAlone (sym tried.2)
-    (joined_alone tried.0 tried.1 (row_alone row.whole spent row.calls tried.0 tried.3 reads.0) (rows_alone spent rows tried.1 tried.4 reads.1))
+pub drawing_reads : (tail : Tail) (r : Renewal) → are_reads (drawing_for tail r) ≡ true
+drawing_reads tail r = all_are_reads tail.geometry r.victim (payloads_of r.places)
 
--- ---- calls of which none failed
+reads_front : (done rest : List DeviceEvent) → are_reads (done ++ rest) ≡ true → are_reads done ≡ true
+reads_front [] rest reads = refl
+reads_front (call ∷ done) rest reads = let more = reads_front done rest in grind (arith, more)
 
-fewer : (events : List DeviceEvent) → count_of is_failed_read events ≤ count_of is_failed_call events
-fewer [] = omega arith
-fewer (Read place n ∷ events) = omega (arith, fewer events)
-fewer (FailedRead place n ∷ events) = omega (arith, fewer events)
-fewer (Write place bytes ∷ events) = omega (arith, fewer events)
-fewer (FailedWrite place bytes left ∷ events) = omega (arith, fewer events)
-fewer (Sync ∷ events) = omega (arith, fewer events)
-fewer (FailedSync ∷ events) = omega (arith, fewer events)
+reads_sync : (calls : List DeviceEvent) → are_reads calls ≡ true → count_of is_sync_call calls ≡ 0
+reads_sync [] reads = refl
+reads_sync (call ∷ calls) reads = let more = reads_sync calls in grind (arith, more)
 
-logging_sound : (gate : ℕ) (commands : Commands) → count_of is_failed_call (logging gate commands) ≡ 0
+abbrev AreSound : ℕ → List DeviceEvent → Type 0
+AreSound syncs calls = (count_of is_sync_call calls ≤ syncs) × (count_of is_failed_call calls ≡ 0)
+
+pub logging_sound : (gate : ℕ) (commands : Commands) → AreSound 2 (logging gate commands)
 logging_sound gate [] = omega arith
-logging_sound gate (command ∷ commands) = (appending_writes gate (body_of (command ∷ commands))).sound
+logging_sound gate (command ∷ commands) = omega arith
 
-renewing_sound : (tail : Tail) (r : Renewal) → count_of is_failed_call (renewing tail r) ≡ 0
+renewing_sound : (tail : Tail) (r : Renewal) → AreSound 3 (renewing tail r)
 renewing_sound tail r =
-    let closed : Bool = slice_index_or tail.closed r.target false in
-    let head : List ℕ = head_spelled stored_length stored_form (tail.generation + 1) r.copy ++ 0 ∷ [] in
-    omega (
-      arith,
-      reads_sound (drawing_for tail r) (all_are_reads tail.geometry r.victim (payloads_of r.places)),
-      count_joined is_failed_call (drawing_for tail r) (replacing (segment_place tail.geometry r.target) (slice_index_or tail.closed r.target false) head),
-      (replacing_writes (segment_place tail.geometry r.target) (slice_index_or tail.closed r.target false) head).sound,
-    )
+    let reads = drawing_reads tail r in
+    let text : List ℕ = head_spelled stored_length stored_form (tail.generation + 1) r.copy ++ 0 ∷ [] in
+    let head = replacing_writes (segment_place tail.geometry r.target) (slice_index_or tail.closed r.target false) text in
+    omega (arith, head, reads_sync (drawing_for tail r) reads, reads_sound (drawing_for tail r) reads, count_joined)
 
 -- ---- on a disk
 
-pub alone_joined : (a b d : DiskState) → OnlyReadsFailed a b → OnlyReadsFailed b d → OnlyReadsFailed a d
-alone_joined a b d one two = omega (arith, one, two)
-
 module _ {D : Type 0} (state : D → DiskState) {a b : D} where
-  pub tried_alone : (rows : List Try) → Tries state rows a b → AreReads rows → OnlyReadsFailed (state a) (state b)
-  tried_alone rows tries reads =
-      omega (arith, tries.leads.failures, tries.leads.failed_reads, rows_alone (is_spent (state b)) rows tries.events tries.tried reads)
+  tried_alone : (rows : List Try) → Tries state rows a b → AllByRecursion IsSoundRow rows → OnlyReadsFailed (state a) (state b)
+  tried_alone rows tries sound =
+      omega (arith, tries.leads.failures, tries.leads.failed_reads, rows_alone (is_spent (state b)) rows tries.events tries.tried sound)
 
-  whole_alone : (calls : List DeviceEvent) → Makes state calls true a b → count_of is_failed_call calls ≡ 0 → OnlyReadsFailed (state a) (state b)
-  whole_alone calls made sound = omega (arith, made.leads.failures, made.leads.failed_reads, fewer made.events, ap (count_of is_failed_call) made.made, sound)
+  -- where the journal goes on, none fails but reads
+  pub round_alone : (tail : Tail) (opened : Option Renewal) (commands : Commands) (fetches : List Try)
+      → Tries state (rounding tail opened commands true ++ fetches) a b → AreReads fetches → OnlyReadsFailed (state a) (state b)
+  round_alone tail None commands fetches tries reads =
+      tried_alone _ tries (((logging_sound tail.gate commands).1, λ never. cc), reads_rows fetches reads)
+  round_alone tail (Some r) commands fetches tries reads =
+      tried_alone _ tries (((renewing_sound tail r).1, λ never. cc), (((logging_sound _ commands).1, λ never. cc), reads_rows fetches reads))
 
-  pub logged_alone : (gate : ℕ) (commands : Commands) → Makes state (logging gate commands) true a b → OnlyReadsFailed (state a) (state b)
-  logged_alone gate commands made = whole_alone (logging gate commands) made (logging_sound gate commands)
+  pub renewing_syncs : (tail : Tail) (r : Renewal) {whole : Bool} → Makes state (renewing tail r) whole a b → (state b).syncs ≤ (state a).syncs + 3
+  renewing_syncs tail r made = omega (arith, makes_syncs state made, (renewing_sound tail r).0)
 
-  pub renewed_alone : (tail : Tail) (r : Renewal) → Makes state (renewing tail r) true a b → OnlyReadsFailed (state a) (state b)
-  renewed_alone tail r made = whole_alone (renewing tail r) made (renewing_sound tail r)
+  -- where the victim's payloads were read, and nothing else was done
+  module _ (tail : Tail) (r : Renewal) {whole : Bool} (made : MakesFront state (drawing_for tail r) whole a b) where
+    front : are_reads made.front ≡ true
+    front = reads_front made.front made.rest (rw made.calls_are at (drawing_reads tail r))
 
-  pub drawn_alone : (tail : Tail) (r : Renewal) (whole : Bool) → MakesFront state (drawing_for tail r) whole a b → OnlyReadsFailed (state a) (state b)
-  drawn_alone tail r whole made =
-      let reads = reads_front made.front made.rest (ap are_reads (sym made.calls_are) ∙ all_are_reads tail.geometry r.victim (payloads_of r.places)) in
-      tried_alone (record { calls = made.front; whole = whole } ∷ []) (row_tried state made.front whole made.makes) (reads.0, tt)
+    pub drawn_alone : OnlyReadsFailed (state a) (state b)
+    drawn_alone =
+        let alone = (row_alone (made_row made.makes) (reads_sound made.front front, λ _. front)).0 in
+        omega (arith, made.makes.leads.failures, made.makes.leads.failed_reads, alone)
+
+    pub drawn_syncs : (state b).syncs ≤ (state a).syncs
+    drawn_syncs = omega (arith, makes_syncs state made.makes, reads_sync made.front front)

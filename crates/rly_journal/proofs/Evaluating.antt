@@ -1,92 +1,48 @@
 -- Calls that are evaluated one after the other.
-use Rattle.std.proofs.Common.{◌≡◌, ◌+◌, ◌-◌, ◌<◌, ◌≤◌, ◌∷◌, ◌++◌, [], ◌∙◌, ℕ, Bool, true, false, List, length, arith, ap, refl, sym, subst, inl, inr}
+use Rattle.std.proofs.Common.{◌≡◌, ◌+◌, ◌-◌, ◌<◌, ◌≤◌, ◌∷◌, ◌++◌, [], ◌∙◌, ℕ, true, List, length, arith, ap, refl, sym, inl, inr}
 use Rattle.std.proofs.Common.{append_assoc, length-append}
-use Rattle.std.specs.Prelude.{◌||◌, IsTrue, if◌then◌else◌}
-use Rattle.std.specs.List.{zip}
-use mathlib.Core.Path.{transport}
-use Rattle.std.proofs.lemmas.List.{append-nil}
-use Rattle.rly_core.specs.declared.params.Geometry.{Geometry}
-use Rattle.rly_machine.specs.declared.call.Call.{Call}
-use Rattle.rly_machine.specs.declared.command.Ask.{Ask}
-use Rattle.rly_machine.specs.declared.command.Ask.TheVariants as ask
-use Rattle.rly_machine.specs.declared.command.Command.{Command}
-use Rattle.rly_machine.specs.declared.reply.Reply.{Reply}
-use Rattle.rly_machine.specs.Accepted.{is_accepted}
-use Rattle.rly_machine.specs.Fold.{AllAccepted, fold}
-use Rattle.rly_machine.specs.History.{accepted_by}
-use Rattle.rly_machine.specs.State.{State}
-use Rattle.rly_machine.specs.Step.{step}
-use Rattle.rly_machine.proofs.Folding.{accepted_push, fold_push}
-use Rattle.rly_record.specs.Spelling.{record_length}
-use Rattle.rly_reclaim.specs.Room.{IsDue}
-use Rattle.rly_checkpoint.specs.Stored.{stored_length}
-use Rattle.rly_checkpoint.specs.declared.stored.Stored.{Stored}
-use Rattle.rly_segment.specs.Heads.{segment_place}
-use Rattle.rly_keeping.specs.Keeping.{IsAlike}
-use Rattle.rly_keeping.proofs.Stepping.{alike_after}
-use Rattle.rly_index.specs.Index.{IndexState}
-use Rattle.rly_grouping.specs.Groups.{GroupState, Holds, empty_group, record_place}
-use Rattle.rly_grouping.specs.Lying.{Commands, placed_at, placed_from, placed_group}
-use Rattle.rly_grouping.proofs.Records.{holds_more, holds_none, placed_alike, placed_told}
-use Rattle.rly_fetching.specs.declared.outcome.Outcome.{Outcome}
-use Rattle.rly_fetching.specs.declared.outcome.Outcome.TheVariants.{Answered, Wanted}
-use Rattle.rly_journal.specs.Journal.{holds_command, is_command}
-use Rattle.rly_journal.specs.HelpersOutcomes.{AreOutcomes, IsEvaluated, IsGrouping, IsLeft, IsOutcomeOf, IsTaken, IsTakenOrLeft, taken_by, taken_of}
-
--- ---- commands and their places
-
--- both spools go on alike
-pub alike_fold : (place : ℕ) (commands : Commands) (s : State Stored) (t : State (List ℕ)) → IsAlike s t
-    → IsAlike (fold stored_length s (placed_from place commands)) (fold length t commands)
-alike_fold place [] s t alike = alike
-alike_fold place (command ∷ commands) s t alike =
-    alike_fold (place + record_length length command) commands (step stored_length s (placed_at place command)).0 (step length t command).0
-    (alike_after s t (placed_at place command) command alike (placed_alike place command))
+use Rattle.rly_journal.proofs.Common.{accepted_push, append-nil, AreOutcomes, Call, Command, Commands, empty_group, fold, fold_push, Geometry, GroupState}
+use Rattle.rly_journal.proofs.Common.{holds_command, if◌then◌else◌, IndexState, IsAlike, IsDue, IsEvaluated, IsGrouping, IsOutcomeOf, or_left, or_right}
+use Rattle.rly_journal.proofs.Common.{Outcome, placed_at, placed_group, record_place, segment_place, State, Stored, stored_length, taken_by, taken_of, zip}
+use Rattle.std.proofs.lemmas.List.Folds.{list_any-append}
+use Rattle.rly_grouping.proofs.Records.{holds_more, holds_none, placed_told}
+use Rattle.rly_journal.specs.Journal.{is_command}
+use Rattle.rly_journal.proofs.Redone.{alike_commands}
+use Rattle.rly_journal.specs.HelpersOutcomes.{IsTakenOrLeft}
 
 -- ---- one call more
 
--- one more pair
-zip_push : {A B : Type 0} (xs : List A) (ys : List B) (x : A) (y : B) → length ys ≡ length xs → zip (xs ++ x ∷ []) (ys ++ y ∷ []) ≡ zip xs ys ++ (x, y) ∷ []
-zip_push [] [] x y same = refl
-zip_push (a ∷ xs) (b ∷ ys) x y same = ap (λ l. (a, b) ∷ l) (zip_push xs ys x y (omega (arith, same)))
-zip_push _ _ x y same = absurd (omega (arith, same))
+module _ (call : Call) (outcome : Outcome) where
+  taken_push : (calls : List Call) (outcomes : List Outcome) → length outcomes ≡ length calls
+      → taken_of (zip (calls ++ call ∷ []) (outcomes ++ outcome ∷ [])) ≡ taken_of (zip calls outcomes) ++ taken_by call outcome
+  taken_push [] [] same = append-nil (taken_by call outcome)
+  taken_push (a ∷ calls) (b ∷ outcomes) same =
+      let rest = taken_push calls outcomes (omega (arith, same)) in
+      grind (arith, append_assoc (taken_by a b) (taken_of (zip calls outcomes)) (taken_by call outcome))
+  taken_push _ _ same = absurd (omega (arith, same))
 
-taken_push : (xs : List (Call × Outcome)) (x : Call × Outcome) → taken_of (xs ++ x ∷ []) ≡ taken_of xs ++ taken_by x.0 x.1
-taken_push [] x = append-nil (taken_by x.0 x.1)
-taken_push (first ∷ xs) x =
-    ap (λ l. taken_by first.0 first.1 ++ l) (taken_push xs x) ∙ sym (append_assoc (taken_by first.0 first.1) (taken_of xs) (taken_by x.0 x.1))
-
-module _ (g : Geometry) (gate : ℕ) (s : State Stored) (t : State (List ℕ)) (call : Call) (outcome : Outcome) where
-  -- what came of it after some commands
-  abbrev CameAt : Commands → Type 0
-  CameAt commands = IsOutcomeOf g call outcome (fold stored_length s (placed_group gate commands)) (fold length t commands)
-
-  outcomes_push : (done : Commands) (xs : List (Call × Outcome)) → AreOutcomes g gate s t done xs → CameAt (done ++ taken_of xs)
-      → AreOutcomes g gate s t done (xs ++ (call, outcome) ∷ [])
-  outcomes_push done [] all one = (subst CameAt (append-nil done) one, tt)
-  outcomes_push done (x ∷ xs) all one = (
+  outcomes_push : (g : Geometry) (gate : ℕ) (s : State Stored) (t : State (List ℕ)) (done : Commands) (calls : List Call) (outcomes : List Outcome)
+      → length outcomes ≡ length calls → AreOutcomes g gate s t done (zip calls outcomes)
+      → (let l : Commands = done ++ taken_of (zip calls outcomes) in IsOutcomeOf g call outcome (fold stored_length s (placed_group gate l)) (fold length t l))
+      → AreOutcomes g gate s t done (zip (calls ++ call ∷ []) (outcomes ++ outcome ∷ []))
+  outcomes_push g gate s t done [] [] same all one = (rw (append-nil done) at one, tt)
+  outcomes_push g gate s t done (a ∷ calls) (b ∷ outcomes) same all one = (
     all.0,
-    outcomes_push (done ++ taken_by x.0 x.1) xs all.1 (subst CameAt (sym (append_assoc done (taken_by x.0 x.1) (taken_of xs))) one),
+    outcomes_push g gate s t (done ++ taken_by a b) calls outcomes (omega (arith, same)) all.1
+        (rw (append_assoc done (taken_by a b) (taken_of (zip calls outcomes))) one),
   )
+  outcomes_push g gate s t done _ _ same all one = absurd (omega (arith, same))
 
--- how many commands are accepted
-taken_once : (call : Call) (outcome : Outcome) → length (taken_by call outcome) ≤ 1
-taken_once call (Answered answer) = of_ask call.ask answer.reply
-  where
-    at_most : (command : Command (List ℕ)) (b : Bool) → length (if b then command ∷ [] else []) ≤ 1
-    at_most command true = omega arith
-    at_most command false = omega arith
-
-    of_ask : (an : Ask) (reply : Reply) → length (accepted_by an reply) ≤ 1
-    of_ask (ask.Command command) reply = at_most command (is_accepted reply)
-    of_ask (ask.Query query) reply = omega arith
-taken_once call (Wanted seat number at limit place) = omega arith
+-- how many commands are accepted: none of a question
+pub taken_once : (call : Call) (outcome : Outcome) → length (taken_by call outcome) ≤ (if is_command call.ask then 1 else 0)
+taken_once call outcome = grind arith
 
 pub few_taken : (calls : List Call) (outcomes : List Outcome) → length (taken_of (zip calls outcomes)) ≤ length calls
-few_taken [] outcomes = omega arith
-few_taken (call ∷ calls) [] = omega arith
 few_taken (call ∷ calls) (outcome ∷ outcomes) =
-    omega (arith, taken_once call outcome, few_taken calls outcomes, length-append (taken_by call outcome) (taken_of (zip calls outcomes)))
+    let one = taken_once call outcome in
+    let rest = few_taken calls outcomes in
+    grind (arith, length-append (taken_by call outcome) (taken_of (zip calls outcomes)))
+few_taken _ _ = omega arith
 
 -- one more was
 module _ {gate : ℕ} {old x y : IndexState} {group new : GroupState} {before now after : Commands} {calls : List Call} {outcomes : List Outcome} (call : Call)
@@ -99,11 +55,8 @@ module _ {gate : ℕ} {old x y : IndexState} {group new : GroupState} {before no
   abbrev more : Commands
   more = taken_of (zip (calls ++ call ∷ []) (outcomes ++ outcome ∷ []))
 
-  pairs : zip (calls ++ call ∷ []) (outcomes ++ outcome ∷ []) ≡ zip calls outcomes ++ (call, outcome) ∷ []
-  pairs = zip_push calls outcomes call outcome so_far.count
-
   named : more ≡ commands ++ taken_by call outcome
-  named = ap taken_of pairs ∙ taken_push (zip calls outcomes) (call, outcome)
+  named = taken_push call outcome calls outcomes so_far.count
 
   counts : length (outcomes ++ outcome ∷ []) ≡ length (calls ++ call ∷ [])
   counts = omega (arith, so_far.count, length-append calls (call ∷ []), length-append outcomes (outcome ∷ []))
@@ -112,55 +65,37 @@ module _ {gate : ℕ} {old x y : IndexState} {group new : GroupState} {before no
       → AreOutcomes old.geometry gate old.spool.state t [] (zip (calls ++ call ∷ []) (outcomes ++ outcome ∷ []))
   each_push t alike =
       let u : State (List ℕ) = fold length t commands in
-      let here : IsAlike x.spool.state u = subst (λ m. IsAlike m u) (sym so_far.state) (alike_fold (gate + 7) commands old.spool.state t alike) in
-      let one = transport (λ i. IsOutcomeOf (so_far.geometry i) call outcome (so_far.state i) u) (came u here) in
-      subst (AreOutcomes old.geometry gate old.spool.state t []) (sym pairs)
-      (outcomes_push old.geometry gate old.spool.state t call outcome [] (zip calls outcomes) (so_far.each t alike) one)
+      let here : IsAlike x.spool.state u = rw so_far.state (alike_commands (gate + 7) commands old.spool.state t alike).0 in
+      let one = rw (so_far.geometry, so_far.state) at (came u here) in
+      outcomes_push call outcome old.geometry gate old.spool.state t [] calls outcomes so_far.count (so_far.each t alike) one
 
   pub evaluated_push : IsEvaluated gate old y new before after (calls ++ call ∷ []) (outcomes ++ outcome ∷ [])
   evaluated_push = elim done [
     | inl taken ↦
         let command : Command (List ℕ) = taken.0 in
-        let took : IsTaken gate command x y group new now after = taken.2 in
+        let took = taken.2 in
         let placed : Command Stored = placed_at (record_place gate group) command in
         let s : State Stored = old.spool.state in
         let is : more ≡ commands ++ command ∷ [] = named ∙ ap (λ l. commands ++ l) taken.1 in
-        let row : placed_group gate commands ++ placed ∷ [] ≡ placed_group gate more =
-        sym (placed_told gate commands command group so_far.holds) ∙ ap (placed_group gate) (sym is) in
-        record {
-          count = counts;
-          each = each_push;
-          holds = transport (λ i. Holds (sym is i) (sym took.group i)) (holds_more commands command group so_far.holds took.has took.short);
-          longest = ap (λ (g : GroupState). g.most) took.group ∙ so_far.longest;
-          accepted = subst (AllAccepted stored_length s) row
-              (accepted_push stored_length s (placed_group gate commands) placed so_far.accepted
-              (subst (λ m. IsTrue (is_accepted (step stored_length m placed).1)) so_far.state took.accepted));
-          state = took.state ∙ ap (λ m. (step stored_length m placed).0) so_far.state ∙ sym (fold_push stored_length s (placed_group gate commands) placed)
-              ∙ ap (fold stored_length s) row;
-          geometry = took.at.geometry ∙ so_far.geometry;
-          segment = took.at.segment ∙ so_far.segment;
-          used = inr (omega (arith, ap (λ (g : GroupState). g.count) took.group), took.at.used);
-          log = took.log ∙ ap (λ l. l ++ command ∷ []) so_far.log ∙ append_assoc before commands (command ∷ []) ∙ ap (λ l. before ++ l) (sym is);
-        }
+        let row = rw (← is) at (sym (placed_told gate commands command group so_far.holds)) in
+        let holds = rw (← is, ← took.group) at (holds_more commands command group so_far.holds took.has took.short) in
+        let longest = ap (λ (g : GroupState). g.most) took.group ∙ so_far.longest in
+        let accepted = rw row at (accepted_push stored_length s (placed_group gate commands) placed so_far.accepted (rw so_far.state at took.accepted)) in
+        let state : y.spool.state ≡ fold stored_length s (placed_group gate more) =
+        rw (← row, fold_push stored_length s (placed_group gate commands) placed, ← so_far.state) took.state in
+        let some : 1 ≤ new.count = omega (arith, ap (λ (g : GroupState). g.count) took.group) in
+        let log : after ≡ before ++ more = grind (arith, is, took.log, so_far.log, append_assoc before commands (command ∷ [])) in
+        search (arith, counts, each_push, inr)
     | inr left ↦
-        let same : IsLeft x y group new now after = left.1 in
-        let is : more ≡ commands = named ∙ ap (λ l. commands ++ l) left.0 ∙ append-nil commands in
-        record {
-          count = counts;
-          each = each_push;
-          holds = transport (λ i. Holds (sym is i) (sym same.group i)) so_far.holds;
-          longest = ap (λ (g : GroupState). g.most) same.group ∙ so_far.longest;
-          accepted = subst (λ l. AllAccepted stored_length old.spool.state (placed_group gate l)) (sym is) so_far.accepted;
-          state = same.state ∙ so_far.state ∙ ap (λ l. fold stored_length old.spool.state (placed_group gate l)) (sym is);
-          geometry = same.at.geometry ∙ so_far.geometry;
-          segment = same.at.segment ∙ so_far.segment;
-          used = elim so_far.used [
-            | inl none ↦ inl (is ∙ none.0, same.at.used ∙ none.1)
-            | inr there ↦
-                inr (omega (arith, there.0, ap (λ (g : GroupState). g.count) same.group), same.at.used ∙ there.1 ∙ ap (record_place gate) (sym same.group))
-          ];
-          log = same.log ∙ so_far.log ∙ ap (λ l. before ++ l) (sym is);
-        }
+        let same = left.1 in
+        let is : more ≡ commands = rw (named, left.0) (append-nil commands) in
+        let holds = rw (← is, ← same.group) at so_far.holds in
+        let longest = ap (λ (g : GroupState). g.most) same.group ∙ so_far.longest in
+        let accepted = rw (← is) at so_far.accepted in
+        let state = rw (← is) at (same.state ∙ so_far.state) in
+        let used = rw (← is, ← same.group, ← same.at.used) at so_far.used in
+        let log = rw (← is) at (same.log ∙ so_far.log) in
+        search (arith, counts, each_push)
   ]
 
 -- ---- the loop
@@ -174,39 +109,24 @@ pub record IsEvaluating (gate : ℕ) (old x : IndexState) (group : GroupState) (
 
 pub evaluating_none : (gate : ℕ) (x : IndexState) (group : GroupState) (log : Commands) (all : List Call) (outcomes : List Outcome)
     → group ≡ empty_group x.geometry.params.payload → x.used ≡ gate → outcomes ≡ [] → IsEvaluating gate x x group log log all all outcomes
-evaluating_none gate x group log all outcomes empty used none = record {
-  served = [];
-  calls = refl;
-  evaluated = subst (IsEvaluated gate x x group log log []) (sym none) (record {
-    count = refl;
-    each = λ t alike. tt;
-    holds = subst (Holds []) (sym empty) (holds_none x.geometry.params.payload);
-    longest = ap (λ (g : GroupState). g.most) empty;
-    accepted = tt;
-    state = refl;
-    geometry = refl;
-    segment = refl;
-    used = inl (refl, used);
-    log = sym (append-nil log);
-  });
-}
+evaluating_none gate x group log all outcomes empty used none =
+    let same = sym (append-nil log) in
+    record { served = []; calls = refl; evaluated = rw (none, empty) (search (refl, inl, holds_none)) }
 
 module _ {gate : ℕ} {old x : IndexState} {group : GroupState} {before now : Commands} {all rest : List Call} {outcomes : List Outcome}
     (so_far : IsEvaluating gate old x group before now all rest outcomes) where
   pub evaluating_done : rest ≡ [] → IsEvaluated gate old x group before now all outcomes
   evaluating_done none =
-      let same : so_far.served ≡ all = sym (append-nil so_far.served) ∙ ap (λ l. so_far.served ++ l) (sym none) ∙ sym so_far.calls in
-      subst (λ calls. IsEvaluated gate old x group before now calls outcomes) same so_far.evaluated
+      rw (so_far.calls, none, append-nil so_far.served) so_far.evaluated
 
   module _ {call : Call} {more : List Call} (cut : rest ≡ call ∷ more) where
     pub evaluating_next : {y : IndexState} {new : GroupState} {after : Commands} {next : List Outcome} (outcome : Outcome) → next ≡ outcomes ++ outcome ∷ []
         → ((t : State (List ℕ)) → IsAlike x.spool.state t → IsOutcomeOf x.geometry call outcome x.spool.state t)
         → IsTakenOrLeft gate call outcome x y group new now after → IsEvaluating gate old y new before after all more next
-    evaluating_next {y} {new} {after} outcome pushed came done = record {
+    evaluating_next outcome pushed came done = record {
       served = so_far.served ++ call ∷ [];
       calls = so_far.calls ∙ ap (λ l. so_far.served ++ l) cut ∙ sym (append_assoc so_far.served (call ∷ []) more);
-      evaluated = subst (IsEvaluated gate old y new before after (so_far.served ++ call ∷ [])) (sym pushed)
-          (evaluated_push call outcome so_far.evaluated came done);
+      evaluated = rw pushed (evaluated_push call outcome so_far.evaluated came done);
     }
 
     -- the group may take one more
@@ -221,10 +141,7 @@ module _ {gate : ℕ} {old x : IndexState} {group : GroupState} {before now : Co
       holds = so_far.evaluated.holds;
       longest = so_far.evaluated.longest ∙ ap (λ (g : Geometry). g.params.payload) (sym so_far.evaluated.geometry);
       above = rw (so_far.evaluated.geometry, so_far.evaluated.segment) above;
-      below = elim so_far.evaluated.used [
-        | inl none ↦ omega (arith, none.1)
-        | inr there ↦ omega (arith, there.1)
-      ];
+      below = omega (arith, so_far.evaluated.used);
     }
 
     -- a command is one of the round's
@@ -232,17 +149,5 @@ module _ {gate : ℕ} {old x : IndexState} {group : GroupState} {before now : Co
         → IsDue x.geometry (gate - segment_place x.geometry x.segment) → ⊥
     evaluating_ready ready is due =
         let e = so_far.evaluated in
-        ready (ap holds_command (so_far.calls ∙ ap (λ l. so_far.served ++ l) cut) ∙ among so_far.served)
-        (transport (λ i. IsDue (e.geometry i) (gate - segment_place (e.geometry i) (e.segment i))) due)
-      where
-        first : (b c : Bool) → b ≡ true → b || c ≡ true
-        first true c is = refl
-        first false c is = absurd (let e : false ≡ true = is in cc)
-
-        second : (b c : Bool) → c ≡ true → b || c ≡ true
-        second true c is = refl
-        second false c is = is
-
-        among : (served : List Call) → holds_command (served ++ call ∷ more) ≡ true
-        among [] = first (is_command call.ask) (holds_command more) is
-        among (other ∷ served) = second (is_command other.ask) (holds_command (served ++ call ∷ more)) (among served)
+        let parts = list_any-append (λ (c : Call). is_command c.ask) so_far.served (call ∷ more) in
+        ready (rw (so_far.calls, cut) (grind (arith, is, parts, or_left, or_right))) (rw (e.geometry, e.segment) at due)

@@ -1,27 +1,15 @@
 -- Commands of a group that are made again on an index, with their payloads by place.
-use Rattle.std.proofs.Common.{◌≡◌, ◌⊎◌, ◌≤◌, ◌+◌, ◌++◌, ◌∷◌, [], ◌∙◌, ℕ, true, false, List, length, length-append, arith, sym, ap, refl, inl, inr, append_assoc}
-use Rattle.std.specs.List.{AllByRecursion, flat_map}
-use Rattle.std.proofs.lemmas.Bool.{false≢true}
+use Rattle.std.proofs.Common.{◌≡◌, ◌↔◌, ◌⊎◌, ◌≤◌, ◌+◌, ◌++◌, ◌∷◌, [], ◌∙◌, ℕ, true, false, List, length, arith, sym, ap, refl, inl}
+use Rattle.std.proofs.Common.{length-append, append_assoc}
+use Rattle.rly_journal.proofs.Common.{accepted_push, AllAccepted, AllByRecursion, body_of, Command, Commands, false≢true, flat_map, flat_map-cons, fold}
+use Rattle.rly_journal.proofs.Common.{fold_push, HasRecord, HoldsIndex, IndexState, is_accepted, IsAlike, IsAt, IsBrought, placed_alike, placed_at}
+use Rattle.rly_journal.proofs.Common.{placed_brought, placed_from, placed_group, record_length, record_of, Reply, same_reply, segment_end, State, step, Stored}
+use Rattle.rly_journal.proofs.Common.{stored_length}
 use Rattle.std.proofs.lemmas.List.{flat_map_more}
-use Rattle.std.proofs.lemmas.List.Concat.{flat_map-cons}
-use Rattle.byteorder.specs.Endian.{big_bytes}
-use Rattle.rly_machine.specs.declared.command.Command.{Command}
-use Rattle.rly_machine.specs.Accepted.{is_accepted}
-use Rattle.rly_machine.specs.Fold.{AllAccepted, fold}
-use Rattle.rly_machine.specs.State.{State}
-use Rattle.rly_machine.specs.Step.{step}
-use Rattle.rly_machine.proofs.Folding.{accepted_parts, accepted_push, fold_push}
-use Rattle.rly_record.specs.Spelling.{HasRecord, body_of, record_length, record_of}
+use Rattle.rly_machine.proofs.Folding.{accepted_parts}
 use Rattle.rly_record.proofs.Records.{length-record_of}
-use Rattle.rly_checkpoint.specs.Stored.{stored_length}
-use Rattle.rly_checkpoint.specs.declared.stored.Stored.{Stored}
-use Rattle.rly_segment.specs.Heads.{segment_end}
-use Rattle.rly_keeping.specs.Keeping.{IsAlike, IsBrought}
-use Rattle.rly_keeping.proofs.Stepping.{alike_after, same_reply}
-use Rattle.rly_index.specs.Index.{HoldsIndex, IndexState, IsAt}
-use Rattle.rly_grouping.specs.Lying.{Commands, placed_at, placed_from, placed_group}
-use Rattle.rly_grouping.proofs.Brought.{placed_brought}
-use Rattle.rly_grouping.proofs.Records.{placed_alike}
+use Rattle.rly_keeping.proofs.Stepping.{alike_after}
+use Rattle.rly_index.specs.Index.{used_after}
 
 -- ---- places
 
@@ -31,46 +19,51 @@ length_cons f x xs = ap (λ (l : List ℕ). length l) (flat_map-cons f x xs) ∙
 -- how long the records of some commands are
 pub records_size : (command : Command (List ℕ)) (commands : Commands)
     → length (flat_map record_of (command ∷ commands)) ≡ record_length length command + length (flat_map record_of commands)
-records_size command commands =
-    length_cons record_of command commands ∙ ap (λ (n : ℕ). n + length (flat_map record_of commands)) (length-record_of command)
-
-pub body_size : (commands : Commands) → length (body_of commands) ≡ 2 + length (flat_map record_of commands)
-body_size commands = length-append (big_bytes 2 (length commands)) (flat_map record_of commands)
+records_size command commands = omega (arith, length_cons record_of command commands, length-record_of command)
 
 -- commands after others stand after their records
 placed_joined : (place : ℕ) (a b : Commands) → placed_from place (a ++ b) ≡ placed_from place a ++ placed_from (place + length (flat_map record_of a)) b
-placed_joined place [] b = ap (λ (n : ℕ). placed_from n b) (let e : place ≡ place + 0 = omega arith in e)
+placed_joined place [] b = grind arith
 placed_joined place (command ∷ a) b =
-    let after : ℕ = place + record_length length command in
-    let moved : after + length (flat_map record_of a) ≡ place + length (flat_map record_of (command ∷ a)) = omega (arith, records_size command a) in
-    ap (λ (l : List (Command Stored)). placed_at place command ∷ l)
-    (placed_joined after a b ∙ ap (λ (n : ℕ). placed_from after a ++ placed_from n b) moved)
+    let rest = placed_joined (place + record_length length command) a b in
+    grind (arith, records_size command a)
 
 pub placed_count : (place : ℕ) (commands : Commands) → length (placed_from place commands) ≡ length commands
 placed_count place [] = refl
 placed_count place (command ∷ commands) = omega (arith, placed_count (place + record_length length command) commands)
 
--- ---- acceptance is the same over places and over bytes
+-- ---- over places and over bytes
 
-pub accepted_alike : (place : ℕ) (commands : Commands) (s : State Stored) (t : State (List ℕ)) → IsAlike s t
-    → AllAccepted stored_length s (placed_from place commands) → AllAccepted length t commands
-accepted_alike place [] s t alike accepted = tt
-accepted_alike place (command ∷ commands) s t alike accepted =
-    let same = placed_alike place command in (
-      rw (same_reply s t (placed_at place command) command alike same) at accepted.0,
-      accepted_alike (place + record_length length command) commands (step stored_length s (placed_at place command)).0 (step length t command).0
-          (alike_after s t (placed_at place command) command alike same) accepted.1,
-    )
+-- both spools go on alike, and accept the same
+pub alike_commands : (place : ℕ) (commands : Commands) (s : State Stored) (t : State (List ℕ)) → IsAlike s t
+    → IsAlike (fold stored_length s (placed_from place commands)) (fold length t commands)
+    × (AllAccepted stored_length s (placed_from place commands) ↔ AllAccepted length t commands)
+alike_commands place [] s t alike = (alike, ((λ all. all), λ all. all))
+alike_commands place (command ∷ commands) s t alike =
+    let same = placed_alike place command in
+    let one = same_reply s t (placed_at place command) command alike same in
+    let rest = alike_commands (place + record_length length command) commands (step stored_length s (placed_at place command)).0 (step length t command).0
+    (alike_after s t (placed_at place command) command alike same) in
+    (rest.0, ((λ all. (rw one at all.0, rest.1.0 all.1)), λ all. (rw one all.0, rest.1.1 all.1)))
 
-pub accepted_placed : (place : ℕ) (commands : Commands) (s : State Stored) (t : State (List ℕ)) → IsAlike s t
-    → AllAccepted length t commands → AllAccepted stored_length s (placed_from place commands)
-accepted_placed place [] s t alike accepted = tt
-accepted_placed place (command ∷ commands) s t alike accepted =
-    let same = placed_alike place command in (
-      rw (same_reply s t (placed_at place command) command alike same) accepted.0,
-      accepted_placed (place + record_length length command) commands (step stored_length s (placed_at place command)).0 (step length t command).0
-          (alike_after s t (placed_at place command) command alike same) accepted.1,
-    )
+-- ---- one command
+
+-- the index went on by a command, and is used up to the next record if it was accepted
+pub record IsStepped (x y : IndexState) (placed : Command Stored) (told : Reply) (next : ℕ) : Type 0 where
+  pub state : y.spool.state ≡ (step stored_length x.spool.state placed).0
+  pub reply : told ≡ (step stored_length x.spool.state placed).1
+  pub at : IsAt x.geometry x.segment (used_after x.used next told) y
+
+-- so it did once there was room for it
+pub stepped : {x r y : IndexState} {placed command : Command Stored} {told : Reply} {next : ℕ} → r.spool.state ≡ x.spool.state
+    → IsAt x.geometry x.segment x.used r → command ≡ placed
+    → y.spool.state ≡ (step stored_length r.spool.state command).0 → told ≡ (step stored_length r.spool.state command).1
+    → IsAt r.geometry r.segment (used_after r.used next told) y → IsStepped x y placed told next
+stepped same before is state says after = record {
+  state = rw (← same, ← is) state;
+  reply = rw (← same, ← is) says;
+  at = rw (← before.geometry, ← before.segment, ← before.used) after;
+}
 
 -- ---- the loop
 
@@ -106,47 +99,38 @@ module _ {old x : IndexState} {gate at : ℕ} {all rest more : Commands} {comman
   pub redoing_brought : HoldsIndex x.geometry x.segment x.used x.spool.state
       → IsBrought x.geometry x.segment x.used (at + record_length length command) (placed_at at command)
   redoing_brought holds =
-      let below : x.used ≤ at = elim so_far.used [
-        | inl is ↦ omega (arith, is)
-        | inr none ↦ omega (arith, none.1, so_far.place)
-      ] in
-      let end : segment_end x.geometry x.segment ≡ segment_end old.geometry old.segment = λ i. segment_end (so_far.geometry i) (so_far.segment i) in
-      placed_brought x.geometry x.segment x.used at command holds.there holds.from below (omega (arith, room, end))
+      let below : x.used ≤ at = omega (arith, so_far.used, so_far.place) in
+      placed_brought x.geometry x.segment x.used at command holds.there holds.from below (rw (so_far.geometry, so_far.segment) (omega (arith, room)))
 
-  pub redoing_next : {y : IndexState} {next : ℕ} → is_accepted (step stored_length x.spool.state (placed_at at command)).1 ≡ true
-      → y.spool.state ≡ (step stored_length x.spool.state (placed_at at command)).0 → next ≡ at + record_length length command
-      → IsAt x.geometry x.segment next y
-      → IsRedoing old gate all more next y
-  redoing_next accepts state is ends =
+  pub redoing_next : {y : IndexState} {told : Reply} {next : ℕ} → IsStepped x y (placed_at at command) told next → is_accepted told ≡ true
+      → next ≡ at + record_length length command → IsRedoing old gate all more next y
+  redoing_next one accepts is =
       let done : Commands = so_far.done in
       let s : State Stored = old.spool.state in
       let placed : Command Stored = placed_at at command in
-      let row : placed_group gate done ++ placed ∷ [] ≡ placed_group gate (done ++ command ∷ []) =
-      ap (λ (n : ℕ). placed_group gate done ++ placed_at n command ∷ []) so_far.place ∙ sym (placed_joined (gate + 7) done (command ∷ [])) in
-      let joined : length (flat_map record_of (done ++ command ∷ [])) ≡ length (flat_map record_of done) + length (record_of command) =
-      ap length (sym (flat_map_more record_of [] done command)) ∙ length-append (flat_map record_of done) (record_of command) in
+      let row : placed_group gate (done ++ command ∷ []) ≡ placed_group gate done ++ placed ∷ [] =
+      rw (so_far.place) (placed_joined (gate + 7) done (command ∷ [])) in
+      let joined = length-append (flat_map record_of done) (record_of command) in
       record {
         done = done ++ command ∷ [];
         all_of = so_far.all_of ∙ ap (λ l. done ++ l) cut ∙ sym (append_assoc done (command ∷ []) more);
-        accepted = rw row at (accepted_push stored_length s (placed_group gate done) placed so_far.accepted (rw so_far.state at accepts));
-        state = state ∙ ap (λ m. (step stored_length m placed).0) so_far.state ∙ sym (fold_push stored_length s (placed_group gate done) placed)
-            ∙ ap (fold stored_length s) row;
-        place = omega (arith, is, so_far.place, joined, length-record_of command);
+        accepted = rw row (accepted_push stored_length s (placed_group gate done) placed so_far.accepted (rw (one.reply, so_far.state) at accepts));
+        state = rw (row, fold_push stored_length s (placed_group gate done) placed, ← so_far.state) one.state;
+        place = grind (arith, is, so_far.place, joined, flat_map_more record_of [] done command, length-record_of command);
         have = has.1;
         room = omega (arith, is, room);
-        geometry = ends.geometry ∙ so_far.geometry;
-        segment = ends.segment ∙ so_far.segment;
-        used = inl ends.used;
+        geometry = one.at.geometry ∙ so_far.geometry;
+        segment = one.at.segment ∙ so_far.segment;
+        used = inl (rw accepts at one.at.used);
       }
 
   -- one that isn't accepted
-  pub redoing_refused : is_accepted (step stored_length x.spool.state (placed_at at command)).1 ≡ false
+  pub redoing_refused : {y : IndexState} {told : Reply} {next : ℕ} → IsStepped x y (placed_at at command) told next → is_accepted told ≡ false
       → AllAccepted stored_length old.spool.state (placed_group gate all) → ⊥
-  redoing_refused leaves accepted =
+  redoing_refused one leaves accepted =
       let done : Commands = so_far.done in
       let s : State Stored = old.spool.state in
       let row : placed_group gate all ≡ placed_group gate done ++ placed_from at (command ∷ more) =
-      ap (placed_group gate) (so_far.all_of ∙ ap (λ l. done ++ l) cut) ∙ placed_joined (gate + 7) done (command ∷ more)
-      ∙ ap (λ (n : ℕ). placed_group gate done ++ placed_from n (command ∷ more)) (sym so_far.place) in
+      rw (so_far.all_of, cut, so_far.place) (placed_joined (gate + 7) done (command ∷ more)) in
       let parts = accepted_parts stored_length s (placed_group gate done) (placed_from at (command ∷ more)) (rw row at accepted) in
-      false≢true (sym (rw so_far.state at leaves) ∙ parts.1.0)
+      false≢true (sym leaves ∙ rw (one.reply, so_far.state) parts.1.0)

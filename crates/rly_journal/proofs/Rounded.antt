@@ -1,74 +1,54 @@
 -- What a round came to: room was made for its calls or not, and then they were served, which ends in one of three ways.
 use Rattle.std.proofs.Common.{◌≡◌, ◌⊎◌, ◌+◌, ◌≤◌, ◌∷◌, ◌++◌, [], ◌∙◌, ℕ, true, false, eqb, List, length, map, arith, ap, refl, sym, inl, inr, subst, ⊎_elim}
-use Rattle.std.specs.List.{zip}
-use Rattle.std.specs.Prelude.{Err, IfSome, IsSome, None, Ok, Option, Some, not}
-use Rattle.std.proofs.lemmas.Bool.{false≢true}
-use Rattle.rly_core.specs.declared.refusal.Refusal.{Refusal}
-use Rattle.rly_core.specs.declared.refusal.Refusal.TheVariants.{DeviceRead, OutOfMemory, Unsure}
-use Rattle.rly_disk.specs.DiskModel.{Consistent, DiskState, LeavesOnly, HasFailed, Later}
-use Rattle.rly_disk.specs.Trace.{Makes, count_of, is_sync_call}
-use Rattle.rly_disk.proofs.Making.{makes_failed, makes_later, makes_syncs}
-use Rattle.rly_gate.specs.Calls.{appending}
-use Rattle.rly_gate.specs.Reading.{OnlyRead}
-use Rattle.rly_gate.proofs.Appending.{appending_writes}
-use Rattle.rly_machine.specs.declared.call.Answer.{Answer}
-use Rattle.rly_machine.specs.declared.call.Call.{Call}
-use Rattle.rly_machine.specs.declared.reply.Reply.TheVariants.{Refused}
-use Rattle.rly_machine.specs.Fold.{fold}
-use Rattle.rly_machine.specs.History.{next_state, accepted_of}
-use Rattle.rly_machine.specs.State.{State}
-use Rattle.rly_record.specs.Spelling.{body_of}
-use Rattle.rly_checkpoint.specs.Stored.{stored_length}
-use Rattle.rly_keeping.specs.Keeping.{IsKept}
-use Rattle.rly_index.specs.Index.{IndexState}
-use Rattle.rly_grouping.specs.Groups.{GroupState, group_body}
-use Rattle.rly_grouping.specs.Lying.{Commands, placed_group}
-use Rattle.rly_fetching.specs.Fetching.{AreAnswersOf, fetching, refused_as}
-use Rattle.rly_fetching.specs.Trials.{Tries}
-use Rattle.rly_fetching.proofs.Answered.{all_reads}
-use Rattle.rly_fetching.specs.declared.outcome.Outcome.{Outcome}
+use Rattle.rly_journal.proofs.Common.{accepted_of, all_reads, Answer, appending, AreLostWhereWanted, AreServed, Call, Commands, Consistent, DeviceRead}
+use Rattle.rly_journal.proofs.Common.{DiskState, Err, fetching, fold, front_all, group_body, GroupState, IndexState, IsDueFor, IsKept, IsReadied, IsRenewal}
+use Rattle.rly_journal.proofs.Common.{IsRound, IsSoundJournal, JournalState, Later, LeavesOnly, logging, Makes, makes_later, makes_syncs, MakesRound, MakesShut}
+use Rattle.rly_journal.proofs.Common.{next_state, None, nothing_tried, OnlyRead, OnlyReadsFailed, Option, Outcome, placed_group, Refusal, refusals, Refused}
+use Rattle.rly_journal.proofs.Common.{refused_as, Renewal, renewing, rounding, row_tried, Some, Stands, State, stored_length, Tail, taken_of, Tries}
+use Rattle.rly_journal.proofs.Common.{tries_joined, tries_later, Unsure, zip}
+use Rattle.std.specs.Prelude.{IfSome, IsSome, Ok, not}
+use Rattle.rly_core.specs.declared.refusal.Refusal.TheVariants.{OutOfMemory}
+use Rattle.rly_disk.proofs.Making.{makes_failed}
+use Rattle.rly_disk.proofs.Composition.{joined, later_again, rose_earlier, rose_later, weaker}
+use Rattle.rly_fetching.specs.Fetching.{AreAnswersOf}
 use Rattle.rly_fetching.proofs.TriedReads.{tried_syncs}
-use Rattle.rly_fetching.proofs.TriedRows.{nothing_tried, tries_later, row_tried, tries_joined}
-use Rattle.rly_standing.specs.declared.tail.Tail.{Tail}
-use Rattle.rly_standing.specs.Calls.{logging}
 use Rattle.rly_standing.specs.Log.{IsSameHead}
-use Rattle.rly_standing.specs.Standing.{Stands}
-use Rattle.rly_standing.proofs.Following.{front_all}
-use Rattle.rly_journal.specs.Journal.{IsSafe, JournalState, Breaks, Goes, IsDueFor, IsRound, IsShut, MakesRound, MakesShut, OnlyReadsFailed}
-use Rattle.rly_journal.specs.Rounds.{AreLostWhereWanted, refusal_of, refusals, AreServed}
-use Rattle.rly_journal.specs.HelpersJournal.{IsSoundJournal}
-use Rattle.rly_journal.specs.HelpersOutcomes.{taken_of}
-use Rattle.rly_journal.specs.HelpersReady.{IsDone, IsServed, IsReadied}
+use Rattle.rly_journal.specs.Journal.{IsSafe, Breaks, Goes, IsShut}
+use Rattle.rly_journal.specs.Rounds.{refusal_of}
+use Rattle.rly_journal.specs.HelpersReady.{IsDone, IsServed}
 use Rattle.rly_journal.proofs.Reading.{broken_sound, leaves_read, leaves_still}
-use Rattle.rly_disk.proofs.Composition.{joined, later_again, rose_earlier, weaker}
 use Rattle.rly_journal.proofs.Serving.{IsServing, alike_front, alike_now, came, crash_group, front_kept, front_written, logging_group, logging_none, shape_kept}
 use Rattle.rly_journal.proofs.Serving.{still}
 use Rattle.rly_journal.proofs.Telling.{granted, granted_each, refused_each, told_each, told_served}
-use Rattle.rly_journal.specs.Calls.{IsRenewal, Renewal, renewed, renewing, rounding}
-use Rattle.rly_journal.proofs.Counted.{alone_joined, drawn_alone, logged_alone, renewed_alone, tried_alone}
+use Rattle.rly_journal.proofs.Counted.{drawn_alone, logging_sound, round_alone}
 use Rattle.rly_journal.proofs.Rows.{two_tried, unheaded_made}
 
 -- where all calls are refused for another reason, none is lost
-pub refused_unlost : (refusal : Refusal) (position : ℕ) (s : State (List ℕ)) (calls : List Call)
-    → (Refused refusal ≡ Refused OutOfMemory → ⊥) → (Refused refusal ≡ Refused DeviceRead → ⊥)
-    → AreLostWhereWanted s (zip calls (refusals refusal position calls))
-refused_unlost refusal position s [] memory device = tt
-refused_unlost refusal position s (call ∷ calls) memory device = (
-  (λ same. absurd (memory same)),
-  (λ same. absurd (device same)),
-  refused_unlost refusal position (next_state s (call, refusal_of refusal position call)) calls memory device,
-)
+module _ (refusal : Refusal) (position : ℕ) (memory : Refused refusal ≡ Refused OutOfMemory → ⊥) (device : Refused refusal ≡ Refused DeviceRead → ⊥) where
+  pub refused_unlost : (s : State (List ℕ)) (calls : List Call) → AreLostWhereWanted s (zip calls (refusals refusal position calls))
+  refused_unlost s [] = tt
+  refused_unlost s (call ∷ calls) =
+      ((λ e. absurd (memory e)), (λ e. absurd (device e)), refused_unlost (next_state s (call, refusal_of refusal position call)) calls)
 
--- accepted commands are logged with two syncs at most
-logging_syncs : (gate : ℕ) (commands : Commands) → count_of is_sync_call (logging gate commands) ≤ 2
-logging_syncs gate [] = omega arith
-logging_syncs gate (command ∷ commands) = omega (arith, (appending_writes gate (body_of (command ∷ commands))).all_syncs)
-
--- a crash while calls are served
-done_safe : {D : Type 0} {state : D → DiskState} {old new : JournalState D} {calls : List Call} {before after : List Answer}
-    → IsDone state old new calls before after → LeavesOnly (state old.disk) (state new.disk) (λ image. Stands image old.state ⊎ Stands image new.state)
-    → IsSafe state old new calls
-done_safe {new} done leaves = record { given = done.given; target = new.state; served = done.served; leaves = leaves; running = λ whole. refl }
+-- all that follows from what serving the calls did to the device
+served_by : {D : Type 0} {state : D → DiskState} {old new : JournalState D} {calls : List Call} {before after : List Answer}
+    (done : IsDone state old new calls before after) (given : List Answer) → after ≡ before ++ given
+    → Goes state old new calls given ⊎ Breaks old new calls given → AreLostWhereWanted old.state (zip calls given) → IsSameHead old.tail new.tail
+    → ((state old.disk).honest → LeavesOnly (state old.disk) (state new.disk) (λ image. Stands image old.state ⊎ Stands image new.state))
+    → IsServed state old new calls before after
+served_by {state = state} {old} {new} {calls} done given told came wanted head leaves =
+    let later = tries_later state done.fetches done.tries in
+    let few = logging_sound old.tail.gate (accepted_of (zip calls done.given)) in
+    record {
+      answers = (given, told, came);
+      wanted = (given, told, wanted);
+      done = done;
+      failed = λ broken. rose_later (state old.disk) (makes_failed state (rw broken at done.makes)) later;
+      safe = λ honest. record { given = done.given; target = new.state; served = done.served; leaves = leaves honest; running = λ whole. refl };
+      syncs = omega (arith, makes_syncs state done.makes, few, tried_syncs state done.fetches done.tries done.reads);
+      later = later_again (makes_later state done.makes) later;
+      head = head;
+    }
 
 -- the calls were evaluated
 module _ {D : Type 0} {state : D → DiskState} {old : JournalState D} {x y : IndexState} {group : GroupState} {now : State (List ℕ)} {calls : List Call}
@@ -85,40 +65,17 @@ module _ {D : Type 0} {state : D → DiskState} {old : JournalState D} {x y : In
       → counted ≡ now.seq → IsServed state old (record old { disk = b; tail = end; state = now; position = counted }) calls before after
   well {mid} {b} {end} {counted} {before} {after} made kept answered head leaves counts =
       let given = answered.0 in
-      let later = makes_later state made in
       let all =
-      told_each (state mid) old.tail.geometry old.tail.gate x.spool.state old.state commands kept [] calls outcomes given e.done.count answered.2.count refl
-      (came e) answered.2.each in
-      let done : IsDone state old (record old { disk = b; tail = end; state = now; position = counted }) calls before after = record {
-        given = given;
-        told = λ _. answered.1;
-        served = rw e.shows
-            (told_served (state old.disk) (state mid).honest old.state calls outcomes given later.honest.1 (answered.2.count ∙ e.done.count) all.0);
-        recorded = rw all.0.taken e.done.holds.have;
-        wanted = all.0.wanted;
-        fetches = fetching outcomes given;
-        read = λ _. all.1;
-        unread = λ broken. let never : false ≡ true = sym e.going.whole ∙ broken in absurd cc;
-        reads = all_reads outcomes given;
-        mid = mid;
-        makes = rw (e.going.whole, all.0.taken) made;
-        tries = answered.3;
-      } in
-      record {
-        answers = (given, answered.1, inl (record { broken = e.going.whole; served = done.served; position = counts }));
-        wanted = (given, answered.1, all.0.wanted);
-        done = done;
-        failed = λ broken. let never : false ≡ true = sym e.going.whole ∙ broken in absurd cc;
-        safe = λ honest. done_safe done (leaves honest);
-        syncs = omega (
-          arith,
-          makes_syncs state made,
-          logging_syncs old.tail.gate commands,
-          tried_syncs state (fetching outcomes given) answered.3 (all_reads outcomes given),
-        );
-        later = later_again later (tries_later state (fetching outcomes given) answered.3);
-        head = head;
-      }
+      told_each (state mid) old.tail.geometry _ _ _ commands kept [] calls outcomes given e.done.count answered.2.count refl (came e) answered.2.each in
+      let right = (makes_later state made).honest.1 in
+      let count = answered.2.count ∙ e.done.count in
+      let served = rw (← e.shows) at (told_served (state old.disk) (state mid).honest old.state calls outcomes given right count all.0) in
+      let recorded = rw (← all.0.taken) at e.done.holds.have in
+      let makes : Makes state (logging old.tail.gate (accepted_of (zip calls given))) (not old.broken) old.disk mid = rw (e.going.whole, all.0.taken) made in
+      let unread : old.broken ≡ true → fetching outcomes given ≡ [] = λ broken. cc e.going.whole in
+      let done : IsDone state old (record old { disk = b; tail = end; state = now; position = counted }) calls before after =
+      search (answered.1, served, recorded, all, unread, all_reads outcomes given, makes, answered.3) in
+      served_by done given answered.1 (inl (record { broken = e.going.whole; served = done.served; position = counts })) all.0.wanted head leaves
 
   -- nothing was accepted
   pub none_served : {b : D} {before after : List Answer} → eqb group.count 0 ≡ true → OnlyRead (state old.disk) (state b)
@@ -128,8 +85,7 @@ module _ {D : Type 0} {state : D → DiskState} {old : JournalState D} {x y : In
       well (logging_none e none) (front_kept e none) answered (record { segment = refl; generation = refl })
       (λ honest.
       let durable = e.going.durable honest in
-      leaves_still (state old.disk) (state b) (λ image. Stands image old.state ⊎ Stands image now) durable.settled
-      (inl (durable.logged.x, durable.logged.stands, durable.logged.state)) only)
+      leaves_still _ _ _ durable.settled (inl (durable.logged.x, durable.logged.stands, durable.logged.state)) only)
       (e.going.counted ∙ ap (λ (m : State (List ℕ)). m.seq) (sym (still e none)))
 
   -- some were, and their group stands
@@ -141,9 +97,7 @@ module _ {D : Type 0} {state : D → DiskState} {old : JournalState D} {x y : In
       → IsServed state old (record old { disk = b; tail = end; state = now; position = counted }) calls before after
   some_served {mid} {b} some facts made sound is only answered =
       well (logging_group e some made) (front_written e some facts made) answered (rw is (record { segment = refl; generation = refl }))
-      (λ honest.
-      leaves_read (state old.disk) (state mid) (state b) (λ image. Stands image old.state ⊎ Stands image now) (crash_group e some made honest) only
-      ((makes_later state made).honest.1 honest))
+      (λ honest. leaves_read _ _ _ _ (crash_group e some made honest) only ((makes_later state made).honest.1 honest))
       (sound.counted e.going.whole)
 
   -- a write or a sync of it failed
@@ -151,38 +105,24 @@ module _ {D : Type 0} {state : D → DiskState} {old : JournalState D} {x y : In
     pub failed_sound : {end : Tail} → end ≡ old.tail → IsSoundJournal (state b) end y now old.position true
     failed_sound is = broken_sound (rw (is, (makes_later state made).size) (shape_kept e)) (alike_now e)
 
-    pub failed_served : {end : Tail} {before after : List Answer} → end ≡ old.tail → after ≡ before ++ map (refused_as Unsure old.position) outcomes
-        → IsServed state old (record old { disk = b; tail = end; state = now; broken = true }) calls before after
-    failed_served {end} {before} {after} is told =
+    failed_done : {end : Tail} {before after : List Answer}
+        → IsDone state old (record old { disk = b; tail = end; state = now; broken = true }) calls before after
+    failed_done {before = before} {after} =
         let given : List Answer = granted old.state [] calls outcomes in
         let all = granted_each old.tail.geometry old.tail.gate x.spool.state old.state (alike_front e) [] calls outcomes e.done.count (came e) in
-        let unsure : after ≡ before ++ refusals Unsure old.position calls =
-        told ∙ ap (λ l. before ++ l)
-        (refused_each old.tail.geometry old.tail.gate x.spool.state old.state Unsure old.position [] calls outcomes e.done.count (came e)) in
-        let done : IsDone state old (record old { disk = b; tail = end; state = now; broken = true }) calls before after = record {
-          given = given;
-          told = λ whole. let never : true ≡ false = whole in absurd cc;
-          served = rw e.shows (told_served (state old.disk) (Unit {0}) old.state calls outcomes given (λ _. tt) all.1 all.0);
-          recorded = rw all.0.taken e.done.holds.have;
-          wanted = all.0.wanted;
-          fetches = [];
-          read = λ whole. let never : true ≡ false = whole in absurd cc;
-          unread = λ _. refl;
-          reads = tt;
-          mid = b;
-          makes = rw all.0.taken (logging_group e some made);
-          tries = nothing_tried state b;
-        } in
-        record {
-          answers = (refusals Unsure old.position calls, unsure, inr (record { broken = refl; unsure = refl; position = refl }));
-          wanted = (refusals Unsure old.position calls, unsure, refused_unlost Unsure old.position old.state calls (λ same. cc) (λ same. cc));
-          done = done;
-          failed = λ _. makes_failed state made;
-          safe = λ honest. done_safe done (crash_group e some made honest);
-          syncs = omega (arith, makes_syncs state made, (appending_writes old.tail.gate (group_body group)).all_syncs);
-          later = makes_later state made;
-          head = rw is (record { segment = refl; generation = refl });
-        }
+        let served = rw (← e.shows) at (told_served (state old.disk) (Unit {0}) old.state calls outcomes given (λ _. tt) all.1 all.0) in
+        let recorded = rw (← all.0.taken) at e.done.holds.have in
+        let makes = rw (← all.0.taken) at (logging_group e some made) in
+        search (arith, served, recorded, all, makes, nothing_tried state b)
+
+    pub failed_served : {end : Tail} {before after : List Answer} → end ≡ old.tail → after ≡ before ++ map (refused_as Unsure old.position) outcomes
+        → IsServed state old (record old { disk = b; tail = end; state = now; broken = true }) calls before after
+    failed_served is told =
+        let all = refused_each old.tail.geometry old.tail.gate x.spool.state old.state Unsure old.position [] calls outcomes e.done.count (came e) in
+        let unsure = rw all at told in
+        served_by failed_done (refusals Unsure old.position calls) unsure (inr (record { broken = refl; unsure = refl; position = refl }))
+        (refused_unlost Unsure old.position (λ same. cc) (λ same. cc) old.state calls) (rw is (record { segment = refl; generation = refl }))
+        (crash_group e some made)
 
 -- ---- a round in two steps: making room, and serving its calls
 
@@ -194,105 +134,68 @@ pub record IsRounded {D : Type 0} (state : D → DiskState) (old new : JournalSt
       ⊎ ((new.state ≡ old.state) × (told : Refusal) × (after ≡ before ++ refusals told old.position calls) × MakesShut state old new calls told)
   pub any_moment : (state old.disk).honest → IsSafe state old new calls
   pub syncs : (state new.disk).syncs ≤ (state old.disk).syncs + 5
-  pub few_syncs : (IsDueFor old calls → ⊥) → (state new.disk).syncs ≤ (state old.disk).syncs + 2
+  pub calm : (IsDueFor old calls → ⊥) → ((state new.disk).syncs ≤ (state old.disk).syncs + 2) × IsSameHead old.tail new.tail
   pub opened : IsDueFor old calls → new.broken ≡ false
       → (new.tail.generation ≡ old.tail.generation + 1) ⊎ ((given : List Answer) × (after ≡ before ++ given) × IsShut old new calls given)
-  pub stays : (IsDueFor old calls → ⊥) → IsSameHead old.tail new.tail
   pub later : Later (state old.disk) (state new.disk)
 
 -- room was made, and then the calls were served
 module _ {A D : Type 0} {state : D → DiskState} {old mid new : JournalState D} {calls : List Call} {before after : List Answer} {ready : A}
     (whole : old.broken ≡ false) (room : IsReadied state old mid calls (Ok ready)) (served : IsServed state mid new calls before after) where
+  abbrev taken : Commands
+  taken = accepted_of (zip calls served.done.given)
+
   -- what was served over its disk was served over the one before, which is honest only where that is
   served_there : {given : List Answer} {s : State (List ℕ)} → AreServed (state mid.disk) calls given mid.state s
       → AreServed (state old.disk) calls given old.state s
-  served_there there = rw (← room.same) (record {
-    count = there.count;
-    legal = there.legal;
-    exact = λ honest. there.exact (room.later.honest.1 honest);
-    only = there.only;
-    state = there.state;
-  })
+  served_there there = rw (← room.same) (search (there, there.exact, room.later.honest.1))
 
-  -- the calls of the whole round
-  made_with : (opened : Option Renewal) → IfSome opened (IsRenewal (state old.disk) old.tail old.state) → (IsSome opened → IsDueFor old calls)
-      → (opened ≡ None → IsDueFor old calls → ⊥)
-      → Tries state (rounding old.tail opened (accepted_of (zip calls served.done.given)) (not new.broken)) old.disk served.done.mid
-      → MakesRound state old new calls before after
-  made_with opened renewal due unless made =
-      let done = served.done in
-      record {
-        given = done.given;
-        told = done.told;
-        served = served_there done.served;
-        recorded = done.recorded;
-        opened = opened;
-        renewal = renewal;
-        due = due;
-        unless = unless;
-        wanted = rw (← room.same) done.wanted;
-        fetches = done.fetches;
-        read = λ going. rw (← room.same) (done.read going);
-        unread = done.unread;
-        makes = tries_joined state (rounding old.tail opened (accepted_of (zip calls done.given)) (not new.broken)) done.fetches made done.tries;
-      }
+  -- where none was due nothing was done for it
+  still_there : (IsDueFor old calls → ⊥) → mid ≡ old
+  still_there none = ⊎_elim (λ calm. calm.1) (λ opened. absurd (none opened.due)) room.came.2
+
+  -- the calls up to the Fetches
+  first_made : (opened : Option Renewal) × IfSome opened (IsRenewal (state old.disk) old.tail old.state) × (IsSome opened → IsDueFor old calls)
+      × (opened ≡ None → IsDueFor old calls → ⊥) × Tries state (rounding old.tail opened taken (not new.broken)) old.disk served.done.mid
+  first_made = ⊎_elim
+      (λ calm.
+      let made = subst (λ j. Makes state (logging j.tail.gate taken) (not new.broken) j.disk served.done.mid) calm.1 served.done.makes in
+      (None, tt, (λ some. cc), (λ _. calm.0), row_tried state _ (not new.broken) made))
+      (λ opened.
+      let made = subst (λ t. Makes state (logging t.gate taken) (not new.broken) mid.disk served.done.mid) opened.tail served.done.makes in
+      (Some opened.r, opened.renewal, (λ _. opened.due), (λ none. cc), two_tried state (renewing old.tail opened.r) _ (not new.broken) opened.makes made))
+      room.came.2
+
+  all_made : Tries state (rounding old.tail first_made.0 taken (not new.broken) ++ served.done.fetches) old.disk new.disk
+  all_made = tries_joined state _ served.done.fetches first_made.4 served.done.tries
 
   round_made : MakesRound state old new calls before after
   round_made =
-      let done = served.done in
-      let commands : Commands = accepted_of (zip calls done.given) in
-      ⊎_elim
-      (λ calm. made_with None tt (λ some. absurd (false≢true some)) (λ _. calm.0)
-      (row_tried state (logging old.tail.gate commands) (not new.broken)
-      (subst (λ j. Makes state (logging j.tail.gate commands) (not new.broken) j.disk done.mid) calm.1 done.makes)))
-      (λ opened. made_with (Some opened.r) opened.renewal (λ _. opened.due) (λ still. let e : Some opened.r ≡ None = still in absurd cc)
-      (two_tried state (renewing old.tail opened.r) (logging (renewed old.tail opened.r).gate commands) (not new.broken) opened.makes
-      (subst (λ t. Makes state (logging t.gate commands) (not new.broken) mid.disk done.mid) opened.tail done.makes)))
-      room.came.2
-
-  -- where the journal goes on, none fails but reads
-  round_alone : new.broken ≡ false → OnlyReadsFailed (state old.disk) (state new.disk)
-  round_alone going =
-      let done = served.done in
-      let commands : Commands = accepted_of (zip calls done.given) in
-      let logged = logged_alone state mid.tail.gate commands
-      (subst (λ b. Makes state (logging mid.tail.gate commands) (not b) mid.disk done.mid) going done.makes) in
-      let first : OnlyReadsFailed (state old.disk) (state mid.disk) = ⊎_elim
-      (λ calm. subst (λ j. OnlyReadsFailed (state old.disk) (state j.disk)) (sym calm.1) refl)
-      (λ opened. renewed_alone state old.tail opened.r opened.makes)
-      room.came.2 in
-      alone_joined (state old.disk) (state mid.disk) (state new.disk) first
-      (alone_joined (state mid.disk) (state done.mid) (state new.disk) logged (tried_alone state done.fetches done.tries done.reads))
+      let wanted = rw room.same at served.done.wanted in
+      let read = λ (going : new.broken ≡ false). rw room.same at (served.done.read going) in
+      let served_all = served_there served.done.served in
+      search (served_all, served.done.told, served.done.recorded, served.done.unread, first_made.1, first_made.2, first_made.3, all_made, wanted, read)
 
   -- what it answers
   round_served : {given : List Answer} → Goes state mid new calls given ⊎ Breaks mid new calls given → IsRound state old new calls given
-  round_served outcome = ⊎_elim
-      (λ goes. inr (inr (inl (
-        whole,
-        record { broken = goes.broken; served = served_there goes.served; position = goes.position },
-        round_alone goes.broken,
-      ))))
-      (λ breaks. inr (inr (inr (
-        whole,
-        record { broken = breaks.broken; unsure = breaks.unsure ∙ ap (λ n. refusals Unsure n calls) room.position; position = breaks.position ∙ room.position },
-        rose_earlier (state new.disk) room.later (served.failed breaks.broken),
-      ))))
-      outcome
+  round_served outcome =
+      let alone = λ (going : new.broken ≡ false).
+      round_alone state old.tail first_made.0 taken served.done.fetches (simp going at all_made) served.done.reads in
+      elim outcome [
+        | inl goes ↦ inr (inr (inl (whole, record { broken = goes.broken; served = served_there goes.served; position = goes.position }, alone goes.broken)))
+        | inr breaks ↦
+            let rose = rose_earlier (state new.disk) room.later (served.failed breaks.broken) in
+            let unsure = rw room.position at breaks.unsure in
+            inr (inr (inr (whole, record { broken = breaks.broken; unsure = unsure; position = breaks.position ∙ room.position }, rose)))
+      ]
 
   -- a crash within it
   round_safe : (state old.disk).honest → IsSafe state old new calls
   round_safe honest =
       let safe = served.safe (room.later.honest.1 honest) in
-      record {
-        given = safe.given;
-        target = safe.target;
-        served = served_there safe.served;
-        leaves = weaker (λ image. Stands image old.state ⊎ (Stands image old.state ⊎ Stands image safe.target))
-            (λ image. Stands image old.state ⊎ Stands image safe.target) (λ image. ⊎_elim (λ before. inl before) (λ now. now))
-            (joined (λ image. Stands image old.state) (λ image. Stands image old.state ⊎ Stands image safe.target) (room.any_moment honest)
-            (rw (← room.same) safe.leaves));
-        running = safe.running;
-      }
+      let leaves : LeavesOnly (state old.disk) (state new.disk) (λ image. Stands image old.state ⊎ Stands image safe.target) =
+      weaker _ _ (λ image. ⊎_elim (λ before. inl before) (λ now. now)) (joined _ _ (room.any_moment honest) (rw room.same at safe.leaves)) in
+      search (served_there safe.served, leaves, safe.running)
 
   pub well_rounded : IsRounded state old new calls before after
   well_rounded = record {
@@ -301,17 +204,10 @@ module _ {A D : Type 0} {state : D → DiskState} {old mid new : JournalState D}
     trace = inl round_made;
     any_moment = round_safe;
     syncs = omega (arith, room.syncs, served.syncs);
-    few_syncs = λ none. ⊎_elim
-        (λ calm. omega (arith, ap (λ j. (state j.disk).syncs) calm.1, served.syncs))
-        (λ opened. absurd (none opened.due))
-        room.came.2;
+    calm = λ none. (rw (still_there none) at served.syncs, rw (still_there none) at served.head);
     opened = λ due going. ⊎_elim
         (λ calm. absurd (calm.0 due))
         (λ opened. inl (served.head.generation ∙ ap (λ t. t.generation) opened.tail))
-        room.came.2;
-    stays = λ none. ⊎_elim
-        (λ calm. subst (λ j. IsSameHead j.tail new.tail) calm.1 served.head)
-        (λ opened. absurd (none opened.due))
         room.came.2;
     later = later_again room.later served.later;
   }
@@ -319,71 +215,45 @@ module _ {A D : Type 0} {state : D → DiskState} {old mid new : JournalState D}
 -- calls that are all refused memory
 starved : (disk : DiskState) (s : State (List ℕ)) (calls : List Call) → AreServed disk calls (refusals OutOfMemory s.seq calls) s s
 starved disk s [] = record { count = refl; legal = tt; exact = λ _. tt; only = tt; state = refl }
-starved disk s (call ∷ calls) =
-    let rest = starved disk s calls in
-    record {
-      count = omega (arith, rest.count);
-      legal = (record { seat = refl; number = refl; reply = λ real. absurd (false≢true (sym real)); position = refl; harm = omega arith }, rest.legal);
-      exact = λ honest.
-          (record { seat = refl; number = refl; reply = λ real. absurd (false≢true (sym real)); position = refl; harm = omega arith }, rest.exact honest);
-      only = (λ _. inl refl, rest.only);
-      state = rest.state;
-    }
+starved disk s (call ∷ calls) = let rest = starved disk s calls in grind (arith, rest.count, rest.legal, rest.exact, rest.only, rest.state)
 
 -- no segment was opened where one was due, and all calls were refused
 module _ {A D : Type 0} {state : D → DiskState} {old new : JournalState D} {calls : List Call} {refusal : Refusal} (whole : old.broken ≡ false)
     (shut : IsReadied {A = A} state old new calls (Err refusal)) where
+  abbrev given : List Answer
+  given = refusals refusal old.position calls
+
   -- the journal goes on, or it is broken
-  shut_or_broken : (IsShut old new calls (refusals refusal old.position calls) × OnlyReadsFailed (state old.disk) (state new.disk))
-      ⊎ ((refusal ≡ Unsure) × (new.broken ≡ true) × HasFailed (state old.disk) (state new.disk))
-  shut_or_broken = ⊎_elim
-      (λ memory. inl ((shut.came.1 memory.1, inl (told_as memory.0)), drawn_alone state old.tail shut.came.0.r true memory.2))
-      (λ rest. ⊎_elim
-      (λ read. inl ((shut.came.1 read.1, inr (told_as read.0)), drawn_alone state old.tail shut.came.0.r false (front_all state read.2)))
-      (λ failed. inr (failed.0, failed.1, makes_failed state (unheaded_made state old.tail shut.came.0.r failed.2)))
-      rest)
-      shut.came.0.makes
+  shut_came : IsRound state old new calls given × (AreLostWhereWanted old.state (zip calls given) ⊎ IsShut old new calls given)
+      × (new.broken ≡ false → IsShut old new calls given)
+  shut_came = elim shut.came.0.makes [
+    | inl memory ↦ stays (shut.came.1 memory.1, rw memory.0 (inl refl)) (drawn_alone state old.tail shut.came.0.r memory.2)
+    | inr (inl read) ↦ stays (shut.came.1 read.1, rw read.0 (inr refl)) (drawn_alone state old.tail shut.came.0.r (front_all state read.2))
+    | inr (inr failed) ↦
+        let rose = makes_failed state (unheaded_made state old.tail shut.came.0.r failed.2) in
+        let unlost = refused_unlost Unsure old.position (λ same. cc) (λ same. cc) old.state calls in
+        let breaks : Breaks old new calls given = record { broken = failed.1; unsure = rw failed.0 refl; position = shut.position } in
+        (inr (inr (inr (whole, breaks, rose))), inl (rw failed.0 unlost), (λ going. cc failed.1))
+  ]
     where
-      told_as : {told : Refusal} → refusal ≡ told → refusals refusal old.position calls ≡ refusals told old.position calls
-      told_as is = ap (λ r. refusals r old.position calls) is
+      stays : IsShut old new calls given → OnlyReadsFailed (state old.disk) (state new.disk) → IsRound state old new calls given
+          × (AreLostWhereWanted old.state (zip calls given) ⊎ IsShut old new calls given) × (new.broken ≡ false → IsShut old new calls given)
+      stays is alone = (inr (inl (whole, is, alone)), inr is, λ _. is)
 
   pub shut_rounded : {before after : List Answer} → after ≡ before ++ refusals refusal old.position calls → IsRounded state old new calls before after
-  shut_rounded told =
-      let given : List Answer = refusals refusal old.position calls in
-      record {
-        answers = (
-          given,
-          told,
-          ⊎_elim
-              (λ shut. inr (inl (whole, shut.0, shut.1)))
-              (λ broken. inr (inr (inr (
-                whole,
-                record { broken = broken.1; unsure = ap (λ r. refusals r old.position calls) broken.0; position = shut.position },
-                broken.2,
-              ))))
-              shut_or_broken,
-        );
-        lost = (
-          given,
-          told,
-          ⊎_elim
-              (λ shut. inr shut.0)
-              (λ broken. inl (rw broken.0 (refused_unlost Unsure old.position old.state calls (λ same. cc) (λ same. cc))))
-              shut_or_broken,
-        );
-        trace = inr (shut.same, refusal, told, shut.came.0);
-        any_moment = λ honest. record {
-          given = refusals OutOfMemory old.state.seq calls;
-          target = old.state;
-          served = starved (state old.disk) old.state calls;
-          leaves = weaker (λ image. Stands image old.state) (λ image. Stands image old.state ⊎ Stands image old.state) (λ image stands. inl stands)
-              (shut.any_moment honest);
-          running = λ _. sym shut.same;
-        };
-        syncs = omega (arith, shut.syncs);
-        few_syncs = λ none. absurd (none shut.came.0.due);
-        opened = λ due going.
-            inr (given, told, ⊎_elim (λ shut. shut.0) (λ broken. let never : true ≡ false = sym broken.1 ∙ going in absurd cc) shut_or_broken);
-        stays = λ none. absurd (none shut.came.0.due);
-        later = shut.later;
-      }
+  shut_rounded told = record {
+    answers = (given, told, shut_came.0);
+    lost = (given, told, shut_came.1);
+    trace = inr (shut.same, refusal, told, shut.came.0);
+    any_moment = λ honest. record {
+      given = refusals OutOfMemory old.state.seq calls;
+      target = old.state;
+      served = starved (state old.disk) old.state calls;
+      leaves = weaker _ _ (λ image stands. inl stands) (shut.any_moment honest);
+      running = λ _. sym shut.same;
+    };
+    syncs = omega (arith, shut.syncs);
+    calm = λ none. absurd (none shut.came.0.due);
+    opened = λ due going. inr (given, told, shut_came.2 going);
+    later = shut.later;
+  }

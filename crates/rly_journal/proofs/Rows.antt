@@ -1,19 +1,15 @@
 -- A row of calls that was made whole, and another one after it.
-use Rattle.std.proofs.Common.{◌≡◌, ◌++◌, ◌∷◌, [], ◌∙◌, Bool, true, false, List, ap, subst, sym}
-use Rattle.std.proofs.lemmas.List.{append-nil}
-use Rattle.rly_disk.specs.DiskModel.{DiskState}
-use Rattle.rly_disk.specs.Trace.{DeviceEvent, IsMade, Makes, is_spent}
+use Rattle.std.proofs.Common.{◌≡◌, ◌++◌, ◌∷◌, [], ◌∙◌, Bool, true, false, List, ap}
+use Rattle.rly_journal.proofs.Common.{append-nil, DeviceEvent, DiskState, drawing_for, heading, is_spent, Makes, Renewal, renewing, row_tried, Tail, Tries}
+use Rattle.rly_journal.proofs.Common.{tries_joined, unheaded}
 use Rattle.rly_disk.proofs.Traces.{cut_behind}
-use Rattle.rly_fetching.specs.Trials.{Tries, row_of}
-use Rattle.rly_fetching.proofs.TriedRows.{row_tried, tries_joined}
-use Rattle.rly_standing.specs.declared.tail.Tail.{Tail}
-use Rattle.rly_journal.specs.Calls.{Renewal, drawing_for, heading, renewing, unheaded}
+use Rattle.rly_fetching.specs.Trials.{row_of}
 
 module _ {D : Type 0} (state : D → DiskState) {a b : D} where
   pub two_tried : {m : D} (first second : List DeviceEvent) (whole : Bool) → Makes state first true a m → Makes state second whole m b
       → Tries state (row_of first true ∷ row_of second whole ∷ []) a b
   two_tried first second whole one two =
-      tries_joined state (row_of first true ∷ []) (row_of second whole ∷ []) (row_tried state first true one) (row_tried state second whole two)
+      tries_joined state _ _ (row_tried state first true one) (row_tried state second whole two)
 
   -- both as one row
   pub unheaded_made : (tail : Tail) (r : Renewal) → Tries state (unheaded tail r) a b → Makes state (renewing tail r) false a b
@@ -25,6 +21,6 @@ module _ {D : Type 0} (state : D → DiskState) {a b : D} where
       record {
         events = tries.events;
         leads = tries.leads;
-        made = subst (IsMade false (is_spent (state b)) (renewing tail r)) (sym all) (cut_behind (is_spent (state b)) first (heading tail r) u.0 u.3);
+        made = rw all (cut_behind (is_spent (state b)) first (heading tail r) u.0 u.3);
         untouched = tries.untouched;
       }

@@ -1,62 +1,42 @@
 -- In which segments a spool of places has its payloads, and in which what was read of an image has them.
-use Rattle.std.proofs.Common.{◌≡◌, ◌≢◌, ◌≤◌, ◌+◌, ◌*◌, ◌-◌, ◌++◌, ◌∷◌, [], ◌∙◌, ℕ, List, length, length-append, map, arith, sym, ap, refl, ◌<◌, ◌^◌, subst}
-use Rattle.std.specs.List.{flat_map}
-use Rattle.std.proofs.lemmas.Grind.{flat_map-append}
-use Rattle.rly_core.specs.declared.params.Geometry.{Geometry}
-use Rattle.rly_machine.specs.declared.hop.Item.{Item}
-use Rattle.rly_machine.specs.Map.{map_hop, map_item, map_state, map_command, payload_of, payloads_of}
-use Rattle.rly_machine.specs.State.{HopState, State}
-use Rattle.rly_machine.proofs.Lifting.{state_twice}
-use Rattle.rly_checkpoint.specs.Checkpoint.{entry_spelled, hop_spelled, state_spelled}
-use Rattle.rly_checkpoint.specs.Stored.{stored_form_of, stored_length, stored_spelled}
-use Rattle.rly_checkpoint.specs.Widths.{entry_width, hop_width}
-use Rattle.rly_checkpoint.specs.declared.head_form.HeadForm.{HeadForm}
-use Rattle.rly_checkpoint.specs.declared.head_form.HeadForm.TheVariants.{Second}
-use Rattle.rly_checkpoint.specs.declared.stored.Place.{Place}
-use Rattle.rly_checkpoint.specs.declared.stored.Stored.{Stored}
-use Rattle.rly_checkpoint.specs.declared.stored.Stored.TheVariants.{Inline, Placed}
+use Rattle.std.proofs.Common.{◌≡◌, ◌≢◌, ◌≤◌, ◌+◌, ◌-◌, ◌++◌, ◌∷◌, [], ◌∙◌, ℕ, List, length, length-append, arith, sym, ap, refl, ◌<◌, ◌^◌, subst}
+use Rattle.rly_journal.proofs.Common.{All, All-cons, All-nil, AllAccepted, blank, body_of, Command, Commands, drawn_state, first_of, flat_map, fold, Geometry}
+use Rattle.rly_journal.proofs.Common.{group_of, HaveBody, HeadForm, HopState, Inline, inline_length, IsBrought, IsLogged, IsSameButForBytes, IsScanned}
+use Rattle.rly_journal.proofs.Common.{IsStanding, IsTaggedIn, Item, length-frame, LiesApart, LiesThere, logged_within, map_command, map_state, maps_same}
+use Rattle.rly_journal.proofs.Common.{MayMove, moved_state, none_each, overwritten, payloads_of, payloads_sum, Place, Placed, placed_at, placed_brought}
+use Rattle.rly_journal.proofs.Common.{placed_from, placed_group, record_length, record_of, Reply, SameOutside, Second, segment_end, segment_place}
+use Rattle.rly_journal.proofs.Common.{settled_state, Standing, standing_once, StandsAt, State, state_spelled, state_twice, step, Stored, stored_length}
+use Rattle.rly_journal.proofs.Common.{stored_spelled, Tail, unread, with_group}
+use Rattle.byteorder.specs.Endian.{big_bytes}
+use Rattle.rly_machine.specs.Map.{payload_of}
+use Rattle.rly_checkpoint.specs.Checkpoint.{entry_spelled, hop_spelled}
+use Rattle.rly_checkpoint.specs.Stored.{stored_form_of}
+use Rattle.rly_checkpoint.specs.Widths.{entry_width}
 use Rattle.rly_checkpoint.proofs.Parts.{length-entry}
-use Rattle.rly_checkpoint.proofs.Sizes.{length-hop, length-numbers, length-parts}
+use Rattle.rly_checkpoint.proofs.Sizes.{length-numbers, length-parts}
 use Rattle.rly_places.specs.Places.{segment_of, bytes_in, live_in}
-use Rattle.rly_places.specs.Room.{drawn_state, inline_length}
-use Rattle.rly_places.proofs.Emptying.{in_segment, none_each, payloads_sum}
-use Rattle.rly_places.proofs.Weights.{maps_same}
-use Rattle.rly_segment.specs.Heads.{segment_end, segment_place}
-use Rattle.rly_segment.specs.Settling.{settled, settled_hop, settled_hops, settled_items, settled_state}
-use Rattle.rly_moving.specs.Moving.{MayMove, moved_state, unread, LiesThere}
-use Rattle.rly_drawing.specs.Drawing.{IsSameButForBytes, blank, blank_state}
+use Rattle.rly_places.proofs.Emptying.{in_segment}
+use Rattle.rly_segment.specs.Settling.{settled}
+use Rattle.rly_segment.proofs.Settling.{maps_settled}
+use Rattle.rly_drawing.specs.Drawing.{blank_state}
 use Rattle.rly_drawing.proofs.Blank.{blank_length}
-use Rattle.rly_keeping.proofs.Lying.{none_there, LiesApart, all_there, astray, between_other, elsewhere_apart, not_astray_there, there_not_astray}
-use Rattle.rly_journal.specs.HelpersJournal.{tagged, IsTagged, IsTaggedIn}
-use Rattle.std.specs.Prelude.{All}
-use Rattle.std.proofs.lemmas.List.Elements.{All-cons, All-head, All-nil}
-use Rattle.rly_disk.specs.DiskModel.{SameOutside, overwritten}
+use Rattle.rly_keeping.proofs.Lying.{none_there, all_there, astray, between_other, elsewhere_apart, not_astray_there, there_not_astray}
+use Rattle.rly_journal.specs.HelpersJournal.{tagged, IsTagged}
+use Rattle.std.proofs.lemmas.List.Elements.{All-head}
 use Rattle.rly_disk.proofs.Overwritten.{overwritten_outside}
 use Rattle.rly_disk.proofs.Ranges.{part-overwritten}
-use Rattle.rly_gate.specs.Group.{StandsAt, group_of}
-use Rattle.rly_gate.proofs.Frames.{length-frame}
-use Rattle.rly_machine.specs.declared.command.Command.{Command}
-use Rattle.rly_machine.specs.declared.command.Command.TheVariants.{Take, Pick, Release}
-use Rattle.rly_machine.specs.declared.reply.Reply.{Reply}
-use Rattle.rly_machine.specs.Fold.{AllAccepted, fold}
-use Rattle.rly_machine.specs.Step.{step}
+use Rattle.rly_machine.specs.declared.command.Command.TheVariants.{Take}
 use Rattle.rly_machine.proofs.Alike.{bytes_alike}
 use Rattle.rly_machine.proofs.Mapping.{mapped_step}
-use Rattle.rly_record.specs.Spelling.{HaveBody, body_of, record_length, record_of}
 use Rattle.rly_places.specs.Placed.{LiesElsewhere}
 use Rattle.rly_places.proofs.Placing.{segment_once}
-use Rattle.rly_keeping.specs.Keeping.{IsBrought, LiesBetween}
+use Rattle.rly_keeping.specs.Keeping.{LiesBetween}
 use Rattle.rly_keeping.proofs.Stepping.{step_none}
-use Rattle.rly_grouping.specs.Lying.{Commands, lying_at, placed_at, placed_from, placed_group}
-use Rattle.rly_grouping.proofs.Brought.{placed_brought}
-use Rattle.rly_standing.specs.declared.tail.Tail.{Tail}
-use Rattle.rly_standing.specs.Log.{IsLogged}
-use Rattle.rly_standing.specs.Standing.{IsScanned, IsStanding, Standing, first_of, gate_of, standing_end, state_in, stored_after, stored_commands, stored_in}
-use Rattle.rly_standing.proofs.Appending.{logged_within}
+use Rattle.rly_grouping.specs.Lying.{lying_at}
+use Rattle.rly_standing.specs.Standing.{gate_of, standing_end, state_in, stored_after, stored_commands, stored_in}
 use Rattle.rly_standing.proofs.Frame.{gate_above}
-use Rattle.rly_standing.proofs.Growing.{appended, with_group}
-use Rattle.rly_standing.proofs.Once.{standing_once}
-use Rattle.rly_journal.proofs.Redone.{body_size, length_cons, records_size}
+use Rattle.rly_standing.proofs.Growing.{appended}
+use Rattle.rly_journal.proofs.Redone.{records_size}
 
 -- ---- how long what is spelled is
 
@@ -65,70 +45,33 @@ module _ (which : HeadForm) where
   form_least (Inline payload) = omega arith
   form_least (Placed place) = omega arith
 
-  abbrev entries : List (Item Stored) → List ℕ
-  entries = flat_map (entry_spelled stored_length (stored_spelled which))
+  abbrev entry : Item Stored → List ℕ
+  entry = entry_spelled stored_length (stored_spelled which)
 
   abbrev spelled_hop : HopState Stored → List ℕ
   spelled_hop = hop_spelled stored_length (stored_spelled which)
-
-  entries_both : (xs ys : List (Item Stored)) → length (entries (xs ++ ys)) ≡ length (entries xs) + length (entries ys)
-  entries_both xs ys =
-      let one : Item Stored → List ℕ = entry_spelled stored_length (stored_spelled which) in
-      ap (λ (l : List ℕ). length l) (flat_map-append one xs ys) ∙ length-append (flat_map one xs) (flat_map one ys)
 
   -- ---- in any segment but the head's own
 
   module _ (g : Geometry) (segment u : ℕ) (other : u ≢ segment) where
     one_tagged : (at : ℕ) (p : Stored) → segment_place g segment ≤ at → at + inline_length p ≤ segment_end g segment → tagged g u (settled at p) ≡ tagged g u p
-    one_tagged at (Inline []) above within = refl
     one_tagged at (Inline (byte ∷ bytes)) above within =
         let place : Place = record { start = at; length = length (byte ∷ bytes) } in
         let here : segment_of g at ≡ segment = in_segment g segment (at - 64) (omega (arith, above)) (omega (arith, above, within)) in
         λ i. (length (byte ∷ bytes), none_there g u place (λ same. other (sym same ∙ here)) i)
-    one_tagged at (Placed place) above within = refl
-
-    items_tagged : (at : ℕ) (items : List (Item Stored)) → segment_place g segment ≤ at → at + length (entries items) ≤ segment_end g segment
-        → map (map_item (tagged g u)) (settled_items which at items) ≡ map (map_item (tagged g u)) items
-    items_tagged at [] above within = refl
-    items_tagged at (item ∷ items) above within =
-        let next : ℕ = at + length (entry_spelled stored_length (stored_spelled which) item) in
-        let size = length-entry stored_length (stored_spelled which) item in
-        let parts = length_cons (entry_spelled stored_length (stored_spelled which)) item items in
-        let one = one_tagged (at + entry_width which) item.payload (omega (arith, above)) (omega (arith, within, parts, size, form_least item.payload)) in
-        let rest = items_tagged next items (omega (arith, above)) (omega (arith, within, parts)) in
-        λ i. record { id = item.id; stamp = item.stamp; limit = item.limit; payload = one i } ∷ rest i
-
-    hop_tagged : (at : ℕ) (h : HopState Stored) → segment_place g segment ≤ at → at + length (spelled_hop h) ≤ segment_end g segment
-        → map_hop (tagged g u) (settled_hop which at h) ≡ map_hop (tagged g u) h
-    hop_tagged at h above within =
-        let size = length-hop stored_length (stored_spelled which) h in
-        let both = entries_both h.flight h.queue in
-        let flight = items_tagged (at + hop_width which) h.flight (omega (arith, above)) (omega (arith, within, size, both)) in
-        let queue = items_tagged (at + hop_width which + length (entries h.flight)) h.queue (omega (arith, above)) (omega (arith, within, size, both)) in
-        λ i. record (map_hop (tagged g u) h) { queue = queue i; flight = flight i }
-
-    hops_tagged : (at : ℕ) (hops : List (HopState Stored)) → segment_place g segment ≤ at → at + length (flat_map spelled_hop hops) ≤ segment_end g segment
-        → map (map_hop (tagged g u)) (settled_hops which at hops) ≡ map (map_hop (tagged g u)) hops
-    hops_tagged at [] above within = refl
-    hops_tagged at (h ∷ hops) above within =
-        let parts = length_cons spelled_hop h hops in
-        let one = hop_tagged at h above (omega (arith, within, parts)) in
-        let rest = hops_tagged (at + length (spelled_hop h)) hops (omega (arith, above)) (omega (arith, within, parts)) in
-        λ i. one i ∷ rest i
+    one_tagged at p above within = refl
 
     -- the head has nothing there but what it has by place, before it settles and after
     pub head_tagged : (s : State Stored) → 13 + length (state_spelled stored_length (stored_spelled which) s) ≤ g.length
         → map_state (tagged g u) (settled_state which g segment s) ≡ map_state (tagged g u) s
     head_tagged s room =
-        let hops = hops_tagged (segment_place g segment + 21 + 8 * length s.lasts) s.hops (omega arith)
-        (omega (arith, room, length-parts stored_length (stored_spelled which) s, length-numbers s.lasts)) in
-        λ i. record { params = s.params; hops = hops i; lasts = s.lasts; seq = s.seq }
+        maps_settled (λ at bytes. (segment_place g segment ≤ at) × (at + length bytes ≤ segment_end g segment))
+        (λ at a b in_both. search (arith, length-append a b)) which (tagged g u) (tagged g u)
+        (λ at item lies. let size = length-entry stored_length (stored_spelled which) item in
+        one_tagged (at + entry_width which) item.payload (omega (arith, lies)) (omega (arith, lies, size, form_least item.payload)))
+        g segment s (omega arith, omega (arith, room, length-parts stored_length (stored_spelled which) s, length-numbers s.lasts))
 
 -- ---- where the victim's payloads moved, there is in each other segment what the copy has there
-
-blank_tagged : (g : Geometry) (u : ℕ) (p : Stored) → tagged g u (blank p) ≡ tagged g u p
-blank_tagged g u (Inline payload) = λ i. (blank_length (Inline payload) i, 0)
-blank_tagged g u (Placed place) = refl
 
 pub moved_tagged : (g : Geometry) (target victim : ℕ) (s copy : State Stored) → MayMove g target victim s
     → IsSameButForBytes copy (drawn_state g victim unread s)
@@ -138,7 +81,7 @@ moved_tagged g target victim s copy may like u other =
     ∙ ap (λ (v : State Stored). map_state (tagged g u) v) (sym like) ∙ blanked copy
   where
     blanked : (v : State Stored) → map_state (tagged g u) (blank_state v) ≡ map_state (tagged g u) v
-    blanked v = state_twice (tagged g u) blank v ∙ maps_same (λ p. tagged g u (blank p)) (tagged g u) (blank_tagged g u) v
+    blanked v = state_twice (tagged g u) blank v ∙ maps_same (λ p. tagged g u (blank p)) (tagged g u) (λ p. grind (arith, blank_length p)) v
 
 -- ---- what was read, by the numbers of the end
 
@@ -163,44 +106,30 @@ written_there {old} place bytes written fits = rw written (overwritten_outside p
 
 -- ---- commands
 
-module _ (g : Geometry) (t : ℕ) where
-  -- what is alike goes on alike
-  step_tagged : (s u : State Stored) (c d : Command Stored) → map_state (tagged g t) s ≡ map_state (tagged g t) u
-      → map_command (tagged g t) c ≡ map_command (tagged g t) d
-      → map_state (tagged g t) (step stored_length s c).0 ≡ map_state (tagged g t) (step stored_length u d).0
-  step_tagged s u c d same alike = sym (mapped s c) ∙ (λ i. (step (λ q. q.0) (same i) (alike i)).0) ∙ mapped u d
-    where
-      mapped : (v : State Stored) (e : Command Stored)
-          → (step (λ q. q.0) (map_state (tagged g t) v) (map_command (tagged g t) e)).0 ≡ map_state (tagged g t) (step stored_length v e).0
-      mapped v e = ap (λ (r : State (ℕ × ℕ) × Reply). r.0) (mapped_step stored_length (λ q. q.0) (tagged g t) (λ p. refl) v e)
-
-  -- a payload that lies in another segment, and the same inline
-  lying_tagged : (at : ℕ) (payload : List ℕ) → bytes_in g t (lying_at at payload) ≡ 0 → tagged g t (lying_at at payload) ≡ tagged g t (Inline payload)
-  lying_tagged at [] none = refl
-  lying_tagged at (byte ∷ bytes) none = λ i. (length (byte ∷ bytes), none i)
-
-  command_tagged : (segment used next place : ℕ) (command : Command (List ℕ)) → t ≢ segment → IsBrought g segment used next (placed_at place command)
+module _ (g : Geometry) (t segment : ℕ) (other : t ≢ segment) (there : segment < g.segments) where
+  command_tagged : (used next place : ℕ) (command : Command (List ℕ)) → IsBrought g segment used next (placed_at place command)
       → map_command (tagged g t) (placed_at place command) ≡ map_command (tagged g t) (map_command Inline command)
-  command_tagged segment used next place (Take peer number hop stamp limit payload) other brought =
-      let lies = All-head (LiesBetween used next) (lying_at (place + 23) payload) [] brought.lies in
-      let none = between_other g segment used next brought.there brought.from brought.to t other (lying_at (place + 23) payload) lies in
-      λ i. Take peer number hop stamp limit (lying_tagged (place + 23) payload none i)
-  command_tagged segment used next place (Pick hop now) other brought = refl
-  command_tagged segment used next place (Release hop number) other brought = refl
+  command_tagged used next place (Take peer number hop stamp limit (byte ∷ bytes)) brought =
+      let lies = All-head (LiesBetween used next) (lying_at (place + 23) (byte ∷ bytes)) [] brought.lies in
+      let none = between_other g segment used next brought.there brought.from brought.to t other (lying_at (place + 23) (byte ∷ bytes)) lies in
+      λ i. Take peer number hop stamp limit (length (byte ∷ bytes), none i)
+  command_tagged used next place _ brought = refl
 
   -- the commands of a group in another segment
-  fold_tagged : (segment place : ℕ) (commands : Commands) (s u : State Stored) → t ≢ segment → segment < g.segments → segment_place g segment ≤ place
+  fold_tagged : (place : ℕ) (commands : Commands) (s u : State Stored) → segment_place g segment ≤ place
       → place + length (flat_map record_of commands) ≤ segment_end g segment → map_state (tagged g t) s ≡ map_state (tagged g t) u
       → map_state (tagged g t) (fold stored_length s (placed_from place commands)) ≡ map_state (tagged g t) (fold stored_length u (stored_commands commands))
-  fold_tagged segment place [] s u other there above within same = same
-  fold_tagged segment place (command ∷ commands) s u other there above within same =
+  fold_tagged place [] s u above within same = same
+  fold_tagged place (command ∷ commands) s u above within same =
       let size = records_size command commands in
       let next : ℕ = place + record_length length command in
       let placed : Command Stored = placed_at place command in
       let brought = placed_brought g segment place place command there above (omega arith) (omega (arith, within, size)) in
-      fold_tagged segment next commands (step stored_length s placed).0 (step stored_length u (map_command Inline command)).0
-      other there (omega (arith, above)) (omega (arith, within, size))
-      (step_tagged s u placed (map_command Inline command) same (command_tagged segment place next place command other brought))
+      let alike = command_tagged place next place command brought in
+      let mapped = mapped_step stored_length (λ (q : ℕ × ℕ). q.0) (tagged g t) (λ p. refl) in
+      fold_tagged next commands (step stored_length s placed).0 (step stored_length u (map_command Inline command)).0
+      (omega (arith, above)) (omega (arith, within, size))
+      (ap (λ (r : State (ℕ × ℕ) × Reply). r.0) (sym (mapped s placed) ∙ (λ i. step (λ q. q.0) (same i) (alike i)) ∙ mapped u (map_command Inline command)))
 
 -- ---- a group more
 
@@ -214,9 +143,9 @@ pub tagged_more : {image : List ℕ} (x : Standing) (s : State Stored) (gate : �
     → IsTagged (with_group x commands) (fold stored_length s (placed_group gate commands))
 tagged_more x s gate commands scanned is room same t other =
     let above : segment_place x.geometry x.segment ≤ gate = omega (arith, is, gate_above (first_of x) x.groups) in
-    fold_tagged x.geometry t x.segment (gate + 7) commands s (stored_in x) other scanned.newest.there (omega (arith, above))
-    (omega (arith, room, body_size commands)) (same t other)
-    ∙ ap (λ (v : State Stored). map_state (tagged x.geometry t) v) (sym (stored_more x.head x.groups commands))
+    rw (stored_more x.head x.groups commands)
+    (fold_tagged x.geometry t x.segment other scanned.newest.there (gate + 7) commands s (stored_in x) (omega (arith, above))
+    (omega (arith, room, length-append (big_bytes 2 (length commands)) (flat_map record_of commands))) (same t other))
 
 -- the accepted commands of a round were written as a group at the end: what was tagged is tagged, where the spool went on by them
 pub tagged_appended : {old new : List ℕ} {tail : Tail} {s : State (List ℕ)} (commands : Commands) (places : State Stored) → IsLogged old tail s
@@ -229,14 +158,11 @@ tagged_appended {old} {new} {tail} {s} commands places logged have accepted few 
     let bytes : List ℕ = group_of (body_of commands) in
     let stands : IsStanding old x = standing_there logged in
     let gate : tail.gate ≡ gate_of x = logged.ends.gate ∙ ap gate_of (same_at logged) in
-    let state = logged.state ∙ ap state_in (same_at logged) in
+    let accepts = rw (logged.state ∙ ap state_in (same_at logged)) at accepted in
     let framed = length-frame (body_of commands) in
-    let there = written_there tail.gate bytes written (omega (arith, framed, room, logged_within old tail s logged)) in
-    let grown : IsStanding new (with_group x commands) =
-    appended x commands stands have (subst (λ r. AllAccepted length r commands) state accepted) few (omega (arith, gate, room, framed))
-    (subst (λ p. SameOutside p (length bytes) old new) gate there.0) (subst (λ p. StandsAt new p bytes) gate there.1) in
-    subst (λ (z : Standing). IsTagged z (fold stored_length places (placed_group tail.gate commands))) (standing_once (with_group x commands) y grown reads)
-    (tagged_more x places tail.gate commands stands.scanned gate room (before x stands))
+    let there = rw gate at (written_there tail.gate bytes written (omega (arith, framed, room, logged_within old tail s logged))) in
+    let grown : IsStanding new (with_group x commands) = appended x commands stands have accepts few (omega (arith, gate, room, framed)) there.0 there.1 in
+    rw (← standing_once (with_group x commands) y grown reads) (tagged_more x places tail.gate commands stands.scanned gate room (before x stands))
 
 -- ---- a segment into which nothing lies
 
@@ -251,10 +177,8 @@ apart_elsewhere g t s all k d lt = one _ (all k d lt)
     one (Inline payload) lies = tt
     one (Placed place) lies =
         let there = lies.0.1 in
-        let apart : there.0 ≢ t = λ same.
-        let here : segment_of g place.start ≡ t = segment_once g there.0 place lies.0.0 there.1 ∙ same in
-        omega (arith, lies.0.0, lies.1, all_there g t place here) in
-        (lies.0.0, (there.0, apart, there.1))
+        let once = segment_once g there.0 place lies.0.0 there.1 in
+        (lies.0.0, (there.0, (λ same. omega (arith, lies.0.0, lies.1, all_there g t place (once ∙ same))), there.1))
 
 module _ (g : Geometry) where
   abbrev None : Stored → Type 0
@@ -262,28 +186,22 @@ module _ (g : Geometry) where
 
   brought_there : (command : Command (List ℕ)) → All None (payload_of (map_command Inline command))
   brought_there (Take peer number hop stamp limit payload) = All-cons None (Inline payload) [] refl (All-nil None)
-  brought_there (Pick hop now) = All-nil None
-  brought_there (Release hop number) = All-nil None
-
-  commands_there : (s : State Stored) (commands : Commands) → All None (payloads_of s)
-      → All None (payloads_of (fold stored_length s (stored_commands commands)))
-  commands_there s [] all = all
-  commands_there s (command ∷ commands) all =
-      commands_there (step stored_length s (map_command Inline command)).0 commands
-      (step_none (astray g) s (map_command Inline command) all (brought_there command))
+  brought_there _ = All-nil None
 
   groups_there : (s : State Stored) (groups : List Commands) → All None (payloads_of s) → All None (payloads_of (stored_after s groups))
   groups_there s [] all = all
-  groups_there s (commands ∷ groups) all = groups_there (fold stored_length s (stored_commands commands)) groups (commands_there s commands all)
+  groups_there s ([] ∷ groups) all = groups_there s groups all
+  groups_there s ((command ∷ commands) ∷ groups) all =
+      groups_there (step stored_length s (map_command Inline command)).0 (commands ∷ groups)
+      (step_none (astray g) s (map_command Inline command) all (brought_there command))
 
 -- where a spool that is tagged has no live bytes in another segment, no payload that was read lies there
 pub tagged_free : {image : List ℕ} (x : Standing) (s : State Stored) (t : ℕ) → IsScanned image x → IsTagged x s → t ≢ x.segment → live_in x.geometry t s ≡ 0
     → All (LiesElsewhere x.geometry t) (payloads_of (stored_in x))
 tagged_free x s t scanned same other none =
     let g : Geometry = x.geometry in
-    let shares : map_state (bytes_in g t) s ≡ map_state (bytes_in g t) (stored_in x) =
-    sym (state_twice (λ q. q.1) (tagged g t) s) ∙ ap (λ (v : State (ℕ × ℕ)). map_state (λ q. q.1) v) (same t other) ∙ state_twice (λ q. q.1) (tagged g t)
-    (stored_in x) in
+    let twice = state_twice (λ (q : ℕ × ℕ). q.1) (tagged g t) in
+    let shares = rw (twice s, twice (stored_in x)) at (ap (map_state (λ (q : ℕ × ℕ). q.1)) (same t other)) in
     let there : All (LiesThere g) (payloads_of (stored_in x)) = λ k d lt.
     not_astray_there g _ (groups_there g x.head x.groups
     (λ j e below. there_not_astray g _ (elsewhere_apart g x.segment _ (scanned.head.placed.elsewhere j e below)).0) k d lt) in

@@ -26,14 +26,14 @@ use Rattle.rly_places.proofs.Weights.{maps_same}
 use Rattle.rly_reclaim.specs.Reclaiming.{MayOpen}
 use Rattle.rly_segment.specs.Heads.{HoldsHeadOf, IsHeadOf, gate_after, segment_end, segment_place}
 use Rattle.rly_segment.specs.Settling.{settled_state}
-use Rattle.rly_segment.proofs.Settling.{settled_inline, settled_stands}
+use Rattle.rly_segment.proofs.Settling.{head_lengths, settled_inline, settled_stands}
 use Rattle.rly_moving.specs.Moving.{LiesThere, MayMove, moved_state, unread}
 use Rattle.rly_moving.proofs.Moves.{moved_free, moved_inline, moved_there, settled_elsewhere, settled_live, settled_there}
 use Rattle.rly_keeping.specs.Keeping.{IsAlike, IsIndex}
 use Rattle.rly_keeping.proofs.Lying.{LiesApart, drawn_apart, elsewhere_apart, lies_apart}
 use Rattle.rly_keeping.proofs.Each.{hops_mapped}
 use Rattle.rly_keeping.proofs.Images.{maps_held, still}
-use Rattle.rly_keeping.proofs.Settled.{head_clear, head_lengths}
+use Rattle.rly_keeping.proofs.Settled.{head_clear}
 
 -- ---- a head that was read
 

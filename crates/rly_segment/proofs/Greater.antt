@@ -1,5 +1,5 @@
 -- The greatest generation of the open heads, segment by segment.
-use Rattle.std.proofs.Common.{ℕ, ◌≡◌, ◌≢◌, ◌↔◌, ◌+◌, ◌<◌, ◌≤◌, List, length, get_or, set, Bool, true, false, Option, Some, None, arith, below_more, sym, ◌∙◌, subst, refl, not, eqb}
+use Rattle.std.proofs.Common.{ℕ, ◌≡◌, ◌≢◌, ◌↔◌, ◌+◌, ◌<◌, ◌≤◌, List, length, get_or, set, Bool, true, false, Option, Some, None, arith, below_more, sym, ◌∙◌, not, eqb}
 use Rattle.std.specs.Prelude.{is_some}
 use Rattle.std.proofs.lemmas.Bool.{eqb-true, eqb-false}
 use Rattle.std.proofs.lemmas.List.{get_or-set_other, get_or-set_same}
@@ -12,58 +12,39 @@ use Rattle.rly_segment.specs.Heads.{IsLastOfTie, IsNewest, generation_in, segmen
 
 module _ (image : List ℕ) (g : Geometry) (n : ℕ) where
   -- after a gate that is closed, or whose generation is less
-  kept : {best : Greatest} → IsGreatest image g n best → (IsOpen image (segment_place g n) → generation_in image g n < best.generation)
+  pub greater_kept : {best : Greatest} → IsGreatest image g n best → (IsOpen image (segment_place g n) → generation_in image g n < best.generation)
       → IsGreatest image g (n + 1) best
-  kept {best} is less = record {
+  greater_kept {best} is less = record {
     there = omega (arith, is.there);
     gate = is.gate;
     generation = is.generation;
-    most = below_more (λ t. IsOpen image (segment_place g t) → generation_in image g t ≤ best.generation) n is.most (λ opened. omega (arith, less opened));
-    last = below_more (λ t. best.segment < t → IsOpen image (segment_place g t) → generation_in image g t < best.generation) n is.last (λ _. less);
+    most = λ t below opened. grind (arith, is.most, less);
+    last = λ t below behind opened. grind (arith, is.last, less);
     shared = is.shared;
-    alone = λ single.
-        below_more (λ t. t ≢ best.segment → IsOpen image (segment_place g t) → generation_in image g t < best.generation) n (is.alone single) (λ _. less);
+    alone = λ single t below other opened. grind (arith, is.alone single, less);
   }
 
-  pub greater_closed : (found : Option Greatest) (gate : Option ℕ) → is_some gate ≡ false → IsFound image g n found → IsReadGate image (segment_place g n) gate → IsFound image g (n + 1) found
-  greater_closed None None none is closed = below_more (λ t. IsClosed image (segment_place g t)) n is closed
-  greater_closed (Some best) None none is closed = kept is (λ opened. absurd (closed opened))
-  greater_closed found (Some generation) none is opened = absurd cc
+  pub greater_closed : (found : Option Greatest) → IsFound image g n found → IsClosed image (segment_place g n) → IsFound image g (n + 1) found
+  greater_closed None is closed = below_more (λ t. IsClosed image (segment_place g t)) n is closed
+  greater_closed (Some best) is closed = greater_kept is (λ opened. absurd (closed opened))
 
-  module _ {found : Option Greatest} {gate : Option ℕ} {best : Greatest} {generation : ℕ} (found_is : found ≡ Some best) (gate_is : gate ≡ Some generation)
-      (is : IsFound image g n found) (read : IsReadGate image (segment_place g n) gate) where
-    before : IsGreatest image g n best
-    before = subst (IsFound image g n) found_is is
-
-    opened : IsReadGate image (segment_place g n) (Some generation)
-    opened = subst (IsReadGate image (segment_place g n)) gate_is read
-
-    pub greater_kept : generation < best.generation → IsGreatest image g (n + 1) best
-    greater_kept less = kept before (λ _. omega (arith, less, opened.1))
-
-    -- after an open gate whose generation is as great
-    pub greater_replaced : best.generation ≤ generation
-        → IsGreatest image g (n + 1) (record { segment = n; generation = generation; is_shared = eqb generation best.generation })
-    greater_replaced more = record {
-      there = omega arith;
-      gate = opened.0;
-      generation = opened.1;
-      most = below_more (λ t. IsOpen image (segment_place g t) → generation_in image g t ≤ generation) n
-          (λ t lt open_t. omega (arith, more, before.most t lt open_t)) (λ _. omega (arith, opened.1));
-      last = λ t below behind open_t. absurd (omega arith);
-      shared = λ e. (best.segment, before.there, before.gate, sym before.generation ∙ sym (eqb-true generation best.generation e));
-      alone = λ e. below_more (λ t. t ≢ n → IsOpen image (segment_place g t) → generation_in image g t < generation) n
-          (λ t lt other open_t.
-          let apart : generation ≢ best.generation = eqb-false generation best.generation e in omega (arith, more, before.most t lt open_t))
-          (λ other _. absurd (other refl));
-    }
+  -- after an open gate whose generation is as great
+  pub greater_replaced : {best : Greatest} {generation : ℕ} → IsGreatest image g n best → IsReadGate image (segment_place g n) (Some generation) → best.generation ≤ generation
+      → IsGreatest image g (n + 1) (record { segment = n; generation = generation; is_shared = eqb generation best.generation })
+  greater_replaced {best} {generation} before opened more = record {
+    there = omega arith;
+    gate = opened.0;
+    generation = opened.1;
+    most = λ t below open_t. grind (arith, before.most, opened.1);
+    last = λ t below behind open_t. absurd (omega arith);
+    shared = λ e. (best.segment, before.there, before.gate, sym before.generation ∙ sym (eqb-true generation best.generation e));
+    alone = λ e t below other open_t. grind (arith, before.most, eqb-false generation best.generation e);
+  }
 
   -- which gates read closed
   here : (gate : Option ℕ) (closed : Bool) → is_some gate ≡ not closed → IsReadGate image (segment_place g n) gate → (closed ≡ true) ↔ IsClosed image (segment_place g n)
-  here None true e read = (λ _. read, λ _. refl)
-  here None false e read = absurd cc
-  here (Some generation) true e read = absurd cc
-  here (Some generation) false e read = (λ same. absurd cc, λ shut. absurd (shut read.0))
+  here None closed e read = (λ _. read, λ _. grind arith)
+  here (Some generation) closed e read = (λ same. grind arith, λ shut. absurd (shut read.0))
 
   pub closed_more : (flags : List Bool) (gate : Option ℕ) (closed : Bool) → n < length flags → is_some gate ≡ not closed → AreClosed image g n flags
       → IsReadGate image (segment_place g n) gate → AreClosed image g (n + 1) (set flags n closed)
@@ -90,8 +71,4 @@ module _ {image : List ℕ} {g : Geometry} {n : ℕ} {best : Greatest} (is : IsG
 
   -- the one that alone has it
   pub newest_of : best.is_shared ≡ false → IsNewest image g best.segment
-  newest_of single = record {
-    there = omega (arith, is.there);
-    gate = is.gate;
-    newest = λ t below other opened. omega (arith, is.alone single t (omega arith) other opened, is.generation);
-  }
+  newest_of single = let alone = is.alone single in search (arith, is, alone)

@@ -1,5 +1,4 @@
 pub mod Devices
-pub mod Filling
 pub mod Gates
 pub mod Greater
 pub mod HeadBytes

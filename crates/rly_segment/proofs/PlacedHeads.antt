@@ -1,5 +1,5 @@
 -- Heads of which payloads stand by place.
-use Rattle.std.proofs.Common.{ℕ, ◌≡◌, ◌<◌, ◌≤◌, ◌^◌, List, length, get_or, arith, sym, ap, subst, ◌∙◌}
+use Rattle.std.proofs.Common.{ℕ, ◌≡◌, ◌<◌, ◌≤◌, ◌^◌, List, get_or, arith, sym, ◌∙◌}
 use Rattle.std.specs.Prelude.{All, Err}
 use Rattle.std.proofs.Math.Nat.{mul-le-mul_right}
 use Rattle.rly_core.specs.declared.params.Geometry.{Geometry}
@@ -8,9 +8,8 @@ use Rattle.rly_machine.specs.Sound.{IsSound}
 use Rattle.rly_machine.specs.State.{State}
 use Rattle.rly_checkpoint.specs.Checkpoint.{IsOfForm, state_spelled}
 use Rattle.rly_checkpoint.specs.Forms.{HaveForms}
-use Rattle.rly_checkpoint.specs.Stored.{IsStorable, state_in, stored_form_of, stored_length, stored_spelled}
+use Rattle.rly_checkpoint.specs.Stored.{IsStorable, stored_form_of, stored_length, stored_spelled}
 use Rattle.rly_checkpoint.specs.declared.head_form.HeadForm.{HeadForm}
-use Rattle.rly_checkpoint.specs.declared.head_form.HeadForm.TheVariants.{First, Second}
 use Rattle.rly_checkpoint.specs.declared.stored.Place.{Place}
 use Rattle.rly_checkpoint.specs.declared.stored.Stored.{Stored}
 use Rattle.rly_checkpoint.specs.declared.stored.Stored.TheVariants.{Inline, Placed}
@@ -22,7 +21,7 @@ use Rattle.rly_segment.specs.Heads.{HoldsHeadOf}
 use Rattle.rly_segment.specs.declared.heads.HeadFault.{HeadFault}
 use Rattle.rly_segment.specs.declared.heads.HeadFault.TheVariants as head
 use Rattle.rly_segment.specs.Answers.{IsReadHeadOf}
-use Rattle.rly_segment.specs.PlacedHeads.{HeadStandsFor, HoldsNonePlaced, IsReadPlaced}
+use Rattle.rly_segment.specs.PlacedHeads.{IsReadPlaced}
 use Rattle.rly_segment.proofs.HeadBytes.{head_parts, its_start, read_as, start_is}
 
 -- where a payload that lies in a segment begins fits 5 bytes
@@ -33,8 +32,7 @@ lies_storable g size segment place geometry lies =
 
 -- so it has a form, in both forms of a head
 pub place_storable : (which : HeadForm) (place : Place) → place.start < 2 ^ 40 → 1 ≤ place.length → IsStorable which (Placed place)
-place_storable First place below some = (omega (arith, below), some)
-place_storable Second place below some = (omega (arith, below), some)
+place_storable which place below some = (grind arith, some)
 
 -- what lies elsewhere has a form
 storable : (which : HeadForm) (g : Geometry) (size own : ℕ) (p : Stored) → IsLayout g size → LiesElsewhere g own p → IsStorable which p
@@ -55,34 +53,14 @@ pub stored_once : OneSpelling → (image : List ℕ) (g : Geometry) (segment : �
     → HoldsHeadOf stored_length (stored_spelled w) image g segment n a → HoldsHeadOf stored_length (stored_spelled v) image g segment m b
     → All (HaveForms (IsStorable w)) a.hops → All (HaveForms (IsStorable v)) b.hops → (w ≡ v) × (n ≡ m) × (a ≡ b)
 stored_once one image g segment w v n m a b short first second forms_a forms_b =
-    let start = its_start stored_form_of IsStorable w short first in
-    let its = start_is stored_form_of IsStorable start v second in (
-      its.1,
-      its.0,
-      read_as stored_form_of IsStorable start (sym (head_parts first).1) (λ t. a ≡ t)
-          (λ t sound has plain params same. one w a t first.sound sound forms_a has first.plain plain (first.head.params ∙ sym params) same) v forms_b second,
-    )
-
-pub one_head : OneSpelling → (image : List ℕ) (g : Geometry) (segment n m : ℕ) (a b : State (List ℕ)) → IsLayout g (length image)
-    → HeadStandsFor image g segment n a → HeadStandsFor image g segment m b → (n ≡ m) × (a ≡ b)
-one_head one image g segment n m a b geometry first second =
-    let forms = λ (h : HeadForm) (s : State Stored). forms_of h g (length image) segment s geometry in
-    let once = stored_once one image g segment first.form second.form n m first.stored second.stored geometry.length first.holds.head second.holds.head
-    (forms first.form first.stored first.holds.placed) (forms second.form second.stored second.holds.placed) in
-    (once.1, sym first.bytes ∙ ap (state_in image) once.2 ∙ second.bytes)
-
--- a head that was read holds no other state
-pub not_placed : OneSpelling → {image : List ℕ} {g : Geometry} {size segment n : ℕ} {which : HeadForm} {found : State Stored} → IsLayout g size
-    → HoldsHeadOf stored_length (stored_spelled which) image g segment n found → All (HaveForms (IsStorable which)) found.hops → (IsPlaced g segment found → ⊥)
-    → HoldsNonePlaced image g segment
-not_placed one {image} {g} {size} {segment} {n} {which} {found} geometry holds forms astray v m s other =
-    let same =
-    (stored_once one image g segment v which m n s found geometry.length other.head holds (forms_of v g size segment s geometry other.placed) forms).2 in
-    astray (subst (IsPlaced g segment) same other.placed)
+    let start = its_start stored_form_of w short first in
+    let its = start_is stored_form_of start v second in
+    let same = read_as stored_form_of start (sym (head_parts first).1) IsStorable (λ t. a ≡ t)
+    (λ t sound has plain params same. one w a t first.sound sound forms_a has first.plain plain (first.head.params ∙ sym params) same) v forms_b second in
+    (its.1, its.0, same)
 
 -- where no state is held, none is held that is placed
 pub fault_placed : (image : List ℕ) {g : Geometry} {size : ℕ} (segment : ℕ) (fault : HeadFault) → IsLayout g size
     → IsReadHeadOf stored_length stored_form_of IsStorable image g segment (Err fault) → IsReadPlaced image g segment (Err fault)
 fault_placed image {g} {size} segment head.Damaged geometry none = λ v m s other. none v m s (forms_of v g size segment s geometry other.placed) other.head
-fault_placed image segment head.OutOfMemory geometry none = tt
-fault_placed image segment head.Device geometry none = tt
+fault_placed image segment fault geometry none = tt

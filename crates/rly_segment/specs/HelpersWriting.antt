@@ -1,6 +1,6 @@
 -- Helpers: what a crash may leave within the private steps of an opening and of a format. Nothing here is claimed: what
 -- it may leave within the whole calls is said by `Heads` and `Formatted`.
-use Rattle.std.specs.Prelude.{◌≡◌, ◌⊎◌, ◌↔◌, ℕ, ◌<◌, Bool, IsTrue, List, ◌∷◌, ◌++◌, length}
+use Rattle.std.specs.Prelude.{◌≡◌, ◌↔◌, ℕ, ◌<◌, Bool, IsTrue, List, ◌∷◌, ◌++◌}
 use Rattle.byteorder.specs.Endian.{big_bytes}
 use Rattle.rly_core.specs.declared.params.Geometry.{Geometry}
 use Rattle.rly_core.specs.declared.params.Params.{Params}
@@ -15,12 +15,6 @@ use Rattle.rly_segment.specs.Heads.{segment_place}
 pub record IsClosing (place : ℕ) (old image : List ℕ) : Type 0 where
   pub outside : SameOutside place 1 old image
   pub gate : IsOpen image place → image ≡ old
-
--- within a write of bytes after a gate, which is closed before it and opened after it: all other bytes as they were,
--- and where the gate is open, the bytes that were there or the whole ones
-pub record IsReplacing (place : ℕ) (behind old image : List ℕ) : Type 0 where
-  pub outside : SameOutside place (length (open_gate ∷ behind)) old image
-  pub whole : (IsOpen image place → image ≡ old) ⊎ StandsAt image place (open_gate ∷ behind)
 
 -- all of a new device but the header's gate, where these bytes stand after the first segment's gate
 pub record IsUnopened (g : Geometry) (behind image : List ℕ) : Type 0 where

@@ -1,8 +1,11 @@
-use Rattle.std.proofs.Common.{◌-◌, arith, length}
-use Rattle.rly_gate.proofs.Frames.{frame_filled}
+use Rattle.std.proofs.Common.{◌≡◌, ◌-◌, arith, length, refl}
+use Rattle.byteorder.specs.Endian.{big_bytes}
+use Rattle.rly_gate.specs.Group.{body_in}
+use Rattle.rly_gate.proofs.Frames.{filled, length-body}
 use Rattle.rly_gate.proofs.append.fill_frame.Goals as goal
 
 pub returns : goal.returns
 returns c =
-    frame_filled c.args.frame.now c.write_u32.new.buf (length c.args.frame.now - 1) (length c.args.frame.now - 1 - 4) c.requires.long
-    (omega (arith, c.requires.long)) (omega (arith, c.requires.long)) c.write_u32.ensures
+    let frame = c.args.frame.now in
+    let same : length (body_in frame) ≡ length frame - 1 - 4 = omega (arith, length-body frame c.requires.long) in
+    rw (c.write_u32.ensures, same) (filled (big_bytes 4 (length frame - 1 - 4)) frame (length frame - 1) refl c.requires.long (omega arith))

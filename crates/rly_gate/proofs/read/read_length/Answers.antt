@@ -6,7 +6,3 @@ pub returns-then-from-room-clause-read : goal.returns-then-from-room-clause-read
 returns-then-from-room-clause-read g c honest =
     too_long (g.D.Disk.state c.args.disk.now).seen c.args.at c.args.end c.length_in-length.result (omega (arith, c.length_in-length.type_inv))
     (sym (c.in-Ok.ensures.read honest) ∙ sym c.length_in-length.ensures) (omega (arith, c.from.ensures))
-
-pub returns-clause-read : goal.returns-clause-read
-returns-clause-read g c honest =
-    (sym (c.in-Ok.ensures.read honest) ∙ sym c.length_in-length.ensures, omega (arith, c.length_in-length.type_inv))

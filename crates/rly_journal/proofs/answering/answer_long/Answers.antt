@@ -1,38 +1,47 @@
-use Rattle.std.proofs.Common.{◌≡◌, ◌∙◌, false, rules, subst, sym}
-use Rattle.std.proofs.lemmas.Bool.{false≢true}
-use Rattle.rly_machine.specs.Accepted.{is_accepted}
-use Rattle.rly_machine.specs.Sound.{IsSound}
-use Rattle.rly_machine.specs.Map.{map_command}
-use Rattle.rly_machine.specs.State.{State}
-use Rattle.rly_machine.specs.Step.{NeedsRoom, step}
-use Rattle.rly_record.specs.Spelling.{IsRecordable}
-use Rattle.rly_checkpoint.specs.Stored.{stored_length}
-use Rattle.rly_checkpoint.specs.declared.stored.Stored.{Stored}
-use Rattle.rly_checkpoint.specs.declared.stored.Stored.TheVariants.{Inline}
-use Rattle.rly_journal.proofs.Outcomes.{long_refused, long_told}
-use Rattle.rly_journal.proofs.Wanting.{needs_accepts}
+use Rattle.std.proofs.Common.{◌≡◌, ◌∙◌, [], ap, false, inl, length, sym}
+use Rattle.rly_journal.proofs.Common.{false≢true, Inline, is_accepted, map_command, map_state, same_reply, shown_in, sound_alike, step, stored_length}
+use Rattle.rly_journal.proofs.Common.{unaccepted}
+use Rattle.rly_grouping.proofs.Records.{inline_alike}
+use Rattle.rly_standing.proofs.Serving.{long_leaves}
+use Rattle.rly_journal.proofs.Opening.{shown_alike}
+use Rattle.rly_journal.proofs.Outcomes.{needs_accepts}
+use Rattle.rly_journal.proofs.Redone.{IsStepped, stepped}
+use Rattle.rly_journal.proofs.answering.answer_long.Goals.{After-law_index}
 use Rattle.rly_journal.proofs.answering.answer_long.Goals as goal
+
+-- it is refused by some check
+refused : (c : After-law_index) → is_accepted (step stored_length c.args.index.now.spool.state (map_command Inline c.args.command)).1 ≡ false
+refused c =
+    let s = c.args.index.now.spool.state in
+    let t = map_state (shown_in []) s in
+    let alike = shown_alike [] s in
+    ap is_accepted (same_reply s t (map_command Inline c.args.command) c.args.command alike (inline_alike c.args.command))
+    ∙ long_leaves t c.args.command (sound_alike stored_length length s t alike c.law_index.ensures.sound) c.requires.long
 
 pub apply-requires-clause-brought : goal.apply-requires-clause-brought
 apply-requires-clause-brought c = λ accepts.
-    let refused : is_accepted (step stored_length c.reserve_for.new.self.spool.state c.inlined-placed.result).1 ≡ false =
-    subst (λ p. is_accepted (step stored_length c.reserve_for.new.self.spool.state p).1 ≡ false) (sym c.inlined-placed.ensures)
-    (long_refused c.reserve_for.new.self.spool.state c.args.command
-    (subst (IsSound stored_length) (sym c.in-Ok.ensures.state) c.law_index.ensures.sound)
-    (subst (λ (s : State Stored). IsRecordable s.params.payload c.args.command → ⊥) (sym c.in-Ok.ensures.state) c.requires.long)) in
-    absurd (false≢true (sym refused ∙ accepts))
+    let long = refused (goal.at.apply-requires-clause-brought c).After-law_index in
+    absurd (false≢true (sym long ∙ rw (c.in-Ok.ensures.state, c.inlined-placed.ensures) at accepts))
 
 pub returns-in-Ok : goal.returns-in-Ok
 returns-in-Ok c =
-    let told = long_told c.args.index.now.spool.state c.reserve_for.new.self.spool.state c.apply.new.self.spool.state c.args.command c.inlined-placed.result
-    c.apply.result c.law_index.ensures.sound c.requires.long c.inlined-placed.ensures c.in-Ok.ensures.state c.apply.ensures.state c.apply.ensures.reply in
-    record { told = told.2; refused = told.0; state = told.1; geometry = search rules; segment = search rules; used = search rules }
+    let long = refused (goal.at.returns-in-Ok c).After-law_index in
+    let s = c.args.index.now.spool.state in
+    let placed = map_command Inline c.args.command in
+    let one : IsStepped c.args.index.now c.apply.new.self placed c.apply.result c.used-used.result =
+    stepped c.in-Ok.ensures.state c.in-Ok.ensures.at c.inlined-placed.ensures c.apply.ensures.state c.apply.ensures.reply c.apply.ensures.at in
+    let leaves = ap is_accepted one.reply ∙ long in
+    record {
+      told = λ t alike. inl (one.reply ∙ same_reply s t placed c.args.command alike (inline_alike c.args.command));
+      refused = leaves;
+      state = one.state ∙ unaccepted stored_length s placed long;
+      geometry = one.at.geometry;
+      segment = one.at.segment;
+      used = rw leaves at one.at.used;
+    }
 
 -- memory is wanted only for a command that would be accepted
 pub returns-in-Err-clause-told : goal.returns-in-Err-clause-told
 returns-in-Err-clause-told c = λ t alike.
-    let refused : is_accepted (step stored_length c.args.index.now.spool.state (map_command Inline c.args.command)).1 ≡ false =
-    long_refused c.args.index.now.spool.state c.args.command c.law_index.ensures.sound c.requires.long in
-    let needs : NeedsRoom stored_length c.args.index.now.spool (map_command Inline c.args.command) =
-    subst (NeedsRoom stored_length c.args.index.now.spool) c.inlined-placed.ensures c.in-Err.ensures.memory in
-    absurd (false≢true (sym refused ∙ needs_accepts c.args.index.now.spool (map_command Inline c.args.command) needs))
+    let long = refused (goal.at.returns-in-Err-clause-told c).After-law_index in
+    absurd (false≢true (sym long ∙ needs_accepts c.args.index.now.spool _ (rw c.inlined-placed.ensures at c.in-Err.ensures.memory)))

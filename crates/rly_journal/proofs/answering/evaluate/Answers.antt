@@ -1,6 +1,6 @@
 use Rattle.std.proofs.Common.{◌≡◌, [], ◌∷◌, ◌-◌, ◌∙◌, ap, arith, length, length-append, refl, vec_len}
 use Rattle.std.proofs.lemmas.List.{take_all}
-use Rattle.std_alloc.specs.Vec.Iter.{drain_items}
+use Rattle.rly_journal.proofs.Common.{drain_items}
 use Rattle.rly_journal.proofs.Evaluating.{evaluating_done, evaluating_grouping, evaluating_next, evaluating_none, evaluating_ready, evaluating_room}
 use Rattle.rly_journal.proofs.answering.evaluate.Goals as goal
 
@@ -26,14 +26,7 @@ loop-call-preserved c =
       tt,
       tt,
       evaluating_next c.loop-call.invariant.2 cut outcome.result pushed outcome.ensures.outcome outcome.ensures.taken,
-      omega (
-        arith,
-        ap length cut,
-        ap length pushed,
-        length-append c.loop-call.outcomes.items (outcome.result ∷ []),
-        c.loop-call.invariant.3,
-        c.push_reserved.ensures.capacity,
-      ),
+      omega (arith, ap length cut, ap length pushed, length-append c.loop-call.outcomes.items (outcome.result ∷ [])),
       c.push_reserved.ensures.capacity ∙ c.loop-call.invariant.4,
     )
 

@@ -1,5 +1,5 @@
 use Rattle.std.proofs.Common.{◌≡◌, ◌+◌, ◌≤◌, length, map, vec_capacity}
-use Rattle.std_alloc.specs.Vec.Iter.{drain_items}
+use Rattle.rly_journal.proofs.Common.{drain_items}
 use Rattle.rly_journal.proofs.Evaluating.{IsEvaluating}
 use Rattle.rly_journal.proofs.answering.evaluate.Given as goal
 

@@ -1,6 +1,5 @@
 use Rattle.std.proofs.Common.{◌≡◌, ◌+◌, ◌≤◌, ◌++◌, length, vec_capacity}
-use Rattle.std_alloc.specs.Vec.Iter.{drain_items}
-use Rattle.rly_journal.specs.Rounds.{refusals}
+use Rattle.rly_journal.proofs.Common.{drain_items, refusals}
 use Rattle.rly_journal.proofs.answering.refuse_calls.Given as goal
 
 abbrev pub invariant-loop-call : goal.invariant-loop-call

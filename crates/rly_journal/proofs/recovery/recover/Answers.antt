@@ -1,10 +1,6 @@
-use Rattle.std.proofs.Common.{◌∙◌, Ok, ap, subst, sym}
-use Rattle.std.proofs.lemmas.Result.{err_from_is_err_and}
-use Rattle.rly_disk.proofs.Making.{makes_later}
-use Rattle.rly_gate.specs.Reading.{OnlyRead}
-use Rattle.rly_standing.specs.Calls.{EndsScan}
+use Rattle.std.proofs.Common.{Ok, ap}
+use Rattle.rly_journal.proofs.Common.{err_from_is_err_and, IsReplayedFor, makes_later, OnlyRead}
 use Rattle.rly_standing.proofs.Following.{before_quiet, head_broken, head_scanned, only_made, scan_broken, scanned_all, scanned_group}
-use Rattle.rly_journal.specs.HelpersJournal.{IsReplayedFor, IsShaped}
 use Rattle.rly_journal.proofs.recovery.recover.Given.{Over}
 use Rattle.rly_journal.proofs.recovery.recover.Goals.{After-replay_group}
 use Rattle.rly_journal.proofs.recovery.recover.Goals as goal
@@ -30,8 +26,7 @@ groups-init g c = record {
 
 pub replay_group-requires : goal.replay_group-requires
 replay_group-requires g c = record {
-  shaped = subst (λ size. IsShaped size c.groups.found.tail c.groups.found.index) (sym (makes_later g.D.Disk.state c.groups.invariant.scanned.2).size)
-      c.groups.invariant.shaped;
+  shaped = rw (makes_later g.D.Disk.state c.groups.invariant.scanned.2).size c.groups.invariant.shaped;
   ends = c.groups.invariant.ends;
 }
 
@@ -63,13 +58,12 @@ groups-preserved g c =
     let read = rw c.if-branch.true at c.in_ok-replay_group.ensures.trace in
     let next = scanned_group g.D.Disk.state c.groups.found.tail scanned.0 scanned.1 scanned.2 read.0 read.2 in
     record {
-      shaped = subst (λ size. IsShaped size c.replay_group.new.found.tail c.replay_group.new.found.index) (makes_later g.D.Disk.state next.2).size
-          c.in_ok-replay_group.ensures.shaped;
+      shaped = rw (makes_later g.D.Disk.state next.2).size at c.in_ok-replay_group.ensures.shaped;
       ends = c.in_ok-replay_group.ensures.ends;
       replayed = λ honest.
           let same = (only_before g at).crash honest in
           rw same.seen at (c.in_ok-replay_group.ensures.replayed same.honest (replayed_before g at honest));
-      scanned = (next.0, subst (λ tail. EndsScan tail next.0) (sym read.1) next.1, next.2);
+      scanned = (next.0, rw read.1 next.1, next.2);
     }
 
 pub returns : goal.returns
@@ -80,12 +74,11 @@ returns g c =
     let read = rw c.if-branch.false at by.trace in
     let all = scanned_all g.D.Disk.state c.groups.found.tail scanned.0 scanned.1 scanned.2 read.1 in
     record {
-      shaped = subst (λ size. IsShaped size c.replay_group.new.found.tail c.replay_group.new.found.index)
-          ((makes_later g.D.Disk.state read.1).size ∙ (makes_later g.D.Disk.state scanned.2).size) by.shaped;
+      shaped = rw ((makes_later g.D.Disk.state read.1).size, (makes_later g.D.Disk.state scanned.2).size) at by.shaped;
       ends = by.ends;
       logged = λ honest.
           let same = (only_before g at).crash honest in
           rw same.seen at (by.last same.honest (replayed_before g at honest) (ap Ok c.if-branch.false));
       refused = λ honest. tt;
-      trace = (all.0, subst (λ tail. EndsScan tail all.0) (sym read.0) all.1, all.2);
+      trace = (all.0, rw read.0 all.1, all.2);
     }

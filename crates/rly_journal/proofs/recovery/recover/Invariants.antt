@@ -1,7 +1,6 @@
 use Rattle.std.proofs.Common.{◌-◌, ◌^◌, true}
-use Rattle.rly_disk.specs.Trace.{Makes}
+use Rattle.rly_journal.proofs.Common.{IsAtEnd, IsReplayedFor, IsShaped, Makes}
 use Rattle.rly_standing.specs.Calls.{EndsScan, Scan, scan_before}
-use Rattle.rly_journal.specs.HelpersJournal.{IsAtEnd, IsReplayedFor, IsShaped}
 use Rattle.rly_journal.proofs.recovery.recover.Given as goal
 
 abbrev pub invariant-groups : goal.invariant-groups

@@ -1,17 +1,12 @@
-use Rattle.std.proofs.Common.{Ok, ◌≡◌, ap, arith, false, length, refl, rules, sym, true, ℕ, ◌∙◌}
-use Rattle.std.proofs.lemmas.Result.{err_from_is_err_and}
-use Rattle.rly_disk.specs.Trace.{MakesFront}
-use Rattle.rly_disk.proofs.Making.{makes_later}
+use Rattle.std.proofs.Common.{Ok, ◌≡◌, ◌+◌, ap, arith, false, length, refl, rules, sym, true, ℕ, ◌∙◌}
+use Rattle.rly_journal.proofs.Common.{body_of, err_from_is_err_and, front_all, makes_later, MakesFront}
 use Rattle.rly_gate.specs.declared.read.GroupFault.TheVariants.{OutOfMemory, Damaged, Device}
-use Rattle.rly_record.specs.Spelling.{body_of}
-use Rattle.rly_checkpoint.specs.Stored.{state_in}
-use Rattle.rly_segment.specs.Heads.{segment_end}
 use Rattle.rly_standing.specs.Calls.{group_scan}
 use Rattle.rly_standing.specs.declared.open_fault.OpenFault.TheVariants as fault
-use Rattle.rly_standing.proofs.Following.{front_all, group_broken, past_body, refused_tells}
+use Rattle.rly_standing.proofs.Following.{group_broken, past_body, refused_tells}
 use Rattle.rly_standing.proofs.Recovering.{broken_body, broken_commands}
-use Rattle.rly_journal.proofs.Recovering.{logged_all, refused_broken, refused_next, replayed_next, scanned_newest, shape_next}
-use Rattle.rly_journal.proofs.Redone.{IsRedone}
+use Rattle.rly_journal.proofs.Recovering.{alike_there, logged_all, refused_broken, replayed_next, scanned_newest, shape_after}
+use Rattle.rly_journal.proofs.Redone.{IsRedone, alike_commands}
 use Rattle.rly_journal.proofs.recovery.replay_group.Given.{Over}
 use Rattle.rly_journal.proofs.recovery.replay_group.Goals.{In-Ok-Some}
 use Rattle.rly_journal.proofs.recovery.replay_group.Goals as goal
@@ -19,11 +14,8 @@ use Rattle.rly_journal.proofs.recovery.replay_group.Goals as goal
 pub redo-requires-clause-room : goal.redo-requires-clause-room
 redo-requires-clause-room g c =
     let within = rw c.in-Ok-Some.field-0-is at c.in-Ok-Some.ensures.within in
-    let tail = c.args.found.now.tail in
-    let x = c.args.found.now.index in
-    let end : segment_end x.geometry x.segment ≡ segment_end tail.geometry tail.segment =
-    λ i. segment_end (c.requires.ends.geometry i) (c.requires.ends.segment i) in
-    omega (arith, within, end, c.segment_end-end.ensures, ap length (sym c.deref.ensures.value ∙ c.in-Ok.ensures.found))
+    let spelled = ap length (sym c.deref.ensures.value ∙ c.in-Ok.ensures.found) in
+    rw (c.requires.ends.geometry, c.requires.ends.segment) (omega (arith, within, c.segment_end-end.ensures, spelled))
 
 pub returns-in-Err-OutOfMemory-clause-refused : goal.returns-in-Err-OutOfMemory-clause-refused
 returns-in-Err-OutOfMemory-clause-refused g c honest so_far = scanned_newest (g.D.Disk.state c.args.disk.now).seen so_far.read.x so_far.read.scanned
@@ -39,27 +31,26 @@ returns-in_err-is_redone-clause-refused g c honest so_far =
 
 pub returns-in-Err-Damaged-clause-refused : goal.returns-in-Err-Damaged-clause-refused
 returns-in-Err-Damaged-clause-refused g c honest so_far =
-    let seen = (g.D.Disk.state c.args.disk.now).seen in
     let none = (rw (c.in-Err-Damaged.field-0-is, c.segment_end-end.ensures) at c.in-Err-Damaged.ensures.read) honest in
-    refused_broken so_far (broken_body seen c.args.found.now.tail (state_in seen c.args.found.now.index.spool.state) so_far.read none.0 none.1)
+    refused_broken so_far (broken_body _ _ _ so_far.read none.0 none.1)
 
 pub returns-in-Err-Malformed-clause-refused : goal.returns-in-Err-Malformed-clause-refused
 returns-in-Err-Malformed-clause-refused g c honest so_far =
-    let seen = (g.D.Disk.state c.args.disk.now).seen in
     let held = (rw (c.in-Ok-Some.field-0-is, c.segment_end-end.ensures) at c.in-Ok-Some.ensures.read) honest in
     refused_broken so_far
-    (broken_commands seen c.args.found.now.tail c.in-Ok-Some.body.items (state_in seen c.args.found.now.index.spool.state) so_far.read held
+    (broken_commands _ _ _ _ so_far.read held
     (λ commands have spelled accepted. let memory = c.in-Err-Malformed.ensures.only commands have (c.deref.ensures.value ∙ spelled) in absurd cc))
 
 pub returns-then-not-is_redone-clause-refused : goal.returns-then-not-is_redone-clause-refused
 returns-then-not-is_redone-clause-refused g c honest so_far =
     let held = (rw (c.in-Ok-Some.field-0-is, c.segment_end-end.ensures) at c.in-Ok-Some.ensures.read) honest in
     let told : c.in_ok-is_redone.is_redone ≡ false = search rules in
+    let alike = alike_there (g.met.D.Disk.consistent c.args.disk.now) c.requires.shaped c.requires.ends c.law_index.ensures.holds honest so_far in
     refused_broken so_far
-    (refused_next (g.met.D.Disk.consistent c.args.disk.now) c.requires.shaped c.requires.ends c.law_index.ensures.holds honest so_far
-    c.in-Ok.commands.items c.in-Ok-Some.body.items held
-    (λ commands have spelled. c.in-Ok.ensures.only commands have (c.deref.ensures.value ∙ spelled))
-    (c.in_ok-is_redone.ensures.refused (let e : _ = cc in e)))
+    (broken_commands _ _ _ _ so_far.read held
+    (λ others have spelled accepted.
+    c.in_ok-is_redone.ensures.refused (let e : _ = cc in e)
+    ((alike_commands _ c.in-Ok.commands.items _ _ alike).1.1 (rw (c.in-Ok.ensures.only others have (c.deref.ensures.value ∙ spelled)) accepted))))
 
 -- ---- the commands were made again
 
@@ -75,8 +66,10 @@ returns g c =
     let read = rw (c.in-Ok-Some.field-0-is, c.segment_end-end.ensures, spelled) at c.in-Ok-Some.ensures.read in
     let made = (rw (c.in-Ok-Some.field-0-is, spelled) at c.in-Ok-Some.ensures.trace).1 in
     record {
-      shaped = rw (size, (makes_later g.D.Disk.state c.read_group.ensures.trace.1).size)
-          (shape_next c.requires.shaped c.in-Ok.ensures.commands redone (omega (arith, within, c.segment_end-end.ensures, ap length spelled)));
+      shaped = rw (makes_later g.D.Disk.state c.read_group.ensures.trace.1).size
+          (shape_after c.in-Ok.commands.items c.requires.shaped redone.accepted redone.state (c.args.found.now.tail.gate + 5 + c.len.result) (omega arith)
+          (omega (arith, within, c.segment_end-end.ensures, c.len.ensures))
+          (λ full. omega (arith, c.requires.shaped.generation, c.in-Ok.ensures.commands.0.0)));
       ends = rw size (record {
         geometry = redone.at.geometry ∙ c.requires.ends.geometry;
         segment = redone.at.segment ∙ c.requires.ends.segment;
@@ -102,16 +95,15 @@ returns-in-Ok-None-clause-trace g c = (refl, (rw c.in-Ok-None.field-0-is at c.in
 
 pub returns-in-Err-OutOfMemory-clause-trace : goal.returns-in-Err-OutOfMemory-clause-trace
 returns-in-Err-OutOfMemory-clause-trace g c =
-    group_broken g.D.Disk.state c.args.found.now.tail.gate c.segment_end-end.result ℕ OutOfMemory
-    (rw c.in-Err-OutOfMemory.field-0-is at c.in-Err-OutOfMemory.ensures.trace)
+    group_broken g.D.Disk.state _ c.segment_end-end.result ℕ OutOfMemory (rw c.in-Err-OutOfMemory.field-0-is at c.in-Err-OutOfMemory.ensures.trace)
 
 pub returns-in-Err-Damaged-clause-trace : goal.returns-in-Err-Damaged-clause-trace
 returns-in-Err-Damaged-clause-trace g c =
-    group_broken g.D.Disk.state c.args.found.now.tail.gate c.segment_end-end.result ℕ Damaged (rw c.in-Err-Damaged.field-0-is at c.in-Err-Damaged.ensures.trace)
+    group_broken g.D.Disk.state _ _ ℕ Damaged (rw c.in-Err-Damaged.field-0-is at c.in-Err-Damaged.ensures.trace)
 
 pub returns-in-Err-Device-clause-trace : goal.returns-in-Err-Device-clause-trace
 returns-in-Err-Device-clause-trace g c =
-    group_broken g.D.Disk.state c.args.found.now.tail.gate c.segment_end-end.result ℕ Device (rw c.in-Err-Device.field-0-is at c.in-Err-Device.ensures.trace)
+    group_broken g.D.Disk.state _ c.segment_end-end.result ℕ Device (rw c.in-Err-Device.field-0-is at c.in-Err-Device.ensures.trace)
 
 -- the body was read, and then refused
 body_read : (g : Over) (c : In-Ok-Some g)

@@ -1,10 +1,6 @@
-use Rattle.std.proofs.Common.{◌≡◌, arith}
+use Rattle.std.proofs.Common.{arith}
 use Rattle.rly_disk.proofs.Making.{cut_short, each_failed, each_next}
-use Rattle.rly_disk.proofs.Traces.{makes_nothing}
 use Rattle.rly_segment.proofs.formatting.close_gates.Goals as goal
-
-pub loop-segment-init : goal.loop-segment-init
-loop-segment-init g c = makes_nothing g.D.Disk.state c.args.disk.now
 
 pub loop-segment-preserved : goal.loop-segment-preserved
 loop-segment-preserved g c = each_next g.D.Disk.state _ c.loop-segment.segment c.loop-segment.invariant (rw c.segment_place.ensures at c.in_ok-settle.ensures)
@@ -14,8 +10,3 @@ returns-in_err-settle g c =
     cut_short g.D.Disk.state _ c.from_residual.ensures.0
     (each_failed g.D.Disk.state _ c.loop-segment.segment c.args.geometry.now.segments (omega (arith, c.loop-segment-test.true)) c.loop-segment.invariant
     (rw c.segment_place.ensures at c.in_err-settle.ensures))
-
-pub returns : goal.returns
-returns g c =
-    let last : c.loop-segment.segment ≡ c.args.geometry.now.segments = omega (arith, c.loop-segment-test.false, c.loop-segment.auto.segment-end) in
-    rw last at c.loop-segment.invariant

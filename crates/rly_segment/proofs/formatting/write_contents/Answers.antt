@@ -1,9 +1,10 @@
+use Rattle.std.proofs.Common.{rules}
 use Rattle.rly_disk.proofs.Making.{cut_short}
 use Rattle.rly_disk.proofs.Traces.{makes_front, makes_joined}
 use Rattle.rly_segment.proofs.formatting.write_contents.Goals as goal
 
 pub returns-in_err-close_gates : goal.returns-in_err-close_gates
-returns-in_err-close_gates g c = cut_short g.D.Disk.state _ c.from_residual.ensures.0 (makes_front g.D.Disk.state _ _ c.in_err-close_gates.ensures)
+returns-in_err-close_gates g c = search (rules, cut_short g.D.Disk.state, makes_front g.D.Disk.state)
 
 pub returns-in_err-settle : goal.returns-in_err-settle
 returns-in_err-settle g c =
@@ -17,7 +18,4 @@ returns-in_err-settle-2 g c =
     (makes_joined g.D.Disk.state _ _ _ c.in_ok-settle.ensures (makes_front g.D.Disk.state _ _ (rw c.header_fields.ensures at c.in_err-settle-2.ensures))))
 
 pub returns : goal.returns
-returns g c =
-    makes_joined g.D.Disk.state _ _ _ c.in_ok-close_gates.ensures
-    (makes_joined g.D.Disk.state _ _ _ c.in_ok-settle.ensures
-    (makes_joined g.D.Disk.state _ _ _ (rw c.header_fields.ensures at c.in_ok-settle-2.ensures) c.settle-3.ensures))
+returns g c = rw (← c.header_fields.ensures) (search (rules, makes_joined g.D.Disk.state))

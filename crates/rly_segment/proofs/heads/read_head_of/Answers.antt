@@ -1,46 +1,63 @@
-use Rattle.std.proofs.Common.{rules, ◌≡◌, [], arith, ap, length, refl, sym, true, ◌∙◌}
+use Rattle.std.proofs.Common.{rules, ◌≡◌, [], arith, ap, drop, length, refl, take, true, ◌+◌, ◌∙◌}
 use Rattle.std.specs.Prelude.{Some}
-use Rattle.rly_checkpoint.specs.Checkpoint.{spelled_by, state_spelled}
 use Rattle.rly_disk.proofs.Making.{quiet_new}
 use Rattle.rly_disk.proofs.Traces.{makes_joined}
+use Rattle.rly_segment.specs.Heads.{segment_place}
 use Rattle.rly_segment.proofs.Looking.{head_made, head_read, only_start}
-use Rattle.rly_segment.proofs.HeadBytes.{IsStart, holds_head, no_checkpoint, other_generation, start_read, too_long}
+use Rattle.rly_segment.proofs.HeadBytes.{IsStart, holds_head, read_as, start_is}
+use Rattle.rly_segment.proofs.heads.read_head_of.Given.{Over}
+use Rattle.rly_segment.proofs.heads.read_head_of.Goals.{After-deref, In-Ok}
 use Rattle.rly_segment.proofs.heads.read_head_of.Goals as goal
 
+-- the generation, the form and the length were read
+start_read : (g : Over) (c : In-Ok g) → (g.D.Disk.state c.args.disk.now).honest
+    → IsStart (g.D.Disk.state c.args.disk.now).seen c.args.geometry.now c.args.segment c.in-Ok.start
+start_read g c honest = record {
+  short = c.requires.geometry.length;
+  generation_fits = c.in-Ok.ensures.fits.0;
+  length_fits = c.in-Ok.ensures.fits.1;
+  at = rw c.segment_place-place.ensures at (c.in-Ok.ensures.read honest);
+}
+
+-- and the body
+body_read : (g : Over) (c : After-deref g) → (g.D.Disk.state c.args.disk.now).honest
+    → c.deref.result.now ≡ take c.in-Ok.start.length (drop (segment_place c.args.geometry.now c.args.segment + 13) (g.D.Disk.state c.args.disk.now).seen)
+body_read g c honest =
+    let first = quiet_new g.D.Disk.state c.in-Ok.ensures.trace refl honest (g.met.D.Disk.consistent c.args.disk.now honest) in
+    rw c.deref.ensures.value (rw (c.segment_place-place.ensures, first.seen) at (c.in-Ok-read_bytes.ensures.read first.honest))
+
+-- no head is longer than its segment
 pub returns-then-geometry-end-clause-read : goal.returns-then-geometry-end-clause-read
-returns-then-geometry-end-clause-read g c honest =
-    let start : IsStart (g.D.Disk.state c.args.disk.now).seen c.args.geometry.now c.args.segment c.in-Ok.start =
-    start_read c.requires.geometry.length c.in-Ok.ensures.fits c.segment_place-place.ensures (c.in-Ok.ensures.read honest) in
-    too_long g.C.Form.form g.C.Form.has_form start (omega arith)
+returns-then-geometry-end-clause-read g c honest v other s has holds =
+    let its = start_is g.C.Form.form (start_read g (goal.at.returns-then-geometry-end-clause-read g c).In-Ok honest) v holds in
+    omega (arith, holds.head.room, its.2)
 
+-- no head holds a body that is no checkpoint
 pub returns-in-Err-Malformed-clause-read : goal.returns-in-Err-Malformed-clause-read
-returns-in-Err-Malformed-clause-read g c honest =
-    let start : IsStart (g.D.Disk.state c.args.disk.now).seen c.args.geometry.now c.args.segment c.in-Ok.start =
-    start_read c.requires.geometry.length c.in-Ok.ensures.fits c.segment_place-place.ensures (c.in-Ok.ensures.read honest) in
-    let first = quiet_new g.D.Disk.state c.in-Ok.ensures.trace refl honest (g.met.D.Disk.consistent c.args.disk.now honest) in
-    let body = rw (c.segment_place-place.ensures, first.seen) at (c.deref.ensures.value ∙ c.in-Ok-read_bytes.ensures.read first.honest) in
-    no_checkpoint g.C.Form.form g.C.Form.has_form start body
-    (λ s sound has plain params same. let refused = c.in-Err-Malformed.ensures.only s sound has plain params same in absurd cc)
+returns-in-Err-Malformed-clause-read g c honest v other s has holds =
+    let at = goal.at.returns-in-Err-Malformed-clause-read g c in
+    read_as g.C.Form.form (start_read g at.In-Ok honest) (body_read g at.After-deref honest) g.C.Form.has_form (λ s. ⊥)
+    (λ s sound has plain params same. let refused = c.in-Err-Malformed.ensures.only s sound has plain params same in absurd cc) v has holds
 
+-- no head of the one state that the body is has another generation
 pub returns-then-not-is_generation-clause-read : goal.returns-then-not-is_generation-clause-read
-returns-then-not-is_generation-clause-read g c honest =
-    let start : IsStart (g.D.Disk.state c.args.disk.now).seen c.args.geometry.now c.args.segment c.in-Ok.start =
-    start_read c.requires.geometry.length c.in-Ok.ensures.fits c.segment_place-place.ensures (c.in-Ok.ensures.read honest) in
-    let first = quiet_new g.D.Disk.state c.in-Ok.ensures.trace refl honest (g.met.D.Disk.consistent c.args.disk.now honest) in
-    let body = rw (c.segment_place-place.ensures, first.seen) at (c.deref.ensures.value ∙ c.in-Ok-read_bytes.ensures.read first.honest) in
-    other_generation g.C.Form.form g.C.Form.has_form start body c.in-Ok-read_state.machine.state c.in-Ok-read_state.ensures.only
-    (λ within. let has : c.is_generation.result ≡ true = c.is_generation.ensures.1 (within.0, omega (arith, within.1, c.seq.ensures)) in absurd cc)
+returns-then-not-is_generation-clause-read g c honest v other s has holds =
+    let at = goal.at.returns-then-not-is_generation-clause-read g c in
+    let start = start_read g at.In-Ok honest in
+    let its = start_is g.C.Form.form start v holds in
+    let same = read_as g.C.Form.form start (body_read g at.After-deref honest) g.C.Form.has_form _ c.in-Ok-read_state.ensures.only v has holds in
+    let within : c.is_generation.result ≡ true = c.is_generation.ensures.1
+    (omega (arith, its.0, holds.head.least), omega (arith, its.0, holds.head.most, ap (λ x. x.seq) same, c.seq.ensures)) in
+    absurd cc
 
 pub returns-clause-read : goal.returns-clause-read
 returns-clause-read g c honest =
-    let start : IsStart (g.D.Disk.state c.args.disk.now).seen c.args.geometry.now c.args.segment c.in-Ok.start =
-    start_read c.requires.geometry.length c.in-Ok.ensures.fits c.segment_place-place.ensures (c.in-Ok.ensures.read honest) in
-    let first = quiet_new g.D.Disk.state c.in-Ok.ensures.trace refl honest (g.met.D.Disk.consistent c.args.disk.now honest) in
-    let body = rw (c.segment_place-place.ensures, first.seen) at (c.deref.ensures.value ∙ c.in-Ok-read_bytes.ensures.read first.honest) in
+    let at = goal.at.returns-clause-read g c in
     let within = c.is_generation.ensures.0 (search rules) in
-    holds_head g.C.Form.form g.C.Form.has_form start body c.in-Ok-read_state.machine.state (ap length c.deref.ensures.value ∙ c.in-Ok-read_bytes.ensures.length)
-    c.in-Ok-read_state.ensures.found c.in-Ok-read_state.ensures.params c.law_sound.ensures c.in-Ok-read_state.ensures.plain
-    (within.0, omega (arith, within.1, c.seq.ensures)) (omega (arith, c.if-geometry-end.false, c.from-end.ensures))
+    holds_head g.C.Form.form (start_read g at.In-Ok honest) (body_read g at.After-deref honest) c.in-Ok-read_state.machine.state
+    (ap length c.deref.ensures.value ∙ c.in-Ok-read_bytes.ensures.length) c.in-Ok-read_state.ensures.found c.in-Ok-read_state.ensures.params
+    c.law_sound.ensures c.in-Ok-read_state.ensures.plain (within.0, omega (arith, within.1, c.seq.ensures))
+    (omega (arith, c.if-geometry-end.false, c.from-end.ensures))
 
 pub returns-in_default-clause-trace : goal.returns-in_default-clause-trace
 returns-in_default-clause-trace g c = only_start c.segment_place-place.ensures (search rules)
@@ -50,8 +67,8 @@ returns-then-geometry-end-clause-trace g c = only_start c.segment_place-place.en
 
 pub returns-in-Err-OutOfMemory-clause-trace : goal.returns-in-Err-OutOfMemory-clause-trace
 returns-in-Err-OutOfMemory-clause-trace g c =
-    let none = rw c.in-Err-OutOfMemory.field-0-is at c.in-Err-OutOfMemory.ensures.trace in
-    only_start c.segment_place-place.ensures (makes_joined g.D.Disk.state _ [] true c.in-Ok.ensures.trace none)
+    only_start c.segment_place-place.ensures
+    (makes_joined g.D.Disk.state _ [] true c.in-Ok.ensures.trace (rw c.in-Err-OutOfMemory.field-0-is at c.in-Err-OutOfMemory.ensures.trace))
 
 pub returns-in-Err-Device-clause-trace : goal.returns-in-Err-Device-clause-trace
 returns-in-Err-Device-clause-trace g c =
@@ -67,7 +84,8 @@ pub returns-then-not-is_generation-clause-trace : goal.returns-then-not-is_gener
 returns-then-not-is_generation-clause-trace g c = head_read c.segment_place-place.ensures c.in-Ok.ensures.trace c.in-Ok-read_bytes.ensures.trace
 
 pub returns-clause-trace : goal.returns-clause-trace
-returns-clause-trace g c =
-    let size : c.in-Ok.start.length ≡ length (state_spelled g.C.Content.length_of (spelled_by g.C.Form.form c.in-Ok.start.form) c.in-Ok-read_state.machine.state) =
-    sym c.in-Ok-read_bytes.ensures.length ∙ ap length (sym c.deref.ensures.value ∙ c.in-Ok-read_state.ensures.found) in
-    (Some c.in-Ok.start.length, ap Some size, head_made c.segment_place-place.ensures c.in-Ok.ensures.trace c.in-Ok-read_bytes.ensures.trace)
+returns-clause-trace g c = (
+  Some c.in-Ok.start.length,
+  cc (c.in-Ok-read_bytes.ensures.length, c.deref.ensures.value, c.in-Ok-read_state.ensures.found),
+  head_made c.segment_place-place.ensures c.in-Ok.ensures.trace c.in-Ok-read_bytes.ensures.trace,
+)

@@ -1,5 +1,10 @@
-use Rattle.rly_segment.proofs.PlacedHeads.{one_head}
+use Rattle.std.proofs.Common.{ap, sym, ◌∙◌}
+use Rattle.rly_checkpoint.specs.Stored.{state_in}
+use Rattle.rly_segment.proofs.PlacedHeads.{forms_of, stored_once}
 use Rattle.rly_segment.proofs.laws.law_one_head.Goals as goal
 
 pub returns : goal.returns
-returns c = one_head c.law_one_spelling.ensures
+returns c image g segment n m a b geometry first second =
+    let once = stored_once c.law_one_spelling.ensures image g segment _ _ n m _ _ geometry.length first.holds.head second.holds.head
+    (forms_of _ g _ segment _ geometry first.holds.placed) (forms_of _ g _ segment _ geometry second.holds.placed) in
+    (once.1, sym first.bytes ∙ ap (state_in image) once.2 ∙ second.bytes)

@@ -1,7 +1,8 @@
-use Rattle.rly_checkpoint.specs.Checkpoint.{spelled_by}
-use Rattle.rly_checkpoint.specs.declared.head_form.HeadForm.TheVariants.{Second}
-use Rattle.rly_segment.proofs.Replacing.{opening_leaves}
+use Rattle.rly_disk.proofs.Making.{makes_leaves}
+use Rattle.rly_segment.proofs.Replacing.{image_of_opening}
 use Rattle.rly_segment.proofs.laws.law_opening.Goals as goal
 
 pub returns : goal.returns
-returns g c = opening_leaves g.C.Content.length_of (spelled_by g.C.Form.form Second) g.D.Disk.state
+returns g c geometry segment generation s closed whole fits there head told settled made =
+    makes_leaves g.D.Disk.state _ made settled
+    (λ image. image_of_opening _ _ geometry segment generation s closed _ image (rw settled.consistent.seen_size fits) there head told)

@@ -1,7 +1,7 @@
 use Rattle.std.proofs.Common.{◌∙◌, ap, ℕ, Vec, Global}
 use Rattle.rly_disk.specs.Record.{pending}
 use Rattle.rly_disk.proofs.RecordLemmas.{pending_part, part-within, before_but_none}
-use Rattle.rly_disk.proofs.Crashed.{restored, filled, left_image}
+use Rattle.rly_disk.proofs.Steps.{restored, filled, left_image}
 use Rattle.rly_disk.proofs.mem.MemDisk.crash.Goals as goal
 use Rattle.rly_disk.proofs.mem.MemDisk.crash.Goals.{in-AsRead, in-AsSynced, in-Fill, in-Split}
 

@@ -3,7 +3,7 @@ use Rattle.std.specs.Prelude.{Err, Ok}
 use Rattle.rly_disk.specs.MemDisk.{mem_state}
 use Rattle.rly_disk.specs.Trace.{Sync}
 use Rattle.rly_disk.proofs.Traces.{not_counted, sync_makes}
-use Rattle.rly_disk.proofs.MemSteps.{sync_within, sync_synced, sync_settled, sync_leaves}
+use Rattle.rly_disk.proofs.Steps.{sync_within, sync_synced, sync_settled, sync_leaves}
 use Rattle.rly_disk.proofs.mem.MemDiskDisk.sync.Goals as goal
 
 pub invariant_of-self : goal.invariant_of-self

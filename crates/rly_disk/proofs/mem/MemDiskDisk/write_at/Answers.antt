@@ -5,7 +5,7 @@ use Rattle.rly_disk.specs.HelpersMemDisk.{mem_consistent}
 use Rattle.rly_disk.specs.MemDisk.{mem_state}
 use Rattle.rly_disk.specs.Trace.{Write}
 use Rattle.rly_disk.proofs.Traces.{not_counted, write_makes}
-use Rattle.rly_disk.proofs.MemSteps.{write_within, write_synced, write_leaves, write_exact, write_as_synced}
+use Rattle.rly_disk.proofs.Steps.{write_within, write_synced, write_leaves, write_exact, write_as_synced}
 use Rattle.rly_disk.proofs.mem.MemDiskDisk.write_at.Goals as goal
 
 pub invariant_of-self : goal.invariant_of-self

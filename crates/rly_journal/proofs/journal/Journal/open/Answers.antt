@@ -1,6 +1,5 @@
-use Rattle.std.proofs.Common.{map, ap, subst, ◌∙◌}
-use Rattle.rly_disk.proofs.Making.{makes_later}
-use Rattle.rly_standing.specs.Calls.{BreaksOpening}
+use Rattle.std.proofs.Common.{map, ap, rules, ◌∙◌}
+use Rattle.rly_journal.proofs.Common.{makes_later}
 use Rattle.rly_standing.proofs.Following.{broken_only, broken_settled, opening_only, opening_settled, told_when}
 use Rattle.rly_journal.proofs.Opening.{opened_sound, opened_stands}
 use Rattle.rly_journal.proofs.journal.Journal.open.Goals as goal
@@ -19,22 +18,18 @@ invariant_of-result g c =
       record { empty = c.in-Ok.ensures.group; none = c.in-Ok.ensures.outcomes; room = c.in-Ok.ensures.room },
     )
 
-pub returns-in-Ok-clause-stands : goal.returns-in-Ok-clause-stands
-returns-in-Ok-clause-stands g c honest =
-    opened_stands (g.met.D.Disk.consistent c.begin.new.disk) c.in-Ok.ensures.shaped c.in-Ok.ensures.ends c.law_index.ensures.holds
+pub returns-in-Ok : goal.returns-in-Ok
+returns-in-Ok g c =
+    let only = opening_only g.D.Disk.state g.met.D.Disk.consistent c.in-Ok.ensures.trace.0 c.in-Ok.ensures.trace.2 in
+    let settled = opening_settled g.D.Disk.state g.met.D.Disk.consistent c.in-Ok.ensures.trace.0 c.in-Ok.ensures.trace.2 in
+    let stands = opened_stands (g.met.D.Disk.consistent c.begin.new.disk) c.in-Ok.ensures.shaped c.in-Ok.ensures.ends c.law_index.ensures.holds
     (ap (λ d. (g.D.Disk.state d).seen) c.of-first_disk.ensures) (ap (λ x. x.spool.state) c.of-first_index.ensures) (ap (map (λ e. e.0.value)) c.new.ensures)
-    (opening_only g.D.Disk.state g.met.D.Disk.consistent c.in-Ok.ensures.trace.0 c.in-Ok.ensures.trace.2) honest (c.in-Ok.ensures.logged honest)
-
-pub returns-in-Ok-clause-only : goal.returns-in-Ok-clause-only
-returns-in-Ok-clause-only g c = opening_only g.D.Disk.state g.met.D.Disk.consistent c.in-Ok.ensures.trace.0 c.in-Ok.ensures.trace.2
-
-pub returns-in-Ok-clause-settled : goal.returns-in-Ok-clause-settled
-returns-in-Ok-clause-settled g c honest = opening_settled g.D.Disk.state g.met.D.Disk.consistent c.in-Ok.ensures.trace.0 c.in-Ok.ensures.trace.2 honest
+    only in
+    search (rules, only, settled, stands, c.in-Ok.ensures.logged)
 
 pub returns-in-Err-clause-only : goal.returns-in-Err-clause-only
 returns-in-Err-clause-only g c = broken_only g.D.Disk.state g.met.D.Disk.consistent c.in-Err.ensures.trace
 
 pub returns-in-Err-clause-stays_refused : goal.returns-in-Err-clause-stays_refused
 returns-in-Err-clause-stays_refused g c honest told =
-    broken_settled g.D.Disk.state g.met.D.Disk.consistent
-    (subst (λ w. BreaksOpening g.D.Disk.state w c.args.disk c.begin.new.disk) (told_when c.in-Err.fault told) c.in-Err.ensures.trace) honest
+    broken_settled g.D.Disk.state g.met.D.Disk.consistent (rw (told_when c.in-Err.fault told) at c.in-Err.ensures.trace) honest

@@ -1,6 +1,5 @@
-use Rattle.std.proofs.Common.{◌≡◌, ◌∙◌, ◌++◌, false, ap, inl, sym}
-use Rattle.rly_core.specs.declared.refusal.Refusal.TheVariants.{Broken}
-use Rattle.rly_journal.specs.Rounds.{refusals}
+use Rattle.std.proofs.Common.{◌≡◌, ◌∙◌, false, ap, inl, sym}
+use Rattle.rly_journal.proofs.Common.{Broken}
 use Rattle.rly_journal.proofs.Rounded.{IsRounded, refused_unlost, shut_rounded, well_rounded}
 use Rattle.rly_journal.proofs.journal.Journal.round.Given.{Over}
 use Rattle.rly_journal.proofs.journal.Journal.round.Goals.{After-law_durable, in-Ok, in-Err}
@@ -18,12 +17,8 @@ rounded g c =
           rw (w.self-is, w.answers-is) (well_rounded whole room served)
       | in-Err w ↦
           let room = rw c.deref.ensures.value at w.in-Err.ensures in
-          let calls = c.args.calls.now.items in
           let at = ap (λ j. j.position) w.self-in-Err.view_is ∙ c.make_ready.ensures.position in
-          rw (w.self-is, w.answers-is)
-          (shut_rounded whole room (w.refuse_calls-in-Err.ensures.answers
-          ∙ ap (λ l. l ++ refusals w.in-Err.refusal w.self-in-Err.inside.position calls) c.reserve.ensures.items
-          ∙ ap (λ n. c.args.answers.now.items ++ refusals w.in-Err.refusal n calls) at))
+          rw (w.self-is, w.answers-is) (shut_rounded whole room (rw (c.reserve.ensures.items, at) at w.refuse_calls-in-Err.ensures.answers))
     ]
 
 pub returns-clause-answers : goal.returns-clause-answers
@@ -42,20 +37,20 @@ pub returns-clause-syncs : goal.returns-clause-syncs
 returns-clause-syncs g c = (rounded g c).syncs
 
 pub returns-clause-few_syncs : goal.returns-clause-few_syncs
-returns-clause-few_syncs g c = (rounded g c).few_syncs
+returns-clause-few_syncs g c none = ((rounded g c).calm none).0
 
 pub returns-clause-opened : goal.returns-clause-opened
 returns-clause-opened g c = (rounded g c).opened
 
 pub returns-clause-stays : goal.returns-clause-stays
-returns-clause-stays g c = (rounded g c).stays
+returns-clause-stays g c none = ((rounded g c).calm none).1
 
 pub returns-clause-later : goal.returns-clause-later
 returns-clause-later g c = (rounded g c).later
 
 pub returns-then-self-clause-lost : goal.returns-then-self-clause-lost
 returns-then-self-clause-lost g c = (
-  refusals Broken c.self.inside.position c.args.calls.now.items,
-  c.refuse_calls.ensures.answers ∙ ap (λ l. l ++ refusals Broken c.self.inside.position c.args.calls.now.items) c.reserve.ensures.items,
-  inl (refused_unlost Broken c.self.inside.position c.args.self.now.state c.args.calls.now.items (λ same. cc) (λ same. cc)),
+  _,
+  rw c.reserve.ensures.items at c.refuse_calls.ensures.answers,
+  inl (refused_unlost Broken c.self.inside.position (λ same. cc) (λ same. cc) c.args.self.now.state c.args.calls.now.items),
 )

@@ -1,14 +1,9 @@
-use Rattle.std.proofs.Common.{◌∙◌, arith, ap, refl, subst, sym, map}
-use Rattle.rly_core.specs.declared.params.Geometry.{Geometry}
-use Rattle.rly_disk.proofs.Making.{makes_later}
-use Rattle.rly_grouping.specs.Groups.{empty_group}
-use Rattle.rly_standing.specs.declared.tail.Tail.{Tail}
-use Rattle.rly_journal.specs.Journal.{IsDueFor}
+use Rattle.std.proofs.Common.{◌∙◌, arith, ap, length, sym, map}
+use Rattle.rly_journal.proofs.Common.{empty_group, fold, fold_append, makes_later, map_state, shown_in, shown_state, taken_of, zip}
 use Rattle.rly_journal.proofs.Rounded.{failed_served, failed_sound, none_served, some_served}
 use Rattle.rly_journal.proofs.Reading.{going, sound_read}
-use Rattle.rly_journal.proofs.Serving.{IsServing, above_there, group_none, group_room, group_there, longest_there}
-use Rattle.rly_journal.proofs.Serving.{none_sound, ready_there, serving, wanted_there, written_sound}
-use Rattle.rly_journal.specs.Showing.{shown_state}
+use Rattle.rly_journal.proofs.Serving.{IsServing, group_none, group_room, group_there, longest_there}
+use Rattle.rly_journal.proofs.Serving.{none_sound, wanted_there, written_sound}
 use Rattle.rly_journal.proofs.journal.Journal.serve.Given.{Over}
 use Rattle.rly_journal.proofs.journal.Journal.serve.Goals.{After-evaluate}
 use Rattle.rly_journal.proofs.journal.Journal.serve.Goals as goal
@@ -16,15 +11,15 @@ use Rattle.rly_journal.proofs.journal.Journal.serve.Goals as goal
 pub evaluate-requires : goal.evaluate-requires
 evaluate-requires g c =
     let j = going g.D.Disk.state c.self.view_is c.requires.broken c.self.invariant.0 in
-    record {
+    rw (j.ends.geometry, j.ends.segment) (record {
       count = c.requires.count;
       room = omega (arith, c.requires.count, c.self.invariant.1.room);
       none = c.self.invariant.1.none;
-      empty = c.self.invariant.1.empty ∙ ap (λ (h : Geometry). empty_group h.params.payload) (sym j.ends.geometry);
-      above = above_there j;
+      empty = c.self.invariant.1.empty;
+      above = omega (arith, j.sound.shaped.above);
       used = j.ends.used;
-      ready = ready_there j c.args.calls.now.items (subst (λ k. IsDueFor k c.args.calls.now.items → ⊥) (sym c.self.view_is) c.requires.ready);
-    }
+      ready = λ asks due. (rw (← c.self.view_is) at c.requires.ready) (asks, due);
+    })
 
 -- the calls were evaluated
 evaluated : (g : Over) (c : After-evaluate g) → let j = c.self.inside in let image = (g.D.Disk.state j.first_disk.value).seen in
@@ -38,8 +33,19 @@ evaluated : (g : Over) (c : After-evaluate g) → let j = c.self.inside in let i
     }) j.index c.evaluate.new.index c.evaluate.new.group (shown_state image first (map (λ e. e.0.value) c.evaluate.new.accepted.items))
     c.args.calls.now.items c.evaluate.new.outcomes.items
 evaluated g c =
-    serving g.D.Disk.state (g.D.Disk.state c.self.inside.first_disk.value).seen c.self.inside.first_index.value.spool.state c.self.view_is
-    c.requires.broken c.self.invariant.0 c.law_index.ensures.holds c.requires.count c.requires.ready c.evaluate.ensures.evaluated refl
+    let first = map_state (shown_in (g.D.Disk.state c.self.inside.first_disk.value).seen) c.self.inside.first_index.value.spool.state in
+    let before = map (λ e. e.0.value) c.self.inside.accepted.items in
+    let done = c.evaluate.ensures.evaluated in
+    record {
+      going = going g.D.Disk.state c.self.view_is c.requires.broken c.self.invariant.0;
+      holds = c.law_index.ensures.holds;
+      few = c.requires.count;
+      ready = rw (← c.self.view_is) at c.requires.ready;
+      before = before;
+      after = map (λ e. e.0.value) c.evaluate.new.accepted.items;
+      done = done;
+      shows = ap (fold length first) done.log ∙ fold_append length first before (taken_of (zip c.args.calls.now.items c.evaluate.new.outcomes.items));
+    }
 
 pub answer_all-requires : goal.answer_all-requires
 answer_all-requires g c =
@@ -85,10 +91,10 @@ invariant_of-self-in-Ok g c =
     let e = evaluated g (goal.at.invariant_of-self-in-Ok g c).After-evaluate in
     let some = sym c.is_empty.ensures ∙ c.if-is_empty.false in (
       sound_read c.answer_all-in-Ok.ensures.only
-          (written_sound e some g.met.D.Disk.consistent c.in-Ok.ensures.trace c.in-Ok.ensures.gate c.in-Ok.ensures.durable c.in-Ok.ensures.tagged
+          (written_sound e some g.met.D.Disk.consistent c.in-Ok.ensures.trace c.in-Ok.ensures.gate
           (c.seq-self-inside.ensures ∙ ap (λ m. m.state.seq) c.machine.ensures)),
       record {
-        empty = c.append.ensures.emptied ∙ ap empty_group (longest_there e ∙ ap (λ (t : Tail). t.geometry.params.payload) (sym c.in-Ok.ensures.gate));
+        empty = rw c.in-Ok.ensures.gate (c.append.ensures.emptied ∙ ap empty_group (longest_there e));
         none = c.answer_all-in-Ok.ensures.emptied;
         room = omega (arith, c.self.invariant.1.room, c.evaluate.ensures.outcomes_capacity, c.answer_all-in-Ok.ensures.outcomes_capacity);
       },
@@ -98,7 +104,7 @@ pub returns-in-Ok-clause-served : goal.returns-in-Ok-clause-served
 returns-in-Ok-clause-served g c =
     let e = evaluated g (goal.at.returns-in-Ok-clause-served g c).After-evaluate in
     let some = sym c.is_empty.ensures ∙ c.if-is_empty.false in
-    let sound = written_sound e some g.met.D.Disk.consistent c.in-Ok.ensures.trace c.in-Ok.ensures.gate c.in-Ok.ensures.durable c.in-Ok.ensures.tagged
+    let sound = written_sound e some g.met.D.Disk.consistent c.in-Ok.ensures.trace c.in-Ok.ensures.gate
     (c.seq-self-inside.ensures ∙ ap (λ m. m.state.seq) c.machine.ensures) in
     rw (← c.self.view_is)
     (some_served e some g.met.D.Disk.consistent c.in-Ok.ensures.trace sound c.in-Ok.ensures.gate c.answer_all-in-Ok.ensures.only
@@ -112,7 +118,7 @@ invariant_of-self-in-Err g c =
     let e = evaluated g (goal.at.invariant_of-self-in-Err g c).After-evaluate in (
       failed_sound e (sym c.is_empty.ensures ∙ c.if-is_empty.false) c.in-Err.ensures.trace c.in-Err.ensures.err,
       record {
-        empty = c.append.ensures.emptied ∙ ap empty_group (longest_there e ∙ ap (λ (t : Tail). t.geometry.params.payload) (sym c.in-Err.ensures.err));
+        empty = rw c.in-Err.ensures.err (c.append.ensures.emptied ∙ ap empty_group (longest_there e));
         none = c.refuse_all.ensures.emptied;
         room = omega (arith, c.self.invariant.1.room, c.evaluate.ensures.outcomes_capacity, c.refuse_all.ensures.outcomes_capacity);
       },
