@@ -1,9 +1,8 @@
 //! The worked cycles, beside the plain machine: 32 datagrams are taken and picked, all in flight are fetched, and the 32 older ones
 //! are released.
-use crate::comparison::{ask_both, fetched};
+use crate::comparison::{ask_both, fetched, machine_of};
 use crate::device::{THREE, TWO, bytes_of, head_at, new_device, opened};
-use crate::script::{Step, take_within};
-use crate::stops::machine_of;
+use crate::script::Step;
 use rly_core::{Geometry, Refusal};
 use rly_disk::{Disk, MemDisk};
 use rly_journal::Journal;
@@ -13,23 +12,6 @@ use std::process::Abort;
 
 /// How many datagrams a cycle takes.
 const TAKEN: u64 = 32;
-
-/// What a cycle takes: datagrams from a number on, of so many bytes, which may wait for so long.
-#[derive(Clone, Copy)]
-pub(crate) struct Cycle {
-    pub(crate) first: u64,
-    pub(crate) limit: u64,
-    pub(crate) length: usize,
-}
-
-/// A cycle of 1,200 bytes without a limit, counted from 1. There are at most 50.
-fn cycle_of(index: u64) -> Cycle {
-    Cycle {
-        first: TAKEN * index.saturating_sub(1).min(49) + 1,
-        limit: 0,
-        length: 1_200,
-    }
-}
 
 /// What a round asks.
 #[derive(Clone, Copy, PartialEq, Eq)]
@@ -45,45 +27,42 @@ pub(crate) enum Part {
 }
 
 /// A cycle's rounds, in their order. The first has no release.
-pub(crate) const PARTS: [Part; 4] = [Part::Takes, Part::Picks, Part::Fetches, Part::Release];
+const PARTS: [Part; 4] = [Part::Takes, Part::Picks, Part::Fetches, Part::Release];
 
-impl Cycle {
-    /// Whether it has such a round.
-    fn has(self, part: Part) -> bool {
-        self.first > 1 || part != Part::Release
+/// The number of a round's first step, and the one after its last, of a cycle that is counted from 1. There are at most 50.
+fn numbers_of(index: u64, part: Part) -> (u64, u64) {
+    let first = TAKEN * index.saturating_sub(1).min(49) + 1;
+    match part {
+        Part::Takes | Part::Picks => (first, first.saturating_add(TAKEN)),
+        Part::Fetches => (
+            first.saturating_sub(TAKEN).max(1),
+            first.saturating_add(TAKEN),
+        ),
+        Part::Release => (first.saturating_sub(1).max(1), first),
     }
+}
 
-    /// The number of the first step of a round, and the one after its last.
-    fn numbers(self, part: Part) -> (u64, u64) {
-        let after = self.first.saturating_add(TAKEN);
-        let from = match part {
-            Part::Takes | Part::Picks => self.first,
-            Part::Fetches => self.first.saturating_sub(TAKEN).max(1),
-            Part::Release => after.saturating_sub(1),
-        };
-        (from, after)
+fn step_of(part: Part, number: u64) -> Step {
+    match part {
+        Part::Takes => Step::Take {
+            number,
+            stamp: 0,
+            length: 1_200,
+        },
+        Part::Picks => Step::Pick { now: 0 },
+        Part::Fetches => Step::Fetch { number },
+        Part::Release => Step::Release { number },
     }
+}
 
-    fn step(self, part: Part, number: u64) -> Step {
-        match part {
-            Part::Takes => take_within(number, 0, self.limit, self.length),
-            Part::Picks => Step::Pick { now: 0 },
-            Part::Fetches => Step::Fetch { number },
-            Part::Release => Step::Release {
-                number: number.saturating_sub(TAKEN),
-            },
-        }
+/// The steps of a round: none of the first cycle's release.
+fn steps_of(rt: &impl Abort, alloc: Global, index: u64, part: Part) -> Vec<Step> {
+    let mut steps = Vec::new(alloc);
+    let (from, after) = numbers_of(index, part);
+    for number in from..after {
+        steps.push(step_of(part, number)).expect(rt, "memory");
     }
-
-    /// Adds the steps of a round, if it has it.
-    pub(crate) fn add(self, rt: &impl Abort, steps: &mut Vec<Step>, part: Part) {
-        if self.has(part) {
-            let (from, after) = self.numbers(part);
-            for number in from..after {
-                steps.push(self.step(part, number)).expect(rt, "memory");
-            }
-        }
-    }
+    steps
 }
 
 /// Asks a round of a cycle, if it has it, of a journal and of the plain machine.
@@ -95,8 +74,7 @@ pub(crate) fn ask_part<D: Disk>(
     index: u64,
     part: Part,
 ) {
-    let mut steps = Vec::new(alloc);
-    cycle_of(index).add(rt, &mut steps, part);
+    let steps = steps_of(rt, alloc, index, part);
     if !steps.is_empty() {
         ask_both(rt, alloc, journal, machine, &steps);
     }

@@ -28,42 +28,6 @@ pub(crate) const TWO: Geometry = Geometry {
     ..THREE
 };
 
-/// One hop, one peer, a window of 8, 16 items and 4,096 bytes, on two segments of the least length.
-pub(crate) const SMALL: Geometry = Geometry {
-    params: Params {
-        hops: 1,
-        peers: 1,
-        window: 8,
-        items: 16,
-        bytes: 4_096,
-        ..Params::DEFAULT
-    },
-    segments: 2,
-    length: 82_908,
-};
-
-/// The same spool on four segments of their least length.
-pub(crate) const FOUR: Geometry = Geometry {
-    segments: 4,
-    length: 80_177,
-    ..SMALL
-};
-
-/// One hop, one peer, a window of 64, 64 items and 524,288 bytes, on three segments of the least length for payloads of 8,192 bytes.
-pub(crate) const LONG: Geometry = Geometry {
-    params: Params {
-        hops: 1,
-        peers: 1,
-        window: 64,
-        items: 64,
-        bytes: 524_288,
-        payload: 8_192,
-        ..Params::DEFAULT
-    },
-    segments: 3,
-    length: 789_740,
-};
-
 /// A header of 64 bytes and the segments.
 const SIZE: u64 = 355_588;
 
@@ -85,7 +49,7 @@ fn put(rt: &impl Abort, disk: &mut MemDisk, place: u64, bytes: &[u8]) {
 
 /// A new device of a geometry, on zeroed bytes.
 pub(crate) fn new_device(rt: &impl Abort, alloc: Global, geometry: &Geometry) -> MemDisk {
-    assert!(rt; geometry.segments <= 256 && geometry.length <= 789_740);
+    assert!(rt; geometry.segments <= 256 && geometry.length <= 162_000);
     let size = 64 + geometry.segments * geometry.length;
     let mut disk = zeroed(rt, alloc, size as usize);
     expect!(rt; format(alloc, &mut disk, geometry) == Ok(()));
@@ -95,11 +59,6 @@ pub(crate) fn new_device(rt: &impl Abort, alloc: Global, geometry: &Geometry) ->
 /// A disk of so many zeroed bytes.
 pub(crate) fn zeroed(rt: &impl Abort, alloc: Global, size: usize) -> MemDisk {
     MemDisk::new(alloc, vec![in alloc; 0u8; size].expect(rt, "memory"))
-}
-
-/// The bytes of a new device of a geometry.
-pub(crate) fn new_image(rt: &impl Abort, alloc: Global, geometry: &Geometry) -> Vec<u8> {
-    bytes_of(rt, alloc, &mut new_device(rt, alloc, geometry))
 }
 
 /// What opening a device gives: its journal, or why not, with the device.
@@ -130,7 +89,7 @@ pub(crate) fn head_at(
     segment: u64,
 ) -> [u8; 13] {
     assert!(rt;
-        segment < geometry.segments && geometry.segments <= 3 && geometry.length <= 789_740
+        segment < geometry.segments && geometry.segments <= 3 && geometry.length <= 156_908
     );
     let place = (64 + segment * geometry.length) as usize;
     assert!(rt; place <= bytes.len() && 13 <= bytes.len() - place);

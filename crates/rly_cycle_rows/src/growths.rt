@@ -1,19 +1,27 @@
 //! Calls of a journal where one growth of memory is refused (`bench/scarce_memory`): each says so, and keeps what it promises.
-use crate::comparison::{are_all, fetched, is_answered};
+use crate::comparison::{fetched, is_answered};
 use crate::cycles::{after_cycles, before_the_picks, expect_in_flight};
 use crate::device::{THREE, device_with, opened, tried};
 use crate::opening::TAKEN_AND_PICKED;
-use crate::script::{Step, calls_of, take};
-use crate::stops::KINDS;
-use crate::told::is_refused;
+use crate::script::{Step, calls_of};
+use crate::told::{Told, is_told};
 use rly_core::Refusal;
 use rly_disk::{Disk, MemDisk, Torn};
 use rly_journal::Journal;
-use rly_machine::{Answer, Machine, Payload};
+use rly_machine::{Answer, Machine, Payload, Reply};
 use rly_scarce::{before, was_refused};
 use rly_standing::OpenFault;
 use std::alloc::Global;
 use std::process::Abort;
+
+/// What a crash may leave of the bytes that were written since the last sync.
+const KINDS: [Torn; 5] = [
+    Torn::AsRead,
+    Torn::AsSynced,
+    Torn::Fill(0xa5),
+    Torn::Fill(0),
+    Torn::Split(1),
+];
 
 /// What is refused is handed back as it was, and is opened where there is memory.
 #[test]
@@ -69,7 +77,11 @@ fn begun(rt: &impl Abort, alloc: Global, due: bool) -> (Journal<MemDisk>, Machin
 fn steps_in_scarce_memory(due: bool) -> [Step; 4] {
     [
         Step::Release { number: 33 },
-        take(if due { 97 } else { 65 }, 0, 1_200),
+        Step::Take {
+            number: if due { 97 } else { 65 },
+            stamp: 0,
+            length: 1_200,
+        },
         Step::Pick { now: 0 },
         Step::Fetch { number: 65 },
     ]
@@ -95,6 +107,20 @@ fn expect_answers(
         }
     }
     starved
+}
+
+/// Whether a reply is a refusal, and which.
+fn is_refused(reply: &Reply, refusal: Refusal) -> bool {
+    is_told(reply, Told::refused(refusal))
+}
+
+/// Whether all are refused alike.
+fn are_all(answers: &[Answer], refusal: Refusal) -> bool {
+    let mut are_all = true;
+    for answer in answers {
+        are_all = are_all && is_refused(&answer.reply, refusal);
+    }
+    are_all
 }
 
 /// What a round was told.

@@ -1,9 +1,9 @@
-//! Tests of a journal that goes through many rounds and segments: worked cycles, scripts that are
-//! stopped at each call of their device, and 256 segments.
+//! Tests of a journal that goes through many rounds and segments: worked cycles, openings, and
+//! growths of memory that are refused.
 //!
-//! They compare its answers, and the state that it is opened to, with those of the plain machine run
-//! beside, on disks in memory of two to 256 segments. They use the built libraries, so that these are
-//! proved once. The crate has no code but tests, so no crate may call it.
+//! They compare its answers, and the state that it is opened to, with those of the plain machine
+//! run beside, on disks in memory of two to 256 segments. They use the built libraries, so that
+//! these are proved once. The crate has no code but tests, so no crate may call it.
 #![tactic(auto)]
 
 /// As `assert!`, by one call: the prover then sees one way on where `assert!` has two. `assert!` stands where a later call needs
@@ -21,8 +21,6 @@ macro_rules! expect {
 #[cfg(test)]
 mod broad;
 #[cfg(test)]
-mod carried_over;
-#[cfg(test)]
 mod comparison;
 #[cfg(test)]
 mod cycles;
@@ -31,15 +29,9 @@ mod device;
 #[cfg(test)]
 mod expect;
 #[cfg(test)]
-mod faults;
-#[cfg(test)]
 mod growths;
 #[cfg(test)]
-mod long_payloads;
-#[cfg(test)]
 mod many_segments;
-#[cfg(test)]
-mod old_device;
 #[cfg(test)]
 mod opening;
 #[cfg(test)]
@@ -47,8 +39,4 @@ mod rounds;
 #[cfg(test)]
 mod script;
 #[cfg(test)]
-mod stops;
-#[cfg(test)]
 mod told;
-#[cfg(test)]
-mod walks;

@@ -1,9 +1,8 @@
 //! A device of 256 segments, each of which is opened.
-use crate::comparison::is_answered;
+use crate::comparison::{is_answered, machine_of};
 use crate::cycles::{Part, ask_part};
 use crate::device::{bytes_of, new_device, opened};
 use crate::script::{answers_to, payload_of};
-use crate::stops::machine_of;
 use rly_core::{Geometry, HopId, Params, PeerId};
 use rly_disk::MemDisk;
 use rly_journal::Journal;

@@ -1,14 +1,36 @@
 //! Rounds of a journal on a device of three segments.
-use crate::comparison::{ask_both, fetched};
+use crate::comparison::{ask_all, ask_both, fetched, machine_of};
 use crate::device::{THREE, new_device, opened};
-use crate::script::{Step, take};
-use crate::stops::machine_of;
-use crate::told::{Told, expect_told};
+use crate::script::Step;
+use crate::told::{Told, is_told};
 use rly_core::Refusal;
 use rly_disk::Disk;
 use rly_journal::Journal;
 use std::alloc::Global;
 use std::process::Abort;
+
+/// Takes so many bytes.
+fn take(number: u64, stamp: u64, length: usize) -> Step {
+    Step::Take {
+        number,
+        stamp,
+        length,
+    }
+}
+
+/// Asks each step in a round of its own, and expects its reply.
+fn expect_told<D: Disk>(
+    rt: &impl Abort,
+    alloc: Global,
+    journal: &mut Journal<D>,
+    rows: &[(Step, Told)],
+) {
+    for (step, told) in rows {
+        for answer in &ask_all(rt, alloc, journal, &[*step]) {
+            expect!(rt; is_told(&answer.reply, *told), answer.position);
+        }
+    }
+}
 
 /// A datagram is taken and picked, the device is opened again, and the datagram is fetched and released.
 #[test]

@@ -1,9 +1,9 @@
-//! Tests of devices and streams: disks, groups, heads, and the opening of segments, stopped at
-//! each call.
+//! Tests of disks and streams: disks in memory whose calls fail or that crash, groups that are
+//! appended to them, stopped at each call, and streams that fail.
 //!
 //! A contract says what one call does for all inputs. These tests compare calls with what a
-//! person wrote down (docs/FORMATS.md), on disks in memory. They use the built libraries, so that
-//! these are proved once. The crate has no code but tests, so no crate may call it.
+//! person wrote down. They use the built libraries, so that these are proved once. The crate has
+//! no code but tests, so no crate may call it.
 #![tactic(auto)]
 
 /// As `assert!`, by one call: the prover then sees one way on where `assert!` has two. `assert!` stands where a later call needs
@@ -24,13 +24,5 @@ mod disks;
 mod expect;
 #[cfg(test)]
 mod groups;
-#[cfg(test)]
-mod heads;
-#[cfg(test)]
-mod opening;
-#[cfg(test)]
-mod placed;
-#[cfg(test)]
-mod room;
 #[cfg(test)]
 mod streams;

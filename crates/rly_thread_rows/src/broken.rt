@@ -3,9 +3,9 @@
 ghost use Rattle.std.specs.Prelude.{None, false};
 
 use crate::devices::{device, failing, journal_on};
+use crate::links::link_with;
 use crate::overlap::{DATA, WORKERS};
 use crate::relayed::{Left, left_by};
-use crate::workers::link_with;
 use rly_core::PeerId;
 use rly_disk::{After, Disk, FaultDisk, MemDisk};
 use rly_journal::Journal;
@@ -70,8 +70,8 @@ fn posts<R: Abort>(rt: &R, clock: HostRuntime) -> Vec<Post<MemLink, Long<HostRun
     let mut posts = Vec::new(alloc);
     for worker in WORKERS {
         let link = match worker {
-            Worker::Receiver(PeerId(1)) => link_with(rt, alloc, 1, &[0], DATA[0], 0),
-            _ => link_with(rt, alloc, 0, &[], DATA[0], 0),
+            Worker::Receiver(PeerId(1)) => link_with(rt, alloc, &[DATA[0]]),
+            _ => link_with(rt, alloc, &[]),
         };
         let turn = Long { clock, left: TURNS };
         posts.push(Post { worker, link, turn }).expect(rt, "memory");

@@ -11,14 +11,8 @@ use std::process::Abort;
 const DEVICE: Geometry = Geometry {
     params: Params {
         hops: 1,
-        peers: 4,
-        window: 8,
-        items: 1_024,
         bytes: 4_096,
-        maxpacket: 1_500,
-        target: 5_000,
-        interval: 100_000,
-        payload: 1_200,
+        ..Params::DEFAULT
     },
     segments: 2,
     length: 110_148,
@@ -30,12 +24,8 @@ const WIDE: Geometry = Geometry {
         hops: 64,
         peers: 64,
         window: 64,
-        items: 1_024,
         bytes: 4_096,
-        maxpacket: 1_500,
-        target: 5_000,
-        interval: 100_000,
-        payload: 1_200,
+        ..Params::DEFAULT
     },
     segments: 2,
     length: 400_000,

@@ -1,5 +1,4 @@
-//! Tests of what runs in threads: seats and their line, the flusher, the workers, and a relay of
-//! them.
+//! Tests of a relay of workers in threads, and of two workers in threads beside a flusher.
 //!
 //! A contract says what one call does for all inputs, and none says that a thread runs or that a
 //! message comes. These tests run threads to their end and compare what came of them with what a
@@ -7,8 +6,7 @@
 //! so that these are proved once. No crate may call it: it has no code but tests.
 #![tactic(auto)]
 
-/// As `assert!`, by one call: the prover then sees one way on where `assert!` has two. `assert!` stands where a later call needs
-/// what was asserted, and where the text names a row.
+/// As `assert!`, by one call: the prover then sees one way on where `assert!` has two.
 #[cfg(test)]
 macro_rules! expect {
     ($rt:expr; $cond:expr $(,)?) => {
@@ -17,46 +15,18 @@ macro_rules! expect {
 }
 
 #[cfg(test)]
-mod asks;
-#[cfg(test)]
 mod broken;
-#[cfg(test)]
-mod callers;
-#[cfg(test)]
-mod copies;
 #[cfg(test)]
 mod devices;
 #[cfg(test)]
 mod expect;
 #[cfg(test)]
-mod failures;
-#[cfg(test)]
-mod flushers;
-#[cfg(test)]
-mod limits;
-#[cfg(test)]
-mod lines;
-#[cfg(test)]
-mod memory;
+mod links;
 #[cfg(test)]
 mod overlap;
-#[cfg(test)]
-mod paces;
-#[cfg(test)]
-mod receivers;
-#[cfg(test)]
-mod refusals;
 #[cfg(test)]
 mod relayed;
 #[cfg(test)]
 mod relays;
 #[cfg(test)]
-mod rounds;
-#[cfg(test)]
-mod senders;
-#[cfg(test)]
-mod served;
-#[cfg(test)]
 mod unsure;
-#[cfg(test)]
-mod workers;

@@ -3,8 +3,8 @@
 ghost use Rattle.std.specs.Prelude.{None, false};
 
 use crate::devices::new_journal;
+use crate::links::link_with;
 use crate::relayed::{Left, left_by};
-use crate::workers::link_with;
 use rly_core::{HopId, PeerId};
 use rly_post::{Go, MemLink, Point, Post, Turn, Worker};
 use std::alloc::Global;
@@ -89,9 +89,9 @@ impl<'a, C: Clock + Drop> Turn for Held<'a, C> {
 /// The link of a worker: a receiver hears one datagram at first.
 fn link_of<R: Abort>(rt: &R, alloc: Global, worker: Worker) -> MemLink {
     match worker {
-        Worker::Receiver(PeerId(1)) => link_with(rt, alloc, 1, &[0], DATA[0], 0),
-        Worker::Receiver(_) => link_with(rt, alloc, 1, &[0], DATA[1], 0),
-        Worker::Sender(_) => link_with(rt, alloc, 0, &[], DATA[0], 0),
+        Worker::Receiver(PeerId(1)) => link_with(rt, alloc, &[DATA[0]]),
+        Worker::Receiver(_) => link_with(rt, alloc, &[DATA[1]]),
+        Worker::Sender(_) => link_with(rt, alloc, &[]),
     }
 }
 

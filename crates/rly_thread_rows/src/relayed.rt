@@ -73,6 +73,11 @@ fn left_in<D: Disk, T: Turn>(relayed: &Relayed<D, MemLink, T>) -> Left {
     left
 }
 
+/// The plan of station 7.
+pub(super) fn plan<R: Abort>(rt: &R, alloc: Global) -> Plan {
+    Plan::from_toml(alloc, PLAN).ok().expect(rt, "a plan")
+}
+
 /// Runs a relay of these posts to its end.
 fn relayed<R: Abort + Threads + Wait + Sync, D: Disk + Drop, T: Turn + Drop + Send>(
     rt: &R,
@@ -80,7 +85,7 @@ fn relayed<R: Abort + Threads + Wait + Sync, D: Disk + Drop, T: Turn + Drop + Se
     journal: Journal<D>,
     posts: Vec<Post<MemLink, T>>,
 ) -> Relayed<D, MemLink, T> {
-    let plan = Plan::from_toml(alloc, PLAN).ok().expect(rt, "a plan");
+    let plan = plan(rt, alloc);
     if posts.is_empty() || posts.len() > 256 {
         panic!(rt; "1 to 256 posts");
     }

@@ -2,13 +2,11 @@
 
 ghost use Rattle.std.specs.Prelude.{None, false};
 
-use crate::devices::{journal_on, new_journal, wide_device};
-use crate::receivers::numbered;
-use crate::relayed::{Left, left_by, run};
-use crate::rounds::broken_journal;
-use crate::workers::give;
+use crate::devices::{failing, journal_on, new_journal, wide_device};
+use crate::links::give;
+use crate::relayed::{left_by, run};
 use rly_core::PeerId;
-use rly_disk::MemDisk;
+use rly_disk::{After, FaultDisk, MemDisk};
 use rly_journal::Journal;
 use rly_post::{Go, MemLink, Point, Post, Turn, Worker};
 use std::alloc::Global;
@@ -44,6 +42,14 @@ impl Turn for Turns {
     }
 }
 
+/// Data from station 3 to station 7 under this number, payload `000c41`.
+fn numbered(number: u8) -> [u8; 21] {
+    let mut packet =
+        *b"\x52\x4c\x01\x01\x00\x03\x00\x07\x00\x00\x00\x00\x00\x00\x00\x01\x00\x03\x00\x0c\x41";
+    packet[15] = number;
+    packet
+}
+
 /// The post of the receiver of a peer, which has so many turns and hears Data under each of these numbers.
 fn post<R: Abort>(
     rt: &R,
@@ -55,7 +61,7 @@ fn post<R: Abort>(
 ) -> Post<MemLink, Turns> {
     let mut coming = Vec::new(alloc);
     for number in first..=last {
-        give(rt, alloc, &mut coming, &numbered(number, 12));
+        give(rt, alloc, &mut coming, &numbered(number));
     }
     Post {
         worker: Worker::Receiver(PeerId(peer)),
@@ -125,16 +131,32 @@ fn as_many_workers_as_a_line_has_seats(rt: HostRuntime) {
     run_wide(&rt, rt.alloc());
 }
 
+/// A journal that broke in the first round of a relay.
+fn broken_journal<R: Abort + Threads + Wait + Sync>(
+    rt: &R,
+    alloc: Global,
+) -> Journal<FaultDisk<MemDisk>> {
+    for fails_at in 1..100 {
+        if let Some(journal) = failing(rt, alloc, fails_at, After::Stops) {
+            let (left, journal) = run(rt, alloc, journal, posts(rt, alloc, 1, (1, 1)));
+            if left.broken {
+                return journal;
+            }
+        }
+    }
+    panic!(rt; "no journal broke")
+}
+
 /// Runs a relay over a broken journal. It says so, and its worker sends nothing.
-fn run_broken<R: Abort + Threads + Wait + Copy + Send + Sync + 'static>(rt: R, alloc: Global) {
-    let posts = posts(&rt, alloc, 1, (1, 1));
-    let left = left_by(&rt, alloc, broken_journal(rt, alloc), posts);
-    expect!(rt; left.broken && left.is_cut);
-    expect!(rt; (left.ran, left.sent) == (1, 0));
+fn run_broken<R: Abort + Threads + Wait + Sync>(rt: &R, alloc: Global) {
+    let posts = posts(rt, alloc, 1, (1, 1));
+    let left = left_by(rt, alloc, broken_journal(rt, alloc), posts);
+    expect!(*rt; left.broken && left.is_cut);
+    expect!(*rt; (left.ran, left.sent) == (1, 0));
 }
 
 /// A relay over a journal that is broken begins, takes nothing, and says so.
 #[test]
 fn a_relay_of_a_broken_journal_ends(rt: HostRuntime) {
-    run_broken(rt, rt.alloc());
+    run_broken(&rt, rt.alloc());
 }

@@ -1,15 +1,212 @@
 //! Two receivers of one peer, which hear copies of one datagram, over a flusher whose device fails.
 
-use crate::callers::{Caller, Told, both, is_kept};
+ghost use Rattle.std.specs.Prelude.{None};
+
 use crate::devices::failing;
-use crate::served::run;
-use rly_disk::{After, FaultDisk, MemDisk};
+use crate::links::link_with;
+use crate::overlap::DATA;
+use crate::relayed::plan;
+use rly_core::{PeerId, Refusal};
+use rly_disk::{After, Disk, FaultDisk, MemDisk};
+use rly_flush::{Finished, Flusher};
 use rly_journal::Journal;
+use rly_line::{BatchError, CallError, Seat, make};
+use rly_machine::{Answer, Ask, Reply};
+use rly_post::{MemLink, MemTurn};
+use rly_workers::{Desk, Ends, receiver_run};
 use std::alloc::Global;
 use std::process::Abort;
 use std::sync::Wait;
-use std::thread::Threads;
-use std::time::Clock;
+use std::thread;
+use std::thread::{JoinHandle, Threads};
+use std::time::{Clock, Duration};
+
+/// The custody of the datagram.
+const CUSTODY: &[u8] = b"\x52\x4c\x01\x02\x00\x07\x00\x03\x00\x00\x00\x00\x00\x00\x00\x01";
+
+/// How a receiver's Take was answered.
+#[derive(Clone, Copy)]
+enum Told {
+    Nothing,
+    Taken,
+    /// It was taken before, as the last one of its peer.
+    Already,
+    Unsure,
+    Other,
+    Lost,
+    /// The line was closed to it.
+    Closed,
+}
+
+/// How the first Take of a receiver was answered, and its last one.
+#[derive(Clone, Copy)]
+struct Heard {
+    first: Told,
+    last: Told,
+}
+
+impl Heard {
+    /// Nothing was asked yet.
+    fn nothing() -> Heard {
+        Heard {
+            first: Told::Nothing,
+            last: Told::Nothing,
+        }
+    }
+
+    /// Notes what became of the next ask.
+    fn note(&mut self, told: Told) {
+        if matches!(self.first, Told::Nothing) {
+            self.first = told;
+        }
+        self.last = told;
+    }
+
+    /// Notes the answers to the next asks.
+    fn note_all(&mut self, answers: &[Answer]) {
+        for answer in answers {
+            self.note(told_by(&answer.reply));
+        }
+    }
+}
+
+/// What a reply tells.
+fn told_by(reply: &Reply) -> Told {
+    match reply {
+        Reply::Taken(_) => Told::Taken,
+        Reply::Already(1) => Told::Already,
+        Reply::Refused(Refusal::Unsure) => Told::Unsure,
+        _ => Told::Other,
+    }
+}
+
+/// What is told of a Take that wasn't answered.
+fn told_of(error: &CallError) -> Told {
+    match error {
+        CallError::Lost => Told::Lost,
+        CallError::Closed(Ask::Command(_)) => Told::Closed,
+        CallError::Closed(_) => Told::Other,
+    }
+}
+
+/// A desk that notes how its calls were answered.
+#[derive(Drop)]
+struct Noting<K: Desk> {
+    desk: K,
+    heard: Heard,
+}
+
+impl<K: Desk> Desk for Noting<K> {
+    ghost asked = { λ _. None };
+
+    fn call<R: Wait>(&mut self, rt: &R, ask: Ask) -> Result<Answer, CallError> {
+        let outcome = self.desk.call(rt, ask);
+        match &outcome {
+            Ok(answer) => self.heard.note(told_by(&answer.reply)),
+            Err(error) => self.heard.note(told_of(error)),
+        }
+        outcome
+    }
+
+    fn call_all<R: Wait>(
+        &mut self,
+        rt: &R,
+        asks: &mut Vec<Ask>,
+        answers: &mut Vec<Answer>,
+    ) -> Result<(), BatchError> {
+        let outcome = self.desk.call_all(rt, asks, answers);
+        match answers.is_empty() {
+            true => self.heard.note(Told::Lost),
+            false => self.heard.note_all(answers.as_slice()),
+        }
+        outcome
+    }
+}
+
+/// A receiver hears the datagram once and asks for it. Its link, and how it was answered.
+fn hear<R: Abort + Wait, K: Desk + Drop>(rt: &R, alloc: Global, desk: K) -> (MemLink, Heard) {
+    let mut ends = Ends {
+        link: link_with(rt, alloc, &[DATA[0]]),
+        desk: Noting {
+            desk,
+            heard: Heard::nothing(),
+        },
+        turn: MemTurn::new(150, 1, 1),
+    };
+    receiver_run(rt, alloc, &plan(rt, alloc), PeerId(1), &mut ends);
+    (ends.link, ends.desk.heard)
+}
+
+/// Whether a receiver's datagram is kept.
+fn is_kept(told: Told) -> bool {
+    matches!(told, Told::Taken | Told::Already)
+}
+
+/// How that receiver was answered. It sends custody exactly if the datagram is kept.
+fn receive<R: Abort + Wait, K: Desk + Drop>(rt: &R, alloc: Global, desk: K) -> Told {
+    let (link, heard) = hear(rt, alloc, desk);
+    let delivered = link.delivered();
+    expect!(*rt; delivered.len() == usize::from(is_kept(heard.last)));
+    expect!(*rt; delivered.iter().all(|packet| packet.as_slice() == CUSTODY));
+    heard.first
+}
+
+/// A thread that does this.
+fn spawned<R: Abort + Threads, F: FnOnce() -> T + Send + Drop + 'static, T: Send + Drop + 'static>(
+    rt: &R,
+    f: F,
+) -> JoinHandle<T>
+    requires { F.pre f }
+{
+    thread::spawn(rt, f).ok().expect(rt, "a thread")
+}
+
+/// That receiver in a thread of its own.
+fn receiving<R: Abort + Threads + Wait + Copy + Send + 'static, K: Desk + Send + Drop + 'static>(
+    rt: R,
+    alloc: Global,
+    desk: K,
+) -> JoinHandle<Told> {
+    spawned(&rt, move || receive(&rt, alloc, desk))
+}
+
+/// Two of them.
+fn both_receiving<
+    R: Abort + Threads + Wait + Copy + Send + 'static,
+    K: Desk + Send + Drop + 'static,
+>(rt: R, alloc: Global, mut desks: Vec<K>) -> (JoinHandle<Told>, JoinHandle<Told>) {
+    let second = desks.pop().expect(&rt, "two desks");
+    let first = desks.pop().expect(&rt, "two desks");
+    (receiving(rt, alloc, first), receiving(rt, alloc, second))
+}
+
+/// A flusher over a journal, and two seats at a line that holds two calls.
+fn flusher_over<R: Abort, D: Disk + Drop>(
+    rt: &R,
+    alloc: Global,
+    journal: Journal<D>,
+) -> (Vec<Seat>, Flusher<D>) {
+    let (seats, line) = make(alloc, 2, 2).ok().expect(rt, "memory");
+    let flusher = Flusher::new(alloc, journal, line).ok().expect(rt, "memory");
+    (seats, flusher)
+}
+
+/// What a flusher leaves once it served its seats.
+fn served<R: Wait, D: Disk + Drop>(rt: &R, flusher: Flusher<D>) -> Finished<D> {
+    flusher.serve(rt)
+}
+
+/// A flusher serves both receivers to their end, and keeps its end of the lines until they were told. Whether its journal is broken, and
+/// how each was answered.
+fn ended<R: Abort + Threads + Wait, D: Disk + Drop>(
+    rt: &R,
+    flusher: Flusher<D>,
+    (one, other): (JoinHandle<Told>, JoinHandle<Told>),
+) -> (bool, Told, Told) {
+    let finished = served(rt, flusher);
+    let (one, other) = (one.join(rt), other.join(rt));
+    (finished.broken, one, other)
+}
 
 /// Two receivers, each in a thread of its own, over a journal, whose flusher begins after so many milliseconds. How each was
 /// answered.
@@ -19,15 +216,11 @@ fn copies_over<R: Abort + Threads + Wait + Clock + Copy + Send + 'static>(
     journal: Journal<FaultDisk<MemDisk>>,
     begins_after: u64,
 ) -> (Told, Told) {
-    let (left, told) = run(
-        rt,
-        alloc,
-        journal,
-        &[Caller::Receiver; 2],
-        (2, begins_after),
-    );
-    let (one, other) = both(&rt, told.as_slice());
-    expect!(rt; left.broken == !(is_kept(one) && is_kept(other)));
+    let (seats, flusher) = flusher_over(&rt, alloc, journal);
+    let both = both_receiving(rt, alloc, seats);
+    thread::sleep(&rt, Duration::from_millis(begins_after));
+    let (is_broken, one, other) = ended(&rt, flusher, both);
+    expect!(rt; is_broken == !(is_kept(one) && is_kept(other)));
     (one, other)
 }
 
