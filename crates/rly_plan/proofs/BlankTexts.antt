@@ -5,7 +5,7 @@ use Rattle.toml.specs.Errors.{IsBlank}
 use Rattle.toml.specs.Parse.{parse_document, skip_bom}
 use Rattle.toml.specs.Tables.{no_nodes}
 use Rattle.toml.proofs.Turns.{document_some, lines_end}
-use Rattle.rly_plan.specs.Draft.{PlanText, draft_of, integer_at}
+use Rattle.rly_plan_draft.specs.Draft.{PlanText, draft_of, integer_at}
 
 blank_document : (text : List ℕ) → IsBlank text → parse_document text ≡ Some no_members
 blank_document text blank = document_some text (no_nodes, []) (lines_end (suc (length text)) (no_nodes, []) (skip_bom text) (omega arith) blank)

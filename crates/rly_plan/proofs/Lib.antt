@@ -2,7 +2,6 @@ pub mod LinkLaws
 pub mod LinkLemmas
 pub mod ChangeLaws
 pub mod PassLemmas
-pub mod DraftLemmas
 pub mod BlankTexts
 pub mod SoundPlans
 pub mod PlaceTests

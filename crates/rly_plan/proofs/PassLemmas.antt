@@ -5,17 +5,18 @@ use Rattle.std.specs.Option.{option_or}
 use Rattle.std.proofs.lemmas.Bool.{and_parts, cases_eq, ne_eqb, false≢true}
 use Rattle.std.proofs.lemmas.List.{drop_all, drop_more}
 use Rattle.rly_core.specs.declared.limits.TheConstants.{MAX_CONTACTS, MAX_HOPS, MAX_PEERS, MOMENT_LIMIT}
-use Rattle.rly_plan.specs.declared.draft.ContactDraft.{ContactDraft}
-use Rattle.rly_plan.specs.declared.place.Place.{Place}
-use Rattle.rly_plan.specs.declared.place.Place.TheVariants.{In}
-use Rattle.rly_plan.specs.declared.place.Row.{Row}
-use Rattle.rly_plan.specs.declared.place.Spot.{Spot}
-use Rattle.rly_plan.specs.declared.place.Spot.TheVariants.{Contact}
+use Rattle.rly_plan_draft.specs.declared.draft.ContactDraft.{ContactDraft}
+use Rattle.rly_plan_draft.specs.declared.place.Place.{Place}
+use Rattle.rly_plan_draft.specs.declared.place.Place.TheVariants.{In}
+use Rattle.rly_plan_draft.specs.declared.place.Row.{Row}
+use Rattle.rly_plan_draft.specs.declared.place.Spot.{Spot}
+use Rattle.rly_plan_draft.specs.declared.place.Spot.TheVariants.{Contact}
 use Rattle.rly_core.specs.declared.refusal.Refusal.TheVariants.{Range}
 use Rattle.rly_plan.specs.ContactPlan.{ContactPlan}
 use Rattle.rly_plan.specs.HelpersContacts.{last_end}
-use Rattle.rly_plan.specs.Draft.{HopText, PlanText}
-use Rattle.rly_plan.specs.Places.{first_adjacent, first_repeat, first_row, unless}
+use Rattle.rly_plan_draft.specs.Draft.{HopText, PlanText}
+use Rattle.rly_plan_draft.specs.DocumentPlaces.{unless}
+use Rattle.rly_plan.specs.Places.{first_adjacent, first_repeat, first_row}
 use Rattle.rly_plan.specs.Passes.{all_numbered, hop_in_range, is_in_range, is_station, neighbour_in_range, plan_of_draft, rate_in_range, resend_in_range, route_in_range, rows_in_range, is_between, number, contact_in_range, all_adjacent, are_apart, repeats, contact_from}
 
 abbrev pub none_of : (A : Type 0) → List A

@@ -1,47 +1,21 @@
--- A pass is met exactly where it tells no place of a fault.
-use Rattle.std.proofs.Common.{◌≡◌, ℕ, ◌+◌, nat_le, Bool, true, false, not, ◌&&◌, if◌then◌else◌, List, [], ◌∷◌, length, codes, Option, Some, None, is_some, is_none, option_map, refl, ap, ◌∙◌}
-use Rattle.std.specs.Option.{option_or}
+-- A pass over the numbers is met exactly where it tells no place of a fault.
+use Rattle.std.proofs.Common.{◌≡◌, ℕ, ◌+◌, nat_le, Bool, ◌&&◌, List, [], ◌∷◌, length, Option, is_none, option_map, refl, ap, ◌∙◌}
 use Rattle.std.specs.List.{list_all}
-use Rattle.std.specs.Str.{bytes_eq}
-use Rattle.toml.specs.Data.{Data, array, table, Items, no_items, item, Members, no_members, member}
 use Rattle.rly_core.specs.declared.limits.TheConstants.{MAX_CONTACTS, MAX_HOPS, MAX_PEERS}
-use Rattle.rly_plan.specs.declared.draft.ContactDraft.{ContactDraft}
-use Rattle.rly_plan.specs.declared.draft.NeighbourDraft.{NeighbourDraft}
-use Rattle.rly_plan.specs.declared.draft.RouteDraft.{RouteDraft}
-use Rattle.rly_plan.specs.declared.place.Place.TheVariants as place
-use Rattle.rly_plan.specs.declared.place.Row.{Row}
-use Rattle.rly_plan.specs.declared.place.Row.TheVariants as row
-use Rattle.rly_plan.specs.declared.place.Spot.{Spot}
-use Rattle.rly_plan.specs.declared.place.Spot.TheVariants as spot
-use Rattle.rly_plan.specs.declared.place.Key.TheVariants as key
-use Rattle.rly_plan.specs.Draft.{HopText, PlanText}
-use Rattle.rly_plan.specs.Keys.{has_key, has_no_key, is_known, item_is_known, items_are_known, keys_are_known, row_is_known, rows_are_known}
+use Rattle.rly_plan_draft.specs.declared.draft.ContactDraft.{ContactDraft}
+use Rattle.rly_plan_draft.specs.declared.draft.NeighbourDraft.{NeighbourDraft}
+use Rattle.rly_plan_draft.specs.declared.draft.RouteDraft.{RouteDraft}
+use Rattle.rly_plan_draft.specs.declared.place.Place.TheVariants as place
+use Rattle.rly_plan_draft.specs.declared.place.Row.{Row}
+use Rattle.rly_plan_draft.specs.declared.place.Row.TheVariants as row
+use Rattle.rly_plan_draft.specs.declared.place.Spot.{Spot}
+use Rattle.rly_plan_draft.specs.declared.place.Spot.TheVariants as spot
+use Rattle.rly_plan_draft.specs.declared.place.Key.TheVariants as key
+use Rattle.rly_plan_draft.specs.DocumentPlaces.{unless}
+use Rattle.rly_plan_draft.specs.Draft.{HopText, PlanText}
+use Rattle.rly_plan_draft.proofs.NoPlace.{none_map, none_or, none_unless}
 use Rattle.rly_plan.specs.Passes.{all_adjacent, all_numbered, are_apart, begin_in_order, contact_in_range, hop_in_range, is_between, is_in_range, is_sorted, is_station, leads_to_hops, neighbour_in_range, rate_in_range, resend_in_range, route_in_range, rows_in_range}
-use Rattle.rly_plan.specs.Places.{apart_fault, first_adjacent, first_contact, first_item, first_row, hop_range_fault, item_unknown, lead_fault, lead_place, neighbour_range_fault, order_fault, range_place, route_range_fault, row_unknown, rows_range_fault, rows_unknown, sorted_place, spot_named, unknown_place, unless, value_unknown}
-
--- a test whose answer is that no place is told
-pub told : {A : Type 0} (o : Option A) (found test : Bool) → is_some o ≡ not found → is_none o ≡ test → found ≡ test
-told None true test some none = none
-told None false test some none = absurd cc
-told (Some x) true test some none = absurd cc
-told (Some x) false test some none = none
-
--- ---- no place of two, of a test and of a row
-
-both : (a b c d : Bool) → a ≡ c → b ≡ d → (a && b) ≡ (c && d)
-both a b c d p q = λ i. p i && q i
-
-none_or : {A : Type 0} (a b : Option A) (c d : Bool) → is_none a ≡ c → is_none b ≡ d → is_none (option_or a b) ≡ (c && d)
-none_or None b c d p q = both true (is_none b) c d p q
-none_or (Some x) b c d p q = both false (is_none b) c d p q
-
-none_unless : {A : Type 0} (b : Bool) (at : A) → is_none (unless b at) ≡ b
-none_unless true at = refl
-none_unless false at = refl
-
-none_map : {A B : Type 0} (f : A → B) (o : Option A) (c : Bool) → is_none o ≡ c → is_none (option_map f o) ≡ c
-none_map f None c p = p
-none_map f (Some x) c p = p
+use Rattle.rly_plan.specs.Places.{apart_fault, first_adjacent, first_contact, first_row, hop_range_fault, lead_fault, lead_place, neighbour_range_fault, order_fault, range_place, route_range_fault, rows_range_fault, sorted_place}
 
 none_row : {A : Type 0} (fault : ℕ → A → Option Spot) (test : ℕ → A → Bool) → ((n : ℕ) (x : A) → is_none (fault n x) ≡ test n x)
     → (row : Row) (n : ℕ) (xs : List A) → is_none (first_row fault row n xs) ≡ all_numbered test n xs
@@ -116,39 +90,3 @@ pub none_astray : (d : PlanText) → is_none (lead_place d) ≡ leads_to_hops d
 none_astray d =
     none_row_all (lead_fault (length d.hops)) (λ r. is_between 1 (length d.hops) r.hop)
     (λ n r. none_unless (is_between 1 (length d.hops) r.hop) (spot.At key.Hop)) row.Route 1 d.routes
-
--- ---- keys
-
-none_in_row : (row : Row) (ms : Members) → is_none (row_unknown row ms) ≡ row_is_known row ms
-none_in_row row no_members = refl
-none_in_row row (member name value rest) =
-    none_or _ _ _ _ (none_unless (has_key row name && has_no_key value) (spot_named name)) (none_in_row row rest)
-
-none_in_item : (row : Row) (value : Data) → is_none (item_unknown row value) ≡ item_is_known row value
-none_in_item row (table members) = none_in_row row members
-none_in_item row value = none_unless (has_no_key value) spot.Whole
-
-none_in_items : (row : Row) (n : ℕ) (items : Items) → is_none (first_item (item_unknown row) row n items) ≡ items_are_known row items
-none_in_items row n no_items = refl
-none_in_items row n (item value rest) =
-    none_or _ _ _ _ (none_map (place.In row n) (item_unknown row value) _ (none_in_item row value)) (none_in_items row (n + 1) rest)
-
-none_in_rows : (row : Row) (value : Data) → is_none (rows_unknown row value) ≡ rows_are_known row value
-none_in_rows row (array items) = none_in_items row 1 items
-none_in_rows row value = none_unless (has_no_key value) (place.Array row)
-
-none_if : {A : Type 0} (b : Bool) (x y : Option A) (c d : Bool) → is_none x ≡ c → is_none y ≡ d → is_none (if b then x else y) ≡ (if b then c else d)
-none_if true x y c d p q = p
-none_if false x y c d p q = q
-
-none_in_value : (name : List ℕ) (value : Data) → is_none (value_unknown name value) ≡ is_known name value
-none_in_value name value =
-    none_if (bytes_eq name (codes "station")) _ _ _ _ (none_unless (has_no_key value) place.Station)
-    (none_if (bytes_eq name (codes "peer")) _ _ _ _ (none_in_rows row.Peer value)
-    (none_if (bytes_eq name (codes "hop")) _ _ _ _ (none_in_rows row.Hop value)
-    (none_if (bytes_eq name (codes "route")) _ _ _ _ (none_in_rows row.Route value) refl)))
-
-pub none_unknown : (ms : Members) → is_none (unknown_place ms) ≡ keys_are_known ms
-none_unknown no_members = refl
-none_unknown (member name value rest) =
-    none_or (value_unknown name value) (unknown_place rest) (is_known name value) (keys_are_known rest) (none_in_value name value) (none_unknown rest)

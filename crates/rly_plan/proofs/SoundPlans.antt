@@ -9,12 +9,12 @@ use Rattle.rly_core.specs.Bounds.{IsIn}
 use Rattle.rly_core.specs.declared.limits.TheConstants.{MAX_CONTACTS, MAX_HOPS, MAX_PEERS, MAX_RESEND, MIN_RESEND, MOMENT_LIMIT}
 use Rattle.rly_core.specs.declared.refusal.Refusal.TheVariants.{Unsorted, Overlap, Range, Unknown}
 use Rattle.rly_plan.specs.declared.contacts.Contact.{Contact}
-use Rattle.rly_plan.specs.declared.draft.ContactDraft.{ContactDraft}
-use Rattle.rly_plan.specs.declared.draft.NeighbourDraft.{NeighbourDraft}
-use Rattle.rly_plan.specs.declared.draft.RouteDraft.{RouteDraft}
+use Rattle.rly_plan_draft.specs.declared.draft.ContactDraft.{ContactDraft}
+use Rattle.rly_plan_draft.specs.declared.draft.NeighbourDraft.{NeighbourDraft}
+use Rattle.rly_plan_draft.specs.declared.draft.RouteDraft.{RouteDraft}
 use Rattle.rly_plan.specs.ContactPlan.{ContactPlan}
-use Rattle.rly_plan.specs.Draft.{HopText, PlanText, draft_of}
-use Rattle.rly_plan.specs.Keys.{keys_are_known}
+use Rattle.rly_plan_draft.specs.Draft.{HopText, PlanText, draft_of}
+use Rattle.rly_plan_draft.specs.Keys.{keys_are_known}
 use Rattle.rly_plan.specs.Passes.{all_adjacent, all_numbered, are_apart, contact_from, contact_in_range, hop_from, hop_in_range, is_between, is_in_range, is_sorted, is_station, leads_to_hops, neighbour_from, neighbour_in_range, number, number_16, number_32, overlaps, plan_from, plan_of_text, plan_of_document, plan_of_draft, rate_in_range, repeats, resend_in_range, route_from, route_in_range, rows_in_range}
 use Rattle.rly_plan.specs.Sound.{IsStationNumber, AreInOrder, IsSoundPlan}
 use Rattle.rly_plan.proofs.PassLemmas.{between_bounds, contact_bounds}

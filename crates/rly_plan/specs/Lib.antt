@@ -1,12 +1,7 @@
 pub mod LinkClock
 pub mod Changes
 pub mod HelpersContacts
-pub mod HelpersDraft
-pub mod Endpoints
 pub mod ContactPlan
-pub mod Keys
-pub mod Draft
 pub mod Passes
 pub mod Sound
-pub mod PlaceText
 pub mod Places

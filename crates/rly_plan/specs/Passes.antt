@@ -10,15 +10,15 @@ use Rattle.rly_core.specs.declared.limits.TheConstants.{MOMENT_LIMIT}
 use Rattle.rly_core.specs.declared.refusal.Refusal.{Refusal}
 use Rattle.rly_core.specs.declared.refusal.Refusal.TheVariants.{Syntax, Unsorted, Overlap, Range, Unknown}
 use Rattle.rly_plan.specs.declared.contacts.Contact.{Contact}
-use Rattle.rly_plan.specs.declared.draft.ContactDraft.{ContactDraft}
-use Rattle.rly_plan.specs.declared.draft.NeighbourDraft.{NeighbourDraft}
-use Rattle.rly_plan.specs.declared.draft.RouteDraft.{RouteDraft}
+use Rattle.rly_plan_draft.specs.declared.draft.ContactDraft.{ContactDraft}
+use Rattle.rly_plan_draft.specs.declared.draft.NeighbourDraft.{NeighbourDraft}
+use Rattle.rly_plan_draft.specs.declared.draft.RouteDraft.{RouteDraft}
 use Rattle.rly_plan.specs.declared.neighbour.Neighbour.{Neighbour}
 use Rattle.rly_plan.specs.declared.plan.Hop.{Hop}
 use Rattle.rly_plan.specs.declared.plan.Route.{Route}
 use Rattle.rly_plan.specs.ContactPlan.{ContactPlan}
-use Rattle.rly_plan.specs.Draft.{HopText, PlanText, draft_of}
-use Rattle.rly_plan.specs.Keys.{keys_are_known}
+use Rattle.rly_plan_draft.specs.Draft.{HopText, PlanText, draft_of}
+use Rattle.rly_plan_draft.specs.Keys.{keys_are_known}
 
 -- ---- numbers
 

@@ -5,17 +5,19 @@ ghost use Rattle.std.specs.List.{list_all, list_any};
 ghost use Rattle.rly_plan.specs.Places.{first_adjacent, first_contact, first_row, lead_place, neighbour_range_fault, overlap_place, range_place, repeat_place, rows_range_fault, sorted_place};
 ghost use Rattle.rly_plan.specs.Passes.{all_adjacent, are_apart, contact_in_range};
 
-use crate::draft::{ContactDraft, HopDraft, NeighbourDraft, PlanDraft, RouteDraft};
 use crate::passes::{
     contact_in_range, is_between, is_station, number_16, rate_in_range, resend_in_range,
+    settled_contact,
 };
-use crate::place::{Key, Place, Row, Spot};
 use rly_core::limits::{MAX_CONTACTS, MAX_HOPS, MAX_PEERS};
+use rly_plan_draft::{
+    ContactDraft, HopDraft, Key, NeighbourDraft, Place, PlanDraft, RouteDraft, Row, Spot,
+};
 
 /// What a pass asks of each table of an array.
 trait Test<T> {
     ghost use Rattle.std.specs.Prelude.{◌≡◌, ℕ, Option};
-    ghost use Rattle.rly_plan.specs.declared.place.Spot.{Spot};
+    ghost use Rattle.rly_plan_draft.specs.declared.place.Spot.{Spot};
 
     ghost fault: { Self → ℕ → T → Option Spot };
 
@@ -130,7 +132,7 @@ impl Test<RouteDraft> for InRange {
 /// What a pass asks of a contact and the one before it.
 trait Beside {
     ghost use Rattle.std.specs.Prelude.{◌≡◌, Bool};
-    ghost use Rattle.rly_plan.specs.declared.draft.ContactDraft.{ContactDraft};
+    ghost use Rattle.rly_plan_draft.specs.declared.draft.ContactDraft.{ContactDraft};
 
     ghost test: { ContactDraft → ContactDraft → Bool };
 
@@ -145,7 +147,7 @@ impl Beside for InOrder {
     ghost test = { begin_in_order };
 
     fn passes(front: &ContactDraft, contact: &ContactDraft) -> bool {
-        front.settled().begin <= contact.settled().begin
+        settled_contact(front).begin <= settled_contact(contact).begin
     }
 }
 
@@ -155,7 +157,7 @@ impl Beside for Apart {
     ghost test = { are_apart };
 
     fn passes(front: &ContactDraft, contact: &ContactDraft) -> bool {
-        front.settled().end <= contact.settled().begin
+        settled_contact(front).end <= settled_contact(contact).begin
     }
 }
 
@@ -205,54 +207,52 @@ impl Test<RouteDraft> for Leads {
     }
 }
 
-impl PlanDraft {
-    /// Where pass 4 has its first fault.
-    pub(crate) fn range_place(&self) -> Option<Place>
-        ensures { result ≡ range_place self.now }
-    {
-        if !is_station(self.station) {
-            return Some(Place::Station);
-        }
-        let peers = rows_range_fault(&InRange, Row::Peer, MAX_PEERS, &self.peers);
-        let hops = rows_range_fault(&InRange, Row::Hop, MAX_HOPS, &self.hops);
-        let routes = first_row(&InRange, Row::Route, &self.routes);
-        peers.or(hops).or(routes)
+/// Where pass 4 has its first fault.
+pub(crate) fn range_place(draft: &PlanDraft) -> Option<Place>
+    ensures { result ≡ range_place draft.now }
+{
+    if !is_station(draft.station) {
+        return Some(Place::Station);
     }
+    let peers = rows_range_fault(&InRange, Row::Peer, MAX_PEERS, &draft.peers);
+    let hops = rows_range_fault(&InRange, Row::Hop, MAX_HOPS, &draft.hops);
+    let routes = first_row(&InRange, Row::Route, &draft.routes);
+    peers.or(hops).or(routes)
+}
 
-    /// Where pass 5 has its first fault.
-    pub(crate) fn sorted_place(&self) -> Option<Place>
-        ensures { result ≡ sorted_place self.now }
-    {
-        first_row(&InOrder, Row::Hop, &self.hops)
-    }
+/// Where pass 5 has its first fault.
+pub(crate) fn sorted_place(draft: &PlanDraft) -> Option<Place>
+    ensures { result ≡ sorted_place draft.now }
+{
+    first_row(&InOrder, Row::Hop, &draft.hops)
+}
 
-    /// Whether no contact begins before the one before it ends.
-    pub(crate) fn are_apart(&self) -> bool
-        ensures { result ≡ list_all (λ h. all_adjacent are_apart h.contacts) self.now.hops }
-    {
-        first_row(&Apart, Row::Hop, &self.hops).is_none()
-    }
+/// Whether no contact begins before the one before it ends.
+pub(crate) fn are_apart(draft: &PlanDraft) -> bool
+    ensures { result ≡ list_all (λ h. all_adjacent are_apart h.contacts) draft.now.hops }
+{
+    first_row(&Apart, Row::Hop, &draft.hops).is_none()
+}
 
-    /// Where pass 6 has its first fault.
-    pub(crate) fn overlap_place(&self) -> Option<Place>
-        ensures { result ≡ overlap_place self.now }
-    {
-        let contacts = first_row(&Apart, Row::Hop, &self.hops);
-        let peers = first_repeat(Row::Peer, Key::Station, &self.peers);
-        let hops = first_repeat(Row::Hop, Key::Station, &self.hops);
-        let routes = first_repeat(Row::Route, Key::Destination, &self.routes);
-        contacts.or(peers).or(hops).or(routes)
-    }
+/// Where pass 6 has its first fault.
+pub(crate) fn overlap_place(draft: &PlanDraft) -> Option<Place>
+    ensures { result ≡ overlap_place draft.now }
+{
+    let contacts = first_row(&Apart, Row::Hop, &draft.hops);
+    let peers = first_repeat(Row::Peer, Key::Station, &draft.peers);
+    let hops = first_repeat(Row::Hop, Key::Station, &draft.hops);
+    let routes = first_repeat(Row::Route, Key::Destination, &draft.routes);
+    contacts.or(peers).or(hops).or(routes)
+}
 
-    /// Where pass 7 has its first fault.
-    pub(crate) fn lead_place(&self) -> Option<Place>
-        ensures { result ≡ lead_place self.now }
-    {
-        let test = Leads {
-            hops: self.hops.len() as u64,
-        };
-        first_row(&test, Row::Route, &self.routes)
-    }
+/// Where pass 7 has its first fault.
+pub(crate) fn lead_place(draft: &PlanDraft) -> Option<Place>
+    ensures { result ≡ lead_place draft.now }
+{
+    let test = Leads {
+        hops: draft.hops.len() as u64,
+    };
+    first_row(&test, Row::Route, &draft.routes)
 }
 
 /// The first fault of an array that has from 1 to `most` tables.

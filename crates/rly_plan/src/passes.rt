@@ -2,48 +2,57 @@
 //! no place of a fault.
 
 ghost use Rattle.std.specs.Prelude.{◌≡◌, ◌<◌, ◌^◌, ℕ, false, IfOk, map, slice_index_or, vec_len};
-ghost use Rattle.rly_plan.specs.Passes.{contact_in_range, is_between, is_in_range, is_sorted, is_station, leads_to_hops, number, number_16, number_32, overlaps, rate_in_range, repeats, resend_in_range};
+ghost use Rattle.rly_plan.specs.Passes.{contact_from, contact_in_range, is_between, is_in_range, is_sorted, is_station, leads_to_hops, number, number_16, number_32, overlaps, rate_in_range, repeats, resend_in_range};
 
-use crate::draft::{ContactDraft, PlanDraft};
-use crate::number_places::Numbered;
+use crate::contacts::Contact;
+use crate::number_places::{Numbered, are_apart, lead_place, range_place, sorted_place};
 use rly_core::limits::{MAX_RESEND, MIN_RESEND, MOMENT_LIMIT};
+use rly_plan_draft::{ContactDraft, PlanDraft};
 use std::alloc::{AllocError, Global};
 
 /// The greatest `rate` of a hop, in bytes a second. The least is 1.
 const MAX_RATE: u64 = 1_000_000_000;
 
-impl PlanDraft {
-    /// Pass 4: whether each number is in its range.
-    pub(crate) fn is_in_range(&self) -> bool
-        ensures { result ≡ is_in_range self.now }
-    {
-        self.range_place().is_none()
-    }
+/// Pass 4: whether each number is in its range.
+pub(crate) fn is_in_range(draft: &PlanDraft) -> bool
+    ensures { result ≡ is_in_range draft.now }
+{
+    range_place(draft).is_none()
+}
 
-    /// Pass 5: whether no contact begins before the one before it begins.
-    pub(crate) fn is_sorted(&self) -> bool
-        ensures { result ≡ is_sorted self.now }
-    {
-        self.sorted_place().is_none()
-    }
+/// Pass 5: whether no contact begins before the one before it begins.
+pub(crate) fn is_sorted(draft: &PlanDraft) -> bool
+    ensures { result ≡ is_sorted draft.now }
+{
+    sorted_place(draft).is_none()
+}
 
-    /// Pass 6: whether a contact begins before the one before it ends, or a station of the
-    /// peers, one of the hops or a destination is there twice.
-    pub(crate) fn overlaps(&self, alloc: Global) -> Result<bool, AllocError>
-        ensures { IfOk result (λ found. found ≡ overlaps self.now) }
-    {
-        let overlaps = !self.are_apart()
-            || rows_repeat(alloc, &self.peers)?
-            || rows_repeat(alloc, &self.hops)?
-            || rows_repeat(alloc, &self.routes)?;
-        Ok(overlaps)
-    }
+/// Pass 6: whether a contact begins before the one before it ends, or a station of the
+/// peers, one of the hops or a destination is there twice.
+pub(crate) fn overlaps(alloc: Global, draft: &PlanDraft) -> Result<bool, AllocError>
+    ensures { IfOk result (λ found. found ≡ overlaps draft.now) }
+{
+    let overlaps = !are_apart(draft)
+        || rows_repeat(alloc, &draft.peers)?
+        || rows_repeat(alloc, &draft.hops)?
+        || rows_repeat(alloc, &draft.routes)?;
+    Ok(overlaps)
+}
 
-    /// Pass 7: whether each route leads to a hop that is there.
-    pub(crate) fn leads_to_hops(&self) -> bool
-        ensures { result ≡ leads_to_hops self.now }
-    {
-        self.lead_place().is_none()
+/// Pass 7: whether each route leads to a hop that is there.
+pub(crate) fn leads_to_hops(draft: &PlanDraft) -> bool
+    ensures { result ≡ leads_to_hops draft.now }
+{
+    lead_place(draft).is_none()
+}
+
+/// The contact of a draft, with 0 in place of a number below 0.
+pub(crate) fn settled_contact(draft: &ContactDraft) -> Contact
+    ensures { result ≡ contact_from draft.now }
+{
+    Contact {
+        begin: number(draft.begin),
+        end: number(draft.end),
     }
 }
 
@@ -117,7 +126,7 @@ pub(crate) fn is_between(value: i64, least: u64, most: u64) -> bool
 }
 
 /// The whole number, or 0 in place of one below 0.
-pub(crate) fn number(value: i64) -> u64
+fn number(value: i64) -> u64
     ensures value { result ≡ number value }
     ensures bounded { result < 2 ^ 63 }
 {

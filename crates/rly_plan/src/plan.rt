@@ -6,15 +6,18 @@ ghost use Rattle.rly_plan.specs.ContactPlan.{at_number};
 ghost use Rattle.rly_plan.specs.Passes.{all_adjacent, are_apart, contact_from, contact_in_range, hop_from, neighbour_from, plan_from, plan_of_draft, route_from};
 
 use crate::contacts::Contacts;
-use crate::document_places::{missing_place, unknown_place};
-use crate::draft::{ContactDraft, HopDraft, NeighbourDraft, PlanDraft, RouteDraft};
-use crate::keys::keys_are_known;
 use crate::neighbour::Neighbour;
-use crate::passes::{number_16, number_32};
-use crate::place::Place;
-use crate::plan_fault::{PlanFault, position_after};
+use crate::number_places::{lead_place, overlap_place, range_place, sorted_place};
+use crate::passes::{
+    is_in_range, is_sorted, leads_to_hops, number_16, number_32, overlaps, settled_contact,
+};
+use crate::plan_fault::PlanFault;
 use rly_core::limits::{DEFAULT_RESEND, MOMENT_LIMIT};
 use rly_core::{HopId, PeerId, Refusal};
+use rly_plan_draft::{
+    ContactDraft, HopDraft, NeighbourDraft, Place, PlanDraft, RouteDraft, keys_are_known,
+    missing_place, position_after, unknown_place,
+};
 use std::alloc::{AllocError, Global};
 use std::marker::Model;
 use toml::de::Error;
@@ -321,19 +324,19 @@ fn first_fault(alloc: Global, draft: &PlanDraft) -> Option<PlanFault>
     ensures memory { IfSome result (λ fault. fault.refusal ≡ Refusal.OutOfMemory → fault.place ≡ None) }
     ensures place { IfSome result (λ fault. fault.refusal ≢ Refusal.OutOfMemory → fault.place ≡ place_of_draft draft.now) }
 {
-    if !draft.is_in_range() {
-        return Some(PlanFault::at(Refusal::Range, draft.range_place()));
+    if !is_in_range(draft) {
+        return Some(PlanFault::at(Refusal::Range, range_place(draft)));
     }
-    if !draft.is_sorted() {
-        return Some(PlanFault::at(Refusal::Unsorted, draft.sorted_place()));
+    if !is_sorted(draft) {
+        return Some(PlanFault::at(Refusal::Unsorted, sorted_place(draft)));
     }
-    match draft.overlaps(alloc) {
-        Ok(true) => return Some(PlanFault::at(Refusal::Overlap, draft.overlap_place())),
+    match overlaps(alloc, draft) {
+        Ok(true) => return Some(PlanFault::at(Refusal::Overlap, overlap_place(draft))),
         Ok(false) => (),
         Err(_) => return Some(PlanFault::memory()),
     }
-    if !draft.leads_to_hops() {
-        return Some(PlanFault::at(Refusal::Unknown, draft.lead_place()));
+    if !leads_to_hops(draft) {
+        return Some(PlanFault::at(Refusal::Unknown, lead_place(draft)));
     }
     None
 }
@@ -439,7 +442,7 @@ fn settled_contacts(alloc: Global, drafts: &[ContactDraft]) -> Result<Contacts, 
 {
     let mut contacts = Contacts::new(alloc);
     for draft in drafts {
-        contacts.push(draft.settled())?;
+        contacts.push(settled_contact(draft))?;
     }
     Ok(contacts)
 }

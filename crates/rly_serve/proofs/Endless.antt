@@ -22,7 +22,7 @@ use Rattle.rly_line.specs.Seats.{new_callers}
 use Rattle.rly_line.specs.Submission.{LineId}
 use Rattle.rly_plan.specs.ContactPlan.{ContactPlan, next_hop_at, peer_at}
 use Rattle.rly_plan.specs.Sound.{IsSoundPlan}
-use Rattle.rly_plan.specs.Endpoints.{Endpoints}
+use Rattle.rly_plan_draft.specs.Endpoints.{Endpoints}
 use Rattle.rly_station.specs.Neighbour.{neighbour_heard, neighbour_sent}
 use Rattle.rly_station.specs.declared.neighbour_link.NeighbourLink.{NeighbourLink}
 use Rattle.rly_station.specs.declared.wall_clock.WallClock.{WallClock}

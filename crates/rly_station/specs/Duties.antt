@@ -3,7 +3,7 @@ use Rattle.std.specs.Prelude.{ℕ, List, ◌++◌, ◌==◌, length, map, Bool, 
 use Rattle.std.specs.List.{range_with_len}
 use Rattle.std.specs.Option.{option_map}
 use Rattle.rly_plan.specs.ContactPlan.{ContactPlan, next_hop_at, peer_at}
-use Rattle.rly_plan.specs.Endpoints.{Endpoints}
+use Rattle.rly_plan_draft.specs.Endpoints.{Endpoints}
 use Rattle.rly_post.specs.declared.post.Post.{Post}
 use Rattle.rly_post.specs.declared.turn.Worker.{Worker}
 use Rattle.rly_post.specs.declared.turn.Worker.TheVariants as worker

@@ -4,7 +4,7 @@ use Rattle.std.specs.declared.io.ErrorKind.{ErrorKind}
 use Rattle.std.specs.declared.io.ErrorKind.TheVariants as kind
 use Rattle.rly_core.specs.declared.refusal.Refusal.{Refusal}
 use Rattle.rly_core.specs.declared.refusal.Refusal.TheVariants as refusal
-use Rattle.rly_plan.specs.declared.place.Place.{Place}
+use Rattle.rly_plan_draft.specs.declared.place.Place.{Place}
 use Rattle.rly_station.specs.declared.file_fault.Cause.{Cause}
 use Rattle.rly_station.specs.declared.file_fault.Cause.TheVariants.{At, Header, System, Told}
 use Rattle.rly_station.specs.declared.file_fault.FileFault.{FileFault}

@@ -3,7 +3,7 @@
 ghost use Rattle.std.specs.Prelude.{◌≡◌, ◌⊎◌, IfErr, IfOk, Option};
 ghost use Rattle.rly_core.specs.declared.refusal.Refusal.{Refusal as ARefusal};
 ghost use Rattle.rly_plan.specs.Sound.{IsSoundPlan};
-ghost use Rattle.rly_plan.specs.declared.place.Place.{Place as APlace};
+ghost use Rattle.rly_plan_draft.specs.declared.place.Place.{Place as APlace};
 ghost use Rattle.rly_station.specs.declared.file_fault.SystemWord.{SystemWord as AWord};
 ghost use Rattle.rly_station.specs.declared.serve_fault.ServeFault.TheVariants as fault;
 ghost use Rattle.rly_station.specs.Faults.{cause_at};

@@ -1,7 +1,7 @@
 use Rattle.std.proofs.Common.{◌∙◌, ap, sym, arith, length}
 use Rattle.std.specs.Prelude.{option_map}
-use Rattle.rly_plan.specs.declared.place.Place.TheVariants.{In}
-use Rattle.rly_plan.specs.declared.place.Spot.TheVariants.{At}
+use Rattle.rly_plan_draft.specs.declared.place.Place.TheVariants.{In}
+use Rattle.rly_plan_draft.specs.declared.place.Spot.TheVariants.{At}
 use Rattle.rly_plan.proofs.PassLemmas.{repeat_at_front, repeat_after_front}
 use Rattle.rly_plan.proofs.number_places.first_repeat.Goals as goal
 

@@ -1,6 +1,0 @@
-use Rattle.std.proofs.Common.{◌∙◌, ap, is_none}
-use Rattle.rly_plan.proofs.PlaceTests.{told, none_out_of_range}
-use Rattle.rly_plan.proofs.draft.PlanDraft.is_in_range.Goals as goal
-
-pub returns : goal.returns
-returns c = told c.range_place.result c.is_none.result _ c.is_none.ensures (ap is_none c.range_place.ensures ∙ none_out_of_range c.args.self.now)

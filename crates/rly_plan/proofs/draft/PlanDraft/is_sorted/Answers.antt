@@ -1,6 +1,0 @@
-use Rattle.std.proofs.Common.{◌∙◌, ap, is_none}
-use Rattle.rly_plan.proofs.PlaceTests.{told, none_unsorted}
-use Rattle.rly_plan.proofs.draft.PlanDraft.is_sorted.Goals as goal
-
-pub returns : goal.returns
-returns c = told c.sorted_place.result c.is_none.result _ c.is_none.ensures (ap is_none c.sorted_place.ensures ∙ none_unsorted c.args.self.now)

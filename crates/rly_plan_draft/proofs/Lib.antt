@@ -1,0 +1,3 @@
+pub mod DraftLemmas
+pub mod NoPlace
+pub mod KeyTests
