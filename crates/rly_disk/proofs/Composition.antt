@@ -1,6 +1,5 @@
 -- How a row of calls of a disk composes.
-use Rattle.std.proofs.Common.{◌⊎◌, ℕ, List, inl, arith}
-use Rattle.rly_disk.specs.DiskModel.{DiskState, Consistent, Settled, HasFailed, Later, LeavesOnly}
+use Rattle.rly_disk.proofs.Common.{arith, Consistent, DiskState, HasFailed, inl, Later, LeavesOnly, List, Settled, ℕ, ◌⊎◌}
 
 -- before the first call, on a disk that is honest
 pub started : (a : DiskState) (P : List ℕ → Type 0) → Consistent a → ((c : List ℕ) → a.images c → P c) → LeavesOnly a a P

@@ -1,4 +1,5 @@
 -- Composition and Ranges are for the proofs of the crates above.
+pub mod Common
 pub mod Composition
 pub mod Making
 pub mod Overwritten

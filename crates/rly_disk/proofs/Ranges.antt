@@ -22,8 +22,7 @@ same_range place n {a = a} {b} first second inside =
 module _ {old new : List ℕ} (place n : ℕ) (same : SameOutside place n old new) where
   -- a part that doesn't meet the range
   pub part : (from k : ℕ) → (from + k ≤ place) ⊎ (place + n ≤ from) → take k (drop from new) ≡ take k (drop from old)
-  part from k apart =
-      ext_get_or 0 _ _ (simp (length-take, length-drop) (omega (arith, same.same_length))) (λ i h. grind (arith, places, same.each (from + i)))
+  part from k apart = ext_get_or 0 _ _ (simp (length-take, length-drop) (omega (arith, same.same_length))) (λ i h. grind (arith, places, same.each (from + i)))
 
   -- the bytes before the range
   pub front : (k : ℕ) → k ≤ place → take k new ≡ take k old

@@ -1,31 +1,30 @@
 -- Lists of events: one call, and one list after the other.
-use Rattle.std.proofs.Common.{◌≡◌, ◌⊎◌, ◌↔◌, ◌≤◌, ◌+◌, ◌-◌, ◌^◌, ◌++◌, ◌∷◌, [], ◌∙◌, ℕ, Bool, true, false, List, length, slice_range, take, arith, sym, ap, inl, inr, ⊎_elim, refl, append_assoc, length-append, length-take, length-drop}
-use Rattle.std.specs.Prelude.{Result, Ok, Err, IsErr, OnOk, OnErr, is_ok, if◌then◌else◌}
-use Rattle.std.proofs.lemmas.List.{nil_from_length, take_all}
-use Rattle.std.proofs.lemmas.Bool.{cases_lt, false≢true}
-use Rattle.std.proofs.lemmas.Bool.Decides.{nat_tests}
-use Rattle.rly_disk.specs.DiskModel.{DiskState, overwritten, IsWritten, NothingNew, Settled, SettlesNothing, Consistent, Counted, Later, IsSpent}
-use Rattle.rly_disk.specs.Trace.{DeviceEvent, Read, FailedRead, Write, FailedWrite, Sync, FailedSync, Follows, Leads, Makes, IsCut, IsMade, is_spent, IsFailed, count_of, is_failed_call, is_sync_call, is_failed_read, seen_after, images_after, is_still, seen_at_end, images_at_end, images_within}
-use Rattle.rly_disk.proofs.Overwritten.{written_over}
+use Rattle.rly_disk.proofs.Common.{[], ap, append_assoc, arith, Bool, cases_lt, Consistent, count_of, Counted, DeviceEvent, DiskState, Err, FailedRead}
+use Rattle.rly_disk.proofs.Common.{FailedSync, FailedWrite, false, false≢true, Follows, if◌then◌else◌, images_after, images_at_end, images_within, inl, inr}
+use Rattle.rly_disk.proofs.Common.{is_failed_call, is_failed_read, is_ok, is_spent, is_still, is_sync_call, IsCut, IsErr, IsFailed, IsMade, IsSpent, IsWritten}
+use Rattle.rly_disk.proofs.Common.{Later, Leads, length, length-append, length-drop, length-take, List, Makes, nat_tests, nil_from_length, NothingNew, Ok}
+use Rattle.rly_disk.proofs.Common.{OnErr, OnOk, overwritten, Read, refl, Result, seen_after, seen_at_end, Settled, SettlesNothing, slice_range, Sync, take_all}
+use Rattle.rly_disk.proofs.Common.{true, Write, written_over, ℕ, ⊎_elim, ◌++◌, ◌+◌, ◌-◌, ◌^◌, ◌↔◌, ◌∙◌, ◌∷◌, ◌≡◌, ◌≤◌, ◌⊎◌}
 
 abbrev pub one_if : Bool → ℕ
 one_if b = if b then 1 else 0
 
 -- more images before an event leave more after it
-images_grow : (event : DeviceEvent) (seen : List ℕ) (I K : List ℕ → Type 0) → ((c : List ℕ) → I c → K c) → (c : List ℕ) → images_after event seen I c → images_after event seen K c
+images_grow : (event : DeviceEvent) (seen : List ℕ) (I K : List ℕ → Type 0) → ((c : List ℕ) → I c → K c) → (c : List ℕ) → images_after event seen I c
+    → images_after event seen K c
 images_grow Sync seen I K more c image = image
 images_grow event seen I K more c image = search more
 
-pub end_grows : (events : List DeviceEvent) (seen : List ℕ) (I K : List ℕ → Type 0) → ((c : List ℕ) → I c → K c) → (c : List ℕ) → images_at_end events seen I c → images_at_end events seen K c
+pub end_grows : (events : List DeviceEvent) (seen : List ℕ) (I K : List ℕ → Type 0) → ((c : List ℕ) → I c → K c) → (c : List ℕ) → images_at_end events seen I c
+    → images_at_end events seen K c
 end_grows [] seen I K more c image = more c image
-end_grows (event ∷ events) seen I K more c image =
-    end_grows events (seen_after event seen) (images_after event seen I) (images_after event seen K) (images_grow event seen I K more) c image
+end_grows (event ∷ events) seen I K more c image = end_grows events (seen_after event seen) _ _ (images_grow event seen I K more) c image
 
-pub within_grows : (events : List DeviceEvent) (seen : List ℕ) (I K : List ℕ → Type 0) → ((c : List ℕ) → I c → K c) → (c : List ℕ) → images_within events seen I c → images_within events seen K c
+pub within_grows : (events : List DeviceEvent) (seen : List ℕ) (I K : List ℕ → Type 0) → ((c : List ℕ) → I c → K c) → (c : List ℕ)
+    → images_within events seen I c → images_within events seen K c
 within_grows [] seen I K more c image = more c image
 within_grows (event ∷ events) seen I K more c image =
-    let later = within_grows events (seen_after event seen) (images_after event seen I) (images_after event seen K) (images_grow event seen I K more) c in
-    grind (arith, more c)
+    let later = within_grows events (seen_after event seen) _ _ (images_grow event seen I K more) c in grind (arith, more c)
 
 -- one list after the other
 pub seen_joined : (first second : List DeviceEvent) (seen : List ℕ) → seen_at_end (first ++ second) seen ≡ seen_at_end second (seen_at_end first seen)
@@ -46,8 +45,7 @@ pub within_joined : (first second : List DeviceEvent) (seen : List ℕ) (I : Lis
     ↔ (images_within first seen I c ⊎ images_within second (seen_at_end first seen) (images_at_end first seen I) c)
 within_joined [] second seen I c = (λ later. inr later, ⊎_elim (within_start second seen I c) (λ later. later))
 within_joined (event ∷ first) second seen I c =
-    let more = within_joined first second (seen_after event seen) (images_after event seen I) c in
-    (λ image. grind (arith, more.0), λ image. grind (arith, more.1))
+    let more = within_joined first second (seen_after event seen) (images_after event seen I) c in grind (arith, more.0, more.1)
 
 pub count_joined : (kind : DeviceEvent → Bool) (first second : List DeviceEvent) → count_of kind (first ++ second) ≡ count_of kind first + count_of kind second
 count_joined kind [] second = omega arith
@@ -59,21 +57,18 @@ still_parts (event ∷ first) second still = let more = still_parts first second
 
 follows_joined : {a b e : DiskState} (first second : List DeviceEvent) → Follows first a b → Follows second b e → Follows (first ++ second) a e
 follows_joined {a} {b} {e} first second one two =
-    let seen : e.seen ≡ seen_at_end (first ++ second) a.seen = rw (two.seen, one.seen) (sym (seen_joined first second a.seen)) in
-    let images : (c : List ℕ) → e.images c → images_at_end (first ++ second) a.seen a.images c =
-    λ c image. end_joined first second a.seen a.images c
-    (end_grows second (seen_at_end first a.seen) b.images (images_at_end first a.seen a.images) one.images c (rw one.seen at (two.images c image))) in
+    let images : (c : List ℕ) → e.images c → images_at_end (first ++ second) a.seen a.images c = λ c image.
+    end_joined first second a.seen a.images c (end_grows second _ _ _ one.images c (rw one.seen at (two.images c image))) in
     let within = λ (c : List ℕ). (within_joined first second a.seen a.images c).1 in
     let past : (c : List ℕ) → images_within second b.seen b.images c → images_within (first ++ second) a.seen a.images c = λ c now.
-    within c (inr (within_grows second (seen_at_end first a.seen) b.images (images_at_end first a.seen a.images) one.images c (rw one.seen at now))) in
-    search (arith, within, still_parts first second, one.since, two.since, one.keeps, two.keeps, one.still, two.still)
+    within c (inr (within_grows second _ _ _ one.images c (rw one.seen at now))) in
+    search (arith, seen_joined first second a.seen, within, still_parts first second, one.since, two.since, one.keeps, two.keeps, one.still, two.still)
 
 pub leads_joined : {a b e : DiskState} (first second : List DeviceEvent) → Leads first a b → Leads second b e → Leads (first ++ second) a e
 leads_joined {a} {b} {e} first second one two =
-    let longer = length-append first second in
     let joined = λ (kind : DeviceEvent → Bool). count_joined kind first second in
     let follows : a.honest → Follows (first ++ second) a e = λ h. follows_joined first second (one.follows h) (two.follows (one.honest.1 h)) in
-    search (arith, longer, joined is_failed_call, joined is_sync_call, joined is_failed_read, one.honest.0, one.honest.1, two.honest.0, two.honest.1)
+    search (arith, length-append first second, joined is_failed_call, joined is_sync_call, joined is_failed_read, one.honest, two.honest)
 
 -- no call
 pub leads_nothing : (a : DiskState) → Leads [] a a
@@ -97,6 +92,11 @@ cut_behind spent calls more events (inl f) =
     rw (f.calls_are, f.events_are) (simp (← append_assoc) (cut_at spent (calls ++ f.done) f.rest f.call f.last f.failed))
 cut_behind spent calls more events (inr s) = rw (s.1.calls_are, ← append_assoc) (cut_before spent (calls ++ events) s.1.rest s.1.call s.0)
 
+-- one event
+leads_once : {a b : DiskState} (event : DeviceEvent) → Counted (one_if (is_failed_call event)) (one_if (is_sync_call event)) (one_if (is_failed_read event)) a b
+    → Later a b → (a.honest → Follows (event ∷ []) a b) → Leads (event ∷ []) a b
+leads_once event counted later follows = search arith
+
 module _ {D : Type 0} (state : D → DiskState) where
   pub makes_nothing : (a : D) → Makes state [] true a a
   makes_nothing a = record { events = []; leads = leads_nothing (state a); made = refl; untouched = λ none. refl }
@@ -104,77 +104,58 @@ module _ {D : Type 0} (state : D → DiskState) where
   pub makes_front : {a b : D} (calls more : List DeviceEvent) → Makes state calls false a b → Makes state (calls ++ more) false a b
   makes_front {b = b} calls more made = search (cut_front (is_spent (state b)) calls more made.events made.made)
 
-  pub makes_joined : {a b e : D} (calls more : List DeviceEvent) (whole : Bool) → Makes state calls true a b → Makes state more whole b e → Makes state (calls ++ more) whole a e
+  pub makes_joined : {a b e : D} (calls more : List DeviceEvent) (whole : Bool) → Makes state calls true a b → Makes state more whole b e
+      → Makes state (calls ++ more) whole a e
   makes_joined {a} {e = e} calls more whole one two =
-      let untouched : one.events ++ two.events ≡ [] → e ≡ a = λ none.
-      let both = simp length-append at (ap length none) in
+      let untouched : one.events ++ two.events ≡ [] → e ≡ a = λ none. let both = simp length-append at (ap length none) in
       two.untouched (nil_from_length two.events (omega arith)) ∙ one.untouched (nil_from_length one.events (omega arith)) in
       let made : IsMade whole (is_spent (state e)) (calls ++ more) (one.events ++ two.events) =
-      rw one.made (grind (arith, cut_behind (is_spent (state e)) calls more two.events)) in
-      search (leads_joined one.events two.events one.leads two.leads)
+      rw one.made (grind (arith, cut_behind (is_spent (state e)) calls more two.events)) in search (leads_joined one.events two.events one.leads two.leads)
 
--- one event
-leads_once : {a b : DiskState} (event : DeviceEvent) → Counted (one_if (is_failed_call event)) (one_if (is_sync_call event)) (one_if (is_failed_read event)) a b
-    → Later a b → (a.honest → Follows (event ∷ []) a b) → Leads (event ∷ []) a b
-leads_once event counted later follows = search arith
-
--- one write that failed
-failed_write_follows : {a b : DiskState} (place : ℕ) (bytes : List ℕ) → place + length bytes ≤ a.size → Consistent a → IsWritten place (length bytes) a b
-    → Follows (FailedWrite place bytes (slice_range b.seen place (place + length bytes)) ∷ []) a b
-failed_write_follows {a} {b} place bytes fits facts written =
-    let left : List ℕ = slice_range b.seen place (place + length bytes) in
-    let whole : take (length bytes) left ≡ left = take_all (length bytes) left (simp (length-take, length-drop) (omega arith)) in
-    let seen : b.seen ≡ overwritten place (take (length bytes) left) a.seen =
-    rw whole (sym (written_over place (length bytes) (omega (arith, facts.seen_size)) written.outside)) in
-    search (arith, written.since, false≢true)
-
--- one call, whatever came of it
-module _ {D : Type 0} (state : D → DiskState) where
-  -- where the counts stand at their last value
+  -- one call, where the counts stand at their last value
   pub not_counted : {a : D} (call : DeviceEvent) (calls : List DeviceEvent) → IsSpent (state a) → Makes state (call ∷ calls) false a a
   not_counted {a} call calls spent = search (leads_nothing (state a), cut_before (is_spent (state a)) [] calls call (grind (arith, nat_tests)))
 
-  call_done : {a b : D} (call : DeviceEvent) → Leads (call ∷ []) (state a) (state b) → Makes state (call ∷ []) true a b
-  call_done call leads = record { events = call ∷ []; leads = leads; made = refl; untouched = λ none. cc }
+  -- and where they don't, whatever came of it
+  call_done : {a b : D} (call : DeviceEvent) → (IsSpent (state a) → (false ≡ true) × (b ≡ a))
+      → (¬ IsSpent (state a) → Leads (call ∷ []) (state a) (state b)) → Makes state (call ∷ []) true a b
+  call_done call spent leads = record { events = call ∷ []; leads = leads (λ full. false≢true (spent full).0); made = refl; untouched = λ none. cc }
 
-  call_failed : {a b : D} {call last : DeviceEvent} → IsFailed call last → (IsSpent (state a) → b ≡ a)
+  call_failed : {a b : D} {call last : DeviceEvent} → IsFailed call last → (IsSpent (state a) → (true ≡ true) × (b ≡ a))
       → (¬ IsSpent (state a) → Leads (last ∷ []) (state a) (state b)) → Makes state (call ∷ []) false a b
   call_failed {a} {b} {call} {last} failed spent leads = elim (cases_lt (state a).calls (2 ^ 64 - 1)) [
-    | inl below ↦
-        let moved : last ∷ [] ≡ [] → b ≡ a = λ none. cc in
-        search (leads (λ full. omega (arith, below, full)), cut_at (is_spent (state b)) [] [] call last failed)
-    | inr full ↦ rw (spent full) (not_counted call [] full)
+    | inl below ↦ search (arith, leads (λ full. omega (arith, below, full)), cut_at (is_spent (state b)) [] [] call last failed)
+    | inr full ↦ rw (spent full).1 (not_counted call [] full)
   ]
 
   pub read_makes : {E : Type 0} {a b : D} (place n : ℕ) (result : Result (Unit {0}) E)
-      → (¬ IsSpent (state a) → Counted (if is_ok result then 0 else 1) 0 (if is_ok result then 0 else 1) (state a) (state b)) → (IsSpent (state a) → IsErr result × (b ≡ a)) → Later (state a) (state b)
-      → ((state a).honest → NothingNew (state a) (state b)) → ((state a).honest → SettlesNothing (state a) (state b)) → Makes state (Read place n ∷ []) (is_ok result) a b
+      → (¬ IsSpent (state a) → Counted (if is_ok result then 0 else 1) 0 (if is_ok result then 0 else 1) (state a) (state b))
+      → (IsSpent (state a) → IsErr result × (b ≡ a)) → Later (state a) (state b) → ((state a).honest → NothingNew (state a) (state b))
+      → ((state a).honest → SettlesNothing (state a) (state b)) → Makes state (Read place n ∷ []) (is_ok result) a b
   read_makes place n (Ok done) counted spent later new still =
-      call_done (Read place n) (leads_once (Read place n) (counted (λ full. false≢true (spent full).0)) later
-      (λ h. let same = new h in let kept = still h in search (inl, same.since)))
-  read_makes place n (Err fault) counted spent later new still = call_failed refl (λ full. (spent full).1)
-      (λ no. leads_once (FailedRead place n) (counted no) later (λ h. let same = new h in let kept = still h in search (inl, same.since)))
+      call_done (Read place n) spent (λ no. leads_once (Read place n) (counted no) later (λ h. search (inl, new h, still h, (new h).since)))
+  read_makes place n (Err fault) counted spent later new still =
+      call_failed refl spent (λ no. leads_once (FailedRead place n) (counted no) later (λ h. search (inl, new h, still h, (new h).since)))
 
   pub write_makes : {E : Type 0} {a b : D} (place : ℕ) (bytes : List ℕ) (result : Result (Unit {0}) E) → place + length bytes ≤ (state a).size
-      → (¬ IsSpent (state a) → Counted (if is_ok result then 0 else 1) 0 0 (state a) (state b)) → (IsSpent (state a) → IsErr result × (b ≡ a)) → Later (state a) (state b)
-      → ((state a).honest → Consistent (state a)) → ((state a).honest → IsWritten place (length bytes) (state a) (state b))
+      → (¬ IsSpent (state a) → Counted (if is_ok result then 0 else 1) 0 0 (state a) (state b)) → (IsSpent (state a) → IsErr result × (b ≡ a))
+      → Later (state a) (state b) → ((state a).honest → Consistent (state a)) → ((state a).honest → IsWritten place (length bytes) (state a) (state b))
       → ((state a).honest → OnOk result ((state b).seen ≡ overwritten place bytes (state a).seen)) → Makes state (Write place bytes ∷ []) (is_ok result) a b
-  write_makes place bytes (Ok done) fits counted spent later facts written seen =
-      call_done (Write place bytes) (leads_once (Write place bytes) (counted (λ full. false≢true (spent full).0)) later
-      (λ h. let over = seen h in let left = written h in search (arith, left.since, false≢true)))
-  write_makes {b = b} place bytes (Err fault) fits counted spent later facts written seen =
-      let left : List ℕ = slice_range (state b).seen place (place + length bytes) in
-      call_failed (left, refl) (λ full. (spent full).1)
-      (λ no. leads_once (FailedWrite place bytes left) (counted no) later (λ h. failed_write_follows place bytes fits (facts h) (written h)))
+  write_makes place bytes (Ok done) fits counted spent later facts written seen = call_done (Write place bytes) spent
+      (λ no. leads_once (Write place bytes) (counted no) later (λ h. search (arith, seen h, written h, (written h).since, false≢true)))
+  write_makes {a = a} {b} place bytes (Err fault) fits counted spent later facts written seen =
+      let n = length bytes in
+      let left : List ℕ = slice_range (state b).seen place (place + n) in
+      call_failed (left, refl) spent (λ no. leads_once (FailedWrite place bytes left) (counted no) later (λ h.
+      let over = written_over place n (omega (arith, (facts h).seen_size)) (written h).outside in
+      let whole = take_all n left (simp (length-take, length-drop) (omega (arith, (written h).outside.same_length, (facts h).seen_size))) in
+      search (arith, rw (← whole) at over, written h, (written h).since, false≢true)))
 
   pub sync_makes : {E : Type 0} {a b : D} (result : Result (Unit {0}) E)
-      → (¬ IsSpent (state a) → Counted (if is_ok result then 0 else 1) 1 0 (state a) (state b)) → (IsSpent (state a) → IsErr result × (b ≡ a)) → Later (state a) (state b)
-      → ((state a).honest → NothingNew (state a) (state b)) → ((state a).honest → OnOk result (Settled (state b))) → ((state a).honest → OnErr result (SettlesNothing (state a) (state b)))
-      → Makes state (Sync ∷ []) (is_ok result) a b
-  sync_makes {b = b} (Ok done) counted spent later new settled still =
-      call_done Sync (leads_once Sync (counted (λ full. false≢true (spent full).0)) later
-      (λ h.
-      let same = new h in
-      let images = λ (c : List ℕ). λ (image : (state b).images c). (settled h).only c image ∙ same.seen in search (arith, inl, same.since, images, false≢true)))
-  sync_makes (Err fault) counted spent later new settled still = call_failed refl (λ full. (spent full).1)
-      (λ no. leads_once FailedSync (counted no) later (λ h. let same = new h in let kept = still h in search (inl, same.since)))
+      → (¬ IsSpent (state a) → Counted (if is_ok result then 0 else 1) 1 0 (state a) (state b)) → (IsSpent (state a) → IsErr result × (b ≡ a))
+      → Later (state a) (state b) → ((state a).honest → NothingNew (state a) (state b)) → ((state a).honest → OnOk result (Settled (state b)))
+      → ((state a).honest → OnErr result (SettlesNothing (state a) (state b))) → Makes state (Sync ∷ []) (is_ok result) a b
+  sync_makes (Ok done) counted spent later new settled still =
+      call_done Sync spent (λ no. leads_once Sync (counted no) later (λ h. search (arith, inl, new h, (new h).since, (settled h).only, false≢true)))
+  sync_makes (Err fault) counted spent later new settled still =
+      call_failed refl spent (λ no. leads_once FailedSync (counted no) later (λ h. search (inl, new h, still h, (new h).since)))

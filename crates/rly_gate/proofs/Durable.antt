@@ -1,12 +1,7 @@
 -- Bytes that are made durable: what was made, and what a crash leaves.
-use Rattle.std.proofs.Common.{◌≡◌, ◌⊎◌, ◌≤◌, ◌+◌, ◌++◌, ◌∷◌, [], ℕ, Bool, List, length, arith, length-append}
-use Rattle.std.proofs.lemmas.List.{append-nil, take-append-drop}
-use Rattle.rly_disk.specs.DiskModel.{IsTorn, SameOutside, overwritten}
-use Rattle.rly_disk.specs.Trace.{DeviceEvent, Sync, Write, AllWrites, count_of, images_within, is_failed_call, is_sync_call, seen_at_end}
-use Rattle.rly_disk.proofs.Making.{AreSynced, is_read_call}
-use Rattle.rly_disk.proofs.Overwritten.{overwritten_outside}
-use Rattle.rly_disk.proofs.Traces.{count_joined}
-use Rattle.rly_gate.specs.Calls.{settling}
+use Rattle.rly_gate.proofs.Common.{[], AllWrites, append-nil, AreSynced, arith, Bool, count_joined, count_of, DeviceEvent, images_within, is_failed_call}
+use Rattle.rly_gate.proofs.Common.{is_read_call, is_sync_call, IsTorn, length, length-append, List, overwritten, overwritten_outside, SameOutside, seen_at_end}
+use Rattle.rly_gate.proofs.Common.{settling, Sync, take-append-drop, Write, ℕ, ⊎_elim, ◌++◌, ◌+◌, ◌∷◌, ◌≡◌, ◌≤◌, ◌⊎◌}
 
 -- ---- what was made
 
@@ -57,8 +52,8 @@ settling_then at [] rest seen c image = rw overwritten_nothing (grind (arith, sa
 settling_then at (byte ∷ bytes) rest seen c image = let n = length (byte ∷ bytes) in grind (arith, same_bytes at n seen c, torn_once at n seen c)
 
 -- and where nothing is made after it
-pub settling_last : (at : ℕ) (bytes seen c : List ℕ) → at + length bytes ≤ length seen → images_within (settling at bytes) seen (λ d. d ≡ seen) c → SameOutside at (length bytes) seen c
+pub settling_last : (at : ℕ) (bytes seen c : List ℕ) → at + length bytes ≤ length seen → images_within (settling at bytes) seen (λ d. d ≡ seen) c
+    → SameOutside at (length bytes) seen c
 settling_last at bytes seen c fits image =
-    let n = length bytes in
-    let over : c ≡ overwritten at bytes seen → SameOutside at n seen c = λ is. rw is (overwritten_outside at bytes seen fits) in
-    grind (arith, same_bytes at n seen c, torn_once at n seen c, over)
+    let over : c ≡ overwritten at bytes seen → SameOutside at (length bytes) seen c = λ is. rw is (overwritten_outside at bytes seen fits) in
+    ⊎_elim (λ first. first) over (settling_then at bytes [] seen c (rw append-nil image))

@@ -1,11 +1,8 @@
 -- Which group stands at a gate.
-use Rattle.std.proofs.Common.{ℕ, ◌≡◌, ◌+◌, ◌<◌, ◌≤◌, ◌^◌, List, [], ◌++◌, length, take, drop, arith, sym, ◌∙◌, ap}
-use Rattle.std.proofs.lemmas.List.{length-drop, length-take}
-use Rattle.byteorder.specs.Endian.{big_bytes, big_number}
+use Rattle.rly_gate.proofs.Common.{[], ap, arith, big_bytes, big_number, drop, drop_more, HoldsGroup, HoldsNone, IsOpen, length, length-drop, length-take, List}
+use Rattle.rly_gate.proofs.Common.{open_gate, StandsAt, sym, take, ℕ, ◌++◌, ◌+◌, ◌<◌, ◌^◌, ◌∙◌, ◌∷◌, ◌≡◌, ◌≤◌}
 use Rattle.byteorder.specs.Numbers.{big_number-reads_back}
-use Rattle.rly_gate.proofs.Frames.{group_length, group_parts, length-frame}
-use Rattle.rly_gate.specs.Group.{IsOpen, StandsAt}
-use Rattle.rly_gate.specs.Reading.{HoldsGroup, HoldsNone}
+use Rattle.rly_gate.proofs.Frames.{group_length, length-frame, stands_both}
 
 -- two numbers with the same bytes are one
 pub number_once : (width n m : ℕ) → n < 256 ^ width → m < 256 ^ width → big_bytes width n ≡ big_bytes width m → n ≡ m
@@ -23,4 +20,8 @@ pub holds : {image : List ℕ} {at end : ℕ} (n : ℕ) {body : List ℕ} → Is
     → at + 6 + n ≤ end → end ≤ length image → body ≡ take n (drop (at + 5) image) → HoldsGroup image at end body
 holds {image} {at} n {body} opened field fits room within is_body =
     let count : length body ≡ n = ap length is_body ∙ simp (length-take, length-drop) (omega arith) in
-    let bytes = group_parts image at n body (omega arith) opened field count is_body in search (arith, length-frame body)
+    let place : at + 5 ≡ at + 1 + 4 = omega arith in
+    let behind : StandsAt image (at + 1 + 4) body = rw (count, ← place) (sym is_body) in
+    let bytes : StandsAt image at (open_gate ∷ (big_bytes 4 (length body) ++ body)) =
+    rw (drop_more image at 0 (omega arith), opened, stands_both image (at + 1) (big_bytes 4 (length body)) body (rw count field) behind) in
+    search (arith, length-frame body)

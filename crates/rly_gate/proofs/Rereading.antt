@@ -1,18 +1,13 @@
 -- Reads of a group, and what follows from reads alone.
-use Rattle.std.proofs.Common.{◌≡◌, ◌≤◌, ◌+◌, ◌∷◌, [], ℕ, Bool, true, false, nat_le, arith, inl, inr, le-leb, refl}
-use Rattle.std.specs.Prelude.{Option, Err, Vec}
-use Rattle.std.proofs.lemmas.Bool.{cases_Bool}
-use Rattle.rly_disk.specs.DiskModel.{Consistent, DiskState}
-use Rattle.rly_disk.specs.Trace.{Makes, OnlyReads, Read}
-use Rattle.rly_disk.proofs.Making.{makes_later, quiet_settled, reads_new, reads_quiet}
-use Rattle.rly_disk.proofs.Traces.{makes_front, makes_joined}
-use Rattle.rly_gate.specs.Calls.{group_reads, is_told, length_reads}
-use Rattle.rly_gate.specs.Reading.{OnlyRead}
+use Rattle.rly_gate.proofs.Common.{[], arith, Bool, cases_Bool, Consistent, DiskState, Err, false, group_reads, is_told, le-leb, length_reads, Makes}
+use Rattle.rly_gate.proofs.Common.{makes_front, makes_joined, makes_later, nat_le, OnlyRead, OnlyReads, Option, quiet_settled, Read, reads_new, reads_quiet}
+use Rattle.rly_gate.proofs.Common.{refl, true, Vec, ℕ, ◌+◌, ◌∷◌, ◌≡◌, ◌≤◌}
 use Rattle.rly_gate.specs.declared.read.GroupFault.{GroupFault}
 use Rattle.rly_gate.specs.declared.read.GroupFault.TheVariants.{OutOfMemory, Damaged, Device}
 
 -- a disk that was only read
-pub only_read : {D : Type 0} (state : D → DiskState) {a b : D} {whole : Bool} → ((disk : D) → (state disk).honest → Consistent (state disk)) → OnlyReads state whole a b → OnlyRead (state a) (state b)
+pub only_read : {D : Type 0} (state : D → DiskState) {a b : D} {whole : Bool} → ((disk : D) → (state disk).honest → Consistent (state disk))
+    → OnlyReads state whole a b → OnlyRead (state a) (state b)
 only_read state {a} {b} facts only =
     search (reads_new state only, quiet_settled state only.makes (reads_quiet only.calls only.reads), makes_later state only.makes, facts b)
 
@@ -23,13 +18,11 @@ module _ {D : Type 0} {state : D → DiskState} {a b e : D} where
       → (n : ℕ) × Makes state (group_reads {A = A} at end n (Err fault)) (is_told {A = Option (Vec ℕ A)} (Err fault)) a e
   group_cut A end Damaged told first second = (0, makes_joined state _ _ true first second)
   group_cut A end OutOfMemory told first second = absurd (told refl)
-  group_cut A {at} end Device told first second = (
-    0,
-    elim (cases_Bool (nat_le (at + 6) end)) [
-      | inl room ↦ makes_front state (Read at 1 ∷ Read (at + 1) 4 ∷ []) _ (makes_joined state _ _ false first (rw room at second))
-      | inr none ↦ makes_front state (Read at 1 ∷ []) _ (makes_joined state _ [] false first (rw none at second))
-    ],
-  )
+  group_cut A {at} end Device told first second =
+      let made = makes_joined state (Read at 1 ∷ []) (length_reads at end) false first second in
+      let room = makes_front state {a = a} {b = e} (Read at 1 ∷ Read (at + 1) 4 ∷ []) (Read (at + 5) 0 ∷ []) in
+      let none = makes_front state {a = a} {b = e} (Read at 1 ∷ []) (Read (at + 1) 4 ∷ Read (at + 5) 0 ∷ []) in
+      (0, grind (arith, cases_Bool (nat_le (at + 6) end), made, room, none))
 
   -- the gate is open, and the length after it leaves a place
   pub group_length_read : {at : ℕ} (end : ℕ) → at + 6 ≤ end → Makes state (Read at 1 ∷ []) true a b → Makes state (length_reads at end) true b e

@@ -2,7 +2,6 @@
 use Rattle.std.proofs.Common.{◌≡◌, ℕ, ◌+◌, ◌<◌, ◌≤◌, ◌∙◌, List, [], ◌∷◌, ◌++◌, length, ap, subst, arith, length-append}
 use Rattle.std.specs.List.{flat_map}
 use Rattle.std.proofs.lemmas.Grind.{flat_map-append}
-use Rattle.std.proofs.lemmas.List.Concat.{flat_map-cons}
 use Rattle.std.proofs.lemmas.List.Elements.{All-weaker}
 use Rattle.byteorder.specs.Endian.{big_bytes}
 use Rattle.rly_core.specs.declared.params.Geometry.{Geometry}
@@ -15,7 +14,6 @@ use Rattle.rly_machine.specs.State.{State}
 use Rattle.rly_machine.specs.Step.{step}
 use Rattle.rly_machine.specs.declared.command.Command.{Command}
 use Rattle.rly_record.specs.Spelling.{body_of, record_length, record_of}
-use Rattle.rly_record.proofs.Records.{length-record_of}
 use Rattle.rly_checkpoint.specs.Stored.{stored_length}
 use Rattle.rly_checkpoint.specs.declared.stored.Stored.{Stored}
 use Rattle.rly_segment.specs.Device.{IsLayout, device_length}
@@ -28,7 +26,7 @@ use Rattle.rly_keeping.proofs.Stepping.{alike_after, commanded}
 use Rattle.rly_grouping.specs.Lying.{Commands, placed_at, placed_from, placed_group}
 use Rattle.rly_grouping.proofs.Brought.{placed_brought}
 use Rattle.rly_grouping.proofs.Lying.{first_stands, payload_stands, records_there}
-use Rattle.rly_grouping.proofs.Records.{placed_alike}
+use Rattle.rly_grouping.proofs.Records.{placed_alike, records_size}
 
 -- an index that is used up to a place is used up to a later one
 index_later : (g : Geometry) (segment used later : ℕ) (s : State Stored) → used ≤ later → IsIndex g segment used s → IsIndex g segment later s
@@ -39,13 +37,6 @@ index_later g segment used later s le index = record {
   inline = index.inline;
   free = index.free;
 }
-
--- how long the records of some commands are
-records_size : (command : Command (List ℕ)) (commands : Commands)
-    → length (flat_map record_of (command ∷ commands)) ≡ record_length length command + length (flat_map record_of commands)
-records_size command commands =
-    ap length (flat_map-cons record_of command commands) ∙ length-append (record_of command) (flat_map record_of commands)
-    ∙ ap (λ (n : ℕ). n + length (flat_map record_of commands)) (length-record_of command)
 
 module _ (g : Geometry) (segment : ℕ) (there : segment < g.segments) where
   from_place : (used place : ℕ) (commands : Commands) (s : State Stored) → segment_place g segment ≤ used → used ≤ place
@@ -92,7 +83,7 @@ module _ (g : Geometry) (segment : ℕ) (there : segment < g.segments) where
 parts_size : (commands more : Commands) → length (flat_map record_of (commands ++ more)) ≡ length (flat_map record_of commands) + length (flat_map record_of more)
 parts_size commands more = ap length (flat_map-append record_of commands more) ∙ length-append (flat_map record_of commands) (flat_map record_of more)
 
-body_size : (commands : Commands) → length (body_of commands) ≡ 2 + length (flat_map record_of commands)
+pub body_size : (commands : Commands) → length (body_of commands) ≡ 2 + length (flat_map record_of commands)
 body_size commands = length-append (big_bytes 2 (length commands)) (flat_map record_of commands)
 
 pub gathered_index : (g : Geometry) (segment gate end : ℕ) (commands more : Commands) (s : State Stored) → segment < g.segments

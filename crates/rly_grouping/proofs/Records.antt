@@ -12,7 +12,6 @@ use Rattle.rly_record.specs.Spelling.{HasRecord, HaveBody, IsShort, body_of, lon
 use Rattle.rly_record.proofs.Bodies.{body_small, sum-lengths, sum-lengths-within}
 use Rattle.rly_record.proofs.Records.{length-record_of}
 use Rattle.rly_checkpoint.specs.Stored.{stored_length}
-use Rattle.rly_checkpoint.specs.declared.stored.Stored.{Stored}
 use Rattle.rly_checkpoint.specs.declared.stored.Stored.TheVariants.{Inline}
 use Rattle.rly_keeping.specs.Keeping.{IsCommandAlike}
 use Rattle.rly_grouping.specs.Groups.{GroupState, Holds, empty_group, group_body, record_place, with_record}
@@ -66,22 +65,24 @@ next_place gate command group = omega (arith, length-append group.records (recor
 pub place_after : (gate : ℕ) (group : GroupState) → gate + (5 + length (group_body group)) ≡ record_place gate group
 place_after gate group = omega (arith, body_length group)
 
--- places with one command more
-placed_more : (place : ℕ) (commands : Commands) (command : Command (List ℕ))
-    → placed_from place (commands ++ command ∷ []) ≡ placed_from place commands ++ placed_at (place + length (flat_map record_of commands)) command ∷ []
-placed_more place [] command = ap (λ (n : ℕ). placed_at n command ∷ []) (let e : place ≡ place + 0 = omega arith in e)
-placed_more place (first ∷ commands) command =
-    let after : ℕ = place + record_length length first in
-    let size : length (flat_map record_of (first ∷ commands)) ≡ record_length length first + length (flat_map record_of commands) =
-    ap length (flat_map-cons record_of first commands) ∙ length-append (record_of first) (flat_map record_of commands) ∙ ap (λ (n : ℕ). n + length (flat_map record_of commands)) (length-record_of first) in
-    let same : after + length (flat_map record_of commands) ≡ place + length (flat_map record_of (first ∷ commands)) = omega (arith, size) in
-    ap (λ (l : List (Command Stored)). placed_at place first ∷ l) (placed_more after commands command)
-    ∙ ap (λ (n : ℕ). placed_at place first ∷ placed_from after commands ++ placed_at n command ∷ []) same
+-- how long the records of some commands are
+pub records_size : (command : Command (List ℕ)) (commands : Commands)
+    → length (flat_map record_of (command ∷ commands)) ≡ record_length length command + length (flat_map record_of commands)
+records_size command commands =
+    let parts = ap (λ (l : List ℕ). length l) (flat_map-cons record_of command commands) in
+    omega (arith, parts, length-append (record_of command) (flat_map record_of commands), length-record_of command)
+
+-- commands after others stand after their records
+pub placed_joined : (place : ℕ) (a b : Commands) → placed_from place (a ++ b) ≡ placed_from place a ++ placed_from (place + length (flat_map record_of a)) b
+placed_joined place [] b = grind arith
+placed_joined place (command ∷ a) b =
+    let rest = placed_joined (place + record_length length command) a b in
+    grind (arith, records_size command a)
 
 pub placed_told : (gate : ℕ) (commands : Commands) (command : Command (List ℕ)) (group : GroupState) → Holds commands group
     → placed_group gate (commands ++ command ∷ []) ≡ placed_group gate commands ++ placed_at (record_place gate group) command ∷ []
 placed_told gate commands command group holds =
-    placed_more (gate + 7) commands command
+    placed_joined (gate + 7) commands (command ∷ [])
     ∙ ap (λ (l : List ℕ). placed_group gate commands ++ placed_at (gate + 7 + length l) command ∷ []) (sym holds.records)
 
 -- ---- the same but for payloads

@@ -2,10 +2,11 @@
 use Rattle.std.proofs.Common.{◌≡◌, ◌≤◌, ◌+◌, ◌++◌, ◌∷◌, [], ℕ, Bool, true, false, List, arith, refl}
 use Rattle.rly_journal.proofs.Common.{all_are_reads, AllByRecursion, are_reads, AreReads, AreTried, Commands, count_joined, DeviceEvent, DiskState, drawing_for}
 use Rattle.rly_journal.proofs.Common.{head_spelled, is_spent, logging, Makes, makes_syncs, MakesFront, None, OnlyReadsFailed, Option, payloads_of, reads_sound}
-use Rattle.rly_journal.proofs.Common.{Renewal, renewing, rounding, segment_place, Some, stored_form, stored_length, Tail, Tries, Try}
+use Rattle.rly_journal.proofs.Common.{Renewal, renewing, rounding, row_tried, segment_place, Some, stored_form, stored_length, Tail, Tries, Try}
 use Rattle.std.specs.Prelude.{slice_index_or}
 use Rattle.rly_disk.specs.Trace.{count_of, is_failed_call, is_failed_read, is_sync_call}
-use Rattle.rly_disk.proofs.Making.{Done, Row, made_row, row_of}
+use Rattle.rly_disk.proofs.Making.{Done, Failed, Row, row_of}
+use Rattle.rly_fetching.proofs.TriedReads.{tried_syncs}
 use Rattle.rly_disk.proofs.Traces.{one_if}
 use Rattle.rly_segment.proofs.Replacing.{replacing_writes}
 
@@ -25,6 +26,7 @@ IsSoundRow row = (count_of is_failed_call row.calls ≡ 0) × (row.whole ≡ fal
 pub row_alone : {whole spent : Bool} {calls events : List DeviceEvent} → Row whole spent calls events → IsSoundRow (record { calls = calls; whole = whole })
     → AreAlone events × (whole ≡ false → IsUnread spent events)
 row_alone (Done {call = call} row) sound = let more = row_alone row in grind (arith, more, sound.0, sound.1)
+row_alone (Failed failed) sound = let reads = sound.1 in grind (arith, reads)
 row_alone row sound = let reads = sound.1 in grind (arith, reads)
 
 rows_alone : (spent : Bool) (rows : List Try) (events : List DeviceEvent) → AreTried spent rows events → AllByRecursion IsSoundRow rows → AreAlone events
@@ -74,8 +76,7 @@ module _ {D : Type 0} (state : D → DiskState) {a b : D} where
   -- where the journal goes on, none fails but reads
   pub round_alone : (tail : Tail) (opened : Option Renewal) (commands : Commands) (fetches : List Try)
       → Tries state (rounding tail opened commands true ++ fetches) a b → AreReads fetches → OnlyReadsFailed (state a) (state b)
-  round_alone tail None commands fetches tries reads =
-      tried_alone _ tries (((logging_sound tail.gate commands).1, λ never. cc), reads_rows fetches reads)
+  round_alone tail None commands fetches tries reads = tried_alone _ tries (((logging_sound tail.gate commands).1, λ never. cc), reads_rows fetches reads)
   round_alone tail (Some r) commands fetches tries reads =
       tried_alone _ tries (((renewing_sound tail r).1, λ never. cc), (((logging_sound _ commands).1, λ never. cc), reads_rows fetches reads))
 
@@ -87,10 +88,9 @@ module _ {D : Type 0} (state : D → DiskState) {a b : D} where
     front : are_reads made.front ≡ true
     front = reads_front made.front made.rest (rw made.calls_are at (drawing_reads tail r))
 
-    pub drawn_alone : OnlyReadsFailed (state a) (state b)
-    drawn_alone =
-        let alone = (row_alone (made_row made.makes) (reads_sound made.front front, λ _. front)).0 in
-        omega (arith, made.makes.leads.failures, made.makes.leads.failed_reads, alone)
-
-    pub drawn_syncs : (state b).syncs ≤ (state a).syncs
-    drawn_syncs = omega (arith, makes_syncs state made.makes, reads_sync made.front front)
+    pub drawn_counts : OnlyReadsFailed (state a) (state b) × ((state b).syncs ≤ (state a).syncs)
+    drawn_counts =
+        let tries = row_tried state made.front whole made.makes in
+        let rows : List Try = record { calls = made.front; whole = whole } ∷ [] in
+        let reads : AreReads rows = (front, tt) in
+        (tried_alone rows tries (reads_rows rows reads), omega (arith, tried_syncs state rows tries reads))

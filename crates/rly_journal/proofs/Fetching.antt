@@ -1,19 +1,13 @@
 -- The payload that is fetched is one that the spool holds.
 use Rattle.std.proofs.Common.{◌≡◌, ◌-◌, ◌≤◌, ◌∷◌, ◌∙◌, [], ℕ, true, List, length, arith, ap, refl, sym, subst, length-append}
-use Rattle.rly_journal.proofs.Common.{All, AreFetching, Bytes, DeviceRead, DiskState, fetch_reply, Geometry, HasBytes, HoldsIndex, HopState, inline_length}
-use Rattle.rly_journal.proofs.Common.{IsAlike, IsFetched, IsLayout, Item, item_of, LiesThere, None, none_each, of_items, Option, payload_in, payloads_of}
-use Rattle.rly_journal.proofs.Common.{payloads_sum, Place, Refusal, Refused, Reply, row_for, segment_within, Some, State, Stored, stored_length}
-use Rattle.std.specs.Prelude.{Ok, slice_get}
-use Rattle.std.proofs.lemmas.List.{get_or_append_left}
+use Rattle.rly_journal.proofs.Common.{All, AreFetching, Bytes, DeviceRead, DiskState, fetch_reply, Geometry, get_or_append_left, has_hop, HasBytes, HoldsIndex}
+use Rattle.rly_journal.proofs.Common.{hop_at, HopState, inline_length, IsAlike, IsFetched, IsFetchedAs, IsLayout, IsLean, IsLostRead, IsThere, Item, item_of}
+use Rattle.rly_journal.proofs.Common.{LiesThere, lying, new_hop, None, none_each, of_items, Ok, Option, OutOfMemory, payload_in, payloads_of, payloads_sum}
+use Rattle.rly_journal.proofs.Common.{Place, Refusal, Refused, Reply, row_for, segment_within, slice_get, Some, State, state_in, Stored, stored_length}
 use Rattle.std.proofs.lemmas.Option.{get_or_from_slice_get, slice_get_within}
 use Rattle.rly_core.specs.declared.ids.HopId.{HopId}
-use Rattle.rly_core.specs.declared.refusal.Refusal.TheVariants.{OutOfMemory}
-use Rattle.rly_machine.specs.State.{has_hop, hop_at, new_hop}
-use Rattle.rly_checkpoint.specs.Stored.{state_in}
 use Rattle.rly_moving.proofs.Payloads.{hop_below}
 use Rattle.rly_keeping.proofs.Fetched.{found_alike, found_bytes}
-use Rattle.rly_fetching.specs.Fetching.{IsLean, IsThere, lying}
-use Rattle.rly_journal.specs.Fetches.{IsFetchedAs, IsLostRead}
 
 pub item_held : {P : Type 0} (T : P → Type 0) (s : State P) (hop : HopId) (number : ℕ) (item : Item P) → All T (payloads_of s)
     → item_of s hop number ≡ Ok item → T item.payload
@@ -80,13 +74,8 @@ module _ {g : Geometry} {s : State Stored} {t : State (List ℕ)} {hop : HopId} 
   -- the payload that was read is the machine's
   pub fetched_as : (disk : DiskState) {limit : ℕ} {payload bytes : List ℕ} → (disk.honest → state_in disk.seen s ≡ t)
       → IsFetched disk at limit (Bytes payload limit) → bytes ≡ payload → IsFetchedAs disk (fetch_reply (item_of t hop number)) bytes
-  fetched_as disk stands got same = rw fetched.1 (
-    omega (arith, ap length same, got.0, fetched.2),
-    λ honest.
-        let read = got.1 honest in
-        let told = sym fetched.1 ∙ fetched_bytes disk.seen (stands honest) in
-        cc,
-  )
+  fetched_as disk stands got same =
+      rw fetched.1 (omega (arith, ap length same, got.0, fetched.2), λ honest. cc (got.1 honest, sym fetched.1 ∙ fetched_bytes disk.seen (stands honest)))
 
   -- the calls of the read
   pub fetching_as : (told : Reply) → AreFetching (fetch_reply (item_of t hop number)) told (row_for at told ∷ [])

@@ -1,11 +1,8 @@
 -- What a journal shows once its device was opened.
 use Rattle.std.proofs.Common.{◌≡◌, ◌≤◌, ◌∙◌, [], ℕ, List, false, get_or, length, length-append, length-take, arith, sym, ap, refl}
-use Rattle.std.specs.Prelude.{replicate}
 use Rattle.rly_journal.proofs.Common.{Commands, Consistent, device_length, DiskState, HoldsIndex, IndexState, IsAlike, IsAtEnd, IsDurable, IsLoggedFor}
-use Rattle.rly_journal.proofs.Common.{IsShaped, IsSoundJournal, length-replicate, map_state, maps_held, OnlyRead, payload_in, payloads_of, Settled, shown_in}
-use Rattle.rly_journal.proofs.Common.{shown_state, Stands, State, state_twice, Stored, stored_length, Tail, whole}
-use Rattle.std.proofs.lemmas.List.{take_at}
-use Rattle.rly_checkpoint.specs.Stored.{state_in}
+use Rattle.rly_journal.proofs.Common.{IsShaped, IsSoundJournal, length-replicate, map_state, maps_held, OnlyRead, payload_in, payloads_of, replicate, Settled}
+use Rattle.rly_journal.proofs.Common.{shown_in, shown_state, Stands, State, state_in, state_twice, Stored, stored_length, Tail, take_at, whole}
 
 -- a payload that is shown has its length on any image
 pub shown_length : (image : List ℕ) (p : Stored) → length (shown_in image p) ≡ stored_length p

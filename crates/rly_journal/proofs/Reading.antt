@@ -1,14 +1,13 @@
 -- What a journal keeps while payloads are read.
 use Rattle.std.proofs.Common.{◌≡◌, ◌∙◌, [], ◌∷◌, ℕ, List, Bool, true, ap, arith, false}
 use Rattle.rly_journal.proofs.Common.{all_reads, are_reads, AreReads, Consistent, DiskState, IndexState, IsAlike, IsAtEnd, IsDurable, IsKept, IsShaped}
-use Rattle.rly_journal.proofs.Common.{IsSoundJournal, IsTaggedIn, JournalState, LeavesOnly, OnlyRead, Option, Place, Reply, row_for, Settled, started_settled}
+use Rattle.rly_journal.proofs.Common.{IsSoundJournal, IsTaggedIn, JournalState, LeavesOnly, OnlyRead, Option, Place, Reply, row_for, Stands, started_settled}
 use Rattle.rly_journal.proofs.Common.{State, Tail, Tries, tries_later, Wanted}
 use Rattle.rly_fetching.proofs.TriedReads.{tried_new, tried_settled}
 
 -- what is asked of the device for one payload is a read, as it is of a round's Fetches
 pub row_read : (at : Option Place) (told : Reply) → are_reads (row_for at told).calls ≡ true
-row_read at told =
-    (all_reads (Wanted (record { 0 = 0 }) 0 0 0 at ∷ []) (record { seat = record { 0 = 0 }; number = 0; reply = told; position = 0 } ∷ [])).0
+row_read at told = (all_reads (Wanted (record { 0 = 0 }) 0 0 0 at ∷ []) (record { seat = record { 0 = 0 }; number = 0; reply = told; position = 0 } ∷ [])).0
 
 -- it leaves all but counts
 pub payload_read : {D : Type 0} (state : D → DiskState) (facts : (disk : D) → (state disk).honest → Consistent (state disk)) {a b : D}
@@ -20,20 +19,15 @@ payload_read state facts {a} {b} at told tries =
 -- a journal goes on over a disk that was only read
 pub sound_read : {old new : DiskState} {tail : Tail} {x : IndexState} {s : State (List ℕ)} {position : ℕ} {broken : Bool} → OnlyRead old new
     → IsSoundJournal old tail x s position broken → IsSoundJournal new tail x s position broken
-sound_read {old} {new} only sound =
+sound_read {old} {new} {tail} {x} {s} {broken = broken} only sound =
     let was : new.honest → old.honest = only.later.honest.0 in
     let same : new.honest → new.seen ≡ old.seen = λ honest. (only.crash (was honest)).seen in
-    record {
-      shaped = rw only.later.size sound.shaped;
-      alike = sound.alike;
-      ends = sound.ends;
-      kept = λ whole. record { alike = sound.alike; bytes = λ honest. rw (same honest) ((sound.kept whole).bytes (was honest)) };
-      durable = λ whole honest.
-          let durable = sound.durable whole (was honest) in
-          record { settled = only.settled durable.settled; logged = rw (same honest) durable.logged };
-      tagged = λ whole honest. rw (same honest) (sound.tagged whole (was honest));
-      counted = sound.counted;
-    }
+    let shaped : IsShaped new.size tail x = rw only.later.size sound.shaped in
+    let bytes = λ (whole : broken ≡ false) (honest : new.honest). rw (← same honest) at ((sound.kept whole).bytes (was honest)) in
+    let durable : broken ≡ false → new.honest → IsDurable new tail s = λ whole honest.
+    let durable = sound.durable whole (was honest) in record { settled = only.settled durable.settled; logged = rw (same honest) durable.logged } in
+    let tagged = λ (whole : broken ≡ false) (honest : new.honest). rw (← same honest) at (sound.tagged whole (was honest)) in
+    search (shaped, sound.alike, sound.ends, bytes, durable, tagged, sound.counted)
 
 -- a journal that isn't broken, by the index that only its proofs see
 pub record IsGoing {D : Type 0} (state : D → DiskState) (j : JournalState D) (x : IndexState) : Type 0 where
@@ -44,15 +38,14 @@ pub record IsGoing {D : Type 0} (state : D → DiskState) (j : JournalState D) (
   pub durable : (state j.disk).honest → IsDurable (state j.disk) j.tail j.state
   pub tagged : (state j.disk).honest → IsTaggedIn (state j.disk).seen x.spool.state
   pub counted : j.position ≡ j.state.seq
-  -- on an honest disk, what it is and has there
-  pub found : (state j.disk).honest → IsDurable (state j.disk) j.tail j.state × IsTaggedIn (state j.disk).seen x.spool.state
+  pub here : IsSoundJournal (state j.disk) j.tail x j.state j.position false
 
 -- so it is, by what its callers see of it
 pub going : {D : Type 0} (state : D → DiskState) {j there : JournalState D} {x : IndexState} → j ≡ there → there.broken ≡ false
     → IsSoundJournal (state j.disk) j.tail x j.state j.position j.broken → IsGoing state j x
 going {D} state {j} is whole sound =
     let here : j.broken ≡ false = ap (λ (k : JournalState D). k.broken) is ∙ whole in
-    search (here, sound, sound.ends, sound.kept, sound.durable, sound.tagged, sound.counted)
+    search (here, sound, rw here at sound, sound.ends, sound.kept, sound.durable, sound.tagged, sound.counted)
 
 -- where a write or a sync failed only its shape is known
 pub broken_sound : {disk : DiskState} {tail : Tail} {x : IndexState} {s : State (List ℕ)} {position : ℕ} → IsShaped disk.size tail x → IsAlike x.spool.state s
@@ -61,11 +54,10 @@ broken_sound shaped alike = search (arith, shaped, alike)
 
 -- ---- crashes
 
--- what a crash leaves while payloads are read is what it might have left before
-pub leaves_read : (a b d : DiskState) (P : List ℕ → Type 0) → LeavesOnly a b P → OnlyRead b d → b.honest → LeavesOnly a d P
-leaves_read a b d P leaves only honest =
-    let none = only.crash honest in search (arith, leaves.each, leaves.before, none.since)
+-- where nothing was done, what the device reads
+pub leaves_durable : {disk : DiskState} {tail : Tail} {s : State (List ℕ)} → IsDurable disk tail s → LeavesOnly disk disk (λ image. Stands image s)
+leaves_durable {disk} durable = started_settled disk _ durable.settled (durable.logged.x, durable.logged.stands, durable.logged.state)
 
--- where nothing was written, what the device reads
-pub leaves_still : (a d : DiskState) (P : List ℕ → Type 0) → Settled a → P a.seen → OnlyRead a d → LeavesOnly a d P
-leaves_still a d P settled here only = leaves_read a a d P (started_settled a P settled here) only settled.honest
+-- what a crash leaves while payloads are read is what it might have left before
+pub leaves_read : {a b d : DiskState} {P : List ℕ → Type 0} → LeavesOnly a b P → OnlyRead b d → b.honest → LeavesOnly a d P
+leaves_read leaves only honest = let none = only.crash honest in search (arith, leaves.each, leaves.before, none.since)

@@ -1,26 +1,23 @@
--- What is read of an image, group by group, where payloads stay on the device.
-use Rattle.std.proofs.Common.{◌≡◌, ◌≤◌, ◌<◌, ◌+◌, [], ◌∙◌, ℕ, Bool, List, length, arith, sym, ap, refl, subst, inr}
-use Rattle.rly_journal.proofs.Common.{AllAccepted, append-nil, AreClosed, body_of, Commands, Consistent, DiskState, first_of, fold, gathered_kept, Geometry}
-use Rattle.rly_journal.proofs.Common.{HaveBody, HeadForm, HoldsIndex, IndexState, IsAlike, IsAtEnd, IsClosed, IsFull, IsHeadOf, IsLayout, IsLoggedFor}
-use Rattle.rly_journal.proofs.Common.{IsRefused, IsReplayedFor, IsScanned, IsShaped, IsStanding, length-frame, placed_group, segment_end, settled_state}
-use Rattle.rly_journal.proofs.Common.{Standing, standing_once, State, Stored, stored_length, stored_spelled, Tail, with_group}
-use Rattle.rly_gate.specs.Reading.{HoldsGroup}
-use Rattle.rly_machine.proofs.Folding.{params_fold, seq_fold}
-use Rattle.rly_checkpoint.specs.Stored.{state_in}
-use Rattle.rly_segment.specs.Device.{IsDevice, geometry_in}
-use Rattle.rly_segment.specs.Heads.{IsNewest, gate_after}
-use Rattle.rly_segment.specs.PlacedHeads.{HoldsPlaced}
-use Rattle.rly_segment.proofs.Settling.{settled_stands}
-use Rattle.rly_standing.specs.declared.open_fault.OpenFault.TheVariants.{Damaged}
+-- What is read of a device, group by group, where payloads stay there.
+use Rattle.std.proofs.Common.{◌≡◌, ◌≤◌, ◌<◌, ◌+◌, ◌∷◌, [], ◌∙◌, ℕ, List, length, arith, sym, ap, refl, subst, inl, inr, true}
+use Rattle.rly_journal.proofs.Common.{accepted-more, AllAccepted, append-nil, before_quiet, body_of, broken_commands, Commands, Consistent, DiskState, first_of}
+use Rattle.rly_journal.proofs.Common.{fold, front_all, gate_after, gate_behind-more, gate_scan, gates_quiet, gathered_kept, Geometry, group_scan, groups-more}
+use Rattle.rly_journal.proofs.Common.{HasNewestHead, HaveBody, head_scanned, head_tail, head_unread, HoldsGroup, HoldsIndex, IndexState, IsAlike, IsAt}
+use Rattle.rly_journal.proofs.Common.{IsClosed, IsFull, IsGivenUp, IsHeadOf, IsLayout, IsReadHeader, IsReading, IsReadNewest, IsRecovered, IsRedone, IsRefused}
+use Rattle.rly_journal.proofs.Common.{IsReplayedFor, IsScanned, IsShaped, IsStanding, length-frame, Makes, MakesFront, Ok, only_made, OnlyRead, Option}
+use Rattle.rly_journal.proofs.Common.{params_fold, past_body, placed_group, Read, read_again, replayed-more, scan_broken, scanned_all, scanned_group}
+use Rattle.rly_journal.proofs.Common.{segment_end, segment_place, seq_fold, settled_stands, settled_state, Some, Standing, standing_once, State, state_in}
+use Rattle.rly_journal.proofs.Common.{state_spelled, Stored, stored_length, stored_spelled, Tail, tells, with_gate, with_group}
+use Rattle.rly_segment.specs.declared.generations.NewestHead.{NewestHead}
+use Rattle.rly_segment.specs.declared.heads.Head.{Head}
+use Rattle.rly_segment.specs.Calls.{head_reads}
+use Rattle.rly_segment.specs.PlacedHeads.{HoldsNonePlaced, HoldsPlaced, IsReadPlaced}
+use Rattle.rly_standing.specs.declared.open_fault.OpenFault.{OpenFault}
+use Rattle.rly_standing.specs.declared.open_fault.OpenFault.TheVariants.{Damaged, OutOfMemory}
 use Rattle.rly_standing.specs.Faults.{IsBroken}
-use Rattle.rly_standing.proofs.Growing.{accepted-more, gate_behind-more, groups-more, replayed-more}
-use Rattle.rly_standing.proofs.Recovering.{head_tail, with_gate}
-use Rattle.rly_journal.specs.Faults.{HasNewestHead}
 use Rattle.rly_journal.proofs.Opening.{index_there, shown_alike, shown_there}
-use Rattle.rly_journal.proofs.Redone.{IsRedone, alike_commands, placed_count}
+use Rattle.rly_journal.proofs.Redone.{alike_commands, placed_count}
 use Rattle.rly_journal.proofs.Tagging.{head_tagged, tagged_more}
-
--- ---- one group more
 
 -- accepted commands leave the shape, with a gate that is further on or where it was
 pub shape_after : {size : ℕ} {tail : Tail} {x y : IndexState} (commands : Commands) → IsShaped size tail x
@@ -35,87 +32,196 @@ shape_after {tail = tail} {x} commands shaped accepted state gate on within full
     let params = ap (λ (m : State Stored). m.params) state ∙ params_fold stored_length x.spool.state (placed_group tail.gate commands) ∙ shaped.params in
     search arith
 
-module _ {disk : DiskState} {tail : Tail} {x : IndexState} (facts : disk.honest → Consistent disk) (shaped : IsShaped disk.size tail x) (ends : IsAtEnd tail x)
-    (holds : HoldsIndex x.geometry x.segment x.used x.spool.state) (honest : disk.honest) (so_far : IsReplayedFor disk.seen tail x) where
-  pub alike_there : IsAlike x.spool.state (state_in disk.seen x.spool.state)
-  alike_there = subst (IsAlike x.spool.state) (sym (shown_there facts shaped ends holds honest)) (shown_alike disk.seen x.spool.state)
-
-  -- what is read then has that group more
-  pub replayed_next : {y : IndexState} (commands : Commands) → HaveBody commands
-      → HoldsGroup disk.seen tail.gate (segment_end tail.geometry tail.segment) (body_of commands)
-      → IsRedone x tail.gate commands y → IsReplayedFor disk.seen (with_gate tail (tail.gate + 5 + length (body_of commands))) y
-  replayed_next {y} commands have group redone =
-      let s : State Stored = x.spool.state in
-      let read = so_far.read in
-      let z : Standing = read.x in
-      let accepted = rw read.state at ((alike_commands (tail.gate + 7) commands s _ alike_there).1.0 redone.accepted) in
-      let there = rw (read.ends.gate, read.ends.geometry, read.ends.segment) at group in
-      let room : tail.gate + 6 + length (body_of commands) ≤ segment_end tail.geometry tail.segment =
-      omega (arith, group.room, length-frame (body_of commands)) in
-      let kept =
-      gathered_kept disk tail.geometry tail.segment tail.gate (segment_end tail.geometry tail.segment) commands [] s _ facts shaped.geometry shaped.segment
-      (omega (arith, shaped.above)) (omega arith) (rw (append-nil commands) room) (λ _. rw (append-nil commands) group) (index_there tail x ends holds).index
-      (record { alike = alike_there; bytes = λ _. refl }) in
-      record {
-        read = record {
-          x = with_group z commands;
-          scanned = search (groups-more, accepted-more);
-          ends =
-              let gate = ap (λ n. n + 5 + length (body_of commands)) read.ends.gate ∙ sym (gate_behind-more (first_of z) z.groups commands) in
-              search;
-          state = grind (arith, redone.state, kept.bytes honest, read.state, replayed-more z.checkpoint z.groups commands);
-          gates = read.gates;
-        };
-        tagged = rw redone.state
-            (tagged_more z s tail.gate commands read.scanned read.ends.gate (omega (arith, read.ends.gate, there.room, length-frame (body_of commands)))
-            so_far.tagged);
-      }
-
--- a standing that is read of, and then a group that can't be passed
-pub refused_broken : {image : List ℕ} {tail : Tail} {x : IndexState} → IsReplayedFor image tail x → IsBroken image tail.gate
-    → IsRefused image (Damaged tail.gate)
-refused_broken {image} so_far broken =
-    let scanned = so_far.read.scanned in
-    (scanned.device, rw scanned.geometry at scanned.fits, inr (inr broken))
-
--- ---- the newest head
-
-module _ (which : HeadForm) (g : Geometry) (segment generation gate : ℕ) (closed : List Bool) (s : State Stored) (x : IndexState)
-    (is : gate ≡ gate_after stored_length (stored_spelled which) g segment s) (settled : x.spool.state ≡ settled_state which g segment s) where
-  pub head_replayed : {image : List ℕ} → IsDevice image × (g ≡ geometry_in image) × IsLayout g (length image) → IsNewest image g segment
-      → AreClosed image g g.segments closed → HoldsPlaced which image g segment generation s
-      → IsReplayedFor image (head_tail g segment generation gate closed) x
-  head_replayed {image} header newest gates head =
-      let z : Standing =
-      record { geometry = g; segment = segment; generation = generation; form = which; head = s; checkpoint = state_in image s; groups = [] } in
-      record {
-        read = record {
-          x = z;
-          scanned = search;
-          ends = record { geometry = refl; segment = refl; generation = refl; gate = is };
-          state = ap (state_in image) settled ∙ settled_stands which image g segment generation s head.head;
-          gates = gates;
-        };
-        tagged = rw settled (λ t other. head_tagged which g segment t other s (omega (arith, head.head.head.room)));
-      }
-
-  pub head_shaped : {size : ℕ} → IsLayout g size → segment < g.segments → IsHeadOf stored_length (stored_spelled which) g segment generation s
-      → IsShaped size (head_tail g segment generation gate closed) x
-  head_shaped layout there head =
-      let params = ap (λ (m : State Stored). m.params) settled ∙ head.params in
-      let seq = ap (λ (m : State Stored). m.seq) settled in
-      search arith
-
--- the gate after what was read is closed, so that is all
-pub logged_all : {image : List ℕ} {tail : Tail} {x : IndexState} → IsReplayedFor image tail x → IsClosed image tail.gate → IsLoggedFor image tail x
-logged_all {image} {tail} {x} so_far shut =
-    let read = so_far.read in
-    let stands : IsStanding image read.x = record { scanned = read.scanned; closed = rw read.ends.gate at shut } in
-    record { read = search; tagged = λ y reads. rw (standing_once read.x y stands reads) at so_far.tagged }
-
 -- a head is the newest: from there on memory may be refused
-pub scanned_newest : (image : List ℕ) (x : Standing) → IsScanned image x → HasNewestHead image
-scanned_newest image x scanned =
+scanned_newest : {image : List ℕ} {x : Standing} → IsScanned image x → HasNewestHead image
+scanned_newest scanned =
     let fits = rw scanned.geometry at scanned.fits in
     let newest = rw scanned.geometry at scanned.newest in
     search
+
+-- ---- the newest head
+
+-- the header was read, and the generation of each segment
+pub record IsLooked {D : Type 0} (state : D → DiskState) (g : Geometry) (found : NewestHead) (old new : D) : Type 0 where
+  pub layout : IsLayout g (state old).size
+  pub there : found.segment < g.segments
+  pub header : (state old).honest → IsReadHeader (state old).seen (Ok g)
+  pub newest : (state old).honest → IsReadNewest (state old).seen g (Ok found)
+  pub made : Makes state (gate_scan g) true old new
+
+module _ {D : Type 0} {state : D → DiskState} (facts : (disk : D) → (state disk).honest → Consistent (state disk)) {start now : D} where
+  module _ {g : Geometry} {found : NewestHead} (looked : IsLooked state g found start now) where
+    only_looked : OnlyRead (state start) (state now)
+    only_looked = only_made state facts (gates_quiet g) looked.made
+
+    -- memory was refused for the head
+    pub head_starved : {next : D} (body : Option ℕ) → Makes state (head_reads (segment_place g found.segment) body) true now next
+        → IsGivenUp state OutOfMemory start next
+    head_starved body made = record {
+      refused = λ honest.
+          let header = looked.header honest in
+          let fits = rw header.1 at header.2 in
+          let newest = rw header.1 at (looked.newest honest).0 in
+          search;
+      trace = head_unread g found.segment body looked.made made;
+    }
+
+    -- it holds no state
+    pub headless : {next : D} {place : ℕ} (body : Option ℕ) → place ≡ segment_place g found.segment
+        → Makes state (head_reads (segment_place g found.segment) body) true now next
+        → ((state now).honest → HoldsNonePlaced (state now).seen g found.segment) → IsGivenUp state (Damaged place) start next
+    headless body at made read = record {
+      refused = λ honest.
+          let header = looked.header honest in
+          let none = read_again (λ image. HoldsNonePlaced image g found.segment) only_looked read honest in
+          rw (← header.1) (header.0, header.2, inr (inl (record { segment = found.segment; newest = (looked.newest honest).0; none = none; at = at })));
+      trace = head_unread g found.segment body looked.made made;
+    }
+
+    -- it holds one
+    pub head_read : {next : D} (held : Head Stored) {x : IndexState} {body : Option ℕ} → let s = held.machine.state in let form = stored_spelled held.form in
+        IsHeadOf stored_length form g found.segment held.generation s → held.gate ≡ gate_after stored_length form g found.segment s
+        → ((state now).honest → IsReadPlaced (state now).seen g found.segment (Ok held)) → body ≡ Some (length (state_spelled stored_length form s))
+        → x.spool.state ≡ settled_state held.form g found.segment s → IsAt g found.segment held.gate x
+        → Makes state (head_reads (segment_place g found.segment) body) true now next
+        → IsReading state (head_tail g found.segment held.generation held.gate found.closed) x start next
+    head_read held {x} head gate read spelled settled at made =
+        let s : State Stored = held.machine.state in
+        let seen : List ℕ = (state start).seen in
+        let tail : Tail = head_tail g found.segment held.generation held.gate found.closed in
+        let z : Standing =
+        record { geometry = g; segment = found.segment; generation = held.generation; form = held.form; head = s; checkpoint = state_in seen s; groups = [] } in
+        let scanned = head_scanned tail _ gate looked.made (rw spelled at made) in
+        let params = ap (λ (m : State Stored). m.params) settled ∙ head.params in
+        let seq = ap (λ (m : State Stored). m.seq) settled in
+        let shaped : IsShaped (state start).size tail x = search arith in
+        record {
+          shaped = rw scanned.2.leads.size shaped;
+          ends = at;
+          replayed = λ honest.
+              let header = looked.header honest in
+              let newest = looked.newest honest in
+              let holds = read_again (λ i. HoldsPlaced held.form i g found.segment held.generation s) only_looked read honest in
+              record {
+                read = record {
+                  x = z;
+                  scanned = search;
+                  ends = record { geometry = refl; segment = refl; generation = refl; gate = gate };
+                  state = ap (state_in seen) settled ∙ settled_stands held.form seen g found.segment held.generation s holds.head;
+                  gates = newest.1;
+                };
+                tagged = rw settled (λ t other. head_tagged g found.segment t other held.form s (omega (arith, head.room)));
+              };
+          scanned = scanned;
+        }
+
+  -- ---- a group more
+
+  module _ {tail : Tail} {x : IndexState} (so_far : IsReading state tail x start now) where
+    only_so_far : OnlyRead (state start) (state now)
+    only_so_far = only_made state facts (before_quiet so_far.scanned.0) so_far.scanned.2
+
+    replayed_now : (state now).honest → IsReplayedFor (state now).seen tail x
+    replayed_now honest =
+        let was = only_so_far.later.honest.0 honest in
+        rw (only_so_far.crash was).seen (so_far.replayed was)
+
+    -- reading ends before the group is made again
+    pub given_up : {next : D} {why : OpenFault} → ((state now).honest → IsRefused (state now).seen why)
+        → (n : ℕ) × MakesFront state (group_scan tail.gate n) (tells why) now next → IsGivenUp state why start next
+    given_up {why} refused cut = record {
+      refused = read_again (λ image. IsRefused image why) only_so_far refused;
+      trace = scan_broken so_far.scanned cut;
+    }
+
+    pub starved : {next : D} → (n : ℕ) × MakesFront state (group_scan tail.gate n) true now next → IsGivenUp state OutOfMemory start next
+    starved = given_up (λ honest. scanned_newest (replayed_now honest).read.scanned)
+
+    -- no group can stand there
+    pub damaged : {next : D} → ((state now).honest → IsReplayedFor (state now).seen tail x → IsBroken (state now).seen tail.gate)
+        → (n : ℕ) × MakesFront state (group_scan tail.gate n) true now next → IsGivenUp state (Damaged tail.gate) start next
+    damaged broken = given_up (λ honest.
+        let was = replayed_now honest in
+        let scanned = was.read.scanned in
+        (scanned.device, rw scanned.geometry at scanned.fits, inr (inr (broken honest was))))
+
+    -- the gate after what was read is closed, so that is all
+    pub all_read : {next : D} → ((state now).honest → IsClosed (state now).seen tail.gate) → Makes state (Read tail.gate 1 ∷ []) true now next
+        → IsRecovered state tail x start next
+    all_read shut made = record {
+      shaped = rw made.leads.size so_far.shaped;
+      ends = so_far.ends;
+      logged = λ honest.
+          let was = so_far.replayed honest in
+          let read = was.read in
+          let closed = read_again (λ image. IsClosed image tail.gate) only_so_far shut honest in
+          let stands : IsStanding (state start).seen read.x = record { scanned = read.scanned; closed = rw read.ends.gate at closed } in
+          record { read = search; tagged = λ y reads. rw (standing_once read.x y stands reads) at was.tagged };
+      trace = scanned_all so_far.scanned made;
+    }
+
+    -- ---- where the body of one stands there
+
+    module _ (holds : HoldsIndex x.geometry x.segment x.used x.spool.state) where
+      alike_now : (state now).honest → IsAlike x.spool.state (state_in (state now).seen x.spool.state)
+      alike_now honest =
+          subst (IsAlike x.spool.state) (sym (shown_there (facts now) so_far.shaped so_far.ends holds honest)) (shown_alike (state now).seen x.spool.state)
+
+      -- that spells no commands which are all accepted
+      pub unaccepted : {next : D} (body : List ℕ) → ((state now).honest → HoldsGroup (state now).seen tail.gate (segment_end tail.geometry tail.segment) body)
+          → ((commands : Commands) → HaveBody commands → body ≡ body_of commands
+          → AllAccepted stored_length x.spool.state (placed_group tail.gate commands) → ⊥)
+          → Makes state (group_scan tail.gate (length body)) true now next → IsGivenUp state (Damaged tail.gate) start next
+      unaccepted body held none made =
+          let broken = λ (honest : (state now).honest) (was : IsReplayedFor (state now).seen tail x).
+          broken_commands _ tail body _ was.read (held honest) (λ commands have spelled accepted.
+          none commands have spelled ((alike_commands (tail.gate + 7) commands _ _ (alike_now honest)).1.1 accepted)) in
+          damaged broken (_, front_all state made)
+
+      module _ {y : IndexState} (commands : Commands) (have : HaveBody commands)
+          (room : tail.gate + 6 + length (body_of commands) ≤ segment_end tail.geometry tail.segment)
+          (held : (state now).honest → HoldsGroup (state now).seen tail.gate (segment_end tail.geometry tail.segment) (body_of commands))
+          (redone : IsRedone x tail.gate commands y) where
+        -- what was read then has that group more
+        replayed_next : (state now).honest → IsReplayedFor (state now).seen tail x
+            → IsReplayedFor (state now).seen (past_body tail (length (body_of commands))) y
+        replayed_next honest was =
+            let s : State Stored = x.spool.state in
+            let read = was.read in
+            let z : Standing = read.x in
+            let alike = alike_now honest in
+            let group = held honest in
+            let accepted = rw read.state at ((alike_commands (tail.gate + 7) commands s _ alike).1.0 redone.accepted) in
+            let there = rw (read.ends.gate, read.ends.geometry, read.ends.segment) at group in
+            let kept =
+            gathered_kept (state now) tail.geometry tail.segment tail.gate (segment_end tail.geometry tail.segment) commands [] s _ (facts now)
+            so_far.shaped.geometry so_far.shaped.segment (omega (arith, so_far.shaped.above)) (omega arith) (rw (append-nil commands) room)
+            (λ _. rw (append-nil commands) group) (index_there tail x so_far.ends holds).index (record { alike = alike; bytes = λ _. refl }) in
+            record {
+              read = record {
+                x = with_group z commands;
+                scanned = search (groups-more, accepted-more);
+                ends =
+                    let gate = ap (λ n. n + 5 + length (body_of commands)) read.ends.gate ∙ sym (gate_behind-more (first_of z) z.groups commands) in
+                    search;
+                state = grind (arith, redone.state, kept.bytes honest, read.state, replayed-more z.checkpoint z.groups commands);
+                gates = read.gates;
+              };
+              tagged = rw redone.state
+                  (tagged_more z s tail.gate commands read.scanned read.ends.gate (omega (arith, read.ends.gate, there.room, length-frame (body_of commands)))
+                  was.tagged);
+            }
+
+        pub read_on : {next : D} → Makes state (group_scan tail.gate (length (body_of commands))) true now next
+            → IsReading state (past_body tail (length (body_of commands))) y start next
+        read_on made =
+            let gate : ℕ = tail.gate + 5 + length (body_of commands) in
+            record {
+              shaped = rw made.leads.size
+                  (shape_after commands so_far.shaped redone.accepted redone.state gate (omega arith) (omega (arith, room))
+                  (λ full. omega (arith, so_far.shaped.generation, have.0)));
+              ends = rw (so_far.ends.geometry, so_far.ends.segment) at redone.at;
+              replayed = read_again (λ image. IsReplayedFor image (past_body tail (length (body_of commands))) y) only_so_far
+                  (λ honest. replayed_next honest (replayed_now honest));
+              scanned = scanned_group so_far.scanned (length (body_of commands)) made;
+            }

@@ -1,32 +1,13 @@
 -- Commands of a group that are made again on an index, with their payloads by place.
 use Rattle.std.proofs.Common.{◌≡◌, ◌↔◌, ◌⊎◌, ◌≤◌, ◌+◌, ◌++◌, ◌∷◌, [], ◌∙◌, ℕ, true, false, List, length, arith, sym, ap, refl, inl}
 use Rattle.std.proofs.Common.{length-append, append_assoc}
-use Rattle.rly_journal.proofs.Common.{accepted_push, AllAccepted, AllByRecursion, body_of, Command, Commands, false≢true, flat_map, flat_map-cons, fold}
-use Rattle.rly_journal.proofs.Common.{fold_push, HasRecord, HoldsIndex, IndexState, is_accepted, IsAlike, IsAt, IsBrought, placed_alike, placed_at}
-use Rattle.rly_journal.proofs.Common.{placed_brought, placed_from, placed_group, record_length, record_of, Reply, same_reply, segment_end, State, step, Stored}
-use Rattle.rly_journal.proofs.Common.{stored_length}
-use Rattle.std.proofs.lemmas.List.{flat_map_more}
-use Rattle.rly_machine.proofs.Folding.{accepted_parts}
+use Rattle.rly_journal.proofs.Common.{accepted_parts, accepted_push, alike_after, AllAccepted, AllByRecursion, Command, Commands, false≢true, flat_map}
+use Rattle.rly_journal.proofs.Common.{flat_map_more, fold, fold_push, HasRecord, HoldsIndex, IndexState, is_accepted, IsAlike, IsAt, IsBrought, placed_alike}
+use Rattle.rly_journal.proofs.Common.{placed_at, placed_brought, placed_from, placed_group, placed_joined, record_length, record_of, records_size, Reply}
+use Rattle.rly_journal.proofs.Common.{same_reply, segment_end, State, step, Stored, stored_length, used_after}
 use Rattle.rly_record.proofs.Records.{length-record_of}
-use Rattle.rly_keeping.proofs.Stepping.{alike_after}
-use Rattle.rly_index.specs.Index.{used_after}
 
 -- ---- places
-
-pub length_cons : {X : Type 0} (f : X → List ℕ) (x : X) (xs : List X) → length (flat_map f (x ∷ xs)) ≡ length (f x) + length (flat_map f xs)
-length_cons f x xs = ap (λ (l : List ℕ). length l) (flat_map-cons f x xs) ∙ length-append (f x) (flat_map f xs)
-
--- how long the records of some commands are
-pub records_size : (command : Command (List ℕ)) (commands : Commands)
-    → length (flat_map record_of (command ∷ commands)) ≡ record_length length command + length (flat_map record_of commands)
-records_size command commands = omega (arith, length_cons record_of command commands, length-record_of command)
-
--- commands after others stand after their records
-placed_joined : (place : ℕ) (a b : Commands) → placed_from place (a ++ b) ≡ placed_from place a ++ placed_from (place + length (flat_map record_of a)) b
-placed_joined place [] b = grind arith
-placed_joined place (command ∷ a) b =
-    let rest = placed_joined (place + record_length length command) a b in
-    grind (arith, records_size command a)
 
 pub placed_count : (place : ℕ) (commands : Commands) → length (placed_from place commands) ≡ length commands
 placed_count place [] = refl
@@ -59,11 +40,8 @@ pub stepped : {x r y : IndexState} {placed command : Command Stored} {told : Rep
     → IsAt x.geometry x.segment x.used r → command ≡ placed
     → y.spool.state ≡ (step stored_length r.spool.state command).0 → told ≡ (step stored_length r.spool.state command).1
     → IsAt r.geometry r.segment (used_after r.used next told) y → IsStepped x y placed told next
-stepped same before is state says after = record {
-  state = rw (← same, ← is) state;
-  reply = rw (← same, ← is) says;
-  at = rw (← before.geometry, ← before.segment, ← before.used) after;
-}
+stepped same before is state says after =
+    record { state = rw (← same, ← is) state; reply = rw (← same, ← is) says; at = rw (← before.geometry, ← before.segment, ← before.used) after }
 
 -- ---- the loop
 
@@ -81,18 +59,9 @@ pub record IsRedoing (old : IndexState) (gate : ℕ) (all rest : Commands) (at :
   pub segment : x.segment ≡ old.segment
   pub used : (x.used ≡ at) ⊎ ((done ≡ []) × (x.used ≡ gate))
 
--- all were
-pub record IsRedone (old : IndexState) (gate : ℕ) (all : Commands) (x : IndexState) : Type 0 where
-  pub accepted : AllAccepted stored_length old.spool.state (placed_group gate all)
-  pub state : x.spool.state ≡ fold stored_length old.spool.state (placed_group gate all)
-  pub at : IsAt old.geometry old.segment (gate + 5 + length (body_of all)) x
-
 -- the next record
 module _ {old x : IndexState} {gate at : ℕ} {all rest more : Commands} {command : Command (List ℕ)} (so_far : IsRedoing old gate all rest at x)
     (cut : rest ≡ command ∷ more) where
-  has : HasRecord command × AllByRecursion HasRecord more
-  has = rw cut at so_far.have
-
   room : at + record_length length command + length (flat_map record_of more) ≤ segment_end old.geometry old.segment
   room = omega (arith, so_far.room, ap (λ (l : Commands). length (flat_map record_of l)) cut, records_size command more)
 
@@ -117,7 +86,7 @@ module _ {old x : IndexState} {gate at : ℕ} {all rest more : Commands} {comman
         accepted = rw row (accepted_push stored_length s (placed_group gate done) placed so_far.accepted (rw (one.reply, so_far.state) at accepts));
         state = rw (row, fold_push stored_length s (placed_group gate done) placed, ← so_far.state) one.state;
         place = grind (arith, is, so_far.place, joined, flat_map_more record_of [] done command, length-record_of command);
-        have = has.1;
+        have = (rw cut at so_far.have).1;
         room = omega (arith, is, room);
         geometry = one.at.geometry ∙ so_far.geometry;
         segment = one.at.segment ∙ so_far.segment;

@@ -1,5 +1,5 @@
 -- A row of calls that was made whole, and another one after it.
-use Rattle.std.proofs.Common.{◌≡◌, ◌++◌, ◌∷◌, [], ◌∙◌, Bool, true, false, List, ap}
+use Rattle.std.proofs.Common.{◌≡◌, ◌++◌, ◌∷◌, [], Bool, true, false, List, arith}
 use Rattle.rly_journal.proofs.Common.{append-nil, DeviceEvent, DiskState, drawing_for, heading, is_spent, Makes, Renewal, renewing, row_tried, Tail, Tries}
 use Rattle.rly_journal.proofs.Common.{tries_joined, unheaded}
 use Rattle.rly_disk.proofs.Traces.{cut_behind}
@@ -14,13 +14,8 @@ module _ {D : Type 0} (state : D → DiskState) {a b : D} where
   -- both as one row
   pub unheaded_made : (tail : Tail) (r : Renewal) → Tries state (unheaded tail r) a b → Makes state (renewing tail r) false a b
   unheaded_made tail r tries =
-      let first : List DeviceEvent = drawing_for tail r in
       let t = tries.tried in
       let u = t.4 in
-      let all : tries.events ≡ first ++ u.0 = t.2 ∙ (λ i. t.3 i ++ (u.2 ∙ ap (λ (l : List DeviceEvent). u.0 ++ l) u.4 ∙ append-nil u.0) i) in
-      record {
-        events = tries.events;
-        leads = tries.leads;
-        made = rw all (cut_behind (is_spent (state b)) first (heading tail r) u.0 u.3);
-        untouched = tries.untouched;
-      }
+      let all : tries.events ≡ drawing_for tail r ++ u.0 = grind (arith, t.2, t.3, u.2, u.4, append-nil u.0) in
+      let made = rw (← all) at (cut_behind (is_spent (state b)) (drawing_for tail r) (heading tail r) u.0 u.3) in
+      search tries

@@ -1,22 +1,19 @@
 -- A round whose calls were evaluated, and whose accepted commands are made durable before they are answered.
-use Rattle.std.proofs.Common.{◌≡◌, ◌⊎◌, ◌+◌, ◌≤◌, ◌∷◌, ◌++◌, [], ◌∙◌, ℕ, Bool, true, false, eqb, List, length}
-use Rattle.std.proofs.Common.{arith, ap, sym, length-append}
-use Rattle.rly_journal.proofs.Common.{All, All-cons, All-nil, AllAccepted, Answered, append-nil, appending, AreOutcomes, body_of, Call, Commands, Consistent}
-use Rattle.rly_journal.proofs.Common.{DiskState, empty_group, fold, gathered_kept, Geometry, group_body, GroupState, holds_body, holds_command, HoldsIndex}
-use Rattle.rly_journal.proofs.Common.{IndexState, IsAlike, IsAtEnd, IsDueFor, IsEvaluated, IsIn, IsKept, IsLayout, IsShaped, IsSoundJournal, JournalState}
-use Rattle.rly_journal.proofs.Common.{LeavesOnly, logging, Makes, makes_later, makes_nothing, nat_tests, OnlyRead, or_left, or_right, Outcome, place_after}
-use Rattle.rly_journal.proofs.Common.{placed_group, segment_end, segment_within, Stands, State, Stored, stored_length, Tail, taken_by, taken_of, Wanted, zip}
+use Rattle.std.proofs.Common.{◌≡◌, ◌⊎◌, ◌+◌, ◌≤◌, ◌∷◌, ◌++◌, [], ◌∙◌, ℕ, Bool, true, false, eqb, List, length, arith, ap, sym, length-append}
+use Rattle.rly_journal.proofs.Common.{All, All-cons, All-nil, AllAccepted, append-nil, appending, AreOutcomes, body_of, Call, Commands, Consistent, DiskState}
+use Rattle.rly_journal.proofs.Common.{empty_group, fold, gathered_kept, Geometry, group_body, GroupState, holds_body, HoldsIndex, IndexState, IsAlike, IsAtEnd}
+use Rattle.rly_journal.proofs.Common.{IsDueFor, IsEvaluated, IsIn, IsKept, IsLayout, IsShaped, IsSoundJournal, JournalState, LeavesOnly, logging, Makes}
+use Rattle.rly_journal.proofs.Common.{makes_later, makes_nothing, nat_tests, OnlyRead, Outcome, place_after, placed_group, segment_end, segment_within, Stands}
+use Rattle.rly_journal.proofs.Common.{State, Stored, stored_length, Tail, taken_by, taken_of, zip}
 use Rattle.std.proofs.lemmas.List.{nil_from_length}
-use Rattle.std.proofs.lemmas.Bool.{eqb-true}
 use Rattle.rly_journal.proofs.Reading.{IsGoing, sound_read}
-use Rattle.rly_keeping.specs.Keeping.{IsIndex}
+use Rattle.rly_journal.specs.HelpersJournal.{IsIdle}
 use Rattle.rly_keeping.proofs.Images.{written}
 use Rattle.rly_grouping.proofs.Brought.{group_fits, grouped_outside, grouped_stands}
 use Rattle.rly_fetching.specs.Fetching.{IsThereFor}
 use Rattle.rly_journal.proofs.Appended.{append_durable, append_leaves, append_tagged}
-use Rattle.rly_journal.proofs.Evaluating.{few_taken, taken_once}
+use Rattle.rly_journal.proofs.Evaluating.{few_taken}
 use Rattle.rly_journal.proofs.Fetching.{lies_within}
-use Rattle.rly_journal.proofs.Opening.{index_there}
 use Rattle.rly_journal.proofs.Recovering.{shape_after}
 use Rattle.rly_journal.proofs.Redone.{alike_commands}
 
@@ -28,24 +25,16 @@ module _ (g : Geometry) (size gate : ℕ) (s : State Stored) (t : State (List �
       → AreOutcomes g gate s t done (zip calls outcomes) → All (IsThereFor size) outcomes
   outcomes_there done calls [] count came = All-nil (IsThereFor size)
   outcomes_there done [] (outcome ∷ outcomes) count came = absurd (omega (arith, count))
-  outcomes_there done (call ∷ calls) (Answered answer ∷ outcomes) count came =
-      All-cons (IsThereFor size) (Answered answer) outcomes tt
-      (outcomes_there (done ++ taken_by call (Answered answer)) calls outcomes (omega (arith, count)) came.1)
-  outcomes_there done (call ∷ calls) (Wanted seat number at limit place ∷ outcomes) count came =
-      All-cons (IsThereFor size) (Wanted seat number at limit place) outcomes (lies_within g size _ place layout came.0.there came.0.lies)
-      (outcomes_there (done ++ []) calls outcomes (omega (arith, count)) came.1)
-
--- ---- what the calls ask for
-
--- where a command was accepted, the calls hold one
-was_asked : (calls : List Call) (outcomes : List Outcome) → 1 ≤ length (taken_of (zip calls outcomes)) → holds_command calls ≡ true
-was_asked (call ∷ calls) (outcome ∷ outcomes) some =
-    let one = taken_once call outcome in
-    let rest = was_asked calls outcomes in
-    grind (arith, length-append (taken_by call outcome) (taken_of (zip calls outcomes)), or_left, or_right)
-was_asked _ _ some = absurd (omega (arith, some))
+  outcomes_there done (call ∷ calls) (outcome ∷ outcomes) count came =
+      let rest = outcomes_there (done ++ taken_by call outcome) calls outcomes (omega (arith, count)) came.1 in
+      All-cons (IsThereFor size) outcome outcomes (grind (arith, came.0, lies_within)) rest
 
 -- ---- the calls were evaluated
+
+-- a journal whose group was written or left is idle again
+pub idle_again : {A : Type 0} {payload a b c : ℕ} {old new : GroupState} {before after : List A} → IsIdle payload old before a → b ≡ a → c ≡ b
+    → new ≡ empty_group payload → after ≡ [] → IsIdle payload new after c
+idle_again idle evaluated answered empty none = record { empty = empty; none = none; room = omega (arith, idle.room, evaluated, answered) }
 
 -- the calls of a round were evaluated by a journal that isn't broken, and where none of them needs a segment that isn't there
 pub record IsServing {D : Type 0} (state : D → DiskState) (old : JournalState D) (x y : IndexState) (group : GroupState) (now : State (List ℕ))
@@ -96,7 +85,7 @@ module _ {D : Type 0} {state : D → DiskState} {old : JournalState D} {x y : In
   -- nothing was accepted
   module _ (none : eqb group.count 0 ≡ true) where
     nothing_taken : commands ≡ []
-    nothing_taken = nil_from_length commands (omega (arith, e.done.holds.count, eqb-true group.count 0 none))
+    nothing_taken = nil_from_length commands (grind (arith, nat_tests, e.done.holds.count, none))
 
     pub still : now ≡ old.state
     still = e.shows ∙ ap (fold length old.state) nothing_taken
@@ -118,19 +107,15 @@ module _ {D : Type 0} {state : D → DiskState} {old : JournalState D} {x y : In
     -- and so the journal goes on as it was
     pub none_sound : {b : D} → OnlyRead (state old.disk) (state b) → IsSoundJournal (state b) old.tail y now old.position old.broken
     none_sound only =
-        let sound = e.going.sound in
-        let state = rw nothing_taken at e.done.state in
-        let shaped = shape_kept in
-        let alike = rw (← state) at sound.alike in
+        let same = rw nothing_taken at e.done.state in
         let ends : IsAtEnd old.tail y = ends_at (omega (arith, e.done.used, e.done.holds.count, ap length nothing_taken)) in
-        let kept = rw (← state) at e.going.kept in
-        let tagged = rw (← state) at e.going.tagged in
-        sound_read only (rw still search)
+        let tagged = rw (← same) at e.going.tagged in
+        sound_read only (rw still (search (same, shape_kept, ends, e.going)))
 
   -- some were
   module _ (some : eqb group.count 0 ≡ false) where
     pub group_there : IsIn 1 64 group.count
-    group_there = (grind (arith, nat_tests), omega (arith, e.done.holds.count, few_taken calls outcomes, e.few))
+    group_there = (grind (arith, nat_tests), omega (arith, e.done.holds.count, (few_taken calls outcomes).0, e.few))
 
     count_there : IsIn 1 64 (length commands)
     count_there = rw (← e.done.holds.count) group_there
@@ -139,7 +124,7 @@ module _ {D : Type 0} {state : D → DiskState} {old : JournalState D} {x y : In
     pub group_room : old.tail.gate + 6 + length (group_body group) ≤ segment_end old.tail.geometry old.tail.segment
     group_room =
         group_fits old.tail.geometry old.tail.segment old.tail.gate commands group longest_there (omega (arith, e.going.sound.shaped.above))
-        (λ full. e.ready (was_asked calls outcomes count_there.0, full)) e.done.holds count_there.1
+        (λ full. e.ready ((few_taken calls outcomes).1 count_there.0, full)) e.done.holds count_there.1
 
     pub logging_group : {b : D} {whole : Bool} → Makes state (appending old.tail.gate (group_body group)) whole old.disk b
         → Makes state (logging old.tail.gate commands) whole old.disk b
@@ -154,9 +139,6 @@ module _ {D : Type 0} {state : D → DiskState} {old : JournalState D} {x y : In
     -- it was written
     module _ (facts : (disk : D) → (state disk).honest → Consistent (state disk)) {b : D}
         (made : Makes state (appending old.tail.gate (group_body group)) true old.disk b) where
-      index : IsIndex old.tail.geometry old.tail.segment old.tail.gate x.spool.state
-      index = (index_there old.tail x e.going.ends e.holds).index
-
       before_it : (state b).honest → (state old.disk).honest
       before_it = (makes_later state made).honest.0
 
@@ -165,48 +147,41 @@ module _ {D : Type 0} {state : D → DiskState} {old : JournalState D} {x y : In
           let shaped = e.going.sound.shaped in
           omega (arith, group_room, segment_within old.tail.geometry old.tail.segment (state old.disk).size shaped.geometry shaped.segment)
 
-      -- what was kept before is kept, as nothing of it lies where the group stands now
-      kept_written : IsKept (state b) x.spool.state old.state
-      kept_written = record {
-        alike = e.going.kept.alike;
-        bytes = λ honest.
-            let was = before_it honest in
-            written old.tail.geometry old.tail.segment old.tail.gate (6 + length (group_body group)) x.spool.state index (omega (arith, group_room))
-            (grouped_outside state old.tail.gate commands group e.done.holds count_there made was (facts old.disk was) room) ∙ e.going.kept.bytes was;
-      }
-
       -- each of its commands goes on from there
       pub front_written : (front back : Commands) → commands ≡ front ++ back
           → IsKept (state b) (fold stored_length x.spool.state (placed_group old.tail.gate front)) (fold length old.state front)
       front_written front back is =
           let end : ℕ = segment_end old.tail.geometry old.tail.segment in
           let shaped = e.going.sound.shaped in
+          let index = rw (e.going.ends.geometry, e.going.ends.segment, e.going.ends.used) at e.holds.index in
+          -- what was kept before is kept, as nothing of it lies where the group stands now
+          let bytes = λ (honest : (state b).honest). let was = before_it honest in
+          written old.tail.geometry old.tail.segment old.tail.gate (6 + length (group_body group)) x.spool.state index (omega (arith, group_room))
+          (grouped_outside state old.tail.gate commands group e.done.holds count_there made was (facts old.disk was) room) ∙ e.going.kept.bytes was in
+          let kept : IsKept (state b) x.spool.state old.state = search (e.going.kept, bytes) in
           let size_of = ap length (holds_body commands group e.done.holds ∙ ap body_of is) in
           gathered_kept (state b) old.tail.geometry old.tail.segment old.tail.gate end front back x.spool.state old.state (facts b)
           (rw (makes_later state made).size shaped.geometry) shaped.segment (omega (arith, shaped.above)) (omega arith) (omega (arith, group_room, size_of))
           (λ honest.
           let was = before_it honest in
           rw is at (grouped_stands state old.tail.gate commands group e.done.holds count_there made was (facts old.disk was) room end group_room))
-          index kept_written
+          index kept
 
       -- and so the journal goes on after them
       pub written_sound : {end : Tail} {counted : ℕ} → end ≡ record old.tail { gate = old.tail.gate + (5 + length (group_body group)) }
           → counted ≡ y.spool.state.seq → IsSoundJournal (state b) end y now counted old.broken
       written_sound is counts =
           let shaped = e.going.sound.shaped in
-          rw is (record {
-            shaped = rw (makes_later state made).size
-                (shape_after commands shaped e.done.accepted e.done.state (old.tail.gate + (5 + length (group_body group))) (omega arith)
-                (omega (arith, group_room)) (λ full. omega (arith, shaped.generation, count_there.0)));
-            alike = alike_now;
-            ends = λ whole. ends_at (grind (arith, e.done.used, count_there.0, place_after old.tail.gate group));
-            kept = λ whole. rw (e.shows, e.done.state) (front_written commands [] (sym (append-nil commands)));
-            durable = λ whole honest.
-                let was = e.going.durable (before_it honest) in
-                rw e.shows (append_durable state was e.done.holds group_there bytes_accepted group_room made (facts b));
-            tagged = λ whole honest.
-                let was = before_it honest in
-                rw e.done.state
-                (append_tagged state (e.going.durable was) e.done.holds group_there bytes_accepted group_room made x.spool.state (e.going.tagged was));
-            counted = λ whole. counts ∙ ap (λ (m : State ℕ). m.seq) alike_now;
-          })
+          let size = (makes_later state made).size in
+          let gate : ℕ = old.tail.gate + (5 + length (group_body group)) in
+          let shape = shape_after {y = y} commands shaped e.done.accepted e.done.state gate (omega arith) (omega (arith, group_room))
+          (λ full. omega (arith, shaped.generation, count_there.0)) in
+          let ends : IsAtEnd (record old.tail { gate = gate }) y = ends_at (grind (arith, e.done.used, count_there.0, place_after old.tail.gate group)) in
+          let kept = rw (← e.shows, ← e.done.state) at (front_written commands [] (sym (append-nil commands))) in
+          let durable = λ (honest : (state b).honest). let was = e.going.durable (before_it honest) in
+          rw (← e.shows) at (append_durable state was e.done.holds group_there bytes_accepted group_room made (facts b)) in
+          let tagged = λ (honest : (state b).honest). let was = before_it honest in
+          rw (← e.done.state) at
+          (append_tagged state (e.going.durable was) e.done.holds group_there bytes_accepted group_room made x.spool.state (e.going.tagged was)) in
+          let counted = counts ∙ ap (λ (m : State ℕ). m.seq) alike_now in
+          rw is (search (size, shape, durable, tagged))

@@ -1,75 +1,46 @@
 -- In which segments a spool of places has its payloads, and in which what was read of an image has them.
-use Rattle.std.proofs.Common.{◌≡◌, ◌≢◌, ◌≤◌, ◌+◌, ◌-◌, ◌++◌, ◌∷◌, [], ◌∙◌, ℕ, List, length, length-append, arith, sym, ap, refl, ◌<◌, ◌^◌, subst}
-use Rattle.rly_journal.proofs.Common.{All, All-cons, All-nil, AllAccepted, blank, body_of, Command, Commands, drawn_state, first_of, flat_map, fold, Geometry}
-use Rattle.rly_journal.proofs.Common.{group_of, HaveBody, HeadForm, HopState, Inline, inline_length, IsBrought, IsLogged, IsSameButForBytes, IsScanned}
-use Rattle.rly_journal.proofs.Common.{IsStanding, IsTaggedIn, Item, length-frame, LiesApart, LiesThere, logged_within, map_command, map_state, maps_same}
-use Rattle.rly_journal.proofs.Common.{MayMove, moved_state, none_each, overwritten, payloads_of, payloads_sum, Place, Placed, placed_at, placed_brought}
-use Rattle.rly_journal.proofs.Common.{placed_from, placed_group, record_length, record_of, Reply, SameOutside, Second, segment_end, segment_place}
-use Rattle.rly_journal.proofs.Common.{settled_state, Standing, standing_once, StandsAt, State, state_spelled, state_twice, step, Stored, stored_length}
-use Rattle.rly_journal.proofs.Common.{stored_spelled, Tail, unread, with_group}
-use Rattle.byteorder.specs.Endian.{big_bytes}
-use Rattle.rly_machine.specs.Map.{payload_of}
-use Rattle.rly_checkpoint.specs.Checkpoint.{entry_spelled, hop_spelled}
-use Rattle.rly_checkpoint.specs.Stored.{stored_form_of}
+use Rattle.std.proofs.Common.{◌≡◌, ◌≢◌, ◌≤◌, ◌+◌, ◌-◌, ◌++◌, ◌∷◌, [], ◌∙◌, ℕ, List, length, length-append, map, arith, sym, ap, refl, ◌<◌, ◌^◌, subst}
+use Rattle.rly_journal.proofs.Common.{All, All-cons, All-head, All-nil, all_there, AllAccepted, appended, astray, between_other, blank, blank_state, body_of}
+use Rattle.rly_journal.proofs.Common.{body_size, bytes_alike, Command, Commands, drawn_state, elsewhere_apart, first_of, flat_map, fold, fold_map, gate_of}
+use Rattle.rly_journal.proofs.Common.{Geometry, group_of, HaveBody, HeadForm, in_segment, Inline, inline_length, IsBrought, IsLogged, IsSameButForBytes}
+use Rattle.rly_journal.proofs.Common.{IsScanned, IsStanding, IsTagged, IsTaggedIn, length-frame, LiesApart, LiesBetween, LiesThere, logged_within, lying_at}
+use Rattle.rly_journal.proofs.Common.{map_command, map_state, maps_same, maps_settled, MayMove, moved_state, none_each, none_there, not_astray_there}
+use Rattle.rly_journal.proofs.Common.{overwritten, payload_of, payloads_of, payloads_sum, Place, Placed, placed_at, placed_brought, placed_from, placed_group}
+use Rattle.rly_journal.proofs.Common.{record_length, record_of, records_size, SameOutside, Second, segment_end, segment_once, segment_place, settled}
+use Rattle.rly_journal.proofs.Common.{settled_state, Standing, standing_end, standing_once, StandsAt, State, state_spelled, state_twice, step, step_none}
+use Rattle.rly_journal.proofs.Common.{Stored, stored_after, stored_commands, stored_form_of, stored_in, stored_length, stored_spelled, tagged, Tail}
+use Rattle.rly_journal.proofs.Common.{there_not_astray, unread, with_group}
 use Rattle.rly_checkpoint.specs.Widths.{entry_width}
 use Rattle.rly_checkpoint.proofs.Parts.{length-entry}
 use Rattle.rly_checkpoint.proofs.Sizes.{length-numbers, length-parts}
 use Rattle.rly_places.specs.Places.{segment_of, bytes_in, live_in}
-use Rattle.rly_places.proofs.Emptying.{in_segment}
-use Rattle.rly_segment.specs.Settling.{settled}
-use Rattle.rly_segment.proofs.Settling.{maps_settled}
-use Rattle.rly_drawing.specs.Drawing.{blank_state}
 use Rattle.rly_drawing.proofs.Blank.{blank_length}
-use Rattle.rly_keeping.proofs.Lying.{none_there, all_there, astray, between_other, elsewhere_apart, not_astray_there, there_not_astray}
-use Rattle.rly_journal.specs.HelpersJournal.{tagged, IsTagged}
-use Rattle.std.proofs.lemmas.List.Elements.{All-head}
 use Rattle.rly_disk.proofs.Overwritten.{overwritten_outside}
 use Rattle.rly_disk.proofs.Ranges.{part-overwritten}
 use Rattle.rly_machine.specs.declared.command.Command.TheVariants.{Take}
-use Rattle.rly_machine.proofs.Alike.{bytes_alike}
-use Rattle.rly_machine.proofs.Mapping.{mapped_step}
 use Rattle.rly_places.specs.Placed.{LiesElsewhere}
-use Rattle.rly_places.proofs.Placing.{segment_once}
-use Rattle.rly_keeping.specs.Keeping.{LiesBetween}
-use Rattle.rly_keeping.proofs.Stepping.{step_none}
-use Rattle.rly_grouping.specs.Lying.{lying_at}
-use Rattle.rly_standing.specs.Standing.{gate_of, standing_end, state_in, stored_after, stored_commands, stored_in}
 use Rattle.rly_standing.proofs.Frame.{gate_above}
-use Rattle.rly_standing.proofs.Growing.{appended}
-use Rattle.rly_journal.proofs.Redone.{records_size}
 
--- ---- how long what is spelled is
+-- ---- in any segment but the head's own
 
-module _ (which : HeadForm) where
-  form_least : (p : Stored) → 1 + inline_length p ≤ length (stored_form_of which p)
-  form_least (Inline payload) = omega arith
-  form_least (Placed place) = omega arith
+module _ (g : Geometry) (segment u : ℕ) (other : u ≢ segment) where
+  one_tagged : (at : ℕ) (p : Stored) → segment_place g segment ≤ at → at + inline_length p ≤ segment_end g segment → tagged g u (settled at p) ≡ tagged g u p
+  one_tagged at (Inline (byte ∷ bytes)) above within =
+      let place : Place = record { start = at; length = length (byte ∷ bytes) } in
+      let here : segment_of g at ≡ segment = in_segment g segment (at - 64) (omega (arith, above)) (omega (arith, above, within)) in
+      λ i. (length (byte ∷ bytes), none_there g u place (λ same. other (sym same ∙ here)) i)
+  one_tagged at p above within = refl
 
-  abbrev entry : Item Stored → List ℕ
-  entry = entry_spelled stored_length (stored_spelled which)
-
-  abbrev spelled_hop : HopState Stored → List ℕ
-  spelled_hop = hop_spelled stored_length (stored_spelled which)
-
-  -- ---- in any segment but the head's own
-
-  module _ (g : Geometry) (segment u : ℕ) (other : u ≢ segment) where
-    one_tagged : (at : ℕ) (p : Stored) → segment_place g segment ≤ at → at + inline_length p ≤ segment_end g segment → tagged g u (settled at p) ≡ tagged g u p
-    one_tagged at (Inline (byte ∷ bytes)) above within =
-        let place : Place = record { start = at; length = length (byte ∷ bytes) } in
-        let here : segment_of g at ≡ segment = in_segment g segment (at - 64) (omega (arith, above)) (omega (arith, above, within)) in
-        λ i. (length (byte ∷ bytes), none_there g u place (λ same. other (sym same ∙ here)) i)
-    one_tagged at p above within = refl
-
-    -- the head has nothing there but what it has by place, before it settles and after
-    pub head_tagged : (s : State Stored) → 13 + length (state_spelled stored_length (stored_spelled which) s) ≤ g.length
-        → map_state (tagged g u) (settled_state which g segment s) ≡ map_state (tagged g u) s
-    head_tagged s room =
-        maps_settled (λ at bytes. (segment_place g segment ≤ at) × (at + length bytes ≤ segment_end g segment))
-        (λ at a b in_both. search (arith, length-append a b)) which (tagged g u) (tagged g u)
-        (λ at item lies. let size = length-entry stored_length (stored_spelled which) item in
-        one_tagged (at + entry_width which) item.payload (omega (arith, lies)) (omega (arith, lies, size, form_least item.payload)))
-        g segment s (omega arith, omega (arith, room, length-parts stored_length (stored_spelled which) s, length-numbers s.lasts))
+  -- the head has nothing there but what it has by place, before it settles and after
+  pub head_tagged : (which : HeadForm) (s : State Stored) → 13 + length (state_spelled stored_length (stored_spelled which) s) ≤ g.length
+      → map_state (tagged g u) (settled_state which g segment s) ≡ map_state (tagged g u) s
+  head_tagged which s room =
+      maps_settled (λ at bytes. (segment_place g segment ≤ at) × (at + length bytes ≤ segment_end g segment))
+      (λ at a b in_both. search (arith, length-append a b)) which (tagged g u) (tagged g u)
+      (λ at item lies. let size = length-entry stored_length (stored_spelled which) item in
+      let least : 1 + inline_length item.payload ≤ length (stored_form_of which item.payload) = grind arith in
+      one_tagged (at + entry_width which) item.payload (omega (arith, lies)) (omega (arith, lies, size, least)))
+      g segment s (omega arith, omega (arith, room, length-parts stored_length (stored_spelled which) s, length-numbers s.lasts))
 
 -- ---- where the victim's payloads moved, there is in each other segment what the copy has there
 
@@ -77,7 +48,7 @@ pub moved_tagged : (g : Geometry) (target victim : ℕ) (s copy : State Stored) 
     → IsSameButForBytes copy (drawn_state g victim unread s)
     → (u : ℕ) → u ≢ target → map_state (tagged g u) (moved_state g target victim s) ≡ map_state (tagged g u) copy
 moved_tagged g target victim s copy may like u other =
-    head_tagged Second g target u other (drawn_state g victim unread s) may.room ∙ sym (blanked (drawn_state g victim unread s))
+    head_tagged g target u other Second (drawn_state g victim unread s) may.room ∙ sym (blanked (drawn_state g victim unread s))
     ∙ ap (λ (v : State Stored). map_state (tagged g u) v) (sym like) ∙ blanked copy
   where
     blanked : (v : State Stored) → map_state (tagged g u) (blank_state v) ≡ map_state (tagged g u) v
@@ -90,11 +61,8 @@ standing_at tail x = record x { geometry = tail.geometry; segment = tail.segment
 
 module _ {image : List ℕ} {tail : Tail} {s : State (List ℕ)} (logged : IsLogged image tail s) where
   pub same_at : logged.x ≡ standing_at tail logged.x
-  same_at = sym (λ i. record logged.x {
-    geometry = logged.ends.geometry i;
-    segment = logged.ends.segment i;
-    generation = logged.ends.generation i;
-  })
+  same_at =
+      let ends = logged.ends in sym (λ i. record logged.x { geometry = ends.geometry i; segment = ends.segment i; generation = ends.generation i })
 
   pub standing_there : IsStanding image (standing_at tail logged.x)
   standing_there = subst (IsStanding image) same_at logged.stands
@@ -116,20 +84,15 @@ module _ (g : Geometry) (t segment : ℕ) (other : t ≢ segment) (there : segme
   command_tagged used next place _ brought = refl
 
   -- the commands of a group in another segment
-  fold_tagged : (place : ℕ) (commands : Commands) (s u : State Stored) → segment_place g segment ≤ place
-      → place + length (flat_map record_of commands) ≤ segment_end g segment → map_state (tagged g t) s ≡ map_state (tagged g t) u
-      → map_state (tagged g t) (fold stored_length s (placed_from place commands)) ≡ map_state (tagged g t) (fold stored_length u (stored_commands commands))
-  fold_tagged place [] s u above within same = same
-  fold_tagged place (command ∷ commands) s u above within same =
+  commands_tagged : (place : ℕ) (commands : Commands) → segment_place g segment ≤ place → place + length (flat_map record_of commands) ≤ segment_end g segment
+      → map (map_command (tagged g t)) (placed_from place commands) ≡ map (map_command (tagged g t)) (stored_commands commands)
+  commands_tagged place [] above within = refl
+  commands_tagged place (command ∷ commands) above within =
       let size = records_size command commands in
       let next : ℕ = place + record_length length command in
-      let placed : Command Stored = placed_at place command in
       let brought = placed_brought g segment place place command there above (omega arith) (omega (arith, within, size)) in
-      let alike = command_tagged place next place command brought in
-      let mapped = mapped_step stored_length (λ (q : ℕ × ℕ). q.0) (tagged g t) (λ p. refl) in
-      fold_tagged next commands (step stored_length s placed).0 (step stored_length u (map_command Inline command)).0
-      (omega (arith, above)) (omega (arith, within, size))
-      (ap (λ (r : State (ℕ × ℕ) × Reply). r.0) (sym (mapped s placed) ∙ (λ i. step (λ q. q.0) (same i) (alike i)) ∙ mapped u (map_command Inline command)))
+      let rest = commands_tagged next commands (omega (arith, above)) (omega (arith, within, size)) in
+      λ i. command_tagged place next place command brought i ∷ rest i
 
 -- ---- a group more
 
@@ -143,9 +106,11 @@ pub tagged_more : {image : List ℕ} (x : Standing) (s : State Stored) (gate : �
     → IsTagged (with_group x commands) (fold stored_length s (placed_group gate commands))
 tagged_more x s gate commands scanned is room same t other =
     let above : segment_place x.geometry x.segment ≤ gate = omega (arith, is, gate_above (first_of x) x.groups) in
+    let one =
+    commands_tagged x.geometry t x.segment other scanned.newest.there (gate + 7) commands (omega (arith, above)) (omega (arith, room, body_size commands)) in
+    let mapped = λ (u : State Stored) (l : List (Command Stored)). fold_map stored_length (λ (q : ℕ × ℕ). q.0) (tagged x.geometry t) u l (λ k d lt. refl) in
     rw (stored_more x.head x.groups commands)
-    (fold_tagged x.geometry t x.segment other scanned.newest.there (gate + 7) commands s (stored_in x) (omega (arith, above))
-    (omega (arith, room, length-append (big_bytes 2 (length commands)) (flat_map record_of commands))) (same t other))
+    (sym (mapped s (placed_group gate commands)) ∙ (λ i. fold (λ q. q.0) (same t other i) (one i)) ∙ mapped (stored_in x) (stored_commands commands))
 
 -- the accepted commands of a round were written as a group at the end: what was tagged is tagged, where the spool went on by them
 pub tagged_appended : {old new : List ℕ} {tail : Tail} {s : State (List ℕ)} (commands : Commands) (places : State Stored) → IsLogged old tail s
@@ -158,7 +123,7 @@ tagged_appended {old} {new} {tail} {s} commands places logged have accepted few 
     let bytes : List ℕ = group_of (body_of commands) in
     let stands : IsStanding old x = standing_there logged in
     let gate : tail.gate ≡ gate_of x = logged.ends.gate ∙ ap gate_of (same_at logged) in
-    let accepts = rw (logged.state ∙ ap state_in (same_at logged)) at accepted in
+    let accepts = rw logged.state at accepted in
     let framed = length-frame (body_of commands) in
     let there = rw gate at (written_there tail.gate bytes written (omega (arith, framed, room, logged_within old tail s logged))) in
     let grown : IsStanding new (with_group x commands) = appended x commands stands have accepts few (omega (arith, gate, room, framed)) there.0 there.1 in
@@ -170,15 +135,12 @@ tagged_appended {old} {new} {tail} {s} commands places logged have accepted few 
 pub all_apart : (g : Geometry) (t : ℕ) (s : State Stored) → All (LiesThere g) (payloads_of s) → live_in g t s ≡ 0 → All (LiesApart g t) (payloads_of s)
 all_apart g t s there none k d lt = (there k d lt, none_each (bytes_in g t) (payloads_of s) (payloads_sum (bytes_in g t) s ∙ none) k d lt)
 
-pub apart_elsewhere : (g : Geometry) (t : ℕ) (s : State Stored) → All (LiesApart g t) (payloads_of s) → All (LiesElsewhere g t) (payloads_of s)
-apart_elsewhere g t s all k d lt = one _ (all k d lt)
-  where
-    one : (p : Stored) → LiesApart g t p → LiesElsewhere g t p
-    one (Inline payload) lies = tt
-    one (Placed place) lies =
-        let there = lies.0.1 in
-        let once = segment_once g there.0 place lies.0.0 there.1 in
-        (lies.0.0, (there.0, (λ same. omega (arith, lies.0.0, lies.1, all_there g t place (once ∙ same))), there.1))
+pub apart_elsewhere : (g : Geometry) (t : ℕ) (p : Stored) → LiesApart g t p → LiesElsewhere g t p
+apart_elsewhere g t (Inline payload) lies = tt
+apart_elsewhere g t (Placed place) lies =
+    let there = lies.0.1 in
+    let once = segment_once g there.0 place lies.0.0 there.1 in
+    (lies.0.0, (there.0, (λ same. omega (arith, lies.0.0, lies.1, all_there g t place (once ∙ same))), there.1))
 
 module _ (g : Geometry) where
   abbrev None : Stored → Type 0
@@ -205,4 +167,5 @@ tagged_free x s t scanned same other none =
     let there : All (LiesThere g) (payloads_of (stored_in x)) = λ k d lt.
     not_astray_there g _ (groups_there g x.head x.groups
     (λ j e below. there_not_astray g _ (elsewhere_apart g x.segment _ (scanned.head.placed.elsewhere j e below)).0) k d lt) in
-    apart_elsewhere g t (stored_in x) (all_apart g t (stored_in x) there (sym (bytes_alike (bytes_in g t) (bytes_in g t) s (stored_in x) shares) ∙ none))
+    let apart = all_apart g t (stored_in x) there (sym (bytes_alike (bytes_in g t) (bytes_in g t) s (stored_in x) shares) ∙ none) in
+    λ k d lt. apart_elsewhere g t _ (apart k d lt)

@@ -1,17 +1,13 @@
 -- Calls that were evaluated, and then answered: with what came of them, and with the payloads that were read.
-use Rattle.std.proofs.Common.{◌≡◌, ◌⊎◌, ◌∷◌, ◌++◌, [], ◌∙◌, ℕ, true, false, List, length, map, arith, ap, refl, sym, inl, inr, append_assoc}
+use Rattle.std.proofs.Common.{◌≡◌, ◌⊎◌, ◌∷◌, ◌++◌, [], ◌∙◌, ℕ, true, false, List, length, map, arith, ap, refl, sym, append_assoc}
 use Rattle.rly_journal.proofs.Common.{accepted_of, AllByRecursion, Answer, Answered, append-nil, AreFetches, AreLostWhereWanted, AreOutcomes, AreReadsOf}
-use Rattle.rly_journal.proofs.Common.{AreServed, Bytes, Call, Commands, DeviceRead, DiskState, false≢true, fetch_reply, fetching, flat_map-cons, fold}
-use Rattle.rly_journal.proofs.Common.{fold_append, Geometry, HasBytes, is_failure, IsAlike, IsAnswered, IsFetched, IsKept, IsKnown, IsOutcomeOf, item_of}
-use Rattle.rly_journal.proofs.Common.{MayWantBytes, next_state, Option, Outcome, Place, placed_group, Refusal, refusals, Refused, refused_as, Reply, SeatId}
-use Rattle.rly_journal.proofs.Common.{State, Stored, stored_length, taken_by, taken_of, Wanted, zip}
-use Rattle.rly_core.specs.declared.refusal.Refusal.TheVariants.{OutOfMemory}
-use Rattle.rly_machine.specs.Ask.{ask_step}
-use Rattle.rly_machine.specs.History.{Legal, LegalButForBytes, accepted_by, harm}
-use Rattle.rly_machine.specs.History.{without_bytes}
+use Rattle.rly_journal.proofs.Common.{AreServed, Bytes, Call, Commands, DeviceRead, DiskState, fetch_reply, fetching, flat_map-cons, fold, fold_append}
+use Rattle.rly_journal.proofs.Common.{Geometry, HasBytes, is_failure, IsAlike, IsAnswered, IsFetched, IsKept, IsKnown, IsOutcomeOf, item_of, MayWantBytes}
+use Rattle.rly_journal.proofs.Common.{next_state, Option, Outcome, OutOfMemory, Place, placed_group, Refusal, refusals, Refused, refused_as, Reply, SeatId}
+use Rattle.rly_journal.proofs.Common.{State, state_in, Stored, stored_length, taken_by, taken_of, Wanted, zip}
+use Rattle.rly_machine.specs.History.{Legal, LegalButForBytes, accepted_by, harm, without_bytes}
 use Rattle.rly_machine.proofs.Histories.{folds, legal_but_for_bytes}
 use Rattle.rly_machine.proofs.RealReplies.{harmless, real_reply}
-use Rattle.rly_checkpoint.specs.Stored.{state_in}
 use Rattle.rly_fetching.specs.Fetching.{IsAnswerOf, rows_for}
 use Rattle.rly_journal.specs.Rounds.{MayWantMemory, OnlyLost}
 use Rattle.rly_journal.specs.HelpersOutcomes.{IsWanted}
@@ -29,15 +25,10 @@ record IsAnswer (honest : Type 0) (u : State (List ℕ)) (call : Call) (outcome 
   lost : answer.reply ≡ Refused DeviceRead → MayWantBytes u call.ask
 
 -- an answer that the machine gave, or that told of want of memory
-known_answer : (honest : Type 0) (u : State (List ℕ)) (call : Call) (answer : Answer) → IsKnown call answer u → IsAnswer honest u call (Answered answer) answer
-known_answer honest u call answer known = record {
-  but = (legal_but_for_bytes 0 u ((call, answer) ∷ []) (known.answered, tt)).0;
-  exact = λ _. known.answered;
-  only = λ fails. inl (known.only fails);
-  taken = refl;
-  starved = known.wanted;
-  lost = λ lost. let memory = known.only (ap is_failure lost) in absurd cc;
-}
+known_answer : {honest : Type 0} {u : State (List ℕ)} {call : Call} {answer : Answer} → IsKnown call answer u → IsAnswer honest u call (Answered answer) answer
+known_answer {u = u} {call} {answer} known =
+    let but = (legal_but_for_bytes 0 u ((call, answer) ∷ []) (known.answered, tt)).0 in
+    grind (arith, but, known.answered, known.only, known.wanted)
 
 -- a Fetch is answered as the machine does, but for its bytes where the disk isn't honest; or it is lost, and its payload has bytes
 record IsBytesOrLost (honest : Type 0) (machine told : Reply) : Type 0 where
@@ -54,43 +45,23 @@ module _ {g : Geometry} {call : Call} {seat : SeatId} {number at limit : ℕ} {p
 
   wanted_answer : {honest : Type 0} (answer : Answer) → answer.seat ≡ seat → answer.number ≡ number → answer.position ≡ at
       → IsBytesOrLost honest machine answer.reply → IsAnswer honest u call (Wanted seat number at limit place) answer
-  wanted_answer {honest} answer same_seat same_number same_position is =
-      let told : (shown : Reply → Reply) → (is_failure answer.reply ≡ false → shown answer.reply ≡ shown machine) → IsAnswered shown 0 u (call, answer) =
-      λ shown real. record {
-        seat = same_seat ∙ wanted.same_seat;
-        number = same_number ∙ wanted.same_number;
-        reply = rw wanted.asks real;
-        position = grind (arith, same_position, wanted.position, wanted.asks);
-        harm = omega arith;
-      } in
-      record {
-        but = told without_bytes (λ real. (is.real real).0);
-        exact = λ right. told (λ reply. reply) (λ real. (is.real real).1 right);
-        only = λ fails. rw wanted.asks (elim (is.fails fails).0 [ inl memory ↦ inl memory | inr read ↦ inr (read, tt) ]);
-        taken = rw wanted.asks refl;
-        starved = λ starved. rw wanted.asks (is.fails (ap is_failure starved)).1;
-        lost = λ lost. rw wanted.asks (is.fails (ap is_failure lost)).1;
-      }
+  wanted_answer answer same_seat same_number same_position is =
+      grind (arith, same_seat, same_number, same_position, wanted.same_seat, wanted.same_number, wanted.position, wanted.asks, is.real, is.fails)
 
   -- what was read
   fetched_is : (disk : DiskState) → (disk.honest → state_in disk.seen s ≡ u) → (reply : Reply) → IsFetched disk place limit reply
       → IsBytesOrLost disk.honest machine reply
-  fetched_is disk stands (Bytes payload told) got = record {
-    real = λ _. (
-      grind (arith, got.2, wanted.same_limit, (fetched flight).1),
-      λ honest. grind (arith, got.1 honest, got.2, wanted.same_limit, fetched_bytes flight disk.seen (stands honest)),
-    );
-    fails = λ fails. absurd cc;
-  }
-  fetched_is disk stands (Refused DeviceRead) got = record { real = λ real. absurd cc; fails = λ _. (inr refl, (lost_as flight disk limit DeviceRead got).1) }
-  fetched_is disk stands (Refused OutOfMemory) got = record { real = λ real. absurd cc; fails = λ _. (inl refl, (lost_as flight disk limit OutOfMemory got).1) }
+  fetched_is disk stands (Bytes payload told) got =
+      let exact = λ (honest : disk.honest). fetched_bytes flight disk.seen (stands honest) in
+      grind (arith, got.1, got.2, wanted.same_limit, (fetched flight).1, exact)
+  fetched_is disk stands (Refused refusal) got = let lost = lost_as flight disk limit refusal got in grind (arith, lost.0, lost.1)
   fetched_is disk stands reply got = absurd got
 
 -- the answer to one call, and its reads
 told_one : (g : Geometry) {disk : DiskState} {call : Call} {s : State Stored} {u : State (List ℕ)} (outcome : Outcome) (answer : Answer) → IsKept disk s u
     → IsOutcomeOf g call outcome s u → IsAnswerOf disk outcome answer
     → IsAnswer disk.honest u call outcome answer × AreReadsOf u call.ask answer.reply (rows_for outcome answer)
-told_one g {disk} {call = call} {u = u} (Answered known) answer kept came is = rw is (known_answer disk.honest u call known came, came.unread)
+told_one g (Answered known) answer kept came is = rw is (known_answer came, came.unread)
 told_one g {disk} (Wanted seat number at limit place) answer kept came is = (
   wanted_answer kept.alike came answer is.0 is.1 is.2 (fetched_is kept.alike came disk kept.bytes answer.reply is.3),
   rw came.asks (fetching_as (flight kept.alike came) answer.reply),
@@ -107,28 +78,17 @@ pub record AreTold (honest : Type 0) (u : State (List ℕ)) (calls : List Call) 
   pub wanted : AreLostWhereWanted u (zip calls given)
 
 -- one call, and those after it
-told_more : {honest : Type 0} {u : State (List ℕ)} {call : Call} {calls : List Call} {outcome : Outcome} {outcomes : List Outcome} {answer : Answer}
-    {given : List Answer}
-    → IsAnswer honest u call outcome answer → AreTold honest (next_state u (call, answer)) calls outcomes given
-    → AreTold honest u (call ∷ calls) (outcome ∷ outcomes) (answer ∷ given)
-told_more {call = call} {answer = answer} one rest =
-    -- such a failure tells of no harm to the device
-    let none : harm answer.reply ≡ 0 = grind (arith, one.only, harmless answer.reply) in
-    record {
-      legal = (one.but, rw none rest.legal);
-      exact = λ right. (one.exact right, rw none (rest.exact right));
-      only = (one.only, rest.only);
-      taken = λ i. one.taken i ++ rest.taken i;
-      wanted = (one.starved, one.lost, rest.wanted);
-    }
+module _ {honest : Type 0} {u : State (List ℕ)} {call : Call} {outcome : Outcome} {answer : Answer} (one : IsAnswer honest u call outcome answer) where
+  told_more : {calls : List Call} {outcomes : List Outcome} {given : List Answer} → AreTold honest (next_state u (call, answer)) calls outcomes given
+      → AreTold honest u (call ∷ calls) (outcome ∷ outcomes) (answer ∷ given)
+  told_more rest =
+      -- such a failure tells of no harm to the device
+      let none : harm answer.reply ≡ 0 = grind (arith, one.only, harmless answer.reply) in
+      grind (arith, one, one.exact, one.taken, rest, rest.exact, rest.taken)
 
--- the state after it, as those after it have it
-next_done : {honest : Type 0} (t : State (List ℕ)) (done : Commands) {call : Call} {outcome : Outcome} {answer : Answer}
-    → IsAnswer honest (fold length t done) call outcome answer
-    → fold length t (done ++ taken_by call outcome) ≡ next_state (fold length t done) (call, answer)
-next_done t done {call} {outcome} {answer} one =
-    let next = (folds 0 (fold length t done) ((call, answer) ∷ []) (one.but, tt)).0 in
-    rw (next, append-nil (accepted_by call.ask answer.reply), one.taken) (fold_append length t done (taken_by call outcome))
+  -- the state after it
+  next_done : fold length u (taken_by call outcome) ≡ next_state u (call, answer)
+  next_done = rw (← one.taken, ← append-nil (accepted_by call.ask answer.reply)) (sym (folds 0 u ((call, answer) ∷ []) (one.but, tt)).0)
 
 module _ (disk : DiskState) (g : Geometry) (gate : ℕ) (s : State Stored) (t : State (List ℕ)) (commands : Commands)
     (kept : (front back : Commands) → commands ≡ front ++ back → IsKept disk (fold stored_length s (placed_group gate front)) (fold length t front)) where
@@ -140,7 +100,8 @@ module _ (disk : DiskState) (g : Geometry) (gate : ℕ) (s : State Stored) (t : 
   told_each done [] [] [] count same parts came each = (record { legal = tt; exact = λ _. tt; only = tt; taken = refl; wanted = tt }, refl)
   told_each done (call ∷ calls) (outcome ∷ outcomes) (answer ∷ given) count same parts came each =
       let one = told_one g outcome answer (kept done (taken_of (zip (call ∷ calls) (outcome ∷ outcomes))) parts) came.0 each.0 in
-      let rest = rw (next_done t done one.0) at (told_each (done ++ taken_by call outcome) calls outcomes given (omega (arith, count)) (omega (arith, same))
+      let next = fold_append length t done (taken_by call outcome) ∙ next_done one.0 in
+      let rest = rw next at (told_each (done ++ taken_by call outcome) calls outcomes given (omega (arith, count)) (omega (arith, same))
       (parts ∙ sym (append_assoc done (taken_by call outcome) (taken_of (zip calls outcomes)))) came.1 each.1) in (
         told_more one.0 rest.0,
         (_, _, flat_map-cons (λ (x : Outcome × Answer). rows_for x.0 x.1) (outcome, answer) (zip outcomes given), one.1, rest.1),
@@ -148,33 +109,25 @@ module _ (disk : DiskState) (g : Geometry) (gate : ℕ) (s : State Stored) (t : 
   told_each done _ _ _ count same parts came each = absurd (omega (arith, count, same))
 
 -- what the machine answers, where payloads aren't read
-abbrev pub granted_one : State (List ℕ) → Call → Outcome → Answer
-granted_one u call (Answered known) = known
-granted_one u call (Wanted seat number at limit place) = record { seat = seat; number = number; reply = (ask_step u call.ask).1; position = at }
-
-abbrev pub granted : State (List ℕ) → Commands → List Call → List Outcome → List Answer
-granted t done [] outcomes = []
-granted t done (call ∷ calls) [] = []
-granted t done (call ∷ calls) (outcome ∷ outcomes) = granted_one (fold length t done) call outcome ∷ granted t (done ++ taken_by call outcome) calls outcomes
-
 granted_answer : (g : Geometry) (s : State Stored) {call : Call} {u : State (List ℕ)} (outcome : Outcome) → IsAlike s u → IsOutcomeOf g call outcome s u
-    → IsAnswer (Unit {0}) u call outcome (granted_one u call outcome)
-granted_answer g s {call = call} {u = u} (Answered known) alike came = known_answer (Unit {0}) u call known came
+    → (answer : Answer) × IsAnswer (Unit {0}) u call outcome answer
+granted_answer g s (Answered known) alike came = (known, known_answer came)
 granted_answer g s {call = call} {u = u} (Wanted seat number at limit place) alike wanted =
     let real = rw wanted.asks at (real_reply u call.ask) in
-    wanted_answer alike wanted (granted_one u call (Wanted seat number at limit place)) refl refl refl
-    (rw wanted.asks (record { real = λ _. (refl, λ _. refl); fails = λ fails. absurd (false≢true (sym real ∙ fails)) }))
+    let answer : Answer = record { seat = seat; number = number; reply = machine alike wanted; position = at } in
+    (answer, wanted_answer alike wanted answer refl refl refl (grind (arith, real)))
 
 module _ (g : Geometry) (gate : ℕ) (s : State Stored) (t : State (List ℕ))
     (alike : (front : Commands) → IsAlike (fold stored_length s (placed_group gate front)) (fold length t front)) where
   pub granted_each : (done : Commands) (calls : List Call) (outcomes : List Outcome) → length outcomes ≡ length calls
       → AreOutcomes g gate s t done (zip calls outcomes)
-      → AreTold (Unit {0}) (fold length t done) calls outcomes (granted t done calls outcomes) × (length (granted t done calls outcomes) ≡ length calls)
-  granted_each done [] [] count came = (record { legal = tt; exact = λ _. tt; only = tt; taken = refl; wanted = tt }, refl)
+      → (given : List Answer) × AreTold (Unit {0}) (fold length t done) calls outcomes given × (length given ≡ length calls)
+  granted_each done [] [] count came = ([], record { legal = tt; exact = λ _. tt; only = tt; taken = refl; wanted = tt }, refl)
   granted_each done (call ∷ calls) (outcome ∷ outcomes) count came =
       let one = granted_answer g (fold stored_length s (placed_group gate done)) outcome (alike done) came.0 in
       let rest = granted_each (done ++ taken_by call outcome) calls outcomes (omega (arith, count)) came.1 in
-      (told_more one (rw (next_done t done one) at rest.0), omega (arith, rest.1))
+      let next = fold_append length t done (taken_by call outcome) ∙ next_done one.1 in
+      (_, told_more one.1 (rw next at rest.1), omega (arith, rest.2))
   granted_each done _ _ count came = absurd (omega (arith, count))
 
 -- ---- what callers see

@@ -1,16 +1,12 @@
 -- A call is told that a read failed only where one did, in its round.
 use Rattle.std.proofs.Common.{◌≡◌, ◌⊎◌, ◌++◌, ◌∷◌, [], ◌∙◌, ℕ, Bool, true, false, List, arith, ap, inl, inr, refl}
-use Rattle.rly_journal.proofs.Common.{Answer, are_reads, AreFetches, AreFetching, AreLostWhereWanted, AreReadsOf, AreTried, Broken, Bytes, Call, count_joined}
-use Rattle.rly_journal.proofs.Common.{DeviceEvent, DeviceRead, DiskState, drawing_for, fetch_reply, HasBytes, is_spent, IsRound, item_of, JournalState, Later}
-use Rattle.rly_journal.proofs.Common.{MakesRound, MakesShut, MayWantBytes, nat_tests, next_state, reads_sound, Refusal, refusals, Refused, Reply, rounding}
-use Rattle.rly_journal.proofs.Common.{row_tried, State, Tries, Try, Unsure, zip}
-use Rattle.rly_disk.proofs.Making.{row_of}
+use Rattle.rly_journal.proofs.Common.{Answer, are_reads, AreFetches, AreFetching, AreLostWhereWanted, AreReadsOf, AreTried, AreUnreadWhere, Broken, Bytes, Call}
+use Rattle.rly_journal.proofs.Common.{count_joined, DeviceEvent, DeviceRead, DiskState, drawing_for, Entry, fetch_reply, HasBytes, HasFailedRead, is_spent}
+use Rattle.rly_journal.proofs.Common.{IsRound, item_of, JournalState, Later, MakesRound, MakesShut, MayWantBytes, nat_tests, next_state, reads_sound, Refusal}
+use Rattle.rly_journal.proofs.Common.{refusals, Refused, Reply, rounding, row_of, row_tried, State, Tries, Try, Unsure, zip}
 use Rattle.rly_machine.specs.declared.command.Ask.{Ask}
 use Rattle.rly_machine.specs.declared.command.Ask.TheVariants as ask
 use Rattle.rly_machine.specs.declared.command.Query.TheVariants.{Fetch}
-use Rattle.rly_machine.specs.History.{Entry}
-use Rattle.rly_journal.specs.Journal.{HasFailedRead}
-use Rattle.rly_journal.specs.Rounds.{AreUnreadWhere}
 use Rattle.rly_journal.proofs.Counted.{IsUnread, drawing_reads, row_alone}
 use Rattle.rly_journal.proofs.Reading.{row_read}
 
@@ -80,8 +76,7 @@ module _ {D : Type 0} (state : D → DiskState) (old new : JournalState D) (call
       ⊎ ((new.state ≡ old.state) × (told : Refusal) × (given ≡ refusals told old.position calls) × MakesShut state old new calls told)
       → AreUnreadWhere Unread (zip calls given)
   traced given whole (inl made) =
-      rw (made.told whole)
-      (entries_cut Unread old.state (zip calls made.given) made.fetches made.wanted (made.read whole)
+      rw (made.told whole) (entries_cut Unread old.state (zip calls made.given) made.fetches made.wanted (made.read whole)
       (λ cut. tried_unread _ made.makes (cut_behind (rounding old.tail made.opened _ _) made.fetches cut)))
   traced given whole (inr none) = rw none.2 (refused_where Unread none.1 old.position calls (λ same. elim none.3.makes [
     | inl memory ↦ cc memory.0

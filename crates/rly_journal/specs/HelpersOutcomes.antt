@@ -1,6 +1,6 @@
 -- Helpers: what came of the calls of a round before payloads are read, in a spool of places and one with bytes. Nothing
 -- here is claimed: what a round answers is said by `Rounds`.
-use Rattle.std.specs.Prelude.{◌≡◌, ◌⊎◌, ℕ, ◌≤◌, List, [], ◌∷◌, ◌++◌, length, true, IsTrue, Option, Ok}
+use Rattle.std.specs.Prelude.{◌≡◌, ◌⊎◌, ℕ, ◌-◌, ◌<◌, ◌≤◌, List, [], ◌∷◌, ◌++◌, length, true, IsTrue, Option, Ok}
 use Rattle.std.specs.List.{zip}
 use Rattle.rly_core.specs.declared.ids.HopId.{HopId}
 use Rattle.rly_core.specs.declared.params.Geometry.{Geometry}
@@ -24,6 +24,7 @@ use Rattle.rly_record.specs.Spelling.{HasRecord, IsShort}
 use Rattle.rly_checkpoint.specs.Stored.{stored_length}
 use Rattle.rly_checkpoint.specs.declared.stored.Place.{Place}
 use Rattle.rly_checkpoint.specs.declared.stored.Stored.{Stored}
+use Rattle.rly_reclaim.specs.Room.{IsDue}
 use Rattle.rly_segment.specs.Heads.{segment_place}
 use Rattle.rly_moving.specs.Moving.{LiesThere}
 use Rattle.rly_keeping.specs.Keeping.{IsAlike}
@@ -38,13 +39,15 @@ use Rattle.rly_journal.specs.Rounds.{AreReadsOf, MayWantMemory, MayWantRoom}
 -- ---- one command
 
 -- a group is made, of payloads as long as the spool has them, that will stand at a gate in the current segment, which
--- isn't used where the next record will stand
+-- isn't used where the next record will stand, and has room for the largest group; it may take one command more
 pub record IsGrouping (gate : ℕ) (x : IndexState) (group : GroupState) : Type 0 where
   pub commands : Commands
   pub holds : Holds commands group
+  pub few : length commands < 64
   pub longest : group.most ≡ x.geometry.params.payload
   pub above : segment_place x.geometry x.segment ≤ gate
   pub below : x.used ≤ record_place gate group
+  pub ready : IsDue x.geometry (gate - segment_place x.geometry x.segment) → ⊥
 
 -- a command is answered by the machine, or refused memory that it may want
 abbrev pub IsToldOf : Command (List ℕ) → Reply → State (List ℕ) → Type 0

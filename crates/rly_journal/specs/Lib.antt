@@ -3,6 +3,7 @@ pub mod Faults
 pub mod Fetches
 pub mod HelpersJournal
 pub mod HelpersOutcomes
+pub mod HelpersReading
 pub mod HelpersReady
 pub mod HelpersRounds
 pub mod Journal

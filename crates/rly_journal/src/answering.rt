@@ -6,6 +6,7 @@ ghost use Rattle.rly_record.specs.Spelling.{IsRecordable};
 ghost use Rattle.rly_reclaim.specs.Room.{IsDue};
 ghost use Rattle.rly_segment.specs.Heads.{segment_place};
 ghost use Rattle.rly_keeping.specs.Keeping.{IsAlike};
+ghost use Rattle.rly_index.specs.Index.{IsAt};
 ghost use Rattle.rly_grouping.specs.Groups.{empty_group};
 ghost use Rattle.rly_journal.specs.Journal.{holds_command, is_command};
 ghost use Rattle.rly_journal.specs.Rounds.{refusals};
@@ -86,9 +87,7 @@ fn evaluate_call(
     accepted: &mut Accepted,
     call: Call,
 ) -> Outcome
-    requires room { group.old.count < 64 }
-    requires grouping { IsGrouping gate index.old group.old }
-    requires ready { is_command call.ask ≡ true → IsDue index.old.geometry (gate - segment_place index.old.geometry index.old.segment) → ⊥ }
+    requires { is_command call.ask ≡ true → IsGrouping gate index.old group.old }
     ensures outcome { (t : State (List ℕ)) → IsAlike index.old.spool.state t → IsOutcomeOf index.old.geometry call result index.old.spool.state t }
     ensures taken { IsTakenOrLeft gate call result index.old index.new group.old group.new
         (map (λ e. e.0.value) accepted.old.items) (map (λ e. e.0.value) accepted.new.items) }
@@ -153,9 +152,7 @@ fn answer_command(
     accepted: &mut Accepted,
     command: Command<Payload>,
 ) -> Reply
-    requires room { group.old.count < 64 }
-    requires grouping { IsGrouping gate index.old group.old }
-    requires ready { IsDue index.old.geometry (gate - segment_place index.old.geometry index.old.segment) → ⊥ }
+    requires { IsGrouping gate index.old group.old }
     ensures told { (t : State (List ℕ)) → IsAlike index.old.spool.state t → IsToldOf command result t }
     ensures taken { ((is_accepted result ≡ true) × IsTaken gate command index.old index.new group.old group.new
         (map (λ e. e.0.value) accepted.old.items) (map (λ e. e.0.value) accepted.new.items))
@@ -189,9 +186,7 @@ fn answer_long(alloc: Global, index: &mut Index, command: Command<Payload>) -> R
     ensures told { (t : State (List ℕ)) → IsAlike index.old.spool.state t → IsToldOf command result t }
     ensures refused { is_accepted result ≡ false }
     ensures state { index.new.spool.state ≡ index.old.spool.state }
-    ensures geometry { index.new.geometry ≡ index.old.geometry }
-    ensures segment { index.new.segment ≡ index.old.segment }
-    ensures used { index.new.used ≡ index.old.used }
+    ensures at { IsAt index.old.geometry index.old.segment index.old.used index.new }
 {
     index.law_index();
     let placed = inlined(command);

@@ -1,13 +1,8 @@
-ghost use Rattle.std.specs.Prelude.{◌≡◌, ◌+◌, ◌<◌, ◌≤◌, ◌^◌, Err, IfErr, IfOk, MatchResult, Ok, OnErr, OnOk, length, true, false};
-ghost use Rattle.rly_machine.specs.Fold.{AllAccepted, fold};
+ghost use Rattle.std.specs.Prelude.{◌≡◌, ◌+◌, ◌<◌, ◌≤◌, ◌^◌, MatchResult, Ok, length, true};
 ghost use Rattle.rly_record.specs.Spelling.{HaveBody, body_of};
-ghost use Rattle.rly_checkpoint.specs.Stored.{stored_length};
 ghost use Rattle.rly_segment.specs.Heads.{segment_end};
-ghost use Rattle.rly_index.specs.Index.{IsAt};
-ghost use Rattle.rly_grouping.specs.Lying.{placed_group};
-ghost use Rattle.rly_standing.specs.HelpersCalls.{IsCutShort, IsGroupRead, IsHeadCut, IsHeadRead, IsRead};
-ghost use Rattle.rly_journal.specs.Faults.{IsRefused};
-ghost use Rattle.rly_journal.specs.HelpersJournal.{IsAtEnd, IsLoggedFor, IsReplayedFor, IsShaped};
+ghost use Rattle.rly_journal.specs.HelpersJournal.{IsAtEnd, IsShaped};
+ghost use Rattle.rly_journal.specs.HelpersReading.{IsGivenUp, IsReadOn, IsReading, IsRecovered, IsTriedAgain};
 
 use rly_disk::Disk;
 use rly_gate::{GroupFault, read_group};
@@ -38,11 +33,7 @@ pub(crate) struct Recovered {
 /// Reads what a device stands for: the newest head, and the groups after it up to the first closed gate. No payload by place is
 /// read.
 pub(crate) fn recover<D: Disk>(alloc: Global, disk: &mut D) -> Result<Recovered, OpenFault>
-    ensures shaped { IfOk result (λ found. IsShaped (D.state disk.old).size found.tail found.index) }
-    ensures ends { IfOk result (λ found. IsAtEnd found.tail found.index) }
-    ensures logged { (D.state disk.old).honest → IfOk result (λ found. IsLoggedFor (D.state disk.old).seen found.tail found.index) }
-    ensures refused { (D.state disk.old).honest → IfErr result (λ fault. IsRefused (D.state disk.old).seen fault) }
-    ensures trace { MatchResult result (λ found. IsRead D.state found.tail disk.old disk.new) (λ fault. IsCutShort D.state fault disk.old disk.new) }
+    ensures { MatchResult result (λ found. IsRecovered D.state found.tail found.index disk.old disk.new) (λ fault. IsGivenUp D.state fault disk.old disk.new) }
 {
     let mut found = read_newest_head(alloc, disk)?;
     'groups: while replay_group(alloc, disk, &mut found)? {}
@@ -51,11 +42,7 @@ pub(crate) fn recover<D: Disk>(alloc: Global, disk: &mut D) -> Result<Recovered,
 
 /// Reads the header and what the newest head holds: what a device without groups stands for.
 fn read_newest_head<D: Disk>(alloc: Global, disk: &mut D) -> Result<Recovered, OpenFault>
-    ensures shaped { IfOk result (λ found. IsShaped (D.state disk.old).size found.tail found.index) }
-    ensures ends { IfOk result (λ found. IsAtEnd found.tail found.index) }
-    ensures replayed { (D.state disk.old).honest → IfOk result (λ found. IsReplayedFor (D.state disk.old).seen found.tail found.index) }
-    ensures refused { (D.state disk.old).honest → IfErr result (λ fault. IsRefused (D.state disk.old).seen fault) }
-    ensures trace { MatchResult result (λ found. IsHeadRead D.state found.tail disk.old disk.new) (λ fault. IsHeadCut D.state fault disk.old disk.new) }
+    ensures { MatchResult result (λ found. IsReading D.state found.tail found.index disk.old disk.new) (λ fault. IsGivenUp D.state fault disk.old disk.new) }
 {
     let geometry = match read_header(disk) {
         Ok(geometry) => geometry,
@@ -99,16 +86,9 @@ fn replay_group<D: Disk>(
 ) -> Result<bool, OpenFault>
     requires shaped { IsShaped (D.state disk.old).size found.old.tail found.old.index }
     requires ends { IsAtEnd found.old.tail found.old.index }
-    ensures shaped { OnOk result (IsShaped (D.state disk.new).size found.new.tail found.new.index) }
-    ensures ends { OnOk result (IsAtEnd found.new.tail found.new.index) }
-    ensures replayed { (D.state disk.old).honest → IsReplayedFor (D.state disk.old).seen found.old.tail found.old.index
-        → OnOk result (IsReplayedFor (D.state disk.old).seen found.new.tail found.new.index) }
-    ensures last { (D.state disk.old).honest → IsReplayedFor (D.state disk.old).seen found.old.tail found.old.index
-        → result ≡ Ok false → IsLoggedFor (D.state disk.old).seen found.new.tail found.new.index }
-    ensures refused { (D.state disk.old).honest → IsReplayedFor (D.state disk.old).seen found.old.tail found.old.index
-        → IfErr result (λ fault. IsRefused (D.state disk.old).seen fault) }
+    ensures read { (start : D) → IsReading D.state found.old.tail found.old.index start disk.old
+        → IsReadOn D.state result found.new.tail found.new.index start disk.new }
     ensures progress { result ≡ Ok true → (found.old.tail.gate < found.new.tail.gate) × (found.new.tail.gate < 2 ^ 64) }
-    ensures trace { IsGroupRead D.state found.old.tail found.new.tail result disk.old disk.new }
 {
     found.index.law_index();
     let at = found.tail.gate;
@@ -144,11 +124,7 @@ fn redo(
     requires have { HaveBody commands.items }
     requires used { index.old.used ≡ gate }
     requires room { gate + 5 + length (body_of commands.items) ≤ segment_end index.old.geometry index.old.segment }
-    ensures accepted { result ≡ Ok true → AllAccepted stored_length index.old.spool.state (placed_group gate commands.items) }
-    ensures state { result ≡ Ok true → index.new.spool.state ≡ fold stored_length index.old.spool.state (placed_group gate commands.items) }
-    ensures at { result ≡ Ok true → IsAt index.old.geometry index.old.segment (gate + 5 + length (body_of commands.items)) index.new }
-    ensures refused { result ≡ Ok false → AllAccepted stored_length index.old.spool.state (placed_group gate commands.items) → ⊥ }
-    ensures fault { OnErr result (result ≡ Err OpenFault.OutOfMemory) }
+    ensures { IsTriedAgain result index.old gate commands.items index.new }
 {
     index.law_index();
     let mut place = gate + RECORDS;

@@ -1,22 +1,16 @@
-ghost use Rattle.std.specs.Prelude.{◌≡◌, ◌⊎◌, ◌+◌, ◌<◌, ◌≤◌, ◌^◌, ◌↔◌, [], IsTrue, OnErr, OnOk, is_ok, length, List, ℕ};
+ghost use Rattle.std.specs.Prelude.{◌≡◌, ◌+◌, ◌<◌, ◌≤◌, ◌^◌, ◌↔◌, [], true, false, IsTrue, OnErr, OnOk, is_ok, length, List, ℕ};
 ghost use Rattle.rly_core.specs.Bounds.{IsIn};
-ghost use Rattle.rly_disk.specs.DiskModel.{LeavesOnly};
 ghost use Rattle.rly_disk.specs.Trace.{Makes};
 ghost use Rattle.rly_gate.specs.Calls.{appending};
-ghost use Rattle.rly_machine.specs.Fold.{AllAccepted, fold};
+ghost use Rattle.rly_machine.specs.declared.call.Call.{Call};
 ghost use Rattle.rly_machine.specs.State.{State};
-ghost use Rattle.rly_checkpoint.specs.Stored.{stored_length};
-ghost use Rattle.rly_checkpoint.specs.declared.stored.Stored.{Stored};
 ghost use Rattle.rly_segment.specs.Device.{IsLayout};
 ghost use Rattle.rly_segment.specs.Heads.{segment_end, segment_place};
-ghost use Rattle.rly_keeping.specs.Keeping.{IsKept};
-ghost use Rattle.rly_grouping.specs.Groups.{Holds, empty_group, group_body};
-ghost use Rattle.rly_grouping.specs.Lying.{Commands, placed_group};
-ghost use Rattle.rly_standing.specs.Log.{IsDurable, IsFull};
-ghost use Rattle.rly_standing.specs.Standing.{Stands};
-ghost use Rattle.rly_journal.specs.Calls.{IsRenewal, Renewal};
-ghost use Rattle.rly_journal.specs.HelpersJournal.{IsAtEnd, IsShaped, IsTaggedIn};
-ghost use Rattle.rly_journal.specs.HelpersRounds.{IsRenewed};
+ghost use Rattle.rly_grouping.specs.Groups.{empty_group, group_body};
+ghost use Rattle.rly_standing.specs.Log.{IsFull};
+ghost use Rattle.rly_journal.specs.HelpersJournal.{IsAtEnd, IsShaped, IsSoundJournal};
+ghost use Rattle.rly_journal.specs.HelpersRounds.{IsRenewing};
+ghost use Rattle.rly_journal.specs.Journal.{holds_command};
 
 use rly_core::limits::MAX_PAYLOAD;
 use rly_disk::{Disk, DiskFault};
@@ -62,22 +56,9 @@ pub(crate) fn renew<D: Disk>(
     requires shaped { IsShaped (D.state disk.old).size tail.old index.old }
     requires ends { IsAtEnd tail.old index.old }
     requires full { IsFull tail.old }
-    ensures shaped { IsShaped (D.state disk.new).size tail.new index.new }
-    ensures ends { IsAtEnd tail.new index.new }
-    ensures room { OnOk result (IsFull tail.new → ⊥) }
-    ensures kept { (s : State (List ℕ)) → IsKept (D.state disk.old) index.old.spool.state s
-        → OnOk result (IsKept (D.state disk.new) index.new.spool.state s) }
-    ensures durable { (s : State (List ℕ)) → IsDurable (D.state disk.old) tail.old s → IsKept (D.state disk.old) index.old.spool.state s
-        → OnOk result (IsDurable (D.state disk.new) tail.new s) }
-    ensures tagged { (s : State (List ℕ)) → IsDurable (D.state disk.old) tail.old s → IsKept (D.state disk.old) index.old.spool.state s
-        → OnOk result (IsTaggedIn (D.state disk.new).seen index.new.spool.state) }
-    // A crash at any moment leaves what stands for the state.
-    ensures any_moment { (s : State (List ℕ)) → IsDurable (D.state disk.old) tail.old s → IsKept (D.state disk.old) index.old.spool.state s
-        → IsTaggedIn (D.state disk.old).seen index.old.spool.state → LeavesOnly (D.state disk.old) (D.state disk.new) (λ image. Stands image s) }
-    ensures err { OnErr result ((tail.new ≡ tail.old) × (index.new ≡ index.old)) }
-    ensures trace { (s : State (List ℕ)) → IsKept (D.state disk.old) index.old.spool.state s
-        → ((D.state disk.old).honest → IsDurable (D.state disk.old) tail.old s × IsTaggedIn (D.state disk.old).seen index.old.spool.state)
-        → (r : Renewal) × IsRenewal (D.state disk.old) tail.old s r × IsRenewed D.state tail.old tail.new r result disk.old disk.new }
+    ensures { (s : State (List ℕ)) (position : ℕ) (calls : List Call) → holds_command calls ≡ true
+        → IsSoundJournal (D.state disk.old) tail.old index.old s position false
+        → IsRenewing D.state tail.old tail.new index.new s position calls result disk.old disk.new }
 {
     index.law_index();
     let choice = index.choose();
@@ -117,14 +98,6 @@ pub(crate) fn append<D: Disk>(
     requires geometry { IsLayout tail.old.geometry (D.state disk.old).size }
     requires segment { tail.old.segment < tail.old.geometry.segments }
     requires room { tail.old.gate + 6 + length (group_body group.old) ≤ segment_end tail.old.geometry tail.old.segment }
-    ensures durable { (commands : Commands) (s : State (List ℕ)) → IsDurable (D.state disk.old) tail.old s → Holds commands group.old
-        → AllAccepted length s commands → OnOk result (IsDurable (D.state disk.new) tail.new (fold length s commands)) }
-    ensures tagged { (commands : Commands) (s : State (List ℕ)) (places : State Stored) → IsDurable (D.state disk.old) tail.old s
-        → Holds commands group.old → AllAccepted length s commands → IsTaggedIn (D.state disk.old).seen places
-        → OnOk result (IsTaggedIn (D.state disk.new).seen (fold stored_length places (placed_group tail.old.gate commands))) }
-    // A crash at any moment leaves what stands for the state before the group or after it.
-    ensures any_moment { (commands : Commands) (s : State (List ℕ)) → IsDurable (D.state disk.old) tail.old s → Holds commands group.old
-        → AllAccepted length s commands → LeavesOnly (D.state disk.old) (D.state disk.new) (λ image. Stands image s ⊎ Stands image (fold length s commands)) }
     ensures gate { OnOk result (tail.new ≡ record tail.old { gate = tail.old.gate + (5 + length (group_body group.old)) }) }
     ensures err { OnErr result (tail.new ≡ tail.old) }
     ensures emptied { group.new ≡ empty_group group.old.most }

@@ -74,7 +74,7 @@ module _ (g : Geometry) (target victim : ℕ) (s : State Stored) (may : MayMove 
   all_apart : All (LiesApart g target) (payloads_of s)
   all_apart = λ k d below. (may.lies k d below, none_each (bytes_in g target) (payloads_of s) (payloads_sum (bytes_in g target) s ∙ may.empty) k d below)
 
-  drawn_all_apart : (read : Place → List ℕ) → All (LiesApart g target) (payloads_of (drawn_state g victim read s))
+  pub drawn_all_apart : (read : Place → List ℕ) → All (LiesApart g target) (payloads_of (drawn_state g victim read s))
   drawn_all_apart read =
       of_payloads (LiesApart g target) (drawn_state g victim read s).hops
       (hops_mapped (LiesApart g target) (drawn g victim read) (drawn_apart g victim target read) s.hops (of_items (LiesApart g target) s.hops all_apart))

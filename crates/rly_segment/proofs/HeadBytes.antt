@@ -1,18 +1,9 @@
 -- Which state a head holds.
-use Rattle.std.proofs.Common.{ℕ, ◌≡◌, ◌+◌, ◌<◌, ◌≤◌, ◌^◌, List, ◌++◌, All, length, take, drop, arith, sym, ◌∙◌, ap}
-use Rattle.byteorder.specs.Endian.{big_bytes}
-use Rattle.rly_core.specs.Bounds.{IsIn}
-use Rattle.rly_core.specs.declared.params.Geometry.{Geometry}
-use Rattle.rly_machine.specs.Sound.{IsSound}
-use Rattle.rly_machine.specs.State.{State}
-use Rattle.rly_checkpoint.specs.Checkpoint.{IsOfForm, Spelled, spelled_by, state_spelled}
-use Rattle.rly_checkpoint.specs.Forms.{HaveForms}
-use Rattle.rly_checkpoint.specs.Widths.{mark_of}
-use Rattle.rly_checkpoint.specs.declared.head_form.HeadForm.{HeadForm}
+use Rattle.rly_segment.proofs.Common.{◌++◌, ◌+◌, ◌<◌, ◌^◌, ◌∙◌, ◌≡◌, ◌≤◌, All, ap, arith, big_bytes, drop, Geometry, HaveForms, head_spelled, HeadForm}
+use Rattle.rly_segment.proofs.Common.{HoldsHeadOf, IsIn, IsOfForm, IsSound, length, List, mark_of, segment_place, Spelled, spelled_by, StandsAt, State}
+use Rattle.rly_segment.proofs.Common.{state_spelled, sym, take, ℕ}
 use Rattle.rly_gate.proofs.Holding.{number_once}
-use Rattle.rly_gate.specs.Group.{StandsAt}
 use Rattle.rly_reclaim.specs.Room.{group_room}
-use Rattle.rly_segment.specs.Heads.{HoldsHeadOf, head_spelled, segment_place}
 use Rattle.rly_segment.specs.declared.heads.Start.{Start}
 use Rattle.rly_segment.proofs.Standing.{stands_back, stands_both, stands_front}
 
@@ -35,10 +26,6 @@ head_parts {len = len} {form} {image} {g} {segment} {generation} {s} holds =
     let start : List ℕ = start_of generation (mark_of form.which + length body) in
     (stands_front image _ start body holds.bytes, rw (behind_start g segment) at (stands_back image _ start body holds.bytes))
 
--- the field of a length says which form the head has
-mark_once : (w v : HeadForm) {n m : ℕ} → n < 2 ^ 31 → m < 2 ^ 31 → mark_of w + n ≡ mark_of v + m → (w ≡ v) × (n ≡ m)
-mark_once w v n_fits m_fits same = grind arith
-
 -- a generation, a form and a length stand after the gate of a segment
 pub record IsStart (image : List ℕ) (g : Geometry) (segment : ℕ) (start : Start) : Type 0 where
   pub short : g.length < 2 ^ 31
@@ -50,23 +37,18 @@ module _ {P : Type 0} {len : P → ℕ} (form : HeadForm → P → List ℕ) {im
   -- the start of a head that holds a state
   pub its_start : (which : HeadForm) {generation : ℕ} {s : State P} → g.length < 2 ^ 31 → HoldsHeadOf len (spelled_by form which) image g segment generation s
       → IsStart image g segment (record { generation = generation; form = which; length = length (state_spelled len (spelled_by form which) s) })
-  its_start which short holds = record {
-    short = short;
-    generation_fits = omega (arith, holds.head.most, holds.sound.seq);
-    length_fits = omega (arith, holds.head.room, short);
-    at = (head_parts holds).0;
-  }
+  its_start which short holds = search (arith, holds.head, holds.sound.seq, (head_parts holds).0)
 
   module _ {start : Start} (read : IsStart image g segment start) where
-    -- what a head there holds begins with what was read
+    -- what a head there holds begins with what was read: the field of a length says which form it has
     pub start_is : (v : HeadForm) {other : ℕ} {s : State P} → HoldsHeadOf len (spelled_by form v) image g segment other s
         → (start.generation ≡ other) × (start.form ≡ v) × (start.length ≡ length (state_spelled len (spelled_by form v) s))
     start_is v holds =
         let its = its_start v read.short holds in
         let same = sym read.at ∙ its.at in
-        let marks = mark_once start.form v read.length_fits its.length_fits
-        (number_once 4 _ _ (grind (arith, read.length_fits)) (grind (arith, its.length_fits)) (ap (drop 8) same)) in
-        (number_once 8 _ _ read.generation_fits its.generation_fits (ap (take 8) same), marks.0, marks.1)
+        let generation = number_once 8 _ _ read.generation_fits its.generation_fits (ap (take 8) same) in
+        let marked = number_once 4 _ _ (grind (arith, read.length_fits)) (grind (arith, its.length_fits)) (ap (drop 8) same) in
+        grind (arith, generation, marked, read.length_fits, its.length_fits)
 
     module _ {body : List ℕ} (is : body ≡ take start.length (drop (segment_place g segment + 13) image)) where
       -- a head there holds a state that the body spells in the form that was read
@@ -76,8 +58,7 @@ module _ {P : Type 0} {len : P → ℕ} (form : HeadForm → P → List ℕ) {im
           → (v : HeadForm) {other : ℕ} {s : State P} → All (HaveForms (HasForm v)) s.hops → HoldsHeadOf len (spelled_by form v) image g segment other s → R s
       read_as HasForm R only v {s = s} has holds =
           let its = start_is v holds in
-          let only_v = rw its.1 at only in
-          only_v s holds.sound has holds.plain holds.head.params
+          (rw its.1 at only) s holds.sound has holds.plain holds.head.params
           (is ∙ ap (λ k. take k (drop (segment_place g segment + 13) image)) its.2 ∙ (head_parts holds).1)
 
       -- the head of a state whose checkpoint the body is
@@ -88,10 +69,6 @@ module _ {P : Type 0} {len : P → ℕ} (form : HeadForm → P → List ℕ) {im
       holds_head found long checkpoint params sound plain within room =
           let text : List ℕ = state_spelled len (spelled_by form start.form) found in
           let size : start.length ≡ length text = sym long ∙ ap length checkpoint in
-          record {
-            bytes = stands_both image _ (start_of start.generation (mark_of start.form + length text)) text
-                (rw size at read.at) (rw (behind_start g segment, ← size) (sym is ∙ checkpoint));
-            sound = sound;
-            plain = plain;
-            head = record { params = params; least = within.0; most = within.1; room = omega (arith, room, size) };
-          }
+          let stands : StandsAt image (segment_place g segment + 1 + 12) text = rw (behind_start g segment, ← size) (sym is ∙ checkpoint) in
+          let bytes = stands_both image _ (start_of start.generation (mark_of start.form + length text)) text (rw size at read.at) stands in
+          search (arith, bytes)

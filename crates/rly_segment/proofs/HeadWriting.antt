@@ -1,18 +1,11 @@
 -- A head as bytes.
-use Rattle.std.proofs.Common.{◌≡◌, ◌≤◌, ◌+◌, ◌*◌, ◌++◌, ℕ, zero, suc, [], ◌∷◌, length, replicate, arith, refl, length-append}
-use Rattle.std.specs.List.{flat_map}
-use Rattle.std.proofs.lemmas.List.{length-replicate}
-use Rattle.rly_core.specs.declared.params.Params.{Params}
-use Rattle.rly_machine.specs.State.{State, new_hop, new_state}
-use Rattle.rly_checkpoint.specs.Checkpoint.{Spelled, checkpoint_of, codel_of, hop_spelled, inline_form, state_spelled}
-use Rattle.rly_checkpoint.proofs.Sizes.{length-numbers, length-parts}
-use Rattle.rly_core.specs.declared.params.Geometry.{Geometry}
-use Rattle.rly_segment.specs.Device.{IsLayout}
-use Rattle.rly_segment.specs.Calls.{new_head}
-use Rattle.rly_segment.specs.Heads.{IsHeadOf, head_spelled}
+use Rattle.rly_segment.proofs.Common.{[], ◌*◌, ◌++◌, ◌+◌, ◌∷◌, ◌≡◌, ◌≤◌, arith, checkpoint_of, codel_of, flat_map, Geometry, head_spelled, hop_spelled}
+use Rattle.rly_segment.proofs.Common.{inline_form, IsHeadOf, IsLayout, length, length-append, length-numbers, length-parts, length-replicate, new_head, new_hop}
+use Rattle.rly_segment.proofs.Common.{new_state, Params, refl, replicate, Spelled, State, state_spelled, suc, zero, ℕ}
 
 -- how long a head is
-pub length-head : {P : Type 0} (len : P → ℕ) (form : Spelled P) (generation : ℕ) (s : State P) → length (head_spelled len form generation s ++ 0 ∷ []) ≡ 13 + length (state_spelled len form s)
+pub length-head : {P : Type 0} (len : P → ℕ) (form : Spelled P) (generation : ℕ) (s : State P)
+    → length (head_spelled len form generation s ++ 0 ∷ []) ≡ 13 + length (state_spelled len form s)
 unfolding head_spelled
 length-head len form generation s = simp length-append (omega arith)
 

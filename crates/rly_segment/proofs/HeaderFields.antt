@@ -1,13 +1,8 @@
 -- A header as bytes, and the geometry that it names.
-use Rattle.std.proofs.Common.{◌≡◌, ◌≤◌, ◌<◌, ◌+◌, ◌^◌, ◌∙◌, ℕ, List, [], length, get_or, take, drop, leb, true, arith, rules, ap, sym, refl}
-use Rattle.std.proofs.lemmas.Bool.{leb-true}
-use Rattle.std.proofs.lemmas.List.{append-nil, places}
-use Rattle.byteorder.specs.Endian.{big_bytes, big_number}
+use Rattle.rly_segment.proofs.Common.{[], ◌+◌, ◌<◌, ◌^◌, ◌∙◌, ◌≡◌, ◌≤◌, ap, append-nil, arith, big_bytes, big_number, device_text, drop, Geometry, geometry_in}
+use Rattle.rly_segment.proofs.Common.{get_or, header_of, IsDevice, IsIn, IsLayout, IsOpen, leb, leb-true, length, List, number_in, Params, places, refl, rules}
+use Rattle.rly_segment.proofs.Common.{StandsAt, sym, take, true, version_in, ℕ}
 use Rattle.byteorder.specs.Numbers.{big_number-reads_back}
-use Rattle.rly_core.specs.Bounds.{IsIn}
-use Rattle.rly_core.specs.declared.params.Geometry.{Geometry}
-use Rattle.rly_gate.specs.Group.{IsOpen, StandsAt}
-use Rattle.rly_segment.specs.Device.{IsDevice, IsLayout, device_text, geometry_in, header_of, number_in, version_in}
 use Rattle.rly_segment.proofs.Standing.{part_of_front}
 
 pub length-header : (g : Geometry) → length (header_of g) ≡ 52
@@ -38,20 +33,12 @@ module _ (g : Geometry) (image : List ℕ) (stands : StandsAt image 1 (header_of
   pub geometry_read : {size : ℕ} → IsLayout g size → geometry_in image ≡ g
   unfolding header_of geometry_in
   geometry_read geometry =
-      rw (
-        number_read 10 2 g.params.hops refl refl (omega arith),
-        number_read 12 2 g.params.peers refl refl (omega arith),
-        number_read 14 2 g.params.window refl refl (omega arith),
-        number_read 16 2 g.segments refl refl (omega arith),
-        number_read 18 4 g.length refl refl (omega arith),
-        number_read 22 4 g.params.items refl refl (omega arith),
-        number_read 26 4 g.params.bytes refl refl (omega arith),
-        number_read 30 4 g.params.maxpacket refl refl (omega arith),
-        number_read 34 8 g.params.target refl refl (omega arith),
-        number_read 42 8 g.params.interval refl refl (omega arith),
-        version_read,
-        number_read 50 2 g.params.payload refl refl (omega arith),
-      ) refl
+      let p : Params = g.params in
+      rw (number_read 10 2 p.hops refl refl (omega arith), number_read 12 2 p.peers refl refl (omega arith), number_read 14 2 p.window refl refl (omega arith))
+      (rw (number_read 16 2 g.segments refl refl (omega arith), number_read 18 4 g.length refl refl (omega arith))
+      (rw (number_read 22 4 p.items refl refl (omega arith), number_read 26 4 p.bytes refl refl (omega arith))
+      (rw (number_read 30 4 p.maxpacket refl refl (omega arith), number_read 34 8 p.target refl refl (omega arith))
+      (rw (number_read 42 8 p.interval refl refl (omega arith), version_read, number_read 50 2 p.payload refl refl (omega arith))))))
 
 -- ---- the first bytes of a device, which were read
 
@@ -65,15 +52,12 @@ module _ (image front : List ℕ) (at n : ℕ) (is : front ≡ take n (drop at i
   number_in_front place width within = ap (big_number width) (part_of_front image front at n place width is (leb-true _ _ within))
 
 -- a device has an open gate, the text and a version, and what was read names its geometry
-pub device_read : (image front : List ℕ) → front ≡ take 53 image → 64 ≤ length image → IsOpen front 0 × StandsAt front 1 device_text × IsIn 1 2 (version_in front)
+pub device_read : (image front : List ℕ) → front ≡ take 53 image → 64 ≤ length image
+    → IsOpen front 0 × StandsAt front 1 device_text × IsIn 1 2 (version_in front)
     → IsDevice image × (geometry_in front ≡ geometry_in image)
 unfolding geometry_in
-device_read image front is long found = (
-  record {
-    long = long;
-    gate = sym (gate_at_front image front 0 53 is (omega arith)) ∙ found.0;
-    mark = sym (part_of_front image front 0 53 1 8 is (omega arith)) ∙ found.1;
-    version = rw (number_in_front image front 0 53 is 9 2 refl) at found.2;
-  },
-  simp (number_in_front image front 0 53 is),
-)
+device_read image front is long found =
+    let gate = sym (gate_at_front image front 0 53 is (omega arith)) ∙ found.0 in
+    let mark = sym (part_of_front image front 0 53 1 8 is (omega arith)) ∙ found.1 in
+    let number = number_in_front image front 0 53 is in
+    (search (gate, mark, rw (number 9 2 refl) at found.2), simp number)

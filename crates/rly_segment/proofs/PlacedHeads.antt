@@ -1,34 +1,18 @@
 -- Heads of which payloads stand by place.
-use Rattle.std.proofs.Common.{ℕ, ◌≡◌, ◌<◌, ◌≤◌, ◌^◌, List, get_or, arith, sym, ◌∙◌}
-use Rattle.std.specs.Prelude.{All, Err}
-use Rattle.std.proofs.Math.Nat.{mul-le-mul_right}
-use Rattle.rly_core.specs.declared.params.Geometry.{Geometry}
-use Rattle.rly_machine.specs.Map.{payloads_of}
-use Rattle.rly_machine.specs.Sound.{IsSound}
-use Rattle.rly_machine.specs.State.{State}
-use Rattle.rly_checkpoint.specs.Checkpoint.{IsOfForm, state_spelled}
-use Rattle.rly_checkpoint.specs.Forms.{HaveForms}
-use Rattle.rly_checkpoint.specs.Stored.{IsStorable, stored_form_of, stored_length, stored_spelled}
-use Rattle.rly_checkpoint.specs.declared.head_form.HeadForm.{HeadForm}
+use Rattle.rly_segment.proofs.Common.{◌<◌, ◌^◌, ◌∙◌, ◌≡◌, ◌≤◌, All, arith, Err, Geometry, get_or, HaveForms, HeadForm, HoldsHeadOf, IsLayout, IsOfForm}
+use Rattle.rly_segment.proofs.Common.{IsPlaced, IsReadHeadOf, IsSound, IsStorable, LiesElsewhere, List, payloads_of, Placed, State, state_spelled, Stored}
+use Rattle.rly_segment.proofs.Common.{stored_form_of, stored_length, stored_spelled, sym, ℕ}
 use Rattle.rly_checkpoint.specs.declared.stored.Place.{Place}
-use Rattle.rly_checkpoint.specs.declared.stored.Stored.{Stored}
-use Rattle.rly_checkpoint.specs.declared.stored.Stored.TheVariants.{Inline, Placed}
-use Rattle.rly_places.specs.Placed.{IsPlaced, LiesElsewhere}
-use Rattle.rly_places.specs.Places.{LiesIn}
 use Rattle.rly_places.proofs.Placing.{of_items}
-use Rattle.rly_segment.specs.Device.{IsLayout}
-use Rattle.rly_segment.specs.Heads.{HoldsHeadOf}
+use Rattle.rly_places.specs.Places.{LiesIn}
+use Rattle.rly_segment.specs.PlacedHeads.{IsReadPlaced}
 use Rattle.rly_segment.specs.declared.heads.HeadFault.{HeadFault}
 use Rattle.rly_segment.specs.declared.heads.HeadFault.TheVariants as head
-use Rattle.rly_segment.specs.Answers.{IsReadHeadOf}
-use Rattle.rly_segment.specs.PlacedHeads.{IsReadPlaced}
 use Rattle.rly_segment.proofs.HeadBytes.{head_parts, its_start, read_as, start_is}
 
 -- where a payload that lies in a segment begins fits 5 bytes
 pub lies_storable : (g : Geometry) (size segment : ℕ) (place : Place) → IsLayout g size → LiesIn g segment place → place.start < 2 ^ 40
-lies_storable g size segment place geometry lies =
-    let few : segment ≤ 255 = omega (arith, lies.there, geometry.segments.1) in
-    omega (arith, lies.to, geometry.length, mul-le-mul_right g.length few)
+lies_storable g size segment place geometry lies = grind (arith, lies, geometry.segments.1, geometry.length)
 
 -- so it has a form, in both forms of a head
 pub place_storable : (which : HeadForm) (place : Place) → place.start < 2 ^ 40 → 1 ≤ place.length → IsStorable which (Placed place)
@@ -36,11 +20,12 @@ place_storable which place below some = (grind arith, some)
 
 -- what lies elsewhere has a form
 storable : (which : HeadForm) (g : Geometry) (size own : ℕ) (p : Stored) → IsLayout g size → LiesElsewhere g own p → IsStorable which p
-storable which g size own (Inline payload) geometry elsewhere = tt
-storable which g size own (Placed place) geometry elsewhere = place_storable which place (lies_storable g size elsewhere.1.0 place geometry elsewhere.1.2) elsewhere.0
+storable which g size own p geometry elsewhere = grind (arith, lies_storable g size, place_storable which)
 
-pub forms_of : (which : HeadForm) (g : Geometry) (size own : ℕ) (s : State Stored) → IsLayout g size → IsPlaced g own s → All (HaveForms (IsStorable which)) s.hops
-forms_of which g size own s geometry placed = of_items (IsStorable which) s.hops (λ k d lt. storable which g size own (get_or (payloads_of s) k d) geometry (placed.elsewhere k d lt))
+pub forms_of : (which : HeadForm) (g : Geometry) (size own : ℕ) (s : State Stored) → IsLayout g size → IsPlaced g own s
+    → All (HaveForms (IsStorable which)) s.hops
+forms_of which g size own s geometry placed =
+    of_items (IsStorable which) s.hops (λ k d lt. storable which g size own (get_or (payloads_of s) k d) geometry (placed.elsewhere k d lt))
 
 -- one spelling is one state: the law of `rly_checkpoint`
 abbrev pub OneSpelling : Type 0

@@ -1,38 +1,16 @@
 -- The payloads of a head that it has inline, where they lie.
-use Rattle.std.proofs.Common.{ℕ, ◌≡◌, ◌+◌, ◌*◌, ◌-◌, List, [], ◌∷◌, ◌++◌, length, slice_range, take, map, arith, refl, sym, ◌∙◌, length-append}
-use Rattle.std.specs.List.{flat_map}
-use Rattle.std.proofs.lemmas.Grind.{flat_map-append}
-use Rattle.byteorder.specs.Endian.{big_bytes}
-use Rattle.rly_core.specs.declared.params.Geometry.{Geometry}
-use Rattle.rly_machine.specs.declared.hop.Item.{Item}
-use Rattle.rly_machine.specs.Map.{map_hop, map_item, map_state}
-use Rattle.rly_machine.specs.Sound.{IsSound}
-use Rattle.rly_machine.specs.State.{HopState, State, live_line}
+use Rattle.rly_segment.proofs.Common.{[], ◌*◌, ◌++◌, ◌+◌, ◌-◌, ◌∙◌, ◌∷◌, ◌≡◌, arith, big_bytes, codel_of, entry_spelled, entry_width, First, flat_map, Geometry}
+use Rattle.rly_segment.proofs.Common.{HeadForm, HoldsHeadOf, hop_spelled, hop_width, HopState, Inline, IsSound, length, length-numbers, List, live_line, map}
+use Rattle.rly_segment.proofs.Common.{map_hop, map_item, map_state, payload_in, refl, Second, segment_place, slice_range, StandsAt, State, state_in}
+use Rattle.rly_segment.proofs.Common.{state_spelled, Stored, stored_length, stored_spelled, sym, take, ℕ}
 use Rattle.rly_machine.proofs.Alike.{bytes_alike, sound_alike}
-use Rattle.rly_checkpoint.specs.Checkpoint.{codel_of, entry_spelled, hop_spelled, state_spelled}
-use Rattle.rly_checkpoint.specs.Stored.{payload_in, state_in, stored_length, stored_spelled}
-use Rattle.rly_checkpoint.specs.Widths.{entry_width, hop_width}
-use Rattle.rly_checkpoint.specs.declared.head_form.HeadForm.{HeadForm}
-use Rattle.rly_checkpoint.specs.declared.head_form.HeadForm.TheVariants.{First, Second}
-use Rattle.rly_checkpoint.specs.declared.stored.Stored.{Stored}
-use Rattle.rly_checkpoint.specs.declared.stored.Stored.TheVariants.{Inline}
-use Rattle.rly_checkpoint.proofs.Sizes.{length-numbers}
-use Rattle.rly_gate.specs.Group.{StandsAt}
-use Rattle.rly_places.specs.Room.{inline_bytes, inline_length}
+use Rattle.rly_machine.specs.declared.hop.Item.{Item}
 use Rattle.rly_places.proofs.Weights.{bytes_none}
-use Rattle.rly_segment.specs.Heads.{HoldsHeadOf, segment_place}
+use Rattle.rly_places.specs.Room.{inline_bytes, inline_length}
 use Rattle.rly_segment.specs.Settling.{settled, settled_hops, settled_items, settled_state}
+use Rattle.std.proofs.lemmas.Grind.{flat_map-append}
 use Rattle.rly_segment.proofs.HeadBytes.{head_parts}
 use Rattle.rly_segment.proofs.Standing.{stands_back, stands_front}
-
--- a payload that settles is as long, and has no bytes inline
-settled_length : (at : ℕ) (p : Stored) → stored_length (settled at p) ≡ stored_length p
-settled_length at (Inline []) = refl
-settled_length at p = refl
-
-settled_none : (at : ℕ) (p : Stored) → inline_length (settled at p) ≡ 0
-settled_none at (Inline []) = refl
-settled_none at p = refl
 
 abbrev entry : HeadForm → Item Stored → List ℕ
 entry which = entry_spelled stored_length (stored_spelled which)
@@ -44,7 +22,8 @@ spelled_hop which = hop_spelled stored_length (stored_spelled which)
 
 module _ (Stands : ℕ → List ℕ → Type 0) (parts : (at : ℕ) (a b : List ℕ) → Stands at (a ++ b) → Stands at a × Stands (at + length a) b) where
   -- a hop's entries stand behind its numbers
-  lines_stand : (which : HeadForm) (at : ℕ) (h : HopState Stored) → Stands at (spelled_hop which h) → Stands (at + hop_width which) (flat_map (entry which) (live_line h))
+  lines_stand : (which : HeadForm) (at : ℕ) (h : HopState Stored) → Stands at (spelled_hop which h)
+      → Stands (at + hop_width which) (flat_map (entry which) (live_line h))
   unfolding hop_spelled codel_of
   lines_stand First at h stands = (parts at (take 71 (spelled_hop First h)) (flat_map (entry First) (live_line h)) stands).1
   lines_stand Second at h stands = (parts at (take 64 (spelled_hop Second h)) (flat_map (entry Second) (live_line h)) stands).1
@@ -56,9 +35,7 @@ module _ (Stands : ℕ → List ℕ → Type 0) (parts : (at : ℕ) (a b : List 
     items_kept at [] stands = refl
     items_kept at (item ∷ items) stands =
         let both = parts at (entry which item) (flat_map (entry which) items) stands in
-        let here = kept at item both.0 in
-        let rest = items_kept (at + length (entry which item)) items both.1 in
-        cc
+        cc (kept at item both.0, items_kept (at + length (entry which item)) items both.1)
 
     hops_kept : (at : ℕ) (hops : List (HopState Stored)) → Stands at (flat_map (spelled_hop which) hops)
         → map (map_hop f) (settled_hops which at hops) ≡ map (map_hop f') hops
@@ -67,21 +44,22 @@ module _ (Stands : ℕ → List ℕ → Type 0) (parts : (at : ℕ) (a b : List 
         let both = parts at (spelled_hop which h) (flat_map (spelled_hop which) hops) stands in
         let place : ℕ = at + hop_width which in
         let lines = parts place (flat_map (entry which) h.flight) (flat_map (entry which) h.queue) (rw flat_map-append at (lines_stand which at h both.0)) in
-        let flight = items_kept place h.flight lines.0 in
         let queue = items_kept (place + length (flat_map (entry which) h.flight)) h.queue lines.1 in
-        let rest = hops_kept (at + length (spelled_hop which h)) hops both.1 in
-        cc
+        cc (items_kept place h.flight lines.0, queue, hops_kept (at + length (spelled_hop which h)) hops both.1)
 
     -- where the hops of a head stand
-    pub maps_settled : (g : Geometry) (segment : ℕ) (s : State Stored) → Stands (segment_place g segment + 21 + 8 * length s.lasts) (flat_map (spelled_hop which) s.hops)
+    pub maps_settled : (g : Geometry) (segment : ℕ) (s : State Stored)
+        → Stands (segment_place g segment + 21 + 8 * length s.lasts) (flat_map (spelled_hop which) s.hops)
         → map_state f (settled_state which g segment s) ≡ map_state f' s
-    maps_settled g segment s stands = let hops = hops_kept (segment_place g segment + 21 + 8 * length s.lasts) s.hops stands in cc
+    maps_settled g segment s stands = cc (hops_kept (segment_place g segment + 21 + 8 * length s.lasts) s.hops stands)
 
 -- ---- over an image in which the head stands a settled state stands for the same
 
--- bytes that stand at a place are the slice there
-sliced : (image : List ℕ) (place : ℕ) (bytes : List ℕ) → StandsAt image place bytes → slice_range image place (place + length bytes) ≡ bytes
-sliced image place bytes stands = let size : place + length bytes - place ≡ length bytes = omega arith in rw size stands
+-- bytes that stand behind others are the slice there
+sliced : (image : List ℕ) (at : ℕ) (front bytes : List ℕ) → StandsAt image at (front ++ bytes)
+    → slice_range image (at + length front) (at + length front + length bytes) ≡ bytes
+sliced image at front bytes stands =
+    let size : at + length front + length bytes - (at + length front) ≡ length bytes = omega arith in rw size (stands_back image at front bytes stands)
 
 -- a payload that is inline stands behind the other fields of its entry
 settled_in : (which : HeadForm) (image : List ℕ) (at id stamp limit : ℕ) (p : Stored)
@@ -89,21 +67,19 @@ settled_in : (which : HeadForm) (image : List ℕ) (at id stamp limit : ℕ) (p 
     → payload_in image (settled (at + entry_width which) p) ≡ payload_in image p
 unfolding entry_spelled
 settled_in First image at id stamp limit (Inline (byte ∷ bytes)) stands =
-    sliced image _ (byte ∷ bytes)
-    (stands_back image at (big_bytes 8 id ++ big_bytes 8 stamp ++ big_bytes 2 (length (byte ∷ bytes)) ++ 0 ∷ []) (byte ∷ bytes) stands)
+    sliced image at (big_bytes 8 id ++ big_bytes 8 stamp ++ big_bytes 2 (length (byte ∷ bytes)) ++ 0 ∷ []) (byte ∷ bytes) stands
 settled_in Second image at id stamp limit (Inline (byte ∷ bytes)) stands =
-    sliced image _ (byte ∷ bytes)
-    (stands_back image at (big_bytes 6 id ++ big_bytes 7 stamp ++ big_bytes 5 limit ++ big_bytes 2 (length (byte ∷ bytes)) ++ 0 ∷ []) (byte ∷ bytes) stands)
+    sliced image at (big_bytes 6 id ++ big_bytes 7 stamp ++ big_bytes 5 limit ++ big_bytes 2 (length (byte ∷ bytes)) ++ 0 ∷ []) (byte ∷ bytes) stands
 settled_in which image at id stamp limit p stands = refl
 
-pub settled_stands : (which : HeadForm) (image : List ℕ) (g : Geometry) (segment generation : ℕ) (s : State Stored) → HoldsHeadOf stored_length (stored_spelled which) image g segment generation s
+pub settled_stands : (which : HeadForm) (image : List ℕ) (g : Geometry) (segment generation : ℕ) (s : State Stored)
+    → HoldsHeadOf stored_length (stored_spelled which) image g segment generation s
     → state_in image (settled_state which g segment s) ≡ state_in image s
 unfolding state_spelled
 settled_stands which image g segment generation s holds =
     let place : ℕ = segment_place g segment + 13 in
     let front : List ℕ = big_bytes 8 s.seq ++ flat_map (big_bytes 8) s.lasts in
-    let size : place + length front ≡ segment_place g segment + 21 + 8 * length s.lasts =
-    omega (arith, length-append (big_bytes 8 s.seq) (flat_map (big_bytes 8) s.lasts), length-numbers s.lasts) in
+    let size : place + length front ≡ segment_place g segment + 21 + 8 * length s.lasts = omega (arith, length-numbers s.lasts) in
     maps_settled (StandsAt image) (λ at a b both. (stands_front image at a b both, stands_back image at a b both)) which (payload_in image) (payload_in image)
     (λ at item. settled_in which image at item.id item.stamp item.limit item.payload) g segment s
     (rw size at (stands_back image place front (flat_map (spelled_hop which) s.hops) (head_parts holds).1))
@@ -112,15 +88,17 @@ settled_stands which image g segment generation s holds =
 
 module _ (which : HeadForm) (g : Geometry) (segment : ℕ) (s : State Stored) where
   -- wherever it stands
-  anywhere : {A : Type 0} (f f' : Stored → A) → ((at : ℕ) (p : Stored) → f (settled at p) ≡ f' p) → map_state f (settled_state which g segment s) ≡ map_state f' s
+  anywhere : {A : Type 0} (f f' : Stored → A) → ((at : ℕ) (p : Stored) → f (settled at p) ≡ f' p)
+      → map_state f (settled_state which g segment s) ≡ map_state f' s
   anywhere f f' same = maps_settled (λ at bytes. Unit {0}) (λ at a b all. (tt, tt)) which f f' (λ at item all. same _ item.payload) g segment s tt
 
   pub head_lengths : map_state stored_length (settled_state which g segment s) ≡ map_state stored_length s
-  head_lengths = anywhere stored_length stored_length settled_length
+  head_lengths = anywhere stored_length stored_length (λ at p. grind arith)
 
   pub settled_sound : IsSound stored_length s → IsSound stored_length (settled_state which g segment s)
   settled_sound = sound_alike stored_length stored_length s (settled_state which g segment s) (sym head_lengths)
 
   pub settled_inline : inline_bytes (settled_state which g segment s) ≡ 0
   settled_inline =
-      bytes_alike inline_length (λ p. 0) (settled_state which g segment s) s (anywhere inline_length (λ p. 0) settled_none) ∙ bytes_none (λ p. 0) (λ p. refl) s
+      bytes_alike inline_length (λ p. 0) (settled_state which g segment s) s (anywhere inline_length (λ p. 0) (λ at p. grind arith))
+      ∙ bytes_none (λ p. 0) (λ p. refl) s

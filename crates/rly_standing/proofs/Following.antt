@@ -1,12 +1,11 @@
 -- What follows from the calls that an opening makes.
 use Rattle.std.proofs.Common.{◌≡◌, ◌+◌, ◌++◌, ◌∷◌, [], ◌∙◌, ℕ, Bool, true, false, List, nat_le, le-leb, ap, append_assoc, arith, refl, subst, sym}
-use Rattle.std.specs.Prelude.{◌≤◌, Err, None, Option, Result, Some, Vec, if◌then◌else◌}
+use Rattle.std.specs.Prelude.{◌≤◌, Err, None, Option, Some, Vec, if◌then◌else◌}
 use Rattle.std.proofs.lemmas.Bool.{false≢true}
 use Rattle.std.proofs.lemmas.List.{append-nil}
 use Rattle.rly_core.specs.declared.params.Geometry.{Geometry}
-use Rattle.rly_disk.specs.DiskModel.{Consistent, DiskState, NothingNew, Settled}
+use Rattle.rly_disk.specs.DiskModel.{Consistent, DiskState, Settled}
 use Rattle.rly_disk.specs.Trace.{DeviceEvent, Makes, MakesFront, Read, Sync, are_quiet, are_reads, images_at_end, seen_at_end}
-use Rattle.rly_disk.proofs.Composition.{later_again}
 use Rattle.rly_disk.proofs.Making.{each_reads, makes_later, makes_settled, quiet_front, quiet_new, quiet_settled, reads_joined, reads_quiet}
 use Rattle.rly_disk.proofs.Traces.{makes_joined}
 use Rattle.rly_gate.specs.Calls.{group_reads, is_told}
@@ -57,27 +56,9 @@ module _ {D : Type 0} (state : D → DiskState) {a b : D} {whole : Bool} where
   pub only_front : {calls : List DeviceEvent} → ((disk : D) → (state disk).honest → Consistent (state disk)) → are_quiet calls ≡ true → MakesFront state calls whole a b → OnlyRead (state a) (state b)
   only_front {calls} facts quiet made = only_made facts (quiet_front made.front made.rest (ap are_quiet (sym made.calls_are) ∙ quiet)) made.makes
 
--- reads, one after the other
-nothing_again : {a b e : DiskState} → NothingNew a b → NothingNew b e → NothingNew a e
-nothing_again {a} {b} {e} first second = record {
-  honest = second.honest;
-  seen = second.seen ∙ first.seen;
-  images = λ c image. first.images c (second.images c image);
-  later = omega (arith, first.later, second.later);
-  since = λ t c le left. first.since t c le (second.since t c (omega (arith, le, first.later)) left);
-  keeps = λ t c le left. second.keeps t c (omega (arith, le, first.later)) (first.keeps t c le left);
-}
-
-pub only_again : {a b e : DiskState} → OnlyRead a b → OnlyRead b e → OnlyRead a e
-only_again {a} {b} {e} first second = record {
-  crash = λ honest. let one = first.crash honest in nothing_again one (second.crash one.honest);
-  settled = λ settled. second.settled (first.settled settled);
-  later = later_again first.later second.later;
-}
-
 -- ---- a group that wasn't read
 
-module _ {D : Type 0} (state : D → DiskState) {a b : D} (at end : ℕ) where
+module _ {D : Type 0} {state : D → DiskState} {a b : D} (at end : ℕ) where
   pub group_broken : (A : Type 0) (why : GroupFault) → (n : ℕ) × Makes state (group_reads {A = A} at end n (Err why)) (is_told {A = Option (Vec ℕ A)} (Err why)) a b
       → (n : ℕ) × MakesFront state (group_scan at n) (is_told {A = Option (Vec ℕ A)} (Err why)) a b
   group_broken A group.Damaged made = (0, by_length (nat_le (at + 6) end) made.1)
@@ -90,9 +71,18 @@ module _ {D : Type 0} (state : D → DiskState) {a b : D} (at end : ℕ) where
 
 -- ---- the scan of a device
 
+-- the header and the generation of each segment
+abbrev pub gate_scan : Geometry → List DeviceEvent
+gate_scan g = Read 0 53 ∷ generation_reads g g.segments
+
+are_gates : (g : Geometry) → are_reads (gate_scan g) ≡ true
+are_gates g = each_reads (λ t. Read (segment_place g t) 9 ∷ []) (λ t. refl) g.segments
+
+pub gates_quiet : (g : Geometry) → are_quiet (gate_scan g) ≡ true
+gates_quiet g = reads_quiet (gate_scan g) (are_gates g)
+
 are_head : (g : Geometry) (segment n : ℕ) → are_reads (head_scan g segment n) ≡ true
-are_head g segment n =
-    reads_joined (generation_reads g g.segments) (head_reads (segment_place g segment) (Some n)) (each_reads (λ t. Read (segment_place g t) 9 ∷ []) (λ t. refl) g.segments) refl
+are_head g segment n = reads_joined (gate_scan g) (head_reads (segment_place g segment) (Some n)) (are_gates g) refl
 
 are_groups : (at : ℕ) (lengths : List ℕ) → are_reads (groups_scan at lengths) ≡ true
 are_groups at [] = refl
@@ -135,45 +125,38 @@ ends_push tail x n ends = record {
   gate = ap (λ k. k + 5 + n) ends.gate ∙ sym (gate_push (head_gate x) x.groups n);
 }
 
-module _ {D : Type 0} (state : D → DiskState) {a b e : D} (tail : Tail) (x : Scan) (ends : EndsScan tail x) (so_far : Makes state (scan_before x) true a b) where
+module _ {D : Type 0} {state : D → DiskState} {a b e : D} {tail : Tail} (so_far : (x : Scan) × EndsScan tail x × Makes state (scan_before x) true a b) where
   -- a group was read
-  pub scanned_group : (n : ℕ) → Makes state (group_scan tail.gate n) true b e → (y : Scan) × EndsScan (past_body tail n) y × Makes state (scan_before y) true a e
-  scanned_group n made = (
-    with_body x n,
-    ends_push tail x n ends,
-    subst (λ l. Makes state l true a e) (sym (scan_push x n))
-        (makes_joined state (scan_before x) (group_scan (last_gate x) n) true so_far (subst (λ k. Makes state (group_scan k n) true b e) ends.gate made)),
-  )
+  pub scanned_group : (n : ℕ) → Makes state (group_scan tail.gate n) true b e
+      → (y : Scan) × EndsScan (past_body tail n) y × Makes state (scan_before y) true a e
+  scanned_group n made =
+      let x : Scan = so_far.0 in (
+        with_body x n,
+        ends_push tail x n so_far.1,
+        subst (λ l. Makes state l true a e) (sym (scan_push x n))
+            (makes_joined state (scan_before x) (group_scan (last_gate x) n) true so_far.2 (rw so_far.1.gate at made)),
+      )
 
   -- the gate after all groups was
   pub scanned_all : Makes state (Read tail.gate 1 ∷ []) true b e → (y : Scan) × EndsScan tail y × Makes state (scan y) true a e
-  scanned_all made = (
-    x,
-    ends,
-    makes_joined state (scan_before x) (Read (last_gate x) 1 ∷ []) true so_far (subst (λ k. Makes state (Read k 1 ∷ []) true b e) ends.gate made),
-  )
+  scanned_all made =
+      let x : Scan = so_far.0 in
+      (x, so_far.1, makes_joined state (scan_before x) (Read (last_gate x) 1 ∷ []) true so_far.2 (rw so_far.1.gate at made))
 
   -- a group wasn't read whole
-  pub scan_broken : {told : Bool} (n : ℕ) → MakesFront state (group_scan tail.gate n) told b e → (y : Scan) × MakesFront state (scan y) told a e
-  scan_broken {told} n made = (
-    with_body x n,
-    front_more state (Read (last_gate (with_body x n)) 1 ∷ [])
-        (subst (λ l. MakesFront state l told a e) (sym (scan_push x n)) (front_joined state so_far (subst (λ k. MakesFront state (group_scan k n) told b e) ends.gate made))),
-  )
-
--- the head was read, and no group yet
-pub head_scanned : {D : Type 0} (state : D → DiskState) {a b : D} (tail : Tail) (n : ℕ) → tail.gate ≡ segment_place tail.geometry tail.segment + 13 + n
-    → Makes state (head_scan tail.geometry tail.segment n) true a b → (x : Scan) × EndsScan tail x × Makes state (scan_before x) true a b
-head_scanned state {a} {b} tail n behind made = (
-  record { geometry = tail.geometry; segment = tail.segment; head = n; groups = [] },
-  record { geometry = refl; segment = refl; gate = behind },
-  subst (λ l. Makes state l true a b) (sym (append-nil (head_scan tail.geometry tail.segment n))) made,
-)
+  pub scan_broken : {told : Bool} → (n : ℕ) × MakesFront state (group_scan tail.gate n) told b e → (y : Scan) × MakesFront state (scan y) told a e
+  scan_broken {told} cut =
+      let x : Scan = so_far.0 in
+      let n : ℕ = cut.0 in (
+        with_body x n,
+        front_more state (Read (last_gate (with_body x n)) 1 ∷ [])
+            (subst (λ l. MakesFront state l told a e) (sym (scan_push x n)) (front_joined state so_far.2 (rw so_far.1.gate at cut.1))),
+      )
 
 -- a scan that was broken off in the head
-pub head_broken : {D : Type 0} (state : D → DiskState) {a b : D} {told : Bool} (g : Geometry) (segment n : ℕ) → MakesFront state (head_scan g segment n) told a b
+head_broken : {D : Type 0} {state : D → DiskState} {a b : D} {told : Bool} (g : Geometry) (segment n : ℕ) → MakesFront state (head_scan g segment n) told a b
     → (y : Scan) × MakesFront state (scan y) told a b
-head_broken state g segment n made =
+head_broken {state = state} g segment n made =
     let y : Scan = record { geometry = g; segment = segment; head = n; groups = [] } in
     (y, front_more state (Read (last_gate y) 1 ∷ []) (front_more state (groups_scan (head_gate y) []) made))
 
@@ -238,57 +221,45 @@ told_when fault.Device told = absurd (told refl)
 
 -- ---- the head of a scan
 
--- a header of a device that has one
-header_whole : {D : Type 0} (state : D → DiskState) {a b : D} (size : ℕ) → 64 ≤ size → Makes state (header_reads size) true a b → Makes state (Read 0 53 ∷ []) true a b
-header_whole state {a} {b} size long made = subst (λ t. Makes state (if t then Read 0 53 ∷ [] else []) true a b) (le-leb 64 size long) made
-
-module _ {D : Type 0} (state : D → DiskState) {a b : D} {told : Bool} where
+module _ {D : Type 0} {state : D → DiskState} {a b : D} {told : Bool} where
   -- the header was read, or a shorter device wasn't
-  pub header_broken : (size : ℕ) → Makes state (header_reads size) told a b → (g : Geometry) × (segment n : ℕ) × MakesFront state (head_scan g segment n) told a b
-  header_broken size made = (geometry_in [], 0, 0, by_length (nat_le 64 size) made)
+  pub header_broken : (size : ℕ) → Makes state (header_reads size) told a b → (y : Scan) × MakesFront state (scan y) told a b
+  header_broken size made = head_broken (geometry_in []) 0 0 (by_length (nat_le 64 size) made)
     where
       by_length : (long : Bool) → Makes state (if long then Read 0 53 ∷ [] else []) told a b → MakesFront state (head_scan (geometry_in []) 0 0) told a b
       by_length true made = front_first state (generation_reads (geometry_in []) (geometry_in []).segments ++ head_reads (segment_place (geometry_in []) 0) (Some 0)) made
       by_length false made = front_first state (head_scan (geometry_in []) 0 0) made
 
-  -- the generations were, up to one
-  pub newest_broken : {e : D} (g : Geometry) (size : ℕ) → IsLayout g size → Makes state (header_reads size) true e a → Makes state (generation_reads g g.segments) told a b
-      → (h : Geometry) × (segment n : ℕ) × MakesFront state (head_scan h segment n) told e b
-  newest_broken g size geometry header made =
-      (g, 0, 0, front_joined state (header_whole state size (omega (arith, geometry.room)) header) (front_first state (head_reads (segment_place g 0) (Some 0)) made))
+  -- and then the generations
+  pub gates_made : {e : D} (g : Geometry) (size : ℕ) → IsLayout g size → Makes state (header_reads size) true e a
+      → Makes state (generation_reads g g.segments) told a b → Makes state (gate_scan g) told e b
+  gates_made {e} g size layout header made =
+      let long : 64 ≤ size = omega (arith, layout.room) in
+      makes_joined state (Read 0 53 ∷ []) (generation_reads g g.segments) told
+      (subst (λ t. Makes state (if t then Read 0 53 ∷ [] else []) true e a) (le-leb 64 size long) header) made
+
+  -- up to one of them
+  pub gates_broken : (g : Geometry) → Makes state (gate_scan g) told a b → (y : Scan) × MakesFront state (scan y) told a b
+  gates_broken g made = head_broken g 0 0 (front_first state (head_reads (segment_place g 0) (Some 0)) made)
 
   -- the head was, up to its body or a part of it
   head_front : (place : ℕ) (body : Option ℕ) → Makes state (head_reads place body) told a b → (n : ℕ) × MakesFront state (head_reads place (Some n)) told a b
   head_front place None made = (0, front_first state (Read (place + 13) 0 ∷ []) made)
   head_front place (Some n) made = (n, front_all state made)
 
-  pub head_unread : {e f : D} (g : Geometry) (segment size : ℕ) (body : Option ℕ) → IsLayout g size → Makes state (header_reads size) true e f
-      → Makes state (generation_reads g g.segments) true f a → Makes state (head_reads (segment_place g segment) body) told a b
-      → (h : Geometry) × (s n : ℕ) × MakesFront state (head_scan h s n) told e b
-  head_unread g segment size body geometry header generations made =
+  pub head_unread : {e : D} (g : Geometry) (segment : ℕ) (body : Option ℕ) → Makes state (gate_scan g) true e a
+      → Makes state (head_reads (segment_place g segment) body) told a b → (y : Scan) × MakesFront state (scan y) told e b
+  head_unread g segment body before made =
       let read = head_front (segment_place g segment) body made in
-      (g, segment, read.0, front_joined state (header_whole state size (omega (arith, geometry.room)) header) (front_joined state generations read.1))
+      head_broken g segment read.0 (front_joined state before read.1)
 
--- and all of it
-pub head_whole : {D : Type 0} (state : D → DiskState) {a b e f : D} (g : Geometry) (segment size n gate : ℕ) (body : Option ℕ) → IsLayout g size → body ≡ Some n
-    → gate ≡ segment_place g segment + 13 + n → Makes state (header_reads size) true e f
-    → Makes state (generation_reads g g.segments) true f a → Makes state (head_reads (segment_place g segment) body) true a b
-    → (k : ℕ) × (gate ≡ segment_place g segment + 13 + k) × Makes state (head_scan g segment k) true e b
-head_whole state {a} {b} g segment size n gate body geometry is behind header generations made = (
-  n,
-  behind,
-  makes_joined state (Read 0 53 ∷ []) (generation_reads g g.segments ++ head_reads (segment_place g segment) (Some n)) true (header_whole state size (omega (arith, geometry.room)) header)
-      (makes_joined state (generation_reads g g.segments) (head_reads (segment_place g segment) (Some n)) true generations
-      (subst (λ o. Makes state (head_reads (segment_place g segment) o) true a b) is made)),
+-- all of it was, and no group yet
+pub head_scanned : {D : Type 0} {state : D → DiskState} {a b e : D} (tail : Tail) (n : ℕ) → tail.gate ≡ segment_place tail.geometry tail.segment + 13 + n
+    → Makes state (gate_scan tail.geometry) true a e → Makes state (head_reads (segment_place tail.geometry tail.segment) (Some n)) true e b
+    → (x : Scan) × EndsScan tail x × Makes state (scan_before x) true a b
+head_scanned {state = state} {a} {b} tail n behind before made = (
+  record { geometry = tail.geometry; segment = tail.segment; head = n; groups = [] },
+  record { geometry = refl; segment = refl; gate = behind },
+  subst (λ l. Makes state l true a b) (sym (append-nil (head_scan tail.geometry tail.segment n)))
+      (makes_joined state (gate_scan tail.geometry) (head_reads (segment_place tail.geometry tail.segment) (Some n)) true before made),
 )
-
--- what was refused for want of memory
-abbrev refused : OpenFault → Result Bool OpenFault
-refused why = Err why
-
-pub refused_tells : (why : OpenFault) → refused why ≡ refused fault.OutOfMemory → tells why ≡ true
-refused_tells fault.OutOfMemory is = refl
-refused_tells fault.NotADevice is = refl
-refused_tells fault.BadGeometry is = refl
-refused_tells (fault.Damaged place) is = refl
-refused_tells fault.Device is = let e : refused fault.Device ≡ refused fault.OutOfMemory = is in absurd cc

@@ -1,4 +1,4 @@
-use Rattle.std.proofs.Common.{arith, false}
+use Rattle.rly_disk.proofs.Common.{arith, false}
 use Rattle.rly_disk.proofs.Making.{row_counts, row_of}
 use Rattle.rly_disk.proofs.laws.law_one_failure.Goals as goal
 

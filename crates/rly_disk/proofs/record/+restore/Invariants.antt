@@ -1,4 +1,4 @@
-use Rattle.std.proofs.Common.{length}
+use Rattle.rly_disk.proofs.Common.{length}
 use Rattle.rly_disk.proofs.record.+restore.Given as goal
 
 abbrev pub decreases-restore : goal.decreases-restore

@@ -1,5 +1,4 @@
-use Rattle.std.proofs.Common.{take}
-use Rattle.rly_disk.specs.Record.{IsFilled}
+use Rattle.rly_disk.proofs.Common.{IsFilled, take}
 use Rattle.rly_disk.proofs.record.fill.Given as goal
 
 abbrev pub invariant-loop-event : goal.invariant-loop-event

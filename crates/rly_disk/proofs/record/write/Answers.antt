@@ -1,4 +1,4 @@
-use Rattle.std.proofs.Common.{rules, ◌≡◌, ◌+◌, length, slice_range}
+use Rattle.rly_disk.proofs.Common.{length, rules, slice_range, ◌+◌, ◌≡◌}
 use Rattle.rly_disk.proofs.record.write.Goals as goal
 
 pub returns-clause-ok : goal.returns-clause-ok

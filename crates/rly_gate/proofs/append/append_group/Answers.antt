@@ -1,5 +1,4 @@
-use Rattle.rly_disk.proofs.Making.{cut_short}
-use Rattle.rly_disk.proofs.Traces.{makes_front, makes_joined}
+use Rattle.rly_gate.proofs.Common.{cut_short, makes_front, makes_joined}
 use Rattle.rly_gate.proofs.append.append_group.Goals as goal
 
 pub returns-in_err-settle-clause-trace : goal.returns-in_err-settle-clause-trace

@@ -1,6 +1,4 @@
-use Rattle.std.proofs.Common.{◌≡◌, ◌-◌, arith, length, refl}
-use Rattle.byteorder.specs.Endian.{big_bytes}
-use Rattle.rly_gate.specs.Group.{body_in}
+use Rattle.rly_gate.proofs.Common.{arith, big_bytes, body_in, length, refl, ◌-◌, ◌≡◌}
 use Rattle.rly_gate.proofs.Frames.{filled, length-body}
 use Rattle.rly_gate.proofs.append.fill_frame.Goals as goal
 

@@ -1,5 +1,4 @@
-use Rattle.std.proofs.Common.{arith}
-use Rattle.rly_disk.proofs.Making.{makes_leaves}
+use Rattle.rly_gate.proofs.Common.{arith, makes_leaves}
 use Rattle.rly_gate.proofs.Appending.{appending_image}
 use Rattle.rly_gate.proofs.laws.law_append.Goals as goal
 

@@ -1,12 +1,6 @@
-use Rattle.std.proofs.Common.{◌≡◌, ◌+◌, ◌∷◌, [], arith, rules, refl, ap, drop, take, true, ℕ, List}
-use Rattle.std.specs.Prelude.{Err}
+use Rattle.rly_gate.proofs.Common.{[], ap, arith, drop, Err, HoldsGroup, length-drop, length-take, List, Makes, makes_front, not-false, quiet_new, Read, refl}
+use Rattle.rly_gate.proofs.Common.{rules, take, true, ℕ, ◌+◌, ◌∷◌, ◌≡◌}
 use Rattle.std.proofs.lemmas.Result.{err_from_is_err_and}
-use Rattle.rly_disk.specs.Trace.{Makes, Read}
-use Rattle.rly_gate.specs.Reading.{HoldsGroup}
-use Rattle.rly_disk.proofs.Traces.{makes_front}
-use Rattle.std.proofs.lemmas.Bool.{not-false}
-use Rattle.std.proofs.lemmas.List.{length-drop, length-take}
-use Rattle.rly_disk.proofs.Making.{quiet_new}
 use Rattle.rly_gate.proofs.Holding.{holds}
 use Rattle.rly_gate.proofs.Rereading.{group_body_read, group_cut, group_length_read}
 use Rattle.rly_gate.proofs.read.read_group.Given.{Over}
@@ -14,7 +8,8 @@ use Rattle.rly_gate.proofs.read.read_group.Goals.{In_ok-length}
 use Rattle.rly_gate.proofs.read.read_group.Goals as goal
 
 -- the gate is open, and the length was read
-length_made : (g : Over) (c : In_ok-length g) → Makes g.D.Disk.state (Read c.args.at 1 ∷ Read (c.args.at + 1) 4 ∷ []) true c.args.disk.now c.read_length.new.disk
+length_made : (g : Over) (c : In_ok-length g)
+    → Makes g.D.Disk.state (Read c.args.at 1 ∷ Read (c.args.at + 1) 4 ∷ []) true c.args.disk.now c.read_length.new.disk
 length_made g c = group_length_read c.args.end (omega (arith, c.in_ok-length.ensures.within)) c.in-Ok.ensures.trace c.in_ok-length.ensures.trace
 
 -- so many bytes behind it are the body of a group
@@ -38,22 +33,20 @@ returns-in-Ok-read_bytes-clause-read g c honest =
 pub returns-in-Err-OutOfMemory-clause-memory : goal.returns-in-Err-OutOfMemory-clause-memory
 returns-in-Err-OutOfMemory-clause-memory g c honest refused =
     let size = (g.met.D.Disk.consistent c.args.disk.now honest).seen_size in
-    let some = c.in-Err-OutOfMemory.ensures.memory (ap Err c.in-Err-OutOfMemory.field-0-is) in (
-      _,
-      body_held g (goal.at.returns-in-Err-OutOfMemory-clause-memory g c).In_ok-length honest refl,
-      simp (length-take, length-drop) (omega (arith, some, c.in_ok-length.ensures.within, size, c.requires.end)),
-    )
+    let some = c.in-Err-OutOfMemory.ensures.memory (ap Err c.in-Err-OutOfMemory.field-0-is) in
+    let held = body_held g (goal.at.returns-in-Err-OutOfMemory-clause-memory g c).In_ok-length honest refl in
+    (_, held, simp (length-take, length-drop) (omega (arith, some, c.in_ok-length.ensures.within, size, c.requires.end)))
 
 pub returns-in_default-clause-trace : goal.returns-in_default-clause-trace
-returns-in_default-clause-trace g c = (0, makes_front g.D.Disk.state (Read c.args.at 1 ∷ []) (Read (c.args.at + 1) 4 ∷ Read (c.args.at + 5) 0 ∷ []) (search rules))
+returns-in_default-clause-trace g c = (0, makes_front g.D.Disk.state (Read c.args.at 1 ∷ []) _ (search rules))
 
 pub returns-in_err-length-clause-trace : goal.returns-in_err-length-clause-trace
 returns-in_err-length-clause-trace g c =
     let told = err_from_is_err_and c.from_residual.result c.from_residual.ensures.1 in
-    let fault = c.in_err-length.field-0.0 in
     rw (told.1, told.2)
-    (group_cut ℕ c.args.end fault (λ refused. c.in_err-length.ensures.memory (ap Err refused)) c.in-Ok.ensures.trace c.in_err-length.ensures.trace)
+    (group_cut ℕ c.args.end _ (λ refused. c.in_err-length.ensures.memory (ap Err refused)) c.in-Ok.ensures.trace c.in_err-length.ensures.trace)
 
 pub returns-in-Err-Device-clause-trace : goal.returns-in-Err-Device-clause-trace
 returns-in-Err-Device-clause-trace g c =
-    (_, group_body_read (length_made g (goal.at.returns-in-Err-Device-clause-trace g c).In_ok-length) (rw c.in-Err-Device.field-0-is at c.in-Err-Device.ensures.trace))
+    let made = length_made g (goal.at.returns-in-Err-Device-clause-trace g c).In_ok-length in
+    (_, group_body_read made (rw c.in-Err-Device.field-0-is at c.in-Err-Device.ensures.trace))

@@ -1,4 +1,4 @@
-use Rattle.std.proofs.Common.{◌≡◌, vec_len}
+use Rattle.rly_gate.proofs.Common.{vec_len, ◌≡◌}
 use Rattle.std.specs.Vec.{vec_capacity}
 use Rattle.rly_gate.proofs.read.zeroes.Given as goal
 

@@ -1,7 +1,5 @@
-use Rattle.std.proofs.Common.{arith}
+use Rattle.rly_gate.proofs.Common.{arith, cut_short, makes_front, makes_joined}
 use Rattle.std.proofs.lemmas.Bool.Decides.{nat_tests}
-use Rattle.rly_disk.proofs.Making.{cut_short}
-use Rattle.rly_disk.proofs.Traces.{makes_front, makes_joined}
 use Rattle.rly_gate.proofs.Durable.{settling_some}
 use Rattle.rly_gate.proofs.settling.settle.Goals as goal
 

@@ -1,6 +1,6 @@
-use Rattle.std.proofs.Common.{◌≡◌, ◌∙◌, [], ap, false, inl, length, sym}
-use Rattle.rly_journal.proofs.Common.{false≢true, Inline, is_accepted, map_command, map_state, same_reply, shown_in, sound_alike, step, stored_length}
-use Rattle.rly_journal.proofs.Common.{unaccepted}
+use Rattle.std.proofs.Common.{◌≡◌, ◌∙◌, [], ap, arith, false, inl, length, List, sym, ℕ}
+use Rattle.rly_journal.proofs.Common.{false≢true, Inline, is_accepted, IsAlike, map_command, map_state, same_reply, shown_in, sound_alike, State, step}
+use Rattle.rly_journal.proofs.Common.{stored_length, unaccepted}
 use Rattle.rly_grouping.proofs.Records.{inline_alike}
 use Rattle.rly_standing.proofs.Serving.{long_leaves}
 use Rattle.rly_journal.proofs.Opening.{shown_alike}
@@ -30,15 +30,8 @@ returns-in-Ok c =
     let placed = map_command Inline c.args.command in
     let one : IsStepped c.args.index.now c.apply.new.self placed c.apply.result c.used-used.result =
     stepped c.in-Ok.ensures.state c.in-Ok.ensures.at c.inlined-placed.ensures c.apply.ensures.state c.apply.ensures.reply c.apply.ensures.at in
-    let leaves = ap is_accepted one.reply ∙ long in
-    record {
-      told = λ t alike. inl (one.reply ∙ same_reply s t placed c.args.command alike (inline_alike c.args.command));
-      refused = leaves;
-      state = one.state ∙ unaccepted stored_length s placed long;
-      geometry = one.at.geometry;
-      segment = one.at.segment;
-      used = rw leaves at one.at.used;
-    }
+    let told = λ (t : State (List ℕ)) (alike : IsAlike s t). one.reply ∙ same_reply s t placed c.args.command alike (inline_alike c.args.command) in
+    search (arith, told, inl, long, one.state, one.reply, one.at, unaccepted stored_length s placed long)
 
 -- memory is wanted only for a command that would be accepted
 pub returns-in-Err-clause-told : goal.returns-in-Err-clause-told

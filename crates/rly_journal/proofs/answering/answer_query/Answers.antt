@@ -10,22 +10,12 @@ use Rattle.rly_journal.proofs.answering.answer_query.Goals as goal
 pub returns-in-Ok-clause-outcome : goal.returns-in-Ok-clause-outcome
 returns-in-Ok-clause-outcome c = λ t alike.
     let holds = c.law_index.ensures.holds in
-    let hop = c.in-Fetch.hop in
-    let custody = c.in-Fetch.custody in
     let found = c.in-Ok.ensures.ok in
-    record {
-      same_seat = refl;
-      same_number = refl;
-      position = c.seq-position.ensures ∙ ap (λ m. m.state.seq) c.machine.ensures ∙ ap (λ (m : State ℕ). m.seq) alike;
-      hop = hop;
-      custody = custody;
-      asks = ap ask.Query c.in-Fetch.is;
-      item = c.in-Ok.item.now;
-      found = found;
-      same_limit = refl;
-      lies = c.place_of.ensures (item_lean holds hop custody found);
-      there = item_lies holds hop custody found;
-    }
+    let counts = c.seq-position.ensures ∙ ap (λ m. m.state.seq) c.machine.ensures ∙ ap (λ (m : State ℕ). m.seq) alike in
+    let asks = ap ask.Query c.in-Fetch.is in
+    let lies = c.place_of.ensures (item_lean holds c.in-Fetch.hop c.in-Fetch.custody found) in
+    let there = item_lies holds c.in-Fetch.hop c.in-Fetch.custody found in
+    search (asks, found, counts, lies, there)
 
 pub returns-clause-outcome : goal.returns-clause-outcome
 returns-clause-outcome c = λ t alike.

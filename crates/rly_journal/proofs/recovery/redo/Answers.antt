@@ -5,8 +5,7 @@ use Rattle.rly_journal.proofs.recovery.redo.Goals.{After-apply}
 use Rattle.rly_journal.proofs.recovery.redo.Goals as goal
 
 -- what became of the next command
-one : (c : After-apply)
-    → IsStepped c.loop-command.index c.apply.new.self (placed_at c.loop-command.place c.in-Some.command) c.apply.result
+one : (c : After-apply) → IsStepped c.loop-command.index c.apply.new.self (placed_at c.loop-command.place c.in-Some.command) c.apply.result
     (c.loop-command.place + c.record_len.result)
 one c = stepped c.in-Ok.ensures.state c.in-Ok.ensures.at c.placed_at-placed.ensures c.apply.ensures.state c.apply.ensures.reply c.apply.ensures.at
 
@@ -16,10 +15,10 @@ apply-requires-clause-brought c = λ _.
     rw (at.geometry, at.segment, at.used, c.record_len.ensures, c.placed_at-placed.ensures)
     (redoing_brought c.loop-command.invariant.2 c.in-Some.ensures.steps.0 c.law_index-in-loop-command.ensures.holds)
 
-pub returns-then-not-is_accepted-clause-refused : goal.returns-then-not-is_accepted-clause-refused
-returns-then-not-is_accepted-clause-refused c = λ _.
+pub returns-then-not-is_accepted : goal.returns-then-not-is_accepted
+returns-then-not-is_accepted c =
     let told : c.is_accepted.result ≡ false = search rules in
-    redoing_refused c.loop-command.invariant.2 c.in-Some.ensures.steps.0 (one (goal.at.returns-then-not-is_accepted-clause-refused c).After-apply)
+    redoing_refused c.loop-command.invariant.2 c.in-Some.ensures.steps.0 (one (goal.at.returns-then-not-is_accepted c).After-apply)
     (sym c.is_accepted.ensures ∙ told)
 
 pub loop-command-preserved : goal.loop-command-preserved

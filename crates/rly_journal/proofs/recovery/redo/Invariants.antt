@@ -1,4 +1,4 @@
-use Rattle.std_alloc.specs.Vec.Iter.{into_iter_items}
+use Rattle.rly_journal.proofs.Common.{into_iter_items}
 use Rattle.rly_journal.proofs.Redone.{IsRedoing}
 use Rattle.rly_journal.proofs.recovery.redo.Given as goal
 

@@ -1,5 +1,4 @@
-use Rattle.std.proofs.Common.{arith}
-use Rattle.rly_disk.proofs.Making.{cut_short, each_failed, each_next}
+use Rattle.rly_segment.proofs.Common.{arith, cut_short, each_failed, each_next}
 use Rattle.rly_segment.proofs.formatting.close_gates.Goals as goal
 
 pub loop-segment-preserved : goal.loop-segment-preserved

@@ -1,6 +1,4 @@
-use Rattle.std.proofs.Common.{true}
-use Rattle.rly_disk.specs.Trace.{Makes}
-use Rattle.rly_segment.specs.Calls.{closing_gates}
+use Rattle.rly_segment.proofs.Common.{closing_gates, Makes, true}
 use Rattle.rly_segment.proofs.formatting.close_gates.Given as goal
 
 abbrev pub invariant-loop-segment : goal.invariant-loop-segment

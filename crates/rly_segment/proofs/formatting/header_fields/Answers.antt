@@ -1,6 +1,4 @@
-use Rattle.std.proofs.Common.{◌≡◌, refl}
-use Rattle.rly_segment.specs.Device.{header_of}
-use Rattle.rly_segment.specs.HelpersWriting.{limits_of, shape_of}
+use Rattle.rly_segment.proofs.Common.{◌≡◌, header_of, limits_of, shape_of}
 use Rattle.rly_segment.proofs.formatting.header_fields.Goals as goal
 
 pub returns : goal.returns
@@ -8,4 +6,4 @@ unfolding header_of
 returns c =
     let shape : c.copy_from_slice.new.self ≡ shape_of c.args.geometry.now = cc in
     let limits : c.copy_from_slice-2.new.self ≡ limits_of c.args.geometry.now.params = cc in
-    rw (shape, limits) refl
+    rw (shape, limits)

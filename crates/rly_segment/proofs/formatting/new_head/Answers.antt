@@ -1,4 +1,4 @@
-use Rattle.std.proofs.Common.{arith}
+use Rattle.rly_segment.proofs.Common.{arith}
 use Rattle.rly_segment.proofs.HeadWriting.{length-new}
 use Rattle.rly_segment.proofs.formatting.new_head.Goals as goal
 

@@ -1,12 +1,5 @@
-use Rattle.std.proofs.Common.{[], ◌∷◌, ◌++◌, Bool, not, rules}
-use Rattle.std.proofs.lemmas.Bool.Decides.{Decides-not}
-use Rattle.rly_disk.specs.Trace.{Makes}
-use Rattle.rly_disk.proofs.Making.{cut_short}
-use Rattle.rly_disk.proofs.Traces.{makes_front, makes_joined}
-use Rattle.rly_gate.specs.Calls.{settling}
-use Rattle.rly_gate.specs.Group.{open_gate}
-use Rattle.rly_segment.specs.Calls.{closing, filling}
-use Rattle.rly_segment.specs.HelpersWriting.{Formats}
+use Rattle.rly_segment.proofs.Common.{[], ◌++◌, ◌∷◌, Bool, closing, cut_short, Decides-not, filling, Formats, Makes, makes_front, makes_joined, not, open_gate}
+use Rattle.rly_segment.proofs.Common.{rules, settling}
 use Rattle.rly_segment.proofs.Devices.{closed_read}
 use Rattle.rly_segment.proofs.HeadWriting.{new_head_room}
 use Rattle.rly_segment.proofs.formatting.write_device.Given.{Over}
@@ -15,23 +8,20 @@ use Rattle.rly_segment.proofs.formatting.write_device.Goals as goal
 
 -- the gate was read, and then what follows was made
 then_made : (g : Over) (c : In_ok-opened g) {whole : Bool} {e : g.row.D.Denot}
-    → Makes g.D.Disk.state (closing 0 (not c.in_ok-opened.opened) ++ (filling c.args.geometry.now c.args.head.now ++ settling 0 (open_gate ∷ []))) whole c.is_open.new.disk e
+    → Makes g.D.Disk.state (closing 0 (not c.in_ok-opened.opened) ++ (filling c.args.geometry.now c.args.head.now ++ settling 0 (open_gate ∷ [])))
+    whole c.is_open.new.disk e
     → Formats g.D.Disk.state c.args.geometry.now c.args.head.now whole c.args.disk.now e
-then_made g c made = record {
-  closed = not c.in_ok-opened.opened;
-  told = λ honest. Decides-not c.in_ok-opened.opened (c.in_ok-opened.ensures.read honest);
-  row = makes_joined g.D.Disk.state _ _ _ c.in_ok-opened.ensures.trace made;
-}
+then_made g c made =
+    let told = λ (honest : (g.D.Disk.state c.args.disk.now).honest). Decides-not c.in_ok-opened.opened (c.in_ok-opened.ensures.read honest) in
+    let row = makes_joined g.D.Disk.state _ _ _ c.in_ok-opened.ensures.trace made in search told
 
 pub write_contents-requires-clause-room : goal.write_contents-requires-clause-room
 write_contents-requires-clause-room g c = rw c.requires.head (new_head_room c.requires.geometry)
 
 pub returns-in_err-opened : goal.returns-in_err-opened
-returns-in_err-opened g c = record {
-  closed = _;
-  told = λ _. closed_read (g.D.Disk.state c.args.disk.now).seen 0;
-  row = cut_short g.D.Disk.state _ c.from_residual.ensures.0 (makes_front g.D.Disk.state _ _ c.in_err-opened.ensures.trace);
-}
+returns-in_err-opened g c =
+    let row = cut_short g.D.Disk.state _ c.from_residual.ensures.0 (makes_front g.D.Disk.state _ _ c.in_err-opened.ensures.trace) in
+    record { closed = _; told = λ _. closed_read (g.D.Disk.state c.args.disk.now).seen 0; row = row }
 
 pub returns-in_err-close_gate : goal.returns-in_err-close_gate
 returns-in_err-close_gate g c =

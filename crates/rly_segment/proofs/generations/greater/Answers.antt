@@ -1,4 +1,4 @@
-use Rattle.std.proofs.Common.{arith}
+use Rattle.rly_segment.proofs.Common.{arith}
 use Rattle.rly_segment.proofs.Greater.{greater_closed, greater_kept, greater_replaced}
 use Rattle.rly_segment.proofs.generations.greater.Goals as goal
 

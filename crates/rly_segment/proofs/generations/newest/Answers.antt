@@ -1,5 +1,4 @@
-use Rattle.std.proofs.Common.{rules, arith, inr}
-use Rattle.rly_disk.proofs.Making.{each_failed, each_next, reads_new}
+use Rattle.rly_segment.proofs.Common.{arith, each_failed, each_next, inr, reads_new, rules}
 use Rattle.rly_segment.proofs.Looking.{generations_only}
 use Rattle.rly_segment.proofs.Greater.{closed_more, last_of_tie, newest_of}
 use Rattle.rly_segment.proofs.generations.newest.Goals as goal
@@ -16,7 +15,8 @@ loop-segment-preserved g c =
       found = λ honest. c.greater-found.ensures.found seen c.args.geometry.now (c.loop-segment.invariant.found honest) (read honest);
       flags = search rules;
       closed = λ honest.
-          closed_more seen c.args.geometry.now _ c.loop-segment.closed _ _ (omega arith) c.is_none.ensures (c.loop-segment.invariant.closed honest) (read honest);
+          let before = c.loop-segment.invariant.closed honest in
+          closed_more seen c.args.geometry.now _ c.loop-segment.closed _ _ (omega arith) c.is_none.ensures before (read honest);
       within = c.greater-found.ensures.within c.loop-segment.invariant.within;
     }
 

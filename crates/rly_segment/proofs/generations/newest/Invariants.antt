@@ -1,9 +1,4 @@
-use Rattle.std.proofs.Common.{◌≡◌, ◌<◌, length, true}
-use Rattle.std.specs.Prelude.{IfSome}
-use Rattle.rly_disk.specs.Trace.{Makes}
-use Rattle.rly_segment.specs.Answers.{AreClosed}
-use Rattle.rly_segment.specs.Calls.{generation_reads}
-use Rattle.rly_segment.specs.HelpersNewest.{IsFound}
+use Rattle.rly_segment.proofs.Common.{◌<◌, ◌≡◌, AreClosed, generation_reads, IfSome, IsFound, length, Makes, true}
 use Rattle.rly_segment.proofs.generations.newest.Given as goal
 
 abbrev pub invariant-loop-segment : goal.invariant-loop-segment

@@ -1,4 +1,4 @@
-use Rattle.std.proofs.Common.{arith, refl, sym, ◌∙◌}
+use Rattle.rly_segment.proofs.Common.{◌∙◌, arith, refl, sym}
 use Rattle.rly_segment.proofs.HeaderFields.{gate_at_front, number_in_front}
 use Rattle.rly_segment.proofs.generations.read_gate.Goals as goal
 

@@ -1,4 +1,4 @@
-use Rattle.std.proofs.Common.{◌≡◌, arith, ap, length, length-take}
+use Rattle.rly_segment.proofs.Common.{◌≡◌, ap, arith, length, length-take}
 use Rattle.rly_segment.proofs.head_bytes.write_start.Goals as goal
 
 pub copy_from_slice-requires : goal.copy_from_slice-requires

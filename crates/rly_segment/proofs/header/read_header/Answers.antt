@@ -1,4 +1,4 @@
-use Rattle.std.proofs.Common.{◌≡◌, arith, rules, true, ◌∙◌}
+use Rattle.rly_segment.proofs.Common.{◌∙◌, ◌≡◌, arith, rules, true}
 use Rattle.rly_segment.proofs.HeaderFields.{device_read}
 use Rattle.rly_segment.proofs.header.read_header.Goals as goal
 

@@ -1,9 +1,5 @@
-use Rattle.std.proofs.Common.{rules, ◌≡◌, [], arith, ap, drop, length, refl, take, true, ◌+◌, ◌∙◌}
-use Rattle.std.specs.Prelude.{Some}
-use Rattle.rly_disk.proofs.Making.{quiet_new}
-use Rattle.rly_disk.proofs.Traces.{makes_joined}
-use Rattle.rly_segment.specs.Heads.{segment_place}
-use Rattle.rly_segment.proofs.Looking.{head_made, head_read, only_start}
+use Rattle.rly_segment.proofs.Common.{◌+◌, ◌∙◌, ◌≡◌, ap, arith, drop, length, quiet_new, refl, rules, segment_place, Some, take, true}
+use Rattle.rly_segment.proofs.Looking.{head_made}
 use Rattle.rly_segment.proofs.HeadBytes.{IsStart, holds_head, read_as, start_is}
 use Rattle.rly_segment.proofs.heads.read_head_of.Given.{Over}
 use Rattle.rly_segment.proofs.heads.read_head_of.Goals.{After-deref, In-Ok}
@@ -12,12 +8,7 @@ use Rattle.rly_segment.proofs.heads.read_head_of.Goals as goal
 -- the generation, the form and the length were read
 start_read : (g : Over) (c : In-Ok g) → (g.D.Disk.state c.args.disk.now).honest
     → IsStart (g.D.Disk.state c.args.disk.now).seen c.args.geometry.now c.args.segment c.in-Ok.start
-start_read g c honest = record {
-  short = c.requires.geometry.length;
-  generation_fits = c.in-Ok.ensures.fits.0;
-  length_fits = c.in-Ok.ensures.fits.1;
-  at = rw c.segment_place-place.ensures at (c.in-Ok.ensures.read honest);
-}
+start_read g c honest = search (c.requires.geometry.length, c.in-Ok.ensures.fits, rw c.segment_place-place.ensures at (c.in-Ok.ensures.read honest))
 
 -- and the body
 body_read : (g : Over) (c : After-deref g) → (g.D.Disk.state c.args.disk.now).honest
@@ -59,29 +50,19 @@ returns-clause-read g c honest =
     c.law_sound.ensures c.in-Ok-read_state.ensures.plain (within.0, omega (arith, within.1, c.seq.ensures))
     (omega (arith, c.if-geometry-end.false, c.from-end.ensures))
 
-pub returns-in_default-clause-trace : goal.returns-in_default-clause-trace
-returns-in_default-clause-trace g c = only_start c.segment_place-place.ensures (search rules)
-
-pub returns-then-geometry-end-clause-trace : goal.returns-then-geometry-end-clause-trace
-returns-then-geometry-end-clause-trace g c = only_start c.segment_place-place.ensures c.in-Ok.ensures.trace
-
-pub returns-in-Err-OutOfMemory-clause-trace : goal.returns-in-Err-OutOfMemory-clause-trace
-returns-in-Err-OutOfMemory-clause-trace g c =
-    only_start c.segment_place-place.ensures
-    (makes_joined g.D.Disk.state _ [] true c.in-Ok.ensures.trace (rw c.in-Err-OutOfMemory.field-0-is at c.in-Err-OutOfMemory.ensures.trace))
-
 pub returns-in-Err-Device-clause-trace : goal.returns-in-Err-Device-clause-trace
 returns-in-Err-Device-clause-trace g c =
-    head_read c.segment_place-place.ensures c.in-Ok.ensures.trace (rw c.in-Err-Device.field-0-is at c.in-Err-Device.ensures.trace)
+    (Some _, tt, head_made c.segment_place-place.ensures c.in-Ok.ensures.trace (rw c.in-Err-Device.field-0-is at c.in-Err-Device.ensures.trace))
 
 pub returns-in-Err-Malformed-clause-trace : goal.returns-in-Err-Malformed-clause-trace
-returns-in-Err-Malformed-clause-trace g c = head_read c.segment_place-place.ensures c.in-Ok.ensures.trace c.in-Ok-read_bytes.ensures.trace
+returns-in-Err-Malformed-clause-trace g c = (Some _, tt, head_made c.segment_place-place.ensures c.in-Ok.ensures.trace c.in-Ok-read_bytes.ensures.trace)
 
 pub returns-in-Err-OutOfMemory-read_state-clause-trace : goal.returns-in-Err-OutOfMemory-read_state-clause-trace
-returns-in-Err-OutOfMemory-read_state-clause-trace g c = head_read c.segment_place-place.ensures c.in-Ok.ensures.trace c.in-Ok-read_bytes.ensures.trace
+returns-in-Err-OutOfMemory-read_state-clause-trace g c =
+    (Some _, tt, head_made c.segment_place-place.ensures c.in-Ok.ensures.trace c.in-Ok-read_bytes.ensures.trace)
 
 pub returns-then-not-is_generation-clause-trace : goal.returns-then-not-is_generation-clause-trace
-returns-then-not-is_generation-clause-trace g c = head_read c.segment_place-place.ensures c.in-Ok.ensures.trace c.in-Ok-read_bytes.ensures.trace
+returns-then-not-is_generation-clause-trace g c = (Some _, tt, head_made c.segment_place-place.ensures c.in-Ok.ensures.trace c.in-Ok-read_bytes.ensures.trace)
 
 pub returns-clause-trace : goal.returns-clause-trace
 returns-clause-trace g c = (

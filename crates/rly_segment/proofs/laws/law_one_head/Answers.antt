@@ -1,5 +1,4 @@
-use Rattle.std.proofs.Common.{ap, sym, ◌∙◌}
-use Rattle.rly_checkpoint.specs.Stored.{state_in}
+use Rattle.rly_segment.proofs.Common.{◌∙◌, ap, state_in, sym}
 use Rattle.rly_segment.proofs.PlacedHeads.{forms_of, stored_once}
 use Rattle.rly_segment.proofs.laws.law_one_head.Goals as goal
 

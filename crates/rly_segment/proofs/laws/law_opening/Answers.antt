@@ -1,4 +1,4 @@
-use Rattle.rly_disk.proofs.Making.{makes_leaves}
+use Rattle.rly_segment.proofs.Common.{makes_leaves}
 use Rattle.rly_segment.proofs.Replacing.{image_of_opening}
 use Rattle.rly_segment.proofs.laws.law_opening.Goals as goal
 

@@ -1,6 +1,4 @@
-use Rattle.std.proofs.Common.{arith, ap, length}
-use Rattle.rly_checkpoint.specs.Checkpoint.{spelled_by}
-use Rattle.rly_checkpoint.specs.declared.head_form.HeadForm.TheVariants.{Second}
+use Rattle.rly_segment.proofs.Common.{ap, arith, length, Second, spelled_by}
 use Rattle.rly_segment.proofs.HeadWriting.{head_room, length-head}
 use Rattle.rly_segment.proofs.Segments.{segment_within}
 use Rattle.rly_segment.proofs.opening.open_segment.Goals as goal

@@ -1,6 +1,4 @@
-use Rattle.std.proofs.Common.{rules}
-use Rattle.rly_disk.proofs.Making.{cut_short}
-use Rattle.rly_disk.proofs.Traces.{makes_front, makes_joined}
+use Rattle.rly_segment.proofs.Common.{cut_short, makes_front, makes_joined, rules}
 use Rattle.rly_segment.proofs.opening.replace.Goals as goal
 
 pub returns-in_err-close_gate : goal.returns-in_err-close_gate

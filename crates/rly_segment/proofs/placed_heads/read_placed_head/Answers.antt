@@ -1,6 +1,4 @@
-use Rattle.std.proofs.Common.{subst}
-use Rattle.std.proofs.lemmas.Bool.{iff_false}
-use Rattle.rly_places.specs.Placed.{IsPlaced}
+use Rattle.rly_segment.proofs.Common.{iff_false, IsPlaced, subst}
 use Rattle.rly_segment.proofs.PlacedHeads.{fault_placed, forms_of, stored_once}
 use Rattle.rly_segment.proofs.placed_heads.read_placed_head.Goals as goal
 

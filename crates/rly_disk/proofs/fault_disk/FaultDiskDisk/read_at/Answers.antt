@@ -1,8 +1,5 @@
-use Rattle.std.proofs.Common.{[], refl, rules}
-use Rattle.std.specs.Prelude.{Err}
-use Rattle.rly_disk.specs.FaultDisk.{fault_state}
-use Rattle.rly_disk.specs.Trace.{Read}
-use Rattle.rly_disk.proofs.Making.{made_row, makes_later, quiet_new, reads_still}
+use Rattle.rly_disk.proofs.Common.{[], arith, Err, fault_state, Read, refl, rules}
+use Rattle.rly_disk.proofs.Making.{made_row, makes_later, quiet_new}
 use Rattle.rly_disk.proofs.Traces.{not_counted, read_makes}
 use Rattle.rly_disk.proofs.fault_disk.FaultDiskDisk.read_at.Goals as goal
 
@@ -16,7 +13,6 @@ returns-then-fails_next-clause-trace g c =
 pub returns-clause-trace : goal.returns-clause-trace
 returns-clause-trace g c =
     let made = c.read_at-outcome.ensures.trace in
-    let later = makes_later g.D.Disk.state made in
-    read_makes (fault_state g.D.Disk.state) _ _ c.read_at-outcome.result (search rules) (search rules) (search rules)
-    (λ honest. let same = quiet_new g.D.Disk.state made refl honest (g.met.D.Disk.consistent _ honest) in assumption)
-    (λ honest. (made.leads.follows honest).still (reads_still (made_row made) refl))
+    read_makes (fault_state g.D.Disk.state) _ _ c.read_at-outcome.result (search rules) (search rules) (search (rules, makes_later g.D.Disk.state made))
+    (λ honest. assumption (quiet_new g.D.Disk.state made refl honest (g.met.D.Disk.consistent _ honest)))
+    (λ honest. let row = made_row made in (made.leads.follows honest).still (grind arith))

@@ -1,8 +1,5 @@
-use Rattle.std.proofs.Common.{[], refl, rules}
-use Rattle.std.specs.Prelude.{Err}
-use Rattle.rly_disk.specs.FaultDisk.{fault_state}
-use Rattle.rly_disk.specs.Trace.{Sync}
-use Rattle.rly_disk.proofs.Making.{makes_later, makes_settled, on_err, on_ok, quiet_new, still_sync, synced_sync}
+use Rattle.rly_disk.proofs.Common.{[], arith, Err, fault_state, is_ok, refl, rules, Sync, true, ◌≡◌}
+use Rattle.rly_disk.proofs.Making.{made_row, makes_later, makes_settled, quiet_new, synced_sync}
 use Rattle.rly_disk.proofs.Traces.{not_counted, sync_makes}
 use Rattle.rly_disk.proofs.fault_disk.FaultDiskDisk.sync.Goals as goal
 
@@ -16,9 +13,7 @@ returns-then-fails_next-clause-trace g c =
 pub returns-clause-trace : goal.returns-clause-trace
 returns-clause-trace g c =
     let made = c.sync-outcome.ensures.trace in
-    let later = makes_later g.D.Disk.state made in
-    sync_makes (fault_state g.D.Disk.state) c.sync-outcome.result (search rules) (search rules) (search rules)
-    (λ honest. let same = quiet_new g.D.Disk.state made refl honest (g.met.D.Disk.consistent _ honest) in assumption)
-    (λ honest. on_ok c.sync-outcome.result (λ done.
-    let settled = makes_settled g.D.Disk.state (rw done at made) synced_sync honest (g.met.D.Disk.consistent _) in assumption))
-    (λ honest. on_err c.sync-outcome.result (λ failed. still_sync g.D.Disk.state (rw failed at made) honest))
+    sync_makes (fault_state g.D.Disk.state) c.sync-outcome.result (search rules) (search rules) (search (rules, makes_later g.D.Disk.state made))
+    (λ honest. assumption (quiet_new g.D.Disk.state made refl honest (g.met.D.Disk.consistent _ honest)))
+    (λ honest. let settled = λ (done : is_ok c.sync-outcome.result ≡ true). makes_settled g.D.Disk.state (rw done at made) synced_sync honest
+    (g.met.D.Disk.consistent _) in grind (arith, settled)) (λ honest. let row = made_row made in grind (arith, (made.leads.follows honest).still))

@@ -1,5 +1,4 @@
-use Rattle.std.proofs.Common.{◌≡◌, ◌<◌, ℕ, get_or, false}
-use Rattle.rly_disk.specs.Record.{is_covered}
+use Rattle.rly_disk.proofs.Common.{false, get_or, is_covered, ℕ, ◌<◌, ◌≡◌}
 use Rattle.rly_disk.proofs.mem.MemDisk.is_image.Given as goal
 
 abbrev pub invariant-loop-at : goal.invariant-loop-at

@@ -1,6 +1,4 @@
-use Rattle.std.proofs.Common.{[]}
-use Rattle.rly_disk.specs.MemDisk.{mem_state}
-use Rattle.rly_disk.specs.Trace.{Read}
+use Rattle.rly_disk.proofs.Common.{[], mem_state, Read}
 use Rattle.rly_disk.proofs.Traces.{not_counted}
 use Rattle.rly_disk.proofs.mem.MemDiskDisk.read_at.Goals as goal
 

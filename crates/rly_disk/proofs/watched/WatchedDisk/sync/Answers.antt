@@ -1,7 +1,6 @@
-use Rattle.std.proofs.Common.{refl, rules}
+use Rattle.rly_disk.proofs.Common.{rules}
 use Rattle.rly_disk.proofs.Watching.{watched_tells}
 use Rattle.rly_disk.proofs.watched.WatchedDisk.sync.Goals as goal
 
 pub returns-clause-tells : goal.returns-clause-tells
-returns-clause-tells g c =
-    watched_tells g.D.Disk.state c.args.self.now c.note.new.self c.sync-outcome.ensures.trace c.note.ensures.inside (search rules) (search rules) refl
+returns-clause-tells g c = search (rules, watched_tells g.D.Disk.state c.args.self.now c.note.new.self c.sync-outcome.ensures.trace)

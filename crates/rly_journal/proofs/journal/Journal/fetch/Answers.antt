@@ -1,39 +1,26 @@
-use Rattle.std.proofs.Common.{◌≡◌, [], inl, inr, map, refl, sym, ◌∙◌}
-use Rattle.rly_journal.proofs.Common.{false≢true, fetch_reply, item_of, nothing_tried, OnlyRead, Refused, shown_state}
-use Rattle.rly_fetching.specs.Fetching.{reply_of}
+use Rattle.std.proofs.Common.{[], inl, inr, map, refl, rules, sym, ◌∙◌}
+use Rattle.rly_journal.proofs.Common.{false≢true, nothing_tried, OnlyRead, reply_of, shown_state}
 use Rattle.rly_journal.proofs.Fetching.{IsInFlight, fetched_as, fetching_as, item_lean, item_lies, lies_within, lost_as}
 use Rattle.rly_journal.proofs.Reading.{payload_read, sound_read}
 use Rattle.rly_journal.proofs.journal.Journal.fetch.Given.{Over}
-use Rattle.rly_journal.proofs.journal.Journal.fetch.Goals.{After-place_of-place, After-read_payload, In-Err}
+use Rattle.rly_journal.proofs.journal.Journal.fetch.Goals.{After-place_of-place, After-read_payload}
 use Rattle.rly_journal.proofs.journal.Journal.fetch.Goals as goal
 
 pub returns-then-self-clause-trace : goal.returns-then-self-clause-trace
-returns-then-self-clause-trace g c = rw (← c.self.view_is) (
-  [],
-  nothing_tried g.D.Disk.state c.self.inside.disk,
-  (λ _. refl),
-  λ whole. absurd (false≢true (sym whole ∙ c.if-self.true)),
-)
+returns-then-self-clause-trace g c =
+    rw (← c.self.view_is) ([], nothing_tried g.D.Disk.state c.self.inside.disk, (λ _. refl), λ whole. absurd (false≢true (sym whole ∙ c.if-self.true)))
 
--- the item wasn't found
-refused : (g : Over) (c : In-Err g) → let j = c.self.inside in
-    fetch_reply (item_of (shown_state (g.D.Disk.state j.first_disk.value).seen j.first_index.value.spool.state (map (λ e. e.0.value) j.accepted.items))
-    c.args.hop c.args.number) ≡ Refused c.in-Err.refusal
-refused g c =
-    c.law_fetched.ensures.refused c.self.inside.index.spool.state _ c.args.hop c.args.number c.in-Err.refusal c.self.invariant.0.alike c.in-Err.ensures.err
+-- ---- the item wasn't found
 
 pub returns-in-Err-clause-refused : goal.returns-in-Err-clause-refused
 returns-in-Err-clause-refused g c =
-    rw (← c.self.view_is) (inr (c.if-self.false, inl (refused g (goal.at.returns-in-Err-clause-refused g c).In-Err)))
+    let told = c.law_fetched.ensures.refused c.self.inside.index.spool.state _ _ _ _ c.self.invariant.0.alike c.in-Err.ensures.err in
+    rw (← c.self.view_is) (inr (c.if-self.false, inl told))
 
 pub returns-in-Err-clause-trace : goal.returns-in-Err-clause-trace
 returns-in-Err-clause-trace g c =
-    rw (← c.self.view_is) (
-      [],
-      nothing_tried g.D.Disk.state c.self.inside.disk,
-      (λ _. refl),
-      λ _. rw (refused g (goal.at.returns-in-Err-clause-trace g c).In-Err) refl,
-    )
+    let told = c.law_fetched.ensures.refused c.self.inside.index.spool.state _ _ _ _ c.self.invariant.0.alike c.in-Err.ensures.err in
+    rw (← c.self.view_is) ([], nothing_tried g.D.Disk.state c.self.inside.disk, (λ _. refl), λ _. rw told refl)
 
 -- the item was found, and its place
 flight : (g : Over) (c : After-place_of-place g) → let j = c.self.inside in
@@ -65,37 +52,28 @@ invariant_of-self g c = (sound_read (only_read g (goal.at.invariant_of-self g c)
 pub invariant_of-self-2 : goal.invariant_of-self-2
 invariant_of-self-2 g c = (sound_read (only_read g (goal.at.invariant_of-self-2 g c).After-read_payload) c.self.invariant.0, c.self.invariant.1)
 
-pub returns-in-Err-read_payload-clause-only : goal.returns-in-Err-read_payload-clause-only
-returns-in-Err-read_payload-clause-only g c =
-    rw (← c.self.view_is) (only_read g (goal.at.returns-in-Err-read_payload-clause-only g c).After-read_payload)
+pub returns-in-Err-read_payload : goal.returns-in-Err-read_payload
+returns-in-Err-read_payload g c =
+    let at = goal.at.returns-in-Err-read_payload g c in
+    let f = flight g at.After-place_of-place in
+    let lost = lost_as f (g.D.Disk.state c.self.inside.disk) 0 c.in-Err-read_payload.refusal (c.in-Err-read_payload.ensures.payload 0) in
+    rw (← c.self.view_is) (record {
+      found = tt;
+      refused = inr (c.if-self.false, inr lost);
+      same = search rules;
+      only = only_read g at.After-read_payload;
+      trace = (_, c.in-Err-read_payload.ensures.trace 0, (λ broken. absurd (false≢true (sym c.if-self.false ∙ broken))), λ _. fetching_as f _);
+    })
 
-pub returns-clause-only : goal.returns-clause-only
-returns-clause-only g c = rw (← c.self.view_is) (only_read g (goal.at.returns-clause-only g c).After-read_payload)
-
-pub returns-in-Err-read_payload-clause-refused : goal.returns-in-Err-read_payload-clause-refused
-returns-in-Err-read_payload-clause-refused g c =
-    let f = flight g (goal.at.returns-in-Err-read_payload-clause-refused g c).After-place_of-place in
-    rw (← c.self.view_is) (inr (
-      c.if-self.false,
-      inr (lost_as f (g.D.Disk.state c.self.inside.disk) 0 c.in-Err-read_payload.refusal
-          (c.in-Err-read_payload.ensures.payload 0)),
-    ))
-
-pub returns-clause-found : goal.returns-clause-found
-returns-clause-found g c =
-    let f = flight g (goal.at.returns-clause-found g c).After-place_of-place in
-    rw (← c.self.view_is) (
-      c.if-self.false,
-      fetched_as f (g.D.Disk.state c.self.inside.disk) (c.self.invariant.0.kept c.if-self.false).bytes (c.in-Ok-read_payload.ensures.payload 0)
-          c.into_bytes.ensures,
-    )
-
-pub returns-in-Err-read_payload-clause-trace : goal.returns-in-Err-read_payload-clause-trace
-returns-in-Err-read_payload-clause-trace g c =
-    let f = flight g (goal.at.returns-in-Err-read_payload-clause-trace g c).After-place_of-place in
-    rw (← c.self.view_is) (_, c.in-Err-read_payload.ensures.trace 0, (λ broken. absurd (false≢true (sym c.if-self.false ∙ broken))), λ _. fetching_as f _)
-
-pub returns-clause-trace : goal.returns-clause-trace
-returns-clause-trace g c =
-    let f = flight g (goal.at.returns-clause-trace g c).After-place_of-place in
-    rw (← c.self.view_is) (_, c.in-Ok-read_payload.ensures.trace 0, (λ broken. absurd (false≢true (sym c.if-self.false ∙ broken))), λ _. fetching_as f _)
+pub returns : goal.returns
+returns g c =
+    let at = goal.at.returns g c in
+    let f = flight g at.After-place_of-place in
+    let bytes = (c.self.invariant.0.kept c.if-self.false).bytes in
+    rw (← c.self.view_is) (record {
+      found = (c.if-self.false, fetched_as f (g.D.Disk.state c.self.inside.disk) bytes (c.in-Ok-read_payload.ensures.payload 0) c.into_bytes.ensures);
+      refused = tt;
+      same = search rules;
+      only = only_read g at.After-read_payload;
+      trace = (_, c.in-Ok-read_payload.ensures.trace 0, (λ broken. absurd (false≢true (sym c.if-self.false ∙ broken))), λ _. fetching_as f _);
+    })

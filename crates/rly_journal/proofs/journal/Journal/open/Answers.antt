@@ -1,6 +1,5 @@
 use Rattle.std.proofs.Common.{map, ap, rules, ◌∙◌}
-use Rattle.rly_journal.proofs.Common.{makes_later}
-use Rattle.rly_standing.proofs.Following.{broken_only, broken_settled, opening_only, opening_settled, told_when}
+use Rattle.rly_journal.proofs.Common.{broken_only, broken_settled, makes_later, opening_only, opening_settled, told_when}
 use Rattle.rly_journal.proofs.Opening.{opened_sound, opened_stands}
 use Rattle.rly_journal.proofs.journal.Journal.open.Goals as goal
 

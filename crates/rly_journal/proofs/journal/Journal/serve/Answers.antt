@@ -1,25 +1,13 @@
-use Rattle.std.proofs.Common.{◌∙◌, arith, ap, length, sym, map}
+use Rattle.std.proofs.Common.{◌∙◌, ap, length, sym, map, inl, refl, rules}
 use Rattle.rly_journal.proofs.Common.{empty_group, fold, fold_append, makes_later, map_state, shown_in, shown_state, taken_of, zip}
-use Rattle.rly_journal.proofs.Rounded.{failed_served, failed_sound, none_served, some_served}
-use Rattle.rly_journal.proofs.Reading.{going, sound_read}
-use Rattle.rly_journal.proofs.Serving.{IsServing, group_none, group_room, group_there, longest_there}
-use Rattle.rly_journal.proofs.Serving.{none_sound, wanted_there, written_sound}
+use Rattle.rly_disk.proofs.Composition.{weaker}
+use Rattle.rly_journal.proofs.Rounded.{failed_served, served}
+use Rattle.rly_journal.proofs.Reading.{going, sound_read, leaves_durable, broken_sound}
+use Rattle.rly_journal.proofs.Serving.{IsServing, group_none, group_room, group_there, longest_there, none_sound, wanted_there, written_sound, alike_now}
+use Rattle.rly_journal.proofs.Serving.{crash_group, front_kept, front_written, logging_group, logging_none, still, shape_kept}
 use Rattle.rly_journal.proofs.journal.Journal.serve.Given.{Over}
 use Rattle.rly_journal.proofs.journal.Journal.serve.Goals.{After-evaluate}
 use Rattle.rly_journal.proofs.journal.Journal.serve.Goals as goal
-
-pub evaluate-requires : goal.evaluate-requires
-evaluate-requires g c =
-    let j = going g.D.Disk.state c.self.view_is c.requires.broken c.self.invariant.0 in
-    rw (j.ends.geometry, j.ends.segment) (record {
-      count = c.requires.count;
-      room = omega (arith, c.requires.count, c.self.invariant.1.room);
-      none = c.self.invariant.1.none;
-      empty = c.self.invariant.1.empty;
-      above = omega (arith, j.sound.shaped.above);
-      used = j.ends.used;
-      ready = λ asks due. (rw (← c.self.view_is) at c.requires.ready) (asks, due);
-    })
 
 -- the calls were evaluated
 evaluated : (g : Over) (c : After-evaluate g) → let j = c.self.inside in let image = (g.D.Disk.state j.first_disk.value).seen in
@@ -34,98 +22,65 @@ evaluated : (g : Over) (c : After-evaluate g) → let j = c.self.inside in let i
     c.args.calls.now.items c.evaluate.new.outcomes.items
 evaluated g c =
     let first = map_state (shown_in (g.D.Disk.state c.self.inside.first_disk.value).seen) c.self.inside.first_index.value.spool.state in
-    let before = map (λ e. e.0.value) c.self.inside.accepted.items in
+    let taken = taken_of (zip c.args.calls.now.items c.evaluate.new.outcomes.items) in
     let done = c.evaluate.ensures.evaluated in
-    record {
-      going = going g.D.Disk.state c.self.view_is c.requires.broken c.self.invariant.0;
-      holds = c.law_index.ensures.holds;
-      few = c.requires.count;
-      ready = rw (← c.self.view_is) at c.requires.ready;
-      before = before;
-      after = map (λ e. e.0.value) c.evaluate.new.accepted.items;
-      done = done;
-      shows = ap (fold length first) done.log ∙ fold_append length first before (taken_of (zip c.args.calls.now.items c.evaluate.new.outcomes.items));
-    }
+    let shows = ap (fold length first) done.log ∙ fold_append length first (map (λ e. e.0.value) c.self.inside.accepted.items) taken in
+    let j = going g.D.Disk.state c.self.view_is c.requires.broken c.self.invariant.0 in
+    search (j, c.law_index.ensures.holds, c.requires.count, rw (← c.self.view_is) at c.requires.ready, done, shows)
 
-pub answer_all-requires : goal.answer_all-requires
-answer_all-requires g c =
-    let e = evaluated g (goal.at.answer_all-requires g c).After-evaluate in
-    record { room = omega (arith, e.done.count, c.requires.room); there = wanted_there e }
+pub answer_all-requires-clause-there : goal.answer_all-requires-clause-there
+answer_all-requires-clause-there g c = wanted_there (evaluated g (goal.at.answer_all-requires-clause-there g c).After-evaluate)
 
 pub invariant_of-self : goal.invariant_of-self
 invariant_of-self g c =
     let e = evaluated g (goal.at.invariant_of-self g c).After-evaluate in
-    let none = sym c.is_empty.ensures ∙ c.if-is_empty.true in (
-      none_sound e none c.answer_all.ensures.only,
-      record {
-        empty = group_none e none;
-        none = c.answer_all.ensures.emptied;
-        room = omega (arith, c.self.invariant.1.room, c.evaluate.ensures.outcomes_capacity, c.answer_all.ensures.outcomes_capacity);
-      },
-    )
+    (none_sound e (cc) c.answer_all.ensures.only, search (rules, group_none e (cc)))
 
 pub returns-then-is_empty-clause-served : goal.returns-then-is_empty-clause-served
 returns-then-is_empty-clause-served g c =
     let e = evaluated g (goal.at.returns-then-is_empty-clause-served g c).After-evaluate in
-    rw (← c.self.view_is) (none_served e (sym c.is_empty.ensures ∙ c.if-is_empty.true) c.answer_all.ensures.only c.answer_all.ensures.answers)
+    let none = sym c.is_empty.ensures ∙ c.if-is_empty.true in
+    rw (← c.self.view_is)
+    (served e (logging_none e none) (front_kept e none) (λ honest. weaker _ _ (λ image. inl) (leaves_durable (e.going.durable honest)))
+    refl (e.going.counted ∙ ap (λ m. m.seq) (sym (still e none))) c.answer_all.ensures.only c.answer_all.ensures.answers)
 
 pub append-requires : goal.append-requires
 append-requires g c =
     let e = evaluated g (goal.at.append-requires g c).After-evaluate in
-    let some = sym c.is_empty.ensures ∙ c.if-is_empty.false in
-    record {
-      something = group_there e some;
-      nothing_staged = e.done.holds.staged;
-      geometry = e.going.sound.shaped.geometry;
-      segment = e.going.sound.shaped.segment;
-      room = group_room e some;
-    }
+    search (group_there e (cc), e.done.holds.staged, e.going.sound.shaped, group_room e (cc))
 
-pub answer_all-requires-in-Ok : goal.answer_all-requires-in-Ok
-answer_all-requires-in-Ok g c =
-    let e = evaluated g (goal.at.answer_all-requires-in-Ok g c).After-evaluate in
-    record { room = omega (arith, e.done.count, c.requires.room); there = rw (makes_later g.D.Disk.state c.in-Ok.ensures.trace).size (wanted_there e) }
+pub answer_all-requires-in-Ok-clause-there : goal.answer_all-requires-in-Ok-clause-there
+answer_all-requires-in-Ok-clause-there g c =
+    let e = evaluated g (goal.at.answer_all-requires-in-Ok-clause-there g c).After-evaluate in
+    rw (makes_later g.D.Disk.state c.in-Ok.ensures.trace).size (wanted_there e)
 
 pub invariant_of-self-in-Ok : goal.invariant_of-self-in-Ok
 invariant_of-self-in-Ok g c =
     let e = evaluated g (goal.at.invariant_of-self-in-Ok g c).After-evaluate in
-    let some = sym c.is_empty.ensures ∙ c.if-is_empty.false in (
-      sound_read c.answer_all-in-Ok.ensures.only
-          (written_sound e some g.met.D.Disk.consistent c.in-Ok.ensures.trace c.in-Ok.ensures.gate
-          (c.seq-self-inside.ensures ∙ ap (λ m. m.state.seq) c.machine.ensures)),
-      record {
-        empty = rw c.in-Ok.ensures.gate (c.append.ensures.emptied ∙ ap empty_group (longest_there e));
-        none = c.answer_all-in-Ok.ensures.emptied;
-        room = omega (arith, c.self.invariant.1.room, c.evaluate.ensures.outcomes_capacity, c.answer_all-in-Ok.ensures.outcomes_capacity);
-      },
-    )
+    let counted = c.seq-self-inside.ensures ∙ ap (λ m. m.state.seq) c.machine.ensures in
+    let sound = written_sound e (cc) g.met.D.Disk.consistent c.in-Ok.ensures.trace c.in-Ok.ensures.gate counted in
+    let empty = c.append.ensures.emptied ∙ ap empty_group (longest_there e) in
+    (sound_read c.answer_all-in-Ok.ensures.only sound, rw c.in-Ok.ensures.gate (search (rules, empty)))
 
 pub returns-in-Ok-clause-served : goal.returns-in-Ok-clause-served
 returns-in-Ok-clause-served g c =
     let e = evaluated g (goal.at.returns-in-Ok-clause-served g c).After-evaluate in
     let some = sym c.is_empty.ensures ∙ c.if-is_empty.false in
-    let sound = written_sound e some g.met.D.Disk.consistent c.in-Ok.ensures.trace c.in-Ok.ensures.gate
-    (c.seq-self-inside.ensures ∙ ap (λ m. m.state.seq) c.machine.ensures) in
     rw (← c.self.view_is)
-    (some_served e some g.met.D.Disk.consistent c.in-Ok.ensures.trace sound c.in-Ok.ensures.gate c.answer_all-in-Ok.ensures.only
-    c.answer_all-in-Ok.ensures.answers)
-
-pub refuse_all-requires : goal.refuse_all-requires
-refuse_all-requires g c = record { room = omega (arith, c.evaluate.ensures.evaluated.count, c.requires.room) }
+    (served e (logging_group e some c.in-Ok.ensures.trace) (front_written e some g.met.D.Disk.consistent c.in-Ok.ensures.trace)
+    (crash_group e some c.in-Ok.ensures.trace) c.in-Ok.ensures.gate
+    (c.seq-self-inside.ensures ∙ ap (λ m. m.state.seq) c.machine.ensures ∙ ap (λ m. m.seq) (alike_now e))
+    c.answer_all-in-Ok.ensures.only c.answer_all-in-Ok.ensures.answers)
 
 pub invariant_of-self-in-Err : goal.invariant_of-self-in-Err
 invariant_of-self-in-Err g c =
-    let e = evaluated g (goal.at.invariant_of-self-in-Err g c).After-evaluate in (
-      failed_sound e (sym c.is_empty.ensures ∙ c.if-is_empty.false) c.in-Err.ensures.trace c.in-Err.ensures.err,
-      record {
-        empty = rw c.in-Err.ensures.err (c.append.ensures.emptied ∙ ap empty_group (longest_there e));
-        none = c.refuse_all.ensures.emptied;
-        room = omega (arith, c.self.invariant.1.room, c.evaluate.ensures.outcomes_capacity, c.refuse_all.ensures.outcomes_capacity);
-      },
-    )
+    let e = evaluated g (goal.at.invariant_of-self-in-Err g c).After-evaluate in
+    let empty = c.append.ensures.emptied ∙ ap empty_group (longest_there e) in
+    let size = (makes_later g.D.Disk.state c.in-Err.ensures.trace).size in
+    rw c.in-Err.ensures.err (broken_sound (rw size (shape_kept e)) (alike_now e), search (rules, empty))
 
 pub returns-in-Err-clause-served : goal.returns-in-Err-clause-served
 returns-in-Err-clause-served g c =
     let e = evaluated g (goal.at.returns-in-Err-clause-served g c).After-evaluate in
     rw (← c.self.view_is)
-    (failed_served e (sym c.is_empty.ensures ∙ c.if-is_empty.false) c.in-Err.ensures.trace c.in-Err.ensures.err c.refuse_all.ensures.answers)
+    (failed_served e (cc) c.in-Err.ensures.trace c.in-Err.ensures.err c.refuse_all.ensures.answers)
